@@ -1,0 +1,47 @@
+-- Programs as trees, without memory: what contracts see of the types of src/.
+use Rattle.std.specs.Prelude.{ℕ, Bool, List, Option}
+use Rattle.bp_tree.specs.declared.exprs.Op.{Op}
+
+-- a name as it is spelled, braces included, and the place of its first byte
+pub record Name : Type 0 where
+  pub text : List ℕ
+  pub at : ℕ
+
+pub data Expression : Type 0 where
+  Constant : (value : Bool) → Expression
+  Variable : (name : Name) → Expression
+  Negation : (e : Expression) → Expression
+  Operation : (op : Op) (left right : Expression) → Expression
+
+-- what decides a branch, a loop or an assertion: the call's choice bit, or an expression
+pub data Decision : Type 0 where
+  Choose : Decision
+  Decide : (e : Expression) → Decision
+
+mutual
+  -- a sequence of statements, each with its label, and the place of its first token after the label
+  pub data Block : Type 0 where
+    Done : Block
+    Then : (label : Option Name) (at : ℕ) (statement : Statement) (rest : Block) → Block
+
+  pub data Statement : Type 0 where
+    Skips : Statement
+    GoesTo : (to : Name) → Statement
+    Returns : Statement
+    Assigns : (targets : List Name) (values : List Expression) → Statement
+    Branches : (d : Decision) (yes no : Block) → Statement
+    Loops : (d : Decision) (body : Block) → Statement
+    Asserts : (d : Decision) → Statement
+    Assumes : (d : Decision) → Statement
+    Prints : (values : List Expression) → Statement
+    Calls : (callee : Name) (arguments : List Expression) → Statement
+
+pub record Procedure : Type 0 where
+  pub name : Name
+  pub formals : List Name
+  pub locals : List Name
+  pub body : Block
+
+pub record Program : Type 0 where
+  pub globals : List Name
+  pub procedures : List Procedure

@@ -1,0 +1,128 @@
+//! Procedures.
+ghost use Rattle.std.specs.Prelude.{◌≡◌, IfOk};
+
+use crate::names::{Name, Names};
+use crate::stmts::{Block, Stmt};
+use std::alloc::AllocError;
+use std::marker::Model;
+
+/// A procedure.
+#[derive(Drop)]
+pub struct Proc {
+    name: Name,
+    formals: Names,
+    locals: Names,
+    body: Block,
+}
+
+impl Model for Proc {
+    ghost use Rattle.bp_tree.specs.Ast.{Procedure};
+    ghost use Rattle.bp_tree.specs.Codes.{coded_procedure};
+
+    ghost Value = { Procedure };
+
+    ghost coded = { coded_procedure };
+
+    ghost view = { λ p. record { name = p.name; formals = p.formals; locals = p.locals; body = p.body } };
+}
+
+impl Proc {
+    ghost use Rattle.bp_tree.specs.Blocks.{block_of};
+
+    pub fn new(name: Name, formals: Names, locals: Names, body: Block) -> Proc
+        ensures { result ≡ record { name = name; formals = formals; locals = locals; body = body } }
+    {
+        Proc {
+            name,
+            formals,
+            locals,
+            body,
+        }
+    }
+
+    pub fn name(&self) -> &Name
+        ensures { result.now ≡ self.now.name }
+    {
+        &self.name
+    }
+
+    /// The formals, in order of declaration.
+    pub fn formals(&self) -> &[Name]
+        ensures { result.now ≡ self.now.formals }
+    {
+        self.formals.as_slice()
+    }
+
+    /// The declared locals, in order of declaration.
+    pub fn locals(&self) -> &[Name]
+        ensures { result.now ≡ self.now.locals }
+    {
+        self.locals.as_slice()
+    }
+
+    /// The statements, of which there is at least one in a program that was read.
+    pub fn body(&self) -> &[Stmt]
+        ensures { block_of result.now ≡ self.now.body }
+    {
+        self.body.as_slice()
+    }
+
+    /// A copy, which equals its source.
+    pub fn try_copy(&self) -> Result<Proc, AllocError>
+        ensures { IfOk result (λ p. p ≡ self.now) }
+    {
+        let name = self.name.try_copy()?;
+        let formals = self.formals.try_copy()?;
+        let locals = self.locals.try_copy()?;
+        Ok(Proc {
+            name,
+            formals,
+            locals,
+            body: self.body.try_copy()?,
+        })
+    }
+}
+
+/// Procedures in order of their text.
+#[derive(Drop)]
+pub struct Procs {
+    items: Vec<Proc>,
+}
+
+impl Model for Procs {
+    ghost use Rattle.std.specs.Prelude.{List};
+    ghost use Rattle.std.specs.Coded.{coded_list};
+    ghost use Rattle.bp_tree.specs.Ast.{Procedure};
+    ghost use Rattle.bp_tree.specs.Codes.{coded_procedure};
+
+    ghost Value = { List Procedure };
+
+    ghost coded = { coded_list coded_procedure };
+
+    ghost view = { λ p. p.items.items };
+}
+
+impl Procs {
+    pub fn new(items: Vec<Proc>) -> Procs
+        ensures { result ≡ items.items }
+    {
+        Procs { items }
+    }
+
+    pub fn as_slice(&self) -> &[Proc]
+        ensures { result.now ≡ self.now }
+    {
+        self.items.as_slice()
+    }
+
+    /// A copy, which equals its source.
+    pub fn try_copy(&self) -> Result<Procs, AllocError>
+        ensures { IfOk result (λ p. p ≡ self.now) }
+    {
+        let mut items = Vec::new(*self.items.allocator());
+        for proc in self.items.as_slice() {
+            items.push(proc.try_copy()?)?;
+        }
+        Ok(Procs { items })
+    }
+}

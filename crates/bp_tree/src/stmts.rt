@@ -1,0 +1,169 @@
+//! Statements.
+ghost use Rattle.std.specs.Prelude.{◌≡◌, IfOk, [], ◌∷◌};
+ghost use Rattle.std.specs.Option.{option_copied};
+ghost use Rattle.bp_tree.specs.Blocks.{statement_of, block_of};
+
+use crate::exprs::{Decider, Exprs};
+use crate::names::{Name, Names};
+use std::alloc::AllocError;
+use std::marker::Model;
+
+/// A statement with its label and its place.
+#[cycle(stmt)]
+#[derive(Drop)]
+pub struct Stmt {
+    label: Option<Name>,
+    at: u32,
+    form: Form,
+}
+
+/// What a statement does.
+#[cycle(stmt)]
+#[derive(Drop)]
+pub enum Form {
+    Skip,
+    /// A jump to the statement of this label.
+    Goto(Name),
+    Return,
+    /// A parallel assignment: targets, and right sides.
+    Assign(Names, Exprs),
+    /// The `then` part and the `else` part.
+    If(Decider, Block, Block),
+    While(Decider, Block),
+    Assert(Decider),
+    Assume(Decider),
+    Print(Exprs),
+    /// The called procedure, and the arguments.
+    Call(Name, Exprs),
+}
+
+/// Statements in order, which a contract sees as one value without memory.
+#[cycle(stmt)]
+#[derive(Drop)]
+pub struct Block {
+    items: Vec<Stmt>,
+}
+
+impl Model for Block {
+    ghost use Rattle.bp_tree.specs.Ast as ast;
+    ghost use Rattle.bp_tree.specs.Codes.{coded_block};
+    ghost use Rattle.bp_tree.specs.Depth.{depth};
+
+    ghost Value = { ast.Block };
+
+    ghost coded = { coded_block };
+
+    ghost use Rattle.bp_tree.specs.Blocks.{block_of};
+
+    ghost view = { λ b. block_of b.items.items };
+
+    ghost size = { depth };
+
+    ghost use Rattle.bp_tree.specs.Falls.{falls};
+
+    ghost size_decreases = { λ a h. falls a.items.items };
+}
+
+impl Stmt {
+    /// The statement whose first token after its label, if it has one, begins at the byte `at`.
+    pub fn new(label: Option<Name>, at: u32, form: Form) -> Stmt
+        ensures { result ≡ record { label = label; at = at; form = form } }
+    {
+        Stmt { label, at, form }
+    }
+
+    pub fn label(&self) -> Option<&Name>
+        ensures { option_copied result ≡ self.now.label }
+    {
+        self.label.as_ref()
+    }
+
+    /// The offset of the statement's first token after its label.
+    pub fn at(&self) -> u32
+        ensures { result ≡ self.now.at }
+    {
+        self.at
+    }
+
+    pub fn form(&self) -> &Form
+        ensures { result.now ≡ self.now.form }
+    {
+        &self.form
+    }
+
+    /// A copy, which equals its source.
+    #[cycle(stmt)]
+    pub fn try_copy(&self) -> Result<Stmt, AllocError>
+        ensures { IfOk result (λ s. block_of (s ∷ []) ≡ block_of (self.now ∷ [])) }
+    {
+        let label = match &self.label {
+            None => None,
+            Some(name) => Some(name.try_copy()?),
+        };
+        Ok(Stmt {
+            label,
+            at: self.at,
+            form: self.form.try_copy()?,
+        })
+    }
+}
+
+impl Form {
+    /// A copy, which equals its source.
+    #[cycle(stmt)]
+    pub fn try_copy(&self) -> Result<Form, AllocError>
+        ensures { IfOk result (λ f. statement_of f ≡ statement_of self.now) }
+    {
+        match self {
+            Form::Skip => Ok(Form::Skip),
+            Form::Goto(to) => Ok(Form::Goto(to.try_copy()?)),
+            Form::Return => Ok(Form::Return),
+            Form::Assign(targets, values) => {
+                let targets = targets.try_copy()?;
+                Ok(Form::Assign(targets, values.try_copy()?))
+            }
+            Form::If(d, a, b) => {
+                let d = d.try_copy()?;
+                let a = a.try_copy()?;
+                Ok(Form::If(d, a, b.try_copy()?))
+            }
+            Form::While(d, body) => {
+                let d = d.try_copy()?;
+                Ok(Form::While(d, body.try_copy()?))
+            }
+            Form::Assert(d) => Ok(Form::Assert(d.try_copy()?)),
+            Form::Assume(d) => Ok(Form::Assume(d.try_copy()?)),
+            Form::Print(values) => Ok(Form::Print(values.try_copy()?)),
+            Form::Call(callee, arguments) => {
+                let callee = callee.try_copy()?;
+                Ok(Form::Call(callee, arguments.try_copy()?))
+            }
+        }
+    }
+}
+
+impl Block {
+    pub fn new(items: Vec<Stmt>) -> Block
+        ensures { result ≡ block_of items.items }
+    {
+        Block { items }
+    }
+
+    pub fn as_slice(&self) -> &[Stmt]
+        ensures { block_of result.now ≡ self.now }
+    {
+        self.items.as_slice()
+    }
+
+    /// A copy, which equals its source.
+    #[cycle(stmt)]
+    pub fn try_copy(&self) -> Result<Block, AllocError>
+        ensures { IfOk result (λ b. b ≡ self.now) }
+    {
+        let mut items = Vec::new(*self.items.allocator());
+        for stmt in self.items.as_slice() {
+            items.push(stmt.try_copy()?)?;
+        }
+        Ok(Block { items })
+    }
+}
