@@ -1,0 +1,7 @@
+pub mod Pieces
+pub mod Scanning
+pub mod Sizes
+pub mod Derivations
+pub mod Crowding
+pub mod Ahead
+pub mod Refusals

@@ -1,0 +1,12 @@
+pub mod Limits
+pub mod Tokens
+pub mod Cut
+pub mod Scan
+pub mod Faults
+pub mod Grammar
+pub mod Opens
+pub mod Reading
+pub mod Successions
+pub mod Crowds
+pub mod Texts
+pub mod Laws

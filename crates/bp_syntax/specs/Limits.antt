@@ -1,0 +1,10 @@
+-- The limits of a program text.
+use Rattle.std.specs.Prelude.{ℕ}
+
+-- the bytes of a text
+abbrev pub text_limit : ℕ
+text_limit = 65536
+
+-- the tokens in succession without a separator
+abbrev pub succession_limit : ℕ
+succession_limit = 1024

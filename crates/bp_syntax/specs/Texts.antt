@@ -1,0 +1,34 @@
+-- Texts of programs, and how the others are refused.
+use Rattle.std.specs.Prelude.{ℕ, ◌<◌, ◌≤◌, List, length}
+use Rattle.bp_tree.specs.Ast.{Program}
+use Rattle.bp_syntax.specs.Limits.{text_limit}
+use Rattle.bp_syntax.specs.Tokens.{Token}
+use Rattle.bp_syntax.specs.Cut.{HasTokens, HasBadByte}
+use Rattle.bp_syntax.specs.Grammar.{Derives}
+use Rattle.bp_syntax.specs.Opens.{BreaksAt, HasSyntaxFault}
+use Rattle.bp_syntax.specs.Successions.{IsSparse}
+use Rattle.bp_syntax.specs.declared.faults.ReadFault.{ReadFault}
+use Rattle.bp_syntax.specs.declared.faults.ReadFault.TheVariants as fault
+
+-- the text keeps the limits, and the grammar derives the tree from it
+pub record IsTextOf (text : List ℕ) (p : Program) : Type 0 where
+  pub short : length text ≤ text_limit
+  pub tokens : List Token
+  pub scanned : HasTokens text tokens
+  pub sparse : IsSparse tokens
+  pub derives : Derives tokens p
+
+-- the tree is that of some text
+abbrev pub HasText : Program → Type 0
+HasText p = ∥ ((text : List ℕ) × IsTextOf text p) ∥₁
+
+-- the first fault of the text; nothing is said of memory
+abbrev pub IsFault : List ℕ → ReadFault → Type 0
+IsFault text fault.TooLong = text_limit < length text
+IsFault text (fault.BadByte at) = (length text ≤ text_limit) × HasBadByte text at
+IsFault text (fault.TooManyTokens at) =
+    (length text ≤ text_limit) × (tokens : List Token) × HasTokens text tokens × BreaksAt IsSparse tokens at
+IsFault text (fault.Syntax at) =
+    (length text ≤ text_limit) × (tokens : List Token) × HasTokens text tokens × IsSparse tokens × HasSyntaxFault text tokens at
+IsFault text fault.Memory = Unit {0}
+IsFault text _ = ⊥

@@ -1,0 +1,89 @@
+-- What the bytes of a text spell: the sorts of pieces, and the kinds of tokens.
+use Rattle.std.specs.Prelude.{◌≡◌, ℕ, Bool, true, false, ◌||◌, ◌&&◌, ◌==◌, nat_eq, is_some, List, [], ◌∷◌, Option, Some, None}
+use Rattle.std.specs.Char.{is_ascii_alphabetic, is_ascii_alphanumeric}
+use Rattle.std.specs.List.{list_any, list_all}
+use Rattle.std.specs.Map.{lookup}
+use Rattle.std.specs.Str.{bytes_eq}
+use Rattle.std.specs.Prelude.{codes}
+use Rattle.std.specs.Option.{unwrap_or}
+use Rattle.bp_syntax.specs.declared.tokens.Kind.{Kind}
+use Rattle.bp_syntax.specs.declared.tokens.Kind.TheVariants as kind
+use Rattle.bp_syntax.specs.declared.tokens.Sort.{Sort}
+use Rattle.bp_syntax.specs.declared.tokens.Sort.TheVariants as sort
+
+-- space, tab, line feed, carriage return
+abbrev pub whites : List ℕ
+whites = 32 ∷ 9 ∷ 10 ∷ 13 ∷ []
+
+abbrev pub is_white : ℕ → Bool
+is_white b = list_any (nat_eq b) whites
+
+-- a letter or an underscore: what an identifier begins with
+abbrev pub is_letter : ℕ → Bool
+is_letter b = is_ascii_alphabetic b || b == 95
+
+-- a letter, an underscore or a digit: what an identifier goes on with
+abbrev pub is_word_byte : ℕ → Bool
+is_word_byte b = is_ascii_alphanumeric b || b == 95
+
+-- 0 1
+abbrev pub constants : List (ℕ × Kind)
+constants = (48, kind.Zero) ∷ (49, kind.One) ∷ []
+
+-- ; , ( ) : | & ^ = ! ?
+abbrev pub symbols : List (ℕ × Kind)
+symbols =
+    (59, kind.Semicolon) ∷ (44, kind.Comma) ∷ (40, kind.Open) ∷ (41, kind.Close) ∷ (58, kind.Colon) ∷ (124, kind.Bar) ∷ (38, kind.Ampersand)
+    ∷ (94, kind.Caret) ∷ (61, kind.Equal) ∷ (33, kind.Bang) ∷ (63, kind.Question) ∷ []
+
+-- := != =>
+abbrev pub long_symbols : List ((ℕ × ℕ) × Kind)
+long_symbols = ((58, 61), kind.Becomes) ∷ ((33, 61), kind.Differ) ∷ ((61, 62), kind.Implies) ∷ []
+
+abbrev pub constant : ℕ → Option Kind
+constant b = lookup (nat_eq b) constants
+
+abbrev pub symbol : ℕ → Option Kind
+symbol b = lookup (nat_eq b) symbols
+
+abbrev pub long_symbol : ℕ → ℕ → Option Kind
+long_symbol b c = lookup (λ (p : ℕ × ℕ). nat_eq b p.0 && nat_eq c p.1) long_symbols
+
+abbrev pub reserved : List (List ℕ × Kind)
+reserved =
+    (codes "decl", kind.Decl) ∷ (codes "begin", kind.Begin) ∷ (codes "end", kind.End) ∷ (codes "skip", kind.Skip) ∷ (codes "goto", kind.Goto) ∷ (codes "return", kind.Return)
+    ∷ (codes "if", kind.If) ∷ (codes "then", kind.Then) ∷ (codes "else", kind.Else) ∷ (codes "fi", kind.Fi) ∷ (codes "while", kind.While) ∷ (codes "do", kind.Do) ∷ (codes "od", kind.Od)
+    ∷ (codes "assert", kind.Assert) ∷ (codes "print", kind.Print) ∷ (codes "assume", kind.Assume) ∷ []
+
+-- an identifier that isn't reserved is a name
+abbrev pub word : List ℕ → Kind
+word s = unwrap_or (lookup (bytes_eq s) reserved) kind.Name
+
+-- the bytes are one piece of the sort
+abbrev pub fits : Sort → List ℕ → Bool
+fits sort.White (b ∷ []) = is_white b
+fits sort.Identifier (b ∷ bs) = is_letter b && list_all is_word_byte bs
+fits sort.Constant (b ∷ []) = is_some (constant b)
+fits sort.Symbol (b ∷ []) = is_some (symbol b)
+fits sort.Symbol (b ∷ c ∷ []) = is_some (long_symbol b c)
+fits _ _ = false
+
+-- the kind of the token that such a piece is; white is none
+abbrev pub kind_of : Sort → List ℕ → Option Kind
+kind_of sort.Identifier s = Some (word s)
+kind_of sort.Constant (b ∷ []) = constant b
+kind_of sort.Symbol (b ∷ []) = symbol b
+kind_of sort.Symbol (b ∷ c ∷ []) = long_symbol b c
+kind_of _ _ = None
+
+-- a token: its kind, the place of its first byte, its bytes
+pub record Token : Type 0 where
+  pub kind : Kind
+  pub at : ℕ
+  pub text : List ℕ
+
+-- the scan gives such a token
+pub record IsReal (t : Token) : Type 0 where
+  pub sort : Sort
+  pub fits : fits sort t.text ≡ true
+  pub spells : kind_of sort t.text ≡ Some t.kind

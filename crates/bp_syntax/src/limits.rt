@@ -1,0 +1,7 @@
+//! The limits of a program text.
+
+/// The bytes of a text.
+pub const TEXT_LIMIT: usize = 65_536;
+
+/// The tokens in succession without a separator.
+pub const SUCCESSION_LIMIT: usize = 1_024;

@@ -1,0 +1,50 @@
+//! The scan of a text into tokens.
+ghost use Rattle.std.specs.Prelude.{true, ◌≡◌, ◌≤◌, ◌++◌, [], length, MatchResult, OnOk};
+ghost use Rattle.bp_syntax.specs.Limits.{text_limit};
+ghost use Rattle.bp_syntax.specs.Tokens as spelling;
+ghost use Rattle.bp_syntax.specs.Cut.{HasTokens, token_and};
+ghost use Rattle.bp_syntax.specs.Scan.{all_seen, IsScanFault};
+
+use crate::faults::ReadFault;
+use crate::tokens::{Sort, Token, kind_of, longest};
+use std::alloc::{AllocError, Global};
+
+/// The tokens of a text, or its first bad byte.
+pub(crate) fn scan<'a>(alloc: Global, text: &'a [u8]) -> Result<Vec<Token<'a>>, ReadFault>
+    requires { length text.now ≤ text_limit }
+    ensures { MatchResult result (λ ts. HasTokens text.now (all_seen ts.items)) (IsScanFault text.now) }
+{
+    let mut tokens = Vec::new(alloc);
+    let mut at = 0;
+    let mut rest = text;
+    while !rest.is_empty() {
+        let Some((sort, len)) = longest(rest) else {
+            return Err(ReadFault::BadByte(at as u32));
+        };
+        let (piece, after) = rest.split_at(len);
+        push_token(&mut tokens, sort, at as u32, piece)?;
+        at += len;
+        rest = after;
+    }
+    Ok(tokens)
+}
+
+// Adds the token that a piece is. White is none.
+fn push_token<'a>(
+    tokens: &mut Vec<Token<'a>>,
+    sort: Sort,
+    at: u32,
+    text: &'a [u8],
+) -> Result<(), AllocError>
+    requires { spelling.fits sort text.now ≡ true }
+    ensures { OnOk result (all_seen tokens.new.items ≡ all_seen tokens.old.items ++ token_and (spelling.kind_of sort text.now) at text.now []) }
+{
+    if let Some(kind) = kind_of(sort, text) {
+        let Ok(text) = str::from_utf8(text) else {
+            // A piece of a token's sort has ASCII bytes alone.
+            unreachable!()
+        };
+        tokens.push(Token { kind, at, text })?;
+    }
+    Ok(())
+}
