@@ -1,0 +1,9 @@
+pub mod Finding
+pub mod Lists
+pub mod Names
+pub mod Parts
+pub mod Refusing
+pub mod Several
+pub mod Statements
+pub mod Strays
+pub mod Walks

@@ -1,0 +1,17 @@
+use Rattle.std.proofs.Common.{arith, ap, map, ◌∙◌, ◌++◌}
+use Rattle.bp_tree.specs.Blocks.{statement_of}
+use Rattle.bp_tree.specs.Depth.{statement_depth}
+use Rattle.bp_check.specs.Scopes.{statements_inside}
+use Rattle.bp_check.specs.Sets.{all_labelled}
+use Rattle.bp_check.proofs.Walks.{collect_more, inside_depth}
+use Rattle.bp_check.proofs.procedures.+collect.Goals as goal
+
+pub collect-collect_inside-requires : goal.collect-collect_inside-requires
+collect-collect_inside-requires t c =
+    let within = inside_depth c.args.stmts.now c.loop-stmt.stmt-index c.stmt-item.result c.loop-stmt-test.true c.stmt-item.is in
+    let same = ap (λ f. statement_depth (statement_of f)) c.form.ensures in
+    omega (arith, within, same)
+
+pub collect-loop-stmt-preserved : goal.collect-loop-stmt-preserved
+collect-loop-stmt-preserved t c =
+    collect_more (all_labelled c.args.out.now.items) _ _ _ _ c.args.stmts.now c.loop-stmt.stmt-index c.loop-stmt-test.true c.stmt-item.is c.loop-stmt.invariant c.in_ok-push.ensures.items (rw c.form.ensures at c.in_ok-collect_inside.ensures)

@@ -1,0 +1,5 @@
+pub mod Faults
+pub mod Least
+pub mod Refusals
+pub mod Scopes
+pub mod Sets

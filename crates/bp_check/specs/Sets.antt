@@ -1,0 +1,60 @@
+-- Sets of faults of the parts of a program, of which the whole set is made.
+use Rattle.std.specs.Prelude.{◌≡◌, ◌⊎◌, ℕ, ◌++◌, false, List, map}
+use Rattle.std.specs.Borrow.{Bor}
+use Rattle.bp_check.specs.declared.faults.CheckFault.{CheckFault}
+use Rattle.bp_check.specs.declared.faults.CheckFault.TheVariants.{TwiceLocal, TwiceLabel, UnknownVariable, UnknownProcedure, UnknownLabel, Arity, Lengths, TwiceTarget, Limit}
+use Rattle.bp_tree.specs.Ast.{Name, Expression, Statement, Procedure}
+use Rattle.bp_tree.specs.declared.stmts.Stmt.{Stmt}
+use Rattle.bp_tree.specs.Blocks.{statement_of}
+use Rattle.bp_tree.specs.Lookup.{variables}
+use Rattle.bp_check.specs.Scopes.{has, Uses, SomeUses, Among, Labelled, statements, labels}
+use Rattle.bp_check.specs.Faults.{IsTwice, IsPast, IsUndeclared, CallsNone, CallsWrongly, JumpsNowhere, IsUneven, HasTargetTwice, max_own_names}
+
+abbrev pub names_of : List (Bor Name) → List Name
+names_of ns = map (λ n. n.now) ns
+
+abbrev pub labelled_of : Stmt → Labelled
+labelled_of s = record { label = s.label; statement = statement_of s.form }
+
+abbrev pub all_labelled : List (Bor Stmt) → List Labelled
+all_labelled ss = map (λ s. labelled_of s.now) ss
+
+-- one kind of fault at some places
+abbrev pub Only : CheckFault → (ℕ → Type 0) → CheckFault → ℕ → Type 0
+Only fault Is g at = (g ≡ fault) × Is at
+
+-- a use of a name that is not declared
+abbrev pub StrayIn : List Name → (Name → Type 0) → ℕ → Type 0
+StrayIn declared Used at = (n : Name) × Used n × (has declared n.text ≡ false) × (n.at ≡ at)
+
+-- a fault of a statement that is no stray name
+abbrev pub IsMisuse : List Procedure → List Name → Statement → CheckFault → ℕ → Type 0
+IsMisuse qs ls s UnknownProcedure at = CallsNone qs s at
+IsMisuse qs ls s UnknownLabel at = JumpsNowhere ls s at
+IsMisuse qs ls s Arity at = CallsWrongly qs s at
+IsMisuse qs ls s Lengths at = IsUneven s at
+IsMisuse qs ls s TwiceTarget at = HasTargetTwice s at
+IsMisuse qs ls s _ at = ⊥
+
+-- a fault of a statement among declared names, procedures and labels
+abbrev pub IsStatementFault : List Name → List Procedure → List Name → Statement → CheckFault → ℕ → Type 0
+IsStatementFault declared qs ls s UnknownVariable at = IsUndeclared declared s at
+IsStatementFault declared qs ls s g at = IsMisuse qs ls s g at
+
+abbrev pub IsFaultOfSome : List Name → List Procedure → List Name → List Labelled → CheckFault → ℕ → Type 0
+IsFaultOfSome declared qs ls ss g at = (s : Labelled) × Among ss s × IsStatementFault declared qs ls s.statement g at
+
+-- names of one kind: one that stands twice, or the first past their limit
+abbrev pub IsFaultOfNames : CheckFault → ℕ → List Name → CheckFault → ℕ → Type 0
+IsFaultOfNames fault limit ns g at = Only fault (IsTwice ns) g at ⊎ Only Limit (IsPast limit ns) g at
+
+abbrev pub IsFaultOfBody : List Name → List Procedure → Procedure → CheckFault → ℕ → Type 0
+IsFaultOfBody globals qs q g at =
+    IsFaultOfSome (variables q ++ globals) qs (labels q.body) (statements q.body) g at ⊎ Only TwiceLabel (IsTwice (labels q.body)) g at
+
+-- a fault that stands inside a procedure among these globals and procedures
+abbrev pub IsProcedureFault : List Name → List Procedure → Procedure → CheckFault → ℕ → Type 0
+IsProcedureFault globals qs q g at = IsFaultOfNames TwiceLocal max_own_names (variables q) g at ⊎ IsFaultOfBody globals qs q g at
+
+abbrev pub IsFaultOfProcedures : List Name → List Procedure → List Procedure → CheckFault → ℕ → Type 0
+IsFaultOfProcedures globals qs some g at = (q : Procedure) × Among some q × IsProcedureFault globals qs q g at

@@ -1,0 +1,66 @@
+//! Lawful trees.
+ghost use Rattle.std.specs.Prelude.{◌≡◌, MatchResult};
+ghost use Rattle.bp_check.specs.Faults.{IsLawful};
+ghost use Rattle.bp_check.specs.Refusals.{IsRefusal};
+
+use crate::faults::{CheckFault, Found};
+use crate::programs::program_fault;
+use bp_syntax::Tree;
+use std::alloc::{AllocError, Global};
+use std::marker::Model;
+
+/// A tree without faults.
+#[derive(Drop)]
+pub struct Checked {
+    tree: Tree,
+}
+
+impl Model for Checked {
+    ghost use Rattle.bp_tree.specs.Ast.{Program};
+    ghost use Rattle.bp_tree.specs.Codes.{coded_program};
+    ghost use Rattle.bp_check.specs.Faults.{IsLawful};
+
+    ghost Value = { Program };
+
+    ghost coded = { coded_program };
+
+    ghost view = { λ c. c.tree };
+
+    ghost invariant = { λ c. IsLawful c.tree };
+}
+
+impl Checked {
+    /// The tree, which has no fault.
+    pub fn tree(&self) -> &Tree
+        ensures value { result.now ≡ self.now }
+        ensures lawful { IsLawful self.now }
+    {
+        &self.tree
+    }
+}
+
+/// Why a tree is refused, with the tree.
+#[derive(Drop)]
+pub struct CheckRefusal {
+    /// The fault with the least place, and at one place with the least number.
+    pub fault: CheckFault,
+    /// The offset at which its name begins in the text; 0 for `Memory`.
+    pub at: u32,
+    /// The tree that was to be checked.
+    pub tree: Tree,
+}
+
+/// Takes the trees without faults, and no others. Where memory is short the answer is `Memory`.
+pub fn check(alloc: Global, tree: Tree) -> Result<Checked, CheckRefusal>
+    ensures lawful { MatchResult result (λ c. (c ≡ tree) × IsLawful tree) (λ r. (r.tree ≡ tree) × IsRefusal tree r.fault r.at) }
+{
+    match program_fault(alloc, tree.globals(), tree.procs()) {
+        Ok(None) => Ok(Checked { tree }),
+        Ok(Some(Found { fault, at })) => Err(CheckRefusal { fault, at, tree }),
+        Err(_) => Err(CheckRefusal {
+            fault: CheckFault::Memory,
+            at: 0,
+            tree,
+        }),
+    }
+}

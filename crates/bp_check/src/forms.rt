@@ -1,0 +1,142 @@
+//! The faults of one statement, apart from the blocks inside it.
+ghost use Rattle.std.specs.Prelude.{◌≡◌, [], map, IfOk};
+ghost use Rattle.bp_tree.specs.Ast.{GoesTo, Assigns, Calls};
+ghost use Rattle.bp_tree.specs.Views.{expression_of};
+ghost use Rattle.bp_tree.specs.Blocks.{statement_of};
+ghost use Rattle.bp_check.specs.Faults.{IsUndeclared, IsUneven};
+ghost use Rattle.bp_tree.specs.Lookup.{procedure_named};
+ghost use Rattle.bp_check.specs.Sets.{names_of, Only, IsMisuse, IsStatementFault};
+ghost use Rattle.bp_check.specs.Least.{Finds};
+ghost use Rattle.std.specs.Option.{option_copied};
+
+use crate::faults::{CheckFault, Found};
+use crate::least::least;
+use crate::scopes::{gather, has_name, twice};
+use crate::uses::{stray_in_all, stray_in_decider, stray_names};
+use bp_tree::{Expr, Form, Name, Proc};
+use std::alloc::{AllocError, Global};
+
+/// The first procedure that is called so.
+pub(crate) fn proc_named<'a>(procs: &'a [Proc], name: &str) -> Option<&'a Proc>
+    ensures { option_copied result ≡ procedure_named procs.now name.now }
+{
+    for proc in procs {
+        if proc.name().text() == name {
+            return Some(proc);
+        }
+    }
+    None
+}
+
+/// A variable that the statement mentions and that is not declared.
+fn stray(declared: &[&Name], form: &Form) -> Option<Found>
+    ensures { Finds (Only CheckFault.UnknownVariable (IsUndeclared (names_of declared.now) (statement_of form.now))) result }
+{
+    match form {
+        Form::Skip | Form::Goto(_) | Form::Return => None,
+        Form::Assign(targets, values) => {
+            let found = stray_names(declared, targets.as_slice());
+            least(found, stray_in_all(declared, values.as_slice()))
+        }
+        Form::If(decider, _, _) => stray_in_decider(declared, decider),
+        Form::While(decider, _) => stray_in_decider(declared, decider),
+        Form::Assert(decider) => stray_in_decider(declared, decider),
+        Form::Assume(decider) => stray_in_decider(declared, decider),
+        Form::Print(values) => stray_in_all(declared, values.as_slice()),
+        Form::Call(_, arguments) => stray_in_all(declared, arguments.as_slice()),
+    }
+}
+
+/// A call of no procedure, or with a wrong number of arguments.
+fn wrong_call(procs: &[Proc], callee: &Name, arguments: &[Expr]) -> Option<Found>
+    ensures { Finds (IsMisuse procs.now [] (Calls callee.now (map expression_of arguments.now))) result }
+{
+    match proc_named(procs, callee.text()) {
+        None => Some(Found {
+            fault: CheckFault::UnknownProcedure,
+            at: callee.at(),
+        }),
+        Some(proc) => {
+            if arguments.len() == proc.formals().len() {
+                None
+            } else {
+                Some(Found {
+                    fault: CheckFault::Arity,
+                    at: callee.at(),
+                })
+            }
+        }
+    }
+}
+
+/// A jump to none of the labels.
+fn lost_jump(labels: &[&Name], to: &Name) -> Option<Found>
+    ensures { Finds (IsMisuse [] (names_of labels.now) (GoesTo to.now)) result }
+{
+    if has_name(labels, to.text()) {
+        return None;
+    }
+    Some(Found {
+        fault: CheckFault::UnknownLabel,
+        at: to.at(),
+    })
+}
+
+/// The first target of an assignment that has not as many right sides.
+fn uneven(targets: &[Name], values: &[Expr]) -> Option<Found>
+    ensures { Finds (Only CheckFault.Lengths (IsUneven (Assigns targets.now (map expression_of values.now)))) result }
+{
+    if targets.len() == values.len() {
+        return None;
+    }
+    let first = targets.first()?;
+    Some(Found {
+        fault: CheckFault::Lengths,
+        at: first.at(),
+    })
+}
+
+/// Faults of an assignment's two sides, apart from stray names.
+fn wrong_sides(
+    alloc: Global,
+    targets: &[Name],
+    values: &[Expr],
+) -> Result<Option<Found>, AllocError>
+    ensures { IfOk result (Finds (IsMisuse [] [] (Assigns targets.now (map expression_of values.now)))) }
+{
+    let found = uneven(targets, values);
+    let mut names = Vec::new(alloc);
+    gather(&mut names, targets)?;
+    Ok(least(found, twice(&names, CheckFault::TwiceTarget)))
+}
+
+/// The faults of a statement but for stray names.
+fn misuse(
+    alloc: Global,
+    procs: &[Proc],
+    labels: &[&Name],
+    form: &Form,
+) -> Result<Option<Found>, AllocError>
+    ensures { IfOk result (Finds (IsMisuse procs.now (names_of labels.now) (statement_of form.now))) }
+{
+    match form {
+        Form::Goto(to) => Ok(lost_jump(labels, to)),
+        Form::Assign(targets, values) => wrong_sides(alloc, targets.as_slice(), values.as_slice()),
+        Form::Call(callee, arguments) => Ok(wrong_call(procs, callee, arguments.as_slice())),
+        _ => Ok(None),
+    }
+}
+
+/// The least fault of a statement, apart from the blocks inside it.
+pub(crate) fn statement_fault(
+    alloc: Global,
+    declared: &[&Name],
+    procs: &[Proc],
+    labels: &[&Name],
+    form: &Form,
+) -> Result<Option<Found>, AllocError>
+    ensures { IfOk result (Finds (IsStatementFault (names_of declared.now) procs.now (names_of labels.now) (statement_of form.now))) }
+{
+    let found = misuse(alloc, procs, labels, form)?;
+    Ok(least(found, stray(declared, form)))
+}

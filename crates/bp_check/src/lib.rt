@@ -1,0 +1,17 @@
+//! Which programs are lawful: scopes, arity, labels and limits.
+#![tactic(auto)]
+
+mod checks;
+mod faults;
+mod forms;
+mod least;
+pub mod limits;
+mod procedures;
+mod programs;
+mod scopes;
+#[cfg(test)]
+mod tests;
+mod uses;
+
+pub use checks::{CheckRefusal, Checked, check};
+pub use faults::CheckFault;

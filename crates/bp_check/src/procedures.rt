@@ -1,0 +1,140 @@
+//! The faults of a procedure.
+ghost use Rattle.std.specs.Prelude.{◌≡◌, ◌++◌, IfOk, OnOk};
+ghost use Rattle.bp_tree.specs.Blocks.{block_of, statement_of};
+ghost use Rattle.bp_tree.specs.Lookup.{variables};
+ghost use Rattle.bp_check.specs.Scopes.{statements, statements_inside, labels_of};
+ghost use Rattle.bp_check.specs.Faults.{max_own_names};
+ghost use Rattle.bp_check.specs.Sets.{names_of, all_labelled, IsFaultOfNames, IsFaultOfSome, IsFaultOfBody, IsProcedureFault};
+ghost use Rattle.bp_check.specs.Least.{Finds};
+
+use crate::faults::{CheckFault, Found};
+use crate::forms::statement_fault;
+use crate::least::least;
+use crate::limits::MAX_OWN_NAMES;
+use crate::scopes::{fault_of_names, gather, twice};
+use bp_tree::{Form, Name, Proc, Stmt};
+use std::alloc::{AllocError, Global};
+
+/// Appends the statements of a block, at any depth, in the order of the text.
+#[cycle(collect)]
+fn collect<'a>(out: &mut Vec<&'a Stmt>, stmts: &'a [Stmt]) -> Result<(), AllocError>
+    ensures { OnOk result (all_labelled out.new.items ≡ all_labelled out.old.items ++ statements (block_of stmts.now)) }
+{
+    for stmt in stmts {
+        out.push(stmt)?;
+        collect_inside(out, stmt.form())?;
+    }
+    Ok(())
+}
+
+/// Appends the statements of the blocks inside a statement.
+#[cycle(collect)]
+fn collect_inside<'a>(out: &mut Vec<&'a Stmt>, form: &'a Form) -> Result<(), AllocError>
+    ensures { OnOk result (all_labelled out.new.items ≡ all_labelled out.old.items ++ statements_inside (statement_of form.now)) }
+{
+    match form {
+        Form::If(_, yes, no) => {
+            collect(out, yes.as_slice())?;
+            collect(out, no.as_slice())
+        }
+        Form::While(_, body) => collect(out, body.as_slice()),
+        _ => Ok(()),
+    }
+}
+
+/// Appends the labels of statements.
+fn gather_labels<'a>(out: &mut Vec<&'a Name>, stmts: &[&'a Stmt]) -> Result<(), AllocError>
+    ensures { OnOk result (names_of out.new.items ≡ names_of out.old.items ++ labels_of (all_labelled stmts.now)) }
+{
+    for stmt in stmts {
+        match stmt.label() {
+            Some(label) => out.push(label)?,
+            None => {}
+        }
+    }
+    Ok(())
+}
+
+/// The least fault of statements.
+fn fault_of_some(
+    alloc: Global,
+    declared: &[&Name],
+    procs: &[Proc],
+    labels: &[&Name],
+    stmts: &[&Stmt],
+) -> Result<Option<Found>, AllocError>
+    ensures { IfOk result (Finds (IsFaultOfSome (names_of declared.now) procs.now (names_of labels.now) (all_labelled stmts.now))) }
+{
+    let mut best = None;
+    for stmt in stmts {
+        let found = statement_fault(alloc, declared, procs, labels, stmt.form())?;
+        best = least(best, found);
+    }
+    Ok(best)
+}
+
+/// Formals, and then declared locals.
+fn names_of_own<'a>(alloc: Global, proc: &'a Proc) -> Result<Vec<&'a Name>, AllocError>
+    ensures { IfOk result (λ v. names_of v.items ≡ variables proc.now) }
+{
+    let mut names = Vec::new(alloc);
+    gather(&mut names, proc.formals())?;
+    gather(&mut names, proc.locals())?;
+    Ok(names)
+}
+
+/// The statements of a procedure, at any depth.
+fn all_statements<'a>(alloc: Global, proc: &'a Proc) -> Result<Vec<&'a Stmt>, AllocError>
+    ensures { IfOk result (λ v. all_labelled v.items ≡ statements proc.now.body) }
+{
+    let mut stmts = Vec::new(alloc);
+    collect(&mut stmts, proc.body())?;
+    Ok(stmts)
+}
+
+/// The labels of statements.
+fn labels_in<'a>(alloc: Global, stmts: &[&'a Stmt]) -> Result<Vec<&'a Name>, AllocError>
+    ensures { IfOk result (λ v. names_of v.items ≡ labels_of (all_labelled stmts.now)) }
+{
+    let mut labels = Vec::new(alloc);
+    gather_labels(&mut labels, stmts)?;
+    Ok(labels)
+}
+
+/// The least fault among the formals and locals of a procedure.
+fn fault_of_own_names(alloc: Global, proc: &Proc) -> Result<Option<Found>, AllocError>
+    ensures { IfOk result (Finds (IsFaultOfNames CheckFault.TwiceLocal max_own_names (variables proc.now))) }
+{
+    let names = names_of_own(alloc, proc)?;
+    Ok(fault_of_names(&names, CheckFault::TwiceLocal, MAX_OWN_NAMES))
+}
+
+/// The least fault among the statements and labels of a procedure.
+fn fault_of_body(
+    alloc: Global,
+    globals: &[Name],
+    procs: &[Proc],
+    proc: &Proc,
+) -> Result<Option<Found>, AllocError>
+    ensures { IfOk result (Finds (IsFaultOfBody globals.now procs.now proc.now)) }
+{
+    let mut declared = names_of_own(alloc, proc)?;
+    gather(&mut declared, globals)?;
+    let stmts = all_statements(alloc, proc)?;
+    let labels = labels_in(alloc, &stmts)?;
+    let found = fault_of_some(alloc, &declared, procs, &labels, &stmts)?;
+    Ok(least(found, twice(&labels, CheckFault::TwiceLabel)))
+}
+
+/// The least fault inside a procedure.
+pub(crate) fn procedure_fault(
+    alloc: Global,
+    globals: &[Name],
+    procs: &[Proc],
+    proc: &Proc,
+) -> Result<Option<Found>, AllocError>
+    ensures { IfOk result (Finds (IsProcedureFault globals.now procs.now proc.now)) }
+{
+    let found = fault_of_own_names(alloc, proc)?;
+    Ok(least(found, fault_of_body(alloc, globals, procs, proc)?))
+}

@@ -1,0 +1,68 @@
+//! Variables that are used and not declared.
+ghost use Rattle.std.specs.Prelude.{◌≡◌, map};
+ghost use Rattle.bp_tree.specs.Views.{expression_of, decision_of};
+ghost use Rattle.bp_check.specs.Scopes.{Uses, SomeUses, DecisionUses, Among};
+ghost use Rattle.bp_check.specs.Sets.{names_of, Only, StrayIn};
+ghost use Rattle.bp_check.specs.Least.{Finds};
+
+use crate::faults::{CheckFault, Found};
+use crate::least::least;
+use crate::scopes::has_name;
+use bp_tree::{Decider, Expr, Name};
+
+/// The name, where the list does not have it.
+pub(crate) fn stray_name(declared: &[&Name], name: &Name) -> Option<Found>
+    ensures { Finds (Only CheckFault.UnknownVariable (StrayIn (names_of declared.now) (λ n. name.now ≡ n))) result }
+{
+    if has_name(declared, name.text()) {
+        return None;
+    }
+    Some(Found {
+        fault: CheckFault::UnknownVariable,
+        at: name.at(),
+    })
+}
+
+/// The least stray name of an expression.
+pub(crate) fn stray_in(declared: &[&Name], expr: &Expr) -> Option<Found>
+    ensures { Finds (Only CheckFault.UnknownVariable (StrayIn (names_of declared.now) (Uses (expression_of expr.now)))) result }
+{
+    match expr {
+        Expr::Const(_) => None,
+        Expr::Var(name) => stray_name(declared, name),
+        Expr::Not(e) => stray_in(declared, e.get()),
+        Expr::Binary(_, left, right) => {
+            let found = stray_in(declared, left.get());
+            least(found, stray_in(declared, right.get()))
+        }
+    }
+}
+
+pub(crate) fn stray_in_decider(declared: &[&Name], decider: &Decider) -> Option<Found>
+    ensures { Finds (Only CheckFault.UnknownVariable (StrayIn (names_of declared.now) (DecisionUses (decision_of decider.now)))) result }
+{
+    match decider {
+        Decider::Choice => None,
+        Decider::Value(expr) => stray_in(declared, expr),
+    }
+}
+
+pub(crate) fn stray_in_all(declared: &[&Name], exprs: &[Expr]) -> Option<Found>
+    ensures { Finds (Only CheckFault.UnknownVariable (StrayIn (names_of declared.now) (SomeUses (map expression_of exprs.now)))) result }
+{
+    let mut best = None;
+    for expr in exprs {
+        best = least(best, stray_in(declared, expr));
+    }
+    best
+}
+
+pub(crate) fn stray_names(declared: &[&Name], names: &[Name]) -> Option<Found>
+    ensures { Finds (Only CheckFault.UnknownVariable (StrayIn (names_of declared.now) (Among names.now))) result }
+{
+    let mut best = None;
+    for name in names {
+        best = least(best, stray_name(declared, name));
+    }
+    best
+}
