@@ -1,0 +1,15 @@
+use Rattle.std.proofs.Common.{refl, ◌∙◌, map}
+use Rattle.std.proofs.lemmas.Option.{slice_get_read}
+use Rattle.bp_code.specs.Steps.{all_worth}
+use Rattle.bp_code.specs.Bits.{bits_of, words_of}
+use Rattle.bp_code.specs.Views.{formula_of}
+use Rattle.bp_code.proofs.Loops.{bits_from_more, worth_at}
+use Rattle.bp_code.proofs.actions.Arguments.word.Goals as goal
+
+pub loop-i-preserved : goal.loop-i-preserved
+loop-i-preserved c =
+    let items = c.as_slice-value-items.result.now in
+    let bits = all_worth (words_of c.args.words) (map formula_of items) in
+    let at = slice_get_read items _ c.loop-i.i c.value-item.result refl c.loop-i-test.true c.value-item.is in
+    let got = worth_at (words_of c.args.words) items c.loop-i.i c.value-item.result c.value.result at c.value.ensures in
+    c.with_bit-word.ensures ∙ bits_from_more bits c.loop-i.i c.value.result (bits_of c.loop-i.word) got c.loop-i.invariant

@@ -1,0 +1,28 @@
+use Rattle.std.proofs.Common.{◌≡◌, ◌+◌, ◌*◌, ◌++◌, length, drop}
+use Rattle.bp_tree.specs.Ast.{Branches, Loops}
+use Rattle.bp_tree.specs.Views.{decision_of}
+use Rattle.bp_tree.specs.Blocks.{block_of, statement_of}
+use Rattle.bp_tree.specs.Depth.{depth, statement_depth}
+use Rattle.bp_code.specs.Scopes.{scope_of}
+use Rattle.bp_code.specs.Known.{IsKnown}
+use Rattle.bp_code.specs.Listing.{block_size, listing}
+use Rattle.bp_code.proofs.emit.+emit.Given as goal
+
+abbrev pub invariant-emit_block-loop-i : goal.invariant-emit_block-loop-i
+invariant-emit_block-loop-i l = record {
+  room : length l.out.items + block_size (block_of (drop l.i l.stmts)) ≡ length l.fn.out.items + block_size (block_of l.stmts);
+  known : IsKnown (scope_of l.scope) (block_of (drop l.i l.stmts));
+  code : l.out.items ++ listing (scope_of l.scope) (block_of (drop l.i l.stmts)) (length l.out.items) l.next ≡ l.fn.out.items ++ listing (scope_of l.scope) (block_of l.stmts) (length l.fn.out.items) l.next;
+}
+
+abbrev pub decreases-emit_block : goal.decreases-emit_block
+decreases-emit_block l = 3 * depth (block_of l.stmts.now) + 2
+
+abbrev pub decreases-emit : goal.decreases-emit
+decreases-emit l = 3 * statement_depth (statement_of l.form.now) + 1
+
+abbrev pub decreases-emit_if : goal.decreases-emit_if
+decreases-emit_if l = 3 * statement_depth (Branches (decision_of l.d.now) l.a.now l.b.now)
+
+abbrev pub decreases-emit_while : goal.decreases-emit_while
+decreases-emit_while l = 3 * statement_depth (Loops (decision_of l.d.now) l.body.now)

@@ -1,0 +1,11 @@
+use Rattle.std.proofs.Common.{◌≡◌, ◌+◌, ◌++◌, drop}
+use Rattle.bp_code.specs.Compilable.{HaveFew}
+use Rattle.bp_code.specs.Listing.{procedures_size, headings_from}
+use Rattle.bp_code.proofs.programs.headings_of.Given as goal
+
+abbrev pub invariant-loop-proc : goal.invariant-loop-proc
+invariant-loop-proc l = record {
+  size : l.entry + procedures_size (drop l.proc-index l.procs) ≡ procedures_size l.procs;
+  few : HaveFew (drop l.proc-index l.procs);
+  headings : l.headings.items ++ headings_from l.entry (drop l.proc-index l.procs) ≡ headings_from 0 l.procs;
+}

@@ -1,0 +1,40 @@
+-- The configurations of a program: what its threads share, and where each of them stands.
+use Rattle.std.specs.Prelude.{◌<◌, ℕ, Bool, true, false, cond, List, [], ◌∷◌, ◌++◌, Option, None, Some, map, length, bytes_eq}
+pub use Rattle.bp_tree.specs.Lookup.{procedure_named}
+use Rattle.bp_tree.specs.Ast.{Block, Then, Calls, Procedure, Program}
+use Rattle.bp_code.specs.Values.{Valuation, bound}
+
+-- a call that has not returned: its procedure, its locals, and the statements that remain
+pub record Frame : Type 0 where
+  pub procedure : Procedure
+  pub locals : Valuation
+  pub left : Block
+
+-- a stack for each thread, its top first; failed where an assertion has failed
+pub record Configuration : Type 0 where
+  pub globals : Valuation
+  pub stacks : List (List Frame)
+  pub failed : Bool
+
+-- a call of a procedure: the formals have the arguments, the declared locals 0, and the whole body remains
+abbrev pub entered : Procedure → List Bool → Frame
+entered p arguments = record { procedure = p; locals = bound p.formals arguments ++ bound p.locals []; left = p.body }
+
+-- the stack of a thread that begins with this procedure, and none where there is none
+abbrev pub first_stack : Option Procedure → List Frame
+first_stack None = []
+first_stack (Some p) = entered p [] ∷ []
+
+-- the start: the globals have these bits, and each thread enters the procedure that is named for it
+abbrev pub start_of : Program → List (List ℕ) → List Bool → Configuration
+start_of t entries init =
+    record { globals = bound t.globals init; stacks = map (λ x. first_stack (procedure_named t.procedures x)) entries; failed = false }
+
+-- whether the next statement is a call
+abbrev pub is_call : Block → Bool
+is_call (Then label at (Calls x es) r) = true
+is_call b = false
+
+-- a stack takes a further call only below 1,024 frames
+abbrev pub HasRoom : List Frame → Type 0
+HasRoom stack = length stack < 1024

@@ -1,0 +1,261 @@
+//! Expressions over slots.
+ghost use Rattle.std.specs.Prelude.{◌≡◌, ◌<◌, ◌≤◌, IfOk, Decides, map, length};
+ghost use Rattle.bp_code.specs.Values.{operation};
+ghost use Rattle.bp_code.specs.Steps.{with_slots, worth, all_worth, test_worth, bits_from};
+ghost use Rattle.bp_code.specs.Bits.{bits_of, words_of};
+ghost use Rattle.bp_code.specs.Views.{formula_of, test_of};
+
+use crate::slots::Slot;
+use crate::words::Words;
+use bp_tree::Op;
+use std::alloc::{AllocError, Global};
+use std::marker::Model;
+
+/// An expression that names its variables by their slots.
+#[cycle(slot_expr)]
+#[derive(Drop)]
+pub enum SlotExpr {
+    Const(bool),
+    Var(Slot),
+    Not(SlotSub),
+    Binary(Op, SlotSub, SlotSub),
+}
+
+/// An operand: an expression in a box, which a contract sees as that expression.
+#[cycle(slot_expr)]
+#[derive(Drop)]
+pub struct SlotSub {
+    inner: Box<SlotExpr>,
+}
+
+impl Model for SlotSub {
+    ghost use Rattle.std.proofs.Common.{arith};
+    ghost use Rattle.bp_code.specs.Flat.{Formula};
+    ghost use Rattle.bp_code.specs.Formulas.{coded_formula, height};
+
+    ghost Value = { Formula };
+
+    ghost coded = { coded_formula };
+
+    ghost use Rattle.bp_code.specs.Views.{formula_of};
+
+    ghost view = { λ s. formula_of s.inner.value };
+
+    ghost size = { height };
+
+    ghost size_decreases = { λ a h. Prim.grind (arith) };
+}
+
+/// What an operator makes of two bits.
+pub fn apply(op: Op, left: bool, right: bool) -> bool
+    ensures { result ≡ operation op left right }
+{
+    match op {
+        Op::Equal => left == right,
+        Op::Differ => left != right,
+        Op::And => left && right,
+        Op::Xor => left ^ right,
+        Op::Or => left || right,
+        Op::Implies => !left || right,
+    }
+}
+
+impl SlotSub {
+    pub fn new(alloc: Global, expr: SlotExpr) -> Result<SlotSub, AllocError>
+        ensures { IfOk result (λ s. s ≡ formula_of expr) }
+    {
+        Ok(SlotSub {
+            inner: Box::new(alloc, expr)?,
+        })
+    }
+
+    /// The operand's value.
+    #[cycle(slot_value)]
+    pub fn value(&self, words: Words) -> bool
+        ensures { result ≡ worth (words_of words) self.now }
+    {
+        self.inner.value(words)
+    }
+
+    /// A copy, which equals its source.
+    #[cycle(slot_copy)]
+    pub fn try_copy(&self) -> Result<SlotSub, AllocError>
+        ensures { IfOk result (λ s. s ≡ self.now) }
+    {
+        let alloc = *Box::allocator(&self.inner);
+        let expr = self.inner.try_copy()?;
+        Ok(SlotSub {
+            inner: Box::new(alloc, expr)?,
+        })
+    }
+}
+
+impl SlotExpr {
+    /// The expression's value.
+    #[cycle(slot_value)]
+    pub fn value(&self, words: Words) -> bool
+        ensures { result ≡ worth (words_of words) (formula_of self.now) }
+    {
+        match self {
+            SlotExpr::Const(b) => *b,
+            SlotExpr::Var(slot) => slot.get(words),
+            SlotExpr::Not(e) => !e.value(words),
+            SlotExpr::Binary(op, left, right) => {
+                let left = left.value(words);
+                apply(*op, left, right.value(words))
+            }
+        }
+    }
+
+    /// A copy, which equals its source.
+    #[cycle(slot_copy)]
+    pub fn try_copy(&self) -> Result<SlotExpr, AllocError>
+        ensures { IfOk result (λ e. formula_of e ≡ formula_of self.now) }
+    {
+        match self {
+            SlotExpr::Const(b) => Ok(SlotExpr::Const(*b)),
+            SlotExpr::Var(slot) => Ok(SlotExpr::Var(*slot)),
+            SlotExpr::Not(e) => Ok(SlotExpr::Not(e.try_copy()?)),
+            SlotExpr::Binary(op, left, right) => {
+                let left = left.try_copy()?;
+                Ok(SlotExpr::Binary(*op, left, right.try_copy()?))
+            }
+        }
+    }
+}
+
+impl SlotSub {
+    /// Whether both are the same expression.
+    #[cycle(slot_same)]
+    pub fn is_same(&self, other: &SlotSub) -> bool
+        ensures { Decides result (self.now ≡ other.now) }
+    {
+        self.inner.is_same(&other.inner)
+    }
+}
+
+impl SlotExpr {
+    /// Whether both are the same expression.
+    #[cycle(slot_same)]
+    pub fn is_same(&self, other: &SlotExpr) -> bool
+        ensures { Decides result (formula_of self.now ≡ formula_of other.now) }
+    {
+        match (self, other) {
+            (SlotExpr::Const(a), SlotExpr::Const(b)) => a == b,
+            (SlotExpr::Var(a), SlotExpr::Var(b)) => a == b,
+            (SlotExpr::Not(a), SlotExpr::Not(b)) => a.is_same(b),
+            (SlotExpr::Binary(op, a, b), SlotExpr::Binary(op2, a2, b2)) => {
+                op == op2 && a.is_same(a2) && b.is_same(b2)
+            }
+            _ => false,
+        }
+    }
+}
+
+/// What decides an instruction with two ways.
+#[derive(Drop)]
+pub enum Test {
+    /// The choice bit of the call.
+    Choice,
+    /// The value of an expression.
+    Value(SlotExpr),
+}
+
+impl Test {
+    /// Whether the test is 1, where the choice bit is this one.
+    pub fn holds(&self, words: Words, bit: bool) -> bool
+        ensures { result ≡ test_worth (words_of words) bit (test_of self.now) }
+    {
+        match self {
+            Test::Choice => bit,
+            Test::Value(e) => e.value(words),
+        }
+    }
+
+    /// A copy, which equals its source.
+    pub fn try_copy(&self) -> Result<Test, AllocError>
+        ensures { IfOk result (λ t. test_of t ≡ test_of self.now) }
+    {
+        match self {
+            Test::Choice => Ok(Test::Choice),
+            Test::Value(e) => Ok(Test::Value(e.try_copy()?)),
+        }
+    }
+}
+
+/// Expressions in order: right sides, arguments or printed values.
+#[derive(Drop)]
+pub struct SlotExprs {
+    items: Vec<SlotExpr>,
+}
+
+impl Model for SlotExprs {
+    ghost use Rattle.std.specs.Prelude.{List, map};
+    ghost use Rattle.std.specs.Coded.{coded_list};
+    ghost use Rattle.bp_code.specs.Flat.{Formula};
+    ghost use Rattle.bp_code.specs.Formulas.{coded_formula};
+
+    ghost Value = { List Formula };
+
+    ghost coded = { coded_list coded_formula };
+
+    ghost use Rattle.bp_code.specs.Views.{formula_of};
+
+    ghost view = { λ es. map formula_of es.items.items };
+}
+
+impl SlotExprs {
+    pub fn new(items: Vec<SlotExpr>) -> SlotExprs
+        ensures { result ≡ map formula_of items.items }
+    {
+        SlotExprs { items }
+    }
+
+    pub fn as_slice(&self) -> &[SlotExpr]
+        ensures { map formula_of result.now ≡ self.now }
+    {
+        self.items.as_slice()
+    }
+
+    /// A copy, which equals its source.
+    pub fn try_copy(&self) -> Result<SlotExprs, AllocError>
+        ensures { IfOk result (λ es. es ≡ self.now) }
+    {
+        let mut items = Vec::new(*self.items.allocator());
+        for expr in self.items.as_slice() {
+            items.push(expr.try_copy()?)?;
+        }
+        Ok(SlotExprs { items })
+    }
+}
+
+impl Test {
+    /// Whether both are the same test.
+    pub fn is_same(&self, other: &Test) -> bool
+        ensures { Decides result (test_of self.now ≡ test_of other.now) }
+    {
+        match (self, other) {
+            (Test::Choice, Test::Choice) => true,
+            (Test::Value(a), Test::Value(b)) => a.is_same(b),
+            _ => false,
+        }
+    }
+}
+
+impl SlotExprs {
+    /// Whether both are the same expressions in order.
+    pub fn is_same(&self, other: &SlotExprs) -> bool
+        ensures { Decides result (self.now ≡ other.now) }
+    {
+        let others = other.as_slice();
+        if self.items.len() != others.len() {
+            return false;
+        }
+        for (i, expr) in self.items.as_slice().iter().enumerate() {
+            if !expr.is_same(&others[i]) {
+                return false;
+            }
+        }
+        true
+    }
+}

@@ -1,0 +1,95 @@
+//! Headings of procedures.
+ghost use Rattle.std.specs.Prelude.{◌≡◌, IfOk, Decides, string_bytes, bytes_eq};
+ghost use Rattle.std.specs.Option.{option_copied};
+ghost use Rattle.bp_code.specs.Listing.{heading_named};
+
+use std::alloc::AllocError;
+use std::marker::Model;
+
+/// A procedure: its name, its numbers of formals and of declared locals, and the number of its
+/// first instruction.
+#[derive(Debug, Drop)]
+pub struct Heading {
+    name: String,
+    formals: u32,
+    locals: u32,
+    entry: u32,
+}
+
+impl Model for Heading {
+    ghost use Rattle.std.specs.Prelude.{string_bytes};
+    ghost use Rattle.bp_code.specs.Flat as flat;
+    ghost use Rattle.bp_code.specs.Codes.{coded_heading};
+
+    ghost Value = { flat.Heading };
+
+    ghost coded = { coded_heading };
+
+    ghost view = { λ h. record { name = string_bytes h.name; formals = h.formals; locals = h.locals; entry = h.entry } };
+}
+
+impl Heading {
+    pub fn new(name: String, formals: u32, locals: u32, entry: u32) -> Heading
+        ensures { result ≡ record { name = string_bytes name; formals = formals; locals = locals; entry = entry } }
+    {
+        Heading {
+            name,
+            formals,
+            locals,
+            entry,
+        }
+    }
+
+    pub fn name(&self) -> &str
+        ensures { result.now ≡ self.now.name }
+    {
+        self.name.as_str()
+    }
+
+    pub fn formals(&self) -> u32
+        ensures { result ≡ self.now.formals }
+    {
+        self.formals
+    }
+
+    pub fn locals(&self) -> u32
+        ensures { result ≡ self.now.locals }
+    {
+        self.locals
+    }
+
+    pub fn entry(&self) -> u32
+        ensures { result ≡ self.now.entry }
+    {
+        self.entry
+    }
+
+    /// Whether both are the same heading.
+    pub fn is_same(&self, other: &Heading) -> bool
+        ensures { Decides result (self.now ≡ other.now) }
+    {
+        self.name.as_str() == other.name.as_str()
+            && self.formals == other.formals
+            && self.locals == other.locals
+            && self.entry == other.entry
+    }
+
+    /// A copy, which equals its source.
+    pub fn try_copy(&self) -> Result<Heading, AllocError>
+        ensures { IfOk result (λ h. h ≡ self.now) }
+    {
+        Ok(Heading {
+            name: self.name.clone()?,
+            formals: self.formals,
+            locals: self.locals,
+            entry: self.entry,
+        })
+    }
+}
+
+/// The first heading of a name.
+pub(crate) fn find_heading<'a>(headings: &'a [Heading], name: &str) -> Option<&'a Heading>
+    ensures { option_copied result ≡ heading_named headings.now name.now }
+{
+    headings.iter().find(|h| h.name() == name)
+}

@@ -1,0 +1,129 @@
+//! Instructions of flat code.
+ghost use Rattle.std.specs.Prelude.{◌≡◌, IfOk, Decides};
+ghost use Rattle.bp_code.specs.Instructions.{instruction_of};
+ghost use Rattle.bp_code.specs.Kinds.{kind_of, next_of, other_of, callee_of};
+
+use crate::actions::Action;
+use std::alloc::AllocError;
+use std::marker::Model;
+
+/// One instruction of a code, which names its successors by their numbers.
+#[derive(Drop)]
+pub struct Instr {
+    action: Action,
+}
+
+impl Model for Instr {
+    ghost use Rattle.bp_code.specs.Flat.{Instruction};
+    ghost use Rattle.bp_code.specs.Codes.{coded_instruction};
+
+    ghost Value = { Instruction };
+
+    ghost coded = { coded_instruction };
+
+    ghost use Rattle.bp_code.specs.Instructions.{instruction_of};
+
+    ghost view = { λ i. instruction_of i.action };
+}
+
+/// The kind of an instruction.
+#[derive(Clone, Copy, Debug, PartialEq, Eq)]
+pub enum Kind {
+    Skip,
+    Goto,
+    Return,
+    Assign,
+    If,
+    While,
+    Assert,
+    Assume,
+    Print,
+    Call,
+}
+
+impl Instr {
+    pub(crate) fn new(action: Action) -> Instr
+        ensures { result ≡ instruction_of action }
+    {
+        Instr { action }
+    }
+
+    pub fn kind(&self) -> Kind
+        ensures { result ≡ kind_of self.now }
+    {
+        match &self.action {
+            Action::Skip { .. } => Kind::Skip,
+            Action::Goto { .. } => Kind::Goto,
+            Action::Return => Kind::Return,
+            Action::Assign { .. } => Kind::Assign,
+            Action::If { .. } => Kind::If,
+            Action::While { .. } => Kind::While,
+            Action::Assert { .. } => Kind::Assert,
+            Action::Assume { .. } => Kind::Assume,
+            Action::Print { .. } => Kind::Print,
+            Action::Call { .. } => Kind::Call,
+        }
+    }
+
+    /// The number of the instruction that follows this one, after its return in the case of a call.
+    /// Of an `if` the first of the `then` part, of a `while` the first of the body. A return has
+    /// none.
+    pub fn next(&self) -> Option<u32>
+        ensures { result ≡ next_of self.now }
+    {
+        match &self.action {
+            Action::Return => None,
+            Action::Skip { next }
+            | Action::Goto { next }
+            | Action::Assign { next, .. }
+            | Action::If { next, .. }
+            | Action::While { next, .. }
+            | Action::Assert { next, .. }
+            | Action::Assume { next, .. }
+            | Action::Print { next, .. }
+            | Action::Call { next, .. } => Some(*next),
+        }
+    }
+
+    /// Of an `if` the number of the first instruction of the `else` part, of a `while` that of what
+    /// follows the loop.
+    pub fn other(&self) -> Option<u32>
+        ensures { result ≡ other_of self.now }
+    {
+        match &self.action {
+            Action::If { other, .. } | Action::While { other, .. } => Some(*other),
+            _ => None,
+        }
+    }
+
+    /// Of a call the number of the callee's first instruction.
+    pub fn callee(&self) -> Option<u32>
+        ensures { result ≡ callee_of self.now }
+    {
+        match &self.action {
+            Action::Call { callee, .. } => Some(*callee),
+            _ => None,
+        }
+    }
+
+    /// A copy, which equals its source.
+    pub fn try_copy(&self) -> Result<Instr, AllocError>
+        ensures { IfOk result (λ i. i ≡ self.now) }
+    {
+        let action = self.action.try_copy()?;
+        Ok(Instr { action })
+    }
+
+    /// Whether both are the same instruction.
+    pub fn is_same(&self, other: &Instr) -> bool
+        ensures { Decides result (self.now ≡ other.now) }
+    {
+        self.action.is_same(&other.action)
+    }
+
+    pub(crate) fn action(&self) -> &Action
+        ensures { instruction_of result.now ≡ self.now }
+    {
+        &self.action
+    }
+}

@@ -1,0 +1,89 @@
+//! The code of a whole program.
+ghost use Rattle.std.specs.Prelude.{◌≡◌, ◌+◌, ◌^◌, ◌<◌, ◌≤◌, ◌++◌, ◌∷◌, [], IfOk, OnOk, length};
+ghost use Rattle.bp_code.specs.Flat.{Return};
+ghost use Rattle.bp_code.specs.Known.{IsKnown};
+ghost use Rattle.bp_code.specs.Listing.{block_size, procedures_size, headings_from, listing, flat_of};
+ghost use Rattle.bp_code.specs.Compilable.{IsCompilable, HaveFew};
+ghost use Rattle.bp_code.specs.StandsFor.{StandsFor};
+
+use crate::actions::Action;
+use crate::code::Code;
+use crate::emit::{emit_block, push};
+use crate::headings::Heading;
+use crate::instrs::Instr;
+use crate::scopes::{Scope, size_of_block};
+use bp_check::Checked;
+use bp_tree::{Name, Proc};
+use std::alloc::{AllocError, Global};
+
+/// The headings of the procedures. The instructions of each begin where those of the one before it
+/// end.
+fn headings_of(alloc: Global, procs: &[Proc]) -> Result<Vec<Heading>, AllocError>
+    requires size { procedures_size procs.now < 2 ^ 32 }
+    requires few { HaveFew procs.now }
+    ensures { IfOk result (λ hs. hs.items ≡ headings_from 0 procs.now) }
+{
+    let mut headings = Vec::new(alloc);
+    let mut entry = 0;
+    for proc in procs {
+        let name = String::from_str(alloc, proc.name().text())?;
+        let formals = proc.formals().len() as u32;
+        let locals = proc.locals().len() as u32;
+        headings.push(Heading::new(name, formals, locals, entry))?;
+        entry += size_of_block(proc.body()) + 1;
+    }
+    Ok(headings)
+}
+
+/// Adds the instructions of a procedure, with a return after its statements.
+fn emit_proc(
+    out: &mut Vec<Instr>,
+    globals: &[Name],
+    proc: &Proc,
+    headings: &[Heading],
+) -> Result<(), AllocError>
+    requires globals { length globals.now ≤ 128 }
+    requires variables { length (proc.now.formals ++ proc.now.locals) ≤ 128 }
+    requires room { length out.old.items + block_size proc.now.body + 1 < 2 ^ 32 }
+    requires known { IsKnown (record { globals = globals.now; procedure = proc.now; start = length out.old.items; headings = headings.now }) proc.now.body }
+    ensures code { OnOk result (out.new.items ≡ out.old.items ++ (listing (record { globals = globals.now; procedure = proc.now; start = length out.old.items; headings = headings.now }) proc.now.body (length out.old.items) (length out.old.items + block_size proc.now.body) ++ Return ∷ [])) }
+    ensures grown { OnOk result (length out.new.items ≡ length out.old.items + block_size proc.now.body + 1) }
+{
+    let start = out.len() as u32;
+    let scope = Scope {
+        globals,
+        proc,
+        start,
+        headings,
+    };
+    let end = start + size_of_block(proc.body());
+    emit_block(out, &scope, proc.body(), end)?;
+    push(out, Instr::new(Action::Return))
+}
+
+/// The code of a lawful tree.
+pub fn compile(alloc: Global, checked: &Checked) -> Result<Code, AllocError>
+    ensures { IfOk result (λ c. StandsFor c checked.now) }
+{
+    let tree = checked.tree();
+    tree.has_few_statements();
+    compile_program(alloc, tree.globals(), tree.procs())
+}
+
+/// The code of a program whose names are declared, as `check` finds it.
+pub(crate) fn compile_program(
+    alloc: Global,
+    globals: &[Name],
+    procs: &[Proc],
+) -> Result<Code, AllocError>
+    requires { IsCompilable (record { globals = globals.now; procedures = procs.now }) }
+    ensures stands { IfOk result (λ c. StandsFor c (record { globals = globals.now; procedures = procs.now })) }
+    ensures exact { IfOk result (λ c. c ≡ flat_of (record { globals = globals.now; procedures = procs.now })) }
+{
+    let headings = headings_of(alloc, procs)?;
+    let mut instrs = Vec::new(alloc);
+    for proc in procs {
+        emit_proc(&mut instrs, globals, proc, headings.as_slice())?;
+    }
+    Ok(Code::new(headings, globals.len() as u32, instrs))
+}

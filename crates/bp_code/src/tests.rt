@@ -1,0 +1,95 @@
+// Each public function once on its happy path.
+ghost use Rattle.std.specs.Prelude.{[], ◌∷◌, IfOk};
+ghost use Rattle.bp_code.specs.Compilable.{IsCompilable};
+
+use crate::actions::Action;
+use crate::exprs::Test;
+use crate::instrs::Instr;
+use crate::programs::compile_program;
+use crate::words::{bit_at, with_bit, word_of};
+use crate::{Deed, Kind, Words, WriteFault, put, put_each};
+use bp_tree::{Block, Decider, Form, Name, Names, Proc, Stmt};
+use std::alloc::{AllocError, Global};
+use std::test::Fail;
+
+#[test]
+fn writes_pieces(rt: HostRuntime) -> Result<(), Fail> {
+    let mut out = Vec::new(rt.alloc());
+    let first = put(&mut out, b"end ");
+    assert!(&rt; first.is_ok());
+    let both = put_each(&mut out, &[b"4 ", b"0\n"]);
+    assert!(&rt; both.is_ok());
+    assert!(&rt; out.as_slice() == b"end 4 0\n".as_slice());
+    assert_eq!(&rt; WriteFault::Write.number(), 51);
+    Ok(())
+}
+
+#[test]
+fn reads_and_writes_bits(rt: HostRuntime) {
+    let word = word_of(&[false, true, true]);
+    assert_eq!(&rt; word, 6);
+    let word = with_bit(word, 127, true);
+    assert!(&rt; bit_at(word, 127));
+    assert!(&rt; !bit_at(word, 0));
+    assert_eq!(&rt; with_bit(word, 127, false), 6);
+}
+
+#[test]
+fn carries_out_an_instruction(rt: HostRuntime) -> Result<(), Fail> {
+    let words = Words {
+        globals: 5,
+        locals: 0,
+    };
+    let instr = Instr::new(Action::If {
+        test: Test::Choice,
+        next: 6,
+        other: 7,
+    });
+    assert!(&rt; instr.kind() == Kind::If);
+    assert_eq!(&rt; instr.next(), Some(6));
+    assert_eq!(&rt; instr.other(), Some(7));
+    assert_eq!(&rt; instr.callee(), None);
+    assert!(&rt; instr.act(words, false) == Deed::Goes { next: 7, words });
+    let copy = instr.try_copy()?;
+    assert!(&rt; copy.is_same(&instr));
+    Ok(())
+}
+
+// A procedure `main` whose body is `while (?) do skip; od`.
+fn one_loop(alloc: Global) -> Result<Proc, AllocError>
+    ensures { IfOk result (λ p. IsCompilable (record { globals = []; procedures = p ∷ [] })) }
+{
+    let name = Name::new(String::from_str(alloc, "main")?, 0);
+    let body = Block::new(vec![in alloc; Stmt::new(None, 26, Form::Skip)]?);
+    let stmt = Stmt::new(None, 13, Form::While(Decider::Choice, body));
+    let formals = Names::new(Vec::new(alloc));
+    let locals = Names::new(Vec::new(alloc));
+    Ok(Proc::new(name, formals, locals, Block::new(vec![in alloc; stmt]?)))
+}
+
+#[test]
+fn compiles_a_loop(rt: HostRuntime) -> Result<(), Fail> {
+    let proc = one_loop(rt.alloc())?;
+    let code = compile_program(rt.alloc(), &[], &[proc])?;
+    assert_eq!(&rt; code.len(), 3);
+    assert_eq!(&rt; code.entry("main"), Some(0));
+    assert_eq!(&rt; code.formals("main"), Some(0));
+    assert_eq!(&rt; code.globals(), 0);
+    for (number, kind, next, other) in [
+        (0, Kind::While, Some(1), Some(2)),
+        (1, Kind::Skip, Some(0), None),
+        (2, Kind::Return, None, None),
+    ] {
+        let Some(instr) = code.get(number) else {
+            assert!(&rt; false);
+            return Ok(());
+        };
+        assert!(&rt; instr.kind() == kind);
+        assert_eq!(&rt; instr.next(), next);
+        assert_eq!(&rt; instr.other(), other);
+    }
+    assert!(&rt; code.get(3).is_none());
+    let copy = code.try_copy()?;
+    assert!(&rt; copy == code);
+    Ok(())
+}
