@@ -1,0 +1,14 @@
+pub mod Advance
+pub mod Asking
+pub mod Answering
+pub mod Contexts
+pub mod Entries
+pub mod Failures
+pub mod Histories
+pub mod Making
+pub mod Ranges
+pub mod Replies
+pub mod Runs
+pub mod StackLemmas
+pub mod Starting
+pub mod Standing

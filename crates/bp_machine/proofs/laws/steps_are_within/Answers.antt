@@ -1,0 +1,5 @@
+use Rattle.bp_machine.proofs.Runs.{within}
+use Rattle.bp_machine.proofs.laws.steps_are_within.Goals as goal
+
+pub returns : goal.returns
+returns c = λ t s h legal. within t s h legal

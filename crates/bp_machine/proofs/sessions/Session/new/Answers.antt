@@ -1,0 +1,29 @@
+use Rattle.std.proofs.Common.{◌≡◌, ◌∙◌, ap, sym, arith, length, map, refl, [], subst, string_bytes}
+use Rattle.std.proofs.Math.Logic.{∥∥₁_map}
+use Rattle.std.proofs.lemmas.List.{length-map}
+use Rattle.bp_code.specs.Steps.{bits_from}
+use Rattle.bp_machine.specs.Starts.{first_line}
+use Rattle.bp_machine.proofs.Asking.{few_globals}
+use Rattle.bp_machine.proofs.Starting.{starts}
+use Rattle.bp_machine.proofs.sessions.Session.new.Goals as goal
+
+pub word_of-requires : goal.word_of-requires
+word_of-requires c =
+    omega (arith, few_globals c.args.code.now c.is_of_a_program.ensures, c.requires.init, ap length c.bits.ensures)
+
+pub invariant_of-result : goal.invariant_of-result
+invariant_of-result c =
+    let word = c.word_of.ensures ∙ ap bits_from c.bits.ensures in
+    let lines = c.in_ok-lines.ensures ∙ ap (map (first_line c.args.code.now)) c.entries.ensures in
+    rw (c.in_ok-code.ensures, c.in_ok-setup.ensures)
+    (record {
+      range = c.is_in_range.ensures;
+      lines = ap length lines ∙ length-map c.args.setup.now.entries (first_line c.args.code.now);
+      stands = ∥∥₁_map c.is_of_a_program.ensures (λ p. (p.0, [], p.2, starts c.args.code.now p.0 c.args.setup.now p.2 _ c.requires word lines refl refl refl));
+    })
+
+pub returns-clause-stands : goal.returns-clause-stands
+returns-clause-stands c = λ t is.
+    let word = c.word_of.ensures ∙ ap bits_from c.bits.ensures in
+    let lines = c.in_ok-lines.ensures ∙ ap (map (first_line c.args.code.now)) c.entries.ensures in
+    rw c.in_ok-setup.ensures (starts c.args.code.now t c.args.setup.now is _ c.requires word lines refl refl refl)

@@ -1,0 +1,12 @@
+use Rattle.std.proofs.Common.{◌≡◌, ◌-◌, ◌∷◌, [], ◌∙◌, ap, sym, arith, length, subst, reverse, set, ◌++◌}
+use Rattle.std.specs.Prelude.{slice_get}
+use Rattle.bp_machine.specs.Stacks.{entered_top}
+use Rattle.bp_machine.proofs.StackLemmas.{entered, top_is}
+use Rattle.bp_machine.proofs.stacks.enter.Goals as goal
+
+pub returns-then-count-gt1-clause-ok : goal.returns-then-count-gt1-clause-ok
+returns-then-count-gt1-clause-ok c =
+    let xs = c.args.frames.now.items in
+    let top = sym (top_is xs) ∙ ap (λ ys. slice_get ys (length ys - 1)) (sym c.deref.ensures.value) ∙ sym c.last.ensures.value ∙ sym c.in-Some.ensures in
+    let pushed = c.in_ok-push.ensures.items in
+    rw pushed (entered xs c.args.frame c.in-Some.caller c.args.next c.len-count.result top (omega (arith, c.args.frames.now.ok.0, c.in_ok-push.ensures.len)))

@@ -1,0 +1,66 @@
+-- Histories: lists of calls with their replies, oldest first.
+use Rattle.std.specs.Prelude.{◌≡◌, ◌==◌, ◌<◌, ℕ, zero, suc, ◌+◌, Bool, true, false, cond, ◌||◌, nat_le, List, [], ◌∷◌, ◌++◌, length, filter}
+use Rattle.bp_tree.specs.Ast.{Program}
+use Rattle.bp_code.specs.Configurations.{Configuration}
+use Rattle.bp_machine.specs.declared.calls.Reply.{Reply}
+use Rattle.bp_machine.specs.declared.calls.Reply.TheVariants.{Stopped, Ended, NoContexts, Full, Blocked, Failed, Stepped}
+use Rattle.bp_machine.specs.declared.calls.Call.{Call}
+use Rattle.bp_machine.specs.Setups.{SetupOf, threads, start}
+use Rattle.bp_machine.specs.Answers.{Answers, is_granted, next_of}
+
+-- the configuration after the calls of a history, by their replies
+abbrev pub after_calls : Program → Configuration → List Call → Configuration
+after_calls t c [] = c
+after_calls t c (x ∷ xs) = after_calls t (next_of t c x.thread x.bit x.reply) xs
+
+abbrev pub after : Program → SetupOf → List Call → Configuration
+after t s h = after_calls t (start t s) h
+
+-- the calls with a granted step
+abbrev pub steps_of : List Call → List Call
+steps_of h = filter (λ x. is_granted x.reply) h
+
+-- their threads
+abbrev pub granted : List Call → List ℕ
+granted [] = []
+granted (x ∷ xs) = cond (is_granted x.reply) (x.thread ∷ granted xs) (granted xs)
+
+abbrev pub calls_of : ℕ → List Call → List Call
+calls_of i h = filter (λ x. x.thread == i) h
+
+-- a reply after which the thread makes no further call
+abbrev pub is_last : Reply → Bool
+is_last Stepped = false
+is_last Blocked = false
+is_last r = true
+
+abbrev pub ends_with_last : List Call → Bool
+ends_with_last [] = false
+ends_with_last (x ∷ []) = is_last x.reply
+ends_with_last (x ∷ y ∷ xs) = ends_with_last (y ∷ xs)
+
+-- the line of thread i is finished: its last call had such a reply, or it has as many calls as are allowed
+abbrev pub is_finished : SetupOf → List Call → ℕ → Bool
+is_finished s h i = ends_with_last (calls_of i h) || nat_le s.calls (length (calls_of i h))
+
+-- how many of the lines below n are open
+abbrev pub open_below : ℕ → SetupOf → List Call → ℕ
+open_below zero s h = 0
+open_below (suc n) s h = cond (is_finished s h n) (open_below n s h) (open_below n s h + 1)
+
+abbrev pub open_lines : SetupOf → List Call → ℕ
+open_lines s h = open_below (threads s) s h
+
+-- the call x may follow h: of a thread whose line is open, with the machine's reply
+pub record IsAllowed (t : Program) (s : SetupOf) (h : List Call) (x : Call) : Type 0 where
+  pub thread : x.thread < threads s
+  pub unfinished : is_finished s h x.thread ≡ false
+  pub answers : Answers t s.contexts (after t s h) (granted h) x.thread x.bit x.reply
+
+abbrev pub IsLegalAfter : Program → SetupOf → List Call → List Call → Type 0
+IsLegalAfter t s h [] = Unit {0}
+IsLegalAfter t s h (x ∷ xs) = IsAllowed t s h x × IsLegalAfter t s (h ++ x ∷ []) xs
+
+-- each call of the history may follow those before it
+abbrev pub IsLegal : Program → SetupOf → List Call → Type 0
+IsLegal t s h = IsLegalAfter t s [] h

@@ -1,0 +1,13 @@
+pub mod Answers
+pub mod Contexts
+pub mod Histories
+pub mod Laws
+pub mod Letters
+pub mod Lines
+pub mod Reports
+pub mod SessionCodes
+pub mod Sessions
+pub mod Setups
+pub mod Stacks
+pub mod Starts
+pub mod Stepping

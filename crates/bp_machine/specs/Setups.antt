@@ -1,0 +1,83 @@
+-- What a session starts from, and when a setup is refused.
+use Rattle.std.specs.Prelude.{◌≡◌, ℕ, ◌+◌, ◌<◌, ◌≤◌, ◌==◌, Bool, true, false, cond, not, ◌||◌, nat_lt, List, [], ◌∷◌, Option, None, Some, is_some, length}
+use Rattle.std.specs.Option.{option_or}
+use Rattle.bp_tree.specs.Ast.{Program}
+use Rattle.bp_code.specs.Configurations.{Configuration, start_of}
+use Rattle.bp_code.specs.Flat.{Flat, Heading}
+use Rattle.bp_code.specs.Listing.{heading_named}
+use Rattle.bp_machine.specs.declared.setups.SetupFault.{SetupFault}
+use Rattle.bp_machine.specs.declared.setups.SetupFault.TheVariants.{Threads, UnknownEntry, EntryHasFormals, InitLength, OutOfRange, Memory}
+
+-- an entry procedure for each thread, a bit for each global, the contexts and the calls of a thread that are
+-- allowed, and the seed of the choice bits
+pub record SetupOf : Type 0 where
+  pub entries : List (List ℕ)
+  pub init : List Bool
+  pub contexts : ℕ
+  pub calls : ℕ
+  pub seed : Option ℕ
+
+abbrev pub setup_of : List (List ℕ) → List Bool → ℕ → ℕ → Option ℕ → SetupOf
+setup_of entries init contexts calls seed = record { entries = entries; init = init; contexts = contexts; calls = calls; seed = seed }
+
+abbrev pub threads : SetupOf → ℕ
+threads s = length s.entries
+
+-- the configuration at the start
+abbrev pub start : Program → SetupOf → Configuration
+start t s = start_of t s.entries s.init
+
+abbrev pub max_threads : ℕ
+max_threads = 64
+
+abbrev pub max_contexts : ℕ
+max_contexts = 1000
+
+abbrev pub max_calls : ℕ
+max_calls = 100000
+
+-- an entry is a procedure without formals
+abbrev pub entry_fault : ℕ → Option Heading → Option SetupFault
+entry_fault k None = Some (UnknownEntry k)
+entry_fault k (Some h) = cond (h.formals == 0) None (Some (EntryHasFormals k))
+
+-- the first fault of the entries from thread k on
+abbrev pub entries_fault : Flat → ℕ → List (List ℕ) → Option SetupFault
+entries_fault c k [] = None
+entries_fault c k (e ∷ es) = option_or (entry_fault k (heading_named c.headings e)) (entries_fault c (k + 1) es)
+
+abbrev pub when : Bool → SetupFault → Option SetupFault
+when b f = cond b (Some f) None
+
+abbrev pub is_out_of_range : SetupOf → Bool
+is_out_of_range s = nat_lt max_contexts s.contexts || (s.calls == 0 || (nat_lt max_calls s.calls || is_some s.seed))
+
+-- the first fault of a setup for a code; no setup has a seed yet
+abbrev pub setup_fault : Flat → SetupOf → Option SetupFault
+setup_fault c s =
+    option_or (when (threads s == 0 || nat_lt max_threads (threads s)) Threads)
+    (option_or (entries_fault c 0 s.entries)
+    (option_or (when (not (length s.init == c.globals)) InitLength)
+    (when (is_out_of_range s) OutOfRange)))
+
+-- the setup fits the code: each entry is a procedure of it without formals, and there is a bit for each global
+pub record Fits (c : Flat) (s : SetupOf) : Type 0 where
+  pub entries : entries_fault c 0 s.entries ≡ None
+  pub init : length s.init ≡ c.globals
+
+-- the numbers are within their limits
+pub record IsInRange (s : SetupOf) : Type 0 where
+  pub some : 0 < threads s
+  pub few : threads s ≤ max_threads
+  pub contexts : s.contexts ≤ max_contexts
+  pub one : 0 < s.calls
+  pub calls : s.calls ≤ max_calls
+  pub unseeded : s.seed ≡ None
+
+abbrev pub number_of : SetupFault → ℕ
+number_of Threads = 31
+number_of (UnknownEntry k) = 32
+number_of (EntryHasFormals k) = 33
+number_of InitLength = 34
+number_of OutOfRange = 35
+number_of Memory = 7

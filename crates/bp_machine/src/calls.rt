@@ -1,0 +1,50 @@
+//! Calls of guest threads, and what they are answered.
+
+/// What a call is answered: the first of these that applies.
+#[derive(Clone, Copy, Debug, PartialEq, Eq)]
+pub enum Reply {
+    /// An assertion failed earlier.
+    Stopped,
+    /// The thread has no frame.
+    Ended,
+    /// One more step of the thread is not within the allowed contexts.
+    NoContexts,
+    /// The next step is a call, and the stack has no room for a frame.
+    Full,
+    /// The next step is an assumption of 0.
+    Blocked,
+    /// The step is an assertion of 0.
+    Failed,
+    /// Any other step.
+    Stepped,
+}
+
+impl Reply {
+    ghost use Rattle.std.specs.Prelude.{◌≡◌};
+    ghost use Rattle.bp_machine.specs.Letters.{letter_of};
+
+    /// The letter by which traces tell the reply.
+    pub fn letter(&self) -> u8
+        ensures { result ≡ letter_of self.now }
+    {
+        match self {
+            Reply::Stopped => b'x',
+            Reply::Ended => b'e',
+            Reply::NoContexts => b'n',
+            Reply::Full => b'u',
+            Reply::Blocked => b'b',
+            Reply::Failed => b'f',
+            Reply::Stepped => b's',
+        }
+    }
+}
+
+/// One call of a guest thread.
+#[derive(Clone, Copy, Debug, PartialEq, Eq)]
+pub struct Call {
+    /// The thread, from 0.
+    pub thread: u32,
+    /// The choice bit that the call has, whether its step reads it or not.
+    pub bit: bool,
+    pub reply: Reply,
+}

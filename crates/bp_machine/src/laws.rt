@@ -1,0 +1,17 @@
+//! Laws of histories. These functions do nothing: their contracts are the laws.
+ghost use Rattle.bp_machine.specs.Laws.{StepsAreARun, StepsAreWithin, FailuresAreReal};
+
+/// The granted steps of a legal history are a run of the program.
+pub fn steps_are_a_run()
+    ensures { StepsAreARun }
+{}
+
+/// The granted steps of a legal history are within the contexts that its setup allows.
+pub fn steps_are_within()
+    ensures { StepsAreWithin }
+{}
+
+/// Where the outcome of a legal history is a failure, its last granted step is at an assertion of 0.
+pub fn failures_are_real()
+    ensures { FailuresAreReal }
+{}

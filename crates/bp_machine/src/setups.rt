@@ -1,0 +1,260 @@
+//! What a session starts from.
+ghost use Rattle.std.specs.Prelude.{◌≡◌, ◌⊎◌, ◌≤◌, ℕ, List, None, Some, map, length, slice_get, string_bytes, MatchResult, IfOk, option_map};
+ghost use Rattle.std.specs.Option.{option_copied};
+ghost use Rattle.bp_machine.specs.Setups.{SetupOf, setup_of, threads, entries_fault, entry_fault, setup_fault, is_out_of_range, Fits, IsInRange, number_of};
+
+use crate::limits::{MAX_CALLS, MAX_CONTEXTS, MAX_THREADS};
+use bp_code::Code;
+use std::alloc::{AllocError, AllocFailed, Global};
+use std::marker::Model;
+use thiserror::Error;
+
+/// Why a setup is refused: the first of these that applies.
+#[derive(Clone, Copy, Debug, PartialEq, Eq, Error)]
+pub enum SetupFault {
+    /// There are no threads, or more than 64.
+    #[error("there must be 1 to 64 guest threads")]
+    Threads,
+    /// The entry of this thread is no procedure of the program.
+    #[error("thread {0} begins with a procedure that is not there")]
+    UnknownEntry(u32),
+    /// The entry of this thread has formals.
+    #[error("thread {0} begins with a procedure that has formals")]
+    EntryHasFormals(u32),
+    /// There is not one initial bit for each global.
+    #[error("there must be one initial bit for each global")]
+    InitLength,
+    /// More than 1,000 contexts, no call, more than 100,000 calls, or a seed, which no setup takes yet.
+    #[error("a number is out of its range")]
+    OutOfRange,
+    /// There was not enough memory.
+    #[error("out of memory")]
+    Memory,
+}
+
+impl SetupFault {
+    /// The number by which users know the fault.
+    pub fn number(&self) -> u32
+        ensures { result ≡ number_of self.now }
+    {
+        match self {
+            SetupFault::Threads => 31,
+            SetupFault::UnknownEntry(_) => 32,
+            SetupFault::EntryHasFormals(_) => 33,
+            SetupFault::InitLength => 34,
+            SetupFault::OutOfRange => 35,
+            SetupFault::Memory => 7,
+        }
+    }
+}
+
+/// An entry procedure for each guest thread, a bit for each global, and how many contexts and how many
+/// calls of a thread are allowed.
+#[derive(Drop)]
+pub struct Setup {
+    entries: Vec<String>,
+    init: Vec<bool>,
+    contexts: u32,
+    calls: u32,
+    seed: Option<u64>,
+}
+
+impl Model for Setup {
+    ghost use Rattle.std.specs.Prelude.{map, string_bytes};
+    ghost use Rattle.bp_machine.specs.Setups.{SetupOf, IsInRange};
+
+    ghost Value = { SetupOf };
+
+    ghost view = { λ s. record { entries = map string_bytes s.entries.items; init = s.init.items; contexts = s.contexts; calls = s.calls; seed = s.seed } };
+
+    ghost invariant = { λ s. IsInRange (record { entries = map string_bytes s.entries.items; init = s.init.items; contexts = s.contexts; calls = s.calls; seed = s.seed }) };
+}
+
+/// The first fault of the entries.
+fn fault_of_entries(code: &Code, entries: &[String]) -> Option<SetupFault>
+    requires { length entries.now ≤ 64 }
+    ensures { result ≡ entries_fault code.now 0 (map string_bytes entries.now) }
+{
+    for (thread, name) in entries.iter().enumerate() {
+        match code.formals(name.as_str()) {
+            None => return Some(SetupFault::UnknownEntry(thread as u32)),
+            Some(0) => {}
+            Some(_) => return Some(SetupFault::EntryHasFormals(thread as u32)),
+        }
+    }
+    None
+}
+
+/// The first fault of a setup with these parts, apart from memory.
+fn fault_of_setup(
+    code: &Code,
+    entries: &[String],
+    init: &[bool],
+    contexts: u32,
+    calls: u32,
+    seed: Option<u64>,
+) -> Option<SetupFault>
+    ensures { result ≡ setup_fault code.now (setup_of (map string_bytes entries.now) init.now contexts calls seed) }
+{
+    if entries.is_empty() || entries.len() > MAX_THREADS {
+        return Some(SetupFault::Threads);
+    }
+    if let Some(fault) = fault_of_entries(code, entries) {
+        return Some(fault);
+    }
+    if init.len() != code.globals() as usize {
+        return Some(SetupFault::InitLength);
+    }
+    if contexts > MAX_CONTEXTS || calls == 0 || calls > MAX_CALLS || seed.is_some() {
+        return Some(SetupFault::OutOfRange);
+    }
+    None
+}
+
+/// Copies of names.
+fn copies(alloc: Global, names: &[String]) -> Result<Vec<String>, AllocError>
+    ensures { IfOk result (λ v. map string_bytes v.items ≡ map string_bytes names.now) }
+{
+    let mut items = Vec::new(alloc);
+    for name in names {
+        items.push(name.clone()?)?;
+    }
+    Ok(items)
+}
+
+/// A setup of copies of these parts.
+fn kept(
+    alloc: Global,
+    entries: &[String],
+    init: &[bool],
+    contexts: u32,
+    calls: u32,
+    seed: Option<u64>,
+) -> Result<Setup, AllocError>
+    requires { IsInRange (setup_of (map string_bytes entries.now) init.now contexts calls seed) }
+    ensures { IfOk result (λ s. s ≡ setup_of (map string_bytes entries.now) init.now contexts calls seed) }
+{
+    let entries = copies(alloc, entries)?;
+    let init = Vec::from_slice(alloc, init)?;
+    Ok(Setup {
+        entries,
+        init,
+        contexts,
+        calls,
+        seed,
+    })
+}
+
+impl From<AllocError> for SetupFault {
+    ghost use Rattle.std.specs.Prelude.{◌≡◌};
+    ghost use Rattle.bp_machine.specs.declared.setups.SetupFault.{SetupFault};
+
+    ghost from_gives = { λ _ e. e ≡ SetupFault.Memory };
+
+    fn from(_: AllocError) -> SetupFault {
+        SetupFault::Memory
+    }
+}
+
+impl Setup {
+    /// The setup of guest threads that begin with these procedures, on globals with these bits in order of
+    /// declaration, within so many contexts, with at most so many calls of each thread.
+    pub fn new(
+        alloc: Global,
+        code: &Code,
+        entries: &[String],
+        init: &[bool],
+        contexts: u32,
+        calls: u32,
+        seed: Option<u64>,
+    ) -> Result<Setup, SetupFault>
+        ensures answer { let given = setup_of (map string_bytes entries.now) init.now contexts calls seed in
+            MatchResult result (λ s. (s ≡ given) × (setup_fault code.now given ≡ None)) (λ e. (e ≡ SetupFault.Memory) ⊎ (setup_fault code.now given ≡ Some e)) }
+        ensures taken { IfOk result (λ s. Fits code.now s × IsInRange s) }
+    {
+        match fault_of_setup(code, entries, init, contexts, calls, seed) {
+            Some(fault) => Err(fault),
+            None => Ok(kept(alloc, entries, init, contexts, calls, seed)?),
+        }
+    }
+
+    /// The law that the numbers of every setup are within their limits.
+    pub fn is_in_range(&self)
+        ensures { IsInRange self.now }
+    {
+        let _ = &self.contexts;
+    }
+
+    /// The names of the procedures with which the threads begin.
+    pub(crate) fn entries(&self) -> &[String]
+        ensures { map string_bytes result.now ≡ self.now.entries }
+    {
+        self.entries.as_slice()
+    }
+
+    /// The initial bits of the globals.
+    pub(crate) fn bits(&self) -> &[bool]
+        ensures { result.now ≡ self.now.init }
+    {
+        self.init.as_slice()
+    }
+
+    /// How many guest threads there are.
+    pub fn threads(&self) -> u32
+        ensures { result ≡ threads self.now }
+    {
+        self.entries.len() as u32
+    }
+
+    /// The name of the procedure with which a thread begins.
+    pub fn entry(&self, thread: u32) -> Option<&str>
+        ensures { option_map (λ n. n.now) result ≡ slice_get self.now.entries thread }
+    {
+        match self.entries.get(thread as usize) {
+            Some(name) => Some(name.as_str()),
+            None => None,
+        }
+    }
+
+    /// The initial bit of a global, by its place in the declarations from 0.
+    pub fn init(&self, n: u32) -> Option<bool>
+        ensures { result ≡ slice_get self.now.init n }
+    {
+        self.init.get(n as usize).copied()
+    }
+
+    /// How many contexts are allowed.
+    pub fn contexts(&self) -> u32
+        ensures { result ≡ self.now.contexts }
+    {
+        self.contexts
+    }
+
+    /// How many calls of each thread are allowed.
+    pub fn calls(&self) -> u32
+        ensures { result ≡ self.now.calls }
+    {
+        self.calls
+    }
+
+    /// The seed of the choice bits. No setup has one yet.
+    pub fn seed(&self) -> Option<u64>
+        ensures { result ≡ self.now.seed }
+    {
+        self.seed
+    }
+
+    /// A copy, which equals its source.
+    pub(crate) fn try_copy(&self) -> Result<Setup, AllocError>
+        ensures { IfOk result (λ s. s ≡ self.now) }
+    {
+        kept(
+            *self.entries.allocator(),
+            self.entries.as_slice(),
+            self.init.as_slice(),
+            self.contexts,
+            self.calls,
+            self.seed,
+        )
+    }
+}

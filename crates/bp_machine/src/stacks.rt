@@ -1,0 +1,116 @@
+//! Stacks of frames.
+ghost use Rattle.std.specs.Prelude.{◌≡◌, [], ◌∷◌, ◌<◌, ◌≤◌, length, reverse, IfOk, OnOk, OnErr};
+ghost use Rattle.bp_machine.specs.Stacks.{top_of, with_top, entered_top};
+
+use bp_code::Deed;
+use std::alloc::{AllocError, Global};
+use std::marker::Model;
+
+/// A call that has not returned: the number of its next instruction, and the word of its locals.
+#[derive(Clone, Copy, Debug, PartialEq, Eq)]
+pub struct Frame {
+    pub number: u32,
+    pub locals: u128,
+}
+
+/// The calls of a thread that have not returned, the topmost last in memory and first in a contract.
+#[derive(Drop)]
+pub(crate) struct Stack {
+    frames: Vec<Frame>,
+}
+
+impl Model for Stack {
+    ghost use Rattle.std.specs.Prelude.{List, reverse};
+    ghost use Rattle.bp_machine.specs.declared.stacks.Frame.{Frame};
+
+    ghost Value = { List Frame };
+
+    ghost view = { λ s. reverse s.frames.items };
+}
+
+/// Another frame at the top, where there is one.
+fn replace_top(frames: &mut Vec<Frame>, frame: Frame)
+    ensures { reverse frames.new.items ≡ with_top frame (reverse frames.old.items) }
+{
+    let count = frames.len();
+    if count > 0 {
+        frames[count - 1] = frame;
+    }
+}
+
+/// Leaves the topmost frame at the instruction `next`, and puts another one on it.
+fn enter(frames: &mut Vec<Frame>, frame: Frame, next: u32) -> Result<(), AllocError>
+    ensures ok { OnOk result (reverse frames.new.items ≡ entered_top frame next (reverse frames.old.items)) }
+    ensures err { OnErr result (frames.new.items ≡ frames.old.items) }
+{
+    let Some(caller) = frames.last().copied() else {
+        return Ok(());
+    };
+    frames.push(frame)?;
+    let count = frames.len();
+    if count > 1 {
+        frames[count - 2] = Frame {
+            number: next,
+            ..caller
+        };
+    }
+    Ok(())
+}
+
+impl Stack {
+    ghost use Rattle.bp_machine.specs.Stepping.{stack_after};
+
+    /// The stack of a thread that begins at this instruction, with its locals 0.
+    pub(crate) fn start(alloc: Global, number: u32) -> Result<Stack, AllocError>
+        ensures { IfOk result (λ s. s ≡ record { number = number; locals = 0 } ∷ []) }
+    {
+        let mut frames = Vec::new(alloc);
+        frames.push(Frame { number, locals: 0 })?;
+        Ok(Stack { frames })
+    }
+
+    pub(crate) fn top(&self) -> Option<Frame>
+        ensures { result ≡ top_of self.now }
+    {
+        self.frames.last().copied()
+    }
+
+    pub(crate) fn len(&self) -> usize
+        ensures { result ≡ length self.now }
+    {
+        self.frames.len()
+    }
+
+    /// Makes a step. Only a call takes memory; without it the stack stays.
+    pub(crate) fn make(&mut self, deed: Deed) -> Result<(), AllocError>
+        ensures ok { OnOk result (self.new ≡ stack_after deed self.old) }
+        ensures err { OnErr result (self.new ≡ self.old) }
+    {
+        match deed {
+            Deed::Goes { words, next } => replace_top(
+                &mut self.frames,
+                Frame {
+                    number: next,
+                    locals: words.locals,
+                },
+            ),
+            Deed::Returns => {
+                let _ = self.frames.pop();
+            }
+            Deed::Enters {
+                callee,
+                locals,
+                next,
+            } => enter(
+                &mut self.frames,
+                Frame {
+                    number: callee,
+                    locals,
+                },
+                next,
+            )?,
+            Deed::Fails | Deed::Blocks => {}
+        }
+        Ok(())
+    }
+}
