@@ -1,0 +1,5 @@
+mod Again
+mod Counted
+mod Numbers
+pub mod Pieces
+mod Played

@@ -1,0 +1,5 @@
+use Rattle.bp_trace.proofs.Again.{lines_drive_again}
+use Rattle.bp_trace.proofs.laws.lines_drive_again.Goals as goal
+
+pub returns : goal.returns
+returns c = lines_drive_again

@@ -1,0 +1,68 @@
+//! Why a schedule is not played.
+
+use bp_code::WriteFault;
+use std::alloc::AllocError;
+use thiserror::Error;
+
+/// How many bytes a schedule may have.
+pub const MAX_SCHEDULE: usize = 67_108_864;
+
+/// Why a schedule is not played: the first of these that applies. Lines are counted from 1.
+#[derive(Clone, Copy, Debug, PartialEq, Eq, Error)]
+pub enum DriveFault {
+    /// The schedule has more than 67,108,864 bytes.
+    #[error("the schedule is too long")]
+    TooLong,
+    /// This line is no thread of the setup, a space, a bit and a line feed.
+    #[error("line {0} of the schedule is not a thread and a choice bit")]
+    Line(u32),
+    /// The thread of this line has made its last call.
+    #[error("line {0} of the schedule is of a thread that has made its last call")]
+    AfterFinish(u32),
+    /// There was not enough memory.
+    #[error("out of memory")]
+    Memory,
+    /// The trace could not be written whole.
+    #[error("the output could not be written")]
+    Write,
+}
+
+impl DriveFault {
+    ghost use Rattle.std.specs.Prelude.{◌≡◌};
+    ghost use Rattle.bp_trace.specs.Drives.{number_of};
+
+    /// The number by which users know the fault.
+    pub fn number(&self) -> u32
+        ensures { result ≡ number_of self.now }
+    {
+        match self {
+            DriveFault::TooLong => 48,
+            DriveFault::Line(_) => 42,
+            DriveFault::AfterFinish(_) => 47,
+            DriveFault::Memory => 7,
+            DriveFault::Write => 51,
+        }
+    }
+}
+
+impl From<AllocError> for DriveFault {
+    ghost use Rattle.std.specs.Prelude.{◌≡◌};
+    ghost use Rattle.bp_trace.specs.declared.faults.DriveFault.{DriveFault};
+
+    ghost from_gives = { λ _ e. e ≡ DriveFault.Memory };
+
+    fn from(_: AllocError) -> DriveFault {
+        DriveFault::Memory
+    }
+}
+
+impl From<WriteFault> for DriveFault {
+    ghost use Rattle.std.specs.Prelude.{◌≡◌};
+    ghost use Rattle.bp_trace.specs.declared.faults.DriveFault.{DriveFault};
+
+    ghost from_gives = { λ _ e. e ≡ DriveFault.Write };
+
+    fn from(_: WriteFault) -> DriveFault {
+        DriveFault::Write
+    }
+}

@@ -1,0 +1,124 @@
+//! Schedules of a small program, and their traces.
+ghost use Rattle.std.specs.Prelude.{◌≡◌, ◌≤◌, length, IfOk};
+ghost use Rattle.bp_code.specs.Flat.{Flat};
+ghost use Rattle.bp_machine.specs.Setups.{Fits};
+ghost use Rattle.bp_trace.specs.TraceText.{max_globals};
+
+use crate::reading::turn_at;
+use crate::{DriveFault, Turn, drive, write_call, write_end, write_head, write_trace};
+use bp_check::check;
+use bp_code::{Code, compile};
+use bp_machine::{Call, Outcome, Reply, Report, Setup};
+use bp_syntax::read;
+use std::alloc::Global;
+use std::test::Fail;
+
+const PROGRAM: &[u8] = b"decl x; main() begin x := 1; assert (x); end";
+
+const HEAD: &[u8] = b"btrace 1\nentry main\ninit 0\ncontexts 2\ncalls 1000\nseed none\n";
+
+const TRACE: &[u8] =
+    b"btrace 1\nentry main\ninit 0\ncontexts 2\ncalls 1000\nseed none\n0 0 s\n0 1 s\n0 0 s\n0 0 e\nend 4 0\n";
+
+fn code_of(alloc: Global) -> Result<Code, Fail> {
+    let Ok(checked) = check(alloc, read(alloc, PROGRAM)?) else {
+        return Err(Fail::from("not lawful"));
+    };
+    Ok(compile(alloc, &checked)?)
+}
+
+fn setup_of(alloc: Global, code: &Code) -> Result<Setup, Fail>
+    ensures { IfOk result (λ s. Fits code.now s × (length s.init ≤ max_globals)) }
+{
+    code.is_of_a_program();
+    let entries = vec![in alloc; String::from_str(alloc, "main")?]?;
+    Ok(Setup::new(alloc, code, &entries, &[false], 2, 1000, None)?)
+}
+
+#[test]
+fn drives_the_stored_run(rt: HostRuntime) -> Result<(), Fail> {
+    let alloc = rt.alloc();
+    let code = code_of(alloc)?;
+    let setup = setup_of(alloc, &code)?;
+    let mut out = Vec::new(alloc);
+    let report = drive(alloc, &code, &setup, b"0 0\n0 1\n0 0\n0 0\n", &mut out)?;
+    let expected = Report {
+        outcome: Outcome::Clean,
+        calls: 4,
+        left_open: 0,
+        contexts: 1,
+    };
+    assert!(&rt; report == expected);
+    assert!(&rt; out.as_slice() == TRACE);
+    Ok(())
+}
+
+#[test]
+fn refuses_other_lines(rt: HostRuntime) -> Result<(), Fail> {
+    let alloc = rt.alloc();
+    let code = code_of(alloc)?;
+    let setup = setup_of(alloc, &code)?;
+    for (schedule, fault) in [
+        (b"0 0\n00 1\n".as_slice(), DriveFault::Line(2)),
+        (b"0 0\r\n".as_slice(), DriveFault::Line(1)),
+        (b"0  0\n".as_slice(), DriveFault::Line(1)),
+        (b"1 0\n".as_slice(), DriveFault::Line(1)),
+        (b"4294967296 0\n".as_slice(), DriveFault::Line(1)),
+        (b"0 0\n0 1\n0 0".as_slice(), DriveFault::Line(3)),
+        (
+            b"0 0\n0 0\n0 0\n0 0\n0 0\n".as_slice(),
+            DriveFault::AfterFinish(5),
+        ),
+    ] {
+        let mut out = Vec::new(alloc);
+        assert!(&rt; drive(alloc, &code, &setup, schedule, &mut out) == Err(fault));
+        assert!(&rt; out.is_empty());
+    }
+    assert_eq!(&rt; DriveFault::Line(3).number(), 42);
+    Ok(())
+}
+
+#[test]
+fn writes_a_trace(rt: HostRuntime) -> Result<(), Fail> {
+    let alloc = rt.alloc();
+    let code = code_of(alloc)?;
+    let setup = setup_of(alloc, &code)?;
+    let mut out = Vec::new(alloc);
+    let head = write_head(&setup, &mut out);
+    assert!(&rt; head.is_ok());
+    assert!(&rt; out.as_slice() == HEAD);
+    let call = |bit, reply| Call {
+        thread: 0,
+        bit,
+        reply,
+    };
+    let calls = [
+        call(false, Reply::Stepped),
+        call(true, Reply::Stepped),
+        call(false, Reply::Stepped),
+        call(false, Reply::Ended),
+    ];
+    for call in &calls {
+        let line = write_call(call, &mut out);
+        assert!(&rt; line.is_ok());
+    }
+    let end = write_end(4, 0, &mut out);
+    assert!(&rt; end.is_ok());
+    assert!(&rt; out.as_slice() == TRACE);
+    let mut again = Vec::new(alloc);
+    let whole = write_trace(&setup, &calls, &mut again);
+    assert!(&rt; whole.is_ok());
+    assert!(&rt; again.as_slice() == TRACE);
+    Ok(())
+}
+
+#[test]
+fn reads_turns(rt: HostRuntime) {
+    let turn = |thread, bit| Some(Turn { thread, bit });
+    assert!(&rt; turn_at(64, b"63 1\n0 0\n") == turn(63, true));
+    assert!(&rt; turn_at(64, b"0 0\n") == turn(0, false));
+    assert!(&rt; turn_at(63, b"63 1\n").is_none());
+    assert!(&rt; turn_at(64, b"064 1\n").is_none());
+    assert!(&rt; turn_at(64, b"6 2\n").is_none());
+    assert!(&rt; turn_at(64, b"6").is_none());
+}
