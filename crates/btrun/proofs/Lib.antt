@@ -1,0 +1,3 @@
+mod Driven
+mod Separators
+mod Told

@@ -1,0 +1,57 @@
+//! Reading the input within its limit.
+ghost use Rattle.std.specs.Prelude.{◌≡◌, ◌+◌, MatchResult};
+ghost use Rattle.btrun.specs.Input.{IsInput, IsInputRefusal, TookAtMost, max_input};
+
+use std::alloc::{AllocError, Global};
+use std::io::Read;
+use thiserror::Error;
+
+/// How many bytes a bundle may have.
+pub const MAX_INPUT: usize = 1_048_576;
+
+/// How many bytes are asked for at a time.
+const CHUNK: usize = 4096;
+
+/// Why an input is not read.
+#[derive(Clone, Copy, Debug, PartialEq, Eq, Error)]
+pub enum InputFault {
+    /// A read failed.
+    #[error("the input could not be read")]
+    Device,
+    /// The input is longer than its limit.
+    #[error("the input is too long")]
+    TooLong,
+    /// There was not enough memory.
+    #[error("out of memory")]
+    Memory,
+}
+
+impl From<AllocError> for InputFault {
+    ghost use Rattle.btrun.specs.declared.input.InputFault.{InputFault};
+
+    ghost from_gives = { λ _ e. e ≡ InputFault.Memory };
+
+    fn from(_: AllocError) -> InputFault {
+        InputFault::Memory
+    }
+}
+
+/// Reads to the end of the input. It takes at most one byte more than the limit.
+pub fn read_whole<R: Read>(alloc: Global, input: &mut R) -> Result<Vec<u8>, InputFault>
+    ensures answer { MatchResult result (λ bytes. IsInput (R.remaining input.old) (R.remaining input.new) bytes.items) (IsInputRefusal (R.remaining input.old) (R.remaining input.new)) }
+    ensures bound { TookAtMost (R.remaining input.old) (R.remaining input.new) (max_input + 1) }
+{
+    let mut bytes = Vec::new(alloc);
+    let mut chunk = [0; CHUNK];
+    while bytes.len() <= MAX_INPUT {
+        let room = CHUNK.min(MAX_INPUT + 1 - bytes.len());
+        let Ok(count) = input.read(&mut chunk[..room]) else {
+            return Err(InputFault::Device);
+        };
+        if count == 0 {
+            return Ok(bytes);
+        }
+        bytes.extend_from_slice(&chunk[..count])?;
+    }
+    Err(InputFault::TooLong)
+}
