@@ -1,5 +1,5 @@
 -- What driving a code by the default setup says of the program of a text.
-use Rattle.std.proofs.Common.{◌≡◌, ◌∙◌, ap, subst, sym, List, ℕ, Option}
+use Rattle.std.proofs.Common.{◌≡◌, ◌∙◌, ap, subst, List, ℕ, Option}
 use Rattle.bp_code.specs.Flat.{Flat}
 use Rattle.bp_machine.specs.declared.reports.Report.{Report}
 use Rattle.bp_machine.specs.Setups.{SetupOf, Fits}

@@ -1,5 +1,5 @@
 -- What a bundle is driven to, and why one is refused.
-use Rattle.std.specs.Prelude.{◌≡◌, ◌⊎◌, ℕ, Bool, false, List, [], ◌∷◌, Option, None, Some, Result, MatchResult, length, codes, replicate, ⊤}
+use Rattle.std.specs.Prelude.{◌≡◌, ◌⊎◌, ℕ, false, List, [], ◌∷◌, Option, None, Some, length, codes, replicate, ⊤}
 use Rattle.bp_tree.specs.Ast.{Program}
 use Rattle.bp_syntax.specs.Texts.{IsTextOf}
 use Rattle.bp_syntax.specs.Texts as texts
