@@ -195,9 +195,12 @@ module _ (t : Program) (lawful : IsLawful t) where
   all_in [] within = tt
   all_in (p ∷ ps) within = (compilable_in p (within p (inl refl)), all_in ps (λ q m. within q (inr m)))
 
+  pub few_globals : length t.globals ≤ 128
+  few_globals = few_names t.globals 128 (λ at x. lawful fault.Limit at (inr (inl x)))
+
   pub lawful_compiles : procedures_size t.procedures ≤ 65536 → IsCompilable t
   lawful_compiles few = record {
-    few = few_names t.globals 128 (λ at x. lawful fault.Limit at (inr (inl x)));
+    few = few_globals;
     each = all_in t.procedures (λ p m. m);
     instructions = omega (arith, few);
   }

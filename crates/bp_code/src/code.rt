@@ -11,7 +11,7 @@ use std::marker::Model;
 
 /// A program as flat code: one instruction for each statement, numbered from 0 in text order over
 /// all procedures, and one return after each procedure's statements. Each instruction names its
-/// successors. Every code stands for some program.
+/// successors. Every code stands for the lawful program of some text.
 #[derive(Drop)]
 pub struct Code {
     headings: Vec<Heading>,
@@ -94,7 +94,7 @@ impl Code {
         self.headings.as_slice()
     }
 
-    /// The law that every code stands for some program that has a code.
+    /// The law that every code stands for the lawful program of some text.
     pub fn is_of_a_program(&self)
         ensures { IsOfProgram self.now }
     {

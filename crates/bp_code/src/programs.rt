@@ -3,6 +3,8 @@ ghost use Rattle.std.specs.Prelude.{◌≡◌, ◌+◌, ◌^◌, ◌<◌, ◌≤
 ghost use Rattle.bp_code.specs.Flat.{Return};
 ghost use Rattle.bp_code.specs.Known.{IsKnown};
 ghost use Rattle.bp_code.specs.Listing.{block_size, procedures_size, headings_from, listing, flat_of};
+ghost use Rattle.bp_syntax.specs.Texts.{HasText};
+ghost use Rattle.bp_check.specs.Faults.{IsLawful};
 ghost use Rattle.bp_code.specs.Compilable.{IsCompilable, HaveFew};
 ghost use Rattle.bp_code.specs.StandsFor.{StandsFor};
 
@@ -36,7 +38,7 @@ fn headings_of(alloc: Global, procs: &[Proc]) -> Result<Vec<Heading>, AllocError
 }
 
 /// Adds the instructions of a procedure, with a return after its statements.
-fn emit_proc(
+pub(crate) fn emit_proc(
     out: &mut Vec<Instr>,
     globals: &[Name],
     proc: &Proc,
@@ -61,24 +63,23 @@ fn emit_proc(
     push(out, Instr::new(Action::Return))
 }
 
-/// The code of a lawful tree.
+/// The code of a lawful tree: its listing, which stands for it.
 pub fn compile(alloc: Global, checked: &Checked) -> Result<Code, AllocError>
-    ensures { IfOk result (λ c. StandsFor c checked.now) }
+    ensures stands { IfOk result (λ c. StandsFor c checked.now) }
+    ensures listed { IfOk result (λ c. c ≡ flat_of checked.now) }
 {
     let tree = checked.tree();
     tree.has_few_statements();
     compile_program(alloc, tree.globals(), tree.procs())
 }
 
-/// The code of a program whose names are declared, as `check` finds it.
-pub(crate) fn compile_program(
-    alloc: Global,
-    globals: &[Name],
-    procs: &[Proc],
-) -> Result<Code, AllocError>
-    requires { IsCompilable (record { globals = globals.now; procedures = procs.now }) }
+/// The code of the lawful program of some text.
+fn compile_program(alloc: Global, globals: &[Name], procs: &[Proc]) -> Result<Code, AllocError>
+    requires able { IsCompilable (record { globals = globals.now; procedures = procs.now }) }
+    requires lawful { IsLawful (record { globals = globals.now; procedures = procs.now }) }
+    requires of_text { HasText (record { globals = globals.now; procedures = procs.now }) }
     ensures stands { IfOk result (λ c. StandsFor c (record { globals = globals.now; procedures = procs.now })) }
-    ensures exact { IfOk result (λ c. c ≡ flat_of (record { globals = globals.now; procedures = procs.now })) }
+    ensures listed { IfOk result (λ c. c ≡ flat_of (record { globals = globals.now; procedures = procs.now })) }
 {
     let headings = headings_of(alloc, procs)?;
     let mut instrs = Vec::new(alloc);

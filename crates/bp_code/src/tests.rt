@@ -1,13 +1,12 @@
 // Each public function once on its happy path.
-ghost use Rattle.std.specs.Prelude.{[], ◌∷◌, IfOk};
-ghost use Rattle.bp_code.specs.Compilable.{IsCompilable};
-
 use crate::actions::Action;
 use crate::exprs::Test;
 use crate::instrs::Instr;
-use crate::programs::compile_program;
+use crate::programs::emit_proc;
 use crate::words::{bit_at, with_bit, word_of};
-use crate::{Deed, Kind, Words, WriteFault, put, put_each};
+use crate::{Code, Deed, Kind, Words, WriteFault, compile, put, put_each};
+use bp_check::check;
+use bp_syntax::read;
 use bp_tree::{Block, Decider, Form, Name, Names, Proc, Stmt};
 use std::alloc::{AllocError, Global};
 use std::test::Fail;
@@ -55,41 +54,70 @@ fn carries_out_an_instruction(rt: HostRuntime) -> Result<(), Fail> {
     Ok(())
 }
 
-// A procedure `main` whose body is `while (?) do skip; od`.
-fn one_loop(alloc: Global) -> Result<Proc, AllocError>
-    ensures { IfOk result (λ p. IsCompilable (record { globals = []; procedures = p ∷ [] })) }
-{
+// The instructions of a procedure `main` whose body is `while (?) do skip; od`.
+fn instrs_of_a_loop(alloc: Global) -> Result<Vec<Instr>, AllocError> {
     let name = Name::new(String::from_str(alloc, "main")?, 0);
     let body = Block::new(vec![in alloc; Stmt::new(None, 26, Form::Skip)]?);
     let stmt = Stmt::new(None, 13, Form::While(Decider::Choice, body));
     let formals = Names::new(Vec::new(alloc));
     let locals = Names::new(Vec::new(alloc));
-    Ok(Proc::new(name, formals, locals, Block::new(vec![in alloc; stmt]?)))
+    let proc = Proc::new(name, formals, locals, Block::new(vec![in alloc; stmt]?));
+    let mut instrs = Vec::new(alloc);
+    emit_proc(&mut instrs, &[], &proc, &[])?;
+    Ok(instrs)
 }
 
 #[test]
-fn compiles_a_loop(rt: HostRuntime) -> Result<(), Fail> {
-    let proc = one_loop(rt.alloc())?;
-    let code = compile_program(rt.alloc(), &[], &[proc])?;
-    assert_eq!(&rt; code.len(), 3);
-    assert_eq!(&rt; code.entry("main"), Some(0));
-    assert_eq!(&rt; code.formals("main"), Some(0));
-    assert_eq!(&rt; code.globals(), 0);
+fn lists_a_loop(rt: HostRuntime) -> Result<(), Fail> {
+    let instrs = instrs_of_a_loop(rt.alloc())?;
+    assert_eq!(&rt; instrs.len(), 3);
     for (number, kind, next, other) in [
         (0, Kind::While, Some(1), Some(2)),
         (1, Kind::Skip, Some(0), None),
         (2, Kind::Return, None, None),
     ] {
-        let Some(instr) = code.get(number) else {
-            assert!(&rt; false);
-            return Ok(());
+        let Some(instr) = instrs.get(number) else {
+            return Err(Fail::from("no such instruction"));
         };
         assert!(&rt; instr.kind() == kind);
         assert_eq!(&rt; instr.next(), next);
         assert_eq!(&rt; instr.other(), other);
     }
+    Ok(())
+}
+
+fn code_of(alloc: Global, text: &[u8]) -> Result<Code, Fail> {
+    let Ok(checked) = check(alloc, read(alloc, text)?) else {
+        return Err(Fail::from("not lawful"));
+    };
+    Ok(compile(alloc, &checked)?)
+}
+
+#[test]
+fn compiles_a_program(rt: HostRuntime) -> Result<(), Fail> {
+    let alloc = rt.alloc();
+    let code = code_of(alloc, b"decl x, y; main() begin x := 1; assert (x); end")?;
+    assert_eq!(&rt; code.len(), 3);
+    assert_eq!(&rt; code.entry("main"), Some(0));
+    assert_eq!(&rt; code.entry("x"), None);
+    assert_eq!(&rt; code.formals("main"), Some(0));
+    assert_eq!(&rt; code.globals(), 2);
+    assert_eq!(&rt; code.headings().len(), 1);
+    for (number, kind, next) in [
+        (0, Kind::Assign, Some(1)),
+        (1, Kind::Assert, Some(2)),
+        (2, Kind::Return, None),
+    ] {
+        let Some(instr) = code.get(number) else {
+            return Err(Fail::from("no such instruction"));
+        };
+        assert!(&rt; instr.kind() == kind);
+        assert_eq!(&rt; instr.next(), next);
+    }
     assert!(&rt; code.get(3).is_none());
     let copy = code.try_copy()?;
     assert!(&rt; copy == code);
+    let other = code_of(alloc, b"decl x, y; main() begin y := 1; assert (x); end")?;
+    assert!(&rt; other != code);
     Ok(())
 }

@@ -11,7 +11,9 @@ use Rattle.bp_code.specs.Steps.{Bits}
 use Rattle.bp_code.specs.Flat.{Flat}
 use Rattle.bp_code.specs.StandsFor.{StandsFor, named}
 use Rattle.std.specs.Coded.{le_prop}
-use Rattle.bp_code.specs.Compilable.{IsCompilable}
+use Rattle.bp_syntax.specs.Texts.{HasText}
+use Rattle.bp_check.specs.Faults.{IsLawful}
+use Rattle.bp_code.proofs.Lawful as lawful
 use Rattle.bp_code.specs.Programs.{IsOfProgram}
 use Rattle.bp_code.specs.Alike.{StepsAlike}
 use Rattle.bp_machine.specs.declared.calls.Reply.{Reply}
@@ -90,5 +92,5 @@ module _ (t : Program) (c : Flat) (s : SetupOf) (x : State) (h : List Call) (is 
 pub few_globals : (c : Flat) → IsOfProgram c → c.globals ≤ 128
 few_globals c of_some = ∥∥₁_elim of_some le_prop few
   where
-    few : (t : Program) × IsCompilable t × StandsFor c t → c.globals ≤ 128
-    few (t, compilable, is) = omega (arith, compilable.few, is.globals)
+    few : (t : Program) × IsLawful t × HasText t × StandsFor c t → c.globals ≤ 128
+    few (t, is_lawful, of_text, is) = omega (arith, lawful.few_globals t is_lawful, is.globals)

@@ -35,7 +35,7 @@ use Rattle.bp_trace.specs.Reading.{IsTurnAt}
 
 -- what holds for each program that the code stands for
 for_one : (c : Flat) (P : Type 0) → IsOfProgram c → ((t : Program) → StandsFor c t → P) → ∥ P ∥₁
-for_one c P of_some each = ∥∥₁_map of_some (λ p. each p.0 p.2)
+for_one c P of_some each = ∥∥₁_map of_some (λ p. each p.0 p.3)
 
 same_number : (c : Flat) (m n : ℕ) → IsOfProgram c → ((t : Program) → StandsFor c t → m ≡ n) → m ≡ n
 same_number c m n of_some each = ∥∥₁_elim (for_one c (m ≡ n) of_some each) (ℕ_set m n) (λ e. e)

@@ -1,10 +1,16 @@
-use Rattle.std.proofs.Common.{◌≡◌, ◌≤◌, ap, ◌∙◌, subst}
-use Rattle.bp_tree.specs.Sizes.{procedures_size}
-use Rattle.bp_check.specs.Faults.{IsLawful}
 use Rattle.bp_code.proofs.Lawful.{lawful_compiles}
 use Rattle.bp_code.proofs.programs.compile.Goals as goal
 
-pub compile_program-requires : goal.compile_program-requires
-compile_program-requires c =
+pub compile_program-requires-clause-able : goal.compile_program-requires-clause-able
+compile_program-requires-clause-able c =
     let few = rw c.tree-tree.ensures.value at c.has_few_statements.ensures in
     rw (c.globals.ensures.value, c.procs.ensures.value, c.tree-tree.ensures.value) (lawful_compiles c.args.checked.now c.tree-tree.ensures.lawful few)
+
+pub compile_program-requires-clause-lawful : goal.compile_program-requires-clause-lawful
+compile_program-requires-clause-lawful c =
+    rw (c.globals.ensures.value, c.procs.ensures.value, c.tree-tree.ensures.value) c.tree-tree.ensures.lawful
+
+pub compile_program-requires-clause-of_text : goal.compile_program-requires-clause-of_text
+compile_program-requires-clause-of_text c =
+    let of_text = rw c.tree-tree.ensures.value at c.globals.ensures.of_text in
+    rw (c.globals.ensures.value, c.procs.ensures.value, c.tree-tree.ensures.value) of_text

@@ -6,24 +6,24 @@ use Rattle.bp_code.proofs.Compiled.{flat_stands}
 use Rattle.bp_code.proofs.programs.compile_program.Goals as goal
 
 pub headings_of-requires-clause-few : goal.headings_of-requires-clause-few
-headings_of-requires-clause-few c = all_few (record { globals = c.args.globals.now; procedures = c.args.procs.now }) c.args.procs.now c.requires.each
+headings_of-requires-clause-few c = all_few (record { globals = c.args.globals.now; procedures = c.args.procs.now }) c.args.procs.now c.requires.able.each
 
 pub emit_proc-requires-clause-known : goal.emit_proc-requires-clause-known
 emit_proc-requires-clause-known c =
     let t : Program = record { globals = c.args.globals.now; procedures = c.args.procs.now } in
     let able = rw (drop_item c.args.procs.now c.loop-proc.proc-index c.proc-item.result c.loop-proc-test.true c.proc-item.is) at c.loop-proc.invariant.able in
-    rw (c.as_slice.ensures.value, c.in_ok-headings.ensures) (all_known t c.requires.each c.proc-item.result (length c.loop-proc.instrs.items) c.proc-item.result.body able.0.names)
+    rw (c.as_slice.ensures.value, c.in_ok-headings.ensures) (all_known t c.requires.able.each c.proc-item.result (length c.loop-proc.instrs.items) c.proc-item.result.body able.0.names)
 
 pub new-requires : goal.new-requires
 new-requires c =
     let t : Program = record { globals = c.args.globals.now; procedures = c.args.procs.now } in
     let all = rw (dropped_all c.args.procs.now c.loop-proc.proc-index c.loop-proc-test.false) at c.loop-proc.invariant.code in
     let code = sym (append-nil c.loop-proc.instrs.items) ∙ all in
-    rw (c.in_ok-headings.ensures, code) (∣ (t, c.requires, flat_stands t c.requires) ∣₁)
+    rw (c.in_ok-headings.ensures, code) (∣ (t, c.requires.lawful, c.requires.of_text, flat_stands t c.requires.able) ∣₁)
 
 pub returns-clause-stands : goal.returns-clause-stands
 returns-clause-stands c =
     let t : Program = record { globals = c.args.globals.now; procedures = c.args.procs.now } in
     let all = rw (dropped_all c.args.procs.now c.loop-proc.proc-index c.loop-proc-test.false) at c.loop-proc.invariant.code in
     let code = sym (append-nil c.loop-proc.instrs.items) ∙ all in
-    rw (c.new.ensures, c.in_ok-headings.ensures, code) (flat_stands t c.requires)
+    rw (c.new.ensures, c.in_ok-headings.ensures, code) (flat_stands t c.requires.able)

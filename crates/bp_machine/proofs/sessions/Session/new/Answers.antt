@@ -19,7 +19,7 @@ invariant_of-result c =
     (record {
       range = c.is_in_range.ensures;
       lines = ap length lines ∙ length-map c.args.setup.now.entries (first_line c.args.code.now);
-      stands = ∥∥₁_map c.is_of_a_program.ensures (λ p. (p.0, [], p.2, starts c.args.code.now p.0 c.args.setup.now p.2 _ c.requires word lines refl refl refl));
+      stands = ∥∥₁_map c.is_of_a_program.ensures (λ p. (p.0, [], p.3, starts c.args.code.now p.0 c.args.setup.now p.3 _ c.requires word lines refl refl refl));
     })
 
 pub returns-clause-stands : goal.returns-clause-stands
