@@ -3,18 +3,13 @@ use Rattle.std.proofs.Common.{◌≡◌, ℕ, ◌+◌, ◌<◌, ◌||◌, nat_le
 use Rattle.std.specs.Option.{option_map}
 use Rattle.std.proofs.lemmas.List.{length-set}
 use Rattle.std.specs.Prelude.{slice_get}
-use Rattle.std.proofs.Math.Logic.{∥∥₁_map, ∥∥₁_elim}
+use Rattle.std.proofs.Math.Logic.{∥∥₁_map}
 use Rattle.std.proofs.lemmas.Option.{slice_get_within}
 use Rattle.bp_tree.specs.Ast.{Name, Program}
 use Rattle.bp_code.specs.Bits.{bits_of}
 use Rattle.bp_code.specs.Steps.{Bits}
 use Rattle.bp_code.specs.Flat.{Flat}
 use Rattle.bp_code.specs.StandsFor.{StandsFor, named}
-use Rattle.std.specs.Coded.{le_prop}
-use Rattle.bp_syntax.specs.Texts.{HasText}
-use Rattle.bp_check.specs.Faults.{IsLawful}
-use Rattle.bp_code.proofs.Lawful as lawful
-use Rattle.bp_code.specs.Programs.{IsOfProgram}
 use Rattle.bp_code.specs.Alike.{StepsAlike}
 use Rattle.bp_machine.specs.declared.calls.Reply.{Reply}
 use Rattle.bp_machine.specs.declared.calls.Call.{Call}
@@ -88,9 +83,3 @@ module _ (t : Program) (c : Flat) (s : SetupOf) (x : State) (h : List Call) (is 
   pub no_global : c.globals ≤ n → None ≡ option_map (λ (e : List ℕ × Bool). e.1) (slice_get (after t s h).globals n)
   no_global past =
       sym (ap (λ g. option_map (λ (e : List ℕ × Bool). e.1) (slice_get g n)) stands.globals ∙ named_past t.globals (bits_of x.globals) n (omega (arith, is.globals)))
-
-pub few_globals : (c : Flat) → IsOfProgram c → c.globals ≤ 128
-few_globals c of_some = ∥∥₁_elim of_some le_prop few
-  where
-    few : (t : Program) × IsLawful t × HasText t × StandsFor c t → c.globals ≤ 128
-    few (t, is_lawful, of_text, is) = omega (arith, lawful.few_globals t is_lawful, is.globals)

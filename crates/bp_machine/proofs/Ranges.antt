@@ -1,11 +1,25 @@
--- A setup without a fault fits its code, and its numbers are within their limits.
+-- A setup without a fault fits its code, and its numbers are within their limits, since a code has few globals.
 use Rattle.std.proofs.Common.{◌≡◌, ℕ, ◌<◌, ◌≤◌, ◌==◌, ◌||◌, nat_lt, not, Bool, true, false, cond, List, [], ◌∷◌, length, Option, None, Some, refl, ap, sym, ◌∙◌, arith, is_some}
 use Rattle.std.specs.Option.{option_or}
+use Rattle.std.proofs.Math.Logic.{∥∥₁_elim}
 use Rattle.std.proofs.lemmas.Bool.Decides.{nat_tests}
+use Rattle.std.specs.Coded.{le_prop}
+use Rattle.bp_tree.specs.Ast.{Program}
+use Rattle.bp_syntax.specs.Texts.{HasText}
+use Rattle.bp_check.specs.Faults.{IsLawful, max_globals}
 use Rattle.bp_code.specs.Flat.{Flat}
+use Rattle.bp_code.specs.StandsFor.{StandsFor}
+use Rattle.bp_code.specs.Programs.{IsOfProgram}
+use Rattle.bp_code.proofs.Lawful as lawful
 use Rattle.bp_machine.specs.declared.setups.SetupFault.{SetupFault}
 use Rattle.bp_machine.specs.declared.setups.SetupFault.TheVariants.{Threads, InitLength, OutOfRange}
 use Rattle.bp_machine.specs.Setups.{SetupOf, threads, max_threads, max_contexts, max_calls, entries_fault, when, is_out_of_range, setup_fault, Fits, IsInRange}
+
+pub few_globals : (c : Flat) → IsOfProgram c → c.globals ≤ max_globals
+few_globals c of_some = ∥∥₁_elim of_some le_prop few
+  where
+    few : (t : Program) × IsLawful t × HasText t × StandsFor c t → c.globals ≤ max_globals
+    few (t, is_lawful, of_text, is) = omega (arith, lawful.few_globals t is_lawful, is.globals)
 
 neither : {X : Type 0} (a b : Option X) → option_or a b ≡ None → (a ≡ None) × (b ≡ None)
 neither None b e = (refl, e)
@@ -40,8 +54,8 @@ module _ (c : Flat) (s : SetupOf) (none : setup_fault c s ≡ None) where
       let last = neither (when (not (length s.init == c.globals)) InitLength) (when (is_out_of_range s) OutOfRange) rest.1 in
       record { entries = rest.0; init = equal (length s.init) c.globals (untrue _ InitLength last.0) }
 
-  pub in_range : IsInRange s
-  in_range =
+  pub in_range : IsOfProgram c → IsInRange s
+  in_range of_some =
       let all = neither (when (threads s == 0 || nat_lt max_threads (threads s)) Threads) _ none in
       let rest = neither (entries_fault c 0 s.entries) _ all.1 in
       let last = neither (when (not (length s.init == c.globals)) InitLength) (when (is_out_of_range s) OutOfRange) rest.1 in
@@ -52,6 +66,7 @@ module _ (c : Flat) (s : SetupOf) (none : setup_fault c s ≡ None) where
       record {
         some = some_of (threads s) counted.0;
         few = above max_threads (threads s) counted.1;
+        bits = omega (arith, fits.init, few_globals c of_some);
         contexts = above max_contexts s.contexts a.0;
         one = some_of s.calls b.0;
         calls = above max_calls s.calls d.0;

@@ -2,6 +2,7 @@
 use Rattle.std.specs.Prelude.{◌≡◌, ℕ, ◌+◌, ◌<◌, ◌≤◌, ◌==◌, Bool, true, false, cond, not, ◌||◌, nat_lt, List, [], ◌∷◌, Option, None, Some, is_some, length}
 use Rattle.std.specs.Option.{option_or}
 use Rattle.bp_tree.specs.Ast.{Program}
+use Rattle.bp_check.specs.Faults.{max_globals}
 use Rattle.bp_code.specs.Configurations.{Configuration, start_of}
 use Rattle.bp_code.specs.Flat.{Flat, Heading}
 use Rattle.bp_code.specs.Listing.{heading_named}
@@ -65,10 +66,11 @@ pub record Fits (c : Flat) (s : SetupOf) : Type 0 where
   pub entries : entries_fault c 0 s.entries ≡ None
   pub init : length s.init ≡ c.globals
 
--- the numbers are within their limits
+-- the numbers are within their limits, and there are no more bits than a program may have globals
 pub record IsInRange (s : SetupOf) : Type 0 where
   pub some : 0 < threads s
   pub few : threads s ≤ max_threads
+  pub bits : length s.init ≤ max_globals
   pub contexts : s.contexts ≤ max_contexts
   pub one : 0 < s.calls
   pub calls : s.calls ≤ max_calls

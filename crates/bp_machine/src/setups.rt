@@ -172,13 +172,15 @@ impl Setup {
             MatchResult result (λ s. (s ≡ given) × (setup_fault code.now given ≡ None)) (λ e. (e ≡ SetupFault.Memory) ⊎ (setup_fault code.now given ≡ Some e)) }
         ensures taken { IfOk result (λ s. Fits code.now s × IsInRange s) }
     {
+        code.is_of_a_program();
         match fault_of_setup(code, entries, init, contexts, calls, seed) {
             Some(fault) => Err(fault),
             None => Ok(kept(alloc, entries, init, contexts, calls, seed)?),
         }
     }
 
-    /// The law that the numbers of every setup are within their limits.
+    /// The law that the numbers of every setup are within their limits, and that it has no more initial bits
+    /// than a program may have globals.
     pub fn is_in_range(&self)
         ensures { IsInRange self.now }
     {

@@ -7,10 +7,6 @@ use Rattle.bp_machine.specs.Histories.{open_lines}
 use Rattle.bp_machine.specs.Letters.{letter_of}
 use Rattle.bp_trace.specs.Schedules.{bit_digit}
 
--- how many globals a program may have
-abbrev pub max_globals : ℕ
-max_globals = 128
-
 abbrev pub entry_line : List ℕ → List ℕ
 entry_line name = codes "entry " ++ (name ++ codes "\n")
 

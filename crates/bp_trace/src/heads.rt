@@ -1,8 +1,9 @@
 //! Writing the setup at the head of a trace.
 ghost use Rattle.std.specs.Prelude.{◌≡◌, ◌≤◌, map, flat_map, length};
+ghost use Rattle.bp_check.specs.Faults.{max_globals};
 ghost use Rattle.bp_code.specs.Writing.{Writes};
 ghost use Rattle.bp_trace.specs.Schedules.{bit_digit};
-ghost use Rattle.bp_trace.specs.TraceText.{max_globals, entry_line, init_digits, init_line, limit_lines};
+ghost use Rattle.bp_trace.specs.TraceText.{entry_line, init_digits, init_line, limit_lines};
 
 use crate::texts::bit_digit;
 use bp_code::{WriteFault, put, put_each};

@@ -1,8 +1,6 @@
 //! Schedules of a small program, and their traces.
-ghost use Rattle.std.specs.Prelude.{◌≡◌, ◌≤◌, length, IfOk};
-ghost use Rattle.bp_code.specs.Flat.{Flat};
+ghost use Rattle.std.specs.Prelude.{IfOk};
 ghost use Rattle.bp_machine.specs.Setups.{Fits};
-ghost use Rattle.bp_trace.specs.TraceText.{max_globals};
 
 use crate::reading::turn_at;
 use crate::{DriveFault, Turn, drive, write_call, write_end, write_head, write_trace};
@@ -28,9 +26,8 @@ fn code_of(alloc: Global) -> Result<Code, Fail> {
 }
 
 fn setup_of(alloc: Global, code: &Code) -> Result<Setup, Fail>
-    ensures { IfOk result (λ s. Fits code.now s × (length s.init ≤ max_globals)) }
+    ensures { IfOk result (Fits code.now) }
 {
-    code.is_of_a_program();
     let entries = vec![in alloc; String::from_str(alloc, "main")?]?;
     Ok(Setup::new(alloc, code, &entries, &[false], 2, 1000, None)?)
 }

@@ -1,9 +1,9 @@
 //! Writing the text of a trace.
-ghost use Rattle.std.specs.Prelude.{◌≡◌, ◌≤◌, flat_map, length};
+ghost use Rattle.std.specs.Prelude.{◌≡◌, flat_map};
 ghost use Rattle.bp_code.specs.Writing.{Writes};
 ghost use Rattle.bp_machine.specs.Histories.{open_lines};
 ghost use Rattle.bp_trace.specs.Schedules.{bit_digit};
-ghost use Rattle.bp_trace.specs.TraceText.{max_globals, head_text, call_line, end_line, trace_text};
+ghost use Rattle.bp_trace.specs.TraceText.{head_text, call_line, end_line, trace_text};
 
 use crate::finished::count_open;
 use crate::heads::{write_entries, write_init, write_limits};
@@ -21,9 +21,9 @@ pub(crate) fn bit_digit(bit: bool) -> u8
 
 /// Writes the head of a trace: the setup.
 pub fn write_head<W: Write>(setup: &Setup, out: &mut W) -> Result<(), WriteFault>
-    requires { length setup.now.init ≤ max_globals }
     ensures { Writes (W.contents out.old) (W.contents out.new) (head_text setup.now) result }
 {
+    setup.is_in_range();
     put(out, b"btrace 1\n")?;
     write_entries(setup, out)?;
     write_init(setup, out)?;
@@ -68,8 +68,7 @@ pub(crate) fn write_parts<W: Write>(
     left_open: u32,
     out: &mut W,
 ) -> Result<(), WriteFault>
-    requires few { length setup.now.init ≤ max_globals }
-    requires counted { left_open ≡ open_lines setup.now calls.now }
+    requires { left_open ≡ open_lines setup.now calls.now }
     ensures { Writes (W.contents out.old) (W.contents out.new) (trace_text setup.now calls.now) result }
 {
     write_head(setup, out)?;
@@ -79,7 +78,6 @@ pub(crate) fn write_parts<W: Write>(
 
 /// Writes the trace of a setup and a history.
 pub fn write_trace<W: Write>(setup: &Setup, calls: &[Call], out: &mut W) -> Result<(), WriteFault>
-    requires { length setup.now.init ≤ max_globals }
     ensures { Writes (W.contents out.old) (W.contents out.new) (trace_text setup.now calls.now) result }
 {
     let left_open = count_open(setup, calls);

@@ -1,7 +1,6 @@
-use Rattle.std.proofs.Common.{◌∙◌, sym, subst, arith}
+use Rattle.std.proofs.Common.{◌∙◌, sym, subst}
 use Rattle.bp_code.specs.Programs.{IsOfProgram}
 use Rattle.bp_code.specs.StandsFor.{StandsFor}
-use Rattle.bp_machine.proofs.Asking.{few_globals}
 use Rattle.bp_trace.proofs.driving.drive.Goals as goal
 
 pub play-requires-clause-program : goal.play-requires-clause-program
@@ -13,6 +12,3 @@ play-requires-clause-stands g c = λ t is. c.in_ok-session.ensures.stands t (sub
 pub report_of-report-requires-clause-program : goal.report_of-report-requires-clause-program
 report_of-report-requires-clause-program g c =
     subst IsOfProgram (sym (c.play.ensures.kept.0 ∙ c.in_ok-session.ensures.kept.0)) c.is_of_a_program.ensures
-
-pub write_parts-requires-clause-few : goal.write_parts-requires-clause-few
-write_parts-requires-clause-few g c = omega (arith, few_globals c.args.code.now c.is_of_a_program.ensures, c.requires.init)

@@ -17,5 +17,5 @@ returns-in_err-write_calls g c =
 
 pub returns : goal.returns
 returns g c =
-    let last = rw c.requires.counted at c.write_end.ensures in
+    let last = rw c.requires at c.write_end.ensures in
     writes_then _ _ _ (head_text c.args.setup.now) ((flat_map call_line c.args.calls.now) ++ (end_line (length c.args.calls.now) (open_lines c.args.setup.now c.args.calls.now))) _ c.in_ok-write_head.ensures (writes_then _ _ _ (flat_map call_line c.args.calls.now) (end_line (length c.args.calls.now) (open_lines c.args.setup.now c.args.calls.now)) _ c.in_ok-write_calls.ensures last)

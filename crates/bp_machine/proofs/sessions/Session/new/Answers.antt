@@ -3,13 +3,12 @@ use Rattle.std.proofs.Math.Logic.{∥∥₁_map}
 use Rattle.std.proofs.lemmas.List.{length-map}
 use Rattle.bp_code.specs.Steps.{bits_from}
 use Rattle.bp_machine.specs.Starts.{first_line}
-use Rattle.bp_machine.proofs.Asking.{few_globals}
 use Rattle.bp_machine.proofs.Starting.{starts}
 use Rattle.bp_machine.proofs.sessions.Session.new.Goals as goal
 
 pub word_of-requires : goal.word_of-requires
 word_of-requires c =
-    omega (arith, few_globals c.args.code.now c.is_of_a_program.ensures, c.requires.init, ap length c.bits.ensures)
+    omega (arith, c.is_in_range.ensures.bits, ap length c.bits.ensures)
 
 pub invariant_of-result : goal.invariant_of-result
 invariant_of-result c =

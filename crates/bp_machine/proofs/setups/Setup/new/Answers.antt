@@ -1,0 +1,9 @@
+use Rattle.std.proofs.Common.{sym, ◌∙◌, map, string_bytes}
+use Rattle.bp_machine.specs.Setups.{setup_of}
+use Rattle.bp_machine.proofs.Ranges.{in_range}
+use Rattle.bp_machine.proofs.setups.Setup.new.Goals as goal
+
+pub kept-requires : goal.kept-requires
+kept-requires c =
+    in_range c.args.code.now (setup_of (map string_bytes c.args.entries.now) c.args.init.now c.args.contexts c.args.calls c.args.seed)
+    (sym c.fault_of_setup.ensures ∙ c.in-None.is) c.is_of_a_program.ensures
