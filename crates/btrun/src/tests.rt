@@ -2,7 +2,9 @@
 
 use crate::bundles::drive_bundle;
 use crate::input::MAX_INPUT;
-use bp_machine::Outcome;
+use crate::notices::show_fault;
+use crate::statuses::exit_status;
+use bp_machine::{Outcome, Reply};
 use std::alloc::Global;
 use std::io;
 use std::io::{ErrorKind, Read, Write};
@@ -79,6 +81,7 @@ fn refuses_texts(rt: HostRuntime) -> Result<(), Fail> {
     assert!(rt; is_refused(alloc, b"", 32, Some(0))?);
     assert!(rt; is_refused(alloc, b"main() begin end", 6, Some(13))?);
     assert!(rt; is_refused(alloc, b"main() begin skip;", 6, Some(18))?);
+    assert!(rt; is_refused(alloc, b"main() begin assume (1); end", 6, Some(13))?);
     assert!(rt; is_refused(alloc, b"main() begin x := 2; end", 2, Some(18))?);
     let swap = b"decl x; main() begin x, x := 0, 1; end";
     assert!(rt; is_refused(alloc, swap, 20, Some(24))?);
@@ -104,6 +107,10 @@ fn parts_at_the_line_alone(rt: HostRuntime) -> Result<(), Fail> {
 #[test]
 fn keeps_the_limit_of_bundles(rt: HostRuntime) -> Result<(), Fail> {
     let alloc = rt.alloc();
+    let mut text = vec![in alloc; b' '; 65_536]?;
+    assert!(rt; is_refused(alloc, &text, 32, Some(0))?);
+    text.push(b' ')?;
+    assert!(rt; is_refused(alloc, &text, 1, None)?);
     let mut bundle = vec![in alloc; b' '; MAX_INPUT]?;
     assert!(rt; is_refused(alloc, &bundle, 1, None)?);
     bundle.push(b' ')?;
@@ -152,7 +159,10 @@ fn writes_a_prefix_to_a_short_writer(rt: HostRuntime) -> Result<(), Fail> {
         };
         let result = drive_bundle(alloc, &mut input, &mut out);
         assert!(rt; out.taken.as_slice() == &STORED_TRACE[..room]);
-        assert_eq!(rt; result.is_ok(), room == STORED_TRACE.len());
+        match result {
+            Ok(_) => assert_eq!(rt; room, STORED_TRACE.len()),
+            Err(fault) => assert_eq!(rt; fault.number(), 51),
+        }
     }
     Ok(())
 }
@@ -184,4 +194,33 @@ fn tells_that_a_read_failed(rt: HostRuntime) -> Result<(), Fail> {
         assert!(rt; out.is_empty());
     }
     Ok(())
+}
+
+const FAULT_LINES: &[u8] =
+    b"btrun: 44 Reply line 7 wanted s\nbtrun: 6 Syntax at 13\nbtrun: 32 UnknownEntry thread 0\nbtrun: 1 TooLong\nbtrun: 48 TooLong\nbtrun: 45 NoEnd\nbtrun: 54 Device\n";
+
+#[test]
+fn shows_faults(rt: HostRuntime) -> Result<(), Fail> {
+    let mut out = Vec::new(rt.alloc());
+    show_fault(44, Some(7), Some(Reply::Stepped), &mut out)?;
+    show_fault(6, Some(13), None, &mut out)?;
+    show_fault(32, Some(0), None, &mut out)?;
+    show_fault(1, None, None, &mut out)?;
+    show_fault(48, None, None, &mut out)?;
+    show_fault(45, None, None, &mut out)?;
+    show_fault(54, None, None, &mut out)?;
+    assert!(rt; out.as_slice() == FAULT_LINES);
+    Ok(())
+}
+
+#[test]
+fn tells_statuses(rt: HostRuntime) {
+    assert_eq!(rt; exit_status(false, None), 0);
+    assert_eq!(rt; exit_status(true, None), 1);
+    for number in [1, 6, 20, 32, 42, 47, 48] {
+        assert_eq!(rt; exit_status(false, Some(number)), 2);
+    }
+    for number in [7, 51, 52, 53, 54] {
+        assert_eq!(rt; exit_status(false, Some(number)), 3);
+    }
 }
