@@ -4,7 +4,7 @@ use crate::exprs::Test;
 use crate::instrs::Instr;
 use crate::programs::emit_proc;
 use crate::words::{bit_at, with_bit, word_of};
-use crate::{Code, Deed, Kind, Words, WriteFault, compile, put, put_each};
+use crate::{Code, Deed, Heading, Kind, Words, WriteFault, compile, put, put_each};
 use bp_check::check;
 use bp_syntax::read;
 use bp_tree::{Block, Decider, Form, Name, Names, Proc, Stmt};
@@ -119,5 +119,18 @@ fn compiles_a_program(rt: HostRuntime) -> Result<(), Fail> {
     assert!(&rt; copy == code);
     let other = code_of(alloc, b"decl x, y; main() begin y := 1; assert (x); end")?;
     assert!(&rt; other != code);
+    Ok(())
+}
+
+#[test]
+fn heads_a_procedure(rt: HostRuntime) -> Result<(), Fail> {
+    let alloc = rt.alloc();
+    let heading = Heading::new(String::from_str(alloc, "swap")?, 2, 1, 9);
+    assert_eq!(&rt; heading.name(), "swap");
+    assert_eq!(&rt; heading.formals(), 2);
+    assert_eq!(&rt; heading.locals(), 1);
+    assert_eq!(&rt; heading.entry(), 9);
+    let copy = heading.try_copy()?;
+    assert!(&rt; copy.is_same(&heading));
     Ok(())
 }
