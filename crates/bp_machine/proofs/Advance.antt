@@ -1,5 +1,5 @@
 -- A state that stands after a history stands after it with one more call, where that call is allowed.
-use Rattle.std.proofs.Common.{◌≡◌, ◌≢◌, ◌⊎◌, ℕ, zero, suc, ◌+◌, ◌<◌, ◌≤◌, ◌==◌, Bool, true, false, cond, List, [], ◌∷◌, ◌++◌, length, map, Option, None, Some, refl, ap, sym, ◌∙◌, subst, arith, inl, inr, set, get_or}
+use Rattle.std.proofs.Common.{◌≡◌, ◌≢◌, ◌⊎◌, ℕ, zero, suc, ◌+◌, ◌==◌, Bool, true, false, List, [], ◌∷◌, ◌++◌, length, Some, refl, ap, sym, ◌∙◌, subst, arith, inl, inr}
 use Rattle.std.specs.Prelude.{slice_get, slice_set}
 use Rattle.std.proofs.lemmas.Bool.Decides.{nat_tests}
 use Rattle.std.proofs.lemmas.List.{length-set, length-append}
@@ -12,7 +12,7 @@ use Rattle.bp_machine.specs.declared.calls.Call.{Call}
 use Rattle.bp_machine.specs.Contexts.{IsLeastWithin}
 use Rattle.bp_machine.specs.Setups.{SetupOf, threads}
 use Rattle.bp_machine.specs.Answers.{stack_of}
-use Rattle.bp_machine.specs.Histories.{after, granted, calls_of, is_last, ends_with_last, IsAllowed, IsLegal}
+use Rattle.bp_machine.specs.Histories.{after, granted, calls_of, is_last, ends_with_last, IsAllowed}
 use Rattle.bp_machine.specs.Lines.{LineOf, State, activations, ShowsLine, StandsAfter, last_of}
 use Rattle.bp_machine.proofs.Histories.{legal-append, calls_of-same, calls_of-other, ends_with_last-append}
 

@@ -1,18 +1,14 @@
 -- The verdict of a call is the machine's answer, and the state after it stands after the longer history.
-use Rattle.std.proofs.Common.{◌≡◌, ◌≢◌, ◌⊎◌, ◌↔◌, IsTrue, ℕ, zero, suc, ◌+◌, ◌<◌, ◌≤◌, ◌&&◌, Bool, true, false, cond, nat_le, List, [], ◌∷◌, ◌++◌, length, map, Option, None, Some, refl, ap, sym, ◌∙◌, subst, arith, inl, inr}
-use Rattle.std.specs.Prelude.{slice_get, slice_set}
-use Rattle.std.proofs.lemmas.Bool.Decides.{nat_tests}
-use Rattle.bp_tree.specs.Ast.{Block, Done, Then, Statement, Skips, GoesTo, Returns, Assigns, Branches, Loops, Asserts, Assumes, Prints, Calls, Procedure, Program}
-use Rattle.bp_code.specs.Bits.{bits_of, words_of}
+use Rattle.std.proofs.Common.{◌≡◌, ◌⊎◌, ℕ, suc, ◌+◌, ◌≤◌, Bool, true, false, cond, List, [], ◌∷◌, length, Option, None, Some, refl, ap, sym, ◌∙◌, subst, arith, inl, inr}
+use Rattle.bp_tree.specs.Ast.{Block, Done, Then, Skips, GoesTo, Returns, Assigns, Branches, Loops, Asserts, Assumes, Prints, Calls, Procedure, Program}
 use Rattle.bp_code.specs.Values.{Valuation, values_of, decided}
 use Rattle.bp_code.specs.Continuations.{from_label}
-use Rattle.bp_code.specs.Configurations.{Frame, Configuration, is_call, procedure_named}
+use Rattle.bp_code.specs.Configurations.{Frame, is_call, procedure_named}
 use Rattle.bp_code.specs.Moves.{Effect, Leaves, Fails, Blocks, Misses, effect, carried_out, moved, seen, leaving}
-use Rattle.bp_code.specs.Flat.{Flat, Instruction}
 use Rattle.bp_code.specs.Steps.{Bits, Activation, Outcome, step}
 use Rattle.bp_code.specs.Steps as steps
 use Rattle.bp_code.specs.StandsFor.{named}
-use Rattle.bp_code.specs.Alike.{ShowsFrame, ShowsStack, SameEffect, StepsAlike}
+use Rattle.bp_code.specs.Alike.{ShowsStack, SameEffect}
 
 module _ (t : Program) where
   pub shown_length : (below : List Activation) (fs : List Frame) → ShowsStack t below fs → length below ≡ length fs

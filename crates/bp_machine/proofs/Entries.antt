@@ -1,11 +1,9 @@
 -- Entries of threads, one after the other.
-use Rattle.std.proofs.Common.{◌≡◌, ◌≢◌, ℕ, zero, suc, ◌+◌, ◌<◌, ◌==◌, Bool, true, false, cond, List, [], ◌∷◌, length, drop, get_or, map, Option, None, Some, refl, ap, sym, ◌∙◌, arith, add-one, drop-cons, String, Global, string_bytes}
+use Rattle.std.proofs.Common.{◌≡◌, ◌≢◌, ℕ, zero, suc, ◌+◌, ◌<◌, ◌==◌, true, false, cond, List, [], ◌∷◌, length, drop, get_or, map, Option, None, Some, refl, ap, sym, ◌∙◌, arith, add-one, String, Global, string_bytes}
 use Rattle.std.specs.Option.{option_map, option_or}
-use Rattle.std.proofs.lemmas.List.{length-map}
 use Rattle.std.proofs.lemmas.Bool.Decides.{nat_tests}
 use Rattle.bp_code.specs.Flat.{Flat, Heading}
 use Rattle.bp_code.specs.Listing.{heading_named}
-use Rattle.bp_machine.specs.declared.setups.SetupFault.{SetupFault}
 use Rattle.bp_machine.specs.declared.setups.SetupFault.TheVariants.{UnknownEntry, EntryHasFormals}
 use Rattle.bp_machine.specs.Setups.{entry_fault, entries_fault}
 

@@ -1,17 +1,16 @@
 -- A failure is a false assertion, and the last step.
-use Rattle.std.proofs.Common.{◌≡◌, ◌≢◌, ℕ, Bool, true, false, cond, List, [], ◌∷◌, ◌++◌, Option, None, Some, refl, ap, sym, ◌∙◌, subst, append_assoc}
+use Rattle.std.proofs.Common.{◌≡◌, ℕ, Bool, true, false, cond, List, [], ◌∷◌, ◌++◌, Option, None, Some, refl, ap, sym, ◌∙◌, subst, append_assoc}
 use Rattle.std.proofs.lemmas.List.{append-nil}
 use Rattle.std.specs.Prelude.{unwrap_or}
-use Rattle.bp_tree.specs.Ast.{Name, Block, Done, Then, Statement, Skips, GoesTo, Returns, Assigns, Branches, Loops, Asserts, Assumes, Prints, Calls, Decision, Procedure, Program}
+use Rattle.bp_tree.specs.Ast.{Name, Block, Done, Then, Skips, GoesTo, Returns, Assigns, Branches, Loops, Asserts, Assumes, Prints, Calls, Decision, Procedure, Program}
 use Rattle.bp_code.specs.Values.{Valuation, decided, values_of}
 use Rattle.bp_code.specs.Continuations.{from_label}
 use Rattle.bp_code.specs.Configurations.{Frame, Configuration, procedure_named}
 use Rattle.bp_code.specs.Moves as moves
 use Rattle.bp_code.specs.Moves.{Effect, Leaves, Fails, Blocks, Misses, effect, moved, seen, leaving}
 use Rattle.bp_machine.specs.declared.calls.Reply.{Reply}
-use Rattle.bp_machine.specs.declared.calls.Reply.TheVariants.{Stopped, Ended, NoContexts, Full, Blocked, Failed, Stepped}
+use Rattle.bp_machine.specs.declared.calls.Reply.TheVariants.{Stopped, Failed}
 use Rattle.bp_machine.specs.declared.calls.Call.{Call}
-use Rattle.bp_machine.specs.declared.reports.Outcome.{Outcome}
 use Rattle.bp_machine.specs.declared.reports.Outcome.TheVariants as outcome
 use Rattle.bp_machine.specs.Setups.{SetupOf}
 use Rattle.bp_machine.specs.Answers.{stack_of, told, reply_on, is_granted, stepped, next_of}

@@ -1,14 +1,13 @@
 -- A history with one more call.
-use Rattle.std.proofs.Common.{◌≡◌, ◌≢◌, ◌⊎◌, ℕ, zero, suc, ◌+◌, ◌<◌, ◌≤◌, ◌==◌, Bool, true, false, cond, ◌||◌, nat_le, nat_eq, List, [], ◌∷◌, ◌++◌, length, filter, Option, None, Some, refl, ap, sym, ◌∙◌, subst, arith, append_assoc, inl, inr}
+use Rattle.std.proofs.Common.{◌≡◌, ◌≢◌, ℕ, zero, suc, ◌+◌, ◌<◌, ◌==◌, Bool, true, false, cond, ◌||◌, nat_le, List, [], ◌∷◌, ◌++◌, length, refl, ap, sym, ◌∙◌, subst, arith, append_assoc}
 use Rattle.std.proofs.lemmas.List.{append-nil}
 use Rattle.std.proofs.lemmas.Bool.Decides.{nat_tests}
 use Rattle.bp_tree.specs.Ast.{Program}
 use Rattle.bp_code.specs.Configurations.{Configuration}
-use Rattle.bp_machine.specs.declared.calls.Reply.{Reply}
 use Rattle.bp_machine.specs.declared.calls.Call.{Call}
-use Rattle.bp_machine.specs.Setups.{SetupOf, threads, start}
+use Rattle.bp_machine.specs.Setups.{SetupOf, start}
 use Rattle.bp_machine.specs.Answers.{is_granted, next_of}
-use Rattle.bp_machine.specs.Histories.{after_calls, after, granted, calls_of, is_last, ends_with_last, is_finished, open_below, open_lines, IsAllowed, IsLegalAfter, IsLegal}
+use Rattle.bp_machine.specs.Histories.{after_calls, after, granted, calls_of, is_last, ends_with_last, is_finished, open_below, IsAllowed, IsLegalAfter, IsLegal}
 
 after_calls-append : (t : Program) (c : Configuration) (xs : List Call) (x : Call)
     → after_calls t c (xs ++ x ∷ []) ≡ next_of t (after_calls t c xs) x.thread x.bit x.reply

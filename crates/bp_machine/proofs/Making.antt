@@ -1,5 +1,5 @@
 -- The line of a call, found in the list of lines.
-use Rattle.std.proofs.Common.{◌≡◌, ℕ, ◌<◌, ◌+◌, ◌^◌, List, length, get_or, set, Option, Some, refl, ap, sym, ◌∙◌, Bool, true}
+use Rattle.std.proofs.Common.{◌≡◌, ℕ, ◌<◌, ◌+◌, List, length, get_or, Option, Some, refl, ap, ◌∙◌, Bool, true}
 use Rattle.std.specs.Prelude.{slice_get, slice_set}
 use Rattle.std.proofs.lemmas.Option.{get_or_from_slice_get, slice_get_read}
 use Rattle.bp_code.specs.declared.deeds.Deed.{Deed}

@@ -1,5 +1,5 @@
 -- The verdict of a call is the machine's answer.
-use Rattle.std.proofs.Common.{◌≡◌, ◌≢◌, ◌⊎◌, ◌↔◌, IsTrue, ℕ, zero, suc, ◌+◌, ◌<◌, ◌≤◌, ◌&&◌, Bool, true, false, cond, nat_le, List, [], ◌∷◌, ◌++◌, length, map, Option, None, Some, refl, ap, sym, ◌∙◌, subst, arith, inl, inr}
+use Rattle.std.proofs.Common.{◌≡◌, ℕ, ◌&&◌, Bool, true, false, cond, nat_le, List, [], ◌∷◌, length, Option, None, Some, refl, ap, sym, ◌∙◌, subst, arith}
 use Rattle.std.proofs.lemmas.List.{length-map}
 use Rattle.bp_tree.specs.Ast.{Program}
 use Rattle.bp_code.specs.Bits.{bits_of, words_of}
@@ -8,22 +8,22 @@ use Rattle.bp_code.specs.declared.deeds.Deed.TheVariants.{Goes, Enters, Returns}
 use Rattle.bp_code.specs.declared.deeds.Deed.TheVariants as deed
 use Rattle.bp_code.specs.Deeds.{outcome_of}
 use Rattle.bp_code.specs.Values.{Valuation}
-use Rattle.bp_code.specs.Configurations.{Frame, Configuration, is_call}
+use Rattle.bp_code.specs.Configurations.{Frame, is_call}
 use Rattle.bp_code.specs.Moves as moves
 use Rattle.bp_code.specs.Moves.{Effect, Leaves, effect}
 use Rattle.bp_code.specs.Flat.{Flat, Instruction}
 use Rattle.std.specs.Prelude.{slice_get}
 use Rattle.bp_code.specs.Steps.{Activation, done_at}
 use Rattle.bp_code.specs.StandsFor.{named}
-use Rattle.bp_code.specs.Alike.{ShowsFrame, ShowsStack, SameEffect, StepsAlike}
+use Rattle.bp_code.specs.Alike.{ShowsStack, SameEffect, StepsAlike}
 use Rattle.bp_machine.specs.declared.calls.Reply.{Reply}
-use Rattle.bp_machine.specs.declared.calls.Reply.TheVariants.{Stopped, Ended, NoContexts, Full, Blocked, Failed, Stepped}
+use Rattle.bp_machine.specs.declared.calls.Reply.TheVariants.{Stopped, Full}
 use Rattle.bp_machine.specs.declared.stacks.Frame.{Frame as Kept}
 use Rattle.bp_machine.specs.declared.verdicts.Verdict.{Verdict}
 use Rattle.bp_machine.specs.declared.verdicts.Verdict.TheVariants.{Stays, Fails, Takes}
 use Rattle.bp_machine.specs.Answers.{max_frames, told, reply_on, is_granted}
 use Rattle.bp_machine.specs.Lines.{activation_of, activations}
-use Rattle.bp_machine.specs.Stepping.{IsDeedOf, verdict_of, IsVerdictAt, IsVerdictOn, IsVerdictUnless, reply_of, stack_after, globals_after}
+use Rattle.bp_machine.specs.Stepping.{verdict_of, IsVerdictAt, IsVerdictOn, IsVerdictUnless, reply_of, stack_after, globals_after}
 use Rattle.bp_machine.proofs.Answering.{shown_length, same_leaves, same_fails, same_blocks, same_lost, not_call, is_a_call, fails_no_call, blocks_no_call}
 
 -- what a verdict says of an effect

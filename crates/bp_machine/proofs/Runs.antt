@@ -1,19 +1,16 @@
 -- The granted steps of a legal history are a run within the allowed contexts, and a failure is a false assertion.
-use Rattle.std.proofs.Common.{◌≡◌, ◌≢◌, ◌⊎◌, ◌↔◌, IsTrue, ℕ, zero, suc, ◌+◌, ◌<◌, ◌≤◌, ◌&&◌, nat_le, Bool, true, false, cond, List, [], ◌∷◌, ◌++◌, length, filter, Option, None, Some, refl, ap, sym, ◌∙◌, subst, arith, append_assoc, inl, inr, get_or}
+use Rattle.std.proofs.Common.{◌≡◌, ℕ, zero, suc, ◌&&◌, nat_le, Bool, true, false, cond, List, [], ◌∷◌, ◌++◌, length, Option, Some, refl, ap, sym, ◌∙◌, subst, arith, append_assoc}
 use Rattle.std.specs.Prelude.{slice_get, slice_index_or, unwrap_or}
 use Rattle.std.proofs.lemmas.List.{append-nil}
-use Rattle.bp_tree.specs.Ast.{Name, Block, Done, Then, Statement, Skips, GoesTo, Returns, Assigns, Branches, Loops, Asserts, Assumes, Prints, Calls, Decision, Procedure, Program}
-use Rattle.bp_code.specs.Values.{Valuation, decided, values_of}
-use Rattle.bp_code.specs.Continuations.{from_label}
-use Rattle.bp_code.specs.Configurations.{Frame, Configuration, is_call, procedure_named}
-use Rattle.bp_code.specs.Moves as moves
-use Rattle.bp_code.specs.Moves.{Effect, Leaves, Fails, Blocks, Misses, effect, moved, seen, Moves}
+use Rattle.bp_tree.specs.Ast.{Program}
+use Rattle.bp_code.specs.Configurations.{Frame, Configuration, is_call}
+use Rattle.bp_code.specs.Moves.{Effect, Leaves, Fails, Blocks, Misses, effect, moved, Moves}
 use Rattle.bp_machine.specs.declared.calls.Reply.{Reply}
-use Rattle.bp_machine.specs.declared.calls.Reply.TheVariants.{Stopped, Ended, NoContexts, Full, Blocked, Failed, Stepped}
+use Rattle.bp_machine.specs.declared.calls.Reply.TheVariants.{Stopped, Ended, NoContexts, Full, Blocked}
 use Rattle.bp_machine.specs.declared.calls.Call.{Call}
 use Rattle.bp_machine.specs.Contexts.{IsWithin}
-use Rattle.bp_machine.specs.Setups.{SetupOf, threads, start}
-use Rattle.bp_machine.specs.Answers.{max_frames, stack_of, told, reply_on, reply_of, Answers, is_granted, stepped, next_of}
+use Rattle.bp_machine.specs.Setups.{SetupOf, start}
+use Rattle.bp_machine.specs.Answers.{max_frames, stack_of, told, reply_on, reply_of, is_granted, stepped, next_of}
 use Rattle.bp_machine.specs.Histories.{after, granted, steps_of, IsAllowed, IsLegalAfter, IsLegal}
 use Rattle.bp_machine.specs.Reports.{IsRun, ends}
 use Rattle.bp_machine.specs.Reports as reports

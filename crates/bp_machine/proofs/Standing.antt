@@ -1,15 +1,11 @@
 -- A session that stands after a history stands after it with the call that it answers.
-use Rattle.std.proofs.Common.{◌≡◌, ◌≢◌, ◌⊎◌, ◌↔◌, IsTrue, ℕ, zero, suc, ◌+◌, ◌<◌, ◌≤◌, Bool, true, false, cond, nat_le, List, [], ◌∷◌, ◌++◌, length, map, Option, None, Some, refl, ap, sym, ◌∙◌, subst, arith, inl, inr, get_or}
-use Rattle.std.specs.Prelude.{slice_get, slice_set, slice_index_or, unwrap_or}
+use Rattle.std.proofs.Common.{◌≡◌, ℕ, ◌+◌, ◌<◌, Bool, true, false, cond, nat_le, List, [], ◌∷◌, ◌++◌, length, Some, refl, ap, sym, ◌∙◌, subst, arith}
+use Rattle.std.specs.Prelude.{slice_get, slice_set, unwrap_or}
 use Rattle.std.proofs.lemmas.List.{length-set, append-nil, get_or-set_same, get_or-set_other}
 use Rattle.bp_tree.specs.Ast.{Program}
-use Rattle.bp_code.specs.Bits.{bits_of}
-use Rattle.bp_code.specs.Values.{Valuation}
-use Rattle.bp_code.specs.Configurations.{Frame, Configuration}
-use Rattle.bp_code.specs.Moves as moves
-use Rattle.bp_code.specs.Moves.{Effect, effect, moved}
+use Rattle.bp_code.specs.Configurations.{Configuration}
+use Rattle.bp_code.specs.Moves.{moved}
 use Rattle.bp_code.specs.Flat.{Flat}
-use Rattle.bp_code.specs.StandsFor.{named}
 use Rattle.bp_code.specs.Alike.{ShowsStack, StepsAlike}
 use Rattle.bp_machine.specs.declared.calls.Reply.{Reply}
 use Rattle.bp_machine.specs.declared.calls.Reply.TheVariants.{Stopped, Failed, Stepped}
@@ -19,14 +15,14 @@ use Rattle.bp_machine.specs.declared.verdicts.Verdict.{Verdict}
 use Rattle.bp_machine.specs.declared.verdicts.Verdict.TheVariants.{Stays, Fails, Takes}
 use Rattle.bp_machine.specs.Contexts.{IsLeastWithin}
 use Rattle.bp_machine.specs.Setups.{SetupOf, threads}
-use Rattle.bp_machine.specs.Answers.{Answers, stack_of, reply_on, is_granted, stepped, next_of}
-use Rattle.bp_machine.specs.Histories.{after, granted, is_last, is_finished, IsAllowed}
-use Rattle.bp_machine.specs.Lines.{LineOf, State, activations, ShowsLine, StandsAfter, last_of, cost}
-use Rattle.bp_machine.specs.Stepping.{IsVerdict, reply_of, line_after, state_after, globals_after, stack_after}
+use Rattle.bp_machine.specs.Answers.{stack_of, reply_on, is_granted, stepped}
+use Rattle.bp_machine.specs.Histories.{after, granted, is_finished, IsAllowed}
+use Rattle.bp_machine.specs.Lines.{LineOf, State, activations, StandsAfter, last_of, cost}
+use Rattle.bp_machine.specs.Stepping.{IsVerdict, reply_of, line_after, state_after, stack_after}
 use Rattle.bp_machine.proofs.Contexts.{more_within, fits_within, last-append}
 use Rattle.bp_machine.proofs.Histories.{after-append, granted-append}
-use Rattle.bp_machine.proofs.Replies.{Tells, IsAnswer, answer_of}
-use Rattle.bp_machine.proofs.Advance.{advance, Leaves}
+use Rattle.bp_machine.proofs.Replies.{IsAnswer, answer_of}
+use Rattle.bp_machine.proofs.Advance.{advance}
 
 module _ (c : Flat) (t : Program) (alike : StepsAlike c t) (s : SetupOf) (x : State) (h : List Call) (stands : StandsAfter t s x h)
     (i : ℕ) (line : LineOf) (has : slice_get x.lines i ≡ Some line) (within : i < threads s) (unfinished : is_finished s h i ≡ false) (bit : Bool) where

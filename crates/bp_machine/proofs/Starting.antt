@@ -1,25 +1,23 @@
 -- A new session stands after the empty history.
-use Rattle.std.proofs.Common.{◌≡◌, ◌⊎◌, ℕ, zero, suc, ◌+◌, ◌<◌, ◌≤◌, ◌==◌, Bool, true, false, cond, List, [], ◌∷◌, ◌++◌, length, map, Option, None, Some, refl, ap, sym, ◌∙◌, subst, arith, bytes_eq, get_or}
-use Rattle.std.specs.Prelude.{slice_get, slice_index_or, option_map, unwrap_or}
+use Rattle.std.proofs.Common.{◌≡◌, ℕ, zero, suc, ◌+◌, ◌==◌, Bool, true, false, cond, List, [], ◌∷◌, ◌++◌, length, map, Option, None, Some, refl, ap, sym, ◌∙◌, subst, arith, bytes_eq}
+use Rattle.std.specs.Prelude.{slice_get, option_map, unwrap_or}
 use Rattle.std.specs.Option.{option_or}
-use Rattle.std.specs.List.{find}
 use Rattle.std.proofs.Math.Path.{fun_ext}
-use Rattle.std.proofs.lemmas.Bool.Decides.{nat_tests}
 use Rattle.std.proofs.lemmas.List.{length-map}
 use Rattle.std.proofs.lemmas.Option.{slice_get-map, get_or_from_slice_get}
 use Rattle.std.proofs.lemmas.Nat.Bits.{bit_at-zero}
 use Rattle.bp_tree.specs.Ast.{Name, Procedure, Program}
 use Rattle.bp_code.specs.Bits.{bits_of}
-use Rattle.bp_code.specs.Values.{Valuation, bound}
-use Rattle.bp_code.specs.Configurations.{Frame, entered, procedure_named, first_stack}
+use Rattle.bp_code.specs.Values.{bound}
+use Rattle.bp_code.specs.Configurations.{procedure_named, first_stack}
 use Rattle.bp_code.specs.Flat.{Flat, Heading}
 use Rattle.bp_code.specs.Listing.{heading_named}
-use Rattle.bp_code.specs.Steps.{Bits, bits_from}
+use Rattle.bp_code.specs.Steps.{bits_from}
 use Rattle.bp_code.specs.StandsFor.{StandsFor, Place, Heads, named, variables, places_of}
 use Rattle.bp_code.specs.Alike.{ShowsStack}
 use Rattle.bp_machine.specs.declared.setups.SetupFault.{SetupFault}
 use Rattle.bp_machine.specs.Contexts.{IsLeastWithin}
-use Rattle.bp_machine.specs.Setups.{SetupOf, threads, start, entry_fault, entries_fault, Fits}
+use Rattle.bp_machine.specs.Setups.{SetupOf, start, entry_fault, entries_fault, Fits}
 use Rattle.bp_machine.specs.Lines.{LineOf, State, activations, ShowsLine, StandsAfter}
 use Rattle.bp_machine.specs.Starts.{first_line}
 use Rattle.bp_machine.proofs.Contexts.{least_none}

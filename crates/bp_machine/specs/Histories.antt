@@ -3,7 +3,7 @@ use Rattle.std.specs.Prelude.{◌≡◌, ◌==◌, ◌<◌, ℕ, zero, suc, ◌+
 use Rattle.bp_tree.specs.Ast.{Program}
 use Rattle.bp_code.specs.Configurations.{Configuration}
 use Rattle.bp_machine.specs.declared.calls.Reply.{Reply}
-use Rattle.bp_machine.specs.declared.calls.Reply.TheVariants.{Stopped, Ended, NoContexts, Full, Blocked, Failed, Stepped}
+use Rattle.bp_machine.specs.declared.calls.Reply.TheVariants.{Blocked, Stepped}
 use Rattle.bp_machine.specs.declared.calls.Call.{Call}
 use Rattle.bp_machine.specs.Setups.{SetupOf, threads, start}
 use Rattle.bp_machine.specs.Answers.{Answers, is_granted, next_of}

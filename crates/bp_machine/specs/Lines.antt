@@ -1,8 +1,7 @@
 -- What a session keeps, and when it stands after a history.
-use Rattle.std.specs.Prelude.{◌≡◌, ℕ, Bool, false, cond, ◌==◌, List, [], ◌∷◌, Option, None, Some, length, map, slice_get}
+use Rattle.std.specs.Prelude.{◌≡◌, ℕ, Bool, cond, ◌==◌, List, [], ◌∷◌, Option, None, Some, length, map, slice_get}
 use Rattle.bp_tree.specs.Ast.{Program}
 use Rattle.bp_code.specs.Configurations.{Configuration}
-use Rattle.bp_code.specs.Flat.{Flat}
 use Rattle.bp_code.specs.Bits.{bits_of}
 use Rattle.bp_code.specs.Steps.{Activation}
 use Rattle.bp_code.specs.StandsFor.{named}

@@ -1,11 +1,11 @@
 -- What a history comes to.
-use Rattle.std.specs.Prelude.{◌≡◌, ℕ, ◌<◌, Bool, true, false, List, [], ◌∷◌, ◌++◌, Option, length}
+use Rattle.std.specs.Prelude.{◌≡◌, ℕ, Bool, List, [], ◌∷◌, ◌++◌, Option, length}
 use Rattle.bp_tree.specs.Ast.{Name, Block, Then, Asserts, Decision, Program}
 use Rattle.bp_code.specs.Values.{decided}
 use Rattle.bp_code.specs.Configurations.{Frame, Configuration}
 use Rattle.bp_code.specs.Moves.{Moves, seen}
 use Rattle.bp_machine.specs.declared.calls.Reply.{Reply}
-use Rattle.bp_machine.specs.declared.calls.Reply.TheVariants.{Stopped, Ended, NoContexts, Full, Blocked, Failed, Stepped}
+use Rattle.bp_machine.specs.declared.calls.Reply.TheVariants.{Failed}
 use Rattle.bp_machine.specs.declared.calls.Call.{Call}
 use Rattle.bp_machine.specs.declared.reports.Outcome.{Outcome}
 use Rattle.bp_machine.specs.declared.reports.Outcome.TheVariants as outcome
@@ -13,7 +13,7 @@ use Rattle.bp_machine.specs.declared.reports.Report.{Report}
 use Rattle.bp_machine.specs.Contexts.{IsLeastWithin}
 use Rattle.bp_machine.specs.Setups.{SetupOf}
 use Rattle.bp_machine.specs.Answers.{stack_of}
-use Rattle.bp_machine.specs.Histories.{after, granted, steps_of, open_lines}
+use Rattle.bp_machine.specs.Histories.{after, granted, open_lines}
 
 -- the first call with the reply Failed tells the thread
 abbrev pub outcome_or : Call → Reply → Outcome → Outcome

@@ -1,5 +1,5 @@
 -- What a session starts from, and when a setup is refused.
-use Rattle.std.specs.Prelude.{◌≡◌, ℕ, ◌+◌, ◌<◌, ◌≤◌, ◌==◌, Bool, true, false, cond, not, ◌||◌, nat_lt, List, [], ◌∷◌, Option, None, Some, is_some, length}
+use Rattle.std.specs.Prelude.{◌≡◌, ℕ, ◌+◌, ◌<◌, ◌≤◌, ◌==◌, Bool, cond, not, ◌||◌, nat_lt, List, [], ◌∷◌, Option, None, Some, is_some, length}
 use Rattle.std.specs.Option.{option_or}
 use Rattle.bp_tree.specs.Ast.{Program}
 use Rattle.bp_check.specs.Faults.{max_globals}

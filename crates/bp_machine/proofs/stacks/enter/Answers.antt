@@ -1,6 +1,5 @@
-use Rattle.std.proofs.Common.{◌≡◌, ◌-◌, ◌∷◌, [], ◌∙◌, ap, sym, arith, length, subst, reverse, set, ◌++◌}
+use Rattle.std.proofs.Common.{◌-◌, ◌∙◌, ap, sym, arith, length}
 use Rattle.std.specs.Prelude.{slice_get}
-use Rattle.bp_machine.specs.Stacks.{entered_top}
 use Rattle.bp_machine.proofs.StackLemmas.{entered, top_is}
 use Rattle.bp_machine.proofs.stacks.enter.Goals as goal
 

@@ -1,8 +1,4 @@
-use Rattle.std.proofs.Common.{◌≡◌, ◌∙◌, ap, sym, ◌+◌, Some}
-use Rattle.std.specs.Prelude.{slice_get}
-use Rattle.bp_machine.specs.Lines.{LineOf, State, cost}
-use Rattle.bp_machine.specs.Stepping.{globals_after, line_after}
-use Rattle.bp_machine.proofs.Making.{made_here, stays_after, fails_after, takes_after}
+use Rattle.bp_machine.proofs.Making.{stays_after, fails_after, takes_after}
 use Rattle.bp_machine.proofs.sessions.Machine.make.Goals as goal
 
 pub returns-in-Stays-clause-ok : goal.returns-in-Stays-clause-ok

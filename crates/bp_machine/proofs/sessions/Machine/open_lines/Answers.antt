@@ -1,6 +1,5 @@
-use Rattle.std.proofs.Common.{◌≡◌, ◌∙◌, ap, sym, arith, ◌||◌, nat_le, cond, ◌+◌, length, subst}
+use Rattle.std.proofs.Common.{◌∙◌, ap, sym, arith, ◌||◌, nat_le}
 use Rattle.std.specs.Prelude.{slice_get}
-use Rattle.bp_machine.specs.Histories.{open_below}
 use Rattle.bp_machine.proofs.Asking.{count_more}
 use Rattle.bp_machine.proofs.Making.{found_here}
 use Rattle.bp_machine.proofs.sessions.Machine.open_lines.Goals as goal

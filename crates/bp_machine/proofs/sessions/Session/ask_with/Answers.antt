@@ -1,5 +1,3 @@
-use Rattle.std.proofs.Common.{◌≡◌, ◌++◌, ◌∷◌, [], ap, subst}
-use Rattle.bp_machine.specs.Sessions.{IsInOrder}
 use Rattle.bp_machine.proofs.Asking.{answered, still_in_order}
 use Rattle.bp_machine.proofs.sessions.Session.ask_with.Goals as goal
 

@@ -1,4 +1,4 @@
-use Rattle.std.proofs.Common.{◌≡◌, arith, ap, ◌∙◌, ◌<◌, ◌≤◌, Some}
+use Rattle.std.proofs.Common.{arith, ap, ◌∙◌, Some}
 use Rattle.bp_code.specs.Bits.{bits_of}
 use Rattle.bp_machine.proofs.Asking.{global_here, no_global}
 use Rattle.bp_machine.proofs.Ranges.{few_globals}

@@ -1,4 +1,4 @@
-use Rattle.std.proofs.Common.{◌≡◌, ◌∙◌, ap, sym, arith, length, map, refl, [], subst, string_bytes}
+use Rattle.std.proofs.Common.{◌∙◌, ap, arith, length, map, refl, []}
 use Rattle.std.proofs.Math.Logic.{∥∥₁_map}
 use Rattle.std.proofs.lemmas.List.{length-map}
 use Rattle.bp_code.specs.Steps.{bits_from}
