@@ -1,3 +1,4 @@
+pub mod Braces
 pub mod Pieces
 pub mod Scanning
 pub mod Sizes

@@ -1,26 +1,22 @@
 -- The longest piece that a text begins with, and the cut.
-use Rattle.std.proofs.Common.{◌≡◌, ℕ, zero, suc, ◌+◌, ◌<◌, ◌≤◌, ◌≢◌, ⊎_elim, Bool, true, false, cond, ◌&&◌, ◌||◌, List, [], ◌∷◌, length, take, drop, Option, Some, None, refl, sym, ap, subst, ◌∙◌, arith, length-drop, nat_eq}
+use Rattle.std.proofs.Common.{◌≡◌, ℕ, zero, suc, ◌+◌, ◌<◌, ◌≤◌, ◌≢◌, ◌==◌, ⊎_elim, Bool, true, false, cond, ◌&&◌, ◌||◌, List, [], ◌∷◌, length, take, drop, Option, Some, None, refl, sym, ap, subst, ◌∙◌, arith, length-drop, take_all, nat_eq, slice_get, get_or, ◌-◌}
 use Rattle.std.specs.Prelude.{is_some, MatchOption}
 use Rattle.std.specs.List.{list_any, list_all}
 use Rattle.std.specs.Map.{lookup}
-use Rattle.std.proofs.lemmas.Bool.{false≢true, cases_lt, eqb-true}
+use Rattle.std.proofs.lemmas.Bool.{false≢true, cases_lt, cases_eq, eqb-true, ne_eqb}
 use Rattle.std.proofs.lemmas.Bool.Decides.{nat_tests}
+use Rattle.std.proofs.lemmas.Option.{slice_get_within, slice_get-get_or}
 use Rattle.std.proofs.lemmas.Str.{IsUtf8-from_ascii}
 use Rattle.std.specs.Str.{IsAscii, IsUtf8}
-use Rattle.bp_syntax.specs.Tokens.{is_white, is_letter, is_word_byte, constant, symbol, long_symbol, fits, whites, constants, symbols, long_symbols}
-use Rattle.bp_syntax.specs.Scan.{word_run, first_symbol, longest}
-use Rattle.bp_syntax.specs.Cut.{Longest, NoneFits, Piece, Fit, Bad, IsCut, ends, piece, bad_byte}
+use Rattle.bp_syntax.specs.Tokens.{is_white, is_letter, is_word_byte, is_comment_byte, is_braced_byte, closes, constant, symbol, long_symbol, fits, whites, constants, symbols, long_symbols, kind_of}
+use Rattle.bp_syntax.specs.Scan.{run, comment, first_symbol, unbraced, Nameless, IsFront}
+use Rattle.bp_syntax.specs.Cut.{Longest, NoneFits, Piece, Fit, Brace, Bad, IsCut, ends, piece, open_brace, bad_byte}
+use Rattle.bp_syntax.specs.declared.fronts.Front.{Front}
+use Rattle.bp_syntax.specs.declared.fronts.Front.TheVariants as front
 use Rattle.bp_syntax.specs.declared.tokens.Kind.{Kind}
 use Rattle.bp_syntax.specs.declared.tokens.Sort.{Sort}
 use Rattle.bp_syntax.specs.declared.tokens.Sort.TheVariants as sort
-
-both_left : (a b : Bool) → a && b ≡ true → a ≡ true
-both_left true b e = refl
-both_left false b e = e
-
-both_right : (a b : Bool) → a && b ≡ true → b ≡ true
-both_right true b e = e
-both_right false b e = absurd (false≢true e)
+use Rattle.bp_syntax.proofs.Braces.{both_left, both_right, inside, run_fits, run_stops, run_within, closes_at, closes_no_longer, unclosed}
 
 -- P of each key of a table
 abbrev Keys : {K X : Type 0} → (K → Type 0) → List (K × X) → Type 0
@@ -58,7 +54,8 @@ abbrev first_sort : ℕ → Option Sort
 first_sort b =
     cond (is_letter b) (Some sort.Identifier)
     (cond (is_white b) (Some sort.White)
-    (cond (is_some (constant b)) (Some sort.Constant) (cond (is_some (symbol b)) (Some sort.Symbol) None)))
+    (cond (is_some (constant b)) (Some sort.Constant)
+    (cond (is_some (symbol b)) (Some sort.Symbol) (cond (b == 47) (Some sort.Comment) (cond (b == 123) (Some sort.Braced) None)))))
 
 white_first : (b : ℕ) → is_white b ≡ true → first_sort b ≡ Some sort.White
 white_first b e = among (λ x. first_sort x ≡ Some sort.White) b whites (refl, (refl, (refl, (refl, tt)))) e
@@ -77,176 +74,236 @@ long_symbol_first b c e =
 
 letter_first : (b : ℕ) → is_letter b ≡ true → first_sort b ≡ Some sort.Identifier
 letter_first b e =
-    ap (λ y. cond y (Some sort.Identifier) (cond (is_white b) (Some sort.White) (cond (is_some (constant b)) (Some sort.Constant) (cond (is_some (symbol b)) (Some sort.Symbol) None)))) e
+    ap (λ y. cond y (Some sort.Identifier) (cond (is_white b) (Some sort.White) (cond (is_some (constant b)) (Some sort.Constant) (cond (is_some (symbol b)) (Some sort.Symbol) (cond (b == 47) (Some sort.Comment) (cond (b == 123) (Some sort.Braced) None)))))) e
+
+comment_first : (b : ℕ) → (b == 47) ≡ true → first_sort b ≡ Some sort.Comment
+comment_first b e = ap first_sort (eqb-true b 47 e)
+
+braced_first : (b : ℕ) → (b == 123) ≡ true → first_sort b ≡ Some sort.Braced
+braced_first b e = ap first_sort (eqb-true b 123 e)
 
 -- a piece's sort is that of its first byte
 sort_by_first : (k : Sort) (b : ℕ) (bs : List ℕ) → fits k (b ∷ bs) ≡ true → first_sort b ≡ Some k
 sort_by_first sort.White b [] e = white_first b e
 sort_by_first sort.White b (c ∷ cs) e = absurd (false≢true e)
+sort_by_first sort.Comment b [] e = absurd (false≢true e)
+sort_by_first sort.Comment b (c ∷ cs) e = comment_first b (both_left _ _ e)
 sort_by_first sort.Identifier b bs e = letter_first b (both_left _ _ e)
+sort_by_first sort.Braced b bs e = braced_first b (both_left _ _ e)
 sort_by_first sort.Constant b [] e = constant_first b e
 sort_by_first sort.Constant b (c ∷ cs) e = absurd (false≢true e)
 sort_by_first sort.Symbol b [] e = symbol_first b e
 sort_by_first sort.Symbol b (c ∷ []) e = long_symbol_first b c e
 sort_by_first sort.Symbol b (c ∷ d ∷ ds) e = absurd (false≢true e)
 
-not_letter : (b : ℕ) (k : Sort) → first_sort b ≡ Some k → (sort.Identifier ≡ k → ⊥) → is_letter b ≡ false
-not_letter b k e ne = by_cases (is_letter b) refl
+-- a piece is the longest where its sort fits nothing longer
+longest_of : (k : Sort) (b : ℕ) (bs : List ℕ) (n : ℕ) → n ≤ length bs → fits k (b ∷ take n bs) ≡ true → ((m : ℕ) → n < m → m ≤ length bs → fits k (b ∷ take m bs) ≢ true) → Longest (b ∷ bs) k (suc n)
+longest_of k b bs n within is none = record {
+  some = omega arith;
+  within = omega arith;
+  is_piece = is;
+  no_longer = longer;
+}
   where
-    by_cases : (y : Bool) → is_letter b ≡ y → is_letter b ≡ false
-    by_cases true h = absurd (ne (cc (letter_first b h)))
-    by_cases false h = h
+    same : (j : Sort) (r : List ℕ) → fits j (b ∷ r) ≡ true → j ≡ k
+    same j r e =
+        let p : first_sort b ≡ Some j = sort_by_first j b r e in
+        let q : first_sort b ≡ Some k = sort_by_first k b (take n bs) is in
+        cc
 
-module _ (b : ℕ) (bs : List ℕ) where
-  fits_by : (y : Bool) → is_word_byte b ≡ y → list_all is_word_byte (take (word_run bs) bs) ≡ true → list_all is_word_byte (take (cond y (suc (word_run bs)) 0) (b ∷ bs)) ≡ true
-  fits_by true h e = ap (λ y. y && list_all is_word_byte (take (word_run bs) bs)) h ∙ e
-  fits_by false h e = refl
+    longer : (other : Sort) (m : ℕ) → suc n < m → m ≤ length (b ∷ bs) → fits other (take m (b ∷ bs)) ≢ true
+    longer other zero lt le e = absurd (omega arith)
+    longer other (suc m) lt le e =
+        none m (omega arith) (omega arith) (subst (λ j. fits j (b ∷ take m bs) ≡ true) (same other (take m bs) e) e)
 
-  stops_by : (y : Bool) (m : ℕ) → is_word_byte b ≡ y → cond y (suc (word_run bs)) 0 < suc m → (word_run bs < m → list_all is_word_byte (take m bs) ≢ true) → list_all is_word_byte (take (suc m) (b ∷ bs)) ≢ true
-  stops_by true m h lt rest e = rest (omega arith) (both_right _ _ e)
-  stops_by false m h lt rest e = false≢true (sym h ∙ both_left _ _ e)
+-- nothing fits where the sort of the first byte doesn't
+none_of : (k : Sort) (b : ℕ) (bs : List ℕ) → first_sort b ≡ Some k → ((m : ℕ) → fits k (b ∷ take m bs) ≢ true) → NoneFits (b ∷ bs)
+none_of k b bs first none j zero lt le e = absurd (omega arith)
+none_of k b bs first none j (suc m) lt le e =
+    let p : first_sort b ≡ Some j = sort_by_first j b (take m bs) e in
+    let same : j ≡ k = cc in
+    none m (subst (λ i. fits i (b ∷ take m bs) ≡ true) same e)
 
-  within_by : (y : Bool) → word_run bs ≤ length bs → cond y (suc (word_run bs)) 0 ≤ suc (length bs)
-  within_by true h = omega arith
-  within_by false h = omega arith
+none_first : (b : ℕ) (bs : List ℕ) → first_sort b ≡ None → NoneFits (b ∷ bs)
+none_first b bs first j zero lt le e = absurd (omega arith)
+none_first b bs first j (suc m) lt le e =
+    let p : first_sort b ≡ Some j = sort_by_first j b (take m bs) e in
+    cc
 
-word_fits : (bs : List ℕ) → list_all is_word_byte (take (word_run bs) bs) ≡ true
-word_fits [] = refl
-word_fits (b ∷ bs) = fits_by b bs (is_word_byte b) refl (word_fits bs)
+identifier : (b : ℕ) (bs : List ℕ) → is_letter b ≡ true → Longest (b ∷ bs) sort.Identifier (suc (run is_word_byte bs))
+identifier b bs l =
+    longest_of sort.Identifier b bs (run is_word_byte bs) (run_within is_word_byte bs) (ap (λ y. y && list_all is_word_byte (take (run is_word_byte bs) bs)) l ∙ run_fits is_word_byte bs)
+    (λ m lt le e. run_stops is_word_byte bs m lt le (both_right _ _ e))
 
-word_stops : (bs : List ℕ) (m : ℕ) → word_run bs < m → m ≤ length bs → list_all is_word_byte (take m bs) ≢ true
-word_stops [] m lt le e = absurd (omega arith)
-word_stops (b ∷ bs) zero lt le e = absurd (omega arith)
-word_stops (b ∷ bs) (suc m) lt le e =
-    let le' : m ≤ length bs = omega arith in
-    stops_by b bs (is_word_byte b) m refl lt (λ more. word_stops bs m more le') e
+-- a piece of one byte
+one_byte : (k : Sort) (b : ℕ) (bs : List ℕ) → fits k (b ∷ []) ≡ true → ((c : ℕ) (r cs : List ℕ) → bs ≡ c ∷ cs → fits k (b ∷ c ∷ r) ≢ true) → Longest (b ∷ bs) k 1
+one_byte k b bs f never = longest_of k b bs 0 (omega arith) f (more bs never)
+  where
+    more : (bs : List ℕ) → ((c : ℕ) (r cs : List ℕ) → bs ≡ c ∷ cs → fits k (b ∷ c ∷ r) ≢ true) → (m : ℕ) → 0 < m → m ≤ length bs → fits k (b ∷ take m bs) ≢ true
+    more bs never zero lt le e = absurd (omega arith)
+    more [] never (suc m) lt le e = absurd (omega arith)
+    more (c ∷ cs) never (suc m) lt le e = never c (take m cs) cs refl e
 
-word_within : (bs : List ℕ) → word_run bs ≤ length bs
-word_within [] = omega arith
-word_within (b ∷ bs) = within_by b bs (is_word_byte b) (word_within bs)
+two_bytes : (b c : ℕ) (cs : List ℕ) → is_some (long_symbol b c) ≡ true → Longest (b ∷ c ∷ cs) sort.Symbol 2
+two_bytes b c cs f = longest_of sort.Symbol b (c ∷ cs) 1 (omega arith) f (more cs)
+  where
+    more : (cs : List ℕ) (m : ℕ) → 1 < m → m ≤ length (c ∷ cs) → fits sort.Symbol (b ∷ take m (c ∷ cs)) ≢ true
+    more cs zero lt le e = absurd (omega arith)
+    more cs (suc zero) lt le e = absurd (omega arith)
+    more [] (suc (suc m)) lt le e = absurd (omega arith)
+    more (d ∷ ds) (suc (suc m)) lt le e = false≢true e
+
+-- the piece that is answered is the longest, and none is where none fits
+abbrev IsLongest : List ℕ → Option (Sort × ℕ) → Type 0
+IsLongest s r = MatchOption r (NoneFits s) (λ p. Longest s p.0 p.1)
+
+slashes : (b c : ℕ) (cs : List ℕ) → (b == 47) ≡ true → (c == 47) ≡ true → Longest (b ∷ c ∷ cs) sort.Comment (suc (suc (run is_comment_byte cs)))
+slashes b c cs f g = longest_of sort.Comment b (c ∷ cs) (suc n) (omega (arith, run_within is_comment_byte cs)) is longer
+  where
+    n : ℕ
+    n = run is_comment_byte cs
+
+    is : fits sort.Comment (b ∷ c ∷ take (run is_comment_byte cs) cs) ≡ true
+    is =
+        ap (λ y. y && (c == 47 && list_all is_comment_byte (take (run is_comment_byte cs) cs))) f
+        ∙ (ap (λ y. y && list_all is_comment_byte (take (run is_comment_byte cs) cs)) g ∙ run_fits is_comment_byte cs)
+
+    longer : (m : ℕ) → suc (run is_comment_byte cs) < m → m ≤ length (c ∷ cs) → fits sort.Comment (b ∷ take m (c ∷ cs)) ≢ true
+    longer zero lt le e = absurd (omega arith)
+    longer (suc m) lt le e = run_stops is_comment_byte cs m (omega arith) (omega arith) (both_right _ _ (both_right _ _ e))
+
+lone_slash : (b c : ℕ) (cs : List ℕ) → (b == 47) ≡ true → (c == 47) ≡ false → NoneFits (b ∷ c ∷ cs)
+lone_slash b c cs f g = none_of sort.Comment b (c ∷ cs) (comment_first b f) none
+  where
+    none : (m : ℕ) → fits sort.Comment (b ∷ take m (c ∷ cs)) ≢ true
+    none zero e = false≢true e
+    none (suc m) e = false≢true (sym g ∙ both_left _ _ (both_right _ _ e))
+
+last_slash : (b : ℕ) → (b == 47) ≡ true → NoneFits (b ∷ [])
+last_slash b f = none_of sort.Comment b [] (comment_first b f) none
+  where
+    none : (m : ℕ) → fits sort.Comment (b ∷ take m []) ≢ true
+    none zero e = false≢true e
+    none (suc m) e = false≢true e
+
+slash_by : (b c : ℕ) (cs : List ℕ) (y : Bool) → (b == 47) ≡ true → (c == 47) ≡ y → IsLongest (b ∷ c ∷ cs) (cond y (Some (sort.Comment, suc (suc (run is_comment_byte cs)))) None)
+slash_by b c cs true f g = slashes b c cs f g
+slash_by b c cs false f g = lone_slash b c cs f g
+
+comment_is : (b : ℕ) (bs : List ℕ) → (b == 47) ≡ true → IsLongest (b ∷ bs) (comment bs)
+comment_is b [] f = last_slash b f
+comment_is b (c ∷ cs) f = slash_by b c cs (c == 47) f refl
 
 -- no symbol of two bytes stands here
 abbrev NoLong : ℕ → List ℕ → Type 0
 NoLong b [] = Unit {0}
 NoLong b (c ∷ cs) = is_some (long_symbol b c) ≡ false
 
-fits_two : (other : Sort) (b c : ℕ) (r : List ℕ) → is_letter b ≡ false → is_some (long_symbol b c) ≡ false → fits other (b ∷ c ∷ r) ≢ true
-fits_two sort.White b c r l s e = false≢true e
-fits_two sort.Identifier b c r l s e = false≢true (sym l ∙ both_left _ _ e)
-fits_two sort.Constant b c r l s e = false≢true e
-fits_two sort.Symbol b c [] l s e = false≢true (sym s ∙ e)
-fits_two sort.Symbol b c (d ∷ ds) l s e = false≢true e
+no_long : (b c : ℕ) (r bs cs : List ℕ) → NoLong b bs → bs ≡ c ∷ cs → fits sort.Symbol (b ∷ c ∷ r) ≢ true
+no_long b c [] bs cs never is e = false≢true (sym (subst (NoLong b) is never) ∙ e)
+no_long b c (d ∷ ds) bs cs never is e = false≢true e
 
-fits_three : (other : Sort) (b c d : ℕ) (r : List ℕ) → is_letter b ≡ false → fits other (b ∷ c ∷ d ∷ r) ≢ true
-fits_three sort.White b c d r l e = false≢true e
-fits_three sort.Identifier b c d r l e = false≢true (sym l ∙ both_left _ _ e)
-fits_three sort.Constant b c d r l e = false≢true e
-fits_three sort.Symbol b c d r l e = false≢true e
+module _ (b : ℕ) (no_brace : (b == 123) ≡ false) where
+  no_sort : is_letter b ≡ false → is_white b ≡ false → is_some (constant b) ≡ false → is_some (symbol b) ≡ false → (b == 47) ≡ false → first_sort b ≡ None
+  no_sort l w c s d = grind (arith, no_brace)
 
--- a piece of one byte where nothing longer fits
-one_byte : (k : Sort) (b : ℕ) (bs : List ℕ) → fits k (b ∷ []) ≡ true → is_letter b ≡ false → NoLong b bs → Longest (b ∷ bs) k 1
-one_byte k b bs f l s = record {
-  some = omega arith;
-  within = omega arith;
-  is_piece = f;
-  no_longer = longer b bs l s;
-}
+  module _ (l : is_letter b ≡ false) (w : is_white b ≡ false) (k : is_some (constant b) ≡ false) (d : (b == 47) ≡ false) where
+    short_by : (bs : List ℕ) (y : Bool) → is_some (symbol b) ≡ y → NoLong b bs → IsLongest (b ∷ bs) (cond y (Some (sort.Symbol, 1)) None)
+    short_by bs true s n = one_byte sort.Symbol b bs s (λ c r cs is. no_long b c r bs cs n is)
+    short_by bs false s n = none_first b bs (no_sort l w k s d)
+
+    long_by : (c : ℕ) (cs : List ℕ) (y : Bool) → is_some (long_symbol b c) ≡ y → IsLongest (b ∷ c ∷ cs) (cond y (Some (sort.Symbol, 2)) (cond (is_some (symbol b)) (Some (sort.Symbol, 1)) None))
+    long_by c cs true s = two_bytes b c cs s
+    long_by c cs false s = short_by (c ∷ cs) (is_some (symbol b)) refl s
+
+    symbol_is : (bs : List ℕ) → IsLongest (b ∷ bs) (first_symbol b bs)
+    symbol_is [] = short_by [] (is_some (symbol b)) refl tt
+    symbol_is (c ∷ cs) = long_by c cs (is_some (long_symbol b c)) refl
+
+  comment_by : (bs : List ℕ) (y : Bool) → is_letter b ≡ false → is_white b ≡ false → is_some (constant b) ≡ false → (b == 47) ≡ y → IsLongest (b ∷ bs) (cond y (comment bs) (first_symbol b bs))
+  comment_by bs true l w k d = comment_is b bs d
+  comment_by bs false l w k d = symbol_is l w k d bs
+
+  constant_by : (bs : List ℕ) (y : Bool) → is_letter b ≡ false → is_white b ≡ false → is_some (constant b) ≡ y → IsLongest (b ∷ bs) (cond y (Some (sort.Constant, 1)) (cond (b == 47) (comment bs) (first_symbol b bs)))
+  constant_by bs true l w k = one_byte sort.Constant b bs k (λ c r cs is e. false≢true e)
+  constant_by bs false l w k = comment_by bs (b == 47) l w k refl
+
+  white_by : (bs : List ℕ) (y : Bool) → is_letter b ≡ false → is_white b ≡ y → IsLongest (b ∷ bs) (cond y (Some (sort.White, 1)) (cond (is_some (constant b)) (Some (sort.Constant, 1)) (cond (b == 47) (comment bs) (first_symbol b bs))))
+  white_by bs true l w = one_byte sort.White b bs w (λ c r cs is e. false≢true e)
+  white_by bs false l w = constant_by bs (is_some (constant b)) l w refl
+
+  letter_by : (bs : List ℕ) (y : Bool) → is_letter b ≡ y → IsLongest (b ∷ bs) (cond y (Some (sort.Identifier, suc (run is_word_byte bs))) (cond (is_white b) (Some (sort.White, 1)) (cond (is_some (constant b)) (Some (sort.Constant, 1)) (cond (b == 47) (comment bs) (first_symbol b bs)))))
+  letter_by bs true l = identifier b bs l
+  letter_by bs false l = white_by bs (is_white b) l refl
+
+  -- the code's answer is the longest piece
+  unbraced_is : (bs : List ℕ) → IsLongest (b ∷ bs) (unbraced b bs)
+  unbraced_is bs = letter_by bs (is_letter b) refl
+
+-- a text's longest piece, from its first byte and those after it
+pub unbraced_longest : (s : List ℕ) (r : Option (Sort × ℕ)) → 0 < length s → (get_or s 0 0 ≡ 123 → ⊥) → r ≡ unbraced (get_or s 0 0) (take (length s - 1) (drop 1 s)) → IsLongest s r
+unbraced_longest [] r lt never e = absurd (omega arith)
+unbraced_longest (b ∷ bs) r lt never e =
+    let all : take (length (b ∷ bs) - 1) bs ≡ bs = take_all (length (b ∷ bs) - 1) bs (omega arith) in
+    subst (IsLongest (b ∷ bs)) (sym (e ∙ ap (unbraced b) all)) (unbraced_is b (ne_eqb b 123 never) bs)
+
+-- a brace that is closed begins a name
+pub closed_name : (bs : List ℕ) (n : ℕ) → n ≡ inside bs → slice_get bs n ≡ Some 125 → Longest (123 ∷ bs) sort.Braced (n + 2)
+closed_name bs n is e =
+    let close : slice_get bs (inside bs) ≡ Some 125 = ap (slice_get bs) (sym is) ∙ e in
+    let size : suc (suc (inside bs)) ≡ n + 2 = omega arith in
+    subst (Longest (123 ∷ bs) sort.Braced) size
+    (longest_of sort.Braced 123 bs (suc (inside bs)) (omega (arith, slice_get_within bs (inside bs) 125 close)) (closes_at bs close)
+    (λ m lt le f. closes_no_longer bs m lt le f))
+
+-- nothing fits at a brace that begins no name
+pub open_none : (s : List ℕ) (n : ℕ) → slice_get s 0 ≡ Some 123 → 0 < n → Nameless n s → NoneFits s
+open_none [] n is lt never = let z : ⊥ = cc in absurd z
+open_none (b ∷ bs) n is lt never =
+    let same : b ≡ 123 = cc in
+    none_of sort.Braced b bs (ap first_sort same) (λ m e. never 0 (suc m) lt e)
+
+pub open_front : (s : List ℕ) (n : ℕ) → slice_get s 0 ≡ Some 123 → 0 < n → Nameless n s → IsFront s (front.OpenBrace n)
+open_front s n is lt never = (open_none s n is lt never, is, lt, never)
+
+pub unclosed_front : (bs : List ℕ) (n : ℕ) → n ≡ inside bs → slice_get bs n ≢ Some 125 → IsFront (123 ∷ bs) (front.OpenBrace (n + 1))
+unclosed_front bs n is never =
+    let size : suc (inside bs) ≡ n + 1 = omega arith in
+    let here : slice_get bs (inside bs) ≢ Some 125 = λ h. never (ap (slice_get bs) is ∙ h) in
+    open_front (123 ∷ bs) (n + 1) refl (omega arith) (subst (λ m. Nameless m (123 ∷ bs)) size (unclosed 123 bs here))
+
+pub brace_first : (s : List ℕ) → 0 < length s → get_or s 0 0 ≡ 123 → slice_get s 0 ≡ Some 123
+brace_first s lt e = slice_get-get_or s 0 0 lt ∙ ap (λ x. Some x) e
+
+pub other_first : (s : List ℕ) → 0 < length s → (get_or s 0 0 ≡ 123 → ⊥) → slice_get s 0 ≢ Some 123
+other_first s lt never e =
+    let f : slice_get s 0 ≡ Some (get_or s 0 0) = slice_get-get_or s 0 0 lt in
+    never cc
+
+-- each text that isn't empty begins in one of the ways
+has_front_braced : (bs : List ℕ) (o : Option ℕ) → slice_get bs (inside bs) ≡ o → (f : Front) × IsFront (123 ∷ bs) f
+has_front_braced bs None e = (front.OpenBrace (inside bs + 1), unclosed_front bs (inside bs) refl (λ h. let z : ⊥ = cc in z))
+has_front_braced bs (Some x) e =
+    ⊎_elim
+    (λ h. (front.Piece sort.Braced (inside bs + 2), closed_name bs (inside bs) refl (e ∙ ap (λ y. Some y) h)))
+    (λ never. (front.OpenBrace (inside bs + 1), unclosed_front bs (inside bs) refl (λ h. never (let z : x ≡ 125 = cc in z))))
+    (cases_eq x 125)
+
+not_brace : (b : ℕ) → (b == 123) ≡ false → Some b ≢ Some 123
+not_brace b e h =
+    let same : b ≡ 123 = cc in
+    false≢true (sym e ∙ ap (λ x. x == 123) same)
+
+has_front_by : (b : ℕ) (bs : List ℕ) (y : Bool) → (b == 123) ≡ y → (f : Front) × IsFront (b ∷ bs) f
+has_front_by b bs true e = subst (λ x. (f : Front) × IsFront (x ∷ bs) f) (sym (eqb-true b 123 e)) (has_front_braced bs (slice_get bs (inside bs)) refl)
+has_front_by b bs false e = of_piece (unbraced b bs) (unbraced_is b e bs)
   where
-    longer : (b : ℕ) (bs : List ℕ) → is_letter b ≡ false → NoLong b bs → (other : Sort) (m : ℕ) → 1 < m → m ≤ length (b ∷ bs) → fits other (take m (b ∷ bs)) ≢ true
-    longer b bs l s other zero lt le e = absurd (omega arith)
-    longer b bs l s other (suc zero) lt le e = absurd (omega arith)
-    longer b [] l s other (suc (suc m)) lt le e = absurd (omega arith)
-    longer b (c ∷ cs) l s other (suc (suc m)) lt le e = fits_two other b c (take m cs) l s e
+    of_piece : (r : Option (Sort × ℕ)) → IsLongest (b ∷ bs) r → (f : Front) × IsFront (b ∷ bs) f
+    of_piece None none = (front.BadByte, (none, not_brace b e))
+    of_piece (Some p) l = (front.Piece p.0 p.1, l)
 
-two_bytes : (b c : ℕ) (cs : List ℕ) → is_some (long_symbol b c) ≡ true → is_letter b ≡ false → Longest (b ∷ c ∷ cs) sort.Symbol 2
-two_bytes b c cs f l = record {
-  some = omega arith;
-  within = omega arith;
-  is_piece = f;
-  no_longer = longer b c cs l;
-}
-  where
-    longer : (b c : ℕ) (cs : List ℕ) → is_letter b ≡ false → (other : Sort) (m : ℕ) → 2 < m → m ≤ length (b ∷ c ∷ cs) → fits other (take m (b ∷ c ∷ cs)) ≢ true
-    longer b c cs l other zero lt le e = absurd (omega arith)
-    longer b c cs l other (suc zero) lt le e = absurd (omega arith)
-    longer b c cs l other (suc (suc zero)) lt le e = absurd (omega arith)
-    longer b c [] l other (suc (suc (suc m))) lt le e = absurd (omega arith)
-    longer b c (d ∷ cs) l other (suc (suc (suc m))) lt le e = fits_three other b c d (take m cs) l e
-
-identifier : (b : ℕ) (bs : List ℕ) → is_letter b ≡ true → Longest (b ∷ bs) sort.Identifier (suc (word_run bs))
-identifier b bs l = record {
-  some = omega arith;
-  within = omega (arith, word_within bs);
-  is_piece = ap (λ y. y && list_all is_word_byte (take (word_run bs) bs)) l ∙ word_fits bs;
-  no_longer = longer;
-}
-  where
-    apart : {k : Sort} → first_sort b ≡ Some sort.Identifier → first_sort b ≡ Some k → sort.Identifier ≡ k
-    apart p q = cc
-
-    same : (other : Sort) (r : List ℕ) → fits other (b ∷ r) ≡ true → list_all is_word_byte r ≡ true
-    same sort.Identifier r e = both_right _ _ e
-    same sort.White r e = let d : sort.Identifier ≡ sort.White = apart (letter_first b l) (sort_by_first sort.White b r e) in cc
-    same sort.Constant r e = let d : sort.Identifier ≡ sort.Constant = apart (letter_first b l) (sort_by_first sort.Constant b r e) in cc
-    same sort.Symbol r e = let d : sort.Identifier ≡ sort.Symbol = apart (letter_first b l) (sort_by_first sort.Symbol b r e) in cc
-
-    longer : (other : Sort) (m : ℕ) → suc (word_run bs) < m → m ≤ length (b ∷ bs) → fits other (take m (b ∷ bs)) ≢ true
-    longer other zero lt le e = absurd (omega arith)
-    longer other (suc m) lt le e = word_stops bs m (omega arith) (omega arith) (same other (take m bs) e)
-
-none_fits : (s : List ℕ) → ((b : ℕ) (bs : List ℕ) → s ≡ b ∷ bs → first_sort b ≡ None) → NoneFits s
-none_fits [] h k m lt le e = absurd (omega arith)
-none_fits (b ∷ bs) h k zero lt le e = absurd (omega arith)
-none_fits (b ∷ bs) h k (suc m) lt le e =
-    let p : first_sort b ≡ None = h b bs refl in
-    let q : first_sort b ≡ Some k = sort_by_first k b (take m bs) e in
-    cc
-
--- what `longest` answers
-abbrev pub IsLongest : List ℕ → Option (Sort × ℕ) → Type 0
-IsLongest s r = MatchOption r (NoneFits s) (λ p. Longest s p.0 p.1)
-
-module _ (b : ℕ) (not_letter : is_letter b ≡ false) where
-  no_sort : is_white b ≡ false → is_some (constant b) ≡ false → is_some (symbol b) ≡ false → first_sort b ≡ None
-  no_sort w c s = grind (arith, not_letter)
-
-  first_by : (bs : List ℕ) (y : Bool) → is_white b ≡ false → is_some (constant b) ≡ false → is_some (symbol b) ≡ y → NoLong b bs → IsLongest (b ∷ bs) (cond y (Some (sort.Symbol, 1)) None)
-  first_by bs true w c s n = one_byte sort.Symbol b bs s not_letter n
-  first_by bs false w c s n = none_fits (b ∷ bs) (λ x xs e. let h : b ≡ x = cc in subst (λ z. first_sort z ≡ None) h (no_sort w c s))
-
-  long_by : (d : ℕ) (ds : List ℕ) (y : Bool) → is_white b ≡ false → is_some (constant b) ≡ false → is_some (long_symbol b d) ≡ y → IsLongest (b ∷ d ∷ ds) (cond y (Some (sort.Symbol, 2)) (cond (is_some (symbol b)) (Some (sort.Symbol, 1)) None))
-  long_by d ds true w c e = two_bytes b d ds e not_letter
-  long_by d ds false w c e = first_by (d ∷ ds) (is_some (symbol b)) w c refl e
-
-  symbol_by : (bs : List ℕ) → is_white b ≡ false → is_some (constant b) ≡ false → IsLongest (b ∷ bs) (first_symbol b bs)
-  symbol_by [] w c = first_by [] (is_some (symbol b)) w c refl tt
-  symbol_by (d ∷ ds) w c = long_by d ds (is_some (long_symbol b d)) w c refl
-
-  -- a sort whose pieces have one byte begins no long symbol
-  no_long_by : (k : Sort) (bs : List ℕ) → (sort.Symbol ≡ k → ⊥) → first_sort b ≡ Some k → NoLong b bs
-  no_long_by k [] ne f = tt
-  no_long_by k (d ∷ ds) ne f = no_long_here (is_some (long_symbol b d)) refl
-    where
-      no_long_here : (y : Bool) → is_some (long_symbol b d) ≡ y → is_some (long_symbol b d) ≡ false
-      no_long_here true e = absurd (ne (let q : first_sort b ≡ Some sort.Symbol = long_symbol_first b d e in cc))
-      no_long_here false e = e
-
-  constant_by : (bs : List ℕ) (y : Bool) → is_white b ≡ false → is_some (constant b) ≡ y → IsLongest (b ∷ bs) (cond y (Some (sort.Constant, 1)) (first_symbol b bs))
-  constant_by bs true w c = one_byte sort.Constant b bs c not_letter (no_long_by sort.Constant bs (λ e. cc) (constant_first b c))
-  constant_by bs false w c = symbol_by bs w c
-
-  white_by : (bs : List ℕ) (y : Bool) → is_white b ≡ y → IsLongest (b ∷ bs) (cond y (Some (sort.White, 1)) (cond (is_some (constant b)) (Some (sort.Constant, 1)) (first_symbol b bs)))
-  white_by bs true w = one_byte sort.White b bs w not_letter (no_long_by sort.White bs (λ e. cc) (white_first b w))
-  white_by bs false w = constant_by bs (is_some (constant b)) w refl
-
-letter_by : (b : ℕ) (bs : List ℕ) (y : Bool) → is_letter b ≡ y → IsLongest (b ∷ bs) (cond y (Some (sort.Identifier, suc (word_run bs))) (cond (is_white b) (Some (sort.White, 1)) (cond (is_some (constant b)) (Some (sort.Constant, 1)) (first_symbol b bs))))
-letter_by b bs true l = identifier b bs l
-letter_by b bs false l = white_by b l bs (is_white b) refl
-
--- the code's answer is the longest piece
-pub longest_is : (s : List ℕ) → IsLongest s (longest s)
-longest_is [] = none_fits [] (λ b bs e. cc)
-longest_is (b ∷ bs) = letter_by b bs (is_letter b) refl
+has_front : (b : ℕ) (bs : List ℕ) → (f : Front) × IsFront (b ∷ bs) f
+has_front b bs = has_front_by b bs (b == 123) refl
 
 -- two longest pieces of one text are one
 one_length : (s : List ℕ) (k j : Sort) (m n : ℕ) → Longest s k m → Longest s j n → m ≡ n
@@ -277,30 +334,38 @@ one_cut _ _ _ _ (piece at s k m ps l c) (piece _ _ j n qs l' c') =
     let f : k ≡ j = one_sort s k j m l.some l.within l.is_piece (subst (λ x. fits j (take x s) ≡ true) (sym e) l'.is_piece) in
     let ih : ps ≡ qs = one_cut _ _ _ _ c (subst (λ x. IsCut (at + x) (drop x s) qs) (sym e) c') in
     λ i. Fit (f i) at (take (e i) s) ∷ ih i
-one_cut _ _ _ _ (piece at s k m ps l c) (bad_byte _ b bs qs none c') = absurd (none_and_some _ k m none l)
-one_cut _ _ _ _ (bad_byte at b s ps none c) (piece _ _ j n qs l c') = absurd (none_and_some _ j n none l)
-one_cut _ _ _ _ (bad_byte at b s ps none c) (bad_byte _ _ _ qs none' c') = ap (λ x. Bad at ∷ x) (one_cut _ _ _ _ c c')
+one_cut _ _ _ _ (piece at s k m ps l c) (open_brace _ b bs qs none is c') = absurd (none_and_some _ k m none l)
+one_cut _ _ _ _ (piece at s k m ps l c) (bad_byte _ b bs qs none never c') = absurd (none_and_some _ k m none l)
+one_cut _ _ _ _ (open_brace at b s ps none is c) (piece _ _ j n qs l c') = absurd (none_and_some _ j n none l)
+one_cut _ _ _ _ (open_brace at b s ps none is c) (open_brace _ _ _ qs none' is' c') = ap (λ x. Brace at ∷ x) (one_cut _ _ _ _ c c')
+one_cut _ _ _ _ (open_brace at b s ps none is c) (bad_byte _ _ _ qs none' never c') = absurd (never is)
+one_cut _ _ _ _ (bad_byte at b s ps none never c) (piece _ _ j n qs l c') = absurd (none_and_some _ j n none l)
+one_cut _ _ _ _ (bad_byte at b s ps none never c) (open_brace _ _ _ qs none' is c') = absurd (never is)
+one_cut _ _ _ _ (bad_byte at b s ps none never c) (bad_byte _ _ _ qs none' never' c') = ap (λ x. Bad at ∷ x) (one_cut _ _ _ _ c c')
 
 -- each text has a cut
 has_cut_within : (f at : ℕ) (s : List ℕ) → length s ≤ f → (ps : List Piece) × IsCut at s ps
 has_cut_within zero at [] le = ([], ends at)
 has_cut_within zero at (b ∷ bs) le = absurd (omega arith)
 has_cut_within (suc f) at [] le = ([], ends at)
-has_cut_within (suc f) at (b ∷ bs) le = cut_by (longest (b ∷ bs)) (longest_is (b ∷ bs)) (has_cut_within f)
+has_cut_within (suc f) at (b ∷ bs) le = let h = has_front b bs in cut_by h.0 h.1 (has_cut_within f)
   where
-    cut_by : (r : Option (Sort × ℕ)) → IsLongest (b ∷ bs) r → ((at : ℕ) (s : List ℕ) → length s ≤ f → (ps : List Piece) × IsCut at s ps) → (ps : List Piece) × IsCut at (b ∷ bs) ps
-    cut_by None none rest = let c = rest (at + 1) bs (omega arith) in (Bad at ∷ c.0, bad_byte at b bs c.0 none c.1)
-    cut_by (Some p) l rest =
+    cut_by : (r : Front) → IsFront (b ∷ bs) r → ((at : ℕ) (s : List ℕ) → length s ≤ f → (ps : List Piece) × IsCut at s ps) → (ps : List Piece) × IsCut at (b ∷ bs) ps
+    cut_by (front.OpenBrace n) is rest =
+        let c = rest (at + 1) bs (omega arith) in
+        let same : b ≡ 123 = let h = is.1 in cc in
+        (Brace at ∷ c.0, open_brace at b bs c.0 is.0 same c.1)
+    cut_by front.BadByte is rest =
+        let c = rest (at + 1) bs (omega arith) in
+        (Bad at ∷ c.0, bad_byte at b bs c.0 is.0 (λ h. is.1 (ap (λ x. Some x) h)) c.1)
+    cut_by (front.Piece k n) l rest =
         let lt = l.some in
-        let shorter : length (drop p.1 (b ∷ bs)) ≤ f = omega (arith, length-drop p.1 (b ∷ bs)) in
-        let c = rest (at + p.1) (drop p.1 (b ∷ bs)) shorter in
-        (Fit p.0 at (take p.1 (b ∷ bs)) ∷ c.0, piece at (b ∷ bs) p.0 p.1 c.0 l c.1)
+        let shorter : length (drop n (b ∷ bs)) ≤ f = omega (arith, length-drop n (b ∷ bs)) in
+        let c = rest (at + n) (drop n (b ∷ bs)) shorter in
+        (Fit k at (take n (b ∷ bs)) ∷ c.0, piece at (b ∷ bs) k n c.0 l c.1)
 
 pub has_cut : (at : ℕ) (s : List ℕ) → (ps : List Piece) × IsCut at s ps
 has_cut at s = has_cut_within (length s) at s (omega arith)
-
-pub answer_is : (s : List ℕ) (r : Option (Sort × ℕ)) → r ≡ longest s → IsLongest s r
-answer_is s r e = subst (IsLongest s) (sym e) (longest_is s)
 
 ascii_cons : (b : ℕ) (bs : List ℕ) → b < 128 → IsAscii bs → IsAscii (b ∷ bs)
 ascii_cons b bs h t zero = h
@@ -316,28 +381,41 @@ word_ascii : (bs : List ℕ) → list_all is_word_byte bs ≡ true → IsAscii b
 word_ascii [] h = λ i. omega arith
 word_ascii (b ∷ bs) h = ascii_cons b bs (word_byte_ascii b (both_left _ _ h)) (word_ascii bs (both_right _ _ h))
 
+braced_byte_ascii : (b : ℕ) → is_braced_byte b ≡ true → b < 128
+braced_byte_ascii b h = grind (arith, nat_tests)
+
 nil_ascii : IsAscii []
 nil_ascii i = omega arith
 
--- a piece has ASCII bytes alone
-piece_ascii : (k : Sort) (s : List ℕ) → fits k s ≡ true → IsAscii s
-piece_ascii sort.White (b ∷ []) h =
-    ascii_cons b [] (among (λ x. x < 128) b whites (omega arith, (omega arith, (omega arith, (omega arith, tt)))) h) nil_ascii
-piece_ascii sort.Identifier (b ∷ bs) h = ascii_cons b bs (letter_ascii b (both_left _ _ h)) (word_ascii bs (both_right _ _ h))
-piece_ascii sort.Constant (b ∷ []) h = ascii_cons b [] (keyed (λ x. x < 128) b constants (omega arith, (omega arith, tt)) h) nil_ascii
-piece_ascii sort.Symbol (b ∷ []) h =
+-- the byte is one of the given number
+byte_ascii : (b n : ℕ) → (b == n) ≡ true → n < 128 → b < 128
+byte_ascii b n e lt = let h = eqb-true b n e in omega arith
+
+closes_ascii : (bs : List ℕ) → closes bs ≡ true → IsAscii bs
+closes_ascii [] h = absurd (false≢true h)
+closes_ascii (b ∷ []) h = ascii_cons b [] (byte_ascii b 125 h (omega arith)) nil_ascii
+closes_ascii (b ∷ c ∷ bs) h = ascii_cons b (c ∷ bs) (braced_byte_ascii b (both_left _ _ h)) (closes_ascii (c ∷ bs) (both_right _ _ h))
+
+-- what is a token has ASCII bytes alone
+piece_ascii : (k : Sort) (s : List ℕ) (kd : Kind) → fits k s ≡ true → kind_of k s ≡ Some kd → IsAscii s
+piece_ascii sort.White s kd h e = let z : ⊥ = cc in absurd z
+piece_ascii sort.Comment s kd h e = let z : ⊥ = cc in absurd z
+piece_ascii sort.Identifier [] kd h e = absurd (false≢true h)
+piece_ascii sort.Identifier (b ∷ bs) kd h e = ascii_cons b bs (letter_ascii b (both_left _ _ h)) (word_ascii bs (both_right _ _ h))
+piece_ascii sort.Braced [] kd h e = absurd (false≢true h)
+piece_ascii sort.Braced (b ∷ bs) kd h e = ascii_cons b bs (byte_ascii b 123 (both_left _ _ h) (omega arith)) (closes_ascii bs (both_right _ _ h))
+piece_ascii sort.Constant [] kd h e = absurd (false≢true h)
+piece_ascii sort.Constant (b ∷ []) kd h e = ascii_cons b [] (keyed (λ x. x < 128) b constants (omega arith, (omega arith, tt)) h) nil_ascii
+piece_ascii sort.Constant (b ∷ c ∷ bs) kd h e = absurd (false≢true h)
+piece_ascii sort.Symbol [] kd h e = absurd (false≢true h)
+piece_ascii sort.Symbol (b ∷ []) kd h e =
     ascii_cons b [] (keyed (λ x. x < 128) b symbols (omega arith, (omega arith, (omega arith, (omega arith, (omega arith, (omega arith, (omega arith, (omega arith, (omega arith, (omega arith, (omega arith, tt))))))))))) h) nil_ascii
-piece_ascii sort.Symbol (b ∷ c ∷ []) h =
+piece_ascii sort.Symbol (b ∷ c ∷ []) kd h e =
     let f = found (λ (p : ℕ × ℕ). nat_eq b p.0 && nat_eq c p.1) (λ p. (p.0 < 128) × (p.1 < 128)) long_symbols ((omega arith, omega arith), ((omega arith, omega arith), ((omega arith, omega arith), tt))) h in
     ascii_cons b (c ∷ []) (subst (λ x. x < 128) (sym (eqb-true b f.0.0 (both_left _ _ f.1))) f.2.0)
     (ascii_cons c [] (subst (λ x. x < 128) (sym (eqb-true c f.0.1 (both_right _ _ f.1))) f.2.1) nil_ascii)
-piece_ascii sort.White [] h = absurd (false≢true h)
-piece_ascii sort.White (b ∷ c ∷ bs) h = absurd (false≢true h)
-piece_ascii sort.Identifier [] h = absurd (false≢true h)
-piece_ascii sort.Constant [] h = absurd (false≢true h)
-piece_ascii sort.Constant (b ∷ c ∷ bs) h = absurd (false≢true h)
-piece_ascii sort.Symbol [] h = absurd (false≢true h)
-piece_ascii sort.Symbol (b ∷ c ∷ d ∷ bs) h = absurd (false≢true h)
+piece_ascii sort.Symbol (b ∷ c ∷ d ∷ bs) kd h e = absurd (false≢true h)
 
-pub piece_is_text : (k : Sort) (s : List ℕ) → fits k s ≡ true → IsUtf8 s
-piece_is_text k s h = IsUtf8-from_ascii s (piece_ascii k s h)
+-- the bytes of a token are text
+pub token_is_text : (k : Sort) (s : List ℕ) (kd : Kind) → fits k s ≡ true → kind_of k s ≡ Some kd → IsUtf8 s
+token_is_text k s kd h e = IsUtf8-from_ascii s (piece_ascii k s kd h e)

@@ -5,7 +5,7 @@ use Rattle.std.proofs.lemmas.Result.{err_from_is_err_and}
 use Rattle.bp_tree.specs.Ast.{Program}
 use Rattle.bp_syntax.specs.Limits.{text_limit}
 use Rattle.bp_syntax.specs.Tokens.{Token, fits, kind_of}
-use Rattle.bp_syntax.specs.Cut.{Piece, IsCut, ends, piece, bad_byte, first_bad, tokens_of, token_and, HasTokens, HasBadByte}
+use Rattle.bp_syntax.specs.Cut.{Piece, IsCut, ends, piece, open_brace, bad_byte, first_bad, first_open, tokens_of, token_and, HasTokens, HasBadByte, HasOpenName}
 use Rattle.bp_syntax.specs.Scan.{IsScanFault}
 use Rattle.bp_syntax.specs.Grammar.{Derives}
 use Rattle.bp_syntax.specs.Opens.{AllReal, Opens, HasSyntaxFault}
@@ -30,6 +30,11 @@ good_or_bad text ts at a b =
     let e : None ≡ Some at = sym a.good ∙ ap first_bad (one_cut 0 text a.pieces b.pieces a.cut b.cut) ∙ b.bad in
     cc
 
+closed_or_open : (text : List ℕ) (ts : List Token) (at : ℕ) → HasTokens text ts → HasOpenName text at → ⊥
+closed_or_open text ts at a b =
+    let e : None ≡ Some at = sym a.closed ∙ ap first_open (one_cut 0 text a.pieces b.pieces a.cut b.cut) ∙ b.unclosed in
+    cc
+
 real_and : (k : Sort) (o : Option Kind) (at : ℕ) (bytes : List ℕ) (ts : List Token) → fits k bytes ≡ true → kind_of k bytes ≡ o → AllReal ts → AllReal (token_and o at bytes ts)
 real_and k None at bytes ts f e r = r
 real_and k (Some kd) at bytes ts f e r = (record { sort = k; fits = f; spells = e }, r)
@@ -38,7 +43,8 @@ real_and k (Some kd) at bytes ts f e r = (record { sort = k; fits = f; spells = 
 all_real : {at : ℕ} {s : List ℕ} {ps : List Piece} → IsCut at s ps → AllReal (tokens_of ps)
 all_real (ends at) = tt
 all_real (piece at s k n ps l c) = real_and k (kind_of k (take n s)) at (take n s) (tokens_of ps) l.is_piece refl (all_real c)
-all_real (bad_byte at b s ps none c) = all_real c
+all_real (open_brace at b s ps none is c) = all_real c
+all_real (bad_byte at b s ps none never c) = all_real c
 
 real_rest : (front rest : List Token) → AllReal (front ++ rest) → AllReal rest
 real_rest [] rest r = r
@@ -67,6 +73,7 @@ no_syntax_fault text ts at p real d f =
 only_memory : (text : List ℕ) (p : Program) (e : ReadFault) → IsTextOf text p → IsFault text e → e ≡ fault.Memory
 only_memory text p fault.TooLong t f = let s = t.short in absurd (omega arith)
 only_memory text p (fault.BadByte at) t f = absurd (good_or_bad text t.tokens at t.scanned f.1)
+only_memory text p (fault.OpenName at) t f = absurd (closed_or_open text t.tokens at t.scanned f.1)
 only_memory text p (fault.TooManyTokens at) t f =
     let b = f.3 in
     let sparse : IsSparse (b.front ++ b.token ∷ b.rest) = subst IsSparse (same_tokens text t.tokens f.1 t.scanned f.2 ∙ b.parts) t.sparse in
@@ -76,7 +83,6 @@ only_memory text p (fault.Syntax at) t f =
     let same = same_tokens text f.1 t.tokens f.2 t.scanned in
     absurd (no_syntax_fault text t.tokens at p real t.derives (subst (λ l. HasSyntaxFault text l at) same f.4))
 only_memory text p fault.Memory t f = refl
-only_memory text p (fault.OpenName at) t f = absurd f
 only_memory text p (fault.TooNested at) t f = absurd f
 
 -- a program's text has one tree
@@ -91,9 +97,9 @@ only_answer text (Err e) a p t = only_memory text p e t a
 
 pub scan_fault : (text : List ℕ) (e : ReadFault) → length text ≤ text_limit → IsScanFault text e → IsFault text e
 scan_fault text (fault.BadByte at) le f = (le, f)
+scan_fault text (fault.OpenName at) le f = (le, f)
 scan_fault text fault.Memory le f = tt
 scan_fault text fault.TooLong le f = absurd f
-scan_fault text (fault.OpenName at) le f = absurd f
 scan_fault text (fault.TooNested at) le f = absurd f
 scan_fault text (fault.TooManyTokens at) le f = absurd f
 scan_fault text (fault.Syntax at) le f = absurd f

@@ -3,7 +3,7 @@ use Rattle.std.specs.Prelude.{ℕ, ◌<◌, ◌≤◌, List, length}
 use Rattle.bp_tree.specs.Ast.{Program}
 use Rattle.bp_syntax.specs.Limits.{text_limit}
 use Rattle.bp_syntax.specs.Tokens.{Token}
-use Rattle.bp_syntax.specs.Cut.{HasTokens, HasBadByte}
+use Rattle.bp_syntax.specs.Cut.{HasTokens, HasBadByte, HasOpenName}
 use Rattle.bp_syntax.specs.Grammar.{Derives}
 use Rattle.bp_syntax.specs.Opens.{BreaksAt, HasSyntaxFault}
 use Rattle.bp_syntax.specs.Successions.{IsSparse}
@@ -26,6 +26,7 @@ HasText p = ∥ ((text : List ℕ) × IsTextOf text p) ∥₁
 abbrev pub IsFault : List ℕ → ReadFault → Type 0
 IsFault text fault.TooLong = text_limit < length text
 IsFault text (fault.BadByte at) = (length text ≤ text_limit) × HasBadByte text at
+IsFault text (fault.OpenName at) = (length text ≤ text_limit) × HasOpenName text at
 IsFault text (fault.TooManyTokens at) =
     (length text ≤ text_limit) × (tokens : List Token) × HasTokens text tokens × BreaksAt IsSparse tokens at
 IsFault text (fault.Syntax at) =

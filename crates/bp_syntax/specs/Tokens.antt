@@ -1,5 +1,5 @@
 -- What the bytes of a text spell: the sorts of pieces, and the kinds of tokens.
-use Rattle.std.specs.Prelude.{◌≡◌, ℕ, Bool, true, false, ◌||◌, ◌&&◌, ◌==◌, nat_eq, is_some, List, [], ◌∷◌, Option, Some, None}
+use Rattle.std.specs.Prelude.{◌≡◌, ℕ, Bool, true, false, not, ◌||◌, ◌&&◌, ◌==◌, nat_eq, nat_le, is_some, List, [], ◌∷◌, Option, Some, None}
 use Rattle.std.specs.Char.{is_ascii_alphabetic, is_ascii_alphanumeric}
 use Rattle.std.specs.List.{list_any, list_all}
 use Rattle.std.specs.Map.{lookup}
@@ -25,6 +25,20 @@ is_letter b = is_ascii_alphabetic b || b == 95
 -- a letter, an underscore or a digit: what an identifier goes on with
 abbrev pub is_word_byte : ℕ → Bool
 is_word_byte b = is_ascii_alphanumeric b || b == 95
+
+-- any byte but a line feed: what a comment goes on with
+abbrev pub is_comment_byte : ℕ → Bool
+is_comment_byte b = not (b == 10)
+
+-- a byte 32 to 126 but }: what may stand in a braced name
+abbrev pub is_braced_byte : ℕ → Bool
+is_braced_byte b = nat_le 32 b && (nat_le b 126 && not (b == 125))
+
+-- any number of such bytes, and }: what a brace goes on with in a name
+abbrev pub closes : List ℕ → Bool
+closes [] = false
+closes (b ∷ []) = b == 125
+closes (b ∷ c ∷ bs) = is_braced_byte b && closes (c ∷ bs)
 
 -- 0 1
 abbrev pub constants : List (ℕ × Kind)
@@ -62,15 +76,18 @@ word s = unwrap_or (lookup (bytes_eq s) reserved) kind.Name
 -- the bytes are one piece of the sort
 abbrev pub fits : Sort → List ℕ → Bool
 fits sort.White (b ∷ []) = is_white b
+fits sort.Comment (b ∷ c ∷ bs) = b == 47 && (c == 47 && list_all is_comment_byte bs)
 fits sort.Identifier (b ∷ bs) = is_letter b && list_all is_word_byte bs
+fits sort.Braced (b ∷ bs) = b == 123 && closes bs
 fits sort.Constant (b ∷ []) = is_some (constant b)
 fits sort.Symbol (b ∷ []) = is_some (symbol b)
 fits sort.Symbol (b ∷ c ∷ []) = is_some (long_symbol b c)
 fits _ _ = false
 
--- the kind of the token that such a piece is; white is none
+-- the kind of the token that such a piece is; white and comments are none
 abbrev pub kind_of : Sort → List ℕ → Option Kind
 kind_of sort.Identifier s = Some (word s)
+kind_of sort.Braced s = Some kind.Name
 kind_of sort.Constant (b ∷ []) = constant b
 kind_of sort.Symbol (b ∷ []) = symbol b
 kind_of sort.Symbol (b ∷ c ∷ []) = long_symbol b c

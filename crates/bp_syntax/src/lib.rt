@@ -2,6 +2,7 @@
 #![tactic(auto)]
 
 mod faults;
+mod fronts;
 pub mod limits;
 mod reader;
 mod scans;

@@ -1,5 +1,11 @@
-//! Texts with their trees and their faults.
+//! Texts with their tokens, their trees and their faults.
+ghost use Rattle.std.specs.Prelude.{◌≤◌, length};
+ghost use Rattle.bp_syntax.specs.Limits.{text_limit};
+
+use crate::scans::scan;
+use crate::tokens::Kind;
 use crate::{Decider, Expr, Form, ReadFault, has_one_cut, has_one_tree, read};
+use std::alloc::Global;
 use std::test::Fail;
 
 const SMALL: &[u8] = b"decl x, y; main() begin x, y := 1, x; assert (!y); end";
@@ -51,32 +57,131 @@ fn reads_statements(rt: HostRuntime) -> Result<(), Fail> {
     Ok(())
 }
 
+// Whether the tokens of the text are of these kinds.
+fn has_kinds(alloc: Global, text: &[u8], kinds: &[Kind]) -> Result<bool, ReadFault>
+    requires { length text.now ≤ text_limit }
+{
+    let tokens = scan(alloc, text)?;
+    let found = tokens.as_slice();
+    Ok(found.len() == kinds.len() && found.iter().zip(kinds).all(|(t, kind)| t.kind == *kind))
+}
+
+// Whether the text is refused for this fault.
+fn is_refused(alloc: Global, text: &[u8], fault: ReadFault) -> bool {
+    read(alloc, text).err() == Some(fault)
+}
+
+#[test]
+fn takes_the_longest_symbol(rt: HostRuntime) -> Result<(), Fail> {
+    let alloc = rt.alloc();
+    assert!(rt; has_kinds(alloc, b"!=", &[Kind::Differ])?);
+    assert!(rt; has_kinds(alloc, b"! =", &[Kind::Bang, Kind::Equal])?);
+    assert!(rt; has_kinds(alloc, b"=>", &[Kind::Implies])?);
+    assert!(rt; has_kinds(alloc, b":=", &[Kind::Becomes])?);
+    assert!(rt; has_kinds(alloc, b": =", &[Kind::Colon, Kind::Equal])?);
+    assert!(rt; has_kinds(alloc, b"!!==", &[Kind::Bang, Kind::Differ, Kind::Equal])?);
+    Ok(())
+}
+
+#[test]
+fn takes_the_longest_identifier(rt: HostRuntime) -> Result<(), Fail> {
+    let alloc = rt.alloc();
+    assert!(rt; has_kinds(alloc, b"end_", &[Kind::Name])?);
+    assert!(rt; has_kinds(alloc, b"ifx", &[Kind::Name])?);
+    assert!(rt; has_kinds(alloc, b"if x", &[Kind::If, Kind::Name])?);
+    assert!(rt; has_kinds(alloc, b"01x2", &[Kind::Zero, Kind::One, Kind::Name])?);
+    Ok(())
+}
+
+#[test]
+fn leaves_comments_out(rt: HostRuntime) -> Result<(), Fail> {
+    let alloc = rt.alloc();
+    assert!(rt; has_kinds(alloc, b"0// no end of line", &[Kind::Zero])?);
+    assert!(rt; has_kinds(alloc, b"0//\x80\xff\x00\n1", &[Kind::Zero, Kind::One])?);
+    assert!(rt; has_kinds(alloc, b"//{", &[])?);
+    assert!(rt; has_kinds(alloc, b"//\n//\n?", &[Kind::Question])?);
+    assert!(rt; is_refused(alloc, b"0 / /", ReadFault::BadByte(2)));
+    Ok(())
+}
+
+#[test]
+fn takes_braces_as_part_of_a_name(rt: HostRuntime) -> Result<(), Fail> {
+    let tree = read(rt.alloc(), b"decl {}, {a{b}, {a//b}, {if }, a;")?;
+    let globals = tree.globals();
+    assert_eq!(rt; globals.len(), 5);
+    assert_eq!(rt; globals[0].text(), "{}");
+    assert_eq!(rt; globals[1].text(), "{a{b}");
+    assert_eq!(rt; globals[2].text(), "{a//b}");
+    assert_eq!(rt; globals[3].text(), "{if }");
+    assert_eq!(rt; globals[3].at(), 24);
+    assert_eq!(rt; globals[4].text(), "a");
+    Ok(())
+}
+
+#[test]
+fn ends_a_name_at_its_first_closing_brace(rt: HostRuntime) -> Result<(), Fail> {
+    let alloc = rt.alloc();
+    assert!(rt; has_kinds(alloc, b"{a}{b}", &[Kind::Name, Kind::Name])?);
+    assert!(rt; is_refused(alloc, b"decl {a}};", ReadFault::BadByte(8)));
+    Ok(())
+}
+
+#[test]
+fn refuses_the_first_open_brace(rt: HostRuntime) -> Result<(), Fail> {
+    let alloc = rt.alloc();
+    assert!(rt;
+        is_refused(
+            alloc,
+            b"decl {p; main() begin skip; end",
+            ReadFault::OpenName(5)
+        )
+    );
+    assert!(rt; is_refused(alloc, b"decl {", ReadFault::OpenName(5)));
+    assert!(rt; is_refused(alloc, b"{a\nb", ReadFault::OpenName(0)));
+    assert!(rt; is_refused(alloc, b"{a}{\t{b}", ReadFault::OpenName(3)));
+    assert!(rt; is_refused(alloc, b"{ {// \x80", ReadFault::OpenName(0)));
+    Ok(())
+}
+
+#[test]
+fn reads_a_text_of_open_braces(rt: HostRuntime) -> Result<(), Fail> {
+    let alloc = rt.alloc();
+    let text = vec![in alloc; b'{'; 65_536]?;
+    assert!(rt; is_refused(alloc, text.as_slice(), ReadFault::OpenName(0)));
+    Ok(())
+}
+
+#[test]
+fn tells_a_bad_byte_before_an_open_brace(rt: HostRuntime) -> Result<(), Fail> {
+    let alloc = rt.alloc();
+    assert!(rt; is_refused(alloc, b"decl {p; > \x7f", ReadFault::BadByte(9)));
+    assert!(rt; is_refused(alloc, b"{a\nb}", ReadFault::BadByte(4)));
+    assert!(rt; is_refused(alloc, b"decl x y ; {", ReadFault::OpenName(11)));
+    Ok(())
+}
+
 #[test]
 fn refuses_at_the_first_fault(rt: HostRuntime) -> Result<(), Fail> {
     let alloc = rt.alloc();
-    assert_eq!(rt;
-        read(alloc, b"main() begin end").err(),
-        Some(ReadFault::Syntax(13))
+    assert!(rt; is_refused(alloc, b"main() begin end", ReadFault::Syntax(13)));
+    assert!(rt; is_refused(alloc, b"main() begin skip;", ReadFault::Syntax(18)));
+    assert!(rt; is_refused(alloc, b"main() begin x := 2; end", ReadFault::BadByte(18)));
+    assert!(rt;
+        is_refused(
+            alloc,
+            b"main() begin assert(?); skip end",
+            ReadFault::Syntax(29)
+        )
     );
-    assert_eq!(rt;
-        read(alloc, b"main() begin skip;").err(),
-        Some(ReadFault::Syntax(18))
-    );
-    assert_eq!(rt;
-        read(alloc, b"main() begin x := 2; end").err(),
-        Some(ReadFault::BadByte(18))
-    );
-    assert_eq!(rt; read(alloc, b"decl {").err(), Some(ReadFault::BadByte(5)));
-    assert_eq!(rt;
-        read(alloc, b"decl x y ; {").err(),
-        Some(ReadFault::BadByte(11))
-    );
-    assert_eq!(rt;
-        read(alloc, b"main() begin assert(?); skip end").err(),
-        Some(ReadFault::Syntax(29))
-    );
+    Ok(())
+}
+
+#[test]
+fn numbers_faults(rt: HostRuntime) -> Result<(), Fail> {
     assert_eq!(rt; ReadFault::TooLong.number(), 1);
     assert_eq!(rt; ReadFault::BadByte(0).number(), 2);
+    assert_eq!(rt; ReadFault::OpenName(0).number(), 3);
+    assert_eq!(rt; ReadFault::TooNested(0).number(), 4);
     assert_eq!(rt; ReadFault::TooManyTokens(0).number(), 5);
     assert_eq!(rt; ReadFault::Syntax(0).number(), 6);
     assert_eq!(rt; ReadFault::Memory.number(), 7);

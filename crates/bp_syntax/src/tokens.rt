@@ -1,13 +1,14 @@
 //! What the bytes of a text spell: the sorts of pieces, and the kinds of tokens.
-ghost use Rattle.std.specs.Prelude.{◌≡◌, ◌≤◌, length, [], ◌∷◌};
+ghost use Rattle.std.specs.Prelude.{◌≡◌};
 ghost use Rattle.bp_syntax.specs.Tokens as spelling;
-ghost use Rattle.bp_syntax.specs.Scan.{word_run, first_symbol, longest};
 
 /// The sort of a piece of a text.
 #[derive(Clone, Copy, Debug, PartialEq, Eq)]
 pub(crate) enum Sort {
     White,
+    Comment,
     Identifier,
+    Braced,
     Constant,
     Symbol,
 }
@@ -58,25 +59,37 @@ pub(crate) struct Token<'a> {
     pub(crate) text: &'a str,
 }
 
-fn is_white(b: u8) -> bool
+pub(crate) fn is_white(b: u8) -> bool
     ensures { result ≡ spelling.is_white b }
 {
     b == b' ' || b == b'\t' || b == b'\n' || b == b'\r'
 }
 
-fn is_letter(b: u8) -> bool
+pub(crate) fn is_letter(b: u8) -> bool
     ensures { result ≡ spelling.is_letter b }
 {
     b.is_ascii_alphabetic() || b == b'_'
 }
 
-fn is_word_byte(b: u8) -> bool
+pub(crate) fn is_word_byte(b: u8) -> bool
     ensures { result ≡ spelling.is_word_byte b }
 {
     b.is_ascii_alphanumeric() || b == b'_'
 }
 
-fn constant(b: u8) -> Option<Kind>
+pub(crate) fn is_comment_byte(b: u8) -> bool
+    ensures { result ≡ spelling.is_comment_byte b }
+{
+    b != b'\n'
+}
+
+pub(crate) fn is_braced_byte(b: u8) -> bool
+    ensures { result ≡ spelling.is_braced_byte b }
+{
+    32 <= b && b <= 126 && b != b'}'
+}
+
+pub(crate) fn constant(b: u8) -> Option<Kind>
     ensures { result ≡ spelling.constant b }
 {
     match b {
@@ -86,7 +99,7 @@ fn constant(b: u8) -> Option<Kind>
     }
 }
 
-fn symbol(b: u8) -> Option<Kind>
+pub(crate) fn symbol(b: u8) -> Option<Kind>
     ensures { result ≡ spelling.symbol b }
 {
     match b {
@@ -105,7 +118,7 @@ fn symbol(b: u8) -> Option<Kind>
     }
 }
 
-fn long_symbol(b: u8, c: u8) -> Option<Kind>
+pub(crate) fn long_symbol(b: u8, c: u8) -> Option<Kind>
     ensures { result ≡ spelling.long_symbol b c }
 {
     if b == b':' && c == b'=' {
@@ -144,60 +157,16 @@ fn word(text: &[u8]) -> Kind
     }
 }
 
-/// The kind of the token that a piece is. White is no token.
+/// The kind of the token that a piece is. White and comments are no tokens.
 pub(crate) fn kind_of(sort: Sort, text: &[u8]) -> Option<Kind>
     ensures { result ≡ spelling.kind_of sort text.now }
 {
     match (sort, text) {
         (Sort::Identifier, _) => Some(word(text)),
+        (Sort::Braced, _) => Some(Kind::Name),
         (Sort::Constant, [b]) => constant(*b),
         (Sort::Symbol, [b]) => symbol(*b),
         (Sort::Symbol, [b, c]) => long_symbol(*b, *c),
         _ => None,
-    }
-}
-
-// How many bytes of an identifier the text begins with.
-fn word_run(text: &[u8]) -> usize
-    ensures value { result ≡ word_run text.now }
-    ensures within { result ≤ length text.now }
-{
-    for (i, b) in text.iter().enumerate() {
-        if !is_word_byte(*b) {
-            return i;
-        }
-    }
-    text.len()
-}
-
-// The symbol that the text begins with, and its length.
-fn first_symbol(first: u8, rest: &[u8]) -> Option<(Sort, usize)>
-    ensures { result ≡ first_symbol first rest.now }
-{
-    if let Some(second) = rest.first() {
-        if long_symbol(first, *second).is_some() {
-            return Some((Sort::Symbol, 2));
-        }
-    }
-    if symbol(first).is_some() {
-        Some((Sort::Symbol, 1))
-    } else {
-        None
-    }
-}
-
-/// The longest piece that the text begins with, and its length; None where no piece fits.
-pub(crate) fn longest(text: &[u8]) -> Option<(Sort, usize)>
-    ensures { result ≡ longest text.now }
-{
-    let first = *text.first()?;
-    if is_letter(first) {
-        Some((Sort::Identifier, 1 + word_run(&text[1..])))
-    } else if is_white(first) {
-        Some((Sort::White, 1))
-    } else if constant(first).is_some() {
-        Some((Sort::Constant, 1))
-    } else {
-        first_symbol(first, &text[1..])
     }
 }

@@ -71,7 +71,7 @@ impl Tree {
 }
 
 /// Reads a program text. A refusal is the first that applies, each found over the whole text before the next:
-/// `TooLong`, `BadByte`, `TooManyTokens`, `Syntax`. `Memory` may come in any of these passes.
+/// `TooLong`, `BadByte`, `OpenName`, `TooManyTokens`, `Syntax`. `Memory` may come in any of these passes.
 pub fn read(alloc: Global, text: &[u8]) -> Result<Tree, ReadFault>
     ensures answer { MatchResult result (IsTextOf text.now) (IsFault text.now) }
     ensures whole { (p : SomeProgram) → IsTextOf text.now p → MatchResult result (λ t. t ≡ p) (λ e. e ≡ ReadFault.Memory) }

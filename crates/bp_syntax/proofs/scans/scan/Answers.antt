@@ -1,40 +1,40 @@
-use Rattle.std.proofs.Common.{[], ◌++◌, ◌∙◌, ap, arith, Some, None, false-eqb, length, sym, subst, true, ◌<◌, ◌≡◌}
+use Rattle.std.proofs.Common.{[], ◌++◌, ◌∙◌, ap, arith, false-eqb, length, sym, ◌<◌, ◌≡◌}
 use Rattle.std.proofs.lemmas.Bool.{eqb-true}
-use Rattle.bp_syntax.specs.Cut.{Longest, token_and}
-use Rattle.bp_syntax.specs.Tokens.{kind_of, fits}
+use Rattle.bp_syntax.specs.Cut.{token_and}
+use Rattle.bp_syntax.specs.Tokens.{kind_of}
 use Rattle.bp_syntax.specs.Scan.{all_seen}
-use Rattle.bp_syntax.proofs.Pieces.{answer_is}
-use Rattle.bp_syntax.proofs.Scanning.{one_more, all_scanned, bad_here}
+use Rattle.bp_syntax.proofs.Scanning.{piece_taken, brace_taken, all_scanned, open_there, bad_here}
 use Rattle.bp_syntax.proofs.scans.scan.Goals as goal
-use Rattle.bp_syntax.proofs.scans.scan.Goals.{In-Some}
+use Rattle.bp_syntax.proofs.scans.scan.Goals.{in-Piece+in_ok-push_token-in-Piece, in-OpenBrace}
 
--- the piece that `longest` found
-longest_here : (c : In-Some) → Longest c.loop-rest.rest.now c.in-Some.sort c.in-Some.len
-longest_here c = answer_is c.loop-rest.rest.now (Some (c.in-Some.sort, c.in-Some.len)) c.in-Some.ensures
-
-pub returns-in_default : goal.returns-in_default
-returns-in_default c =
+pub returns-in-BadByte : goal.returns-in-BadByte
+returns-in-BadByte c =
     let some : 0 < length c.loop-rest.rest.now = omega (arith, false-eqb _ 0 c.loop-rest-test.ensures) in
-    bad_here c.args.text.now c.loop-rest.at c.loop-rest.rest.now (all_seen c.loop-rest.tokens.items) c.loop-rest.invariant some (answer_is c.loop-rest.rest.now None c.in_default.ensures)
-
-pub split_at-requires : goal.split_at-requires
-split_at-requires c = (longest_here (goal.at.split_at-requires c).In-Some).within
-
-pub push_token-requires : goal.push_token-requires
-push_token-requires c =
-    subst (λ s. fits c.in-Some.sort s ≡ true) (sym c.split_at.ensures.front)
-    (longest_here (goal.at.push_token-requires c).In-Some).is_piece
+    bad_here c.args.text.now c.loop-rest.at c.loop-rest.rest.now (all_seen c.loop-rest.tokens.items) c.loop-rest.first_open c.loop-rest.invariant.0 some c.in-BadByte.ensures.0 c.in-BadByte.ensures.1
 
 pub loop-rest-preserved : goal.loop-rest-preserved
 loop-rest-preserved c =
-    let ts = all_seen c.loop-rest.tokens.items in
-    let k = c.in-Some.sort in
+    let text = c.args.text.now in
     let at = c.loop-rest.at in
-    one_more c.args.text.now at c.loop-rest.rest.now _ ts _ k c.in-Some.len c.loop-rest.invariant
-    (longest_here (goal.at.loop-rest-preserved c).In-Some) c.split_at.ensures.back
-    (c.in_ok-push_token.ensures ∙ ap (λ s. ts ++ token_and (kind_of k s) at s []) c.split_at.ensures.front)
+    let rest = c.loop-rest.rest.now in
+    let ts = all_seen c.loop-rest.tokens.items in
+    let left = c.split_at-in-loop-rest.ensures.back in
+    let fewer = c.saturating_sub-nameless.ensures in
+    elim c.match-front_of.branch [
+      | in-Piece+in_ok-push_token-in-Piece w ↦
+          let k = w.in-Piece.sort in
+          let us = ap (λ v. all_seen v.items) w.tokens-is ∙ w.in_ok-push_token-in-Piece.ensures ∙ ap (λ s. ts ++ token_and (kind_of k s) at s []) w.split_at.ensures.front in
+          piece_taken text at rest _ ts _ c.loop-rest.first_open _ k w.in-Piece.len _ c.loop-rest.nameless _ _ c.loop-rest.invariant w.in-Piece.ensures w.len-is w.first_open-is w.nameless-is left us fewer
+      | in-OpenBrace w ↦
+          brace_taken text at rest _ ts _ c.loop-rest.first_open _ w.in-OpenBrace.count _ _ _ c.loop-rest.invariant.0 w.in-OpenBrace.ensures w.len-is (w.first_open-is ∙ w.or-first_open.ensures) w.nameless-is left (ap (λ v. all_seen v.items) w.tokens-is) fewer
+    ]
+
+pub returns-in-Some : goal.returns-in-Some
+returns-in-Some c =
+    let none : length c.loop-rest.rest.now ≡ 0 = eqb-true _ 0 (sym c.loop-rest-test.ensures) in
+    open_there c.args.text.now c.loop-rest.at c.loop-rest.rest.now (all_seen c.loop-rest.tokens.items) c.loop-rest.first_open c.in-Some.at c.loop-rest.invariant.0 none c.in-Some.is
 
 pub returns : goal.returns
 returns c =
     let none : length c.loop-rest.rest.now ≡ 0 = eqb-true _ 0 (sym c.loop-rest-test.ensures) in
-    all_scanned c.args.text.now c.loop-rest.at c.loop-rest.rest.now (all_seen c.loop-rest.tokens.items) c.loop-rest.invariant none
+    all_scanned c.args.text.now c.loop-rest.at c.loop-rest.rest.now (all_seen c.loop-rest.tokens.items) c.loop-rest.first_open c.loop-rest.invariant.0 none c.in-None.is
