@@ -8,7 +8,7 @@ use Rattle.bp_syntax.specs.Opens.{BreaksAt}
 use Rattle.bp_syntax.specs.Successions.{is_separator, NoSeparator, IsSparse}
 use Rattle.bp_syntax.specs.Crowds.{crowd}
 
-cond_none : (b : Bool) (o : Option ℕ) (n : ℕ) → cond b o (Some n) ≡ None → (b ≡ true) × (o ≡ None)
+pub cond_none : (b : Bool) (o : Option ℕ) (n : ℕ) → cond b o (Some n) ≡ None → (b ≡ true) × (o ≡ None)
 cond_none true o n e = (refl, e)
 cond_none false o n e = let z : ⊥ = cc in absurd z
 
@@ -64,7 +64,7 @@ record Crowded (n : ℕ) (ts : List Token) (at : ℕ) : Type 0 where
   no_separator : NoSeparator run
   full : (length run ≡ succession_limit) ⊎ ((before ≡ []) × (n + length run ≡ succession_limit))
 
-cond_some_at : (b : Bool) (o : Option ℕ) (m n : ℕ) → cond b o (Some m) ≡ Some n → ((b ≡ true) × (o ≡ Some n)) ⊎ ((b ≡ false) × (m ≡ n))
+pub cond_some_at : (b : Bool) (o : Option ℕ) (m n : ℕ) → cond b o (Some m) ≡ Some n → ((b ≡ true) × (o ≡ Some n)) ⊎ ((b ≡ false) × (m ≡ n))
 cond_some_at true o m n e = inl (refl, e)
 cond_some_at false o m n e = inr (refl, cc)
 

@@ -4,5 +4,6 @@ pub mod Scanning
 pub mod Sizes
 pub mod Derivations
 pub mod Crowding
+pub mod Deepening
 pub mod Ahead
 pub mod Refusals

@@ -9,6 +9,8 @@ use Rattle.bp_syntax.specs.Cut.{Piece, IsCut, ends, piece, open_brace, bad_byte,
 use Rattle.bp_syntax.specs.Scan.{IsScanFault}
 use Rattle.bp_syntax.specs.Grammar.{Derives}
 use Rattle.bp_syntax.specs.Opens.{AllReal, Opens, HasSyntaxFault}
+use Rattle.bp_syntax.specs.Nesting.{IsShallow}
+use Rattle.bp_syntax.specs.Depths.{too_deep}
 use Rattle.bp_syntax.specs.Successions.{IsSparse}
 use Rattle.bp_syntax.specs.Crowds.{crowd}
 use Rattle.bp_syntax.specs.Reading.{Decls, feeds, Got, place_or, IsParseFault}
@@ -19,6 +21,7 @@ use Rattle.bp_syntax.specs.declared.tokens.Kind.{Kind}
 use Rattle.bp_syntax.specs.declared.tokens.Sort.{Sort}
 use Rattle.bp_syntax.proofs.Pieces.{one_cut}
 use Rattle.bp_syntax.proofs.Crowding.{none_is_sparse, some_is_crowded}
+use Rattle.bp_syntax.proofs.Deepening.{none_is_shallow, some_is_deep, shallow_front}
 use Rattle.bp_syntax.proofs.Derivations.{read_is_derived, one_tree, stops_at_fault}
 
 -- a text has one list of tokens
@@ -74,16 +77,19 @@ only_memory : (text : List ℕ) (p : Program) (e : ReadFault) → IsTextOf text 
 only_memory text p fault.TooLong t f = let s = t.short in absurd (omega arith)
 only_memory text p (fault.BadByte at) t f = absurd (good_or_bad text t.tokens at t.scanned f.1)
 only_memory text p (fault.OpenName at) t f = absurd (closed_or_open text t.tokens at t.scanned f.1)
-only_memory text p (fault.TooManyTokens at) t f =
+only_memory text p (fault.TooNested at) t f =
     let b = f.3 in
+    let shallow : IsShallow (b.front ++ b.token ∷ b.rest) = subst IsShallow (same_tokens text t.tokens f.1 t.scanned f.2 ∙ b.parts) t.shallow in
+    absurd (b.after (shallow_front (b.front ++ b.token ∷ []) b.rest (subst IsShallow (sym (append_assoc b.front (b.token ∷ []) b.rest)) shallow)))
+only_memory text p (fault.TooManyTokens at) t f =
+    let b = f.4 in
     let sparse : IsSparse (b.front ++ b.token ∷ b.rest) = subst IsSparse (same_tokens text t.tokens f.1 t.scanned f.2 ∙ b.parts) t.sparse in
     absurd (b.after (sparse_front (b.front ++ b.token ∷ []) b.rest (subst IsSparse (sym (append_assoc b.front (b.token ∷ []) b.rest)) sparse)))
 only_memory text p (fault.Syntax at) t f =
     let real : AllReal t.tokens = subst AllReal t.scanned.tokens (all_real t.scanned.cut) in
     let same = same_tokens text f.1 t.tokens f.2 t.scanned in
-    absurd (no_syntax_fault text t.tokens at p real t.derives (subst (λ l. HasSyntaxFault text l at) same f.4))
+    absurd (no_syntax_fault text t.tokens at p real t.derives (subst (λ l. HasSyntaxFault text l at) same f.5))
 only_memory text p fault.Memory t f = refl
-only_memory text p (fault.TooNested at) t f = absurd f
 
 -- a program's text has one tree
 pub one_program : (text : List ℕ) (p q : Program) → IsTextOf text p → IsTextOf text q → p ≡ q
@@ -112,24 +118,28 @@ end_is : (end : ℕ) (left : List Token) → left ≡ [] → place_or end left �
 end_is end [] e = refl
 end_is end (x ∷ r) e = let z : ⊥ = cc in absurd z
 
-pub parse_fault : (text : List ℕ) (ts : List Token) (e : ReadFault) → length text ≤ text_limit → HasTokens text ts → IsSparse ts → IsParseFault ts (length text) e → IsFault text e
-parse_fault text ts (fault.Syntax at) le has sparse f =
-    (le, ts, has, sparse, stops_at_fault text ts f.0 at f.1 (λ x r e. sym (place_is (length text) f.0 x r e) ∙ sym f.2) (λ e. f.2 ∙ end_is (length text) f.0 e))
-parse_fault text ts fault.Memory le has sparse f = tt
-parse_fault text ts fault.TooLong le has sparse f = absurd f
-parse_fault text ts (fault.BadByte at) le has sparse f = absurd f
-parse_fault text ts (fault.OpenName at) le has sparse f = absurd f
-parse_fault text ts (fault.TooNested at) le has sparse f = absurd f
-parse_fault text ts (fault.TooManyTokens at) le has sparse f = absurd f
+pub parse_fault : (text : List ℕ) (ts : List Token) (e : ReadFault) → length text ≤ text_limit → HasTokens text ts → IsShallow ts → IsSparse ts → IsParseFault ts (length text) e → IsFault text e
+parse_fault text ts (fault.Syntax at) le has shallow sparse f =
+    (le, ts, has, shallow, sparse, stops_at_fault text ts f.0 at f.1 (λ x r e. sym (place_is (length text) f.0 x r e) ∙ sym f.2) (λ e. f.2 ∙ end_is (length text) f.0 e))
+parse_fault text ts fault.Memory le has shallow sparse f = tt
+parse_fault text ts fault.TooLong le has shallow sparse f = absurd f
+parse_fault text ts (fault.BadByte at) le has shallow sparse f = absurd f
+parse_fault text ts (fault.OpenName at) le has shallow sparse f = absurd f
+parse_fault text ts (fault.TooNested at) le has shallow sparse f = absurd f
+parse_fault text ts (fault.TooManyTokens at) le has shallow sparse f = absurd f
 
-pub crowd_fault : (text : List ℕ) (ts : List Token) (at : ℕ) → length text ≤ text_limit → HasTokens text ts → crowd 0 ts ≡ Some at → IsFault text (fault.TooManyTokens at)
-crowd_fault text ts at le has e = (le, ts, has, some_is_crowded ts at e)
+pub nested_fault : (text : List ℕ) (ts : List Token) (at : ℕ) → length text ≤ text_limit → HasTokens text ts → too_deep 0 ts ≡ Some at → IsFault text (fault.TooNested at)
+nested_fault text ts at le has e = (le, ts, has, some_is_deep ts at e)
 
-pub parsed : (text : List ℕ) (ts : List Token) (p : Program) → length text ≤ text_limit → HasTokens text ts → crowd 0 ts ≡ None → feeds (Decls []) ts ≡ Got p → IsTextOf text p
-parsed text ts p le has few e = record {
+pub crowd_fault : (text : List ℕ) (ts : List Token) (at : ℕ) → length text ≤ text_limit → HasTokens text ts → too_deep 0 ts ≡ None → crowd 0 ts ≡ Some at → IsFault text (fault.TooManyTokens at)
+crowd_fault text ts at le has flat e = (le, ts, has, none_is_shallow ts flat, some_is_crowded ts at e)
+
+pub parsed : (text : List ℕ) (ts : List Token) (p : Program) → length text ≤ text_limit → HasTokens text ts → too_deep 0 ts ≡ None → crowd 0 ts ≡ None → feeds (Decls []) ts ≡ Got p → IsTextOf text p
+parsed text ts p le has flat few e = record {
   short = le;
   tokens = ts;
   scanned = has;
+  shallow = none_is_shallow ts flat;
   sparse = none_is_sparse ts few;
   derives = read_is_derived ts p e;
 }

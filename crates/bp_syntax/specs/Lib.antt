@@ -6,6 +6,8 @@ pub mod Faults
 pub mod Grammar
 pub mod Opens
 pub mod Reading
+pub mod Nesting
+pub mod Depths
 pub mod Successions
 pub mod Crowds
 pub mod Texts

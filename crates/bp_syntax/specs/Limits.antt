@@ -5,6 +5,10 @@ use Rattle.std.specs.Prelude.{ℕ}
 abbrev pub text_limit : ℕ
 text_limit = 65536
 
+-- how deep `if` and `while` stand in others
+abbrev pub nesting_limit : ℕ
+nesting_limit = 64
+
 -- the tokens in succession without a separator
 abbrev pub succession_limit : ℕ
 succession_limit = 1024

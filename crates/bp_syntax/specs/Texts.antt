@@ -6,6 +6,7 @@ use Rattle.bp_syntax.specs.Tokens.{Token}
 use Rattle.bp_syntax.specs.Cut.{HasTokens, HasBadByte, HasOpenName}
 use Rattle.bp_syntax.specs.Grammar.{Derives}
 use Rattle.bp_syntax.specs.Opens.{BreaksAt, HasSyntaxFault}
+use Rattle.bp_syntax.specs.Nesting.{IsShallow}
 use Rattle.bp_syntax.specs.Successions.{IsSparse}
 use Rattle.bp_syntax.specs.declared.faults.ReadFault.{ReadFault}
 use Rattle.bp_syntax.specs.declared.faults.ReadFault.TheVariants as fault
@@ -15,6 +16,7 @@ pub record IsTextOf (text : List ℕ) (p : Program) : Type 0 where
   pub short : length text ≤ text_limit
   pub tokens : List Token
   pub scanned : HasTokens text tokens
+  pub shallow : IsShallow tokens
   pub sparse : IsSparse tokens
   pub derives : Derives tokens p
 
@@ -27,9 +29,10 @@ abbrev pub IsFault : List ℕ → ReadFault → Type 0
 IsFault text fault.TooLong = text_limit < length text
 IsFault text (fault.BadByte at) = (length text ≤ text_limit) × HasBadByte text at
 IsFault text (fault.OpenName at) = (length text ≤ text_limit) × HasOpenName text at
+IsFault text (fault.TooNested at) =
+    (length text ≤ text_limit) × (tokens : List Token) × HasTokens text tokens × BreaksAt IsShallow tokens at
 IsFault text (fault.TooManyTokens at) =
-    (length text ≤ text_limit) × (tokens : List Token) × HasTokens text tokens × BreaksAt IsSparse tokens at
+    (length text ≤ text_limit) × (tokens : List Token) × HasTokens text tokens × IsShallow tokens × BreaksAt IsSparse tokens at
 IsFault text (fault.Syntax at) =
-    (length text ≤ text_limit) × (tokens : List Token) × HasTokens text tokens × IsSparse tokens × HasSyntaxFault text tokens at
+    (length text ≤ text_limit) × (tokens : List Token) × HasTokens text tokens × IsShallow tokens × IsSparse tokens × HasSyntaxFault text tokens at
 IsFault text fault.Memory = Unit {0}
-IsFault text _ = ⊥

@@ -12,13 +12,13 @@ pub enum ReadFault {
     /// The text has more than 65,536 bytes.
     #[error("the text is too long")]
     TooLong,
-    /// The first byte with which no piece of the scan begins.
+    /// The first byte but `{` with which no piece of the scan begins.
     #[error("bad byte at {0}")]
     BadByte(u32),
-    /// The first brace that begins no name.
+    /// The first `{` that begins no braced name.
     #[error("open name at {0}")]
     OpenName(u32),
-    /// The first statement that stands too deep in others.
+    /// The first `if` or `while` that makes the depth 65.
     #[error("too nested at {0}")]
     TooNested(u32),
     /// The first token that is the 1,025th in succession without a separator.

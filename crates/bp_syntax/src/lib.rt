@@ -4,6 +4,7 @@
 mod faults;
 mod fronts;
 pub mod limits;
+mod nesting;
 mod reader;
 mod scans;
 mod successions;

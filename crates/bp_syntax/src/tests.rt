@@ -1,11 +1,10 @@
 //! Texts with their tokens, their trees and their faults.
-ghost use Rattle.std.specs.Prelude.{◌≤◌, length};
-ghost use Rattle.bp_syntax.specs.Limits.{text_limit};
-
+use crate::limits::TEXT_LIMIT;
+use crate::nesting::first_nested;
 use crate::scans::scan;
-use crate::tokens::Kind;
+use crate::tokens::{Kind, Token};
 use crate::{Decider, Expr, Form, ReadFault, has_one_cut, has_one_tree, read};
-use std::alloc::Global;
+use std::alloc::{AllocError, Global};
 use std::test::Fail;
 
 const SMALL: &[u8] = b"decl x, y; main() begin x, y := 1, x; assert (!y); end";
@@ -57,11 +56,16 @@ fn reads_statements(rt: HostRuntime) -> Result<(), Fail> {
     Ok(())
 }
 
+fn tokens_of(alloc: Global, text: &[u8]) -> Result<Vec<Token>, ReadFault> {
+    if text.len() > TEXT_LIMIT {
+        return Err(ReadFault::TooLong);
+    }
+    scan(alloc, text)
+}
+
 // Whether the tokens of the text are of these kinds.
-fn has_kinds(alloc: Global, text: &[u8], kinds: &[Kind]) -> Result<bool, ReadFault>
-    requires { length text.now ≤ text_limit }
-{
-    let tokens = scan(alloc, text)?;
+fn has_kinds(alloc: Global, text: &[u8], kinds: &[Kind]) -> Result<bool, ReadFault> {
+    let tokens = tokens_of(alloc, text)?;
     let found = tokens.as_slice();
     Ok(found.len() == kinds.len() && found.iter().zip(kinds).all(|(t, kind)| t.kind == *kind))
 }
@@ -157,6 +161,82 @@ fn tells_a_bad_byte_before_an_open_brace(rt: HostRuntime) -> Result<(), Fail> {
     assert!(rt; is_refused(alloc, b"decl {p; > \x7f", ReadFault::BadByte(9)));
     assert!(rt; is_refused(alloc, b"{a\nb}", ReadFault::BadByte(4)));
     assert!(rt; is_refused(alloc, b"decl x y ; {", ReadFault::OpenName(11)));
+    Ok(())
+}
+
+// The piece so many times, behind the front.
+fn repeated(alloc: Global, front: &[u8], piece: &[u8], count: u32) -> Result<Vec<u8>, AllocError> {
+    let mut text = Vec::new(alloc);
+    text.extend_from_slice(front)?;
+    for _ in 0..count {
+        text.extend_from_slice(piece)?;
+    }
+    Ok(text)
+}
+
+// So many loops, each in the one before.
+fn nested_loops(alloc: Global, count: u32) -> Result<Vec<u8>, AllocError> {
+    let mut text = repeated(alloc, b"main() begin ", b"while (0) do ", count)?;
+    text.extend_from_slice(repeated(alloc, b"skip;", b" od", count)?.as_slice())?;
+    text.extend_from_slice(b" end")?;
+    Ok(text)
+}
+
+// The place of the first token of the text that nests too deep.
+fn nests_too_deep_at(alloc: Global, text: &[u8]) -> Result<Option<u32>, ReadFault> {
+    let tokens = tokens_of(alloc, text)?;
+    Ok(first_nested(tokens.as_slice()))
+}
+
+#[test]
+fn keeps_the_limit_of_nesting(rt: HostRuntime) -> Result<(), Fail> {
+    let alloc = rt.alloc();
+    let few = nested_loops(alloc, 64)?;
+    assert_eq!(rt; nests_too_deep_at(alloc, few.as_slice())?, None);
+    let many = nested_loops(alloc, 65)?;
+    assert!(rt; is_refused(alloc, many.as_slice(), ReadFault::TooNested(845)));
+    Ok(())
+}
+
+#[test]
+fn comes_back_from_a_nested_statement(rt: HostRuntime) -> Result<(), Fail> {
+    let alloc = rt.alloc();
+    let text = repeated(alloc, b"", b"if fi while od ", 100)?;
+    assert_eq!(rt; nests_too_deep_at(alloc, text.as_slice())?, None);
+    Ok(())
+}
+
+#[test]
+fn never_nests_below_the_start(rt: HostRuntime) -> Result<(), Fail> {
+    let alloc = rt.alloc();
+    let text = repeated(alloc, b"fi od ", b"if ", 65)?;
+    assert!(rt; is_refused(alloc, text.as_slice(), ReadFault::TooNested(198)));
+    Ok(())
+}
+
+#[test]
+fn tells_an_open_brace_before_the_nesting(rt: HostRuntime) -> Result<(), Fail> {
+    let alloc = rt.alloc();
+    let mut text = repeated(alloc, b"", b"while ", 65)?;
+    text.push(b'{')?;
+    assert!(rt; is_refused(alloc, text.as_slice(), ReadFault::OpenName(390)));
+    Ok(())
+}
+
+#[test]
+fn tells_the_nesting_before_a_succession(rt: HostRuntime) -> Result<(), Fail> {
+    let alloc = rt.alloc();
+    let many = repeated(alloc, b"", b"!", 1_100)?;
+    let text = repeated(alloc, many.as_slice(), b"if ", 65)?;
+    assert!(rt; is_refused(alloc, text.as_slice(), ReadFault::TooNested(1_292)));
+    Ok(())
+}
+
+#[test]
+fn tells_a_succession_before_the_syntax(rt: HostRuntime) -> Result<(), Fail> {
+    let alloc = rt.alloc();
+    let text = repeated(alloc, b"", b"!", 1_025)?;
+    assert!(rt; is_refused(alloc, text.as_slice(), ReadFault::TooManyTokens(1_024)));
     Ok(())
 }
 

@@ -7,6 +7,7 @@ ghost use Rattle.bp_syntax.specs.Laws.{OneCut, OneTree};
 
 use crate::faults::ReadFault;
 use crate::limits::TEXT_LIMIT;
+use crate::nesting::first_nested;
 use crate::reader::parse;
 use crate::scans::scan;
 use crate::successions::first_crowd;
@@ -71,7 +72,7 @@ impl Tree {
 }
 
 /// Reads a program text. A refusal is the first that applies, each found over the whole text before the next:
-/// `TooLong`, `BadByte`, `OpenName`, `TooManyTokens`, `Syntax`. `Memory` may come in any of these passes.
+/// `TooLong`, `BadByte`, `OpenName`, `TooNested`, `TooManyTokens`, `Syntax`. `Memory` may come in any of these passes.
 pub fn read(alloc: Global, text: &[u8]) -> Result<Tree, ReadFault>
     ensures answer { MatchResult result (IsTextOf text.now) (IsFault text.now) }
     ensures whole { (p : SomeProgram) → IsTextOf text.now p → MatchResult result (λ t. t ≡ p) (λ e. e ≡ ReadFault.Memory) }
@@ -79,11 +80,15 @@ pub fn read(alloc: Global, text: &[u8]) -> Result<Tree, ReadFault>
     if text.len() > TEXT_LIMIT {
         return Err(ReadFault::TooLong);
     }
-    let tokens = scan(alloc, text)?;
-    if let Some(at) = first_crowd(tokens.as_slice()) {
-        return Err(ReadFault::TooManyTokens(at));
+    let scanned = scan(alloc, text)?;
+    let tokens = scanned.as_slice();
+    if let Some(nested) = first_nested(tokens) {
+        return Err(ReadFault::TooNested(nested));
     }
-    let (globals, procs) = parse(alloc, tokens.as_slice(), text.len() as u32)?;
+    if let Some(crowd) = first_crowd(tokens) {
+        return Err(ReadFault::TooManyTokens(crowd));
+    }
+    let (globals, procs) = parse(alloc, tokens, text.len() as u32)?;
     Ok(Tree { globals, procs })
 }
 

@@ -1,40 +1,58 @@
 use Rattle.std.proofs.Common.{[], ◌≡◌, ◌∙◌, ap, sym, subst, length, None, Ok, Err, arith}
 use Rattle.bp_syntax.specs.Scan.{all_seen}
+use Rattle.bp_syntax.specs.Depths.{too_deep}
 use Rattle.bp_syntax.specs.Crowds.{crowd}
 use Rattle.bp_syntax.specs.Reading.{program_of, Decls, feeds, Got, IsParseFault}
 use Rattle.bp_syntax.specs.Texts.{IsTextOf, IsFault}
 use Rattle.bp_syntax.specs.declared.faults.ReadFault.{ReadFault}
 use Rattle.bp_syntax.specs.declared.faults.ReadFault.TheVariants as fault
+use Rattle.bp_syntax.proofs.Deepening.{none_is_shallow}
 use Rattle.bp_syntax.proofs.Crowding.{none_is_sparse}
-use Rattle.bp_syntax.proofs.Refusals.{only_answer, scan_fault, crowd_fault, parse_fault, parsed, fault_passed_on}
+use Rattle.bp_syntax.proofs.Refusals.{only_answer, scan_fault, nested_fault, crowd_fault, parse_fault, parsed, fault_passed_on}
 use Rattle.bp_syntax.proofs.trees.read.Goals as goal
-use Rattle.bp_syntax.proofs.trees.read.Goals.{After-first_crowd, After-parse, In_ok-globals}
+use Rattle.bp_syntax.proofs.trees.read.Goals.{In-Some, In-Some-first_crowd, After-first_nested, After-parse, In_ok-globals}
 
-pub returns-in_err-tokens-clause-whole : goal.returns-in_err-tokens-clause-whole
-returns-in_err-tokens-clause-whole c =
+pub returns-in_err-scanned-clause-whole : goal.returns-in_err-scanned-clause-whole
+returns-in_err-scanned-clause-whole c =
     let text = c.args.text.now in
-    only_answer text _ (fault_passed_on text _ c.in_err-tokens.field-0.0 c.from_residual.ensures.1 (scan_fault text _ (omega arith) c.in_err-tokens.ensures))
+    only_answer text _ (fault_passed_on text _ c.in_err-scanned.field-0.0 c.from_residual.ensures.1 (scan_fault text _ (omega arith) c.in_err-scanned.ensures))
+
+-- a token nests too deep
+nested_refusal : (c : In-Some) → IsFault c.args.text.now (fault.TooNested c.in-Some.nested)
+nested_refusal c =
+    let slice = ap (λ l. too_deep 0 (all_seen l)) c.as_slice-tokens.ensures.value in
+    nested_fault c.args.text.now (all_seen c.in_ok-scanned.scanned.items) c.in-Some.nested (omega arith) c.in_ok-scanned.ensures (sym slice ∙ sym c.in-Some.ensures)
 
 pub returns-in-Some-clause-answer : goal.returns-in-Some-clause-answer
-returns-in-Some-clause-answer c =
-    let text = c.args.text.now in
-    let slice = ap (λ l. crowd 0 (all_seen l)) c.as_slice.ensures.value in
-    crowd_fault text (all_seen c.in_ok-tokens.tokens.items) c.in-Some.at (omega arith) c.in_ok-tokens.ensures (sym slice ∙ sym c.in-Some.ensures)
+returns-in-Some-clause-answer c = nested_refusal (goal.at.returns-in-Some-clause-answer c).In-Some
 
 pub returns-in-Some-clause-whole : goal.returns-in-Some-clause-whole
 returns-in-Some-clause-whole c =
-    let text = c.args.text.now in
-    let slice = ap (λ l. crowd 0 (all_seen l)) c.as_slice.ensures.value in
-    only_answer text (Err (fault.TooManyTokens c.in-Some.at)) (crowd_fault text (all_seen c.in_ok-tokens.tokens.items) c.in-Some.at (omega arith) c.in_ok-tokens.ensures (sym slice ∙ sym c.in-Some.ensures))
+    only_answer c.args.text.now (Err (fault.TooNested c.in-Some.nested)) (nested_refusal (goal.at.returns-in-Some-clause-whole c).In-Some)
+
+-- a token is one too many
+crowd_refusal : (c : In-Some-first_crowd) → IsFault c.args.text.now (fault.TooManyTokens c.in-Some-first_crowd.crowd)
+crowd_refusal c =
+    let flat = ap (λ l. too_deep 0 (all_seen l)) c.as_slice-tokens.ensures.value in
+    let slice = ap (λ l. crowd 0 (all_seen l)) c.as_slice-tokens.ensures.value in
+    crowd_fault c.args.text.now (all_seen c.in_ok-scanned.scanned.items) c.in-Some-first_crowd.crowd (omega arith) c.in_ok-scanned.ensures (sym flat ∙ sym c.in_default.ensures) (sym slice ∙ sym c.in-Some-first_crowd.ensures)
+
+pub returns-in-Some-first_crowd-clause-answer : goal.returns-in-Some-first_crowd-clause-answer
+returns-in-Some-first_crowd-clause-answer c = crowd_refusal (goal.at.returns-in-Some-first_crowd-clause-answer c).In-Some-first_crowd
+
+pub returns-in-Some-first_crowd-clause-whole : goal.returns-in-Some-first_crowd-clause-whole
+returns-in-Some-first_crowd-clause-whole c =
+    only_answer c.args.text.now (Err (fault.TooManyTokens c.in-Some-first_crowd.crowd)) (crowd_refusal (goal.at.returns-in-Some-first_crowd-clause-whole c).In-Some-first_crowd)
 
 -- the parser's refusal is the text's
-parse_refusal : (c : After-parse) (e : ReadFault) → IsParseFault (all_seen c.as_slice-2.result.now) (length c.args.text.now) e → IsFault c.args.text.now e
+parse_refusal : (c : After-parse) (e : ReadFault) → IsParseFault (all_seen c.as_slice-tokens.result.now) (length c.args.text.now) e → IsFault c.args.text.now e
 parse_refusal c e f =
     let text = c.args.text.now in
-    let ts = all_seen c.in_ok-tokens.tokens.items in
-    let few : crowd 0 ts ≡ None = sym (ap (λ l. crowd 0 (all_seen l)) c.as_slice.ensures.value) ∙ sym c.in_default.ensures in
-    parse_fault text ts e (omega arith) c.in_ok-tokens.ensures (none_is_sparse ts few)
-    (subst (λ l. IsParseFault (all_seen l) (length text) e) c.as_slice-2.ensures.value f)
+    let ts = all_seen c.in_ok-scanned.scanned.items in
+    let flat : too_deep 0 ts ≡ None = sym (ap (λ l. too_deep 0 (all_seen l)) c.as_slice-tokens.ensures.value) ∙ sym c.in_default.ensures in
+    let few : crowd 0 ts ≡ None = sym (ap (λ l. crowd 0 (all_seen l)) c.as_slice-tokens.ensures.value) ∙ sym c.in_default-first_crowd.ensures in
+    parse_fault text ts e (omega arith) c.in_ok-scanned.ensures (none_is_shallow ts flat) (none_is_sparse ts few)
+    (subst (λ l. IsParseFault (all_seen l) (length text) e) c.as_slice-tokens.ensures.value f)
 
 pub returns-in_err-globals-clause-answer : goal.returns-in_err-globals-clause-answer
 returns-in_err-globals-clause-answer c =
@@ -51,10 +69,11 @@ returns-in_err-globals-clause-whole c =
 of_text : (c : In_ok-globals) → IsTextOf c.args.text.now (program_of c.in_ok-globals.globals c.in_ok-globals.procs)
 of_text c =
     let text = c.args.text.now in
-    let ts = all_seen c.in_ok-tokens.tokens.items in
-    let few : crowd 0 ts ≡ None = sym (ap (λ l. crowd 0 (all_seen l)) c.as_slice.ensures.value) ∙ sym c.in_default.ensures in
-    let is : feeds (Decls []) ts ≡ Got (program_of c.in_ok-globals.globals c.in_ok-globals.procs) = sym (ap (λ l. feeds (Decls []) (all_seen l)) c.as_slice-2.ensures.value) ∙ c.in_ok-globals.ensures in
-    parsed text ts _ (omega arith) c.in_ok-tokens.ensures few is
+    let ts = all_seen c.in_ok-scanned.scanned.items in
+    let flat : too_deep 0 ts ≡ None = sym (ap (λ l. too_deep 0 (all_seen l)) c.as_slice-tokens.ensures.value) ∙ sym c.in_default.ensures in
+    let few : crowd 0 ts ≡ None = sym (ap (λ l. crowd 0 (all_seen l)) c.as_slice-tokens.ensures.value) ∙ sym c.in_default-first_crowd.ensures in
+    let is : feeds (Decls []) ts ≡ Got (program_of c.in_ok-globals.globals c.in_ok-globals.procs) = sym (ap (λ l. feeds (Decls []) (all_seen l)) c.as_slice-tokens.ensures.value) ∙ c.in_ok-globals.ensures in
+    parsed text ts _ (omega arith) c.in_ok-scanned.ensures flat few is
 
 pub invariant_of-result : goal.invariant_of-result
 invariant_of-result c = ∣ (c.args.text.now, of_text c) ∣₁
