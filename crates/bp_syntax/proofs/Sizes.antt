@@ -1,13 +1,13 @@
 -- A program has no more statements than its text has bytes.
-use Rattle.std.proofs.Common.{ℕ, suc, ◌+◌, ◌<◌, ◌≤◌, List, length, Option, None, Some, arith, ap, take}
+use Rattle.std.proofs.Common.{◌≡◌, ℕ, suc, ◌+◌, ◌<◌, ◌≤◌, List, [], ◌∷◌, ◌++◌, length, Option, None, Some, arith, refl, ap, take, drop}
 use Rattle.std.proofs.Math.Logic.{∥∥₁_elim}
 use Rattle.std.specs.Coded.{le_prop}
 use Rattle.std.proofs.lemmas.List.{length-drop}
-use Rattle.bp_tree.specs.Ast.{Name, Expression, Decision, Block, Statement, Procedure, Program}
+use Rattle.bp_tree.specs.Ast.{Name, Expression, Decision, Block, Statement, Skips, Assigns, Asserts, Procedure, Program}
 use Rattle.bp_tree.specs.Sizes.{block_size, size, procedures_size}
 use Rattle.bp_syntax.specs.Tokens.{Token, kind_of}
 use Rattle.bp_syntax.specs.declared.tokens.Kind.{Kind}
-use Rattle.bp_syntax.specs.Cut.{Piece, IsCut, ends, piece, open_brace, bad_byte, tokens_of, token_and}
+use Rattle.bp_syntax.specs.Cut.{Piece, Fit, Bad, IsCut, ends, piece, open_brace, bad_byte, tokens_of, token_and, HasTokens}
 use Rattle.bp_syntax.specs.Grammar.{IsNames, one_name, more_names, IsExpr, negation, of_atom, IsAtom, constant_0, constant_1, variable, brackets, IsExprs, one_expr, more_exprs, IsForm, skip, assignment, assertion, IsForms, one_form, more_forms, IsDecl, decl, IsDecls, no_decl, more_decls, IsProc, proc, IsProcs, no_proc, one_proc, Derives, program, IsDecider, choice, by_value}
 use Rattle.bp_syntax.specs.Texts.{IsTextOf, HasText}
 
