@@ -13,7 +13,7 @@ use Rattle.bp_syntax.specs.Nesting.{IsShallow}
 use Rattle.bp_syntax.specs.Depths.{too_deep}
 use Rattle.bp_syntax.specs.Successions.{IsSparse}
 use Rattle.bp_syntax.specs.Crowds.{crowd}
-use Rattle.bp_syntax.specs.Reading.{Decls, feeds, Got, place_or, IsParseFault}
+use Rattle.bp_syntax.specs.Reading.{start, feeds, Got, place_or, IsParseFault}
 use Rattle.bp_syntax.specs.Texts.{IsTextOf, IsFault}
 use Rattle.bp_syntax.specs.declared.faults.ReadFault.{ReadFault}
 use Rattle.bp_syntax.specs.declared.faults.ReadFault.TheVariants as fault
@@ -21,8 +21,9 @@ use Rattle.bp_syntax.specs.declared.tokens.Kind.{Kind}
 use Rattle.bp_syntax.specs.declared.tokens.Sort.{Sort}
 use Rattle.bp_syntax.proofs.Pieces.{one_cut}
 use Rattle.bp_syntax.proofs.Crowding.{none_is_sparse, some_is_crowded}
+use Rattle.bp_syntax.proofs.ReadPrograms.{one_tree}
+use Rattle.bp_syntax.proofs.Stopping.{read_is_derived, stops_at_fault}
 use Rattle.bp_syntax.proofs.Deepening.{none_is_shallow, some_is_deep, shallow_front}
-use Rattle.bp_syntax.proofs.Derivations.{read_is_derived, one_tree, stops_at_fault}
 
 -- a text has one list of tokens
 same_tokens : (text : List ℕ) (ts us : List Token) → HasTokens text ts → HasTokens text us → ts ≡ us
@@ -134,7 +135,7 @@ nested_fault text ts at le has e = (le, ts, has, some_is_deep ts at e)
 pub crowd_fault : (text : List ℕ) (ts : List Token) (at : ℕ) → length text ≤ text_limit → HasTokens text ts → too_deep 0 ts ≡ None → crowd 0 ts ≡ Some at → IsFault text (fault.TooManyTokens at)
 crowd_fault text ts at le has flat e = (le, ts, has, none_is_shallow ts flat, some_is_crowded ts at e)
 
-pub parsed : (text : List ℕ) (ts : List Token) (p : Program) → length text ≤ text_limit → HasTokens text ts → too_deep 0 ts ≡ None → crowd 0 ts ≡ None → feeds (Decls []) ts ≡ Got p → IsTextOf text p
+pub parsed : (text : List ℕ) (ts : List Token) (p : Program) → length text ≤ text_limit → HasTokens text ts → too_deep 0 ts ≡ None → crowd 0 ts ≡ None → feeds start ts ≡ Got p → IsTextOf text p
 parsed text ts p le has flat few e = record {
   short = le;
   tokens = ts;

@@ -1,24 +1,49 @@
 -- A program has no more statements than its text has bytes.
-use Rattle.std.proofs.Common.{◌≡◌, ℕ, suc, ◌+◌, ◌<◌, ◌≤◌, List, [], ◌∷◌, ◌++◌, length, Option, None, Some, arith, refl, ap, take, drop}
+use Rattle.std.proofs.Common.{ℕ, suc, ◌+◌, ◌<◌, ◌≤◌, List, length, Option, None, Some, arith, ap, take}
 use Rattle.std.proofs.Math.Logic.{∥∥₁_elim}
 use Rattle.std.specs.Coded.{le_prop}
 use Rattle.std.proofs.lemmas.List.{length-drop}
-use Rattle.bp_tree.specs.Ast.{Name, Expression, Decision, Block, Statement, Skips, Assigns, Asserts, Procedure, Program}
+use Rattle.bp_tree.specs.Ast.{Name, Expression, Decision, Block, Statement, Procedure, Program}
 use Rattle.bp_tree.specs.Sizes.{block_size, size, procedures_size}
 use Rattle.bp_syntax.specs.Tokens.{Token, kind_of}
 use Rattle.bp_syntax.specs.declared.tokens.Kind.{Kind}
-use Rattle.bp_syntax.specs.Cut.{Piece, Fit, Bad, IsCut, ends, piece, open_brace, bad_byte, tokens_of, token_and, HasTokens}
-use Rattle.bp_syntax.specs.Grammar.{IsNames, one_name, more_names, IsExpr, negation, of_atom, IsAtom, constant_0, constant_1, variable, brackets, IsExprs, one_expr, more_exprs, IsForm, skip, assignment, assertion, IsForms, one_form, more_forms, IsDecl, decl, IsDecls, no_decl, more_decls, IsProc, proc, IsProcs, no_proc, one_proc, Derives, program, IsDecider, choice, by_value}
+use Rattle.bp_syntax.specs.Cut.{Piece, IsCut, ends, piece, open_brace, bad_byte, tokens_of, token_and}
+use Rattle.bp_syntax.specs.Grammar.{IsNames, one_name, more_names, IsAnyNames, no_names, some_names, IsExpr, of_or, implication, IsOr, of_xor, disjunction, IsXor, of_and, exclusion, IsAnd, of_eq, conjunction, IsEq, of_un, equality, difference, IsUn, negation, of_atom, IsAtom, constant_0, constant_1, variable, brackets, IsExprs, one_expr, more_exprs, IsAnyExprs, no_exprs, some_exprs, IsDecider, choice, by_value, IsForm, skip, jump, returning, assignment, branch, loop, assertion, assumption, printing, call, IsStmt, labelled, unlabelled, IsStmts, one_stmt, more_stmts, IsDecl, decl, IsDecls, no_decl, more_decls, IsProc, proc, IsProcs, no_proc, more_procs, Derives, program}
 use Rattle.bp_syntax.specs.Texts.{IsTextOf, HasText}
 
 names_some : {ts : List Token} {ns : List Name} {r : List Token} → IsNames ts ns r → length r < length ts
 names_some (one_name x r h) = omega arith
 names_some (more_names x y ts ns r h k is) = omega (arith, names_some is)
 
+any_names_some : {ts : List Token} {ns : List Name} {r : List Token} → IsAnyNames ts ns r → length r ≤ length ts
+any_names_some (no_names r) = omega arith
+any_names_some (some_names ts ns r is) = omega (arith, names_some is)
+
 mutual
   expr_some : {ts : List Token} {e : Expression} {r : List Token} → IsExpr ts e r → length r < length ts
-  expr_some (negation x ts e r h is) = omega (arith, expr_some is)
-  expr_some (of_atom ts e r is) = atom_some is
+  expr_some (of_or ts e r d) = or_some d
+  expr_some (implication ts a x us b r d h f) = omega (arith, or_some d, expr_some f)
+
+  or_some : {ts : List Token} {e : Expression} {r : List Token} → IsOr ts e r → length r < length ts
+  or_some (of_xor ts e r d) = xor_some d
+  or_some (disjunction ts a x us b r d h f) = omega (arith, or_some d, xor_some f)
+
+  xor_some : {ts : List Token} {e : Expression} {r : List Token} → IsXor ts e r → length r < length ts
+  xor_some (of_and ts e r d) = and_some d
+  xor_some (exclusion ts a x us b r d h f) = omega (arith, xor_some d, and_some f)
+
+  and_some : {ts : List Token} {e : Expression} {r : List Token} → IsAnd ts e r → length r < length ts
+  and_some (of_eq ts e r d) = eq_some d
+  and_some (conjunction ts a x us b r d h f) = omega (arith, and_some d, eq_some f)
+
+  eq_some : {ts : List Token} {e : Expression} {r : List Token} → IsEq ts e r → length r < length ts
+  eq_some (of_un ts e r d) = un_some d
+  eq_some (equality ts a x us b r d h f) = omega (arith, eq_some d, un_some f)
+  eq_some (difference ts a x us b r d h f) = omega (arith, eq_some d, un_some f)
+
+  un_some : {ts : List Token} {e : Expression} {r : List Token} → IsUn ts e r → length r < length ts
+  un_some (negation x ts e r h is) = omega (arith, un_some is)
+  un_some (of_atom ts e r is) = atom_some is
 
   atom_some : {ts : List Token} {e : Expression} {r : List Token} → IsAtom ts e r → length r < length ts
   atom_some (constant_0 x r h) = omega arith
@@ -30,18 +55,34 @@ exprs_some : {ts : List Token} {es : List Expression} {r : List Token} → IsExp
 exprs_some (one_expr ts e r is) = expr_some is
 exprs_some (more_exprs ts e y us es r is h more) = omega (arith, expr_some is, exprs_some more)
 
+any_exprs_some : {ts : List Token} {es : List Expression} {r : List Token} → IsAnyExprs ts es r → length r ≤ length ts
+any_exprs_some (no_exprs r) = omega arith
+any_exprs_some (some_exprs ts es r is) = omega (arith, exprs_some is)
+
 decider_some : {ts : List Token} {d : Decision} {r : List Token} → IsDecider ts d r → length r < length ts
 decider_some (choice x r h) = omega arith
 decider_some (by_value ts e r is) = expr_some is
 
-form_size : {ts : List Token} {s : Statement} {r : List Token} → IsForm ts s r → size s + length r < length ts
-form_size (skip x y r h k) = omega arith
-form_size (assignment ts ns x us es y r names h exprs k) = omega (arith, names_some names, exprs_some exprs)
-form_size (assertion x y ts d z w r h k is m n) = omega (arith, decider_some is)
+mutual
+  form_size : {ts : List Token} {s : Statement} {r : List Token} → IsForm ts s r → size s + length r < length ts
+  form_size (skip x y r h c) = omega arith
+  form_size (jump x n y r h i c) = omega arith
+  form_size (returning x y r h c) = omega arith
+  form_size (assignment ts ns x us es y r names h exprs k) = omega (arith, names_some names, exprs_some exprs)
+  form_size (branch x y ts d z t us a e vs b f r h o is c i body j other g) = omega (arith, decider_some is, stmts_size body, stmts_size other)
+  form_size (loop x y ts d z t us a e r h o is c i body g) = omega (arith, decider_some is, stmts_size body)
+  form_size (assertion x y ts d z w r h o is c g) = omega (arith, decider_some is)
+  form_size (assumption x y ts d z w r h o is c g) = omega (arith, decider_some is)
+  form_size (printing x y ts es z w r h o are c g) = omega (arith, exprs_some are)
+  form_size (call x y ts es z w r h o are c g) = omega (arith, any_exprs_some are)
 
-forms_size : {ts : List Token} {b : Block} {r : List Token} → IsForms ts b r → block_size b + length r < length ts
-forms_size (one_form x ts s r is) = omega (arith, form_size is)
-forms_size (more_forms x ts s us b r is more) = omega (arith, form_size is, forms_size more)
+  stmt_size : {ts : List Token} {l : Option Name} {at : ℕ} {s : Statement} {r : List Token} → IsStmt ts l at s r → size s + length r < length ts
+  stmt_size (labelled x y z ts s r h c is) = omega (arith, form_size is)
+  stmt_size (unlabelled x ts s r is) = form_size is
+
+  stmts_size : {ts : List Token} {b : Block} {r : List Token} → IsStmts ts b r → block_size b + length r < length ts
+  stmts_size (one_stmt ts l at s r is) = omega (arith, stmt_size is)
+  stmts_size (more_stmts ts l at s us b r is more) = omega (arith, stmt_size is, stmts_size more)
 
 decl_some : {ts : List Token} {ns : List Name} {r : List Token} → IsDecl ts ns r → length r < length ts
 decl_some (decl x ts ns y r h is k) = omega (arith, names_some is)
@@ -51,11 +92,12 @@ decls_size (no_decl r) = omega arith
 decls_size (more_decls ts ns us ms r is more) = omega (arith, decl_some is, decls_size more)
 
 proc_size : {ts : List Token} {p : Procedure} {r : List Token} → IsProc ts p r → block_size p.body + 1 + length r < length ts
-proc_size (proc x y z v ts b w r h k m n is o) = omega (arith, forms_size is)
+proc_size (proc x y ts fs z v us ls vs b w r h o formals c g locals body e) =
+    omega (arith, any_names_some formals, decls_size locals, stmts_size body)
 
 procs_size : {ts : List Token} {ps : List Procedure} {r : List Token} → IsProcs ts ps r → procedures_size ps + length r ≤ length ts
 procs_size (no_proc r) = omega arith
-procs_size (one_proc ts p r is) = omega (arith, proc_size is)
+procs_size (more_procs ts p us ps r is more) = omega (arith, proc_size is, procs_size more)
 
 program_size : {ts : List Token} {p : Program} → Derives ts p → procedures_size p.procedures ≤ length ts
 program_size (program ts gs us ps globals procs) = omega (arith, decls_size globals, procs_size procs)

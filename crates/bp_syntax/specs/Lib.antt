@@ -12,3 +12,4 @@ pub mod Successions
 pub mod Crowds
 pub mod Texts
 pub mod Laws
+pub mod NamesIn

@@ -1,12 +1,16 @@
 //! The reader of program texts: a text is cut into tokens, and a tree is read from them.
 #![tactic(auto)]
 
+mod expressions;
 mod faults;
 mod fronts;
 pub mod limits;
 mod nesting;
+mod operators;
+mod programs;
 mod reader;
 mod scans;
+mod statements;
 mod successions;
 #[cfg(test)]
 mod tests;

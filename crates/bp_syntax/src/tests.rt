@@ -1,4 +1,7 @@
 //! Texts with their tokens, their trees and their faults.
+mod productions;
+mod programs;
+
 use crate::limits::TEXT_LIMIT;
 use crate::nesting::first_nested;
 use crate::scans::scan;

@@ -1,14 +1,15 @@
 //! Programs as trees, and how a text is read.
-ghost use Rattle.std.specs.Prelude.{◌≡◌, ◌≤◌, IfOk, MatchResult};
+ghost use Rattle.std.specs.Prelude.{◌≡◌, ◌≤◌, IfOk, MatchResult, length};
 ghost use Rattle.bp_tree.specs.Sizes.{procedures_size};
 ghost use Rattle.bp_tree.specs.Ast.{Program as SomeProgram};
 ghost use Rattle.bp_syntax.specs.Texts.{IsTextOf, HasText, IsFault};
 ghost use Rattle.bp_syntax.specs.Laws.{OneCut, OneTree};
+ghost use Rattle.bp_syntax.specs.NamesIn.{NamesInProgram};
 
 use crate::faults::ReadFault;
 use crate::limits::TEXT_LIMIT;
 use crate::nesting::first_nested;
-use crate::reader::parse;
+use crate::programs::parse;
 use crate::scans::scan;
 use crate::successions::first_crowd;
 use bp_tree::{Name, Names, Proc, Procs};
@@ -57,6 +58,13 @@ impl Tree {
     /// Law: a program has no more statements and procedures together than a text has bytes.
     pub fn has_few_statements(&self)
         ensures { procedures_size self.now.procedures ≤ 65536 }
+    {
+        let _ = &self.globals;
+    }
+
+    /// Law: no name in a program is longer than a text.
+    pub fn has_short_names(&self)
+        ensures { NamesInProgram (λ n. length n.text ≤ 65536) self.now }
     {
         let _ = &self.globals;
     }

@@ -1,4 +1,4 @@
-use Rattle.bp_syntax.proofs.Derivations.{one_tree}
+use Rattle.bp_syntax.proofs.ReadPrograms.{one_tree}
 use Rattle.bp_syntax.proofs.trees.has_one_tree.Goals as goal
 
 pub returns : goal.returns

@@ -1,8 +1,8 @@
-use Rattle.std.proofs.Common.{[], ◌≡◌, ◌∙◌, ap, sym, subst, length, None, Ok, Err, arith}
+use Rattle.std.proofs.Common.{◌≡◌, ◌∙◌, ap, sym, subst, length, None, Ok, Err, arith}
 use Rattle.bp_syntax.specs.Scan.{all_seen}
 use Rattle.bp_syntax.specs.Depths.{too_deep}
 use Rattle.bp_syntax.specs.Crowds.{crowd}
-use Rattle.bp_syntax.specs.Reading.{program_of, Decls, feeds, Got, IsParseFault}
+use Rattle.bp_syntax.specs.Reading.{program_of, start, feeds, Got, IsParseFault}
 use Rattle.bp_syntax.specs.Texts.{IsTextOf, IsFault}
 use Rattle.bp_syntax.specs.declared.faults.ReadFault.{ReadFault}
 use Rattle.bp_syntax.specs.declared.faults.ReadFault.TheVariants as fault
@@ -72,7 +72,7 @@ of_text c =
     let ts = all_seen c.in_ok-scanned.scanned.items in
     let flat : too_deep 0 ts ≡ None = sym (ap (λ l. too_deep 0 (all_seen l)) c.as_slice-tokens.ensures.value) ∙ sym c.in_default.ensures in
     let few : crowd 0 ts ≡ None = sym (ap (λ l. crowd 0 (all_seen l)) c.as_slice-tokens.ensures.value) ∙ sym c.in_default-first_crowd.ensures in
-    let is : feeds (Decls []) ts ≡ Got (program_of c.in_ok-globals.globals c.in_ok-globals.procs) = sym (ap (λ l. feeds (Decls []) (all_seen l)) c.as_slice-tokens.ensures.value) ∙ c.in_ok-globals.ensures in
+    let is : feeds start ts ≡ Got (program_of c.in_ok-globals.globals c.in_ok-globals.procs) = sym (ap (λ l. feeds start (all_seen l)) c.as_slice-tokens.ensures.value) ∙ c.in_ok-globals.ensures in
     parsed text ts _ (omega arith) c.in_ok-scanned.ensures flat few is
 
 pub invariant_of-result : goal.invariant_of-result

@@ -1,9 +1,13 @@
-use Rattle.std.proofs.Common.{◌≡◌, [], length}
-use Rattle.bp_syntax.specs.Reading.{Decls, feeds}
+use Rattle.std.proofs.Common.{◌≡◌, ◌≤◌, [], length, List}
+use Rattle.bp_tree.specs.Ast.{Name}
+use Rattle.bp_syntax.specs.Reading.{Wanted, MoreDecls, feeds}
 use Rattle.bp_syntax.proofs.reader.Reader.decls.Given as goal
 
 abbrev pub invariant-loop-alloc : goal.invariant-loop-alloc
-invariant-loop-alloc l = feeds (Decls []) l.fn.self ≡ feeds (Decls l.names.items) l.self
+invariant-loop-alloc l = record {
+  reads : (next : List Name → Wanted) → feeds (MoreDecls [] next) l.fn.self ≡ feeds (MoreDecls l.names.items next) l.self;
+  no_longer : length l.self ≤ length l.fn.self;
+}
 
 abbrev pub decreases-loop-alloc : goal.decreases-loop-alloc
 decreases-loop-alloc l = length l.self
