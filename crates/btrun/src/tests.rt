@@ -81,10 +81,66 @@ fn refuses_texts(rt: HostRuntime) -> Result<(), Fail> {
     assert!(rt; is_refused(alloc, b"", 32, Some(0))?);
     assert!(rt; is_refused(alloc, b"main() begin end", 6, Some(13))?);
     assert!(rt; is_refused(alloc, b"main() begin skip;", 6, Some(18))?);
-    assert!(rt; is_refused(alloc, b"main() begin assume (1); end", 6, Some(13))?);
+    assert!(rt; is_refused(alloc, b"decl {p; main() begin skip; end", 3, Some(5))?);
     assert!(rt; is_refused(alloc, b"main() begin x := 2; end", 2, Some(18))?);
     let swap = b"decl x; main() begin x, x := 0, 1; end";
     assert!(rt; is_refused(alloc, swap, 20, Some(24))?);
+    Ok(())
+}
+
+#[test]
+fn refuses_unlawful_programs(rt: HostRuntime) -> Result<(), Fail> {
+    let alloc = rt.alloc();
+    let twice = b"main() begin skip; end main() begin skip; end";
+    assert!(rt; is_refused(alloc, twice, 12, Some(23))?);
+    let locals = b"main() begin decl a, a; skip; end";
+    assert!(rt; is_refused(alloc, locals, 13, Some(21))?);
+    let labels = b"main() begin l: skip; l: skip; end";
+    assert!(rt; is_refused(alloc, labels, 14, Some(22))?);
+    assert!(rt; is_refused(alloc, b"main() begin p(); end", 16, Some(13))?);
+    assert!(rt; is_refused(alloc, b"main() begin goto l; end", 17, Some(18))?);
+    let arity = b"p(a) begin skip; end main() begin p(); end";
+    assert!(rt; is_refused(alloc, arity, 18, Some(34))?);
+    Ok(())
+}
+
+#[test]
+fn drives_jumps_and_calls(rt: HostRuntime) -> Result<(), Fail> {
+    let alloc = rt.alloc();
+    let six = b"\nseed none\n0 0 s\n0 0 s\n0 0 s\n0 0 s\n0 0 s\n0 0 e\nend 6 0\n";
+    // After the body that was jumped into, the loop's test is made.
+    let jump =
+        b"decl x; main() begin goto m; while (x) do m: skip; od print (x); end\n%\n0 0\n0 0\n0 0\n0 0\n0 0\n0 0\n";
+    assert!(rt; ends_in(alloc, jump, six)?);
+    let call =
+        b"p(a, b) begin print (a, b); end main() begin decl a, b; a := 1; p(b, a); end\n%\n0 0\n0 0\n0 0\n0 0\n0 0\n0 0\n";
+    assert!(rt; ends_in(alloc, call, six)?);
+    let recursive =
+        b"decl g;\nmain() begin decl h; h := !g; A(g,h); skip; A(g,h); skip;\n  if (g) then R: skip; else skip; fi end\nA(a1,a2) begin if (a1) then A(a2,a1); else g := a2; fi end";
+    assert!(rt; ends_in(alloc, recursive, b"\nseed none\nend 0 1\n")?);
+    Ok(())
+}
+
+#[test]
+fn drives_expressions_and_assumptions(rt: HostRuntime) -> Result<(), Fail> {
+    let alloc = rt.alloc();
+    let operators =
+        b"decl a, b, c; main() begin print (a => b => c, (a => b) => c); end\n%\n0 0\n0 0\n0 0\n";
+    assert!(rt;
+        ends_in(
+            alloc,
+            operators,
+            b"\ninit 000\ncontexts 2\ncalls 1000\nseed none\n0 0 s\n0 0 s\n0 0 e\nend 3 0\n"
+        )?
+    );
+    let braces =
+        b"decl {p == q, r}; main() begin {p == q, r} := !{p == q, r}; print ({p == q, r}); end\n%\n0 0\n0 0\n0 0\n0 0\n";
+    assert!(rt; ends_in(alloc, braces, b"\n0 0 s\n0 0 s\n0 0 s\n0 0 e\nend 4 0\n")?);
+    let granted = b"main() begin assume (1); end\n%\n0 0\n0 0\n0 0\n";
+    assert!(rt; ends_in(alloc, granted, b"\n0 0 s\n0 0 s\n0 0 e\nend 3 0\n")?);
+    // A blocked thread waits: its line stays open.
+    let blocked = b"main() begin assume (0); end\n%\n0 0\n0 0\n";
+    assert!(rt; ends_in(alloc, blocked, b"\n0 0 b\n0 0 b\nend 2 1\n")?);
     Ok(())
 }
 
