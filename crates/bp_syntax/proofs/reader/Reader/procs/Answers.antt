@@ -1,4 +1,5 @@
-use Rattle.std.proofs.Common.{[], ◌∷◌, ◌++◌, ◌∙◌, ap, sym}
+use Rattle.std.proofs.Common.{List, [], ◌∷◌, ◌++◌, ◌∙◌, ap, sym}
+use Rattle.bp_tree.specs.Ast.{Procedure}
 use Rattle.bp_syntax.specs.Reading.{MoreProcs, feeds}
 use Rattle.bp_syntax.proofs.Ahead.{at_exit}
 use Rattle.bp_syntax.proofs.Steps.{more_procs_ahead}
@@ -17,4 +18,4 @@ loop-alloc-preserved c next =
     c.loop-alloc.invariant next
     ∙ more_procs_ahead so_far next c.loop-alloc.self (sym c.loop-alloc-test.ensures)
     ∙ c.in_ok-procedure.ensures.reads (λ p. MoreProcs (so_far ++ p ∷ []) next)
-    ∙ ap (λ l. feeds (MoreProcs l next) c.procedure.new.self) (sym c.in_ok-push.ensures.items)
+    ∙ ap (λ l. feeds (MoreProcs l next) c.procedure.new.self) (sym {A = List Procedure} c.in_ok-push.ensures.items)
