@@ -1,4 +1,5 @@
 pub mod Finding
+pub mod Firsts
 pub mod Lists
 pub mod Names
 pub mod Parts

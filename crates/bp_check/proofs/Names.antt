@@ -1,10 +1,9 @@
 -- Names that stand twice in a list, or past a limit.
-use Rattle.std.proofs.Common.{◌≡◌, ◌⊎◌, ℕ, ◌+◌, ◌<◌, Bool, true, false, List, length, get_or, take, map, Option, None, Some, refl, ap, sym, ◌∙◌, inl, inr, arith, slice_get, subst, ◌≤◌}
+use Rattle.std.proofs.Common.{◌≡◌, ◌⊎◌, ℕ, ◌+◌, ◌<◌, true, false, List, length, get_or, take, Option, None, Some, refl, ap, sym, ◌∙◌, inl, inr, arith, slice_get, subst, ◌≤◌}
 use Rattle.std.specs.Option.{option_map}
 use Rattle.bp_check.specs.Faults.{number_of}
 use Rattle.std.specs.Borrow.{Bor}
-use Rattle.std.specs.Str.{bytes_eq}
-use Rattle.std.proofs.lemmas.List.{take-map, length-map}
+use Rattle.std.proofs.lemmas.List.{length-map}
 use Rattle.std.proofs.lemmas.Option.{slice_get-map, slice_get-get_or, slice_get_within, slice_get_past}
 use Rattle.bp_tree.specs.Ast.{Name}
 use Rattle.bp_check.specs.declared.faults.CheckFault.{CheckFault}
@@ -13,20 +12,13 @@ use Rattle.bp_check.specs.declared.faults.Found.{Found}
 use Rattle.bp_check.specs.Scopes.{has, IsNameAt}
 use Rattle.bp_check.specs.Faults.{IsTwice, IsPast}
 use Rattle.bp_check.specs.Sets.{names_of, Only}
-use Rattle.bp_check.specs.Least.{IsLeast, Finds, least_of}
+use Rattle.bp_check.specs.Least.{Finds, least_of}
 use Rattle.bp_check.proofs.Finding.{finds_both, finds_same}
-use Rattle.bp_check.proofs.Lists.{list_any-map, list_any-at}
 
 -- the name at an index of a list of references
 pub name_at : (names : List (Bor Name)) (i : ℕ) (n : Bor Name) → i < length names → n ≡ get_or names i n → slice_get (names_of names) i ≡ Some n.now
 name_at names i n h e =
     slice_get-map (λ (r : Bor Name). r.now) names i ∙ ap (option_map (λ (r : Bor Name). r.now)) (slice_get-get_or names i n h ∙ ap Some (sym e))
-
-pub has_at : (names : List (Bor Name)) (text : List ℕ) (i : ℕ) (n : Bor Name) → i < length names → n ≡ get_or names i n
-    → bytes_eq n.now.text text ≡ true → true ≡ has (names_of names) text
-has_at names text i n h e same =
-    let test : Bor Name → Bool = λ r. bytes_eq r.now.text text in
-    sym (list_any-map (λ (r : Bor Name). r.now) (λ (m : Name). bytes_eq m.text text) names ∙ list_any-at test names i n h (ap test (sym e) ∙ same))
 
 -- one fault at one place
 pub finds_one : (fault : CheckFault) (at : ℕ) → Finds (Only fault (λ b. at ≡ b)) (Some (record { fault = fault; at = at }))
@@ -102,25 +94,25 @@ none_past names limit h g at x =
     cc
 
 -- The same over a list of references, as a loop meets them.
-module _ (names : List (Bor Name)) (fault : CheckFault) (i : ℕ) (n : Bor Name) (best : Option Found) (within : i < length names) (is : n ≡ get_or names i n) where
-  pub none_here : (text : List ℕ) → text ≡ n.now.text → false ≡ has (names_of (take i names)) text
-      → Finds (Only fault (Below (names_of names) fault i)) best → Finds (Only fault (Below (names_of names) fault (i + 1))) best
-  none_here text e none =
-      let front = take-map (λ (r : Bor Name). r.now) i names in
-      none_more (names_of names) fault i n.now best (name_at names i n within is) cc
+module _ (names : List (Bor Name)) (ns : List Name) (fault : CheckFault) (i : ℕ) (n : Bor Name) (best : Option Found) (same : names_of names ≡ ns) (within : i < length names) (is : n ≡ get_or names i n) where
+  here : slice_get ns i ≡ Some n.now
+  here = ap (λ xs. slice_get xs i) (sym same) ∙ name_at names i n within is
 
-  pub one_here : (text : List ℕ) (at : ℕ) → text ≡ n.now.text → at ≡ n.now.at → true ≡ has (names_of (take i names)) text
-      → Finds (Only fault (Below (names_of names) fault i)) best
-      → Finds (Only fault (Below (names_of names) fault (i + 1))) (least_of best (Some (record { fault = fault; at = at })))
-  one_here text at e place twice h =
-      let front = take-map (λ (r : Bor Name). r.now) i names in
-      rw place (one_more (names_of names) fault i n.now best (name_at names i n within is) (cc) h)
+  pub none_here : (text : List ℕ) → text ≡ n.now.text → false ≡ has (take i ns) text
+      → Finds (Only fault (Below ns fault i)) best → Finds (Only fault (Below ns fault (i + 1))) best
+  none_here text e none = none_more ns fault i n.now best here cc
 
-pub past_here : (names : List (Bor Name)) (limit : ℕ) (n : Bor Name) → limit < length names → n ≡ get_or names limit n → (at : ℕ) → at ≡ n.now.at
-    → Finds (Only Limit (IsPast limit (names_of names))) (Some (record { fault = Limit; at = at }))
-past_here names limit n within is at place = rw place (finds_past (names_of names) limit n.now (name_at names limit n within is))
+  pub one_here : (text : List ℕ) (at : ℕ) → text ≡ n.now.text → at ≡ n.now.at → true ≡ has (take i ns) text
+      → Finds (Only fault (Below ns fault i)) best
+      → Finds (Only fault (Below ns fault (i + 1))) (least_of best (Some (record { fault = fault; at = at })))
+  one_here text at e place twice h = rw place (one_more ns fault i n.now best here (cc) h)
 
-pub all_here : (names : List (Bor Name)) (fault : CheckFault) (i : ℕ) (best : Option Found) → i ≤ length names → length names ≤ i
-    → Finds (Only fault (Below (names_of names) fault i)) best → Finds (Only fault (IsTwice (names_of names))) best
-all_here names fault i best low high =
-    all_below (names_of names) fault i best (omega (arith, length-map names (λ (r : Bor Name). r.now)))
+pub past_here : (names : List (Bor Name)) (ns : List Name) (limit : ℕ) (n : Bor Name) → names_of names ≡ ns → limit < length names → n ≡ get_or names limit n → (at : ℕ) → at ≡ n.now.at
+    → Finds (Only Limit (IsPast limit ns)) (Some (record { fault = Limit; at = at }))
+past_here names ns limit n same within is at place =
+    rw (place, ← same) (finds_past (names_of names) limit n.now (name_at names limit n within is))
+
+pub all_here : (names : List (Bor Name)) (ns : List Name) (fault : CheckFault) (i : ℕ) (best : Option Found) → names_of names ≡ ns → i ≤ length names → length names ≤ i
+    → Finds (Only fault (Below ns fault i)) best → Finds (Only fault (IsTwice ns)) best
+all_here names ns fault i best same low high =
+    all_below ns fault i best (omega (arith, length-map names (λ (r : Bor Name). r.now), ap (λ (xs : List Name). length xs) same))

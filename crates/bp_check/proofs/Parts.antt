@@ -1,13 +1,13 @@
 -- The faults of a program are those of its parts.
-use Rattle.std.proofs.Common.{◌≡◌, ◌⊎◌, ℕ, List, [], ◌∷◌, ◌++◌, map, Option, None, refl, ap, sym, subst, inl, inr, ◌∙◌, append_assoc}
-use Rattle.bp_tree.specs.Ast.{Name, Procedure, Program}
+use Rattle.std.proofs.Common.{◌≡◌, ◌⊎◌, ℕ, ◌++◌, map, Option, refl, sym, subst, inl, inr}
+use Rattle.bp_tree.specs.Ast.{Procedure, Program}
 use Rattle.bp_check.specs.declared.faults.CheckFault.{CheckFault}
 use Rattle.bp_check.specs.declared.faults.CheckFault.TheVariants.{TwiceGlobal, TwiceProcedure, TwiceLocal, TwiceLabel, UnknownVariable, UnknownProcedure, UnknownLabel, Arity, Lengths, TwiceTarget, Limit, Memory}
 use Rattle.bp_check.specs.declared.faults.Found.{Found}
 use Rattle.bp_tree.specs.Lookup.{variables}
 use Rattle.bp_check.specs.Scopes.{Among, Labelled, labels, statements}
-use Rattle.bp_check.specs.Faults.{IsFault, IsTwice, IsPast, max_globals, max_procedures, max_own_names}
-use Rattle.bp_check.specs.Sets.{Only, IsStatementFault, IsFaultOfSome, IsFaultOfNames, IsFaultOfBody, IsProcedureFault, IsFaultOfProcedures}
+use Rattle.bp_check.specs.Faults.{IsFault, max_globals, max_procedures}
+use Rattle.bp_check.specs.Sets.{IsStatementFault, IsFaultOfNames, IsProcedureFault, IsFaultOfProcedures}
 use Rattle.bp_check.specs.Least.{Finds, least_of}
 use Rattle.bp_check.proofs.Finding.{finds_both, finds_same}
 

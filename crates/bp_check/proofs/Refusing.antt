@@ -1,10 +1,10 @@
 -- The least fault that was found is the refusal.
-use Rattle.std.proofs.Common.{◌≡◌, ◌⊎◌, ℕ, ◌<◌, ◌≤◌}
+use Rattle.std.proofs.Common.{ℕ}
 use Rattle.bp_tree.specs.Ast.{Program}
 use Rattle.bp_check.specs.declared.faults.CheckFault.{CheckFault}
 use Rattle.bp_check.specs.declared.faults.CheckFault.TheVariants.{Memory, Limit}
 use Rattle.bp_check.specs.declared.faults.Found.{Found}
-use Rattle.bp_check.specs.Faults.{IsFault, number_of}
+use Rattle.bp_check.specs.Faults.{IsFault}
 use Rattle.bp_check.specs.Refusals.{IsLeastFault, IsRefusal}
 use Rattle.bp_check.specs.Least.{IsLeast}
 

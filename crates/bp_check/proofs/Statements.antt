@@ -1,42 +1,14 @@
 -- The faults of one statement.
-use Rattle.std.proofs.Common.{◌≡◌, ◌≢◌, ◌⊎◌, ℕ, ◌+◌, ◌<◌, Bool, true, false, List, [], ◌∷◌, ◌++◌, length, get_or, take, drop, map, Option, None, Some, refl, ap, sym, ◌∙◌, inl, inr, arith, subst, cond, drop-cons, suc, add-one}
+use Rattle.std.proofs.Common.{◌≡◌, ◌⊎◌, ℕ, List, [], length, Option, refl, sym, inl, inr, subst}
 use Rattle.std.proofs.Common.{Result, Ok, Err, IfOk}
-use Rattle.std.specs.Str.{bytes_eq}
-use Rattle.std.proofs.lemmas.List.{take_more, length-map, take-append-drop}
 use Rattle.bp_tree.specs.Ast.{Name, Expression, Statement, Assigns, Calls, GoesTo, Procedure}
 use Rattle.bp_check.specs.declared.faults.CheckFault.{CheckFault}
-use Rattle.bp_check.specs.declared.faults.CheckFault.TheVariants.{TwiceGlobal, TwiceProcedure, TwiceLocal, TwiceLabel, UnknownVariable, UnknownProcedure, UnknownLabel, Arity, Lengths, TwiceTarget, Limit, Memory}
+use Rattle.bp_check.specs.declared.faults.CheckFault.TheVariants.{UnknownVariable, UnknownLabel, Lengths, TwiceTarget}
 use Rattle.bp_check.specs.declared.faults.Found.{Found}
-use Rattle.bp_tree.specs.Lookup.{procedure_named}
 use Rattle.bp_check.specs.Faults.{IsUndeclared, IsUneven, HasTargetTwice}
 use Rattle.bp_check.specs.Sets.{Only, IsMisuse, IsStatementFault}
 use Rattle.bp_check.specs.Least.{Finds, least_of}
 use Rattle.bp_check.proofs.Finding.{finds_both, finds_same}
-
--- Looking for a procedure by its name.
-
-module _ (text : List ℕ) where
-  skipped : (x : Procedure) (xs ys : List Procedure) (b : Bool) → (procedure_named xs text ≡ None → procedure_named (xs ++ ys) text ≡ procedure_named ys text)
-      → cond b (Some x) (procedure_named xs text) ≡ None → cond b (Some x) (procedure_named (xs ++ ys) text) ≡ procedure_named ys text
-  skipped x xs ys true rest e = cc
-  skipped x xs ys false rest e = rest e
-
-  named_after : (xs ys : List Procedure) → procedure_named xs text ≡ None → procedure_named (xs ++ ys) text ≡ procedure_named ys text
-  named_after [] ys none = refl
-  named_after (x ∷ xs) ys none = skipped x xs ys (bytes_eq x.name.text text) (named_after xs ys) none
-
-  pub named_more : (qs : List Procedure) (i : ℕ) (q : Procedure) → i < length qs → q ≡ get_or qs i q → procedure_named (take i qs) text ≡ None
-      → bytes_eq q.name.text text ≡ false → procedure_named (take (i + 1) qs) text ≡ None
-  named_more qs i q within is none other =
-      let grown = take_more qs i q within ∙ ap (λ x. take i qs ++ x ∷ []) (sym is) in
-      rw grown (named_after (take i qs) (q ∷ []) none ∙ ap (λ b. cond b (Some q) None) other)
-
-  pub named_here : (qs : List Procedure) (i : ℕ) (q : Procedure) → i < length qs → q ≡ get_or qs i q → procedure_named (take i qs) text ≡ None
-      → bytes_eq q.name.text text ≡ true → Some q ≡ procedure_named qs text
-  named_here qs i q within is none same =
-      let rest = drop-cons qs i q within ∙ ap (λ x. x ∷ drop (suc i) qs) (sym is) in
-      let parts = ap (λ xs. take i qs ++ xs) (sym rest) ∙ take-append-drop i qs in
-      sym (ap (λ xs. procedure_named xs text) (sym parts) ∙ named_after (take i qs) (q ∷ drop (suc i) qs) none ∙ ap (λ b. cond b (Some q) (procedure_named (drop (suc i) qs) text)) same)
 
 pub no_uneven : (targets : List Name) (values : List Expression) (at : ℕ) → length targets ≡ length values → IsUneven (Assigns targets values) at → ⊥
 no_uneven targets values at e x = x.0 e
@@ -79,6 +51,17 @@ module _ (qs : List Procedure) (ls : List Name) where
 
       from : (g : CheckFault) (at : ℕ) → IsMisuse qs ls (Calls n es) g at → IsMisuse qs [] (Calls n es) g at
       from Lengths at x = x
+      from _ at x = x
+
+  pub jump_anywhere : (n : Name) (o : Option Found) → Finds (IsMisuse [] ls (GoesTo n)) o → Finds (IsMisuse qs ls (GoesTo n)) o
+  jump_anywhere n o = finds_same (IsMisuse [] ls (GoesTo n)) (IsMisuse qs ls (GoesTo n)) o to from
+    where
+      to : (g : CheckFault) (at : ℕ) → IsMisuse [] ls (GoesTo n) g at → IsMisuse qs ls (GoesTo n) g at
+      to UnknownLabel at x = x
+      to _ at x = x
+
+      from : (g : CheckFault) (at : ℕ) → IsMisuse qs ls (GoesTo n) g at → IsMisuse [] ls (GoesTo n) g at
+      from UnknownLabel at x = x
       from _ at x = x
 
   pub with_stray : (declared : List Name) (s : Statement) (a b : Option Found) → Finds (IsMisuse qs ls s) a

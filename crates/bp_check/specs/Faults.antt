@@ -1,5 +1,5 @@
 -- The faults of a program: for each kind, the places where it has that fault.
-use Rattle.std.specs.Prelude.{◌≡◌, ◌≢◌, ◌⊎◌, ℕ, ◌++◌, true, false, List, [], ◌∷◌, Option, Some, None, slice_get, take, map, length}
+use Rattle.std.specs.Prelude.{◌≡◌, ◌≢◌, ◌⊎◌, ℕ, ◌++◌, true, false, List, Some, None, take, map, length}
 use Rattle.bp_check.specs.declared.faults.CheckFault.{CheckFault}
 use Rattle.bp_check.specs.declared.faults.CheckFault.TheVariants.{TwiceGlobal, TwiceProcedure, TwiceLocal, TwiceLabel, UnknownVariable, UnknownProcedure, UnknownLabel, Arity, Lengths, TwiceTarget, Limit, Memory}
 use Rattle.bp_tree.specs.Ast.{Name, Statement, GoesTo, Assigns, Calls, Procedure, Program}

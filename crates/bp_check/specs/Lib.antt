@@ -3,3 +3,4 @@ pub mod Least
 pub mod Refusals
 pub mod Scopes
 pub mod Sets
+pub mod Tables

@@ -3,11 +3,11 @@ use Rattle.std.specs.Prelude.{◌≡◌, ◌⊎◌, ℕ, ◌++◌, false, List, 
 use Rattle.std.specs.Borrow.{Bor}
 use Rattle.bp_check.specs.declared.faults.CheckFault.{CheckFault}
 use Rattle.bp_check.specs.declared.faults.CheckFault.TheVariants.{TwiceLocal, TwiceLabel, UnknownVariable, UnknownProcedure, UnknownLabel, Arity, Lengths, TwiceTarget, Limit}
-use Rattle.bp_tree.specs.Ast.{Name, Expression, Statement, Procedure}
+use Rattle.bp_tree.specs.Ast.{Name, Statement, Procedure}
 use Rattle.bp_tree.specs.declared.stmts.Stmt.{Stmt}
 use Rattle.bp_tree.specs.Blocks.{statement_of}
 use Rattle.bp_tree.specs.Lookup.{variables}
-use Rattle.bp_check.specs.Scopes.{has, Uses, SomeUses, Among, Labelled, statements, labels}
+use Rattle.bp_check.specs.Scopes.{has, Among, Labelled, statements, labels}
 use Rattle.bp_check.specs.Faults.{IsTwice, IsPast, IsUndeclared, CallsNone, CallsWrongly, JumpsNowhere, IsUneven, HasTargetTwice, max_own_names}
 
 abbrev pub names_of : List (Bor Name) → List Name
@@ -48,13 +48,14 @@ IsFaultOfSome declared qs ls ss g at = (s : Labelled) × Among ss s × IsStateme
 abbrev pub IsFaultOfNames : CheckFault → ℕ → List Name → CheckFault → ℕ → Type 0
 IsFaultOfNames fault limit ns g at = Only fault (IsTwice ns) g at ⊎ Only Limit (IsPast limit ns) g at
 
+-- a fault of a statement or label of a procedure, among declared names and procedures
 abbrev pub IsFaultOfBody : List Name → List Procedure → Procedure → CheckFault → ℕ → Type 0
-IsFaultOfBody globals qs q g at =
-    IsFaultOfSome (variables q ++ globals) qs (labels q.body) (statements q.body) g at ⊎ Only TwiceLabel (IsTwice (labels q.body)) g at
+IsFaultOfBody declared qs q g at =
+    IsFaultOfSome declared qs (labels q.body) (statements q.body) g at ⊎ Only TwiceLabel (IsTwice (labels q.body)) g at
 
 -- a fault that stands inside a procedure among these globals and procedures
 abbrev pub IsProcedureFault : List Name → List Procedure → Procedure → CheckFault → ℕ → Type 0
-IsProcedureFault globals qs q g at = IsFaultOfNames TwiceLocal max_own_names (variables q) g at ⊎ IsFaultOfBody globals qs q g at
+IsProcedureFault globals qs q g at = IsFaultOfNames TwiceLocal max_own_names (variables q) g at ⊎ IsFaultOfBody (variables q ++ globals) qs q g at
 
 abbrev pub IsFaultOfProcedures : List Name → List Procedure → List Procedure → CheckFault → ℕ → Type 0
 IsFaultOfProcedures globals qs some g at = (q : Procedure) × Among some q × IsProcedureFault globals qs q g at

@@ -4,33 +4,22 @@ ghost use Rattle.bp_tree.specs.Ast.{GoesTo, Assigns, Calls};
 ghost use Rattle.bp_tree.specs.Views.{expression_of};
 ghost use Rattle.bp_tree.specs.Blocks.{statement_of};
 ghost use Rattle.bp_check.specs.Faults.{IsUndeclared, IsUneven};
-ghost use Rattle.bp_tree.specs.Lookup.{procedure_named};
-ghost use Rattle.bp_check.specs.Sets.{names_of, Only, IsMisuse, IsStatementFault};
+ghost use Rattle.bp_check.specs.Sets.{Only, IsMisuse, IsStatementFault};
 ghost use Rattle.bp_check.specs.Least.{Finds};
-ghost use Rattle.std.specs.Option.{option_copied};
 
+use crate::callees::Callees;
 use crate::faults::{CheckFault, Found};
 use crate::least::least;
-use crate::scopes::{gather, has_name, twice};
+use crate::repeats::twice;
+use crate::scopes::Scope;
+use crate::tables::NameTable;
 use crate::uses::{stray_in_all, stray_in_decider, stray_names};
-use bp_tree::{Expr, Form, Name, Proc};
+use bp_tree::{Expr, Form, Name};
 use std::alloc::{AllocError, Global};
 
-/// The first procedure that is called so.
-pub(crate) fn proc_named<'a>(procs: &'a [Proc], name: &str) -> Option<&'a Proc>
-    ensures { option_copied result ≡ procedure_named procs.now name.now }
-{
-    for proc in procs {
-        if proc.name().text() == name {
-            return Some(proc);
-        }
-    }
-    None
-}
-
 /// A variable that the statement mentions and that is not declared.
-fn stray(declared: &[&Name], form: &Form) -> Option<Found>
-    ensures { Finds (Only CheckFault.UnknownVariable (IsUndeclared (names_of declared.now) (statement_of form.now))) result }
+fn stray(declared: &Scope<'_, '_>, form: &Form) -> Option<Found>
+    ensures { Finds (Only CheckFault.UnknownVariable (IsUndeclared declared.now (statement_of form.now))) result }
 {
     match form {
         Form::Skip | Form::Goto(_) | Form::Return => None,
@@ -48,10 +37,10 @@ fn stray(declared: &[&Name], form: &Form) -> Option<Found>
 }
 
 /// A call of no procedure, or with a wrong number of arguments.
-fn wrong_call(procs: &[Proc], callee: &Name, arguments: &[Expr]) -> Option<Found>
-    ensures { Finds (IsMisuse procs.now [] (Calls callee.now (map expression_of arguments.now))) result }
+fn wrong_call(callees: &Callees<'_>, callee: &Name, arguments: &[Expr]) -> Option<Found>
+    ensures { Finds (IsMisuse callees.now [] (Calls callee.now (map expression_of arguments.now))) result }
 {
-    match proc_named(procs, callee.text()) {
+    match callees.named(callee.text()) {
         None => Some(Found {
             fault: CheckFault::UnknownProcedure,
             at: callee.at(),
@@ -70,10 +59,10 @@ fn wrong_call(procs: &[Proc], callee: &Name, arguments: &[Expr]) -> Option<Found
 }
 
 /// A jump to none of the labels.
-fn lost_jump(labels: &[&Name], to: &Name) -> Option<Found>
-    ensures { Finds (IsMisuse [] (names_of labels.now) (GoesTo to.now)) result }
+fn lost_jump(labels: &NameTable<'_>, to: &Name) -> Option<Found>
+    ensures { Finds (IsMisuse [] labels.now (GoesTo to.now)) result }
 {
-    if has_name(labels, to.text()) {
+    if labels.has(to.text()) {
         return None;
     }
     Some(Found {
@@ -105,24 +94,23 @@ fn wrong_sides(
     ensures { IfOk result (Finds (IsMisuse [] [] (Assigns targets.now (map expression_of values.now)))) }
 {
     let found = uneven(targets, values);
-    let mut names = Vec::new(alloc);
-    gather(&mut names, targets)?;
+    let names = NameTable::of(alloc, targets)?;
     Ok(least(found, twice(&names, CheckFault::TwiceTarget)))
 }
 
 /// The faults of a statement but for stray names.
 fn misuse(
     alloc: Global,
-    procs: &[Proc],
-    labels: &[&Name],
+    callees: &Callees<'_>,
+    labels: &NameTable<'_>,
     form: &Form,
 ) -> Result<Option<Found>, AllocError>
-    ensures { IfOk result (Finds (IsMisuse procs.now (names_of labels.now) (statement_of form.now))) }
+    ensures { IfOk result (Finds (IsMisuse callees.now labels.now (statement_of form.now))) }
 {
     match form {
         Form::Goto(to) => Ok(lost_jump(labels, to)),
         Form::Assign(targets, values) => wrong_sides(alloc, targets.as_slice(), values.as_slice()),
-        Form::Call(callee, arguments) => Ok(wrong_call(procs, callee, arguments.as_slice())),
+        Form::Call(callee, arguments) => Ok(wrong_call(callees, callee, arguments.as_slice())),
         _ => Ok(None),
     }
 }
@@ -130,13 +118,13 @@ fn misuse(
 /// The least fault of a statement, apart from the blocks inside it.
 pub(crate) fn statement_fault(
     alloc: Global,
-    declared: &[&Name],
-    procs: &[Proc],
-    labels: &[&Name],
+    declared: &Scope<'_, '_>,
+    callees: &Callees<'_>,
+    labels: &NameTable<'_>,
     form: &Form,
 ) -> Result<Option<Found>, AllocError>
-    ensures { IfOk result (Finds (IsStatementFault (names_of declared.now) procs.now (names_of labels.now) (statement_of form.now))) }
+    ensures { IfOk result (Finds (IsStatementFault declared.now callees.now labels.now (statement_of form.now))) }
 {
-    let found = misuse(alloc, procs, labels, form)?;
+    let found = misuse(alloc, callees, labels, form)?;
     Ok(least(found, stray(declared, form)))
 }

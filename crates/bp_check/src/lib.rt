@@ -1,6 +1,7 @@
 //! Which programs are lawful: scopes, arity, labels and limits.
 #![tactic(auto)]
 
+mod callees;
 mod checks;
 mod faults;
 mod forms;
@@ -8,7 +9,9 @@ mod least;
 pub mod limits;
 mod procedures;
 mod programs;
+mod repeats;
 mod scopes;
+mod tables;
 #[cfg(test)]
 mod tests;
 mod uses;

@@ -3,15 +3,17 @@ ghost use Rattle.std.specs.Prelude.{◌≡◌, ◌++◌, IfOk, OnOk};
 ghost use Rattle.bp_tree.specs.Blocks.{block_of, statement_of};
 ghost use Rattle.bp_tree.specs.Lookup.{variables};
 ghost use Rattle.bp_check.specs.Scopes.{statements, statements_inside, labels_of};
-ghost use Rattle.bp_check.specs.Faults.{max_own_names};
-ghost use Rattle.bp_check.specs.Sets.{names_of, all_labelled, IsFaultOfNames, IsFaultOfSome, IsFaultOfBody, IsProcedureFault};
+ghost use Rattle.bp_check.specs.Sets.{names_of, all_labelled, IsFaultOfSome, IsFaultOfBody, IsProcedureFault};
 ghost use Rattle.bp_check.specs.Least.{Finds};
 
+use crate::callees::Callees;
 use crate::faults::{CheckFault, Found};
 use crate::forms::statement_fault;
 use crate::least::least;
 use crate::limits::MAX_OWN_NAMES;
-use crate::scopes::{fault_of_names, gather, twice};
+use crate::repeats::{fault_of_names, twice};
+use crate::scopes::Scope;
+use crate::tables::{NameTable, gather};
 use bp_tree::{Form, Name, Proc, Stmt};
 use std::alloc::{AllocError, Global};
 
@@ -58,16 +60,16 @@ fn gather_labels<'a>(out: &mut Vec<&'a Name>, stmts: &[&'a Stmt]) -> Result<(), 
 /// The least fault of statements.
 fn fault_of_some(
     alloc: Global,
-    declared: &[&Name],
-    procs: &[Proc],
-    labels: &[&Name],
+    declared: &Scope<'_, '_>,
+    callees: &Callees<'_>,
+    labels: &NameTable<'_>,
     stmts: &[&Stmt],
 ) -> Result<Option<Found>, AllocError>
-    ensures { IfOk result (Finds (IsFaultOfSome (names_of declared.now) procs.now (names_of labels.now) (all_labelled stmts.now))) }
+    ensures { IfOk result (Finds (IsFaultOfSome declared.now callees.now labels.now (all_labelled stmts.now))) }
 {
     let mut best = None;
     for stmt in stmts {
-        let found = statement_fault(alloc, declared, procs, labels, stmt.form())?;
+        let found = statement_fault(alloc, declared, callees, labels, stmt.form())?;
         best = least(best, found);
     }
     Ok(best)
@@ -101,40 +103,33 @@ fn labels_in<'a>(alloc: Global, stmts: &[&'a Stmt]) -> Result<Vec<&'a Name>, All
     Ok(labels)
 }
 
-/// The least fault among the formals and locals of a procedure.
-fn fault_of_own_names(alloc: Global, proc: &Proc) -> Result<Option<Found>, AllocError>
-    ensures { IfOk result (Finds (IsFaultOfNames CheckFault.TwiceLocal max_own_names (variables proc.now))) }
-{
-    let names = names_of_own(alloc, proc)?;
-    Ok(fault_of_names(&names, CheckFault::TwiceLocal, MAX_OWN_NAMES))
-}
-
 /// The least fault among the statements and labels of a procedure.
 fn fault_of_body(
     alloc: Global,
-    globals: &[Name],
-    procs: &[Proc],
+    declared: &Scope<'_, '_>,
+    callees: &Callees<'_>,
     proc: &Proc,
 ) -> Result<Option<Found>, AllocError>
-    ensures { IfOk result (Finds (IsFaultOfBody globals.now procs.now proc.now)) }
+    ensures { IfOk result (Finds (IsFaultOfBody declared.now callees.now proc.now)) }
 {
-    let mut declared = names_of_own(alloc, proc)?;
-    gather(&mut declared, globals)?;
     let stmts = all_statements(alloc, proc)?;
-    let labels = labels_in(alloc, &stmts)?;
-    let found = fault_of_some(alloc, &declared, procs, &labels, &stmts)?;
+    let labels = NameTable::new(alloc, labels_in(alloc, &stmts)?)?;
+    let found = fault_of_some(alloc, declared, callees, &labels, &stmts)?;
     Ok(least(found, twice(&labels, CheckFault::TwiceLabel)))
 }
 
 /// The least fault inside a procedure.
-pub(crate) fn procedure_fault(
+pub(crate) fn procedure_fault<'a>(
     alloc: Global,
-    globals: &[Name],
-    procs: &[Proc],
-    proc: &Proc,
+    globals: &NameTable<'a>,
+    callees: &Callees<'_>,
+    proc: &'a Proc,
 ) -> Result<Option<Found>, AllocError>
-    ensures { IfOk result (Finds (IsProcedureFault globals.now procs.now proc.now)) }
+    ensures { IfOk result (Finds (IsProcedureFault globals.now callees.now proc.now)) }
 {
-    let found = fault_of_own_names(alloc, proc)?;
-    Ok(least(found, fault_of_body(alloc, globals, procs, proc)?))
+    let own = NameTable::new(alloc, names_of_own(alloc, proc)?)?;
+    let found = fault_of_names(&own, CheckFault::TwiceLocal, MAX_OWN_NAMES);
+    let declared = Scope::new(own, globals);
+    let inside = fault_of_body(alloc, &declared, callees, proc)?;
+    Ok(least(found, inside))
 }

@@ -1,74 +1,43 @@
-//! Lists of names, and names that stand twice in one or past its limit.
-ghost use Rattle.std.specs.Prelude.{◌≡◌, ◌++◌, OnOk};
+//! The variables that the statements of a procedure may name.
+ghost use Rattle.std.specs.Prelude.{◌≡◌, ◌++◌};
 ghost use Rattle.bp_check.specs.Scopes.{has};
-ghost use Rattle.bp_check.specs.Faults.{IsTwice, IsPast};
-ghost use Rattle.bp_check.specs.Sets.{names_of, Only, IsFaultOfNames};
-ghost use Rattle.bp_check.specs.Least.{Finds};
 
-use crate::faults::{CheckFault, Found};
-use crate::least::least;
-use bp_tree::Name;
-use std::alloc::AllocError;
+use crate::tables::NameTable;
+use std::marker::Model;
 
-/// Appends names to a list.
-pub(crate) fn gather<'a>(out: &mut Vec<&'a Name>, names: &'a [Name]) -> Result<(), AllocError>
-    ensures { OnOk result (names_of out.new.items ≡ names_of out.old.items ++ names.now) }
-{
-    for name in names {
-        out.push(name)?;
-    }
-    Ok(())
+/// A procedure's own variables, and behind them the globals.
+#[derive(Drop)]
+pub(crate) struct Scope<'s, 'a> {
+    own: NameTable<'a>,
+    globals: &'s NameTable<'a>,
 }
 
-/// Whether a name of the list is spelled so.
-pub(crate) fn has_name(names: &[&Name], text: &str) -> bool
-    ensures { result ≡ has (names_of names.now) text.now }
-{
-    for name in names {
-        if name.text() == text {
-            return true;
-        }
-    }
-    false
+impl<'s, 'a> Model for Scope<'s, 'a> {
+    ghost use Rattle.std.specs.Prelude.{List, ◌++◌};
+    ghost use Rattle.std.specs.Coded.{coded_list};
+    ghost use Rattle.bp_tree.specs.Ast as ast;
+    ghost use Rattle.bp_tree.specs.Codes.{coded_name};
+
+    ghost Value = { List ast.Name };
+
+    ghost coded = { coded_list coded_name };
+
+    ghost view = { λ s. s.own ++ s.globals.now };
 }
 
-/// The least place of a name that an earlier one is spelled like, as this fault.
-pub(crate) fn twice(names: &[&Name], fault: CheckFault) -> Option<Found>
-    ensures { Finds (Only fault (IsTwice (names_of names.now))) result }
-{
-    let mut best = None;
-    for (i, name) in names.iter().enumerate() {
-        if has_name(&names[..i], name.text()) {
-            best = least(
-                best,
-                Some(Found {
-                    fault,
-                    at: name.at(),
-                }),
-            );
-        }
+impl<'s, 'a> Scope<'s, 'a> {
+    /// The scope of a procedure with these variables of its own.
+    pub(crate) fn new(own: NameTable<'a>, globals: &'s NameTable<'a>) -> Scope<'s, 'a>
+        ensures { result ≡ own.entry ++ globals.now }
+    {
+        Scope { own, globals }
     }
-    best
-}
 
-/// The first name past a limit.
-fn past(names: &[&Name], limit: usize) -> Option<Found>
-    ensures { Finds (Only CheckFault.Limit (IsPast limit (names_of names.now))) result }
-{
-    if limit >= names.len() {
-        return None;
+    /// Whether a variable is spelled so.
+    pub(crate) fn has(&self, text: &str) -> bool
+        ensures { result ≡ has self.now text.now }
+    {
+        let globals = self.globals;
+        self.own.has(text) || globals.has(text)
     }
-    let name = names[limit];
-    Some(Found {
-        fault: CheckFault::Limit,
-        at: name.at(),
-    })
-}
-
-/// The least fault of names of one kind: one that stands twice, or the first past their limit.
-pub(crate) fn fault_of_names(names: &[&Name], fault: CheckFault, limit: usize) -> Option<Found>
-    ensures { Finds (IsFaultOfNames fault limit (names_of names.now)) result }
-{
-    let found = twice(names, fault);
-    least(found, past(names, limit))
 }

@@ -2,19 +2,19 @@
 ghost use Rattle.std.specs.Prelude.{◌≡◌, map};
 ghost use Rattle.bp_tree.specs.Views.{expression_of, decision_of};
 ghost use Rattle.bp_check.specs.Scopes.{Uses, SomeUses, DecisionUses, Among};
-ghost use Rattle.bp_check.specs.Sets.{names_of, Only, StrayIn};
+ghost use Rattle.bp_check.specs.Sets.{Only, StrayIn};
 ghost use Rattle.bp_check.specs.Least.{Finds};
 
 use crate::faults::{CheckFault, Found};
 use crate::least::least;
-use crate::scopes::has_name;
+use crate::scopes::Scope;
 use bp_tree::{Decider, Expr, Name};
 
 /// The name, where the list does not have it.
-pub(crate) fn stray_name(declared: &[&Name], name: &Name) -> Option<Found>
-    ensures { Finds (Only CheckFault.UnknownVariable (StrayIn (names_of declared.now) (λ n. name.now ≡ n))) result }
+pub(crate) fn stray_name(declared: &Scope<'_, '_>, name: &Name) -> Option<Found>
+    ensures { Finds (Only CheckFault.UnknownVariable (StrayIn declared.now (λ n. name.now ≡ n))) result }
 {
-    if has_name(declared, name.text()) {
+    if declared.has(name.text()) {
         return None;
     }
     Some(Found {
@@ -24,8 +24,8 @@ pub(crate) fn stray_name(declared: &[&Name], name: &Name) -> Option<Found>
 }
 
 /// The least stray name of an expression.
-pub(crate) fn stray_in(declared: &[&Name], expr: &Expr) -> Option<Found>
-    ensures { Finds (Only CheckFault.UnknownVariable (StrayIn (names_of declared.now) (Uses (expression_of expr.now)))) result }
+pub(crate) fn stray_in(declared: &Scope<'_, '_>, expr: &Expr) -> Option<Found>
+    ensures { Finds (Only CheckFault.UnknownVariable (StrayIn declared.now (Uses (expression_of expr.now)))) result }
 {
     match expr {
         Expr::Const(_) => None,
@@ -38,8 +38,8 @@ pub(crate) fn stray_in(declared: &[&Name], expr: &Expr) -> Option<Found>
     }
 }
 
-pub(crate) fn stray_in_decider(declared: &[&Name], decider: &Decider) -> Option<Found>
-    ensures { Finds (Only CheckFault.UnknownVariable (StrayIn (names_of declared.now) (DecisionUses (decision_of decider.now)))) result }
+pub(crate) fn stray_in_decider(declared: &Scope<'_, '_>, decider: &Decider) -> Option<Found>
+    ensures { Finds (Only CheckFault.UnknownVariable (StrayIn declared.now (DecisionUses (decision_of decider.now)))) result }
 {
     match decider {
         Decider::Choice => None,
@@ -47,8 +47,8 @@ pub(crate) fn stray_in_decider(declared: &[&Name], decider: &Decider) -> Option<
     }
 }
 
-pub(crate) fn stray_in_all(declared: &[&Name], exprs: &[Expr]) -> Option<Found>
-    ensures { Finds (Only CheckFault.UnknownVariable (StrayIn (names_of declared.now) (SomeUses (map expression_of exprs.now)))) result }
+pub(crate) fn stray_in_all(declared: &Scope<'_, '_>, exprs: &[Expr]) -> Option<Found>
+    ensures { Finds (Only CheckFault.UnknownVariable (StrayIn declared.now (SomeUses (map expression_of exprs.now)))) result }
 {
     let mut best = None;
     for expr in exprs {
@@ -57,8 +57,8 @@ pub(crate) fn stray_in_all(declared: &[&Name], exprs: &[Expr]) -> Option<Found>
     best
 }
 
-pub(crate) fn stray_names(declared: &[&Name], names: &[Name]) -> Option<Found>
-    ensures { Finds (Only CheckFault.UnknownVariable (StrayIn (names_of declared.now) (Among names.now))) result }
+pub(crate) fn stray_names(declared: &Scope<'_, '_>, names: &[Name]) -> Option<Found>
+    ensures { Finds (Only CheckFault.UnknownVariable (StrayIn declared.now (Among names.now))) result }
 {
     let mut best = None;
     for name in names {

@@ -1,4 +1,4 @@
-use Rattle.std.proofs.Common.{sym, ◌∙◌, map}
+use Rattle.std.proofs.Common.{sym, ◌∙◌}
 use Rattle.std.proofs.lemmas.List.{length-map}
 use Rattle.bp_tree.specs.Views.{expression_of}
 use Rattle.bp_check.proofs.forms.uneven.Goals as goal

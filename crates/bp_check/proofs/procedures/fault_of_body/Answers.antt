@@ -1,18 +1,15 @@
-use Rattle.std.proofs.Common.{ap, ◌∙◌, ◌++◌}
+use Rattle.std.proofs.Common.{ap, ◌∙◌}
 use Rattle.bp_check.specs.declared.faults.CheckFault.TheVariants.{TwiceLabel}
-use Rattle.bp_tree.specs.Lookup.{variables}
 use Rattle.bp_check.specs.Scopes.{labels, labels_of, statements}
 use Rattle.bp_check.specs.Faults.{IsTwice}
-use Rattle.bp_check.specs.Sets.{names_of, all_labelled, Only, IsFaultOfSome}
+use Rattle.bp_check.specs.Sets.{all_labelled, Only, IsFaultOfSome}
 use Rattle.bp_check.proofs.Finding.{finds_both}
 use Rattle.bp_check.proofs.procedures.fault_of_body.Goals as goal
 
 pub returns : goal.returns
 returns c =
     let q = c.args.proc.now in
-    let declared = ap names_of c.deref-2.ensures.value ∙ c.in_ok-gather.ensures ∙ ap (λ xs. xs ++ c.args.globals.now) c.in_ok-declared.ensures in
-    let found_labels = c.in_ok-labels.ensures ∙ ap (λ xs. labels_of (all_labelled xs)) c.deref.ensures.value ∙ ap labels_of c.in_ok-stmts.ensures in
-    let given_labels = ap names_of c.deref-3.ensures.value ∙ found_labels in
-    let stmts = ap all_labelled c.deref-4.ensures.value ∙ c.in_ok-stmts.ensures in
+    let found_labels = c.in_ok-labels.ensures ∙ c.in_ok-labels_in.ensures ∙ ap (λ xs. labels_of (all_labelled xs)) c.deref.ensures.value ∙ ap labels_of c.in_ok-stmts.ensures in
+    let stmts = ap all_labelled c.deref-2.ensures.value ∙ c.in_ok-stmts.ensures in
     rw c.least.ensures
-    (finds_both (IsFaultOfSome (variables q ++ c.args.globals.now) c.args.procs.now (labels q.body) (statements q.body)) (Only TwiceLabel (IsTwice (labels q.body))) _ _ (rw (declared, given_labels, stmts) at c.in_ok-found.ensures) (rw (ap names_of c.deref-5.ensures.value ∙ found_labels) at c.twice.ensures))
+    (finds_both (IsFaultOfSome c.args.declared.now c.args.callees.now (labels q.body) (statements q.body)) (Only TwiceLabel (IsTwice (labels q.body))) _ _ (rw (found_labels, stmts) at c.in_ok-found.ensures) (rw found_labels at c.twice.ensures))

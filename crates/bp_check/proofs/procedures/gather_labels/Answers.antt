@@ -1,4 +1,4 @@
-use Rattle.std.proofs.Common.{ap, ◌∙◌, ◌++◌}
+use Rattle.std.proofs.Common.{ap, ◌∙◌}
 use Rattle.bp_check.specs.Sets.{names_of}
 use Rattle.bp_check.proofs.Walks.{labels_more, pushed_label, no_label}
 use Rattle.bp_check.proofs.procedures.gather_labels.Goals as goal

@@ -1,3 +1,4 @@
+use Rattle.std.proofs.Common.{◌++◌, ◌∙◌, ap}
 use Rattle.bp_check.specs.declared.faults.CheckFault.TheVariants.{TwiceLocal}
 use Rattle.bp_check.specs.Faults.{max_own_names}
 use Rattle.bp_tree.specs.Lookup.{variables}
@@ -7,4 +8,8 @@ use Rattle.bp_check.proofs.procedures.procedure_fault.Goals as goal
 
 pub returns : goal.returns
 returns c =
-    rw c.least.ensures (finds_both (IsFaultOfNames TwiceLocal max_own_names (variables c.args.proc.now)) (IsFaultOfBody c.args.globals.now c.args.procs.now c.args.proc.now) _ _ c.in_ok-found.ensures c.in_ok-fault_of_body.ensures)
+    let q = c.args.proc.now in
+    let own = c.in_ok-own.ensures ∙ c.in_ok-names_of_own.ensures in
+    let declared = c.new-declared.ensures ∙ ap (λ ns. ns ++ c.args.globals.now) own in
+    rw c.least.ensures
+    (finds_both (IsFaultOfNames TwiceLocal max_own_names (variables q)) (IsFaultOfBody (variables q ++ c.args.globals.now) c.args.callees.now q) _ _ (rw own at c.fault_of_names-found.ensures) (rw declared at c.in_ok-inside.ensures))

@@ -4,4 +4,4 @@ use Rattle.bp_check.specs.Least.{Finds}
 use Rattle.bp_check.proofs.programs.fault_of_procedures.Given as goal
 
 abbrev pub invariant-loop-proc : goal.invariant-loop-proc
-invariant-loop-proc l = Finds (IsFaultOfProcedures l.globals l.procs (take l.proc-index l.procs)) l.best
+invariant-loop-proc l = Finds (IsFaultOfProcedures l.globals l.callees (take l.proc-index l.procs)) l.best

@@ -1,9 +1,0 @@
-use Rattle.bp_check.specs.declared.faults.CheckFault.TheVariants.{Limit}
-use Rattle.bp_check.specs.Faults.{IsTwice, IsPast}
-use Rattle.bp_check.specs.Sets.{names_of, Only}
-use Rattle.bp_check.proofs.Finding.{finds_both}
-use Rattle.bp_check.proofs.scopes.fault_of_names.Goals as goal
-
-pub returns : goal.returns
-returns c =
-    rw c.least.ensures (finds_both (Only c.args.fault (IsTwice (names_of c.args.names.now))) (Only Limit (IsPast c.args.limit (names_of c.args.names.now))) _ _ c.twice-found.ensures c.past.ensures)

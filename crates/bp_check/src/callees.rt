@@ -1,0 +1,69 @@
+//! Procedures that are found by their names.
+ghost use Rattle.std.specs.Prelude.{◌≡◌, ◌++◌, OnOk, IfOk, map};
+ghost use Rattle.std.specs.Option.{option_copied};
+ghost use Rattle.bp_tree.specs.Lookup.{procedure_named};
+ghost use Rattle.bp_check.specs.Sets.{names_of};
+
+use crate::tables::NameTable;
+use bp_tree::{Name, Proc};
+use std::alloc::{AllocError, Global};
+use std::marker::Model;
+
+/// Procedures in order, of which the first of a name is found without a walk over the others.
+#[derive(Drop)]
+pub(crate) struct Callees<'a> {
+    procs: &'a [Proc],
+    names: NameTable<'a>,
+}
+
+impl<'a> Model for Callees<'a> {
+    ghost use Rattle.std.specs.Prelude.{◌≡◌, List, map};
+    ghost use Rattle.std.specs.Coded.{coded_list};
+    ghost use Rattle.bp_tree.specs.Ast.{Procedure};
+    ghost use Rattle.bp_tree.specs.Codes.{coded_procedure};
+
+    ghost Value = { List Procedure };
+
+    ghost coded = { coded_list coded_procedure };
+
+    ghost view = { λ c. c.procs.now };
+
+    ghost invariant = { λ c. c.names ≡ map (λ q. q.name) c.procs.now };
+}
+
+impl<'a> Callees<'a> {
+    /// The table of these procedures.
+    pub(crate) fn new(alloc: Global, procs: &'a [Proc]) -> Result<Callees<'a>, AllocError>
+        ensures { IfOk result (λ c. c ≡ procs.now) }
+    {
+        let mut names = Vec::new(alloc);
+        gather_proc_names(&mut names, procs)?;
+        let names = NameTable::new(alloc, names)?;
+        Ok(Callees { procs, names })
+    }
+
+    /// Their names, in order.
+    pub(crate) fn names(&self) -> &NameTable<'a>
+        ensures { result.now ≡ map (λ q. q.name) self.now }
+    {
+        &self.names
+    }
+
+    /// The first procedure that is called so.
+    pub(crate) fn named(&self, text: &str) -> Option<&'a Proc>
+        ensures { option_copied result ≡ procedure_named self.now text.now }
+    {
+        let first = self.names.first(text)?;
+        self.procs.get(first)
+    }
+}
+
+/// Appends the names of procedures.
+fn gather_proc_names<'a>(out: &mut Vec<&'a Name>, procs: &'a [Proc]) -> Result<(), AllocError>
+    ensures { OnOk result (names_of out.new.items ≡ names_of out.old.items ++ map (λ q. q.name) procs.now) }
+{
+    for proc in procs {
+        out.push(proc.name())?;
+    }
+    Ok(())
+}

@@ -1,0 +1,110 @@
+//! Names that are found by their texts.
+ghost use Rattle.std.specs.Prelude.{◌≡◌, ◌++◌, OnOk, IfOk, take};
+ghost use Rattle.bp_check.specs.Scopes.{has};
+ghost use Rattle.bp_check.specs.Sets.{names_of};
+ghost use Rattle.bp_check.specs.Tables.{HasFirsts, first_of};
+
+use bp_tree::Name;
+use std::alloc::{AllocError, Global};
+use std::collections::BTreeMap;
+use std::marker::Model;
+
+/// Names in order, each of which is found by its text without a walk over the others.
+#[derive(Drop)]
+pub(crate) struct NameTable<'a> {
+    names: Vec<&'a Name>,
+    /// For each text the index of the first name that is spelled so.
+    first: BTreeMap<&'a str, usize>,
+}
+
+impl<'a> Model for NameTable<'a> {
+    ghost use Rattle.std.specs.Prelude.{List};
+    ghost use Rattle.std.specs.Coded.{coded_list};
+    ghost use Rattle.bp_tree.specs.Ast as ast;
+    ghost use Rattle.bp_tree.specs.Codes.{coded_name};
+    ghost use Rattle.bp_check.specs.Sets.{names_of};
+    ghost use Rattle.bp_check.specs.Tables.{HasFirsts};
+
+    ghost Value = { List ast.Name };
+
+    ghost coded = { coded_list coded_name };
+
+    ghost view = { λ t. names_of t.names.items };
+
+    ghost invariant = { λ t. HasFirsts t.first (names_of t.names.items) };
+}
+
+impl<'a> NameTable<'a> {
+    /// The table of these names.
+    pub(crate) fn new(alloc: Global, names: Vec<&'a Name>) -> Result<NameTable<'a>, AllocError>
+        ensures { IfOk result (λ t. t ≡ names_of names.entry.items) }
+    {
+        let first = first_places(alloc, &names)?;
+        Ok(NameTable { names, first })
+    }
+
+    /// The table of a list of names.
+    pub(crate) fn of(alloc: Global, names: &'a [Name]) -> Result<NameTable<'a>, AllocError>
+        ensures { IfOk result (λ t. t ≡ names.now) }
+    {
+        let mut all = Vec::new(alloc);
+        gather(&mut all, names)?;
+        NameTable::new(alloc, all)
+    }
+
+    /// The names, in order.
+    pub(crate) fn names(&self) -> &[&'a Name]
+        ensures { names_of result.now ≡ self.now }
+    {
+        &self.names
+    }
+
+    /// The index of the first name that is spelled so.
+    pub(crate) fn first(&self, text: &str) -> Option<usize>
+        ensures { result ≡ first_of self.now text.now }
+    {
+        self.first.get(text).copied()
+    }
+
+    /// Whether a name is spelled so.
+    pub(crate) fn has(&self, text: &str) -> bool
+        ensures { result ≡ has self.now text.now }
+    {
+        self.first(text).is_some()
+    }
+
+    /// Whether one of the first so many names is spelled so.
+    pub(crate) fn has_before(&self, count: usize, text: &str) -> bool
+        ensures { result ≡ has (take count self.now) text.now }
+    {
+        match self.first(text) {
+            Some(first) => first < count,
+            None => false,
+        }
+    }
+}
+
+/// Appends names to a list.
+pub(crate) fn gather<'a>(out: &mut Vec<&'a Name>, names: &'a [Name]) -> Result<(), AllocError>
+    ensures { OnOk result (names_of out.new.items ≡ names_of out.old.items ++ names.now) }
+{
+    for name in names {
+        out.push(name)?;
+    }
+    Ok(())
+}
+
+/// The index of the first name of each spelling: of two the earlier is put in later, in place of the other.
+fn first_places<'a>(
+    alloc: Global,
+    names: &[&'a Name],
+) -> Result<BTreeMap<&'a str, usize>, AllocError>
+    ensures { IfOk result (λ m. HasFirsts m (names_of names.now)) }
+{
+    let mut first = BTreeMap::new(alloc);
+    for i in (0..names.len()).rev() {
+        let name: &'a Name = names[i];
+        first.insert(name.text(), i)?;
+    }
+    Ok(first)
+}
