@@ -1,5 +1,6 @@
 pub mod Finding
 pub mod Firsts
+pub mod Lawful
 pub mod Lists
 pub mod Names
 pub mod Parts

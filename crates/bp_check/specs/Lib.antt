@@ -1,4 +1,5 @@
 pub mod Faults
+pub mod Laws
 pub mod Least
 pub mod Refusals
 pub mod Scopes

@@ -1,7 +1,9 @@
 //! Lawful trees.
-ghost use Rattle.std.specs.Prelude.{◌≡◌, MatchResult};
+ghost use Rattle.std.specs.Prelude.{◌≡◌, ◌≤◌, MatchResult};
 ghost use Rattle.bp_check.specs.Faults.{IsLawful};
+ghost use Rattle.bp_check.specs.Laws.{HasFewNames, HasDistinctNames, HasSoundStatements};
 ghost use Rattle.bp_check.specs.Refusals.{IsRefusal};
+ghost use Rattle.bp_tree.specs.Sizes.{procedures_size};
 
 use crate::faults::{CheckFault, Found};
 use crate::programs::program_fault;
@@ -36,6 +38,35 @@ impl Checked {
         ensures lawful { IsLawful self.now }
     {
         &self.tree
+    }
+
+    /// Law: there are at most 256 procedures, 128 globals, and 128 formals and locals in each procedure.
+    pub fn has_few_names(&self)
+        ensures { HasFewNames self.now }
+    {
+        let _ = &self.tree;
+    }
+
+    /// Law: no two globals, procedures, own variables of a procedure or labels of a procedure are spelled alike.
+    pub fn has_distinct_names(&self)
+        ensures { HasDistinctNames self.now }
+    {
+        let _ = &self.tree;
+    }
+
+    /// Law: each variable, label and procedure that a statement names is there, and an assignment and a call have as
+    /// many values as they need.
+    pub fn has_sound_statements(&self)
+        ensures { HasSoundStatements self.now }
+    {
+        let _ = &self.tree;
+    }
+
+    /// Law: there are no more statements and procedures together than a text has bytes.
+    pub fn has_few_statements(&self)
+        ensures { procedures_size self.now.procedures ≤ 65536 }
+    {
+        self.tree.has_few_statements();
     }
 }
 
