@@ -1,3 +1,4 @@
 mod Driven
+mod Refused
 mod Separators
 mod Told

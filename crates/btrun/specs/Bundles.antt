@@ -1,10 +1,6 @@
 -- What a bundle is driven to, and why one is refused.
 use Rattle.std.specs.Prelude.{◌≡◌, ◌⊎◌, ℕ, false, List, [], ◌∷◌, Option, None, Some, length, codes, replicate, ⊤}
 use Rattle.bp_tree.specs.Ast.{Program}
-use Rattle.bp_syntax.specs.Texts.{IsTextOf}
-use Rattle.bp_syntax.specs.Texts as texts
-use Rattle.bp_check.specs.Faults.{IsLawful}
-use Rattle.bp_check.specs.Refusals as checks
 use Rattle.bp_code.specs.Flat.{Flat}
 use Rattle.bp_code.specs.StandsFor.{StandsFor}
 use Rattle.bp_code.specs.Writing.{AppendsAll}
@@ -18,19 +14,15 @@ use Rattle.bp_machine.specs.Reports.{IsReport}
 use Rattle.bp_trace.specs.Schedules.{schedule_text, turns_of}
 use Rattle.bp_trace.specs.TraceText.{trace_text}
 use Rattle.bp_trace.specs.Drives as drives
-use Rattle.btrun.specs.Input.{IsInput, IsTooLong}
+use Rattle.btrun.specs.Input.{max_input, IsInput, IsTooLong}
 use Rattle.btrun.specs.Parts.{IsParted}
+use Rattle.btrun.specs.Programs.{IsLawfulText, IsProgramRefusal}
 use Rattle.btrun.specs.declared.faults.BundleFault.{BundleFault}
-use Rattle.btrun.specs.declared.faults.BundleFault.TheVariants.{Device, TooLong, Read, Check, Setup, Drive, Memory}
+use Rattle.btrun.specs.declared.faults.BundleFault.TheVariants as fault
 
 -- one thread begins with `main`, all globals are 0, at most 2 contexts and 1000 calls
 abbrev pub defaults : ℕ → SetupOf
 defaults globals = setup_of (codes "main" ∷ []) (replicate globals false) 2 1000 None
-
--- the text is that of a lawful program
-pub record IsLawfulText (text : List ℕ) (t : Program) : Type 0 where
-  pub derived : IsTextOf text t
-  pub lawful : IsLawful t
 
 -- the code stands for the lawful program of the text
 pub record IsCodeOf (text : List ℕ) (c : Flat) : Type 0 where
@@ -60,23 +52,22 @@ pub record IsBundleDriven (input : List ℕ) (old new : Option (List ℕ)) (r : 
   pub parted : IsParted input text schedule
   pub driven : IsPartsDriven text schedule old new r
 
--- why the program is refused
+-- why there is no code of the text
 abbrev pub IsCodeRefusal : List ℕ → BundleFault → Type 0
-IsCodeRefusal text (Read f) = texts.IsFault text f
-IsCodeRefusal text (Check f at) = (t : Program) × IsTextOf text t × checks.IsRefusal t f at
-IsCodeRefusal text Memory = ⊤
+IsCodeRefusal text (fault.Program f) = IsProgramRefusal text f
+IsCodeRefusal text fault.Memory = ⊤
 IsCodeRefusal text f = ⊥
 
 -- why the parts of a bundle are refused, and what was written: the first of these that applies
 abbrev pub IsPartsRefusal : List ℕ → List ℕ → Option (List ℕ) → Option (List ℕ) → BundleFault → Type 0
-IsPartsRefusal text schedule old new (Setup f) = (new ≡ old) × (c : Flat) × IsCodeOf text c × IsSetupRefusal c f
-IsPartsRefusal text schedule old new (Drive f) = (c : Flat) × IsCodeOf text c × Fits c (defaults c.globals) × drives.IsRefusal c (defaults c.globals) schedule old new f
+IsPartsRefusal text schedule old new (fault.Setup f) = (new ≡ old) × (c : Flat) × IsCodeOf text c × IsSetupRefusal c f
+IsPartsRefusal text schedule old new (fault.Drive f) = (c : Flat) × IsCodeOf text c × Fits c (defaults c.globals) × drives.IsRefusal c (defaults c.globals) schedule old new f
 IsPartsRefusal text schedule old new f = (new ≡ old) × IsCodeRefusal text f
 
 -- nothing is said of when memory is refused or a read fails
 abbrev pub IsBundleRefusal : Option (List ℕ) → Option (List ℕ) → Option (List ℕ) → Option (List ℕ) → BundleFault → Type 0
-IsBundleRefusal had left old new Device = new ≡ old
-IsBundleRefusal had left old new TooLong = (new ≡ old) × IsTooLong had left
-IsBundleRefusal had left old new Memory = new ≡ old
+IsBundleRefusal had left old new fault.Device = new ≡ old
+IsBundleRefusal had left old new fault.TooLong = (new ≡ old) × IsTooLong max_input had left
+IsBundleRefusal had left old new fault.Memory = new ≡ old
 IsBundleRefusal had left old new f =
-    (input text schedule : List ℕ) × IsInput had left input × IsParted input text schedule × IsPartsRefusal text schedule old new f
+    (input text schedule : List ℕ) × IsInput max_input had left input × IsParted input text schedule × IsPartsRefusal text schedule old new f

@@ -9,10 +9,10 @@ abbrev pub max_input : ℕ
 max_input = 1048576
 
 -- all bytes that the reader had, within the limit
-pub record IsInput (old new : Option (List ℕ)) (bytes : List ℕ) : Type 0 where
+pub record IsInput (limit : ℕ) (old new : Option (List ℕ)) (bytes : List ℕ) : Type 0 where
   pub taken : Consumes old new bytes
   pub ended : IsAtEnd new
-  pub short : length bytes ≤ max_input
+  pub short : length bytes ≤ limit
 
 pub record TookAtMost (old new : Option (List ℕ)) (n : ℕ) : Type 0 where
   pub bytes : List ℕ
@@ -20,13 +20,13 @@ pub record TookAtMost (old new : Option (List ℕ)) (n : ℕ) : Type 0 where
   pub short : length bytes ≤ n
 
 -- the reader gave one byte more than the limit
-pub record IsTooLong (old new : Option (List ℕ)) : Type 0 where
+pub record IsTooLong (limit : ℕ) (old new : Option (List ℕ)) : Type 0 where
   pub bytes : List ℕ
   pub taken : Consumes old new bytes
-  pub long : length bytes ≡ max_input + 1
+  pub long : length bytes ≡ limit + 1
 
 -- nothing is said of when a read fails or memory is refused
-abbrev pub IsInputRefusal : Option (List ℕ) → Option (List ℕ) → InputFault → Type 0
-IsInputRefusal old new Device = ⊤
-IsInputRefusal old new TooLong = IsTooLong old new
-IsInputRefusal old new Memory = ⊤
+abbrev pub IsInputRefusal : ℕ → Option (List ℕ) → Option (List ℕ) → InputFault → Type 0
+IsInputRefusal limit old new Device = ⊤
+IsInputRefusal limit old new TooLong = IsTooLong limit old new
+IsInputRefusal limit old new Memory = ⊤

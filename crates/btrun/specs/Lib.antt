@@ -1,6 +1,9 @@
 pub mod Bundles
 pub mod Faults
+pub mod Files
 pub mod Input
 pub mod Notices
 pub mod Parts
+pub mod Programs
 pub mod Statuses
+pub mod Verdicts

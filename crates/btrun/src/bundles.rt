@@ -5,12 +5,11 @@ ghost use Rattle.btrun.specs.Input.{IsInput, TookAtMost, max_input};
 ghost use Rattle.btrun.specs.Bundles.{defaults, IsCodeOf, IsCodeRefusal, IsSetupRefusal, IsPartsDriven, IsPartsRefusal, IsBundleDriven, IsBundleRefusal};
 
 use crate::faults::BundleFault;
-use crate::input::read_whole;
+use crate::input::{MAX_INPUT, read_whole};
 use crate::parts::parts;
-use bp_check::check;
+use crate::programs::lawful_program;
 use bp_code::{Code, compile};
 use bp_machine::{Report, Setup, SetupFault};
-use bp_syntax::read;
 use bp_trace::drive;
 use std::alloc::Global;
 use std::io::{Read, Write};
@@ -25,14 +24,8 @@ const CALLS: u32 = 1000;
 fn code_of(alloc: Global, text: &[u8]) -> Result<Code, BundleFault>
     ensures { MatchResult result (IsCodeOf text.now) (IsCodeRefusal text.now) }
 {
-    let tree = match read(alloc, text) {
-        Ok(tree) => tree,
-        Err(fault) => return Err(BundleFault::Read(fault)),
-    };
-    match check(alloc, tree) {
-        Ok(checked) => Ok(compile(alloc, &checked)?),
-        Err(refusal) => Err(BundleFault::Check(refusal.fault, refusal.at)),
-    }
+    let checked = lawful_program(alloc, text)?;
+    Ok(compile(alloc, &checked)?)
 }
 
 /// One thread that begins with `main`, and all globals 0.
@@ -76,11 +69,11 @@ pub fn drive_bundle<R: Read, W: Write>(
     out: &mut W,
 ) -> Result<Report, BundleFault>
     ensures answer { MatchResult result
-        (λ r. (bytes : List ℕ) × IsInput (R.remaining input.old) (R.remaining input.new) bytes × IsBundleDriven bytes (W.contents out.old) (W.contents out.new) r)
+        (λ r. (bytes : List ℕ) × IsInput max_input (R.remaining input.old) (R.remaining input.new) bytes × IsBundleDriven bytes (W.contents out.old) (W.contents out.new) r)
         (IsBundleRefusal (R.remaining input.old) (R.remaining input.new) (W.contents out.old) (W.contents out.new)) }
     ensures bound { TookAtMost (R.remaining input.old) (R.remaining input.new) (max_input + 1) }
 {
-    let bytes = read_whole(alloc, input)?;
+    let bytes = read_whole(alloc, MAX_INPUT, input)?;
     let (text, schedule) = parts(&bytes);
     drive_parts(alloc, text, schedule, out)
 }

@@ -1,12 +1,53 @@
-//! Why a bundle is not driven.
+//! Why a command is refused.
 
 use crate::input::InputFault;
 use bp_check::CheckFault;
+use bp_code::WriteFault;
 use bp_machine::SetupFault;
 use bp_syntax::ReadFault;
 use bp_trace::DriveFault;
 use std::alloc::AllocError;
 use thiserror::Error;
+
+/// Why a text is not that of a lawful program: the first of these that applies, `Memory` aside.
+#[derive(Debug, Drop, PartialEq, Eq, Error)]
+pub enum ProgramFault {
+    /// It is refused as a text.
+    #[error("{0}")]
+    Read(ReadFault),
+    /// Its program is refused, at this byte of the text.
+    #[error("{0} at {1}")]
+    Check(CheckFault, u32),
+}
+
+impl ProgramFault {
+    ghost use Rattle.std.specs.Prelude.{◌≡◌};
+    ghost use Rattle.btrun.specs.Faults.{number_of_program, place_of_program};
+
+    /// The number by which users know the fault.
+    pub fn number(&self) -> u32
+        ensures { result ≡ number_of_program self.now }
+    {
+        match self {
+            ProgramFault::Read(fault) => fault.number(),
+            ProgramFault::Check(fault, _) => fault.number(),
+        }
+    }
+
+    /// The byte that the fault names, where it names one.
+    pub fn place(&self) -> Option<u32>
+        ensures { result ≡ place_of_program self.now }
+    {
+        match self {
+            ProgramFault::Read(
+                ReadFault::BadByte(at) | ReadFault::OpenName(at) | ReadFault::TooNested(at),
+            ) => Some(*at),
+            ProgramFault::Read(ReadFault::TooManyTokens(at) | ReadFault::Syntax(at)) => Some(*at),
+            ProgramFault::Check(_, at) => Some(*at),
+            _ => None,
+        }
+    }
+}
 
 /// Why a bundle is not driven: the first of these that applies, `Memory` aside.
 #[derive(Debug, Drop, PartialEq, Eq, Error)]
@@ -19,10 +60,7 @@ pub enum BundleFault {
     TooLong,
     /// Its program text is refused.
     #[error("{0}")]
-    Read(ReadFault),
-    /// Its program is refused, at this byte of the text.
-    #[error("{0} at {1}")]
-    Check(CheckFault, u32),
+    Program(ProgramFault),
     /// The default setup does not fit its program.
     #[error("{0}")]
     Setup(SetupFault),
@@ -47,8 +85,7 @@ impl BundleFault {
         match self {
             BundleFault::Device => 54,
             BundleFault::TooLong => 48,
-            BundleFault::Read(fault) => fault.number(),
-            BundleFault::Check(fault, _) => fault.number(),
+            BundleFault::Program(fault) => fault.number(),
             BundleFault::Setup(fault) => fault.number(),
             BundleFault::Drive(fault) => fault.number(),
             BundleFault::Memory => 7,
@@ -60,11 +97,7 @@ impl BundleFault {
         ensures { result ≡ place_of self.now }
     {
         match self {
-            BundleFault::Read(
-                ReadFault::BadByte(at) | ReadFault::OpenName(at) | ReadFault::TooNested(at),
-            ) => Some(*at),
-            BundleFault::Read(ReadFault::TooManyTokens(at) | ReadFault::Syntax(at)) => Some(*at),
-            BundleFault::Check(_, at) => Some(*at),
+            BundleFault::Program(fault) => fault.place(),
             BundleFault::Setup(
                 SetupFault::UnknownEntry(thread) | SetupFault::EntryHasFormals(thread),
             ) => Some(*thread),
@@ -106,5 +139,106 @@ impl From<InputFault> for BundleFault {
             InputFault::TooLong => BundleFault::TooLong,
             InputFault::Memory => BundleFault::Memory,
         }
+    }
+}
+
+impl From<ProgramFault> for BundleFault {
+    ghost use Rattle.btrun.specs.declared.faults.BundleFault.{BundleFault};
+    ghost use Rattle.std.specs.Prelude.{◌≡◌};
+
+    ghost from_gives = { λ f e. e ≡ BundleFault.Program f };
+
+    fn from(fault: ProgramFault) -> BundleFault {
+        BundleFault::Program(fault)
+    }
+}
+
+/// Why nothing is told of the program of a file: the first of these that applies, `Memory` aside.
+#[derive(Debug, Drop, PartialEq, Eq, Error)]
+pub enum FileFault {
+    /// The file could not be read.
+    #[error("the file could not be read")]
+    Device,
+    /// Its text is refused; `TooLong` where it has more than 65,536 bytes.
+    #[error("{0}")]
+    Program(ProgramFault),
+    /// The output could not be written.
+    #[error("the output could not be written")]
+    Write,
+    /// There was not enough memory.
+    #[error("out of memory")]
+    Memory,
+}
+
+impl FileFault {
+    ghost use Rattle.std.specs.Prelude.{◌≡◌};
+    ghost use Rattle.std.specs.Prelude.{None};
+    ghost use Rattle.btrun.specs.Faults.{number_of_file, place_of_file};
+    ghost use Rattle.btrun.specs.Notices.{IsNotice};
+
+    /// The number by which users know the fault.
+    pub fn number(&self) -> u32
+        ensures { result ≡ number_of_file self.now }
+    {
+        match self {
+            FileFault::Device => 54,
+            FileFault::Program(fault) => fault.number(),
+            FileFault::Write => 51,
+            FileFault::Memory => 7,
+        }
+    }
+
+    /// The byte that the fault names, where it names one.
+    pub fn place(&self) -> Option<u32>
+        ensures { result ≡ place_of_file self.now }
+    {
+        match self {
+            FileFault::Program(fault) => fault.place(),
+            _ => None,
+        }
+    }
+
+    /// The law that the line of every fault can be told.
+    pub fn is_told(&self)
+        ensures { IsNotice (number_of_file self.now) (place_of_file self.now) None }
+    {
+        let _ = self;
+    }
+}
+
+impl From<InputFault> for FileFault {
+    ghost use Rattle.std.specs.Prelude.{◌≡◌};
+    ghost use Rattle.btrun.specs.Faults.{file_of_input};
+
+    ghost from_gives = { λ f e. e ≡ file_of_input f };
+
+    fn from(fault: InputFault) -> FileFault {
+        match fault {
+            InputFault::Device => FileFault::Device,
+            InputFault::TooLong => FileFault::Program(ProgramFault::Read(ReadFault::TooLong)),
+            InputFault::Memory => FileFault::Memory,
+        }
+    }
+}
+
+impl From<ProgramFault> for FileFault {
+    ghost use Rattle.btrun.specs.declared.faults.FileFault.{FileFault};
+    ghost use Rattle.std.specs.Prelude.{◌≡◌};
+
+    ghost from_gives = { λ f e. e ≡ FileFault.Program f };
+
+    fn from(fault: ProgramFault) -> FileFault {
+        FileFault::Program(fault)
+    }
+}
+
+impl From<WriteFault> for FileFault {
+    ghost use Rattle.btrun.specs.declared.faults.FileFault.{FileFault};
+    ghost use Rattle.std.specs.Prelude.{◌≡◌};
+
+    ghost from_gives = { λ _ e. e ≡ FileFault.Write };
+
+    fn from(_: WriteFault) -> FileFault {
+        FileFault::Write
     }
 }

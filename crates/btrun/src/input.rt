@@ -1,6 +1,6 @@
-//! Reading the input within its limit.
-ghost use Rattle.std.specs.Prelude.{◌≡◌, ◌+◌, MatchResult};
-ghost use Rattle.btrun.specs.Input.{IsInput, IsInputRefusal, TookAtMost, max_input};
+//! Reading an input within its limit.
+ghost use Rattle.std.specs.Prelude.{◌≡◌, ◌+◌, ◌<◌, MatchResult};
+ghost use Rattle.btrun.specs.Input.{IsInput, IsInputRefusal, TookAtMost};
 
 use std::alloc::{AllocError, Global};
 use std::io::Read;
@@ -36,15 +36,20 @@ impl From<AllocError> for InputFault {
     }
 }
 
-/// Reads to the end of the input. It takes at most one byte more than the limit.
-pub fn read_whole<R: Read>(alloc: Global, input: &mut R) -> Result<Vec<u8>, InputFault>
-    ensures answer { MatchResult result (λ bytes. IsInput (R.remaining input.old) (R.remaining input.new) bytes.items) (IsInputRefusal (R.remaining input.old) (R.remaining input.new)) }
-    ensures bound { TookAtMost (R.remaining input.old) (R.remaining input.new) (max_input + 1) }
+/// Reads to the end of an input of at most so many bytes. It takes at most one byte more than the limit.
+pub fn read_whole<R: Read>(
+    alloc: Global,
+    limit: usize,
+    input: &mut R,
+) -> Result<Vec<u8>, InputFault>
+    requires { limit < 4294967296 }
+    ensures answer { MatchResult result (λ bytes. IsInput limit (R.remaining input.old) (R.remaining input.new) bytes.items) (IsInputRefusal limit (R.remaining input.old) (R.remaining input.new)) }
+    ensures bound { TookAtMost (R.remaining input.old) (R.remaining input.new) (limit + 1) }
 {
     let mut bytes = Vec::new(alloc);
     let mut chunk = [0; CHUNK];
-    while bytes.len() <= MAX_INPUT {
-        let room = CHUNK.min(MAX_INPUT + 1 - bytes.len());
+    while bytes.len() <= limit {
+        let room = CHUNK.min(limit + 1 - bytes.len());
         let Ok(count) = input.read(&mut chunk[..room]) else {
             return Err(InputFault::Device);
         };

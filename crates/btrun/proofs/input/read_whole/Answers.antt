@@ -1,12 +1,11 @@
 use Rattle.std.proofs.Common.{arith, ◌≡◌, length, length-append, length-take, take, ◌++◌, ℕ, ◌+◌, ◌-◌, ◌≤◌, List}
 use Rattle.std.proofs.KnownBytes.{Consumes-trans}
-use Rattle.btrun.specs.Input.{max_input}
 use Rattle.btrun.proofs.input.read_whole.Goals as goal
 
 -- a read into what room is left stays within the limit
-within_room : (bytes buf chunk : List ℕ) (count room : ℕ) → length bytes ≤ max_input → room ≤ max_input + 1 - length bytes
-    → length buf ≡ length (take room chunk) → length (bytes ++ take count buf) ≤ max_input + 1
-within_room bytes buf chunk count room short fits same =
+within_room : (limit : ℕ) (bytes buf chunk : List ℕ) (count room : ℕ) → length bytes ≤ limit → room ≤ limit + 1 - length bytes
+    → length buf ≡ length (take room chunk) → length (bytes ++ take count buf) ≤ limit + 1
+within_room limit bytes buf chunk count room short fits same =
     let same = rw (length-take room chunk) at same in
     rw (length-append bytes (take count buf), length-take count buf) (omega arith)
 
@@ -20,5 +19,5 @@ returns-in_err-extend_from_slice-clause-bound g c = record {
       let length_is = c.len.ensures in
       let again = c.len-in-loop-chunk.ensures in
       let room = c.min-room.ensures in
-      within_room c.loop-chunk.bytes.items c.read.new.buf c.loop-chunk.chunk c.in-Ok.count c.min-room.result (omega arith) (omega arith) c.read.auto.buf;
+      within_room c.args.limit c.loop-chunk.bytes.items c.read.new.buf c.loop-chunk.chunk c.in-Ok.count c.min-room.result (omega arith) (omega arith) c.read.auto.buf;
 }
