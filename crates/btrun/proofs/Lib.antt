@@ -1,4 +1,5 @@
 mod Driven
+mod PlainWords
 mod Refused
 mod Separators
 mod Told

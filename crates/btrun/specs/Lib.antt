@@ -1,4 +1,5 @@
 pub mod Bundles
+pub mod Commands
 pub mod Faults
 pub mod Files
 pub mod Input

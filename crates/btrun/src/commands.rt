@@ -1,6 +1,8 @@
 //! The words of the command line.
-ghost use Rattle.std.specs.Prelude.{◌≡◌, IfOk};
-ghost use Rattle.clap.specs.Words.{kind_of};
+ghost use Rattle.std.specs.Prelude.{◌≡◌, true, false, ℕ, List, [], ◌∷◌, map, codes, string_bytes, IfOk, MatchResult};
+ghost use Rattle.clap.specs.Words.{FailsBy, app_of, fault_of, kind_of, subcommand_of, subcommand_rows_of};
+ghost use Rattle.clap.specs.declared.builder.command.Command.TheViews.{out-Command};
+ghost use Rattle.btrun.specs.Commands.{btrun_app, check_app, is_plain, IsCheckOf, IsTaskOf};
 
 use clap::error::ErrorKind;
 use clap::{Arg, ArgMatches, Command, Error};
@@ -19,7 +21,9 @@ pub enum Task<'a> {
 }
 
 /// `check FILE`.
-fn check_command<'a>(alloc: Global) -> Result<Command<'a>, AllocError> {
+fn check_command<'a>(alloc: Global) -> Result<Command<'a>, AllocError>
+    ensures { IfOk result (λ c. (app_of c ≡ check_app) × ((out-Command c).has_globals ≡ false)) }
+{
     let file = Arg::new(alloc, "FILE")
         .required(true)
         .help("The file of the program");
@@ -31,7 +35,9 @@ fn check_command<'a>(alloc: Global) -> Result<Command<'a>, AllocError> {
 }
 
 /// All commands.
-fn command<'a>(alloc: Global) -> Result<Command<'a>, AllocError> {
+fn command<'a>(alloc: Global) -> Result<Command<'a>, AllocError>
+    ensures { IfOk result (λ c. app_of c ≡ btrun_app) }
+{
     Command::new(alloc, "btrun")
         .version(VERSION)
         .about(
@@ -41,16 +47,25 @@ fn command<'a>(alloc: Global) -> Result<Command<'a>, AllocError> {
 }
 
 /// What the words that were matched ask for.
-fn task_of<'a>(matches: &ArgMatches<'a>) -> Task<'a> {
+fn task_of<'a>(matches: &ArgMatches<'a>) -> Task<'a>
+    ensures { IsTaskOf (subcommand_rows_of matches.now) result }
+{
     match matches.subcommand() {
         // FILE is required, so it is there.
-        Some(("check", words)) => Task::Check(words.get_str("FILE").unwrap_or_default()),
+        Some(("check", words)) => Task::Check(words.get_str("FILE").unwrap_or("")),
         _ => Task::Bundle,
     }
 }
 
 /// Reads the words, of which the first is the program's name. The error also has the texts of help and version.
-pub fn read_words<'a>(alloc: Global, words: &'a [String]) -> Result<Task<'a>, Error> {
+pub fn read_words<'a>(alloc: Global, words: &'a [String]) -> Result<Task<'a>, Error>
+    ensures task { IfOk result (λ t. IsTaskOf (subcommand_of btrun_app (map string_bytes words.now)) t) }
+    ensures refusal { FailsBy (fault_of btrun_app (map string_bytes words.now)) result }
+    ensures bundle { (program : List ℕ) → map string_bytes words.now ≡ program ∷ []
+        → MatchResult result (λ t. t ≡ Task.Bundle) (λ e. kind_of e ≡ ErrorKind.OutOfMemory) }
+    ensures check { (program file : List ℕ) → is_plain file ≡ true → map string_bytes words.now ≡ program ∷ codes "check" ∷ file ∷ []
+        → MatchResult result (IsCheckOf file) (λ e. kind_of e ≡ ErrorKind.OutOfMemory) }
+{
     let command = command(alloc)?;
     let matches = command.try_get_matches_from(words)?;
     Ok(task_of(&matches))

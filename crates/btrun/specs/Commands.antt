@@ -1,0 +1,39 @@
+-- What the words of the command line ask for. How words are told apart as commands, options and values is said by
+-- the rules of `clap`.
+use Rattle.std.specs.Prelude.{◌≡◌, ◌==◌, Bool, true, not, List, [], ◌∷◌, Option, Some, None, codes, unwrap_or}
+use Rattle.clap.specs.Walk.{Row, Text, first_of}
+use Rattle.clap.specs.Simple.{App, new_app, new_rule, on_top, with_rule, with_subcommand}
+use Rattle.btrun.specs.declared.commands.Task.{Task}
+use Rattle.btrun.specs.declared.commands.Task.TheVariants.{Bundle, Check}
+
+-- `check FILE`
+abbrev pub check_app : App
+check_app = with_rule (new_app (codes "check")) (record (new_rule (codes "FILE")) { required = true })
+
+-- all commands
+abbrev pub btrun_app : App
+btrun_app = with_subcommand (on_top (λ s. record s { has_version = true }) (new_app (codes "btrun"))) check_app.top
+
+-- the value of an argument, empty where it has none
+abbrev pub value_of : Text → List Row → Text
+value_of id rows = unwrap_or (first_of id rows) []
+
+-- what the command of this name asks for, with its arguments
+abbrev pub IsAsked : Text → List Row → Task → Type 0
+IsAsked name rows Bundle = name ≡ codes "check" → ⊥
+IsAsked name rows (Check path) = (name ≡ codes "check") × (path.now ≡ value_of (codes "FILE") rows)
+
+-- what the words ask for, by the command that they name
+abbrev pub IsTaskOf : Option (Text × List Row) → Task → Type 0
+IsTaskOf None task = task ≡ Bundle
+IsTaskOf (Some command) task = IsAsked command.0 command.1 task
+
+-- the word is no option, and does not end the options
+abbrev pub is_plain : Text → Bool
+is_plain [] = true
+is_plain (b ∷ bs) = not (b == 45)
+
+-- the task is to check this file
+abbrev pub IsCheckOf : Text → Task → Type 0
+IsCheckOf file Bundle = ⊥
+IsCheckOf file (Check path) = path.now ≡ file
