@@ -1,13 +1,12 @@
 -- What each lawful program keeps.
-use Rattle.std.proofs.Common.{◌≡◌, ◌≢◌, ◌⊎◌, ℕ, ◌+◌, ◌<◌, ◌≤◌, ◌++◌, Bool, true, false, List, [], length, get_or, take, map, Option, None, Some, refl, ap, sym, ◌∙◌, inl, inr, arith}
-use Rattle.std.specs.Prelude.{slice_get}
+use Rattle.std.proofs.Common.{◌≡◌, ◌≢◌, ◌⊎◌, ℕ, ◌<◌, ◌≤◌, Bool, true, false, List, [], length, get_or, map, Option, None, Some, refl, inl, inr, arith}
 use Rattle.std.proofs.lemmas.List.{length-map}
 use Rattle.std.proofs.lemmas.Option.{slice_get-get_or}
 use Rattle.std.proofs.lemmas.Bool.{cases_lt}
 use Rattle.bp_tree.specs.Ast.{Name, Expression, Statement, Skips, GoesTo, Returns, Assigns, Branches, Loops, Asserts, Assumes, Prints, Calls, Procedure, Program}
 use Rattle.bp_tree.specs.Lookup.{variables, procedure_named}
 use Rattle.bp_check.specs.declared.faults.CheckFault.TheVariants as fault
-use Rattle.bp_check.specs.Scopes.{has, IsNameAt, Mentions, Among, Labelled, statements, labels}
+use Rattle.bp_check.specs.Scopes.{Among, Labelled, statements, labels}
 use Rattle.bp_check.specs.Faults.{IsTwice, IsPast, CallsNone, CallsWrongly, IsUneven, IsLawful, max_procedures, max_globals, max_own_names}
 use Rattle.bp_check.specs.Laws.{HasFewNames, AreDistinct, HasDistinctNames, IsSound, HasSoundStatements}
 

@@ -1,8 +1,6 @@
 -- Lawful programs have a code: each name in them is declared.
-use Rattle.std.proofs.Common.{◌≡◌, ◌≢◌, ◌⊎◌, ℕ, zero, suc, ◌+◌, ◌<◌, ◌≤◌, ◌||◌, ◌^◌, Bool, true, false, cond, List, [], ◌∷◌, ◌++◌, length, get_or, map, Option, None, Some, IsSome, refl, ap, sym, ◌∙◌, subst, inl, inr, arith, bytes_eq, option_map}
-use Rattle.std.specs.Prelude.{slice_get}
+use Rattle.std.proofs.Common.{◌≡◌, ◌≢◌, ◌⊎◌, ℕ, suc, ◌<◌, ◌≤◌, ◌||◌, Bool, true, false, cond, List, [], ◌∷◌, ◌++◌, length, get_or, Option, None, Some, IsSome, refl, ap, sym, ◌∙◌, inl, inr, arith, bytes_eq, option_map}
 use Rattle.std.specs.Option.{option_or, option_to_list}
-use Rattle.std.specs.List.{list_any}
 use Rattle.std.proofs.lemmas.List.Folds.{list_any-append}
 use Rattle.std.proofs.lemmas.Option.{slice_get-get_or}
 use Rattle.std.proofs.lemmas.Bool.{cases_lt}
@@ -10,8 +8,8 @@ use Rattle.bp_tree.specs.Ast.{Name, Expression, Constant, Variable, Negation, Op
 use Rattle.bp_tree.specs.Lookup.{procedure_named, variables}
 use Rattle.bp_tree.specs.Sizes.{procedures_size}
 use Rattle.bp_check.specs.declared.faults.CheckFault.TheVariants as fault
-use Rattle.bp_check.specs.Scopes.{has, IsNameAt, Uses, SomeUses, DecisionUses, Mentions, Among, Labelled, statements, statements_inside, labels, labels_of}
-use Rattle.bp_check.specs.Faults.{IsPast, IsUndeclared, CallsNone, CallsWrongly, JumpsNowhere, IsFault, IsLawful}
+use Rattle.bp_check.specs.Scopes.{has, Uses, SomeUses, DecisionUses, Mentions, Among, Labelled, statements, statements_inside, labels, labels_of}
+use Rattle.bp_check.specs.Faults.{IsPast, CallsNone, CallsWrongly, JumpsNowhere, IsLawful}
 use Rattle.bp_code.specs.declared.slots.Slot.TheVariants.{Global, Local}
 use Rattle.bp_code.specs.Continuations.{chain, has_label, from_label, from_inside}
 use Rattle.bp_code.specs.Slots.{place_from, slot_of}

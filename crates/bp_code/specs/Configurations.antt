@@ -1,5 +1,5 @@
 -- The configurations of a program: what its threads share, and where each of them stands.
-use Rattle.std.specs.Prelude.{◌<◌, ℕ, Bool, true, false, cond, List, [], ◌∷◌, ◌++◌, Option, None, Some, map, length, bytes_eq}
+use Rattle.std.specs.Prelude.{◌<◌, ℕ, Bool, true, false, List, [], ◌∷◌, ◌++◌, Option, None, Some, map, length}
 pub use Rattle.bp_tree.specs.Lookup.{procedure_named}
 use Rattle.bp_tree.specs.Ast.{Block, Then, Calls, Procedure, Program}
 use Rattle.bp_code.specs.Values.{Valuation, bound}

@@ -1,5 +1,4 @@
 -- What the enums of src/ stand for: one level each, as the parts are seen by their models.
-use Rattle.std.specs.Prelude.{List, [], ◌∷◌}
 use Rattle.bp_tree.specs.declared.exprs.Expr.{Expr}
 use Rattle.bp_tree.specs.declared.exprs.Expr.TheVariants.{Const, Var, Not, Binary}
 use Rattle.bp_tree.specs.declared.exprs.Decider.{Decider}

@@ -1,6 +1,5 @@
-use Rattle.std.proofs.Common.{◌≡◌, take, ap, sym, ◌∙◌}
+use Rattle.std.proofs.Common.{take}
 use Rattle.std.proofs.lemmas.List.{take_more}
-use Rattle.bp_tree.specs.Blocks.{block_of}
 use Rattle.bp_tree.proofs.Blocks.{same_more}
 use Rattle.bp_tree.proofs.stmts.+stmt.Goals as goal
 
