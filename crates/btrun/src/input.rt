@@ -1,5 +1,5 @@
 //! Reading an input within its limit.
-ghost use Rattle.std.specs.Prelude.{◌≡◌, ◌+◌, ◌<◌, MatchResult};
+ghost use Rattle.std.specs.Prelude.{◌≡◌, ◌+◌, MatchResult};
 ghost use Rattle.btrun.specs.Input.{IsInput, IsInputRefusal, TookAtMost};
 
 use std::alloc::{AllocError, Global};
@@ -42,14 +42,13 @@ pub fn read_whole<R: Read>(
     limit: usize,
     input: &mut R,
 ) -> Result<Vec<u8>, InputFault>
-    requires { limit < 4294967296 }
     ensures answer { MatchResult result (λ bytes. IsInput limit (R.remaining input.old) (R.remaining input.new) bytes.items) (IsInputRefusal limit (R.remaining input.old) (R.remaining input.new)) }
     ensures bound { TookAtMost (R.remaining input.old) (R.remaining input.new) (limit + 1) }
 {
     let mut bytes = Vec::new(alloc);
     let mut chunk = [0; CHUNK];
     while bytes.len() <= limit {
-        let room = CHUNK.min(limit + 1 - bytes.len());
+        let room = CHUNK.min((limit - bytes.len()).saturating_add(1));
         let Ok(count) = input.read(&mut chunk[..room]) else {
             return Err(InputFault::Device);
         };
