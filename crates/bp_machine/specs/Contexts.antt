@@ -1,5 +1,6 @@
 -- Contexts: uninterrupted steps of one thread.
-use Rattle.std.specs.Prelude.{◌≡◌, ℕ, ◌≤◌, List, [], ◌∷◌, ◌++◌, length}
+use Rattle.std.specs.Prelude.{◌≡◌, ℕ, ◌≤◌, List, [], ◌∷◌, length}
+use Rattle.std.specs.List.{concat}
 
 -- each of these threads is thread i
 abbrev pub EachIs : ℕ → List ℕ → Type 0
@@ -11,16 +12,12 @@ abbrev pub EachOfOne : List (List ℕ) → Type 0
 EachOfOne [] = Unit {0}
 EachOfOne (piece ∷ pieces) = ((i : ℕ) × EachIs i piece) × EachOfOne pieces
 
-abbrev pub joined : List (List ℕ) → List ℕ
-joined [] = []
-joined (piece ∷ pieces) = piece ++ joined pieces
-
 -- the threads are a concatenation of at most k lists, each of one thread
 pub record IsWithin (k : ℕ) (threads : List ℕ) : Type 0 where
   pub pieces : List (List ℕ)
   pub few : length pieces ≤ k
   pub each : EachOfOne pieces
-  pub whole : joined pieces ≡ threads
+  pub whole : concat pieces ≡ threads
 
 -- the least such number
 pub record IsLeastWithin (k : ℕ) (threads : List ℕ) : Type 0 where

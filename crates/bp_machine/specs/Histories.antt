@@ -1,39 +1,33 @@
 -- Histories: lists of calls with their replies, oldest first.
-use Rattle.std.specs.Prelude.{◌≡◌, ◌==◌, ◌<◌, ℕ, zero, suc, ◌+◌, Bool, true, false, cond, ◌||◌, nat_le, List, [], ◌∷◌, ◌++◌, length, filter}
+use Rattle.std.specs.Prelude.{if◌then◌else◌, ◌≡◌, ◌==◌, ◌<◌, ℕ, zero, suc, ◌+◌, Bool, false, ◌||◌, nat_le, List, [], ◌∷◌, ◌++◌, length, filter}
 use Rattle.bp_tree.specs.Ast.{Program}
 use Rattle.bp_code.specs.Configurations.{Configuration}
-use Rattle.bp_machine.specs.declared.calls.Reply.{Reply}
-use Rattle.bp_machine.specs.declared.calls.Reply.TheVariants.{Blocked, Stepped}
 use Rattle.bp_machine.specs.declared.calls.Call.{Call}
 use Rattle.bp_machine.specs.Setups.{SetupOf, threads, start}
-use Rattle.bp_machine.specs.Answers.{Answers, is_granted, next_of}
+use Rattle.bp_machine.specs.Replies.{is_granted, is_last}
+use Rattle.bp_machine.specs.Answers.{Answers, configuration_after_call}
 
 -- the configuration after the calls of a history, by their replies
-abbrev pub after_calls : Program → Configuration → List Call → Configuration
-after_calls t c [] = c
-after_calls t c (x ∷ xs) = after_calls t (next_of t c x.thread x.bit x.reply) xs
+abbrev pub configuration_after_calls : Program → Configuration → List Call → Configuration
+configuration_after_calls t c [] = c
+configuration_after_calls t c (x ∷ xs) = configuration_after_calls t (configuration_after_call t c x.thread x.bit x.reply) xs
 
-abbrev pub after : Program → SetupOf → List Call → Configuration
-after t s h = after_calls t (start t s) h
+abbrev pub configuration_after : Program → SetupOf → List Call → Configuration
+configuration_after t s h = configuration_after_calls t (start t s) h
 
 -- the calls with a granted step
-abbrev pub steps_of : List Call → List Call
-steps_of h = filter (λ x. is_granted x.reply) h
+abbrev pub granted_calls : List Call → List Call
+granted_calls h = filter (λ x. is_granted x.reply) h
 
 -- their threads
-abbrev pub granted : List Call → List ℕ
-granted [] = []
-granted (x ∷ xs) = cond (is_granted x.reply) (x.thread ∷ granted xs) (granted xs)
+abbrev pub granted_threads : List Call → List ℕ
+granted_threads [] = []
+granted_threads (x ∷ xs) = if is_granted x.reply then x.thread ∷ granted_threads xs else granted_threads xs
 
-abbrev pub calls_of : ℕ → List Call → List Call
-calls_of i h = filter (λ x. x.thread == i) h
+abbrev pub calls_of_thread : ℕ → List Call → List Call
+calls_of_thread i h = filter (λ x. x.thread == i) h
 
--- a reply after which the thread makes no further call
-abbrev pub is_last : Reply → Bool
-is_last Stepped = false
-is_last Blocked = false
-is_last r = true
-
+-- the last call had a last reply
 abbrev pub ends_with_last : List Call → Bool
 ends_with_last [] = false
 ends_with_last (x ∷ []) = is_last x.reply
@@ -41,12 +35,13 @@ ends_with_last (x ∷ y ∷ xs) = ends_with_last (y ∷ xs)
 
 -- the line of thread i is finished: its last call had such a reply, or it has as many calls as are allowed
 abbrev pub is_finished : SetupOf → List Call → ℕ → Bool
-is_finished s h i = ends_with_last (calls_of i h) || nat_le s.calls (length (calls_of i h))
+is_finished s h i =
+    ends_with_last (calls_of_thread i h) || nat_le s.calls (length (calls_of_thread i h))
 
 -- how many of the lines below n are open
 abbrev pub open_below : ℕ → SetupOf → List Call → ℕ
 open_below zero s h = 0
-open_below (suc n) s h = cond (is_finished s h n) (open_below n s h) (open_below n s h + 1)
+open_below (suc n) s h = if is_finished s h n then open_below n s h else open_below n s h + 1
 
 abbrev pub open_lines : SetupOf → List Call → ℕ
 open_lines s h = open_below (threads s) s h
@@ -55,7 +50,7 @@ open_lines s h = open_below (threads s) s h
 pub record IsAllowed (t : Program) (s : SetupOf) (h : List Call) (x : Call) : Type 0 where
   pub thread : x.thread < threads s
   pub unfinished : is_finished s h x.thread ≡ false
-  pub answers : Answers t s.contexts (after t s h) (granted h) x.thread x.bit x.reply
+  pub answers : Answers t s.contexts (configuration_after t s h) (granted_threads h) x.thread x.bit x.reply
 
 abbrev pub IsLegalAfter : Program → SetupOf → List Call → List Call → Type 0
 IsLegalAfter t s h [] = Unit {0}

@@ -5,16 +5,16 @@ use Rattle.bp_machine.specs.declared.calls.Call.{Call}
 use Rattle.bp_machine.specs.declared.reports.Outcome.TheVariants.{Failed}
 use Rattle.bp_machine.specs.Contexts.{IsWithin}
 use Rattle.bp_machine.specs.Setups.{SetupOf, start}
-use Rattle.bp_machine.specs.Histories.{after, granted, steps_of, IsLegal}
+use Rattle.bp_machine.specs.Histories.{configuration_after, granted_threads, granted_calls, IsLegal}
 use Rattle.bp_machine.specs.Reports.{IsRun, outcome_of, IsRealFailure}
 
 -- the granted steps of a legal history are moves, one after the other, from the start
 abbrev pub StepsAreARun : Type 0
-StepsAreARun = (t : Program) (s : SetupOf) (h : List Call) → IsLegal t s h → IsRun t (start t s) (steps_of h) (after t s h)
+StepsAreARun = (t : Program) (s : SetupOf) (h : List Call) → IsLegal t s h → IsRun t (start t s) (granted_calls h) (configuration_after t s h)
 
 -- and their threads are within the contexts that are allowed
 abbrev pub StepsAreWithin : Type 0
-StepsAreWithin = (t : Program) (s : SetupOf) (h : List Call) → IsLegal t s h → IsWithin s.contexts (granted h)
+StepsAreWithin = (t : Program) (s : SetupOf) (h : List Call) → IsLegal t s h → IsWithin s.contexts (granted_threads h)
 
 -- a reported failure is a false assertion
 abbrev pub FailuresAreReal : Type 0

@@ -13,9 +13,9 @@ use Rattle.bp_machine.specs.declared.reports.Report.{Report}
 use Rattle.bp_machine.specs.Contexts.{IsLeastWithin}
 use Rattle.bp_machine.specs.Setups.{SetupOf}
 use Rattle.bp_machine.specs.Answers.{stack_of}
-use Rattle.bp_machine.specs.Histories.{after, granted, open_lines}
+use Rattle.bp_machine.specs.Histories.{configuration_after, granted_threads, open_lines}
 
--- the first call with the reply Failed tells the thread
+-- the thread of the first call with the reply Failed
 abbrev pub outcome_or : Call → Reply → Outcome → Outcome
 outcome_or x Failed o = outcome.Failed x.thread
 outcome_or x r o = o
@@ -28,7 +28,7 @@ pub record IsReport (s : SetupOf) (h : List Call) (r : Report) : Type 0 where
   pub outcome : r.outcome ≡ outcome_of h
   pub calls : r.calls ≡ length h
   pub left_open : r.left_open ≡ open_lines s h
-  pub contexts : IsLeastWithin r.contexts (granted h)
+  pub contexts : IsLeastWithin r.contexts (granted_threads h)
 
 -- these calls are moves, one after the other, from c to d
 pub data IsRun (t : Program) : Configuration → List Call → Configuration → Type 0 where
@@ -55,5 +55,5 @@ pub record IsRealFailure (t : Program) (s : SetupOf) (h : List Call) (i : ℕ) :
   pub later : List Call
   pub whole : h ≡ before ++ call ∷ later
   pub thread : call.thread ≡ i
-  pub last : granted later ≡ []
-  pub stands : IsAtFalseAssertion (after t s before) i call.bit
+  pub last : granted_threads later ≡ []
+  pub stands : IsAtFalseAssertion (configuration_after t s before) i call.bit

@@ -1,11 +1,13 @@
--- Codes of the values of sessions: each record as the tuple of its fields.
+-- Encodings of the values of sessions, each record as the tuple of its fields. No public clause names one.
 use Rattle.std.specs.Prelude.{ℕ, Bool, List, Option, refl}
 use Rattle.std.specs.Coded.{Coded, code_by, coded×, coded_ℕ, coded_bool, coded_list, coded_option}
 use Rattle.bp_code.specs.Flat.{Flat}
 use Rattle.bp_code.specs.Codes.{coded_flat}
-use Rattle.bp_machine.specs.declared.stacks.Frame.{Frame}
+use Rattle.bp_machine.specs.declared.contexts.ContextCount.{ContextCount}
+use Rattle.bp_machine.specs.declared.stacks.ActivationRecord.{ActivationRecord}
 use Rattle.bp_machine.specs.Setups.{SetupOf}
-use Rattle.bp_machine.specs.Lines.{LineOf, State}
+use Rattle.bp_machine.specs.GuestThreads.{GuestThreadOf}
+use Rattle.bp_machine.specs.States.{State}
 use Rattle.bp_machine.specs.Sessions.{SessionOf}
 
 abbrev pub coded_setup : Coded SetupOf
@@ -16,22 +18,29 @@ coded_setup =
     (λ p. record { entries = p.0.0; init = p.0.1; contexts = p.1.0.0; calls = p.1.0.1; seed = p.1.1 })
     (λ _. refl)
 
-abbrev pub coded_frame : Coded Frame
-coded_frame = code_by (ℕ × ℕ) (coded× coded_ℕ coded_ℕ) (λ f. (f.number, f.locals)) (λ p. record { number = p.0; locals = p.1 }) (λ _. refl)
+abbrev pub coded_activation_record : Coded ActivationRecord
+coded_activation_record = code_by (ℕ × ℕ) (coded× coded_ℕ coded_ℕ) (λ f. (f.number, f.locals)) (λ p. record { number = p.0; locals = p.1 }) (λ _. refl)
 
-abbrev pub coded_line : Coded LineOf
-coded_line =
-    code_by (List Frame × (ℕ × Bool)) (coded× (coded_list coded_frame) (coded× coded_ℕ coded_bool))
+abbrev pub coded_thread : Coded GuestThreadOf
+coded_thread =
+    code_by (List ActivationRecord × (ℕ × Bool)) (coded× (coded_list coded_activation_record) (coded× coded_ℕ coded_bool))
     (λ l. (l.stack, (l.calls, l.ended)))
     (λ p. record { stack = p.0; calls = p.1.0; ended = p.1.1 })
     (λ _. refl)
 
+abbrev pub coded_count : Coded ContextCount
+coded_count =
+    code_by (ℕ × Option ℕ) (coded× coded_ℕ (coded_option coded_ℕ))
+    (λ k. (k.used, k.last))
+    (λ p. record { used = p.0; last = p.1 })
+    (λ _. refl)
+
 abbrev pub coded_state : Coded State
 coded_state =
-    code_by ((ℕ × List LineOf) × (ℕ × (Option ℕ × Bool)))
-    (coded× (coded× coded_ℕ (coded_list coded_line)) (coded× coded_ℕ (coded× (coded_option coded_ℕ) coded_bool)))
-    (λ x. ((x.globals, x.lines), (x.contexts, (x.last, x.failed))))
-    (λ p. record { globals = p.0.0; lines = p.0.1; contexts = p.1.0; last = p.1.1.0; failed = p.1.1.1 })
+    code_by ((ℕ × List GuestThreadOf) × (ContextCount × Bool))
+    (coded× (coded× coded_ℕ (coded_list coded_thread)) (coded× coded_count coded_bool))
+    (λ x. ((x.globals, x.threads), (x.contexts, x.failed)))
+    (λ p. record { globals = p.0.0; threads = p.0.1; contexts = p.1.0; failed = p.1.1 })
     (λ _. refl)
 
 abbrev pub coded_session : Coded SessionOf

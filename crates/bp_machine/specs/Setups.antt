@@ -1,11 +1,12 @@
 -- What a session starts from, and when a setup is refused.
-use Rattle.std.specs.Prelude.{◌≡◌, ℕ, ◌+◌, ◌<◌, ◌≤◌, ◌==◌, Bool, cond, not, ◌||◌, nat_lt, List, [], ◌∷◌, Option, None, Some, is_some, length}
+use Rattle.std.specs.Prelude.{if◌then◌else◌, ◌≡◌, ℕ, ◌+◌, ◌<◌, ◌≤◌, ◌==◌, Bool, not, ◌||◌, nat_lt, List, [], ◌∷◌, Option, None, Some, is_some, length}
 use Rattle.std.specs.Option.{option_or}
 use Rattle.bp_tree.specs.Ast.{Program}
 use Rattle.bp_check.specs.Faults.{max_globals}
 use Rattle.bp_code.specs.Configurations.{Configuration, start_of}
 use Rattle.bp_code.specs.Flat.{Flat, Heading}
 use Rattle.bp_code.specs.Listing.{heading_named}
+use Rattle.bp_machine.specs.declared.limits.TheConstants.{MAX_THREADS, MAX_CONTEXTS, MAX_CALLS}
 use Rattle.bp_machine.specs.declared.setups.SetupFault.{SetupFault}
 use Rattle.bp_machine.specs.declared.setups.SetupFault.TheVariants.{Threads, UnknownEntry, EntryHasFormals, InitLength, OutOfRange, Memory}
 
@@ -28,38 +29,40 @@ threads s = length s.entries
 abbrev pub start : Program → SetupOf → Configuration
 start t s = start_of t s.entries s.init
 
-abbrev pub max_threads : ℕ
-max_threads = 64
-
-abbrev pub max_contexts : ℕ
-max_contexts = 1000
-
-abbrev pub max_calls : ℕ
-max_calls = 100000
-
 -- an entry is a procedure without formals
 abbrev pub entry_fault : ℕ → Option Heading → Option SetupFault
 entry_fault k None = Some (UnknownEntry k)
-entry_fault k (Some h) = cond (h.formals == 0) None (Some (EntryHasFormals k))
+entry_fault k (Some h) = if h.formals == 0 then None else Some (EntryHasFormals k)
 
 -- the first fault of the entries from thread k on
 abbrev pub entries_fault : Flat → ℕ → List (List ℕ) → Option SetupFault
 entries_fault c k [] = None
 entries_fault c k (e ∷ es) = option_or (entry_fault k (heading_named c.headings e)) (entries_fault c (k + 1) es)
 
-abbrev pub when : Bool → SetupFault → Option SetupFault
-when b f = cond b (Some f) None
+-- there are no threads, or too many
+abbrev pub has_bad_threads : SetupOf → Bool
+has_bad_threads s = threads s == 0 || nat_lt MAX_THREADS (threads s)
 
+-- no setup has a seed yet
 abbrev pub is_out_of_range : SetupOf → Bool
-is_out_of_range s = nat_lt max_contexts s.contexts || (s.calls == 0 || (nat_lt max_calls s.calls || is_some s.seed))
+is_out_of_range s =
+    nat_lt MAX_CONTEXTS s.contexts || (s.calls == 0 || (nat_lt MAX_CALLS s.calls || is_some s.seed))
 
--- the first fault of a setup for a code; no setup has a seed yet
+abbrev pub fault_if : Bool → SetupFault → Option SetupFault
+fault_if b f = if b then Some f else None
+
+abbrev pub first_of : List (Option SetupFault) → Option SetupFault
+first_of [] = None
+first_of (o ∷ os) = option_or o (first_of os)
+
+-- the first fault of a setup for a code
 abbrev pub setup_fault : Flat → SetupOf → Option SetupFault
-setup_fault c s =
-    option_or (when (threads s == 0 || nat_lt max_threads (threads s)) Threads)
-    (option_or (entries_fault c 0 s.entries)
-    (option_or (when (not (length s.init == c.globals)) InitLength)
-    (when (is_out_of_range s) OutOfRange)))
+setup_fault c s = first_of (
+    fault_if (has_bad_threads s) Threads
+    ∷ entries_fault c 0 s.entries
+    ∷ fault_if (not (length s.init == c.globals)) InitLength
+    ∷ fault_if (is_out_of_range s) OutOfRange
+    ∷ [])
 
 -- the setup fits the code: each entry is a procedure of it without formals, and there is a bit for each global
 pub record Fits (c : Flat) (s : SetupOf) : Type 0 where
@@ -69,17 +72,24 @@ pub record Fits (c : Flat) (s : SetupOf) : Type 0 where
 -- the numbers are within their limits, and there are no more bits than a program may have globals
 pub record IsInRange (s : SetupOf) : Type 0 where
   pub some : 0 < threads s
-  pub few : threads s ≤ max_threads
+  pub few : threads s ≤ MAX_THREADS
   pub bits : length s.init ≤ max_globals
-  pub contexts : s.contexts ≤ max_contexts
+  pub contexts : s.contexts ≤ MAX_CONTEXTS
   pub one : 0 < s.calls
-  pub calls : s.calls ≤ max_calls
+  pub calls : s.calls ≤ MAX_CALLS
   pub unseeded : s.seed ≡ None
 
-abbrev pub number_of : SetupFault → ℕ
-number_of Threads = 31
-number_of (UnknownEntry k) = 32
-number_of (EntryHasFormals k) = 33
-number_of InitLength = 34
-number_of OutOfRange = 35
-number_of Memory = 7
+-- the number of a fault
+abbrev pub number_of_setup_fault : SetupFault → ℕ
+number_of_setup_fault Threads = 31
+number_of_setup_fault (UnknownEntry k) = 32
+number_of_setup_fault (EntryHasFormals k) = 33
+number_of_setup_fault InitLength = 34
+number_of_setup_fault OutOfRange = 35
+number_of_setup_fault Memory = 7
+
+-- the thread that a fault names
+abbrev pub place_of_setup_fault : SetupFault → Option ℕ
+place_of_setup_fault (UnknownEntry k) = Some k
+place_of_setup_fault (EntryHasFormals k) = Some k
+place_of_setup_fault f = None

@@ -21,9 +21,9 @@ pub enum Reply {
 
 impl Reply {
     ghost use Rattle.std.specs.Prelude.{◌≡◌};
-    ghost use Rattle.bp_machine.specs.Letters.{letter_of};
+    ghost use Rattle.bp_machine.specs.Replies.{letter_of, is_last};
 
-    /// The letter by which traces tell the reply.
+    /// The letter that stands for the reply in a trace.
     pub fn letter(&self) -> u8
         ensures { result ≡ letter_of self.now }
     {
@@ -36,6 +36,13 @@ impl Reply {
             Reply::Failed => b'f',
             Reply::Stepped => b's',
         }
+    }
+
+    /// Whether the thread makes no further call after this reply.
+    pub fn is_last(&self) -> bool
+        ensures { result ≡ is_last self.now }
+    {
+        !matches!(self, Reply::Stepped | Reply::Blocked)
     }
 }
 

@@ -2,20 +2,22 @@
 #![tactic(auto)]
 
 mod calls;
+mod contexts;
+mod histories;
 mod laws;
 pub mod limits;
-mod lines;
+mod machine;
 mod reports;
 mod sessions;
 mod setups;
 mod stacks;
-mod starts;
 #[cfg(test)]
 mod tests;
-mod verdicts;
+mod threads;
 
 pub use calls::{Call, Reply};
+pub use histories::{open_lines, outcome_of};
 pub use laws::{failures_are_real, steps_are_a_run, steps_are_within};
-pub use reports::{Outcome, Report};
+pub use reports::{Outcome, Report, report_of};
 pub use sessions::{AskFault, Session};
 pub use setups::{Setup, SetupFault};

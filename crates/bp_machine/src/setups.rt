@@ -1,7 +1,8 @@
 //! What a session starts from.
 ghost use Rattle.std.specs.Prelude.{◌≡◌, ◌⊎◌, ◌≤◌, ℕ, List, None, Some, map, length, slice_get, string_bytes, MatchResult, IfOk, option_map};
 ghost use Rattle.std.specs.Option.{option_copied};
-ghost use Rattle.bp_machine.specs.Setups.{SetupOf, setup_of, threads, entries_fault, entry_fault, setup_fault, is_out_of_range, Fits, IsInRange, number_of};
+ghost use Rattle.bp_machine.specs.declared.limits.TheConstants.{MAX_THREADS};
+ghost use Rattle.bp_machine.specs.Setups.{SetupOf, setup_of, threads, entries_fault, entry_fault, setup_fault, is_out_of_range, Fits, IsInRange, number_of_setup_fault, place_of_setup_fault};
 
 use crate::limits::{MAX_CALLS, MAX_CONTEXTS, MAX_THREADS};
 use bp_code::Code;
@@ -35,7 +36,7 @@ pub enum SetupFault {
 impl SetupFault {
     /// The number by which users know the fault.
     pub fn number(&self) -> u32
-        ensures { result ≡ number_of self.now }
+        ensures { result ≡ number_of_setup_fault self.now }
     {
         match self {
             SetupFault::Threads => 31,
@@ -44,6 +45,16 @@ impl SetupFault {
             SetupFault::InitLength => 34,
             SetupFault::OutOfRange => 35,
             SetupFault::Memory => 7,
+        }
+    }
+
+    /// The thread that the fault names, where it names one.
+    pub fn place(&self) -> Option<u32>
+        ensures { result ≡ place_of_setup_fault self.now }
+    {
+        match self {
+            SetupFault::UnknownEntry(thread) | SetupFault::EntryHasFormals(thread) => Some(*thread),
+            _ => None,
         }
     }
 }
@@ -72,7 +83,7 @@ impl Model for Setup {
 
 /// The first fault of the entries.
 fn fault_of_entries(code: &Code, entries: &[String]) -> Option<SetupFault>
-    requires { length entries.now ≤ 64 }
+    requires { length entries.now ≤ MAX_THREADS }
     ensures { result ≡ entries_fault code.now 0 (map string_bytes entries.now) }
 {
     for (thread, name) in entries.iter().enumerate() {

@@ -8,7 +8,7 @@ use std::marker::Model;
 
 /// A call that has not returned: the number of its next instruction, and the word of its locals.
 #[derive(Clone, Copy, Debug, PartialEq, Eq)]
-pub struct Frame {
+pub struct ActivationRecord {
     pub number: u32,
     pub locals: u128,
 }
@@ -16,20 +16,20 @@ pub struct Frame {
 /// The calls of a thread that have not returned, the topmost last in memory and first in a contract.
 #[derive(Drop)]
 pub(crate) struct Stack {
-    frames: Vec<Frame>,
+    frames: Vec<ActivationRecord>,
 }
 
 impl Model for Stack {
     ghost use Rattle.std.specs.Prelude.{List, reverse};
-    ghost use Rattle.bp_machine.specs.declared.stacks.Frame.{Frame};
+    ghost use Rattle.bp_machine.specs.declared.stacks.ActivationRecord.{ActivationRecord};
 
-    ghost Value = { List Frame };
+    ghost Value = { List ActivationRecord };
 
     ghost view = { λ s. reverse s.frames.items };
 }
 
 /// Another frame at the top, where there is one.
-fn replace_top(frames: &mut Vec<Frame>, frame: Frame)
+fn replace_top(frames: &mut Vec<ActivationRecord>, frame: ActivationRecord)
     ensures { reverse frames.new.items ≡ with_top frame (reverse frames.old.items) }
 {
     let count = frames.len();
@@ -39,7 +39,11 @@ fn replace_top(frames: &mut Vec<Frame>, frame: Frame)
 }
 
 /// Leaves the topmost frame at the instruction `next`, and puts another one on it.
-fn enter(frames: &mut Vec<Frame>, frame: Frame, next: u32) -> Result<(), AllocError>
+fn enter(
+    frames: &mut Vec<ActivationRecord>,
+    frame: ActivationRecord,
+    next: u32,
+) -> Result<(), AllocError>
     ensures ok { OnOk result (reverse frames.new.items ≡ entered_top frame next (reverse frames.old.items)) }
     ensures err { OnErr result (frames.new.items ≡ frames.old.items) }
 {
@@ -49,7 +53,7 @@ fn enter(frames: &mut Vec<Frame>, frame: Frame, next: u32) -> Result<(), AllocEr
     frames.push(frame)?;
     let count = frames.len();
     if count > 1 {
-        frames[count - 2] = Frame {
+        frames[count - 2] = ActivationRecord {
             number: next,
             ..caller
         };
@@ -58,18 +62,18 @@ fn enter(frames: &mut Vec<Frame>, frame: Frame, next: u32) -> Result<(), AllocEr
 }
 
 impl Stack {
-    ghost use Rattle.bp_machine.specs.Stepping.{stack_after};
+    ghost use Rattle.bp_machine.specs.Transitions.{stack_after};
 
     /// The stack of a thread that begins at this instruction, with its locals 0.
     pub(crate) fn start(alloc: Global, number: u32) -> Result<Stack, AllocError>
         ensures { IfOk result (λ s. s ≡ record { number = number; locals = 0 } ∷ []) }
     {
         let mut frames = Vec::new(alloc);
-        frames.push(Frame { number, locals: 0 })?;
+        frames.push(ActivationRecord { number, locals: 0 })?;
         Ok(Stack { frames })
     }
 
-    pub(crate) fn top(&self) -> Option<Frame>
+    pub(crate) fn top(&self) -> Option<ActivationRecord>
         ensures { result ≡ top_of self.now }
     {
         self.frames.last().copied()
@@ -89,7 +93,7 @@ impl Stack {
         match deed {
             Deed::Goes { words, next } => replace_top(
                 &mut self.frames,
-                Frame {
+                ActivationRecord {
                     number: next,
                     locals: words.locals,
                 },
@@ -103,7 +107,7 @@ impl Stack {
                 next,
             } => enter(
                 &mut self.frames,
-                Frame {
+                ActivationRecord {
                     number: callee,
                     locals,
                 },

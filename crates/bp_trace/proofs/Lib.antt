@@ -1,5 +1,4 @@
-mod Again
-mod Counted
-mod Numbers
-pub mod Pieces
-mod Played
+pub mod Appends
+mod LinesDriveAgain
+mod PlayedLines
+mod ScheduleLineAt

@@ -4,9 +4,10 @@ use Rattle.bp_code.specs.Flat.{Flat}
 use Rattle.bp_code.specs.StandsFor.{StandsFor}
 use Rattle.bp_tree.specs.Ast.{Program}
 use Rattle.bp_machine.specs.declared.calls.Call.{Call}
-use Rattle.bp_machine.specs.Setups.{SetupOf, threads, max_threads}
+use Rattle.bp_machine.specs.Setups.{SetupOf, threads}
+use Rattle.bp_machine.specs.declared.limits.TheConstants.{MAX_THREADS}
 use Rattle.bp_machine.specs.Histories.{IsLegal}
-use Rattle.bp_trace.specs.Schedules.{schedule_text, turns_of}
+use Rattle.bp_trace.specs.Schedules.{schedule_text, lines_of_history}
 use Rattle.bp_trace.specs.Drives.{IsDriven, IsBadLine, IsAfterFinish}
 
 -- what a schedule can be driven to: to this history alone, and to no refusal of a line
@@ -18,5 +19,8 @@ pub record DrivesTo (c : Flat) (s : SetupOf) (schedule : List ℕ) (h : List Cal
 -- the lines of the calls of a legal history drive its program to it
 abbrev pub LinesDriveAgain : Type 0
 LinesDriveAgain =
-    (c : Flat) (t : Program) (s : SetupOf) (h : List Call) → StandsFor c t → threads s ≤ max_threads → IsLegal t s h
-    → DrivesTo c s (schedule_text (turns_of h)) h
+    (c : Flat) (t : Program) (s : SetupOf) (h : List Call)
+    → StandsFor c t
+    → threads s ≤ MAX_THREADS
+    → IsLegal t s h
+    → DrivesTo c s (schedule_text (lines_of_history h)) h

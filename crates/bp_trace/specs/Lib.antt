@@ -1,6 +1,6 @@
 pub mod Drives
 pub mod Laws
-pub mod Plays
-pub mod Reading
+pub mod LinePlays
+pub mod ScheduleReading
 pub mod Schedules
 pub mod TraceText

@@ -4,7 +4,7 @@ use Rattle.std.specs.List.{concat}
 use Rattle.bp_machine.specs.declared.calls.Call.{Call}
 use Rattle.bp_machine.specs.Setups.{SetupOf}
 use Rattle.bp_machine.specs.Histories.{open_lines}
-use Rattle.bp_machine.specs.Letters.{letter_of}
+use Rattle.bp_machine.specs.Replies.{letter_of}
 use Rattle.bp_trace.specs.Schedules.{bit_digit}
 
 abbrev pub entry_line : List ℕ → List ℕ

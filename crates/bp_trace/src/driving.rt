@@ -1,31 +1,88 @@
 //! Driving a program by a schedule.
-ghost use Rattle.std.specs.Prelude.{◌≡◌, length, MatchResult};
+ghost use Rattle.std.specs.Prelude.{◌≡◌, ◌<◌, ◌≤◌, ℕ, List, Option, [], length, IfOk, IfErr, OnOk, MatchResult};
 ghost use Rattle.bp_code.specs.Programs.{IsOfProgram};
+ghost use Rattle.bp_machine.specs.declared.limits.TheConstants.{MAX_THREADS};
 ghost use Rattle.bp_machine.specs.Setups.{Fits};
-ghost use Rattle.bp_machine.specs.Reports.{IsReport};
+ghost use Rattle.bp_machine.specs.Sessions.{StandsForAll};
+ghost use Rattle.bp_trace.specs.declared.limits.TheConstants.{MAX_SCHEDULE};
+ghost use Rattle.bp_trace.specs.Schedules.{schedule_text, lines_of_history};
 ghost use Rattle.bp_trace.specs.Drives.{IsPlayed, IsRefusal};
-ghost use Rattle.bp_trace.specs.Plays.{StandsForAll};
+ghost use Rattle.bp_trace.specs.LinePlays.{drive_fault_of, IsAdded, IsLineRefusal};
 
-use crate::faults::{DriveFault, MAX_SCHEDULE};
-use crate::plays::{outcome_of, play};
-use crate::texts::write_parts;
+use crate::faults::DriveFault;
+use crate::limits::MAX_SCHEDULE;
+use crate::schedules::{ScheduleLine, line_at, text_from};
+use crate::traces::write_with_open_lines;
 use bp_code::Code;
-use bp_machine::{Call, Report, Session, Setup};
+use bp_machine::{AskFault, Call, Report, Session, Setup, report_of};
 use std::alloc::Global;
 use std::io::Write;
 
-/// What the history of a session comes to.
-fn report_of(session: &Session, calls: &[Call]) -> Report
-    requires program { IsOfProgram session.now.code }
-    requires stands { StandsForAll session.now calls.now }
-    ensures { IsReport session.now.setup calls.now result }
+/// The refusal of a call on the `n`-th line, of a thread that is there.
+fn drive_fault_of(fault: AskFault, n: u32) -> DriveFault
+    ensures { result ≡ drive_fault_of fault n }
 {
-    Report {
-        outcome: outcome_of(calls),
-        calls: calls.len() as u64,
-        left_open: session.open_lines(),
-        contexts: session.contexts_used(),
+    match fault {
+        AskFault::Memory => DriveFault::Memory,
+        AskFault::NoThread | AskFault::Finished => DriveFault::AfterFinish(n),
     }
+}
+
+/// Makes the call of a line, which is the `n`-th, and keeps it.
+fn play_line(
+    session: &mut Session,
+    calls: &mut Vec<Call>,
+    line: ScheduleLine,
+    n: u32,
+) -> Result<(), DriveFault>
+    requires program { IsOfProgram session.old.code }
+    requires stands { StandsForAll session.old calls.old.items }
+    requires thread { line.thread < length session.old.setup.entries }
+    ensures stands { OnOk result (StandsForAll session.new calls.new.items) }
+    ensures added { OnOk result (IsAdded calls.old.items calls.new.items line) }
+    ensures kept { (session.new.code ≡ session.old.code) × (session.new.setup ≡ session.old.setup) }
+    ensures refused { IfErr result (IsLineRefusal session.old.setup calls.old.items line n) }
+{
+    match session.ask_with(line.thread, line.bit) {
+        Ok(call) => {
+            if calls.push(call).is_err() {
+                return Err(DriveFault::Memory);
+            }
+            Ok(())
+        }
+        Err(fault) => Err(drive_fault_of(fault, n)),
+    }
+}
+
+/// Plays all lines of a schedule on a session before any call.
+fn play(
+    alloc: Global,
+    session: &mut Session,
+    threads: u32,
+    schedule: &[u8],
+) -> Result<Vec<Call>, DriveFault>
+    requires program { IsOfProgram session.old.code }
+    requires stands { StandsForAll session.old [] }
+    requires threads { threads ≡ length session.old.setup.entries }
+    requires few { threads ≤ MAX_THREADS }
+    requires short { length schedule.now ≤ MAX_SCHEDULE }
+    ensures stands { IfOk result (λ h. StandsForAll session.new h.items) }
+    ensures lines { IfOk result (λ h. schedule.now ≡ schedule_text (lines_of_history h.items)) }
+    ensures kept { (session.new.code ≡ session.old.code) × (session.new.setup ≡ session.old.setup) }
+    ensures refused { (bytes : Option (List ℕ))
+        → IfErr result (IsRefusal session.old.code session.old.setup schedule.now bytes bytes) }
+{
+    let mut calls = Vec::new(alloc);
+    let mut at = 0;
+    while at < schedule.len() {
+        let n = calls.len() as u32 + 1;
+        let Some(line) = line_at(threads, text_from(schedule, at)) else {
+            return Err(DriveFault::Line(n));
+        };
+        play_line(session, &mut calls, line, n)?;
+        at += line.text_len();
+    }
+    Ok(calls)
 }
 
 /// Plays the lines of a schedule, one call each, and then writes the trace of the history. A line is the number
@@ -39,7 +96,9 @@ pub fn drive<W: Write>(
     out: &mut W,
 ) -> Result<Report, DriveFault>
     requires { Fits code.now setup.now }
-    ensures { MatchResult result (IsPlayed code.now setup.now schedule.now (W.contents out.old) (W.contents out.new)) (IsRefusal code.now setup.now schedule.now (W.contents out.old) (W.contents out.new)) }
+    ensures { MatchResult result
+        (IsPlayed code.now setup.now schedule.now (W.contents out.old) (W.contents out.new))
+        (IsRefusal code.now setup.now schedule.now (W.contents out.old) (W.contents out.new)) }
 {
     if schedule.len() > MAX_SCHEDULE {
         return Err(DriveFault::TooLong);
@@ -49,6 +108,6 @@ pub fn drive<W: Write>(
     let mut session = Session::new(alloc, code, setup)?;
     let calls = play(alloc, &mut session, setup.threads(), schedule)?;
     let report = report_of(&session, calls.as_slice());
-    write_parts(setup, calls.as_slice(), report.left_open, out)?;
+    write_with_open_lines(setup, calls.as_slice(), report.left_open, out)?;
     Ok(report)
 }

@@ -4,9 +4,6 @@ use bp_code::WriteFault;
 use std::alloc::AllocError;
 use thiserror::Error;
 
-/// How many bytes a schedule may have.
-pub const MAX_SCHEDULE: usize = 67_108_864;
-
 /// Why a schedule is not played: the first of these that applies. Lines are counted from 1.
 #[derive(Clone, Copy, Debug, PartialEq, Eq, Error)]
 pub enum DriveFault {
@@ -29,11 +26,11 @@ pub enum DriveFault {
 
 impl DriveFault {
     ghost use Rattle.std.specs.Prelude.{◌≡◌};
-    ghost use Rattle.bp_trace.specs.Drives.{number_of};
+    ghost use Rattle.bp_trace.specs.Drives.{number_of_drive_fault, place_of_drive_fault};
 
     /// The number by which users know the fault.
     pub fn number(&self) -> u32
-        ensures { result ≡ number_of self.now }
+        ensures { result ≡ number_of_drive_fault self.now }
     {
         match self {
             DriveFault::TooLong => 48,
@@ -41,6 +38,16 @@ impl DriveFault {
             DriveFault::AfterFinish(_) => 47,
             DriveFault::Memory => 7,
             DriveFault::Write => 51,
+        }
+    }
+
+    /// The line of the schedule that the fault names, where it names one.
+    pub fn place(&self) -> Option<u32>
+        ensures { result ≡ place_of_drive_fault self.now }
+    {
+        match self {
+            DriveFault::Line(line) | DriveFault::AfterFinish(line) => Some(*line),
+            _ => None,
         }
     }
 }

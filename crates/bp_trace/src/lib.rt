@@ -3,19 +3,15 @@
 
 mod driving;
 mod faults;
-mod finished;
-mod heads;
 mod laws;
-mod plays;
-mod reading;
-mod texts;
-mod turns;
-
-pub use driving::drive;
-pub use faults::{DriveFault, MAX_SCHEDULE};
-pub use laws::lines_drive_again;
-pub use texts::{write_call, write_end, write_head, write_trace};
-pub use turns::Turn;
-
+pub mod limits;
+mod schedules;
 #[cfg(test)]
 mod tests;
+mod traces;
+
+pub use driving::drive;
+pub use faults::DriveFault;
+pub use laws::lines_drive_again;
+pub use schedules::ScheduleLine;
+pub use traces::{write_call, write_end, write_head, write_trace};

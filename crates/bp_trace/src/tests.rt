@@ -2,8 +2,8 @@
 ghost use Rattle.std.specs.Prelude.{IfOk};
 ghost use Rattle.bp_machine.specs.Setups.{Fits};
 
-use crate::reading::turn_at;
-use crate::{DriveFault, Turn, drive, write_call, write_end, write_head, write_trace};
+use crate::schedules::line_at;
+use crate::{DriveFault, ScheduleLine, drive, write_call, write_end, write_head, write_trace};
 use bp_check::check;
 use bp_code::{Code, compile};
 use bp_machine::{Call, Outcome, Reply, Report, Setup};
@@ -111,13 +111,13 @@ fn writes_a_trace(rt: HostRuntime) -> Result<(), Fail> {
 
 #[test]
 fn reads_turns(rt: HostRuntime) {
-    let turn = |thread, bit| Some(Turn { thread, bit });
-    assert!(&rt; turn_at(64, b"63 1\n0 0\n") == turn(63, true));
-    assert!(&rt; turn_at(64, b"0 0\n") == turn(0, false));
-    assert!(&rt; turn_at(63, b"63 1\n").is_none());
-    assert!(&rt; turn_at(64, b"064 1\n").is_none());
-    assert!(&rt; turn_at(64, b"6 2\n").is_none());
-    assert!(&rt; turn_at(64, b"6").is_none());
+    let turn = |thread, bit| Some(ScheduleLine { thread, bit });
+    assert!(&rt; line_at(64, b"63 1\n0 0\n") == turn(63, true));
+    assert!(&rt; line_at(64, b"0 0\n") == turn(0, false));
+    assert!(&rt; line_at(63, b"63 1\n").is_none());
+    assert!(&rt; line_at(64, b"064 1\n").is_none());
+    assert!(&rt; line_at(64, b"6 2\n").is_none());
+    assert!(&rt; line_at(64, b"6").is_none());
 }
 
 /// A setup of so many threads of `main`, within so many contexts and calls.

@@ -1,5 +1,1 @@
-mod Driven
 mod PlainWords
-mod Refused
-mod Separators
-mod Told

@@ -31,11 +31,11 @@ is_not_short [] plain = refl
 is_not_short (b ∷ bs) plain = rw (not_dash (b == 45) plain) refl
 
 -- a command's name, and its file
-abbrev named : Option (Text × List Row) → Option (Text × Text)
-named = option_map (λ command. (command.0, value_of (codes "FILE") command.1))
+abbrev command_and_file : Option (Text × List Row) → Option (Text × Text)
+command_and_file = option_map (λ command. (command.0, value_of (codes "FILE") command.1))
 
 file_named : (program file : Text) → bytes_eq file (45 ∷ 45 ∷ []) ≡ false → long_of file ≡ None → short_of file ≡ None
-    → named (subcommand_of btrun_app (program ∷ codes "check" ∷ file ∷ [])) ≡ Some (codes "check", file)
+    → command_and_file (subcommand_of btrun_app (program ∷ codes "check" ∷ file ∷ [])) ≡ Some (codes "check", file)
 unfolding clap_on_literals
 file_named program file no_end no_long no_short = rw (no_end, no_long, no_short) refl
 
@@ -47,7 +47,7 @@ file_faulty program file no_end no_long no_short = rw (no_end, no_long, no_short
 pub check_faulty : (program file : Text) → is_plain file ≡ true → fault_of btrun_app (program ∷ codes "check" ∷ file ∷ []) ≡ []
 check_faulty program file plain = file_faulty program file (ends_nothing file plain) (is_not_long file plain) (is_not_short file plain)
 
-asked : (command : Option (Text × List Row)) (file : Text) (task : Task) → named command ≡ Some (codes "check", file) → IsTaskOf command task → IsCheckOf file task
+asked : (command : Option (Text × List Row)) (file : Text) (task : Task) → command_and_file command ≡ Some (codes "check", file) → IsTaskOf command task → IsCheckOf file task
 asked None file task name asks = search rules
 asked (Some command) file Bundle name asks =
     let check : command.0 ≡ codes "check" = search rules in

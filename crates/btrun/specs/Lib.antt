@@ -1,10 +1,2 @@
-pub mod Bundles
 pub mod Commands
-pub mod Faults
-pub mod Files
-pub mod Input
-pub mod Notices
-pub mod Parts
-pub mod Programs
 pub mod Statuses
-pub mod Verdicts

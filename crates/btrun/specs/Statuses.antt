@@ -1,16 +1,8 @@
--- Exit statuses.
-use Rattle.std.specs.Prelude.{◌≡◌, ◌⊎◌, ℕ, Bool, true, false, cond, nat_le, ◌==◌, ◌&&◌, ◌||◌, Option, None, Some}
+-- The exit statuses of runs, by what their output and their words were.
+use Rattle.std.specs.Prelude.{◌≡◌, ◌⊎◌, ℕ, Bool, false, None}
+use Rattle.bp_commands.specs.Statuses.{status_of}
 use Rattle.clap.specs.declared.error.kind.ErrorKind.{ErrorKind}
 use Rattle.clap.specs.declared.error.kind.ErrorKind.TheVariants.{OutOfMemory, DisplayHelp, DisplayVersion}
-
--- memory, a write, a foreign history, a worker's start, a device
-abbrev pub is_of_the_machine : ℕ → Bool
-is_of_the_machine n = n == 7 || nat_le 51 n && nat_le n 54
-
-abbrev pub status_of : Bool → Option ℕ → ℕ
-status_of failed (Some n) = cond (is_of_the_machine n) 3 2
-status_of true None = 1
-status_of false None = 0
 
 -- the status of a run whose output is handed on at its end, which may fail
 abbrev pub IsEndStatus : Bool → ℕ → Type 0

@@ -8,15 +8,15 @@ use clap::error::ErrorKind;
 use clap::{Arg, ArgMatches, Command, Error};
 use std::alloc::{AllocError, Global};
 
-/// The version that the program tells.
+/// The version of the program.
 const VERSION: &str = "0.1.0";
 
-/// What the words ask for.
+/// What the user wants done.
 #[derive(Clone, Copy)]
 pub enum Task<'a> {
-    /// To drive the bundle that standard input has.
+    /// Drive the bundle that standard input has.
     Bundle,
-    /// To check the program of this file.
+    /// Check the program of this file.
     Check(&'a str),
 }
 
@@ -46,7 +46,7 @@ fn command<'a>(alloc: Global) -> Result<Command<'a>, AllocError>
         .subcommand(check_command(alloc)?)
 }
 
-/// What the words that were matched ask for.
+/// The task that the matched words name.
 fn task_of<'a>(matches: &ArgMatches<'a>) -> Task<'a>
     ensures { IsTaskOf (subcommand_rows_of matches.now) result }
 {

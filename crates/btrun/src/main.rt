@@ -2,20 +2,11 @@
 //! input, and prints the trace to which the schedule drives the program.
 #![tactic(auto)]
 
-mod bundles;
 mod commands;
-mod faults;
-mod files;
-mod input;
-mod notices;
-mod parts;
-mod programs;
 mod runs;
-mod statuses;
 mod streams;
 #[cfg(test)]
 mod tests;
-mod verdicts;
 
 use std::process::ExitCode;
 

@@ -1,19 +1,19 @@
-//! How a run ends: what it tells on its streams, and its exit status.
+//! How a run ends: what it prints, and its exit status.
 ghost use Rattle.std.specs.Prelude.{◌≡◌, false, None, Some};
-ghost use Rattle.btrun.specs.Notices.{IsNotice};
-ghost use Rattle.btrun.specs.Statuses.{status_of, IsEndStatus};
+ghost use Rattle.bp_commands.specs.FaultLines.{IsReportable};
+ghost use Rattle.bp_commands.specs.Statuses.{status_of};
+ghost use Rattle.btrun.specs.Statuses.{IsEndStatus};
 
-use crate::notices::show_fault;
-use crate::statuses::exit_status;
 use bp_code::WriteFault;
+use bp_commands::{exit_status, show_fault};
 use std::io::{self, BufWriter, ErrorKind, Stdout, Write};
 
 /// Prints the line of a fault on standard error and answers the exit status.
 pub fn refuse(rt: &HostRuntime, number: u32, place: Option<u32>) -> u8
-    requires { IsNotice number place None }
+    requires { IsReportable number place None }
     ensures { result ≡ status_of false (Some number) }
 {
-    // Where standard error fails, the status still tells.
+    // Where standard error fails, the status still reports the fault.
     let _ = show_fault(number, place, None, &mut rt.stderr());
     exit_status(false, Some(number))
 }

@@ -1,58 +1,49 @@
-//! Worked examples, and what fails under them.
-mod bundles;
-mod files;
-mod notices;
-mod words;
+//! The words of the command line, and what they ask for.
+use crate::commands::{Task, not_text, read_words};
+use clap::error::ErrorKind;
+use std::alloc::Global;
+use std::test::Fail;
 
-use std::io;
-use std::io::{ErrorKind, Read, Write};
-
-const RECURSIVE: &[u8] =
-    b"decl g;\nmain() begin decl h; h := !g; A(g,h); skip; A(g,h); skip;\n  if (g) then R: skip; else skip; fi end\nA(a1,a2) begin if (a1) then A(a2,a1); else g := a2; fi end";
-
-/// A writer that takes so many bytes, one at a time, and then fails.
-#[derive(Drop)]
-struct Short {
-    taken: Vec<u8>,
-    room: usize,
+/// The words behind the name of the program.
+fn words(alloc: Global, given: &[&str]) -> Result<Vec<String>, Fail> {
+    let mut words = vec![in alloc; String::from_str(alloc, "btrun")?]?;
+    for word in given {
+        words.push(String::from_str(alloc, word)?)?;
+    }
+    Ok(words)
 }
 
-impl Write for Short {
-    ghost use Rattle.std.specs.Prelude.{Some};
-
-    ghost contents = { λ s. Some s.taken.items };
-
-    fn write(&mut self, buf: &[u8]) -> io::Result<usize> {
-        if buf.is_empty() {
-            return Ok(0);
-        }
-        if self.taken.len() >= self.room {
-            return Err(io::Error::from(ErrorKind::StorageFull));
-        }
-        match self.taken.push(buf[0]) {
-            Ok(()) => Ok(1),
-            Err(_) => Err(io::Error::from(ErrorKind::OutOfMemory)),
-        }
-    }
-
-    fn flush(&mut self) -> io::Result<()> {
-        Ok(())
+/// Why the words are refused, or none.
+fn refusal(alloc: Global, given: &[&str]) -> Result<Option<ErrorKind>, Fail> {
+    match read_words(alloc, &words(alloc, given)?) {
+        Ok(_) => Ok(None),
+        Err(error) => Ok(Some(error.kind())),
     }
 }
 
-/// A reader that gives one byte of its text at each read, and fails at a read.
-#[derive(Drop)]
-struct Broken {
-    reads: usize,
+#[test]
+fn reads_words(rt: HostRuntime) -> Result<(), Fail> {
+    let alloc = rt.alloc();
+    assert!(rt; matches!(read_words(alloc, &words(alloc, &[])?), Ok(Task::Bundle)));
+    let check = words(alloc, &["check", "p.bp"])?;
+    assert!(rt; matches!(read_words(alloc, &check), Ok(Task::Check(path)) if path == "p.bp"));
+    let dashed = words(alloc, &["check", "--", "-p"])?;
+    assert!(rt; matches!(read_words(alloc, &dashed), Ok(Task::Check(path)) if path == "-p"));
+    Ok(())
 }
 
-impl Read for Broken {
-    fn read(&mut self, buf: &mut [u8]) -> io::Result<usize> {
-        if self.reads == 0 || buf.is_empty() {
-            return Err(io::Error::from(ErrorKind::BrokenPipe));
-        }
-        self.reads -= 1;
-        buf[0] = b' ';
-        Ok(1)
-    }
+#[test]
+fn refuses_words(rt: HostRuntime) -> Result<(), Fail> {
+    let alloc = rt.alloc();
+    assert!(rt; refusal(alloc, &["check", "p.bp"])?.is_none());
+    let missing = refusal(alloc, &["check"])?;
+    assert!(rt; missing == Some(ErrorKind::MissingRequiredArgument));
+    let more = refusal(alloc, &["check", "p.bp", "q.bp"])?;
+    assert!(rt; more == Some(ErrorKind::UnknownArgument));
+    let other = refusal(alloc, &["chekc"])?;
+    assert!(rt; other == Some(ErrorKind::InvalidSubcommand));
+    assert!(rt; refusal(alloc, &["--help"])? == Some(ErrorKind::DisplayHelp));
+    assert!(rt; refusal(alloc, &["-V"])? == Some(ErrorKind::DisplayVersion));
+    assert!(rt; not_text(alloc)?.kind() == ErrorKind::InvalidValue);
+    Ok(())
 }

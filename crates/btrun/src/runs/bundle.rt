@@ -1,7 +1,7 @@
 //! A run without a command: standard input has a bundle.
 
-use crate::bundles::drive_bundle;
 use crate::streams::{finish, refuse, refuse_memory};
+use bp_commands::drive_bundle;
 use bp_machine::Outcome;
 use std::io::BufWriter;
 
@@ -13,7 +13,7 @@ pub fn drive_input(rt: &HostRuntime) -> u8 {
     match drive_bundle(rt.alloc(), &mut rt.stdin(), &mut out) {
         Ok(report) => finish(rt, out, matches!(report.outcome, Outcome::Failed { .. })),
         Err(fault) => {
-            fault.is_told();
+            fault.is_reportable();
             refuse(rt, fault.number(), fault.place())
         }
     }

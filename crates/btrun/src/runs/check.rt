@@ -1,7 +1,7 @@
 //! A run of `check FILE`.
 
-use crate::files::check_text;
 use crate::streams::{finish, refuse, refuse_device, refuse_memory};
+use bp_commands::check_text;
 use std::fs::File;
 use std::io::BufWriter;
 
@@ -13,7 +13,7 @@ fn check_open(rt: &HostRuntime, mut file: File) -> u8 {
     match check_text(rt.alloc(), &mut file, &mut out) {
         Ok(()) => finish(rt, out, false),
         Err(fault) => {
-            fault.is_told();
+            fault.is_reportable();
             refuse(rt, fault.number(), fault.place())
         }
     }

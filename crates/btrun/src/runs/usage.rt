@@ -4,8 +4,8 @@ ghost use Rattle.clap.specs.Words.{kind_of};
 ghost use Rattle.btrun.specs.Statuses.{IsWordsStatus};
 
 use crate::commands::not_text;
-use crate::statuses::exit_status;
 use crate::streams::{refuse_memory, refuse_write};
+use bp_commands::exit_status;
 use clap::Error;
 use clap::error::ErrorKind;
 
@@ -23,7 +23,7 @@ pub fn explain(rt: &HostRuntime, error: &Error) -> u8
             Err(_) => refuse_write(rt),
         },
         _ => {
-            // Where standard error fails, the status still tells.
+            // Where standard error fails, the status still reports the fault.
             let _ = error.print(rt);
             USAGE_STATUS
         }

@@ -1,4 +1,4 @@
-use Rattle.bp_machine.proofs.Failures.{real}
+use Rattle.bp_machine.proofs.RealFailures.{real}
 use Rattle.bp_machine.proofs.laws.failures_are_real.Goals as goal
 
 pub returns : goal.returns

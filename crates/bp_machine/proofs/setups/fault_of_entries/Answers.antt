@@ -1,5 +1,5 @@
 use Rattle.std.proofs.Common.{◌∙◌, sym, ap, Some}
-use Rattle.bp_machine.proofs.Entries.{unknown, has_formals, fine}
+use Rattle.bp_machine.proofs.EntryFaults.{unknown, has_formals, fine}
 use Rattle.bp_machine.proofs.setups.fault_of_entries.Goals as goal
 
 pub returns-in-None : goal.returns-in-None

@@ -1,4 +1,5 @@
 use Rattle.std.proofs.Common.{◌∙◌, sym, subst}
+use Rattle.std.proofs.lemmas.Result.{err_from_is_err_and}
 use Rattle.bp_code.specs.Programs.{IsOfProgram}
 use Rattle.bp_code.specs.StandsFor.{StandsFor}
 use Rattle.bp_trace.proofs.driving.drive.Goals as goal
@@ -12,3 +13,10 @@ play-requires-clause-stands g c = λ t is. c.in_ok-session.ensures.stands t (sub
 pub report_of-report-requires-clause-program : goal.report_of-report-requires-clause-program
 report_of-report-requires-clause-program g c =
     subst IsOfProgram (sym (c.play.ensures.kept.0 ∙ c.in_ok-session.ensures.kept.0)) c.is_of_a_program.ensures
+
+pub returns-in_err-calls : goal.returns-in_err-calls
+returns-in_err-calls g c =
+    let p = err_from_is_err_and c.from_residual-in_err-calls.result c.from_residual-in_err-calls.ensures.1 in
+    let refused = c.in_err-calls.ensures.refused (g.W.Write.contents c.args.out.now) in
+    let kept = c.in_ok-session.ensures.kept in
+    rw (p.1, p.2) (rw (kept.0, kept.1) at refused)

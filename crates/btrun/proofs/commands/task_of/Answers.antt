@@ -19,9 +19,9 @@ after_map : {A B C : Type 0} (f : A → B) (g : B → C) (x : Option A) → opti
 after_map f g None = refl
 after_map f g (Some a) = refl
 
--- the name of the command, as its rows tell it
-name_told : (m : ArgMatches) → subcommand_name_of m ≡ option_map (λ p. p.0) (subcommand_rows_of m)
-name_told m = after_map _ _ (out-ArgMatches m).subcommand
+-- the name of the command, from its rows
+name_of_rows : (m : ArgMatches) → subcommand_name_of m ≡ option_map (λ p. p.0) (subcommand_rows_of m)
+name_of_rows m = after_map _ _ (out-ArgMatches m).subcommand
 
 given_or_empty : (given : Option (Bor Text)) (first : Option Text) (r d : Bor Text) → r ≡ unwrap_or given d → d.now ≡ [] → option_map (λ s. s.now) given ≡ first
     → r.now ≡ unwrap_or first []
@@ -33,5 +33,5 @@ returns-in-Some-check-default c =
     let rows = c.in-Some-check-default.ensures.rows in
     let value = c.get_str.ensures ∙ first_value-rows (found_of c.in-Some-check-default.words.now) (codes "FILE") in
     let name : Some (codes "check") ≡ subcommand_name_of c.args.matches.now = search rules in
-    named (subcommand_rows_of c.args.matches.now) (rows_of (found_of c.in-Some-check-default.words.now)) c.unwrap_or.result (name ∙ name_told c.args.matches.now) rows
+    named (subcommand_rows_of c.args.matches.now) (rows_of (found_of c.in-Some-check-default.words.now)) c.unwrap_or.result (name ∙ name_of_rows c.args.matches.now) rows
     (given_or_empty c.get_str.result _ c.unwrap_or.result _ c.unwrap_or.ensures refl value)

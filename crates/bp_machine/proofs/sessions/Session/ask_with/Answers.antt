@@ -1,4 +1,6 @@
-use Rattle.bp_machine.proofs.Asking.{answered, still_in_order}
+use Rattle.std.proofs.lemmas.Option.{slice_get_within}
+use Rattle.std.proofs.lemmas.Result.{err_from_is_err_and}
+use Rattle.bp_machine.proofs.SessionAnswers.{answered, still_in_order, refused_after, refused_for_memory}
 use Rattle.bp_machine.proofs.sessions.Session.ask_with.Goals as goal
 
 pub invariant_of-self : goal.invariant_of-self
@@ -6,13 +8,29 @@ invariant_of-self c = rw c.in_err-make.ensures.err c.self.invariant
 
 pub invariant_of-self-2 : goal.invariant_of-self-2
 invariant_of-self-2 c =
-    let found = rw (← c.self.view_is) at c.in_ok-verdict.ensures.found in
-    still_in_order c.self.inside.code c.self.inside.setup c.self.inside.machine c.make.new.self c.args.thread found.0 c.in_ok-verdict.verdict (c.in_ok-make.ensures.ok found.0 found.1) c.self.invariant
-    (λ t h is stands. (_, answered (record { code = c.self.inside.code; setup = c.self.inside.setup; state = c.self.inside.machine }) t h (c.steps_alike.ensures t is) stands c.args.thread found.0 found.1 found.2 c.args.bit c.in_ok-verdict.verdict found.3 c.make.new.self (c.in_ok-make.ensures.ok found.0 found.1) c.reply_to.result c.reply_to.ensures))
+    let next = rw (← c.self.view_is) at c.in_ok-transition.ensures.found in
+    still_in_order c.self.inside.code c.self.inside.setup c.self.inside.machine c.make.new.self c.args.thread next.guest c.in_ok-transition.transition (c.in_ok-make.ensures.ok next.guest next.has) c.self.invariant
+    (λ t h is stands. (_, answered (record { code = c.self.inside.code; setup = c.self.inside.setup; state = c.self.inside.machine }) t h (c.steps_alike.ensures t is) stands c.args.thread c.args.bit c.in_ok-transition.transition next c.make.new.self (c.in_ok-make.ensures.ok next.guest next.has) c.reply.result c.reply.ensures))
 
 pub returns-clause-stands : goal.returns-clause-stands
 returns-clause-stands c = λ t h is stands.
-    let found = rw (← c.self.view_is) at c.in_ok-verdict.ensures.found in
+    let next = rw (← c.self.view_is) at c.in_ok-transition.ensures.found in
     let is_before = rw (← c.self.view_is) at is in
     let stood = rw (← c.self.view_is) at stands in
-    answered (record { code = c.self.inside.code; setup = c.self.inside.setup; state = c.self.inside.machine }) t h (c.steps_alike.ensures t is_before) stood c.args.thread found.0 found.1 found.2 c.args.bit c.in_ok-verdict.verdict found.3 c.make.new.self (c.in_ok-make.ensures.ok found.0 found.1) c.reply_to.result c.reply_to.ensures
+    answered (record { code = c.self.inside.code; setup = c.self.inside.setup; state = c.self.inside.machine }) t h (c.steps_alike.ensures t is_before) stood c.args.thread c.args.bit c.in_ok-transition.transition next c.make.new.self (c.in_ok-make.ensures.ok next.guest next.has) c.reply.result c.reply.ensures
+
+pub make-requires-clause-within : goal.make-requires-clause-within
+make-requires-clause-within c =
+    let next = rw (← c.self.view_is) at c.in_ok-transition.ensures.found in
+    slice_get_within c.self.inside.machine.threads c.args.thread next.guest next.has
+
+pub returns-in_err-transition-clause-refused : goal.returns-in_err-transition-clause-refused
+returns-in_err-transition-clause-refused c = λ t h stands.
+    let p = err_from_is_err_and c.from_residual.result c.from_residual.ensures.1 in
+    rw (p.1, p.2) (refused_after t c.args.self.now.setup c.args.self.now.state h stands c.args.thread c.in_err-transition.field-0.0 c.in_err-transition.ensures.refused)
+
+pub returns-in_err-make-clause-refused : goal.returns-in_err-make-clause-refused
+returns-in_err-make-clause-refused c = λ t h stands.
+    let next = c.in_ok-transition.ensures.found in
+    let p = err_from_is_err_and c.from_residual-in_err-make.result c.from_residual-in_err-make.ensures.1 in
+    rw (p.1, p.2) (refused_for_memory t c.args.self.now.setup c.args.self.now.state h stands c.args.thread next.guest next.has next.goes_on)

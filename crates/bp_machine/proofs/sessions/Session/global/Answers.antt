@@ -1,7 +1,7 @@
 use Rattle.std.proofs.Common.{arith, ap, ◌∙◌, Some}
 use Rattle.bp_code.specs.Bits.{bits_of}
-use Rattle.bp_machine.proofs.Asking.{global_here, no_global}
-use Rattle.bp_machine.proofs.Ranges.{few_globals}
+use Rattle.bp_machine.proofs.SessionAnswers.{global_here, no_global}
+use Rattle.bp_machine.proofs.SetupInRange.{few_globals}
 use Rattle.bp_machine.proofs.sessions.Session.global.Goals as goal
 
 pub returns-then-n-globals : goal.returns-then-n-globals

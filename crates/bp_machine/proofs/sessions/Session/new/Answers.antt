@@ -2,8 +2,8 @@ use Rattle.std.proofs.Common.{◌∙◌, ap, arith, length, map, refl, []}
 use Rattle.std.proofs.Math.Logic.{∥∥₁_map}
 use Rattle.std.proofs.lemmas.List.{length-map}
 use Rattle.bp_code.specs.Steps.{bits_from}
-use Rattle.bp_machine.specs.Starts.{first_line}
-use Rattle.bp_machine.proofs.Starting.{starts}
+use Rattle.bp_machine.specs.GuestThreads.{first_thread}
+use Rattle.bp_machine.proofs.StandsAtStart.{starts}
 use Rattle.bp_machine.proofs.sessions.Session.new.Goals as goal
 
 pub word_of-requires : goal.word_of-requires
@@ -13,16 +13,16 @@ word_of-requires c =
 pub invariant_of-result : goal.invariant_of-result
 invariant_of-result c =
     let word = c.word_of.ensures ∙ ap bits_from c.bits.ensures in
-    let lines = c.in_ok-lines.ensures ∙ ap (map (first_line c.args.code.now)) c.entries.ensures in
-    rw (c.in_ok-code.ensures, c.in_ok-setup.ensures)
+    let threads = c.in_ok-threads.ensures ∙ ap (map (first_thread c.args.code.now)) c.entries.ensures in
+    rw (c.in_ok-code.ensures, c.in_ok-setup.ensures, c.start-machine.ensures)
     (record {
       range = c.is_in_range.ensures;
-      lines = ap length lines ∙ length-map c.args.setup.now.entries (first_line c.args.code.now);
-      stands = ∥∥₁_map c.is_of_a_program.ensures (λ p. (p.0, [], p.3, starts c.args.code.now p.0 c.args.setup.now p.3 _ c.requires word lines refl refl refl));
+      thread_count = ap length threads ∙ length-map c.args.setup.now.entries (first_thread c.args.code.now);
+      stands = ∥∥₁_map c.is_of_a_program.ensures (λ p. (p.0, [], p.3, starts c.args.code.now p.0 c.args.setup.now p.3 _ c.requires word threads refl refl));
     })
 
 pub returns-clause-stands : goal.returns-clause-stands
 returns-clause-stands c = λ t is.
     let word = c.word_of.ensures ∙ ap bits_from c.bits.ensures in
-    let lines = c.in_ok-lines.ensures ∙ ap (map (first_line c.args.code.now)) c.entries.ensures in
-    rw c.in_ok-setup.ensures (starts c.args.code.now t c.args.setup.now is _ c.requires word lines refl refl refl)
+    let threads = c.in_ok-threads.ensures ∙ ap (map (first_thread c.args.code.now)) c.entries.ensures in
+    rw (c.in_ok-setup.ensures, c.start-machine.ensures) (starts c.args.code.now t c.args.setup.now is _ c.requires word threads refl refl)

@@ -1,0 +1,5 @@
+mod CheckRefused
+mod FirstSeparator
+mod MappedErrors
+mod PartsDriven
+mod Reportable

@@ -1,0 +1,80 @@
+-- Every fault of a command has a line.
+use Rattle.std.proofs.Common.{ℕ, refl, None}
+use Rattle.bp_syntax.specs.declared.faults.ReadFault.{ReadFault}
+use Rattle.bp_syntax.specs.declared.faults.ReadFault.TheVariants as read
+use Rattle.bp_check.specs.declared.faults.CheckFault.{CheckFault}
+use Rattle.bp_check.specs.declared.faults.CheckFault.TheVariants as check
+use Rattle.bp_machine.specs.declared.setups.SetupFault.{SetupFault}
+use Rattle.bp_machine.specs.declared.setups.SetupFault.TheVariants as setup
+use Rattle.bp_trace.specs.declared.faults.DriveFault.{DriveFault}
+use Rattle.bp_trace.specs.declared.faults.DriveFault.TheVariants as drive
+use Rattle.bp_commands.specs.declared.bundle_faults.BundleFault.{BundleFault}
+use Rattle.bp_commands.specs.declared.bundle_faults.BundleFault.TheVariants.{Device, TooLong, Program, Setup, Drive, Memory}
+use Rattle.bp_commands.specs.declared.file_faults.FileFault.{FileFault}
+use Rattle.bp_commands.specs.declared.file_faults.FileFault.TheVariants as file
+use Rattle.bp_commands.specs.declared.programs.ProgramFault.{ProgramFault}
+use Rattle.bp_commands.specs.declared.programs.ProgramFault.TheVariants.{Read, Check}
+use Rattle.bp_commands.specs.Faults.{number_of_bundle_fault, number_of_file_fault, number_of_program_fault, place_of_bundle_fault, place_of_file_fault, place_of_program_fault}
+use Rattle.bp_commands.specs.FaultLines.{IsReportable}
+
+abbrev IsBundleReportable : BundleFault → Type 0
+IsBundleReportable f = IsReportable (number_of_bundle_fault f) (place_of_bundle_fault f) None
+
+abbrev IsProgramReportable : ProgramFault → Type 0
+IsProgramReportable f = IsReportable (number_of_program_fault f) (place_of_program_fault f) None
+
+read_reportable : (f : ReadFault) → IsProgramReportable (Read f)
+read_reportable read.TooLong = record { listed = refl; values = tt }
+read_reportable (read.BadByte at) = record { listed = refl; values = refl }
+read_reportable (read.OpenName at) = record { listed = refl; values = refl }
+read_reportable (read.TooNested at) = record { listed = refl; values = refl }
+read_reportable (read.TooManyTokens at) = record { listed = refl; values = refl }
+read_reportable (read.Syntax at) = record { listed = refl; values = refl }
+read_reportable read.Memory = record { listed = refl; values = tt }
+
+check_reportable : (f : CheckFault) (at : ℕ) → IsProgramReportable (Check f at)
+check_reportable check.TwiceGlobal at = record { listed = refl; values = refl }
+check_reportable check.TwiceProcedure at = record { listed = refl; values = refl }
+check_reportable check.TwiceLocal at = record { listed = refl; values = refl }
+check_reportable check.TwiceLabel at = record { listed = refl; values = refl }
+check_reportable check.UnknownVariable at = record { listed = refl; values = refl }
+check_reportable check.UnknownProcedure at = record { listed = refl; values = refl }
+check_reportable check.UnknownLabel at = record { listed = refl; values = refl }
+check_reportable check.Arity at = record { listed = refl; values = refl }
+check_reportable check.Lengths at = record { listed = refl; values = refl }
+check_reportable check.TwiceTarget at = record { listed = refl; values = refl }
+check_reportable check.Limit at = record { listed = refl; values = refl }
+check_reportable check.Memory at = record { listed = refl; values = tt }
+
+program_reportable : (f : ProgramFault) → IsProgramReportable f
+program_reportable (Read f) = read_reportable f
+program_reportable (Check f at) = check_reportable f at
+
+setup_reportable : (f : SetupFault) → IsBundleReportable (Setup f)
+setup_reportable setup.Threads = record { listed = refl; values = tt }
+setup_reportable (setup.UnknownEntry k) = record { listed = refl; values = refl }
+setup_reportable (setup.EntryHasFormals k) = record { listed = refl; values = refl }
+setup_reportable setup.InitLength = record { listed = refl; values = tt }
+setup_reportable setup.OutOfRange = record { listed = refl; values = tt }
+setup_reportable setup.Memory = record { listed = refl; values = tt }
+
+drive_reportable : (f : DriveFault) → IsBundleReportable (Drive f)
+drive_reportable drive.TooLong = record { listed = refl; values = tt }
+drive_reportable (drive.Line n) = record { listed = refl; values = refl }
+drive_reportable (drive.AfterFinish n) = record { listed = refl; values = refl }
+drive_reportable drive.Memory = record { listed = refl; values = tt }
+drive_reportable drive.Write = record { listed = refl; values = tt }
+
+pub reportable : (f : BundleFault) → IsBundleReportable f
+reportable Device = record { listed = refl; values = tt }
+reportable TooLong = record { listed = refl; values = tt }
+reportable (Program f) = program_reportable f
+reportable (Setup f) = setup_reportable f
+reportable (Drive f) = drive_reportable f
+reportable Memory = record { listed = refl; values = tt }
+
+pub file_reportable : (f : FileFault) → IsReportable (number_of_file_fault f) (place_of_file_fault f) None
+file_reportable file.Device = record { listed = refl; values = tt }
+file_reportable (file.Program f) = program_reportable f
+file_reportable file.Write = record { listed = refl; values = tt }
+file_reportable file.Memory = record { listed = refl; values = tt }

@@ -1,0 +1,105 @@
+-- What a bundle is driven to, and why one is refused.
+use Rattle.std.specs.Prelude.{◌≡◌, ◌⊎◌, ℕ, false, List, [], ◌∷◌, Option, None, Some, length, codes, replicate, ⊤}
+use Rattle.bp_tree.specs.Ast.{Program}
+use Rattle.bp_code.specs.Flat.{Flat}
+use Rattle.bp_code.specs.StandsFor.{StandsFor}
+use Rattle.bp_code.specs.Writing.{AppendsAll}
+use Rattle.bp_machine.specs.declared.calls.Call.{Call}
+use Rattle.bp_machine.specs.declared.reports.Report.{Report}
+use Rattle.bp_machine.specs.declared.setups.SetupFault as setups
+use Rattle.bp_machine.specs.declared.setups.SetupFault.{SetupFault}
+use Rattle.bp_machine.specs.Setups.{SetupOf, setup_of, setup_fault, Fits}
+use Rattle.bp_machine.specs.Histories.{IsLegal}
+use Rattle.bp_machine.specs.Reports.{IsReport}
+use Rattle.bp_trace.specs.Schedules.{schedule_text, lines_of_history}
+use Rattle.bp_trace.specs.TraceText.{trace_text}
+use Rattle.bp_trace.specs.declared.faults.DriveFault.{DriveFault}
+use Rattle.bp_trace.specs.Drives as drives
+use Rattle.bp_commands.specs.Inputs.{Streams, IsInput, IsTooLong}
+use Rattle.bp_commands.specs.BundleParts.{IsParted}
+use Rattle.bp_commands.specs.Programs.{IsLawfulText, IsProgramRefusal}
+use Rattle.bp_commands.specs.declared.limits.TheConstants.{MAX_BUNDLE, DEFAULT_CONTEXTS, DEFAULT_CALLS}
+use Rattle.bp_commands.specs.declared.bundle_faults.BundleFault.{BundleFault}
+use Rattle.bp_commands.specs.declared.bundle_faults.BundleFault.TheVariants as fault
+
+-- one thread begins with `main`, all globals are 0, and few contexts and calls are allowed
+abbrev pub defaults : ℕ → SetupOf
+defaults globals =
+    setup_of (codes "main" ∷ []) (replicate globals false) DEFAULT_CONTEXTS DEFAULT_CALLS None
+
+-- the code stands for the lawful program of the text
+pub record IsCodeOf (text : List ℕ) (c : Flat) : Type 0 where
+  pub program : Program
+  pub of : IsLawfulText text program
+  pub stands : StandsFor c program
+
+-- the default setup is refused
+abbrev pub IsSetupRefusal : Flat → SetupFault → Type 0
+IsSetupRefusal c f = (f ≡ setups.SetupFault.Memory) ⊎ (setup_fault c (defaults c.globals) ≡ Some f)
+
+-- why there is no code of the text
+abbrev pub IsCodeRefusal : List ℕ → BundleFault → Type 0
+IsCodeRefusal text (fault.Program f) = IsProgramRefusal text f
+IsCodeRefusal text fault.Memory = ⊤
+IsCodeRefusal text f = ⊥
+
+module _ (text schedule : List ℕ) (old new : Option (List ℕ)) where
+  -- What was written is the trace of the legal history of the text's lawful program whose threads and bits are
+  -- the lines of the schedule.
+  pub record IsPartsDriven (r : Report) : Type 0 where
+    pub program : Program
+    pub of : IsLawfulText text program
+    pub history : List Call
+    pub legal : IsLegal program (defaults (length program.globals)) history
+    pub lines : schedule ≡ schedule_text (lines_of_history history)
+    pub written : AppendsAll old new (trace_text (defaults (length program.globals)) history)
+    pub report : IsReport (defaults (length program.globals)) history r
+
+  -- the program has a code, which the default setup does not fit
+  pub record IsSetupRefused (f : SetupFault) : Type 0 where
+    pub code : Flat
+    pub of : IsCodeOf text code
+    pub refused : IsSetupRefusal code f
+    pub written : new ≡ old
+
+  -- the default setup fits its code, and the schedule does not drive it
+  pub record IsDriveRefused (f : DriveFault) : Type 0 where
+    pub code : Flat
+    pub of : IsCodeOf text code
+    pub fits : Fits code (defaults code.globals)
+    pub refused : drives.IsRefusal code (defaults code.globals) schedule old new f
+
+  -- why the parts of a bundle are refused, and what was written: the first of these that applies
+  abbrev pub IsPartsRefusal : BundleFault → Type 0
+  IsPartsRefusal (fault.Setup f) = IsSetupRefused f
+  IsPartsRefusal (fault.Drive f) = IsDriveRefused f
+  IsPartsRefusal f = (new ≡ old) × IsCodeRefusal text f
+
+module _ (io : Streams) where
+  -- what was read is a whole bundle, and its schedule drives its program
+  pub record IsBundleDriven (r : Report) : Type 0 where
+    pub bytes : List ℕ
+    pub whole : IsInput MAX_BUNDLE io.input_before io.input_after bytes
+    pub text : List ℕ
+    pub schedule : List ℕ
+    pub parted : IsParted bytes text schedule
+    pub driven : IsPartsDriven text schedule io.output_before io.output_after r
+
+  -- what was read is a whole bundle, whose parts are refused
+  pub record IsWholeRefused (f : BundleFault) : Type 0 where
+    pub bytes : List ℕ
+    pub whole : IsInput MAX_BUNDLE io.input_before io.input_after bytes
+    pub text : List ℕ
+    pub schedule : List ℕ
+    pub parted : IsParted bytes text schedule
+    pub refused : IsPartsRefusal text schedule io.output_before io.output_after f
+
+  abbrev IsUnwritten : Type 0
+  IsUnwritten = io.output_after ≡ io.output_before
+
+  -- nothing is said of when memory is refused or a read fails
+  abbrev pub IsBundleRefusal : BundleFault → Type 0
+  IsBundleRefusal fault.Device = IsUnwritten
+  IsBundleRefusal fault.TooLong = IsUnwritten × IsTooLong MAX_BUNDLE io.input_before io.input_after
+  IsBundleRefusal fault.Memory = IsUnwritten
+  IsBundleRefusal f = IsWholeRefused f

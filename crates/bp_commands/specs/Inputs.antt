@@ -1,0 +1,35 @@
+-- What reading an input within its limit takes and answers; what a command's reader and writer had before and after it.
+use Rattle.std.specs.Prelude.{◌≡◌, ℕ, ◌+◌, ◌≤◌, List, Option, length, ⊤}
+use Rattle.std.specs.Io.KnownBytes.{Consumes, IsAtEnd}
+use Rattle.bp_commands.specs.declared.inputs.InputFault.{InputFault}
+use Rattle.bp_commands.specs.declared.inputs.InputFault.TheVariants.{Device, TooLong, Memory}
+
+-- the bytes that a command's reader had left, and those that its writer had taken, where they are known
+pub record Streams : Type 0 where
+  pub input_before : Option (List ℕ)
+  pub input_after : Option (List ℕ)
+  pub output_before : Option (List ℕ)
+  pub output_after : Option (List ℕ)
+
+-- all bytes that the reader had, within the limit
+pub record IsInput (limit : ℕ) (old new : Option (List ℕ)) (bytes : List ℕ) : Type 0 where
+  pub taken : Consumes old new bytes
+  pub ended : IsAtEnd new
+  pub short : length bytes ≤ limit
+
+pub record TookAtMost (old new : Option (List ℕ)) (n : ℕ) : Type 0 where
+  pub bytes : List ℕ
+  pub taken : Consumes old new bytes
+  pub short : length bytes ≤ n
+
+-- the reader gave one byte more than the limit
+pub record IsTooLong (limit : ℕ) (old new : Option (List ℕ)) : Type 0 where
+  pub bytes : List ℕ
+  pub taken : Consumes old new bytes
+  pub long : length bytes ≡ limit + 1
+
+-- nothing is said of when a read fails or memory is refused
+abbrev pub IsInputRefusal : ℕ → Option (List ℕ) → Option (List ℕ) → InputFault → Type 0
+IsInputRefusal limit old new Device = ⊤
+IsInputRefusal limit old new TooLong = IsTooLong limit old new
+IsInputRefusal limit old new Memory = ⊤

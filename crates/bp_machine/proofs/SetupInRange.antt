@@ -1,0 +1,81 @@
+-- A setup without a fault fits its code, and its numbers are within their limits, since a code has few globals.
+use Rattle.std.proofs.Common.{◌≡◌, ℕ, ◌<◌, ◌≤◌, ◌==◌, ◌||◌, nat_lt, not, Bool, true, false, length, [], ◌∷◌, Option, None, Some, refl, arith, is_some}
+use Rattle.std.specs.Option.{option_or}
+use Rattle.std.proofs.Math.Logic.{∥∥₁_elim}
+use Rattle.std.proofs.lemmas.Bool.Decides.{nat_tests}
+use Rattle.std.specs.Coded.{le_prop}
+use Rattle.bp_tree.specs.Ast.{Program}
+use Rattle.bp_syntax.specs.Texts.{HasText}
+use Rattle.bp_check.specs.Faults.{IsLawful, max_globals}
+use Rattle.bp_code.specs.Flat.{Flat}
+use Rattle.bp_code.specs.StandsFor.{StandsFor}
+use Rattle.bp_code.specs.Programs.{IsOfProgram}
+use Rattle.bp_code.proofs.Lawful as lawful
+use Rattle.bp_machine.specs.declared.setups.SetupFault.{SetupFault}
+use Rattle.bp_machine.specs.declared.setups.SetupFault.TheVariants.{Threads, InitLength, OutOfRange}
+use Rattle.bp_machine.specs.declared.limits.TheConstants.{MAX_THREADS, MAX_CONTEXTS, MAX_CALLS}
+use Rattle.bp_machine.specs.Setups.{SetupOf, threads, entries_fault, fault_if, first_of, has_bad_threads, is_out_of_range, setup_fault, Fits, IsInRange}
+
+pub few_globals : (c : Flat) → IsOfProgram c → c.globals ≤ max_globals
+few_globals c of_some = ∥∥₁_elim of_some le_prop few
+  where
+    few : (t : Program) × IsLawful t × HasText t × StandsFor c t → c.globals ≤ max_globals
+    few (t, is_lawful, of_text, is) = omega (arith, lawful.few_globals t is_lawful, is.globals)
+
+neither : {X : Type 0} (a b : Option X) → option_or a b ≡ None → (a ≡ None) × (b ≡ None)
+neither None b e = (refl, e)
+neither (Some x) b e = absurd cc
+
+untrue : (b : Bool) (f : SetupFault) → fault_if b f ≡ None → b ≡ false
+untrue true f e = absurd cc
+untrue false f e = refl
+
+no_other : (a b : Bool) → (a || b) ≡ false → (a ≡ false) × (b ≡ false)
+no_other true b e = absurd cc
+no_other false b e = (refl, e)
+
+not_none : (o : Option ℕ) → is_some o ≡ false → o ≡ None
+not_none None e = refl
+not_none (Some n) e = absurd cc
+
+equal : (a b : ℕ) → not (a == b) ≡ false → a ≡ b
+equal a b e = grind (arith, nat_tests)
+
+above : (a b : ℕ) → nat_lt a b ≡ false → b ≤ a
+above a b e = grind (arith, nat_tests)
+
+some_of : (a : ℕ) → (a == 0) ≡ false → 0 < a
+some_of a e = grind (arith, nat_tests)
+
+module _ (c : Flat) (s : SetupOf) (none : setup_fault c s ≡ None) where
+  -- no fault of the four, the first first
+  rest : (entries_fault c 0 s.entries ≡ None) × (first_of (fault_if (not (length s.init == c.globals)) InitLength ∷ fault_if (is_out_of_range s) OutOfRange ∷ []) ≡ None)
+  rest = neither (entries_fault c 0 s.entries) _ (neither (fault_if (has_bad_threads s) Threads) _ none).1
+
+  bits : not (length s.init == c.globals) ≡ false
+  bits = untrue _ InitLength (neither (fault_if (not (length s.init == c.globals)) InitLength) _ rest.1).0
+
+  numbers : is_out_of_range s ≡ false
+  numbers =
+      let last = (neither (fault_if (not (length s.init == c.globals)) InitLength) _ rest.1).1 in
+      untrue _ OutOfRange (neither (fault_if (is_out_of_range s) OutOfRange) _ last).0
+
+  pub fits : Fits c s
+  fits = record { entries = rest.0; init = equal (length s.init) c.globals bits }
+
+  pub in_range : IsOfProgram c → IsInRange s
+  in_range of_some =
+      let threads_fine = untrue (has_bad_threads s) Threads (neither (fault_if (has_bad_threads s) Threads) _ none).0 in
+      let counted = no_other (threads s == 0) (nat_lt MAX_THREADS (threads s)) threads_fine in
+      let a = no_other (nat_lt MAX_CONTEXTS s.contexts) _ numbers in
+      let b = no_other (s.calls == 0) _ a.1 in
+      let d = no_other (nat_lt MAX_CALLS s.calls) (is_some s.seed) b.1 in
+      record {
+        some = some_of (threads s) counted.0;
+        few = above MAX_THREADS (threads s) counted.1;
+        bits = omega (arith, fits.init, few_globals c of_some);
+        contexts = above MAX_CONTEXTS s.contexts a.0;
+        one = some_of s.calls b.0;
+        calls = above MAX_CALLS s.calls d.0;
+        unseeded = not_none s.seed d.1;
+      }

@@ -1,0 +1,61 @@
+-- A stack that is kept with its top last.
+use Rattle.std.proofs.Common.{◌≡◌, ◌⊎◌, ℕ, ◌+◌, ◌-◌, ◌<◌, List, [], ◌∷◌, ◌++◌, length, reverse, None, Some, refl, ap, ◌∙◌, arith, inl, inr}
+use Rattle.std.specs.Prelude.{slice_get, slice_set}
+use Rattle.std.proofs.lemmas.List.{reverse-append, length-append, append_assoc}
+use Rattle.std.proofs.Math.Seq.{set-append_seam}
+use Rattle.bp_machine.specs.declared.stacks.ActivationRecord.{ActivationRecord}
+use Rattle.bp_machine.specs.Stacks.{top_of, with_top, entered_top}
+
+-- a list has no element, or a last one
+snoc : {X : Type 0} (xs : List X) → (xs ≡ []) ⊎ ((ys : List X) × (y : X) × (xs ≡ ys ++ y ∷ []))
+snoc [] = inl refl
+snoc {X} (x ∷ xs) = inr (go (snoc xs))
+  where
+    go : (xs ≡ []) ⊎ ((ys : List X) × (y : X) × (xs ≡ ys ++ y ∷ [])) → (ys : List X) × (y : X) × (x ∷ xs ≡ ys ++ y ∷ [])
+    go (inl e) = ([], x, ap (λ zs. x ∷ zs) e)
+    go (inr (ys, y, e)) = (x ∷ ys, y, ap (λ zs. x ∷ zs) e)
+
+reverse_last : {X : Type 0} (ys : List X) (y : X) → reverse (ys ++ y ∷ []) ≡ y ∷ reverse ys
+reverse_last ys y = reverse-append ys (y ∷ [])
+
+last_at : {X : Type 0} (ys zs : List X) (y : X) → slice_get (ys ++ y ∷ zs) (length ys) ≡ Some y
+last_at [] zs y = refl
+last_at (x ∷ ys) zs y = last_at ys zs y
+
+pub replaced : (xs : List ActivationRecord) (f : ActivationRecord) (n : ℕ) → n ≡ length xs → 0 < n → reverse (slice_set xs (n - 1) f) ≡ with_top f (reverse xs)
+replaced xs f n e some = elim (snoc xs) [ inl none ↦ absurd (omega (arith, ap length none)) | inr at ↦ go at.0 at.1 at.2 ]
+  where
+    go : (ys : List ActivationRecord) (y : ActivationRecord) → xs ≡ ys ++ y ∷ [] → reverse (slice_set xs (n - 1) f) ≡ with_top f (reverse xs)
+    go ys y is =
+        let size : n - 1 ≡ length ys = omega (arith, e, ap length is, length-append ys (y ∷ [])) in
+        rw (size, is, set-append_seam ys y [] f, reverse_last ys f, reverse_last ys y) refl
+
+pub top_is : (xs : List ActivationRecord) → slice_get xs (length xs - 1) ≡ top_of (reverse xs)
+top_is xs = elim (snoc xs) [ inl none ↦ rw none refl | inr at ↦ go at.0 at.1 at.2 ]
+  where
+    go : (ys : List ActivationRecord) (y : ActivationRecord) → xs ≡ ys ++ y ∷ [] → slice_get xs (length xs - 1) ≡ top_of (reverse xs)
+    go ys y is =
+        let size : length (ys ++ y ∷ []) - 1 ≡ length ys = omega (arith, length-append ys (y ∷ [])) in
+        rw (is, size, last_at ys [] y, reverse_last ys y) refl
+
+pub none_entered : (xs : List ActivationRecord) (f : ActivationRecord) (next : ℕ) → top_of (reverse xs) ≡ None → reverse xs ≡ entered_top f next (reverse xs)
+none_entered xs f next none = go (reverse xs) none
+  where
+    go : (s : List ActivationRecord) → top_of s ≡ None → s ≡ entered_top f next s
+    go [] e = refl
+    go (g ∷ s) e = cc
+
+pub entered : (xs : List ActivationRecord) (f c : ActivationRecord) (next n : ℕ) → top_of (reverse xs) ≡ Some c → n ≡ length xs + 1
+    → reverse (slice_set (xs ++ f ∷ []) (n - 2) (record { number = next; locals = c.locals })) ≡ entered_top f next (reverse xs)
+entered xs f c next n top e = elim (snoc xs) [ inl none ↦ absurd (nothing none) | inr at ↦ go at.0 at.1 at.2 ]
+  where
+    nothing : xs ≡ [] → ⊥
+    nothing none = let gone = ap (λ ys. top_of (reverse ys)) none in cc
+
+    go : (ys : List ActivationRecord) (y : ActivationRecord) → xs ≡ ys ++ y ∷ []
+        → reverse (slice_set (xs ++ f ∷ []) (n - 2) (record { number = next; locals = c.locals })) ≡ entered_top f next (reverse xs)
+    go ys y is =
+        let size : n - 2 ≡ length ys = omega (arith, e, ap length is, length-append ys (y ∷ [])) in
+        let same : y ≡ c = let t = ap (λ zs. top_of (reverse zs)) is ∙ ap top_of (reverse_last ys y) in cc in
+        let caller : ActivationRecord = record { number = next; locals = c.locals } in
+        rw (size, is, append_assoc ys (y ∷ []) (f ∷ []), set-append_seam ys y (f ∷ []) caller, reverse-append ys (caller ∷ f ∷ []), reverse_last ys y, same) refl

@@ -1,0 +1,47 @@
+-- What a session keeps of its threads, and when that stands for the configuration after a history.
+use Rattle.std.specs.Prelude.{◌≡◌, ℕ, Bool, List, Some, length, map, slice_get}
+use Rattle.bp_tree.specs.Ast.{Program}
+use Rattle.bp_code.specs.Configurations.{Configuration}
+use Rattle.bp_code.specs.Bits.{bits_of}
+use Rattle.bp_code.specs.Steps.{Activation}
+use Rattle.bp_code.specs.StandsFor.{named}
+use Rattle.bp_code.specs.Alike.{ShowsStack}
+use Rattle.bp_machine.specs.declared.calls.Call.{Call}
+use Rattle.bp_machine.specs.declared.contexts.ContextCount.{ContextCount}
+use Rattle.bp_machine.specs.declared.stacks.ActivationRecord.{ActivationRecord}
+use Rattle.bp_machine.specs.ContextCounts.{IsCountOf}
+use Rattle.bp_machine.specs.GuestThreads.{GuestThreadOf}
+use Rattle.bp_machine.specs.Setups.{SetupOf, threads}
+use Rattle.bp_machine.specs.Answers.{stack_of}
+use Rattle.bp_machine.specs.Histories.{configuration_after, granted_threads, calls_of_thread, ends_with_last, IsLegal}
+
+-- the globals are a word, a bit for each slot
+pub record State : Type 0 where
+  pub globals : ℕ
+  pub threads : List GuestThreadOf
+  pub contexts : ContextCount
+  pub failed : Bool
+
+abbrev pub activation_of : ActivationRecord → Activation
+activation_of f = record { number = f.number; locals = bits_of f.locals }
+
+abbrev pub activations : List ActivationRecord → List Activation
+activations fs = map activation_of fs
+
+-- this is thread i after the history, in the configuration c
+pub record ShowsThread (t : Program) (c : Configuration) (h : List Call) (i : ℕ) (guest : GuestThreadOf) : Type 0 where
+  pub stack : ShowsStack t (activations guest.stack) (stack_of c i)
+  pub calls : guest.calls ≡ length (calls_of_thread i h)
+  pub ended : guest.ended ≡ ends_with_last (calls_of_thread i h)
+
+-- the state is that of the machine after the legal history h
+pub record StandsAfter (t : Program) (s : SetupOf) (x : State) (h : List Call) : Type 0 where
+  pub legal : IsLegal t s h
+  pub globals : (configuration_after t s h).globals ≡ named t.globals (bits_of x.globals)
+  pub failed : (configuration_after t s h).failed ≡ x.failed
+  pub stacks : length (configuration_after t s h).stacks ≡ threads s
+  pub thread_count : length x.threads ≡ threads s
+  pub thread : (i : ℕ) (guest : GuestThreadOf)
+      → slice_get x.threads i ≡ Some guest
+      → ShowsThread t (configuration_after t s h) h i guest
+  pub contexts : IsCountOf x.contexts (granted_threads h)

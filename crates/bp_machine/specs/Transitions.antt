@@ -1,0 +1,121 @@
+-- What a call of a thread comes to in a session, and the state after it: how a session works, which no public
+-- clause names.
+use Rattle.std.specs.Prelude.{if◌then◌else◌, ◌≡◌, ℕ, ◌+◌, ◌<◌, ◌^◌, Bool, true, false, ◌||◌, nat_le, List, [], ◌∷◌, Option, None, Some, length, slice_get, slice_set}
+use Rattle.bp_code.specs.Flat.{Instruction}
+use Rattle.bp_code.specs.Bits.{words_of}
+use Rattle.bp_code.specs.declared.deeds.Deed.{Deed}
+use Rattle.bp_code.specs.declared.deeds.Deed.TheVariants.{Goes, Enters, Returns}
+use Rattle.bp_code.specs.declared.deeds.Deed.TheVariants as deed
+use Rattle.bp_code.specs.Deeds.{outcome_of}
+use Rattle.bp_code.specs.Steps.{Activation, done_by}
+use Rattle.bp_machine.specs.declared.calls.Reply.{Reply}
+use Rattle.bp_machine.specs.declared.calls.Reply.TheVariants.{Stopped, Ended, NoContexts, Full, Blocked, Failed, Stepped}
+use Rattle.bp_machine.specs.declared.stacks.ActivationRecord.{ActivationRecord}
+use Rattle.bp_machine.specs.declared.threads.Transition.{Transition}
+use Rattle.bp_machine.specs.declared.threads.Transition.TheVariants.{Stays, Fails, Steps}
+use Rattle.bp_machine.specs.declared.limits.TheConstants.{MAX_FRAMES}
+use Rattle.bp_machine.specs.Replies.{is_last}
+use Rattle.bp_machine.specs.ContextCounts.{used_with, count_with}
+use Rattle.bp_machine.specs.GuestThreads.{GuestThreadOf}
+use Rattle.bp_machine.specs.Setups.{SetupOf}
+use Rattle.bp_machine.specs.States.{State}
+use Rattle.bp_machine.specs.declared.sessions.AskFault.{AskFault}
+use Rattle.bp_machine.specs.declared.sessions.AskFault.TheVariants.{NoThread, Finished, Memory}
+
+-- the deed is that of the instruction in this frame
+pub record IsDeedOf (i : Instruction) (globals : ℕ) (f : ActivationRecord) (bit : Bool) (d : Deed) : Type 0 where
+  pub each : (below : List Activation)
+      → outcome_of (record { globals = globals; locals = f.locals }) d below ≡ done_by i (words_of (record { globals = globals; locals = f.locals })) below bit
+
+-- what a deed comes to, where the stack may be full
+abbrev pub transition_of : Deed → Bool → Transition
+transition_of (Enters c locals m) full = if full then Stays Full else Steps (Enters c locals m)
+transition_of deed.Fails full = Fails
+transition_of deed.Blocks full = Stays Blocked
+transition_of d full = Steps d
+
+-- the next instruction of the topmost frame
+abbrev pub IsTransitionAt : Option Instruction → ℕ → ActivationRecord → Bool → Bool → Transition → Type 0
+IsTransitionAt None g f full bit v = v ≡ Stays Ended
+IsTransitionAt (Some i) g f full bit v = (d : Deed) × IsDeedOf i g f bit d × (v ≡ transition_of d full)
+
+abbrev pub IsTransitionOn : List Instruction → ℕ → Bool → List ActivationRecord → Bool → Transition → Type 0
+IsTransitionOn code g fits [] bit v = v ≡ Stays Ended
+IsTransitionOn code g true (f ∷ fs) bit v = IsTransitionAt (slice_get code f.number) g f (nat_le MAX_FRAMES (length (f ∷ fs))) bit v
+IsTransitionOn code g false (f ∷ fs) bit v = v ≡ Stays NoContexts
+
+abbrev pub IsTransitionUnless : Bool → List Instruction → ℕ → Bool → List ActivationRecord → Bool → Transition → Type 0
+IsTransitionUnless true code g fits stack bit v = v ≡ Stays Stopped
+IsTransitionUnless false code g fits stack bit v = IsTransitionOn code g fits stack bit v
+
+-- what a call of this thread, thread i, comes to, where so many contexts are allowed
+abbrev pub IsTransition : List Instruction → State → ℕ → ℕ → GuestThreadOf → Bool → Transition → Type 0
+IsTransition code x most i guest bit v =
+    IsTransitionUnless x.failed code x.globals (nat_le (used_with x.contexts i) most) guest.stack bit v
+
+abbrev pub reply_of_transition : Transition → Reply
+reply_of_transition (Stays r) = r
+reply_of_transition Fails = Failed
+reply_of_transition (Steps d) = Stepped
+
+-- the stack after a step
+abbrev pub stack_after : Deed → List ActivationRecord → List ActivationRecord
+stack_after d [] = []
+stack_after (Goes m w) (f ∷ fs) = record { number = m; locals = w.locals } ∷ fs
+stack_after Returns (f ∷ fs) = fs
+stack_after (Enters c locals m) (f ∷ fs) = record { number = c; locals = locals } ∷ record { number = m; locals = f.locals } ∷ fs
+stack_after d (f ∷ fs) = f ∷ fs
+
+abbrev pub stack_after_transition : Transition → List ActivationRecord → List ActivationRecord
+stack_after_transition (Steps d) fs = stack_after d fs
+stack_after_transition v fs = fs
+
+-- the thread after a call
+abbrev pub thread_after : GuestThreadOf → Transition → GuestThreadOf
+thread_after guest v = record {
+  stack = stack_after_transition v guest.stack;
+  calls = guest.calls + 1;
+  ended = is_last (reply_of_transition v);
+}
+
+abbrev pub globals_after : ℕ → Transition → ℕ
+globals_after g (Steps (Goes m w)) = w.globals
+globals_after g v = g
+
+-- the state after a call of thread i
+abbrev pub state_after : State → ℕ → GuestThreadOf → Transition → State
+state_after x i guest (Stays r) = record x { threads = slice_set x.threads i (thread_after guest (Stays r)) }
+state_after x i guest Fails = record {
+  globals = x.globals;
+  threads = slice_set x.threads i (thread_after guest Fails);
+  contexts = count_with x.contexts i;
+  failed = true;
+}
+state_after x i guest (Steps d) = record {
+  globals = globals_after x.globals (Steps d);
+  threads = slice_set x.threads i (thread_after guest (Steps d));
+  contexts = count_with x.contexts i;
+  failed = x.failed;
+}
+
+-- one more context is a number
+abbrev pub MayGrow : State → ℕ → Transition → Type 0
+MayGrow x i (Stays r) = Unit {0}
+MayGrow x i v = used_with x.contexts i < 2 ^ 32
+
+-- no further call of this thread is made
+abbrev pub is_over : SetupOf → GuestThreadOf → Bool
+is_over s guest = guest.ended || nat_le s.calls guest.calls
+
+-- what a call of thread i comes to, which is there and may make it
+pub record IsNextTransition (code : List Instruction) (s : SetupOf) (x : State) (i : ℕ) (bit : Bool) (v : Transition) : Type 0 where
+  pub guest : GuestThreadOf
+  pub has : slice_get x.threads i ≡ Some guest
+  pub goes_on : is_over s guest ≡ false
+  pub is : IsTransition code x s.contexts i guest bit v
+
+-- why a call of thread i is refused before memory is taken
+abbrev pub IsKeptRefusal : SetupOf → State → ℕ → AskFault → Type 0
+IsKeptRefusal s x i NoThread = slice_get x.threads i ≡ None
+IsKeptRefusal s x i Finished = (guest : GuestThreadOf) × (slice_get x.threads i ≡ Some guest) × (is_over s guest ≡ true)
+IsKeptRefusal s x i Memory = ⊥

@@ -1,0 +1,58 @@
+//! Counting contexts.
+ghost use Rattle.std.specs.Prelude.{◌≡◌, ◌↔◌, ◌<◌, ◌^◌, ◌++◌, ◌∷◌, [], IsTrue, List, ℕ, nat_le};
+ghost use Rattle.bp_machine.specs.Contexts.{IsWithin};
+ghost use Rattle.bp_machine.specs.ContextCounts.{used_with, count_with, IsCountOf};
+
+/// How many contexts the steps so far are within, and which thread made the last of them.
+#[derive(Clone, Copy, Debug, PartialEq, Eq)]
+pub(crate) struct ContextCount {
+    pub(crate) used: u32,
+    pub(crate) last: Option<u32>,
+}
+
+impl ContextCount {
+    ghost use Rattle.std.specs.Prelude.{None};
+
+    /// The count before any step.
+    pub(crate) fn start() -> ContextCount
+        ensures value { result ≡ record { used = 0; last = None } }
+        ensures law { IsCountOf result [] }
+    {
+        ContextCount {
+            used: 0,
+            last: None,
+        }
+    }
+
+    /// How many contexts are used with one more step of the thread.
+    pub(crate) fn used_with(&self, thread: u32) -> u64
+        ensures { result ≡ used_with self.now thread }
+    {
+        let opened = if self.last == Some(thread) { 0 } else { 1 };
+        u64::from(self.used) + opened
+    }
+
+    /// Whether one more step of the thread is within so many contexts.
+    pub(crate) fn allows(&self, contexts: u32, thread: u32) -> bool
+        ensures value { result ≡ nat_le (used_with self.now thread) contexts }
+        ensures law { (threads : List ℕ)
+            → IsCountOf self.now threads
+            → IsTrue result ↔ IsWithin contexts (threads ++ thread ∷ []) }
+    {
+        self.used_with(thread) <= u64::from(contexts)
+    }
+
+    /// The count with one more step of the thread.
+    pub(crate) fn with(&self, thread: u32) -> ContextCount
+        requires { used_with self.now thread < 2 ^ 32 }
+        ensures value { result ≡ count_with self.now thread }
+        ensures law { (threads : List ℕ)
+            → IsCountOf self.now threads
+            → IsCountOf result (threads ++ thread ∷ []) }
+    {
+        ContextCount {
+            used: self.used_with(thread) as u32,
+            last: Some(thread),
+        }
+    }
+}

@@ -1,0 +1,158 @@
+//! Writing the text of a trace.
+ghost use Rattle.std.specs.Prelude.{◌≡◌, ◌≤◌, map, flat_map, length};
+ghost use Rattle.bp_check.specs.Faults.{max_globals};
+ghost use Rattle.bp_code.specs.Writing.{Writes};
+ghost use Rattle.bp_machine.specs.Histories.{open_lines};
+ghost use Rattle.bp_trace.specs.Schedules.{bit_digit};
+ghost use Rattle.bp_trace.specs.TraceText.{entry_line, init_digits, init_line, limit_lines, head_text, call_line, end_line, trace_text};
+
+use bp_code::{WriteFault, put, put_each};
+use bp_machine::{Call, Setup, open_lines};
+use itoa::Buffer;
+use std::io::Write;
+
+/// The digit of a bit.
+pub(crate) fn bit_digit(bit: bool) -> u8
+    ensures { result ≡ bit_digit bit }
+{
+    if bit { b'1' } else { b'0' }
+}
+
+/// Writes a line for the entry of each thread.
+fn write_entries<W: Write>(setup: &Setup, out: &mut W) -> Result<(), WriteFault>
+    ensures { Writes (W.contents out.old) (W.contents out.new) (flat_map entry_line setup.now.entries) result }
+{
+    for thread in 0..setup.threads() {
+        if let Some(name) = setup.entry(thread) {
+            put_each(out, &[b"entry ", name.as_bytes(), b"\n"])?;
+        }
+    }
+    Ok(())
+}
+
+/// Writes a digit for each global.
+fn write_bits<W: Write>(setup: &Setup, out: &mut W) -> Result<(), WriteFault>
+    requires { length setup.now.init ≤ max_globals }
+    ensures { Writes (W.contents out.old) (W.contents out.new) (map bit_digit setup.now.init) result }
+{
+    let mut n = 0;
+    while let Some(bit) = setup.init(n) {
+        put(out, &[bit_digit(bit)])?;
+        n += 1;
+    }
+    Ok(())
+}
+
+/// Writes a digit for each global, or a dash where there is none.
+fn write_digits<W: Write>(setup: &Setup, out: &mut W) -> Result<(), WriteFault>
+    requires { length setup.now.init ≤ max_globals }
+    ensures { Writes (W.contents out.old) (W.contents out.new) (init_digits setup.now.init) result }
+{
+    if setup.init(0).is_none() {
+        put(out, b"-")
+    } else {
+        write_bits(setup, out)
+    }
+}
+
+/// Writes the line of the initial bits.
+fn write_init<W: Write>(setup: &Setup, out: &mut W) -> Result<(), WriteFault>
+    requires { length setup.now.init ≤ max_globals }
+    ensures { Writes (W.contents out.old) (W.contents out.new) (init_line setup.now.init) result }
+{
+    put(out, b"init ")?;
+    write_digits(setup, out)?;
+    put(out, b"\n")
+}
+
+/// Writes the lines of the contexts and calls that are allowed, and of the seed.
+fn write_limits<W: Write>(setup: &Setup, out: &mut W) -> Result<(), WriteFault>
+    ensures { Writes (W.contents out.old) (W.contents out.new) (limit_lines setup.now) result }
+{
+    let mut first = Buffer::new();
+    let mut second = Buffer::new();
+    let mut third = Buffer::new();
+    let contexts = first.format(setup.contexts()).as_bytes();
+    let calls = second.format(setup.calls()).as_bytes();
+    let seed = match setup.seed() {
+        None => b"none".as_slice(),
+        Some(n) => third.format(n).as_bytes(),
+    };
+    put_each(
+        out,
+        &[
+            b"contexts ",
+            contexts,
+            b"\ncalls ",
+            calls,
+            b"\nseed ",
+            seed,
+            b"\n",
+        ],
+    )
+}
+
+/// Writes the head of a trace: the setup.
+pub fn write_head<W: Write>(setup: &Setup, out: &mut W) -> Result<(), WriteFault>
+    ensures { Writes (W.contents out.old) (W.contents out.new) (head_text setup.now) result }
+{
+    setup.is_in_range();
+    put(out, b"btrace 1\n")?;
+    write_entries(setup, out)?;
+    write_init(setup, out)?;
+    write_limits(setup, out)
+}
+
+/// Writes the line of a call.
+pub fn write_call<W: Write>(call: &Call, out: &mut W) -> Result<(), WriteFault>
+    ensures { Writes (W.contents out.old) (W.contents out.new) (call_line call.now) result }
+{
+    let mut buffer = Buffer::new();
+    let thread = buffer.format(call.thread).as_bytes();
+    let rest = [b' ', bit_digit(call.bit), b' ', call.reply.letter(), b'\n'];
+    put_each(out, &[thread, rest.as_slice()])
+}
+
+/// Writes the line that ends a trace of so many calls, with so many open lines.
+pub fn write_end<W: Write>(calls: u64, left_open: u32, out: &mut W) -> Result<(), WriteFault>
+    ensures { Writes (W.contents out.old) (W.contents out.new) (end_line calls left_open) result }
+{
+    let mut number = Buffer::new();
+    let mut count = Buffer::new();
+    let calls = number.format(calls).as_bytes();
+    let left_open = count.format(left_open).as_bytes();
+    put_each(out, &[b"end ", calls, b" ", left_open, b"\n"])
+}
+
+/// Writes a line for each call.
+fn write_calls<W: Write>(history: &[Call], out: &mut W) -> Result<(), WriteFault>
+    ensures { Writes (W.contents out.old) (W.contents out.new) (flat_map call_line history.now) result }
+{
+    for call in history {
+        write_call(call, out)?;
+    }
+    Ok(())
+}
+
+/// Writes the trace of a history with so many open lines.
+pub(crate) fn write_with_open_lines<W: Write>(
+    setup: &Setup,
+    history: &[Call],
+    left_open: u32,
+    out: &mut W,
+) -> Result<(), WriteFault>
+    requires { left_open ≡ open_lines setup.now history.now }
+    ensures { Writes (W.contents out.old) (W.contents out.new) (trace_text setup.now history.now) result }
+{
+    write_head(setup, out)?;
+    write_calls(history, out)?;
+    write_end(history.len() as u64, left_open, out)
+}
+
+/// Writes the trace of a setup and a history.
+pub fn write_trace<W: Write>(setup: &Setup, history: &[Call], out: &mut W) -> Result<(), WriteFault>
+    ensures { Writes (W.contents out.old) (W.contents out.new) (trace_text setup.now history.now) result }
+{
+    let left_open = open_lines(setup, history);
+    write_with_open_lines(setup, history, left_open, out)
+}
