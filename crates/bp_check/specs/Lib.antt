@@ -1,6 +1,7 @@
 pub mod Faults
 pub mod Laws
 pub mod Least
+pub mod LeastFound
 pub mod Refusals
 pub mod Scopes
 pub mod Sets

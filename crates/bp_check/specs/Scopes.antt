@@ -1,4 +1,4 @@
--- Where names stand in a program, and which of them a place sees.
+-- Where names appear in a program, and which of them a statement may use.
 use Rattle.std.specs.Prelude.{◌≡◌, ◌⊎◌, ℕ, ◌++◌, Bool, List, [], ◌∷◌, Option, Some, slice_get}
 use Rattle.std.specs.Option.{option_to_list}
 use Rattle.std.specs.List.{list_any}
@@ -9,7 +9,7 @@ use Rattle.bp_tree.specs.Ast.{Name, Expression, Constant, Variable, Negation, Op
 abbrev pub has : List Name → List ℕ → Bool
 has ns text = list_any (λ n. bytes_eq n.text text) ns
 
--- the name with this index, which stands at the place
+-- the name with this index in the list, and its place in the text
 pub record IsNameAt (ns : List Name) (k : ℕ) (n : Name) (at : ℕ) : Type 0 where
   pub stands : slice_get ns k ≡ Some n
   pub place : n.at ≡ at
@@ -53,7 +53,8 @@ pub record Labelled : Type 0 where
 abbrev mutual
   pub statements : Block → List Labelled
   statements Done = []
-  statements (Then l at w t) = record { label = l; statement = w } ∷ (statements_inside w ++ statements t)
+  statements (Then l at w t) =
+      record { label = l; statement = w } ∷ (statements_inside w ++ statements t)
 
   pub statements_inside : Statement → List Labelled
   statements_inside (Branches d a b) = statements a ++ statements b

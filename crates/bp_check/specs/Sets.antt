@@ -1,5 +1,6 @@
--- Sets of faults of the parts of a program, of which the whole set is made.
-use Rattle.std.specs.Prelude.{◌≡◌, ◌⊎◌, ℕ, ◌++◌, false, List, map}
+-- A device: sets of faults of the parts of a program, of which the whole set is made. No public
+-- contract names them.
+use Rattle.std.specs.Prelude.{◌≡◌, ◌⊎◌, ℕ, ◌++◌, List, map}
 use Rattle.std.specs.Borrow.{Bor}
 use Rattle.bp_check.specs.declared.faults.CheckFault.{CheckFault}
 use Rattle.bp_check.specs.declared.faults.CheckFault.TheVariants.{TwiceLocal, TwiceLabel, UnknownVariable, UnknownProcedure, UnknownLabel, Arity, Lengths, TwiceTarget, Limit}
@@ -7,9 +8,11 @@ use Rattle.bp_tree.specs.Ast.{Name, Statement, Procedure}
 use Rattle.bp_tree.specs.declared.stmts.Stmt.{Stmt}
 use Rattle.bp_tree.specs.Blocks.{statement_of}
 use Rattle.bp_tree.specs.Lookup.{variables}
-use Rattle.bp_check.specs.Scopes.{has, Among, Labelled, statements, labels}
-use Rattle.bp_check.specs.Faults.{IsTwice, IsPast, IsUndeclared, CallsNone, CallsWrongly, JumpsNowhere, IsUneven, HasTargetTwice, max_own_names}
+use Rattle.bp_check.specs.Scopes.{Among, Labelled, statements, labels}
+use Rattle.bp_check.specs.Faults.{IsTwice, IsPast, IsUndeclared, CallsNone, CallsWrongly, JumpsNowhere, IsUneven, HasTargetTwice, IsStrayIn}
+use Rattle.bp_check.specs.declared.limits.TheConstants.{MAX_OWN_NAMES}
 
+-- the names that references are of
 abbrev pub names_of : List (Bor Name) → List Name
 names_of ns = map (λ n. n.now) ns
 
@@ -23,9 +26,9 @@ all_labelled ss = map (λ s. labelled_of s.now) ss
 abbrev pub Only : CheckFault → (ℕ → Type 0) → CheckFault → ℕ → Type 0
 Only fault Is g at = (g ≡ fault) × Is at
 
--- a use of a name that is not declared
-abbrev pub StrayIn : List Name → (Name → Type 0) → ℕ → Type 0
-StrayIn declared Used at = (n : Name) × Used n × (has declared n.text ≡ false) × (n.at ≡ at)
+-- a name that is used so, and that is not declared, as a fault
+abbrev pub IsStray : List Name → (Name → Type 0) → CheckFault → ℕ → Type 0
+IsStray declared Uses = Only UnknownVariable (IsStrayIn declared Uses)
 
 -- a fault of a statement that is no stray name
 abbrev pub IsMisuse : List Procedure → List Name → Statement → CheckFault → ℕ → Type 0
@@ -37,25 +40,36 @@ IsMisuse qs ls s TwiceTarget at = HasTargetTwice s at
 IsMisuse qs ls s _ at = ⊥
 
 -- a fault of a statement among declared names, procedures and labels
-abbrev pub IsStatementFault : List Name → List Procedure → List Name → Statement → CheckFault → ℕ → Type 0
+abbrev pub IsStatementFault :
+    List Name → List Procedure → List Name → Statement → CheckFault → ℕ → Type 0
 IsStatementFault declared qs ls s UnknownVariable at = IsUndeclared declared s at
 IsStatementFault declared qs ls s g at = IsMisuse qs ls s g at
 
-abbrev pub IsFaultOfSome : List Name → List Procedure → List Name → List Labelled → CheckFault → ℕ → Type 0
-IsFaultOfSome declared qs ls ss g at = (s : Labelled) × Among ss s × IsStatementFault declared qs ls s.statement g at
+-- a fault of one of some statements
+abbrev pub IsFaultOfStatements :
+    List Name → List Procedure → List Name → List Labelled → CheckFault → ℕ → Type 0
+IsFaultOfStatements declared qs ls ss g at =
+    (s : Labelled) × Among ss s × IsStatementFault declared qs ls s.statement g at
 
--- names of one kind: one that stands twice, or the first past their limit
+-- names of one kind: one that appears twice, or the first past their limit
 abbrev pub IsFaultOfNames : CheckFault → ℕ → List Name → CheckFault → ℕ → Type 0
-IsFaultOfNames fault limit ns g at = Only fault (IsTwice ns) g at ⊎ Only Limit (IsPast limit ns) g at
+IsFaultOfNames fault limit ns g at =
+    Only fault (IsTwice ns) g at ⊎ Only Limit (IsPast limit ns) g at
 
 -- a fault of a statement or label of a procedure, among declared names and procedures
 abbrev pub IsFaultOfBody : List Name → List Procedure → Procedure → CheckFault → ℕ → Type 0
 IsFaultOfBody declared qs q g at =
-    IsFaultOfSome declared qs (labels q.body) (statements q.body) g at ⊎ Only TwiceLabel (IsTwice (labels q.body)) g at
+    IsFaultOfStatements declared qs (labels q.body) (statements q.body) g at
+    ⊎ Only TwiceLabel (IsTwice (labels q.body)) g at
 
--- a fault that stands inside a procedure among these globals and procedures
+-- a fault inside a procedure, among these globals and procedures
 abbrev pub IsProcedureFault : List Name → List Procedure → Procedure → CheckFault → ℕ → Type 0
-IsProcedureFault globals qs q g at = IsFaultOfNames TwiceLocal max_own_names (variables q) g at ⊎ IsFaultOfBody (variables q ++ globals) qs q g at
+IsProcedureFault globals qs q g at =
+    IsFaultOfNames TwiceLocal MAX_OWN_NAMES (variables q) g at
+    ⊎ IsFaultOfBody (variables q ++ globals) qs q g at
 
-abbrev pub IsFaultOfProcedures : List Name → List Procedure → List Procedure → CheckFault → ℕ → Type 0
-IsFaultOfProcedures globals qs some g at = (q : Procedure) × Among some q × IsProcedureFault globals qs q g at
+-- a fault inside one of some procedures
+abbrev pub IsFaultOfProcedures :
+    List Name → List Procedure → List Procedure → CheckFault → ℕ → Type 0
+IsFaultOfProcedures globals qs some g at =
+    (q : Procedure) × Among some q × IsProcedureFault globals qs q g at

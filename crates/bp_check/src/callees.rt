@@ -49,8 +49,8 @@ impl<'a> Callees<'a> {
         &self.names
     }
 
-    /// The first procedure that is called so.
-    pub(crate) fn named(&self, text: &str) -> Option<&'a Proc>
+    /// The first procedure with this name.
+    pub(crate) fn find(&self, text: &str) -> Option<&'a Proc>
         ensures { option_copied result ≡ procedure_named self.now text.now }
     {
         let first = self.names.first(text)?;
@@ -60,7 +60,8 @@ impl<'a> Callees<'a> {
 
 /// Appends the names of procedures.
 fn gather_proc_names<'a>(out: &mut Vec<&'a Name>, procs: &'a [Proc]) -> Result<(), AllocError>
-    ensures { OnOk result (names_of out.new.items ≡ names_of out.old.items ++ map (λ q. q.name) procs.now) }
+    ensures { OnOk result (names_of out.new.items
+        ≡ names_of out.old.items ++ map (λ q. q.name) procs.now) }
 {
     for proc in procs {
         out.push(proc.name())?;

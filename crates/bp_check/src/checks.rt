@@ -1,9 +1,10 @@
 //! Lawful trees.
 ghost use Rattle.std.specs.Prelude.{◌≡◌, ◌≤◌, MatchResult};
-ghost use Rattle.bp_check.specs.Faults.{IsLawful};
+ghost use Rattle.bp_check.specs.Faults.{IsLawful, check_fault_number, check_fault_place};
 ghost use Rattle.bp_check.specs.Laws.{HasFewNames, HasDistinctNames, HasSoundStatements};
 ghost use Rattle.bp_check.specs.Refusals.{IsRefusal};
 ghost use Rattle.bp_tree.specs.Sizes.{procedures_size};
+ghost use Rattle.bp_syntax.specs.declared.limits.TheConstants.{TEXT_LIMIT};
 
 use crate::faults::{CheckFault, Found};
 use crate::programs::program_fault;
@@ -40,22 +41,23 @@ impl Checked {
         &self.tree
     }
 
-    /// Law: there are at most 256 procedures, 128 globals, and 128 formals and locals in each procedure.
+    /// Law: procedures, globals, and the formals and locals of each procedure keep to their limits.
     pub fn has_few_names(&self)
         ensures { HasFewNames self.now }
     {
         let _ = &self.tree;
     }
 
-    /// Law: no two globals, procedures, own variables of a procedure or labels of a procedure are spelled alike.
+    /// Law: no two globals, no two procedures, and in a procedure no two labels and no two formals
+    /// or locals are spelled alike.
     pub fn has_distinct_names(&self)
         ensures { HasDistinctNames self.now }
     {
         let _ = &self.tree;
     }
 
-    /// Law: each variable, label and procedure that a statement names is there, and an assignment and a call have as
-    /// many values as they need.
+    /// Law: each variable, label and procedure that a statement names is declared, and an
+    /// assignment and a call have as many values as they need.
     pub fn has_sound_statements(&self)
         ensures { HasSoundStatements self.now }
     {
@@ -64,7 +66,7 @@ impl Checked {
 
     /// Law: there are no more statements and procedures together than a text has bytes.
     pub fn has_few_statements(&self)
-        ensures { procedures_size self.now.procedures ≤ 65536 }
+        ensures { procedures_size self.now.procedures ≤ TEXT_LIMIT }
     {
         self.tree.has_few_statements();
     }
@@ -81,9 +83,30 @@ pub struct CheckRefusal {
     pub tree: Tree,
 }
 
+impl CheckRefusal {
+    /// The number by which users know the fault.
+    pub fn number(&self) -> u32
+        ensures { result ≡ check_fault_number self.now.fault }
+    {
+        self.fault.number()
+    }
+
+    /// The offset at which the fault's name begins in the text; none for `Memory`.
+    pub fn place(&self) -> Option<u32>
+        ensures { result ≡ check_fault_place self.now.fault self.now.at }
+    {
+        match self.fault {
+            CheckFault::Memory => None,
+            _ => Some(self.at),
+        }
+    }
+}
+
 /// Takes the trees without faults, and no others. Where memory is short the answer is `Memory`.
 pub fn check(alloc: Global, tree: Tree) -> Result<Checked, CheckRefusal>
-    ensures lawful { MatchResult result (λ c. (c ≡ tree) × IsLawful tree) (λ r. (r.tree ≡ tree) × IsRefusal tree r.fault r.at) }
+    ensures lawful { MatchResult result
+        (λ c. (c ≡ tree) × IsLawful tree)
+        (λ r. (r.tree ≡ tree) × IsRefusal tree r.fault r.at) }
 {
     match program_fault(alloc, tree.globals(), tree.procs()) {
         Ok(None) => Ok(Checked { tree }),

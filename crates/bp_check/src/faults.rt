@@ -3,22 +3,22 @@ ghost use Rattle.std.specs.Prelude.{◌≡◌};
 
 use thiserror::Error;
 
-/// Why a program is refused. The words after each say at which place.
+/// Why a program is refused. Each says at which place of the text.
 #[derive(Clone, Copy, Debug, PartialEq, Eq, Error)]
 pub enum CheckFault {
-    /// At a global's name that was declared as a global before.
+    /// At a global's name that an earlier global has.
     #[error("a global is declared twice")]
     TwiceGlobal,
     /// At a procedure's name that an earlier one has.
     #[error("two procedures have one name")]
     TwiceProcedure,
-    /// At a formal or declared local that is named like an earlier one of the procedure.
+    /// At a formal or declared local whose name an earlier one of the procedure has.
     #[error("a formal or local is declared twice")]
     TwiceLocal,
-    /// At a label that stands earlier in the procedure.
-    #[error("a label stands twice in a procedure")]
+    /// At a label that appears earlier in the procedure.
+    #[error("a label appears twice in a procedure")]
     TwiceLabel,
-    /// At a use or a target that is no local, formal or global.
+    /// At a name, used or assigned to, of no local, formal or global.
     #[error("a variable is not declared")]
     UnknownVariable,
     /// At the called name.
@@ -27,29 +27,29 @@ pub enum CheckFault {
     /// At the name after `goto`.
     #[error("there is no such label in the procedure")]
     UnknownLabel,
-    /// At the called name, where the arguments are not as many as the formals.
-    #[error("a call has not as many arguments as the procedure has formals")]
+    /// At the called name, where arguments and formals differ in number.
+    #[error("arguments and formals differ in number")]
     Arity,
-    /// At the first target, where targets and right sides are not equally many.
-    #[error("an assignment has not as many right sides as targets")]
+    /// At the first target, where targets and right sides differ in number.
+    #[error("right sides and targets differ in number")]
     Lengths,
-    /// At a target that stands earlier on the same left side.
-    #[error("a target stands twice on one left side")]
+    /// At a target that appears earlier on the same left side.
+    #[error("a target appears twice on one left side")]
     TwiceTarget,
     /// At the first name past a limit of procedures, globals, or formals and locals.
     #[error("there are more names than the limit")]
     Limit,
-    /// There was not enough memory.
+    /// A growth of memory was refused.
     #[error("out of memory")]
     Memory,
 }
 
 impl CheckFault {
-    ghost use Rattle.bp_check.specs.Faults.{number_of};
+    ghost use Rattle.bp_check.specs.Faults.{check_fault_number};
 
     /// The number by which users know the fault.
     pub fn number(&self) -> u32
-        ensures { result ≡ number_of self.now }
+        ensures { result ≡ check_fault_number self.now }
     {
         match self {
             CheckFault::TwiceGlobal => 11,

@@ -3,14 +3,15 @@ ghost use Rattle.std.specs.Prelude.{◌≡◌, [], map, IfOk};
 ghost use Rattle.bp_tree.specs.Ast.{GoesTo, Assigns, Calls};
 ghost use Rattle.bp_tree.specs.Views.{expression_of};
 ghost use Rattle.bp_tree.specs.Blocks.{statement_of};
-ghost use Rattle.bp_check.specs.Faults.{IsUndeclared, IsUneven};
-ghost use Rattle.bp_check.specs.Sets.{Only, IsMisuse, IsStatementFault};
-ghost use Rattle.bp_check.specs.Least.{Finds};
+ghost use Rattle.bp_check.specs.Scopes.{Mentions};
+ghost use Rattle.bp_check.specs.Faults.{IsUneven};
+ghost use Rattle.bp_check.specs.Sets.{Only, IsStray, IsMisuse, IsStatementFault};
+ghost use Rattle.bp_check.specs.LeastFound.{Finds};
 
 use crate::callees::Callees;
 use crate::faults::{CheckFault, Found};
 use crate::least::least;
-use crate::repeats::twice;
+use crate::repeats::least_repeat;
 use crate::scopes::Scope;
 use crate::tables::NameTable;
 use crate::uses::{stray_in_all, stray_in_decider, stray_names};
@@ -19,7 +20,7 @@ use std::alloc::{AllocError, Global};
 
 /// A variable that the statement mentions and that is not declared.
 fn stray(declared: &Scope<'_, '_>, form: &Form) -> Option<Found>
-    ensures { Finds (Only CheckFault.UnknownVariable (IsUndeclared declared.now (statement_of form.now))) result }
+    ensures { Finds (IsStray declared.now (Mentions (statement_of form.now))) result }
 {
     match form {
         Form::Skip | Form::Goto(_) | Form::Return => None,
@@ -36,11 +37,13 @@ fn stray(declared: &Scope<'_, '_>, form: &Form) -> Option<Found>
     }
 }
 
-/// A call of no procedure, or with a wrong number of arguments.
+/// A call of an unknown procedure, or with a wrong number of arguments.
 fn wrong_call(callees: &Callees<'_>, callee: &Name, arguments: &[Expr]) -> Option<Found>
-    ensures { Finds (IsMisuse callees.now [] (Calls callee.now (map expression_of arguments.now))) result }
+    ensures { Finds
+        (IsMisuse callees.now [] (Calls callee.now (map expression_of arguments.now)))
+        result }
 {
-    match callees.named(callee.text()) {
+    match callees.find(callee.text()) {
         None => Some(Found {
             fault: CheckFault::UnknownProcedure,
             at: callee.at(),
@@ -58,7 +61,7 @@ fn wrong_call(callees: &Callees<'_>, callee: &Name, arguments: &[Expr]) -> Optio
     }
 }
 
-/// A jump to none of the labels.
+/// A jump to an unknown label.
 fn lost_jump(labels: &NameTable<'_>, to: &Name) -> Option<Found>
     ensures { Finds (IsMisuse [] labels.now (GoesTo to.now)) result }
 {
@@ -71,9 +74,11 @@ fn lost_jump(labels: &NameTable<'_>, to: &Name) -> Option<Found>
     })
 }
 
-/// The first target of an assignment that has not as many right sides.
-fn uneven(targets: &[Name], values: &[Expr]) -> Option<Found>
-    ensures { Finds (Only CheckFault.Lengths (IsUneven (Assigns targets.now (map expression_of values.now)))) result }
+/// The first target of an assignment whose two sides differ in number.
+fn uneven_sides(targets: &[Name], values: &[Expr]) -> Option<Found>
+    ensures { Finds
+        (Only CheckFault.Lengths (IsUneven (Assigns targets.now (map expression_of values.now))))
+        result }
 {
     if targets.len() == values.len() {
         return None;
@@ -85,20 +90,21 @@ fn uneven(targets: &[Name], values: &[Expr]) -> Option<Found>
     })
 }
 
-/// Faults of an assignment's two sides, apart from stray names.
+/// The least fault of an assignment's two sides, apart from stray names.
 fn wrong_sides(
     alloc: Global,
     targets: &[Name],
     values: &[Expr],
 ) -> Result<Option<Found>, AllocError>
-    ensures { IfOk result (Finds (IsMisuse [] [] (Assigns targets.now (map expression_of values.now)))) }
+    ensures { IfOk result
+        (Finds (IsMisuse [] [] (Assigns targets.now (map expression_of values.now)))) }
 {
-    let found = uneven(targets, values);
+    let found = uneven_sides(targets, values);
     let names = NameTable::of(alloc, targets)?;
-    Ok(least(found, twice(&names, CheckFault::TwiceTarget)))
+    Ok(least(found, least_repeat(&names, CheckFault::TwiceTarget)))
 }
 
-/// The faults of a statement but for stray names.
+/// The least fault of a statement, apart from stray names and the blocks inside it.
 fn misuse(
     alloc: Global,
     callees: &Callees<'_>,
@@ -123,7 +129,8 @@ pub(crate) fn statement_fault(
     labels: &NameTable<'_>,
     form: &Form,
 ) -> Result<Option<Found>, AllocError>
-    ensures { IfOk result (Finds (IsStatementFault declared.now callees.now labels.now (statement_of form.now))) }
+    ensures { IfOk result (Finds
+        (IsStatementFault declared.now callees.now labels.now (statement_of form.now))) }
 {
     let found = misuse(alloc, callees, labels, form)?;
     Ok(least(found, stray(declared, form)))

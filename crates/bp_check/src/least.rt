@@ -1,9 +1,10 @@
 //! The least fault: by place, and at one place by number.
 ghost use Rattle.std.specs.Prelude.{◌≡◌};
-ghost use Rattle.bp_check.specs.Least.{least_of};
+ghost use Rattle.bp_check.specs.LeastFound.{least_of};
 
 use crate::faults::Found;
 
+/// The least of two faults, where there are two.
 pub(crate) fn least(a: Option<Found>, b: Option<Found>) -> Option<Found>
     ensures { result ≡ least_of a b }
 {

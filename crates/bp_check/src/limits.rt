@@ -1,8 +1,8 @@
 //! How many names a program may have.
 
-/// Procedures of a program.
+/// The most procedures of a program.
 pub const MAX_PROCEDURES: usize = 256;
-/// Globals of a program.
+/// The most globals of a program.
 pub const MAX_GLOBALS: usize = 128;
-/// Formals and declared locals of one procedure together.
+/// The most formals and declared locals of one procedure together.
 pub const MAX_OWN_NAMES: usize = 128;

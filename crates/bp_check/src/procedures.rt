@@ -3,15 +3,15 @@ ghost use Rattle.std.specs.Prelude.{◌≡◌, ◌++◌, IfOk, OnOk};
 ghost use Rattle.bp_tree.specs.Blocks.{block_of, statement_of};
 ghost use Rattle.bp_tree.specs.Lookup.{variables};
 ghost use Rattle.bp_check.specs.Scopes.{statements, statements_inside, labels_of};
-ghost use Rattle.bp_check.specs.Sets.{names_of, all_labelled, IsFaultOfSome, IsFaultOfBody, IsProcedureFault};
-ghost use Rattle.bp_check.specs.Least.{Finds};
+ghost use Rattle.bp_check.specs.Sets.{names_of, all_labelled, IsFaultOfStatements, IsFaultOfBody, IsProcedureFault};
+ghost use Rattle.bp_check.specs.LeastFound.{Finds};
 
 use crate::callees::Callees;
 use crate::faults::{CheckFault, Found};
 use crate::forms::statement_fault;
 use crate::least::least;
 use crate::limits::MAX_OWN_NAMES;
-use crate::repeats::{fault_of_names, twice};
+use crate::repeats::{fault_of_names, least_repeat};
 use crate::scopes::Scope;
 use crate::tables::{NameTable, gather};
 use bp_tree::{Form, Name, Proc, Stmt};
@@ -20,7 +20,8 @@ use std::alloc::{AllocError, Global};
 /// Appends the statements of a block, at any depth, in the order of the text.
 #[cycle(collect)]
 fn collect<'a>(out: &mut Vec<&'a Stmt>, stmts: &'a [Stmt]) -> Result<(), AllocError>
-    ensures { OnOk result (all_labelled out.new.items ≡ all_labelled out.old.items ++ statements (block_of stmts.now)) }
+    ensures { OnOk result (all_labelled out.new.items
+        ≡ all_labelled out.old.items ++ statements (block_of stmts.now)) }
 {
     for stmt in stmts {
         out.push(stmt)?;
@@ -32,7 +33,8 @@ fn collect<'a>(out: &mut Vec<&'a Stmt>, stmts: &'a [Stmt]) -> Result<(), AllocEr
 /// Appends the statements of the blocks inside a statement.
 #[cycle(collect)]
 fn collect_inside<'a>(out: &mut Vec<&'a Stmt>, form: &'a Form) -> Result<(), AllocError>
-    ensures { OnOk result (all_labelled out.new.items ≡ all_labelled out.old.items ++ statements_inside (statement_of form.now)) }
+    ensures { OnOk result (all_labelled out.new.items
+        ≡ all_labelled out.old.items ++ statements_inside (statement_of form.now)) }
 {
     match form {
         Form::If(_, yes, no) => {
@@ -46,7 +48,8 @@ fn collect_inside<'a>(out: &mut Vec<&'a Stmt>, form: &'a Form) -> Result<(), All
 
 /// Appends the labels of statements.
 fn gather_labels<'a>(out: &mut Vec<&'a Name>, stmts: &[&'a Stmt]) -> Result<(), AllocError>
-    ensures { OnOk result (names_of out.new.items ≡ names_of out.old.items ++ labels_of (all_labelled stmts.now)) }
+    ensures { OnOk result (names_of out.new.items
+        ≡ names_of out.old.items ++ labels_of (all_labelled stmts.now)) }
 {
     for stmt in stmts {
         match stmt.label() {
@@ -58,14 +61,15 @@ fn gather_labels<'a>(out: &mut Vec<&'a Name>, stmts: &[&'a Stmt]) -> Result<(), 
 }
 
 /// The least fault of statements.
-fn fault_of_some(
+fn fault_of_statements(
     alloc: Global,
     declared: &Scope<'_, '_>,
     callees: &Callees<'_>,
     labels: &NameTable<'_>,
     stmts: &[&Stmt],
 ) -> Result<Option<Found>, AllocError>
-    ensures { IfOk result (Finds (IsFaultOfSome declared.now callees.now labels.now (all_labelled stmts.now))) }
+    ensures { IfOk result (Finds
+        (IsFaultOfStatements declared.now callees.now labels.now (all_labelled stmts.now))) }
 {
     let mut best = None;
     for stmt in stmts {
@@ -76,7 +80,7 @@ fn fault_of_some(
 }
 
 /// Formals, and then declared locals.
-fn names_of_own<'a>(alloc: Global, proc: &'a Proc) -> Result<Vec<&'a Name>, AllocError>
+fn own_names<'a>(alloc: Global, proc: &'a Proc) -> Result<Vec<&'a Name>, AllocError>
     ensures { IfOk result (λ v. names_of v.items ≡ variables proc.now) }
 {
     let mut names = Vec::new(alloc);
@@ -114,8 +118,8 @@ fn fault_of_body(
 {
     let stmts = all_statements(alloc, proc)?;
     let labels = NameTable::new(alloc, labels_in(alloc, &stmts)?)?;
-    let found = fault_of_some(alloc, declared, callees, &labels, &stmts)?;
-    Ok(least(found, twice(&labels, CheckFault::TwiceLabel)))
+    let found = fault_of_statements(alloc, declared, callees, &labels, &stmts)?;
+    Ok(least(found, least_repeat(&labels, CheckFault::TwiceLabel)))
 }
 
 /// The least fault inside a procedure.
@@ -127,7 +131,7 @@ pub(crate) fn procedure_fault<'a>(
 ) -> Result<Option<Found>, AllocError>
     ensures { IfOk result (Finds (IsProcedureFault globals.now callees.now proc.now)) }
 {
-    let own = NameTable::new(alloc, names_of_own(alloc, proc)?)?;
+    let own = NameTable::new(alloc, own_names(alloc, proc)?)?;
     let found = fault_of_names(&own, CheckFault::TwiceLocal, MAX_OWN_NAMES);
     let declared = Scope::new(own, globals);
     let inside = fault_of_body(alloc, &declared, callees, proc)?;

@@ -2,7 +2,7 @@
 ghost use Rattle.std.specs.Prelude.{◌≡◌, IfOk};
 ghost use Rattle.bp_check.specs.Faults.{IsFault};
 ghost use Rattle.bp_check.specs.Sets.{IsFaultOfProcedures};
-ghost use Rattle.bp_check.specs.Least.{Finds};
+ghost use Rattle.bp_check.specs.LeastFound.{Finds};
 
 use crate::callees::Callees;
 use crate::faults::{CheckFault, Found};
@@ -14,6 +14,7 @@ use crate::tables::NameTable;
 use bp_tree::{Name, Proc};
 use std::alloc::{AllocError, Global};
 
+/// The least fault inside procedures.
 fn fault_of_procedures<'a>(
     alloc: Global,
     globals: &NameTable<'a>,
@@ -36,7 +37,8 @@ pub(crate) fn program_fault<'a>(
     globals: &'a [Name],
     procs: &'a [Proc],
 ) -> Result<Option<Found>, AllocError>
-    ensures { IfOk result (Finds (IsFault (record { globals = globals.now; procedures = procs.now }))) }
+    ensures { IfOk result
+        (Finds (IsFault (record { globals = globals.now; procedures = procs.now }))) }
 {
     let known = NameTable::of(alloc, globals)?;
     let callees = Callees::new(alloc, procs)?;

@@ -1,15 +1,15 @@
-//! Names that stand twice in a list, or past its limit.
+//! Names that appear twice in a list, or past its limit.
 ghost use Rattle.std.specs.Prelude.{◌≡◌};
 ghost use Rattle.bp_check.specs.Faults.{IsTwice, IsPast};
 ghost use Rattle.bp_check.specs.Sets.{Only, IsFaultOfNames};
-ghost use Rattle.bp_check.specs.Least.{Finds};
+ghost use Rattle.bp_check.specs.LeastFound.{Finds};
 
 use crate::faults::{CheckFault, Found};
 use crate::least::least;
 use crate::tables::NameTable;
 
-/// The least place of a name that an earlier one is spelled like, as this fault.
-pub(crate) fn twice(names: &NameTable<'_>, fault: CheckFault) -> Option<Found>
+/// The least place of a name that is spelled like an earlier one, as this fault.
+pub(crate) fn least_repeat(names: &NameTable<'_>, fault: CheckFault) -> Option<Found>
     ensures { Finds (Only fault (IsTwice names.now)) result }
 {
     let mut best = None;
@@ -28,7 +28,7 @@ pub(crate) fn twice(names: &NameTable<'_>, fault: CheckFault) -> Option<Found>
 }
 
 /// The first name past a limit.
-fn past(names: &NameTable<'_>, limit: usize) -> Option<Found>
+fn first_past(names: &NameTable<'_>, limit: usize) -> Option<Found>
     ensures { Finds (Only CheckFault.Limit (IsPast limit names.now)) result }
 {
     let names = names.names();
@@ -42,7 +42,7 @@ fn past(names: &NameTable<'_>, limit: usize) -> Option<Found>
     })
 }
 
-/// The least fault of names of one kind: one that stands twice, or the first past their limit.
+/// The least fault of names of one kind: one that appears twice, or the first past their limit.
 pub(crate) fn fault_of_names(
     names: &NameTable<'_>,
     fault: CheckFault,
@@ -50,6 +50,6 @@ pub(crate) fn fault_of_names(
 ) -> Option<Found>
     ensures { Finds (IsFaultOfNames fault limit names.now) result }
 {
-    let found = twice(names, fault);
-    least(found, past(names, limit))
+    let found = least_repeat(names, fault);
+    least(found, first_past(names, limit))
 }

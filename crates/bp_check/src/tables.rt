@@ -2,7 +2,7 @@
 ghost use Rattle.std.specs.Prelude.{◌≡◌, ◌++◌, OnOk, IfOk, take};
 ghost use Rattle.bp_check.specs.Scopes.{has};
 ghost use Rattle.bp_check.specs.Sets.{names_of};
-ghost use Rattle.bp_check.specs.Tables.{HasFirsts, first_of};
+ghost use Rattle.bp_check.specs.Tables.{HasFirstIndices, first_index};
 
 use bp_tree::Name;
 use std::alloc::{AllocError, Global};
@@ -23,7 +23,7 @@ impl<'a> Model for NameTable<'a> {
     ghost use Rattle.bp_tree.specs.Ast as ast;
     ghost use Rattle.bp_tree.specs.Codes.{coded_name};
     ghost use Rattle.bp_check.specs.Sets.{names_of};
-    ghost use Rattle.bp_check.specs.Tables.{HasFirsts};
+    ghost use Rattle.bp_check.specs.Tables.{HasFirstIndices};
 
     ghost Value = { List ast.Name };
 
@@ -31,7 +31,7 @@ impl<'a> Model for NameTable<'a> {
 
     ghost view = { λ t. names_of t.names.items };
 
-    ghost invariant = { λ t. HasFirsts t.first (names_of t.names.items) };
+    ghost invariant = { λ t. HasFirstIndices t.first (names_of t.names.items) };
 }
 
 impl<'a> NameTable<'a> {
@@ -39,7 +39,7 @@ impl<'a> NameTable<'a> {
     pub(crate) fn new(alloc: Global, names: Vec<&'a Name>) -> Result<NameTable<'a>, AllocError>
         ensures { IfOk result (λ t. t ≡ names_of names.entry.items) }
     {
-        let first = first_places(alloc, &names)?;
+        let first = first_indices(alloc, &names)?;
         Ok(NameTable { names, first })
     }
 
@@ -61,7 +61,7 @@ impl<'a> NameTable<'a> {
 
     /// The index of the first name that is spelled so.
     pub(crate) fn first(&self, text: &str) -> Option<usize>
-        ensures { result ≡ first_of self.now text.now }
+        ensures { result ≡ first_index self.now text.now }
     {
         self.first.get(text).copied()
     }
@@ -94,12 +94,13 @@ pub(crate) fn gather<'a>(out: &mut Vec<&'a Name>, names: &'a [Name]) -> Result<(
     Ok(())
 }
 
-/// The index of the first name of each spelling: of two the earlier is put in later, in place of the other.
-fn first_places<'a>(
+/// The index of the first name of each spelling. Names are put in from the last on, so that the
+/// earlier of two takes the place of the later.
+fn first_indices<'a>(
     alloc: Global,
     names: &[&'a Name],
 ) -> Result<BTreeMap<&'a str, usize>, AllocError>
-    ensures { IfOk result (λ m. HasFirsts m (names_of names.now)) }
+    ensures { IfOk result (λ m. HasFirstIndices m (names_of names.now)) }
 {
     let mut first = BTreeMap::new(alloc);
     for i in (0..names.len()).rev() {

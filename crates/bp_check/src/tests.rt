@@ -8,7 +8,8 @@ use bp_syntax::read;
 use std::alloc::Global;
 use std::test::Fail;
 
-/// The number of the fault by which a text is refused, and its place; none where its tree is lawful.
+/// The number of the fault by which a text is refused, and its place; none where its tree is
+/// lawful.
 fn refusal(alloc: Global, text: &[u8]) -> Result<Option<(u32, u32)>, Fail> {
     match check(alloc, read(alloc, text)?) {
         Ok(_) => Ok(None),
@@ -41,6 +42,8 @@ fn hands_a_refused_tree_back(rt: HostRuntime) -> Result<(), Fail> {
     };
     assert_eq!(rt; refusal.fault, CheckFault::TwiceGlobal);
     assert_eq!(rt; refusal.at, 13);
+    assert_eq!(rt; refusal.number(), 11);
+    assert_eq!(rt; refusal.place(), Some(13));
     assert_eq!(rt; refusal.tree.globals().len(), 2);
     assert_eq!(rt; refusal.tree.globals()[1].at(), 13);
     assert_eq!(rt; refusal.tree.procs().len(), 1);

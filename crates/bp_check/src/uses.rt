@@ -2,17 +2,17 @@
 ghost use Rattle.std.specs.Prelude.{◌≡◌, map};
 ghost use Rattle.bp_tree.specs.Views.{expression_of, decision_of};
 ghost use Rattle.bp_check.specs.Scopes.{Uses, SomeUses, DecisionUses, Among};
-ghost use Rattle.bp_check.specs.Sets.{Only, StrayIn};
-ghost use Rattle.bp_check.specs.Least.{Finds};
+ghost use Rattle.bp_check.specs.Sets.{IsStray};
+ghost use Rattle.bp_check.specs.LeastFound.{Finds};
 
 use crate::faults::{CheckFault, Found};
 use crate::least::least;
 use crate::scopes::Scope;
 use bp_tree::{Decider, Expr, Name};
 
-/// The name, where the list does not have it.
+/// The name, where no variable is spelled so.
 pub(crate) fn stray_name(declared: &Scope<'_, '_>, name: &Name) -> Option<Found>
-    ensures { Finds (Only CheckFault.UnknownVariable (StrayIn declared.now (λ n. name.now ≡ n))) result }
+    ensures { Finds (IsStray declared.now (λ n. name.now ≡ n)) result }
 {
     if declared.has(name.text()) {
         return None;
@@ -25,7 +25,7 @@ pub(crate) fn stray_name(declared: &Scope<'_, '_>, name: &Name) -> Option<Found>
 
 /// The least stray name of an expression.
 pub(crate) fn stray_in(declared: &Scope<'_, '_>, expr: &Expr) -> Option<Found>
-    ensures { Finds (Only CheckFault.UnknownVariable (StrayIn declared.now (Uses (expression_of expr.now)))) result }
+    ensures { Finds (IsStray declared.now (Uses (expression_of expr.now))) result }
 {
     match expr {
         Expr::Const(_) => None,
@@ -38,8 +38,9 @@ pub(crate) fn stray_in(declared: &Scope<'_, '_>, expr: &Expr) -> Option<Found>
     }
 }
 
+/// The least stray name of a decider.
 pub(crate) fn stray_in_decider(declared: &Scope<'_, '_>, decider: &Decider) -> Option<Found>
-    ensures { Finds (Only CheckFault.UnknownVariable (StrayIn declared.now (DecisionUses (decision_of decider.now)))) result }
+    ensures { Finds (IsStray declared.now (DecisionUses (decision_of decider.now))) result }
 {
     match decider {
         Decider::Choice => None,
@@ -47,8 +48,9 @@ pub(crate) fn stray_in_decider(declared: &Scope<'_, '_>, decider: &Decider) -> O
     }
 }
 
+/// The least stray name of expressions.
 pub(crate) fn stray_in_all(declared: &Scope<'_, '_>, exprs: &[Expr]) -> Option<Found>
-    ensures { Finds (Only CheckFault.UnknownVariable (StrayIn declared.now (SomeUses (map expression_of exprs.now)))) result }
+    ensures { Finds (IsStray declared.now (SomeUses (map expression_of exprs.now))) result }
 {
     let mut best = None;
     for expr in exprs {
@@ -57,8 +59,9 @@ pub(crate) fn stray_in_all(declared: &Scope<'_, '_>, exprs: &[Expr]) -> Option<F
     best
 }
 
+/// The least stray name among names.
 pub(crate) fn stray_names(declared: &Scope<'_, '_>, names: &[Name]) -> Option<Found>
-    ensures { Finds (Only CheckFault.UnknownVariable (StrayIn declared.now (Among names.now))) result }
+    ensures { Finds (IsStray declared.now (Among names.now)) result }
 {
     let mut best = None;
     for name in names {

@@ -1,9 +1,12 @@
-pub mod Alike
-mod Blocks
-mod Compiled
-mod Knowing
-pub mod Lawful
-mod Loops
-pub mod Pieces
-mod Slotted
+pub mod AppendsPieces
+mod BitsFrom
+mod BlockItems
+mod CompiledStandsFor
+mod DeclaredIsKnown
+pub mod LawfulIsCompilable
+mod ListItems
+mod SlotOf
+mod SlotsAreVariables
+pub mod StandsForStepsAlike
+mod WithSlots
 mod WordBits

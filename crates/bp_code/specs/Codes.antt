@@ -1,5 +1,5 @@
--- Codes of the data of Flat.
-use Rattle.std.specs.Prelude.{◌≡◌, ◌⊎◌, ℕ, zero, suc, Bool, true, false, cond, List, Option, refl}
+-- Encodings of the data of Flat, for the models of types in src/. No contract names them.
+use Rattle.std.specs.Prelude.{if◌then◌else◌, ◌≡◌, ◌⊎◌, ℕ, zero, suc, Bool, true, false, List, Option, refl}
 use Rattle.std.specs.Coded.{Coded, code_by, coded×, coded⊎, coded_ℕ, coded_bool, coded_list, coded_option}
 use Rattle.std.proofs.Common.{inl, inr}
 use Rattle.bp_code.specs.declared.slots.Slot.{Slot}
@@ -9,7 +9,8 @@ use Rattle.bp_code.specs.Formulas.{coded_formula}
 
 abbrev pub coded_heading : Coded Heading
 coded_heading =
-    code_by ((List ℕ × ℕ) × (ℕ × ℕ)) (coded× (coded× (coded_list coded_ℕ) coded_ℕ) (coded× coded_ℕ coded_ℕ))
+    code_by ((List ℕ × ℕ) × (ℕ × ℕ))
+    (coded× (coded× (coded_list coded_ℕ) coded_ℕ) (coded× coded_ℕ coded_ℕ))
     (λ h. ((h.name, h.formals), (h.locals, h.entry)))
     (λ p. record { name = p.0.0; formals = p.0.1; locals = p.1.0; entry = p.1.1 })
     (λ _. refl)
@@ -27,10 +28,12 @@ slot_again (Global k) = refl
 slot_again (Local k) = refl
 
 abbrev pub coded_slot : Coded Slot
-coded_slot = code_by (Bool × ℕ) (coded× coded_bool coded_ℕ) slot_parts (λ p. slot_from p.0 p.1) slot_again
+coded_slot =
+    code_by (Bool × ℕ) (coded× coded_bool coded_ℕ) slot_parts (λ p. slot_from p.0 p.1) slot_again
 
--- An instruction by its parts: a skip (0) or a jump (1) with its successor, an assignment; a branch (true) or a
--- loop (false), an assertion (true) or an assumption (false); a print, a call. A return is 2.
+-- An instruction by its parts: a skip (0) or a jump (1) with its successor, an assignment; a branch
+-- (true) or a loop (false), an assertion (true) or an assumption (false); a print, a call. A return
+-- is 2.
 
 abbrev pub Plain : Type 0
 Plain = (ℕ × ℕ) ⊎ ((List Slot × List Formula) × ℕ)
@@ -44,11 +47,24 @@ Valued = (List Formula × ℕ) ⊎ ((ℕ × List Formula) × ℕ)
 abbrev pub InstructionParts : Type 0
 InstructionParts = Plain ⊎ (Testing ⊎ Valued)
 
+abbrev pub coded_test : Coded (Bool × Option Formula)
+coded_test = coded× coded_bool (coded_option coded_formula)
+
+abbrev pub coded_plain : Coded Plain
+coded_plain =
+    coded⊎ (coded× coded_ℕ coded_ℕ)
+    (coded× (coded× (coded_list coded_slot) (coded_list coded_formula)) coded_ℕ)
+
+abbrev pub coded_testing : Coded Testing
+coded_testing = coded⊎ (coded× coded_test (coded× coded_ℕ coded_ℕ)) (coded× coded_test coded_ℕ)
+
+abbrev pub coded_valued : Coded Valued
+coded_valued =
+    coded⊎ (coded× (coded_list coded_formula) coded_ℕ)
+    (coded× (coded× coded_ℕ (coded_list coded_formula)) coded_ℕ)
+
 abbrev pub coded_parts : Coded InstructionParts
-coded_parts =
-    coded⊎ (coded⊎ (coded× coded_ℕ coded_ℕ) (coded× (coded× (coded_list coded_slot) (coded_list coded_formula)) coded_ℕ))
-    (coded⊎ (coded⊎ (coded× (coded× coded_bool (coded_option coded_formula)) (coded× coded_ℕ coded_ℕ)) (coded× (coded× coded_bool (coded_option coded_formula)) coded_ℕ))
-    (coded⊎ (coded× (coded_list coded_formula) coded_ℕ) (coded× (coded× coded_ℕ (coded_list coded_formula)) coded_ℕ)))
+coded_parts = coded⊎ coded_plain (coded⊎ coded_testing coded_valued)
 
 abbrev pub instruction_parts : Instruction → InstructionParts
 instruction_parts (Skip m) = inl (inl (0, m))
@@ -70,8 +86,9 @@ plain_from (suc (suc k)) m = Return
 abbrev pub instruction_from : InstructionParts → Instruction
 instruction_from (inl (inl p)) = plain_from p.0 p.1
 instruction_from (inl (inr p)) = Assign p.0.0 p.0.1 p.1
-instruction_from (inr (inl (inl p))) = cond p.0.0 (If p.0.1 p.1.0 p.1.1) (While p.0.1 p.1.0 p.1.1)
-instruction_from (inr (inl (inr p))) = cond p.0.0 (Assert p.0.1 p.1) (Assume p.0.1 p.1)
+instruction_from (inr (inl (inl p))) =
+    if p.0.0 then If p.0.1 p.1.0 p.1.1 else While p.0.1 p.1.0 p.1.1
+instruction_from (inr (inl (inr p))) = if p.0.0 then Assert p.0.1 p.1 else Assume p.0.1 p.1
 instruction_from (inr (inr (inl p))) = Print p.0 p.1
 instruction_from (inr (inr (inr p))) = Call p.0.0 p.0.1 p.1
 
@@ -88,11 +105,13 @@ instruction_again (Print fs m) = refl
 instruction_again (Call c fs m) = refl
 
 abbrev pub coded_instruction : Coded Instruction
-coded_instruction = code_by InstructionParts coded_parts instruction_parts instruction_from instruction_again
+coded_instruction =
+    code_by InstructionParts coded_parts instruction_parts instruction_from instruction_again
 
 abbrev pub coded_flat : Coded Flat
 coded_flat =
-    code_by ((List Heading × ℕ) × List Instruction) (coded× (coded× (coded_list coded_heading) coded_ℕ) (coded_list coded_instruction))
+    code_by ((List Heading × ℕ) × List Instruction)
+    (coded× (coded× (coded_list coded_heading) coded_ℕ) (coded_list coded_instruction))
     (λ c. ((c.headings, c.globals), c.instructions))
     (λ p. record { headings = p.0.0; globals = p.0.1; instructions = p.1 })
     (λ _. refl)

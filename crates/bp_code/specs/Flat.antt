@@ -1,4 +1,4 @@
--- Flat code without memory: headings of procedures, and instructions that name variables by slot and
+-- Flat code as a value: headings of procedures, and instructions that name variables by slot and
 -- successors by number.
 use Rattle.std.specs.Prelude.{ℕ, Bool, List, Option}
 use Rattle.bp_tree.specs.declared.exprs.Op.{Op}
@@ -11,8 +11,8 @@ pub data Formula : Type 0 where
   Inverse : (f : Formula) → Formula
   Joined : (op : Op) (left right : Formula) → Formula
 
--- An instruction with its successors: the next one; where a test is 0, the other one; the first of a callee.
--- A test is a formula, or none where the choice bit decides.
+-- An instruction with its successors: the next one; where a test is 0, the other one; the first of
+-- a callee. A test is a formula, or none where the choice bit decides.
 pub data Instruction : Type 0 where
   Skip : (next : ℕ) → Instruction
   Goto : (next : ℕ) → Instruction
@@ -25,15 +25,24 @@ pub data Instruction : Type 0 where
   Print : (values : List Formula) (next : ℕ) → Instruction
   Call : (callee : ℕ) (arguments : List Formula) (next : ℕ) → Instruction
 
--- a procedure: its name, how many formals and declared locals it has, and the number of its first instruction
+-- a procedure: its name, how many formals and declared locals it has, and the number of its first
+-- instruction
 pub record Heading : Type 0 where
   pub name : List ℕ
   pub formals : ℕ
   pub locals : ℕ
   pub entry : ℕ
 
+abbrev pub heading : List ℕ → ℕ → ℕ → ℕ → Heading
+heading name formals locals entry =
+    record { name = name; formals = formals; locals = locals; entry = entry }
+
 -- a whole code, with the number of its globals
 pub record Flat : Type 0 where
   pub headings : List Heading
   pub globals : ℕ
   pub instructions : List Instruction
+
+abbrev pub flat : List Heading → ℕ → List Instruction → Flat
+flat headings globals instructions =
+    record { headings = headings; globals = globals; instructions = instructions }

@@ -1,4 +1,5 @@
--- Heights and codes of formulas: a formula is coded as the expression of its form, where a slot is a name.
+-- Heights and encodings of formulas, for the models of types in src/: a formula is coded as the
+-- expression of its form, where a slot is a name. No contract names them.
 use Rattle.std.specs.Prelude.{◌≡◌, ℕ, ◌+◌, max, List, [], ◌∷◌, refl}
 use Rattle.std.specs.Coded.{Coded, code_by}
 use Rattle.std.proofs.Common.{ap}

@@ -4,17 +4,17 @@ use Rattle.bp_code.specs.declared.instrs.Kind.{Kind}
 use Rattle.bp_code.specs.declared.instrs.Kind.TheVariants as kind
 use Rattle.bp_code.specs.Flat.{Instruction, Skip, Goto, Return, Assign, If, While, Assert, Assume, Print, Call}
 
-abbrev pub kind_of : Instruction → Kind
-kind_of (Skip m) = kind.Skip
-kind_of (Goto m) = kind.Goto
-kind_of Return = kind.Return
-kind_of (Assign slots fs m) = kind.Assign
-kind_of (If test m e) = kind.If
-kind_of (While test m e) = kind.While
-kind_of (Assert test m) = kind.Assert
-kind_of (Assume test m) = kind.Assume
-kind_of (Print fs m) = kind.Print
-kind_of (Call c fs m) = kind.Call
+abbrev pub instruction_kind : Instruction → Kind
+instruction_kind (Skip m) = kind.Skip
+instruction_kind (Goto m) = kind.Goto
+instruction_kind Return = kind.Return
+instruction_kind (Assign slots fs m) = kind.Assign
+instruction_kind (If test m e) = kind.If
+instruction_kind (While test m e) = kind.While
+instruction_kind (Assert test m) = kind.Assert
+instruction_kind (Assume test m) = kind.Assume
+instruction_kind (Print fs m) = kind.Print
+instruction_kind (Call c fs m) = kind.Call
 
 abbrev pub next_of : Instruction → Option ℕ
 next_of (Skip m) = Some m

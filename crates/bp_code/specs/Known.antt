@@ -1,29 +1,26 @@
--- Blocks whose names mean something in a scope.
-use Rattle.std.specs.Prelude.{◌≤◌, ℕ, List, IsSome, length}
-use Rattle.bp_tree.specs.Ast.{Block, Done, Then, Statement, Skips, GoesTo, Returns, Assigns, Branches, Loops, Asserts, Assumes, Prints, Calls}
-use Rattle.bp_code.specs.Compilable.{HaveVariables, HasTest, AreVariables}
-use Rattle.bp_code.specs.Listing.{Scope, label_number, heading_named}
+-- Blocks whose names mean something in an environment. Only private contracts name them.
+use Rattle.std.specs.Prelude.{◌≤◌, List, IsSome, length}
+use Rattle.bp_tree.specs.Ast.{Name, Expression, Block, Statement}
+use Rattle.bp_code.specs.declared.limits.TheConstants.{SLOTS}
+use Rattle.bp_code.specs.Slots as slots
+use Rattle.bp_code.specs.Resolved.{IsResolved, IsResolvedIn}
+use Rattle.bp_code.specs.Compiled.{Environment, label_number, heading_named}
 
-module _ (scope : Scope) where
-  abbrev pub HasLabel : List ℕ → Type 0
-  HasLabel x = IsSome (label_number scope.procedure.body scope.start x)
+module _ (environment : Environment) where
+  abbrev pub HasSlot : Name → Type 0
+  HasSlot x = slots.HasSlot environment.globals environment.procedure x
 
-  abbrev pub HasHeading : List ℕ → Type 0
-  HasHeading x = IsSome (heading_named scope.headings x)
+  abbrev pub HasLabel : Name → Type 0
+  HasLabel x = IsSome (label_number environment.procedure.body environment.start x.text)
 
-  abbrev mutual
-    pub IsKnown : Block → Type 0
-    IsKnown Done = Unit {0}
-    IsKnown (Then label at s r) = IsKnownIn s × IsKnown r
+  abbrev pub HasHeading : Name → Type 0
+  HasHeading x = IsSome (heading_named environment.headings x.text)
 
-    pub IsKnownIn : Statement → Type 0
-    IsKnownIn Skips = Unit {0}
-    IsKnownIn (GoesTo x) = HasLabel x.text
-    IsKnownIn Returns = Unit {0}
-    IsKnownIn (Assigns xs es) = AreVariables scope.globals scope.procedure xs × HaveVariables scope.globals scope.procedure es
-    IsKnownIn (Branches d a b) = HasTest scope.globals scope.procedure d × IsKnown a × IsKnown b
-    IsKnownIn (Loops d a) = HasTest scope.globals scope.procedure d × IsKnown a
-    IsKnownIn (Asserts d) = HasTest scope.globals scope.procedure d
-    IsKnownIn (Assumes d) = HasTest scope.globals scope.procedure d
-    IsKnownIn (Prints es) = HaveVariables scope.globals scope.procedure es
-    IsKnownIn (Calls x es) = HaveVariables scope.globals scope.procedure es × HasHeading x.text × (length es ≤ 128)
+  abbrev pub HasHeadingFor : Name → List Expression → Type 0
+  HasHeadingFor x arguments = HasHeading x × (length arguments ≤ SLOTS)
+
+  abbrev pub IsKnown : Block → Type 0
+  IsKnown block = IsResolved HasSlot HasLabel HasHeadingFor block
+
+  abbrev pub IsKnownIn : Statement → Type 0
+  IsKnownIn s = IsResolvedIn HasSlot HasLabel HasHeadingFor s

@@ -1,4 +1,5 @@
--- A test of equality at each type whose values have codes.
+-- A test of equality at each type whose values have codes, and its law, which an `impl` of
+-- PartialEq has to name. No contract of a public function names them.
 use Rattle.std.specs.Prelude.{◌≡◌, ◌&&◌, Bool, true, false, nat_eq, Decides}
 use Rattle.std.specs.Coded.{Coded}
 use Rattle.std.specs.Cmp.{IsEquivalence, decided}
@@ -39,15 +40,10 @@ same_code-refl (gnum n) = eq-eqb n n refl
 same_code-refl (gcons a b) = rw (same_code-refl a, same_code-refl b) refl
 
 pub same-Decides : {A : Type 0} (c : Coded A) (x y : A) → Decides (same c x y) (x ≡ y)
-same-Decides c x y =
-    (λ h. c.inj x y (same_code-is (c.code x) (c.code y) h), λ e. subst (λ z. same_code (c.code x) z ≡ true) (ap c.code e) (same_code-refl (c.code x)))
+same-Decides c x y = (
+  λ h. c.inj x y (same_code-is (c.code x) (c.code y) h),
+  λ e. subst (λ z. same_code (c.code x) z ≡ true) (ap c.code e) (same_code-refl (c.code x)),
+)
 
 pub same-equiv : {A : Type 0} (c : Coded A) → IsEquivalence (same c)
 same-equiv c = decided (same c) (same-Decides c)
-
--- two tests of one fact give one answer
-pub same_answer : {P : Type 0} (a b : Bool) → Decides a P → Decides b P → a ≡ b
-same_answer true true h k = refl
-same_answer false false h k = refl
-same_answer true false h k = let t = k.1 (h.0 refl) in cc
-same_answer false true h k = let t = h.1 (k.0 refl) in cc

@@ -1,71 +1,71 @@
--- What an expression and a decision are worth, where globals and locals are maps from names to bits.
-use Rattle.std.specs.Prelude.{ℕ, Bool, true, false, cond, not, ◌&&◌, ◌||◌, List, [], ◌∷◌, Option, None, Some, is_some, map, unwrap_or, bytes_eq}
+-- The values of expressions and decisions, where globals and locals are maps from names to bits.
+use Rattle.std.specs.Prelude.{if◌then◌else◌, ℕ, Bool, true, false, not, ◌&&◌, ◌||◌, List, [], ◌∷◌, Option, None, Some, is_some, map, unwrap_or, bytes_eq}
 use Rattle.std.specs.Option.{option_or}
 use Rattle.bp_tree.specs.declared.exprs.Op.{Op}
 use Rattle.bp_tree.specs.declared.exprs.Op.TheVariants.{Equal, Differ, And, Xor, Or, Implies}
+use Rattle.bp_code.specs.Effects.{Store}
 use Rattle.bp_tree.specs.Ast.{Name, Expression, Constant, Variable, Negation, Operation, Decision, Choose, Decide}
 
 -- names with their bits; the first entry of a name counts
 abbrev pub Valuation : Type 0
 Valuation = List (List ℕ × Bool)
 
--- what a statement sees: the globals, and the locals of its frame
-pub record Store : Type 0 where
-  pub globals : Valuation
-  pub locals : Valuation
-
 abbrev pub lookup : Valuation → List ℕ → Option Bool
 lookup [] x = None
-lookup (e ∷ m) x = cond (bytes_eq e.0 x) (Some e.1) (lookup m x)
+lookup (e ∷ m) x = if bytes_eq e.0 x then Some e.1 else lookup m x
 
 -- the map with another bit for a name that it has
-abbrev pub write : Valuation → List ℕ → Bool → Valuation
-write [] x b = []
-write (e ∷ m) x b = cond (bytes_eq e.0 x) ((e.0, b) ∷ m) (e ∷ write m x b)
+abbrev pub update : Valuation → List ℕ → Bool → Valuation
+update [] x b = []
+update (e ∷ m) x b = if bytes_eq e.0 x then (e.0, b) ∷ m else e ∷ update m x b
 
 -- the bit of a variable: a local hides a global of its name, and what is declared nowhere is 0
-abbrev pub variable : Store → List ℕ → Bool
-variable s x = unwrap_or (option_or (lookup s.locals x) (lookup s.globals x)) false
+abbrev pub variable_value : Store Valuation → List ℕ → Bool
+variable_value s x = unwrap_or (option_or (lookup s.locals x) (lookup s.globals x)) false
 
 abbrev pub same_bit : Bool → Bool → Bool
 same_bit true b = b
 same_bit false b = not b
 
-abbrev pub operation : Op → Bool → Bool → Bool
-operation Equal a b = same_bit a b
-operation Differ a b = not (same_bit a b)
-operation And a b = a && b
-operation Xor a b = not (same_bit a b)
-operation Or a b = a || b
-operation Implies a b = not a || b
+abbrev pub operation_value : Op → Bool → Bool → Bool
+operation_value Equal a b = same_bit a b
+operation_value Differ a b = not (same_bit a b)
+operation_value And a b = a && b
+operation_value Xor a b = not (same_bit a b)
+operation_value Or a b = a || b
+operation_value Implies a b = not a || b
 
-abbrev pub value_of : Store → Expression → Bool
-value_of s (Constant b) = b
-value_of s (Variable x) = variable s x.text
-value_of s (Negation e) = not (value_of s e)
-value_of s (Operation op a b) = operation op (value_of s a) (value_of s b)
+abbrev pub expression_value : Store Valuation → Expression → Bool
+expression_value s (Constant b) = b
+expression_value s (Variable x) = variable_value s x.text
+expression_value s (Negation e) = not (expression_value s e)
+expression_value s (Operation op a b) =
+    operation_value op (expression_value s a) (expression_value s b)
 
-abbrev pub values_of : Store → List Expression → List Bool
-values_of s es = map (value_of s) es
+abbrev pub expression_values : Store Valuation → List Expression → List Bool
+expression_values s es = map (expression_value s) es
 
--- `?` is worth the call's choice bit
-abbrev pub decided : Store → Bool → Decision → Bool
-decided s bit Choose = bit
-decided s bit (Decide e) = value_of s e
+-- the value of `?` is the call's choice bit
+abbrev pub decision_value : Store Valuation → Bool → Decision → Bool
+decision_value s bit Choose = bit
+decision_value s bit (Decide e) = expression_value s e
 
--- another bit for a variable: among the locals where it is one, else among the globals
-abbrev pub written : Store → List ℕ → Bool → Store
-written s x b =
-    cond (is_some (lookup s.locals x)) (record s { locals = write s.locals x b }) (record s { globals = write s.globals x b })
+-- the store with another bit for a variable: among the locals where it is one, else among the
+-- globals
+abbrev pub after_write : Store Valuation → List ℕ → Bool → Store Valuation
+after_write s x b =
+    if is_some (lookup s.locals x)
+    then record s { locals = update s.locals x b }
+    else record s { globals = update s.globals x b }
 
--- each target gets its bit, the first target first
-abbrev pub assigned : Store → List Name → List Bool → Store
-assigned s [] bits = s
-assigned s (x ∷ xs) [] = s
-assigned s (x ∷ xs) (b ∷ bits) = assigned (written s x.text b) xs bits
+-- the store after each target got its bit, the first target first
+abbrev pub after_assignment : Store Valuation → List Name → List Bool → Store Valuation
+after_assignment s [] bits = s
+after_assignment s (x ∷ xs) [] = s
+after_assignment s (x ∷ xs) (b ∷ bits) = after_assignment (after_write s x.text b) xs bits
 
--- names with these bits, and 0 for the names past the last bit
-abbrev pub bound : List Name → List Bool → Valuation
-bound [] bits = []
-bound (x ∷ xs) [] = (x.text, false) ∷ bound xs []
-bound (x ∷ xs) (b ∷ bits) = (x.text, b) ∷ bound xs bits
+-- the names bound to these bits, and 0 for the names past the last bit
+abbrev pub binding : List Name → List Bool → Valuation
+binding [] bits = []
+binding (x ∷ xs) [] = (x.text, false) ∷ binding xs []
+binding (x ∷ xs) (b ∷ bits) = (x.text, b) ∷ binding xs bits

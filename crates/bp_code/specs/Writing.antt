@@ -13,5 +13,6 @@ pub record AppendsPart (old new : Option (List ℕ)) (text : List ℕ) : Type 0 
   pub grown : Appends old new (take count text)
 
 -- a call that writes a text: all of it at Ok, a proper prefix of it at Err
-abbrev pub Writes : {T E : Type 0} → Option (List ℕ) → Option (List ℕ) → List ℕ → Result T E → Type 0
+abbrev pub Writes
+    : {T E : Type 0} → Option (List ℕ) → Option (List ℕ) → List ℕ → Result T E → Type 0
 Writes old new text r = MatchResult r (λ _. AppendsAll old new text) (λ _. AppendsPart old new text)

@@ -1,198 +1,135 @@
 //! What instructions do.
-ghost use Rattle.std.specs.Prelude.{◌≡◌, ◌<◌, ◌≤◌, IfOk, Decides, map, length};
-ghost use Rattle.bp_code.specs.Steps.{with_slots, all_worth, bits_from};
-ghost use Rattle.bp_code.specs.Bits.{bits_of, words_of};
-ghost use Rattle.bp_code.specs.Views.{formula_of};
-ghost use Rattle.bp_code.specs.Instructions.{instruction_of};
+ghost use Rattle.std.specs.Prelude.{◌≡◌, ◌↔◌, IfOk, IsTrue};
+ghost use Rattle.bp_code.specs.Steps.{with_slots, formula_values};
+ghost use Rattle.bp_code.specs.Bits.{store_of};
+ghost use Rattle.bp_code.specs.Instructions.{instruction_of, assign_of, if_of, call_of};
 
-use crate::exprs::{SlotExpr, SlotExprs, Test};
-use crate::slots::Slot;
-use crate::words::{Words, with_bit};
+use crate::expr_lists::{Arguments, SlotExprs};
+use crate::exprs::Test;
+use crate::slots::Slots;
+use crate::stores::Store;
 use std::alloc::AllocError;
-use std::marker::Model;
 
-/// Variables in order, as the left side of an assignment has them.
-#[derive(Debug, Drop)]
-pub struct Slots {
-    items: Vec<Slot>,
-}
-
-impl Model for Slots {
-    ghost use Rattle.std.specs.Prelude.{List};
-    ghost use Rattle.bp_code.specs.declared.slots.Slot.{Slot};
-
-    ghost Value = { List Slot };
-
-    ghost view = { λ s. s.items.items };
-}
-
-impl Slots {
-    pub fn new(items: Vec<Slot>) -> Slots
-        ensures { result ≡ items.items }
-    {
-        Slots { items }
-    }
-
-    pub fn as_slice(&self) -> &[Slot]
-        ensures { result.now ≡ self.now }
-    {
-        self.items.as_slice()
-    }
-
-    /// A copy, which equals its source.
-    pub fn try_copy(&self) -> Result<Slots, AllocError>
-        ensures { IfOk result (λ s. s ≡ self.now) }
-    {
-        let mut items = Vec::new(*self.items.allocator());
-        for slot in self.items.as_slice() {
-            items.push(*slot)?;
-        }
-        Ok(Slots { items })
-    }
-}
-
-/// The arguments of a call, at most 128.
+/// A parallel assignment, and the number of the instruction that follows it.
 #[derive(Drop)]
-pub struct Arguments {
-    values: SlotExprs,
+pub struct Assignment {
+    pub targets: Slots,
+    pub values: SlotExprs,
+    pub next: u32,
 }
 
-impl Model for Arguments {
-    ghost use Rattle.std.specs.Prelude.{◌≤◌, List, length};
-    ghost use Rattle.std.specs.Coded.{coded_list};
-    ghost use Rattle.bp_code.specs.Flat.{Formula};
-    ghost use Rattle.bp_code.specs.Formulas.{coded_formula};
-
-    ghost Value = { List Formula };
-
-    ghost coded = { coded_list coded_formula };
-
-    ghost view = { λ a. a.values };
-
-    ghost invariant = { λ a. length a.values ≤ 128 };
-}
-
-impl Arguments {
-    pub fn new(values: SlotExprs) -> Arguments
-        requires { length values ≤ 128 }
-        ensures { result ≡ values }
+impl Assignment {
+    /// The store after it: all right sides are evaluated before the first target is written.
+    pub fn store_after(&self, store: Store) -> Store
+        ensures { let bits = formula_values (store_of store) self.now.values in
+            store_of result ≡ with_slots (store_of store) self.now.targets bits }
     {
-        Arguments { values }
-    }
-
-    pub fn values(&self) -> &SlotExprs
-        ensures { result.now ≡ self.now }
-    {
-        &self.values
-    }
-
-    /// The locals of the callee's new frame: the arguments in the slots from 0 on, and 0 past them.
-    pub fn word(&self, words: Words) -> u128
-        ensures { bits_of result ≡ bits_from (all_worth (words_of words) self.now) }
-    {
-        let mut word = 0;
-        for (i, value) in self.values.as_slice().iter().enumerate() {
-            word = with_bit(word, i as u8, value.value(words));
+        let values = self.values.as_slice();
+        let mut after = store;
+        for (i, slot) in self.targets.as_slice().iter().enumerate() {
+            let Some(value) = values.get(i) else {
+                return after;
+            };
+            let bit = value.value(store);
+            slot.set(&mut after, bit);
         }
-        word
+        after
     }
 
     /// A copy, which equals its source.
-    pub fn try_copy(&self) -> Result<Arguments, AllocError>
-        ensures { IfOk result (λ a. a ≡ self.now) }
+    pub fn try_copy(&self) -> Result<Assignment, AllocError>
+        ensures { IfOk result (λ a. assign_of a ≡ assign_of self.now) }
     {
-        let values = self.values.try_copy()?;
-        Ok(Arguments { values })
+        Ok(Assignment {
+            targets: self.targets.try_copy()?,
+            values: self.values.try_copy()?,
+            next: self.next,
+        })
+    }
+
+    /// Whether both are the same.
+    pub fn is_same(&self, other: &Assignment) -> bool
+        ensures { IsTrue result ↔ (assign_of self.now ≡ assign_of other.now) }
+    {
+        self.next == other.next
+            && self.targets.is_same(&other.targets)
+            && self.values.is_same(&other.values)
     }
 }
 
-/// The words after a parallel assignment: all right sides are taken before the first target is
-/// written.
-pub fn assigned(slots: &Slots, values: &SlotExprs, words: Words) -> Words
-    ensures { words_of result ≡ with_slots (words_of words) slots.now (all_worth (words_of words) values.now) }
-{
-    let values = values.as_slice();
-    let mut after = words;
-    for (i, slot) in slots.as_slice().iter().enumerate() {
-        let Some(value) = values.get(i) else {
-            return after;
-        };
-        let bit = value.value(words);
-        slot.set(&mut after, bit);
+/// A test with two ways: to `next` where it is 1, to `other` where it is 0.
+#[derive(Drop)]
+pub struct Branch {
+    pub test: Test,
+    pub next: u32,
+    pub other: u32,
+}
+
+impl Branch {
+    /// A copy, which equals its source.
+    pub fn try_copy(&self) -> Result<Branch, AllocError>
+        ensures { IfOk result (λ b. if_of b ≡ if_of self.now) }
+    {
+        Ok(Branch {
+            test: self.test.try_copy()?,
+            next: self.next,
+            other: self.other,
+        })
     }
-    after
+
+    /// Whether both are the same.
+    pub fn is_same(&self, other: &Branch) -> bool
+        ensures { IsTrue result ↔ (if_of self.now ≡ if_of other.now) }
+    {
+        self.next == other.next && self.other == other.other && self.test.is_same(&other.test)
+    }
+}
+
+/// A call of the procedure whose first instruction has the number `callee`, and the number of the
+/// instruction that follows its return.
+#[derive(Drop)]
+pub struct Call {
+    pub callee: u32,
+    pub arguments: Arguments,
+    pub next: u32,
+}
+
+impl Call {
+    /// A copy, which equals its source.
+    pub fn try_copy(&self) -> Result<Call, AllocError>
+        ensures { IfOk result (λ c. call_of c ≡ call_of self.now) }
+    {
+        Ok(Call {
+            callee: self.callee,
+            arguments: self.arguments.try_copy()?,
+            next: self.next,
+        })
+    }
+
+    /// Whether both are the same.
+    pub fn is_same(&self, other: &Call) -> bool
+        ensures { IsTrue result ↔ (call_of self.now ≡ call_of other.now) }
+    {
+        self.next == other.next
+            && self.callee == other.callee
+            && self.arguments.is_same(&other.arguments)
+    }
 }
 
 /// What one instruction does, with the numbers of its successors. The next instruction follows it,
 /// or follows where its test is 1; the other one follows where its test is 0.
 #[derive(Drop)]
 pub enum Action {
-    Skip {
-        next: u32,
-    },
-    Goto {
-        next: u32,
-    },
+    Skip { next: u32 },
+    Goto { next: u32 },
     Return,
-    Assign {
-        targets: Slots,
-        values: SlotExprs,
-        next: u32,
-    },
-    If {
-        test: Test,
-        next: u32,
-        other: u32,
-    },
-    While {
-        test: Test,
-        next: u32,
-        other: u32,
-    },
-    Assert {
-        test: Test,
-        next: u32,
-    },
-    Assume {
-        test: Test,
-        next: u32,
-    },
-    Print {
-        values: SlotExprs,
-        next: u32,
-    },
-    Call {
-        callee: u32,
-        arguments: Arguments,
-        next: u32,
-    },
-}
-
-impl Slots {
-    /// Whether both are the same variables in order.
-    pub fn is_same(&self, other: &Slots) -> bool
-        ensures { Decides result (self.now ≡ other.now) }
-    {
-        let others = other.as_slice();
-        if self.items.len() != others.len() {
-            return false;
-        }
-        for (i, slot) in self.items.as_slice().iter().enumerate() {
-            if *slot != others[i] {
-                return false;
-            }
-        }
-        true
-    }
-}
-
-impl Arguments {
-    /// Whether both are the same expressions in order.
-    pub fn is_same(&self, other: &Arguments) -> bool
-        ensures { Decides result (self.now ≡ other.now) }
-    {
-        self.values.is_same(&other.values)
-    }
+    Assign(Assignment),
+    If(Branch),
+    While(Branch),
+    Assert { test: Test, next: u32 },
+    Assume { test: Test, next: u32 },
+    Print { values: SlotExprs, next: u32 },
+    Call(Call),
 }
 
 impl Action {
@@ -204,25 +141,9 @@ impl Action {
             Action::Skip { next } => Action::Skip { next: *next },
             Action::Goto { next } => Action::Goto { next: *next },
             Action::Return => Action::Return,
-            Action::Assign {
-                targets,
-                values,
-                next,
-            } => Action::Assign {
-                targets: targets.try_copy()?,
-                values: values.try_copy()?,
-                next: *next,
-            },
-            Action::If { test, next, other } => Action::If {
-                test: test.try_copy()?,
-                next: *next,
-                other: *other,
-            },
-            Action::While { test, next, other } => Action::While {
-                test: test.try_copy()?,
-                next: *next,
-                other: *other,
-            },
+            Action::Assign(assignment) => Action::Assign(assignment.try_copy()?),
+            Action::If(branch) => Action::If(branch.try_copy()?),
+            Action::While(branch) => Action::While(branch.try_copy()?),
             Action::Assert { test, next } => Action::Assert {
                 test: test.try_copy()?,
                 next: *next,
@@ -235,79 +156,24 @@ impl Action {
                 values: values.try_copy()?,
                 next: *next,
             },
-            Action::Call {
-                callee,
-                arguments,
-                next,
-            } => Action::Call {
-                callee: *callee,
-                arguments: arguments.try_copy()?,
-                next: *next,
-            },
+            Action::Call(call) => Action::Call(call.try_copy()?),
         })
     }
-}
 
-impl Action {
     /// Whether both are the same.
     pub fn is_same(&self, other: &Action) -> bool
-        ensures { Decides result (instruction_of self.now ≡ instruction_of other.now) }
+        ensures { IsTrue result ↔ (instruction_of self.now ≡ instruction_of other.now) }
     {
         use Action::{Assert, Assign, Assume, Call, Goto, If, Print, Return, Skip, While};
         match (self, other) {
             (Return, Return) => true,
             (Skip { next: m }, Skip { next: n }) | (Goto { next: m }, Goto { next: n }) => m == n,
-            (
-                If {
-                    test: t,
-                    next: m,
-                    other: e,
-                },
-                If {
-                    test: u,
-                    next: n,
-                    other: f,
-                },
-            )
-            | (
-                While {
-                    test: t,
-                    next: m,
-                    other: e,
-                },
-                While {
-                    test: u,
-                    next: n,
-                    other: f,
-                },
-            ) => { m == n && e == f && t.is_same(u) }
+            (Assign(a), Assign(b)) => a.is_same(b),
+            (If(a), If(b)) | (While(a), While(b)) => a.is_same(b),
             (Assert { test: t, next: m }, Assert { test: u, next: n })
             | (Assume { test: t, next: m }, Assume { test: u, next: n }) => m == n && t.is_same(u),
             (Print { values: a, next: m }, Print { values: b, next: n }) => m == n && a.is_same(b),
-            (
-                Assign {
-                    targets: s,
-                    values: a,
-                    next: m,
-                },
-                Assign {
-                    targets: t,
-                    values: b,
-                    next: n,
-                },
-            ) => m == n && s.is_same(t) && a.is_same(b),
-            (
-                Call {
-                    callee: c,
-                    arguments: a,
-                    next: m,
-                },
-                Call {
-                    callee: d,
-                    arguments: b,
-                    next: n,
-                },
-            ) => m == n && c == d && a.is_same(b),
+            (Call(a), Call(b)) => a.is_same(b),
             _ => false,
         }
     }

@@ -1,7 +1,8 @@
 //! Flat code.
-ghost use Rattle.std.specs.Prelude.{◌≡◌, IfOk, Decides, length, option_map, slice_get};
+ghost use Rattle.std.specs.Prelude.{◌≡◌, IfOk, IsTrue, ◌↔◌, length, option_map, slice_get};
 ghost use Rattle.std.specs.Option.{option_copied};
-ghost use Rattle.bp_code.specs.Listing.{heading_named};
+ghost use Rattle.bp_code.specs.Flat.{flat};
+ghost use Rattle.bp_code.specs.Compiled.{heading_named};
 ghost use Rattle.bp_code.specs.Programs.{IsOfProgram};
 
 use crate::headings::{Heading, find_heading};
@@ -20,7 +21,7 @@ pub struct Code {
 }
 
 impl Model for Code {
-    ghost use Rattle.bp_code.specs.Flat.{Flat};
+    ghost use Rattle.bp_code.specs.Flat.{Flat, flat};
     ghost use Rattle.bp_code.specs.Codes.{coded_flat};
 
     ghost Value = { Flat };
@@ -29,15 +30,16 @@ impl Model for Code {
 
     ghost use Rattle.bp_code.specs.Programs.{IsOfProgram};
 
-    ghost view = { λ c. record { headings = c.headings.items; globals = c.globals; instructions = c.instrs.items } };
+    ghost view = { λ c. flat c.headings.items c.globals c.instrs.items };
 
-    ghost invariant = { λ c. IsOfProgram (record { headings = c.headings.items; globals = c.globals; instructions = c.instrs.items }) };
+    ghost invariant = { λ c. IsOfProgram (flat c.headings.items c.globals c.instrs.items) };
 }
 
 impl Code {
+    /// The code with these headings, globals and instructions.
     pub(crate) fn new(headings: Vec<Heading>, globals: u32, instrs: Vec<Instr>) -> Code
-        requires { IsOfProgram (record { headings = headings.items; globals = globals; instructions = instrs.items }) }
-        ensures { result ≡ record { headings = headings.items; globals = globals; instructions = instrs.items } }
+        requires { IsOfProgram (flat headings.items globals instrs.items) }
+        ensures { result ≡ flat headings.items globals instrs.items }
     {
         Code {
             headings,
@@ -125,7 +127,7 @@ impl Code {
 impl Code {
     /// Whether both are the same code.
     pub fn is_same(&self, other: &Code) -> bool
-        ensures { Decides result (self.now ≡ other.now) }
+        ensures { IsTrue result ↔ (self.now ≡ other.now) }
     {
         self.globals == other.globals
             && same_headings(self.headings.as_slice(), other.headings.as_slice())
@@ -133,8 +135,9 @@ impl Code {
     }
 }
 
+/// Whether both lists have the same headings in order.
 fn same_headings(headings: &[Heading], others: &[Heading]) -> bool
-    ensures { Decides result (headings.now ≡ others.now) }
+    ensures { IsTrue result ↔ (headings.now ≡ others.now) }
 {
     if headings.len() != others.len() {
         return false;
@@ -147,8 +150,9 @@ fn same_headings(headings: &[Heading], others: &[Heading]) -> bool
     true
 }
 
+/// Whether both lists have the same instructions in order.
 fn same_instrs(instrs: &[Instr], others: &[Instr]) -> bool
-    ensures { Decides result (instrs.now ≡ others.now) }
+    ensures { IsTrue result ↔ (instrs.now ≡ others.now) }
 {
     if instrs.len() != others.len() {
         return false;
@@ -162,7 +166,7 @@ fn same_instrs(instrs: &[Instr], others: &[Instr]) -> bool
 }
 
 impl PartialEq for Code {
-    ghost use Rattle.std.specs.Prelude.{◌≡◌, Decides};
+    ghost use Rattle.std.specs.Prelude.{◌≡◌, IsTrue, ◌↔◌};
     ghost use Rattle.std.specs.Cmp.{partial_equiv_from_equiv};
     ghost use Rattle.bp_code.specs.Codes.{coded_flat};
     ghost use Rattle.bp_code.specs.Same.{same, same-equiv};
@@ -174,7 +178,7 @@ impl PartialEq for Code {
     /// Whether both are the same code.
     fn eq(&self, other: &Code) -> bool
         ensures gives { result ≡ same coded_flat self.now other.now }
-        ensures equal { Decides result (self.now ≡ other.now) }
+        ensures equal { IsTrue result ↔ (self.now ≡ other.now) }
     {
         self.is_same(other)
     }

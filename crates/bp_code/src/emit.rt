@@ -3,13 +3,14 @@ ghost use Rattle.std.specs.Prelude.{◌≡◌, ◌+◌, ◌^◌, ◌<◌, ◌≤
 ghost use Rattle.bp_tree.specs.Ast.{Branches, Loops};
 ghost use Rattle.bp_tree.specs.Views.{decision_of};
 ghost use Rattle.bp_tree.specs.Blocks.{block_of, statement_of};
-ghost use Rattle.bp_code.specs.Scopes.{scope_of};
+ghost use Rattle.bp_code.specs.Environments.{environment_of};
 ghost use Rattle.bp_code.specs.Known.{IsKnown, IsKnownIn};
-ghost use Rattle.bp_code.specs.Listing.{first_of, block_size, size, listing, listed};
+ghost use Rattle.bp_code.specs.Compiled.{block_entry, block_size, size, with_block, with_statement};
 
-use crate::actions::{Action, Arguments};
+use crate::actions::{Action, Assignment, Branch, Call};
+use crate::expr_lists::Arguments;
 use crate::instrs::Instr;
-use crate::scopes::{Scope, size_of, size_of_block};
+use crate::layout::{Environment, size_of, size_of_block};
 use crate::translate::{callee, exprs, label, slots, test};
 use bp_tree::{Block, Decider, Form, Stmt};
 use std::alloc::AllocError;
@@ -26,7 +27,7 @@ pub(crate) fn push(out: &mut Vec<Instr>, instr: Instr) -> Result<(), AllocError>
 /// Where control goes into a block whose first instruction would have the number `at`, when `next`
 /// follows the block.
 fn first(block: &Block, at: u32, next: u32) -> u32
-    ensures { result ≡ first_of block.now at next }
+    ensures { result ≡ block_entry block.now at next }
 {
     if block.as_slice().is_empty() {
         next
@@ -39,7 +40,7 @@ fn first(block: &Block, at: u32, next: u32) -> u32
 /// instruction would have the number `after`, or to `next`.
 fn following(stmts: &[Stmt], i: usize, after: u32, next: u32) -> u32
     requires { i < length stmts.now }
-    ensures { result ≡ first_of (block_of (drop (i + 1) stmts.now)) after next }
+    ensures { result ≡ block_entry (block_of (drop (i + 1) stmts.now)) after next }
 {
     if i + 1 < stmts.len() { after } else { next }
 }
@@ -48,66 +49,77 @@ fn following(stmts: &[Stmt], i: usize, after: u32, next: u32) -> u32
 #[cycle(emit)]
 pub(crate) fn emit_block(
     out: &mut Vec<Instr>,
-    scope: &Scope,
+    environment: &Environment,
     stmts: &[Stmt],
     next: u32,
 ) -> Result<(), AllocError>
     requires room { length out.old.items + block_size (block_of stmts.now) < 2 ^ 32 }
-    requires known { IsKnown (scope_of scope.now) (block_of stmts.now) }
-    ensures code { OnOk result (out.new.items ≡ out.old.items ++ listing (scope_of scope.now) (block_of stmts.now) (length out.old.items) next) }
-    ensures grown { OnOk result (length out.new.items ≡ length out.old.items + block_size (block_of stmts.now)) }
+    requires known { IsKnown (environment_of environment.now) (block_of stmts.now) }
+    ensures code { let environment = environment_of environment.now in
+        let block = block_of stmts.now in
+        OnOk result (out.new.items ≡ with_block environment out.old.items block next) }
+    ensures grown { let grown = length out.old.items + block_size (block_of stmts.now) in
+        OnOk result (length out.new.items ≡ grown) }
 {
     for (i, stmt) in stmts.iter().enumerate() {
         let after = out.len() as u32 + size_of(stmt.form());
         let follows = following(stmts, i, after, next);
-        emit(out, scope, stmt.form(), follows)?;
+        emit(out, environment, stmt.form(), follows)?;
     }
     Ok(())
 }
 
 /// Adds the instructions of a statement, which `next` follows.
 #[cycle(emit)]
-fn emit(out: &mut Vec<Instr>, scope: &Scope, form: &Form, next: u32) -> Result<(), AllocError>
+fn emit(
+    out: &mut Vec<Instr>,
+    environment: &Environment,
+    form: &Form,
+    next: u32,
+) -> Result<(), AllocError>
     requires room { length out.old.items + size (statement_of form.now) < 2 ^ 32 }
-    requires known { IsKnownIn (scope_of scope.now) (statement_of form.now) }
-    ensures code { OnOk result (out.new.items ≡ out.old.items ++ listed (scope_of scope.now) (statement_of form.now) (length out.old.items) next) }
-    ensures grown { OnOk result (length out.new.items ≡ length out.old.items + size (statement_of form.now)) }
+    requires known { IsKnownIn (environment_of environment.now) (statement_of form.now) }
+    ensures code { let environment = environment_of environment.now in
+        let statement = statement_of form.now in
+        OnOk result (out.new.items ≡ with_statement environment out.old.items statement next) }
+    ensures grown { let grown = length out.old.items + size (statement_of form.now) in
+        OnOk result (length out.new.items ≡ grown) }
 {
     let alloc = *out.allocator();
     let action = match form {
-        Form::If(d, a, b) => return emit_if(out, scope, d, a, b, next),
-        Form::While(d, body) => return emit_while(out, scope, d, body, next),
+        Form::If(d, a, b) => return emit_if(out, environment, d, a, b, next),
+        Form::While(d, body) => return emit_while(out, environment, d, body, next),
         Form::Skip => Action::Skip { next },
         Form::Goto(to) => Action::Goto {
-            next: label(scope, to),
+            next: label(environment, to),
         },
         Form::Return => Action::Return,
         Form::Assign(targets, values) => {
-            let targets = slots(alloc, scope, targets)?;
-            let values = exprs(alloc, scope, values)?;
-            Action::Assign {
+            let targets = slots(alloc, environment, targets)?;
+            let values = exprs(alloc, environment, values)?;
+            Action::Assign(Assignment {
                 targets,
                 values,
                 next,
-            }
+            })
         }
         Form::Assert(d) => Action::Assert {
-            test: test(alloc, scope, d)?,
+            test: test(alloc, environment, d)?,
             next,
         },
         Form::Assume(d) => Action::Assume {
-            test: test(alloc, scope, d)?,
+            test: test(alloc, environment, d)?,
             next,
         },
         Form::Print(values) => Action::Print {
-            values: exprs(alloc, scope, values)?,
+            values: exprs(alloc, environment, values)?,
             next,
         },
-        Form::Call(name, arguments) => Action::Call {
-            callee: callee(scope, name),
-            arguments: Arguments::new(exprs(alloc, scope, arguments)?),
+        Form::Call(name, arguments) => Action::Call(Call {
+            callee: callee(environment, name),
+            arguments: Arguments::new(exprs(alloc, environment, arguments)?),
             next,
-        },
+        }),
     };
     push(out, Instr::new(action))
 }
@@ -116,51 +128,61 @@ fn emit(out: &mut Vec<Instr>, scope: &Scope, form: &Form, next: u32) -> Result<(
 #[cycle(emit)]
 fn emit_if(
     out: &mut Vec<Instr>,
-    scope: &Scope,
+    environment: &Environment,
     d: &Decider,
     a: &Block,
     b: &Block,
     next: u32,
 ) -> Result<(), AllocError>
-    requires room { length out.old.items + size (Branches (decision_of d.now) a.now b.now) < 2 ^ 32 }
-    requires known { IsKnownIn (scope_of scope.now) (Branches (decision_of d.now) a.now b.now) }
-    ensures code { OnOk result (out.new.items ≡ out.old.items ++ listed (scope_of scope.now) (Branches (decision_of d.now) a.now b.now) (length out.old.items) next) }
-    ensures grown { OnOk result (length out.new.items ≡ length out.old.items + size (Branches (decision_of d.now) a.now b.now)) }
+    requires room { let statement = Branches (decision_of d.now) a.now b.now in
+        length out.old.items + size statement < 2 ^ 32 }
+    requires known { let statement = Branches (decision_of d.now) a.now b.now in
+        IsKnownIn (environment_of environment.now) statement }
+    ensures code { let environment = environment_of environment.now in
+        let statement = Branches (decision_of d.now) a.now b.now in
+        OnOk result (out.new.items ≡ with_statement environment out.old.items statement next) }
+    ensures grown { let statement = Branches (decision_of d.now) a.now b.now in
+        OnOk result (length out.new.items ≡ length out.old.items + size statement) }
 {
     let at = out.len() as u32;
     let second = at + 1 + size_of_block(a.as_slice());
-    let test = test(*out.allocator(), scope, d)?;
-    let action = Action::If {
+    let test = test(*out.allocator(), environment, d)?;
+    let branch = Branch {
         test,
         next: first(a, at + 1, next),
         other: first(b, second, next),
     };
-    push(out, Instr::new(action))?;
-    emit_block(out, scope, a.as_slice(), next)?;
-    emit_block(out, scope, b.as_slice(), next)
+    push(out, Instr::new(Action::If(branch)))?;
+    emit_block(out, environment, a.as_slice(), next)?;
+    emit_block(out, environment, b.as_slice(), next)
 }
 
 /// Adds the test of a loop, then its body, which the test follows.
 #[cycle(emit)]
 fn emit_while(
     out: &mut Vec<Instr>,
-    scope: &Scope,
+    environment: &Environment,
     d: &Decider,
     body: &Block,
     next: u32,
 ) -> Result<(), AllocError>
-    requires room { length out.old.items + size (Loops (decision_of d.now) body.now) < 2 ^ 32 }
-    requires known { IsKnownIn (scope_of scope.now) (Loops (decision_of d.now) body.now) }
-    ensures code { OnOk result (out.new.items ≡ out.old.items ++ listed (scope_of scope.now) (Loops (decision_of d.now) body.now) (length out.old.items) next) }
-    ensures grown { OnOk result (length out.new.items ≡ length out.old.items + size (Loops (decision_of d.now) body.now)) }
+    requires room { let statement = Loops (decision_of d.now) body.now in
+        length out.old.items + size statement < 2 ^ 32 }
+    requires known { let statement = Loops (decision_of d.now) body.now in
+        IsKnownIn (environment_of environment.now) statement }
+    ensures code { let environment = environment_of environment.now in
+        let statement = Loops (decision_of d.now) body.now in
+        OnOk result (out.new.items ≡ with_statement environment out.old.items statement next) }
+    ensures grown { let statement = Loops (decision_of d.now) body.now in
+        OnOk result (length out.new.items ≡ length out.old.items + size statement) }
 {
     let at = out.len() as u32;
-    let test = test(*out.allocator(), scope, d)?;
-    let action = Action::While {
+    let test = test(*out.allocator(), environment, d)?;
+    let branch = Branch {
         test,
         next: first(body, at + 1, at),
         other: next,
     };
-    push(out, Instr::new(action))?;
-    emit_block(out, scope, body.as_slice(), at)
+    push(out, Instr::new(Action::While(branch)))?;
+    emit_block(out, environment, body.as_slice(), at)
 }

@@ -1,12 +1,12 @@
 //! Expressions over slots.
-ghost use Rattle.std.specs.Prelude.{◌≡◌, ◌<◌, ◌≤◌, IfOk, Decides, map, length};
-ghost use Rattle.bp_code.specs.Values.{operation};
-ghost use Rattle.bp_code.specs.Steps.{with_slots, worth, all_worth, test_worth, bits_from};
-ghost use Rattle.bp_code.specs.Bits.{bits_of, words_of};
+ghost use Rattle.std.specs.Prelude.{◌≡◌, ◌↔◌, IfOk, IsTrue};
+ghost use Rattle.bp_code.specs.Values.{operation_value};
+ghost use Rattle.bp_code.specs.Steps.{formula_value, test_value};
+ghost use Rattle.bp_code.specs.Bits.{store_of};
 ghost use Rattle.bp_code.specs.Views.{formula_of, test_of};
 
 use crate::slots::Slot;
-use crate::words::Words;
+use crate::stores::Store;
 use bp_tree::Op;
 use std::alloc::{AllocError, Global};
 use std::marker::Model;
@@ -48,7 +48,7 @@ impl Model for SlotSub {
 
 /// What an operator makes of two bits.
 pub fn apply(op: Op, left: bool, right: bool) -> bool
-    ensures { result ≡ operation op left right }
+    ensures { result ≡ operation_value op left right }
 {
     match op {
         Op::Equal => left == right,
@@ -61,6 +61,7 @@ pub fn apply(op: Op, left: bool, right: bool) -> bool
 }
 
 impl SlotSub {
+    /// The expression as an operand.
     pub fn new(alloc: Global, expr: SlotExpr) -> Result<SlotSub, AllocError>
         ensures { IfOk result (λ s. s ≡ formula_of expr) }
     {
@@ -71,10 +72,10 @@ impl SlotSub {
 
     /// The operand's value.
     #[cycle(slot_value)]
-    pub fn value(&self, words: Words) -> bool
-        ensures { result ≡ worth (words_of words) self.now }
+    pub fn value(&self, store: Store) -> bool
+        ensures { result ≡ formula_value (store_of store) self.now }
     {
-        self.inner.value(words)
+        self.inner.value(store)
     }
 
     /// A copy, which equals its source.
@@ -88,21 +89,29 @@ impl SlotSub {
             inner: Box::new(alloc, expr)?,
         })
     }
+
+    /// Whether both are the same expression.
+    #[cycle(slot_same)]
+    pub fn is_same(&self, other: &SlotSub) -> bool
+        ensures { IsTrue result ↔ (self.now ≡ other.now) }
+    {
+        self.inner.is_same(&other.inner)
+    }
 }
 
 impl SlotExpr {
     /// The expression's value.
     #[cycle(slot_value)]
-    pub fn value(&self, words: Words) -> bool
-        ensures { result ≡ worth (words_of words) (formula_of self.now) }
+    pub fn value(&self, store: Store) -> bool
+        ensures { result ≡ formula_value (store_of store) (formula_of self.now) }
     {
         match self {
             SlotExpr::Const(b) => *b,
-            SlotExpr::Var(slot) => slot.get(words),
-            SlotExpr::Not(e) => !e.value(words),
+            SlotExpr::Var(slot) => slot.get(store),
+            SlotExpr::Not(e) => !e.value(store),
             SlotExpr::Binary(op, left, right) => {
-                let left = left.value(words);
-                apply(*op, left, right.value(words))
+                let left = left.value(store);
+                apply(*op, left, right.value(store))
             }
         }
     }
@@ -122,23 +131,11 @@ impl SlotExpr {
             }
         }
     }
-}
 
-impl SlotSub {
-    /// Whether both are the same expression.
-    #[cycle(slot_same)]
-    pub fn is_same(&self, other: &SlotSub) -> bool
-        ensures { Decides result (self.now ≡ other.now) }
-    {
-        self.inner.is_same(&other.inner)
-    }
-}
-
-impl SlotExpr {
     /// Whether both are the same expression.
     #[cycle(slot_same)]
     pub fn is_same(&self, other: &SlotExpr) -> bool
-        ensures { Decides result (formula_of self.now ≡ formula_of other.now) }
+        ensures { IsTrue result ↔ (formula_of self.now ≡ formula_of other.now) }
     {
         match (self, other) {
             (SlotExpr::Const(a), SlotExpr::Const(b)) => a == b,
@@ -163,12 +160,12 @@ pub enum Test {
 
 impl Test {
     /// Whether the test is 1, where the choice bit is this one.
-    pub fn holds(&self, words: Words, bit: bool) -> bool
-        ensures { result ≡ test_worth (words_of words) bit (test_of self.now) }
+    pub fn holds(&self, store: Store, bit: bool) -> bool
+        ensures { result ≡ test_value (store_of store) bit (test_of self.now) }
     {
         match self {
             Test::Choice => bit,
-            Test::Value(e) => e.value(words),
+            Test::Value(e) => e.value(store),
         }
     }
 
@@ -181,81 +178,15 @@ impl Test {
             Test::Value(e) => Ok(Test::Value(e.try_copy()?)),
         }
     }
-}
 
-/// Expressions in order: right sides, arguments or printed values.
-#[derive(Drop)]
-pub struct SlotExprs {
-    items: Vec<SlotExpr>,
-}
-
-impl Model for SlotExprs {
-    ghost use Rattle.std.specs.Prelude.{List, map};
-    ghost use Rattle.std.specs.Coded.{coded_list};
-    ghost use Rattle.bp_code.specs.Flat.{Formula};
-    ghost use Rattle.bp_code.specs.Formulas.{coded_formula};
-
-    ghost Value = { List Formula };
-
-    ghost coded = { coded_list coded_formula };
-
-    ghost use Rattle.bp_code.specs.Views.{formula_of};
-
-    ghost view = { λ es. map formula_of es.items.items };
-}
-
-impl SlotExprs {
-    pub fn new(items: Vec<SlotExpr>) -> SlotExprs
-        ensures { result ≡ map formula_of items.items }
-    {
-        SlotExprs { items }
-    }
-
-    pub fn as_slice(&self) -> &[SlotExpr]
-        ensures { map formula_of result.now ≡ self.now }
-    {
-        self.items.as_slice()
-    }
-
-    /// A copy, which equals its source.
-    pub fn try_copy(&self) -> Result<SlotExprs, AllocError>
-        ensures { IfOk result (λ es. es ≡ self.now) }
-    {
-        let mut items = Vec::new(*self.items.allocator());
-        for expr in self.items.as_slice() {
-            items.push(expr.try_copy()?)?;
-        }
-        Ok(SlotExprs { items })
-    }
-}
-
-impl Test {
     /// Whether both are the same test.
     pub fn is_same(&self, other: &Test) -> bool
-        ensures { Decides result (test_of self.now ≡ test_of other.now) }
+        ensures { IsTrue result ↔ (test_of self.now ≡ test_of other.now) }
     {
         match (self, other) {
             (Test::Choice, Test::Choice) => true,
             (Test::Value(a), Test::Value(b)) => a.is_same(b),
             _ => false,
         }
-    }
-}
-
-impl SlotExprs {
-    /// Whether both are the same expressions in order.
-    pub fn is_same(&self, other: &SlotExprs) -> bool
-        ensures { Decides result (self.now ≡ other.now) }
-    {
-        let others = other.as_slice();
-        if self.items.len() != others.len() {
-            return false;
-        }
-        for (i, expr) in self.items.as_slice().iter().enumerate() {
-            if !expr.is_same(&others[i]) {
-                return false;
-            }
-        }
-        true
     }
 }

@@ -1,7 +1,8 @@
 //! Headings of procedures.
-ghost use Rattle.std.specs.Prelude.{◌≡◌, IfOk, Decides, string_bytes, bytes_eq};
+ghost use Rattle.std.specs.Prelude.{◌≡◌, IfOk, IsTrue, ◌↔◌, string_bytes, bytes_eq};
 ghost use Rattle.std.specs.Option.{option_copied};
-ghost use Rattle.bp_code.specs.Listing.{heading_named};
+ghost use Rattle.bp_code.specs.Flat.{heading};
+ghost use Rattle.bp_code.specs.Compiled.{heading_named};
 
 use std::alloc::AllocError;
 use std::marker::Model;
@@ -25,12 +26,13 @@ impl Model for Heading {
 
     ghost coded = { coded_heading };
 
-    ghost view = { λ h. record { name = string_bytes h.name; formals = h.formals; locals = h.locals; entry = h.entry } };
+    ghost view = { λ h. flat.heading (string_bytes h.name) h.formals h.locals h.entry };
 }
 
 impl Heading {
+    /// The heading with this name and these numbers.
     pub fn new(name: String, formals: u32, locals: u32, entry: u32) -> Heading
-        ensures { result ≡ record { name = string_bytes name; formals = formals; locals = locals; entry = entry } }
+        ensures { result ≡ heading (string_bytes name) formals locals entry }
     {
         Heading {
             name,
@@ -40,24 +42,28 @@ impl Heading {
         }
     }
 
+    /// The procedure's name.
     pub fn name(&self) -> &str
         ensures { result.now ≡ self.now.name }
     {
         self.name.as_str()
     }
 
+    /// How many formals the procedure has.
     pub fn formals(&self) -> u32
         ensures { result ≡ self.now.formals }
     {
         self.formals
     }
 
+    /// How many declared locals the procedure has.
     pub fn locals(&self) -> u32
         ensures { result ≡ self.now.locals }
     {
         self.locals
     }
 
+    /// The number of the procedure's first instruction.
     pub fn entry(&self) -> u32
         ensures { result ≡ self.now.entry }
     {
@@ -66,7 +72,7 @@ impl Heading {
 
     /// Whether both are the same heading.
     pub fn is_same(&self, other: &Heading) -> bool
-        ensures { Decides result (self.now ≡ other.now) }
+        ensures { IsTrue result ↔ (self.now ≡ other.now) }
     {
         self.name.as_str() == other.name.as_str()
             && self.formals == other.formals

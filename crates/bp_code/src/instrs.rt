@@ -1,7 +1,7 @@
 //! Instructions of flat code.
-ghost use Rattle.std.specs.Prelude.{◌≡◌, IfOk, Decides};
+ghost use Rattle.std.specs.Prelude.{◌≡◌, IfOk, IsTrue, ◌↔◌};
 ghost use Rattle.bp_code.specs.Instructions.{instruction_of};
-ghost use Rattle.bp_code.specs.Kinds.{kind_of, next_of, other_of, callee_of};
+ghost use Rattle.bp_code.specs.Kinds.{instruction_kind, next_of, other_of, callee_of};
 
 use crate::actions::Action;
 use std::alloc::AllocError;
@@ -42,26 +42,28 @@ pub enum Kind {
 }
 
 impl Instr {
+    /// The instruction that does this.
     pub(crate) fn new(action: Action) -> Instr
         ensures { result ≡ instruction_of action }
     {
         Instr { action }
     }
 
+    /// The kind of this instruction.
     pub fn kind(&self) -> Kind
-        ensures { result ≡ kind_of self.now }
+        ensures { result ≡ instruction_kind self.now }
     {
         match &self.action {
             Action::Skip { .. } => Kind::Skip,
             Action::Goto { .. } => Kind::Goto,
             Action::Return => Kind::Return,
-            Action::Assign { .. } => Kind::Assign,
-            Action::If { .. } => Kind::If,
-            Action::While { .. } => Kind::While,
+            Action::Assign(_) => Kind::Assign,
+            Action::If(_) => Kind::If,
+            Action::While(_) => Kind::While,
             Action::Assert { .. } => Kind::Assert,
             Action::Assume { .. } => Kind::Assume,
             Action::Print { .. } => Kind::Print,
-            Action::Call { .. } => Kind::Call,
+            Action::Call(_) => Kind::Call,
         }
     }
 
@@ -75,13 +77,12 @@ impl Instr {
             Action::Return => None,
             Action::Skip { next }
             | Action::Goto { next }
-            | Action::Assign { next, .. }
-            | Action::If { next, .. }
-            | Action::While { next, .. }
             | Action::Assert { next, .. }
             | Action::Assume { next, .. }
-            | Action::Print { next, .. }
-            | Action::Call { next, .. } => Some(*next),
+            | Action::Print { next, .. } => Some(*next),
+            Action::Assign(assignment) => Some(assignment.next),
+            Action::If(branch) | Action::While(branch) => Some(branch.next),
+            Action::Call(call) => Some(call.next),
         }
     }
 
@@ -91,7 +92,7 @@ impl Instr {
         ensures { result ≡ other_of self.now }
     {
         match &self.action {
-            Action::If { other, .. } | Action::While { other, .. } => Some(*other),
+            Action::If(branch) | Action::While(branch) => Some(branch.other),
             _ => None,
         }
     }
@@ -101,7 +102,7 @@ impl Instr {
         ensures { result ≡ callee_of self.now }
     {
         match &self.action {
-            Action::Call { callee, .. } => Some(*callee),
+            Action::Call(call) => Some(call.callee),
             _ => None,
         }
     }
@@ -116,11 +117,12 @@ impl Instr {
 
     /// Whether both are the same instruction.
     pub fn is_same(&self, other: &Instr) -> bool
-        ensures { Decides result (self.now ≡ other.now) }
+        ensures { IsTrue result ↔ (self.now ≡ other.now) }
     {
         self.action.is_same(&other.action)
     }
 
+    /// What this instruction does.
     pub(crate) fn action(&self) -> &Action
         ensures { instruction_of result.now ≡ self.now }
     {

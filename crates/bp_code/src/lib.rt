@@ -4,26 +4,28 @@
 
 mod actions;
 pub mod code;
-pub mod deeds;
+pub mod effects;
 mod emit;
+mod expr_lists;
 mod exprs;
 pub mod headings;
 pub mod instrs;
 pub mod laws;
+mod layout;
+pub mod limits;
 mod programs;
-mod scopes;
 mod slots;
+pub mod stores;
 mod translate;
-pub mod words;
 pub mod writing;
 
 pub use code::Code;
-pub use deeds::Deed;
+pub use effects::Effect;
 pub use headings::Heading;
 pub use instrs::{Instr, Kind};
 pub use laws::steps_alike;
 pub use programs::compile;
-pub use words::Words;
+pub use stores::Store;
 pub use writing::{WriteFault, put, put_each};
 
 #[cfg(test)]

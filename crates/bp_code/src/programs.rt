@@ -1,8 +1,9 @@
 //! The code of a whole program.
 ghost use Rattle.std.specs.Prelude.{◌≡◌, ◌+◌, ◌^◌, ◌<◌, ◌≤◌, ◌++◌, ◌∷◌, [], IfOk, OnOk, length};
-ghost use Rattle.bp_code.specs.Flat.{Return};
+ghost use Rattle.bp_code.specs.declared.limits.TheConstants.{SLOTS};
+ghost use Rattle.bp_tree.specs.Ast.{Program};
 ghost use Rattle.bp_code.specs.Known.{IsKnown};
-ghost use Rattle.bp_code.specs.Listing.{block_size, procedures_size, headings_from, listing, flat_of};
+ghost use Rattle.bp_code.specs.Compiled.{block_size, procedures_size, headings_from, environment_at, procedure_code, flat_of};
 ghost use Rattle.bp_syntax.specs.Texts.{HasText};
 ghost use Rattle.bp_check.specs.Faults.{IsLawful};
 ghost use Rattle.bp_code.specs.Compilable.{IsCompilable, HaveFew};
@@ -13,7 +14,7 @@ use crate::code::Code;
 use crate::emit::{emit_block, push};
 use crate::headings::Heading;
 use crate::instrs::Instr;
-use crate::scopes::{Scope, size_of_block};
+use crate::layout::{Environment, size_of_block};
 use bp_check::Checked;
 use bp_tree::{Name, Proc};
 use std::alloc::{AllocError, Global};
@@ -44,29 +45,33 @@ pub(crate) fn emit_proc(
     proc: &Proc,
     headings: &[Heading],
 ) -> Result<(), AllocError>
-    requires globals { length globals.now ≤ 128 }
-    requires variables { length (proc.now.formals ++ proc.now.locals) ≤ 128 }
+    requires globals { length globals.now ≤ SLOTS }
+    requires variables { length (proc.now.formals ++ proc.now.locals) ≤ SLOTS }
     requires room { length out.old.items + block_size proc.now.body + 1 < 2 ^ 32 }
-    requires known { IsKnown (record { globals = globals.now; procedure = proc.now; start = length out.old.items; headings = headings.now }) proc.now.body }
-    ensures code { OnOk result (out.new.items ≡ out.old.items ++ (listing (record { globals = globals.now; procedure = proc.now; start = length out.old.items; headings = headings.now }) proc.now.body (length out.old.items) (length out.old.items + block_size proc.now.body) ++ Return ∷ [])) }
-    ensures grown { OnOk result (length out.new.items ≡ length out.old.items + block_size proc.now.body + 1) }
+    requires known { let start = length out.old.items in
+        IsKnown (environment_at globals.now headings.now proc.now start) proc.now.body }
+    ensures code { let start = length out.old.items in
+        let environment = environment_at globals.now headings.now proc.now start in
+        OnOk result (out.new.items ≡ out.old.items ++ procedure_code environment) }
+    ensures grown { let grown = length out.old.items + block_size proc.now.body + 1 in
+        OnOk result (length out.new.items ≡ grown) }
 {
     let start = out.len() as u32;
-    let scope = Scope {
+    let environment = Environment {
         globals,
         proc,
         start,
         headings,
     };
     let end = start + size_of_block(proc.body());
-    emit_block(out, &scope, proc.body(), end)?;
+    emit_block(out, &environment, proc.body(), end)?;
     push(out, Instr::new(Action::Return))
 }
 
-/// The code of a lawful tree: its listing, which stands for it.
+/// The code of a lawful tree: its instructions, which stands for it.
 pub fn compile(alloc: Global, checked: &Checked) -> Result<Code, AllocError>
     ensures stands { IfOk result (λ c. StandsFor c checked.now) }
-    ensures listed { IfOk result (λ c. c ≡ flat_of checked.now) }
+    ensures compiled { IfOk result (λ c. c ≡ flat_of checked.now) }
 {
     let tree = checked.tree();
     tree.has_few_statements();
@@ -78,8 +83,10 @@ fn compile_program(alloc: Global, globals: &[Name], procs: &[Proc]) -> Result<Co
     requires able { IsCompilable (record { globals = globals.now; procedures = procs.now }) }
     requires lawful { IsLawful (record { globals = globals.now; procedures = procs.now }) }
     requires of_text { HasText (record { globals = globals.now; procedures = procs.now }) }
-    ensures stands { IfOk result (λ c. StandsFor c (record { globals = globals.now; procedures = procs.now })) }
-    ensures listed { IfOk result (λ c. c ≡ flat_of (record { globals = globals.now; procedures = procs.now })) }
+    ensures stands { let t : Program = record { globals = globals.now; procedures = procs.now } in
+        IfOk result (λ c. StandsFor c t) }
+    ensures compiled { let t : Program = record { globals = globals.now; procedures = procs.now } in
+        IfOk result (λ c. c ≡ flat_of t) }
 {
     let headings = headings_of(alloc, procs)?;
     let mut instrs = Vec::new(alloc);

@@ -1,10 +1,10 @@
 // Each public function once on its happy path.
-use crate::actions::Action;
+use crate::actions::{Action, Branch};
 use crate::exprs::Test;
 use crate::instrs::Instr;
 use crate::programs::emit_proc;
-use crate::words::{bit_at, with_bit, word_of};
-use crate::{Code, Deed, Heading, Kind, Words, WriteFault, compile, put, put_each};
+use crate::stores::{bit_at, with_bit, word_of};
+use crate::{Code, Effect, Heading, Kind, Store, WriteFault, compile, put, put_each};
 use bp_check::check;
 use bp_syntax::read;
 use bp_tree::{Block, Decider, Form, Name, Names, Proc, Stmt};
@@ -35,20 +35,20 @@ fn reads_and_writes_bits(rt: HostRuntime) {
 
 #[test]
 fn carries_out_an_instruction(rt: HostRuntime) -> Result<(), Fail> {
-    let words = Words {
+    let store = Store {
         globals: 5,
         locals: 0,
     };
-    let instr = Instr::new(Action::If {
+    let instr = Instr::new(Action::If(Branch {
         test: Test::Choice,
         next: 6,
         other: 7,
-    });
+    }));
     assert!(&rt; instr.kind() == Kind::If);
     assert_eq!(&rt; instr.next(), Some(6));
     assert_eq!(&rt; instr.other(), Some(7));
     assert_eq!(&rt; instr.callee(), None);
-    assert!(&rt; instr.act(words, false) == Deed::Goes { next: 7, words });
+    assert!(&rt; instr.effect(store, false) == Effect::Continues { next: 7, store });
     let copy = instr.try_copy()?;
     assert!(&rt; copy.is_same(&instr));
     Ok(())

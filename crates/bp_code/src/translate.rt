@@ -3,91 +3,115 @@ ghost use Rattle.std.specs.Prelude.{◌≡◌, ◌+◌, ◌^◌, ◌<◌, ◌≤
 ghost use Rattle.bp_tree.specs.Views.{expression_of, decision_of};
 ghost use Rattle.bp_tree.specs.Blocks.{block_of, statement_of};
 ghost use Rattle.bp_code.specs.Views.{formula_of, test_of};
-ghost use Rattle.bp_code.specs.Scopes.{scope_of};
-ghost use Rattle.bp_code.specs.Slots.{slot_of};
-ghost use Rattle.bp_code.specs.Compilable.{HasVariables, HaveVariables, HasTest, AreVariables};
-ghost use Rattle.bp_code.specs.Known.{HasLabel, HasHeading, IsKnown, IsKnownIn};
-ghost use Rattle.bp_code.specs.Listing.{slot_in, slots_in, formula_in, formulas_in, test_in, label_in, callee_in, block_size, size, listing, listed};
+ghost use Rattle.bp_code.specs.Environments.{environment_of};
+ghost use Rattle.bp_syntax.specs.NamesIn.{EachName, NamesInExpression, NamesInExpressions, NamesInDecision};
+ghost use Rattle.bp_code.specs.Known.{HasSlot, HasLabel, HasHeading};
+ghost use Rattle.bp_code.specs.Compiled.{slot_in, slots_in, formula_in, formulas_in, test_in, label_in, callee_in, block_size, size, block_code, statement_code};
 
-use crate::actions::Slots;
-use crate::exprs::{SlotExpr, SlotExprs, SlotSub, Test};
+use crate::expr_lists::SlotExprs;
+use crate::exprs::{SlotExpr, SlotSub, Test};
 use crate::headings::find_heading;
-use crate::scopes::{Scope, number_of_label, slot_named};
-use crate::slots::Slot;
+use crate::layout::{Environment, number_of_label, slot_named};
+use crate::slots::{Slot, Slots};
 use bp_tree::{Decider, Expr, Exprs, Name, Names};
 use std::alloc::{AllocError, Global};
 
-pub(crate) fn slot(scope: &Scope, name: &Name) -> Slot
-    requires { IsSome (slot_of scope.now.globals.now scope.now.proc.now name.now.text) }
-    ensures { result ≡ slot_in (scope_of scope.now) name.now.text }
+/// The slot of a declared variable.
+pub(crate) fn slot(environment: &Environment, name: &Name) -> Slot
+    requires { HasSlot (environment_of environment.now) name.now }
+    ensures { result ≡ slot_in (environment_of environment.now) name.now.text }
 {
-    slot_named(scope.globals, scope.proc, name.text()).unwrap()
+    slot_named(environment.globals, environment.proc, name.text()).unwrap()
 }
 
-pub(crate) fn slots(alloc: Global, scope: &Scope, names: &Names) -> Result<Slots, AllocError>
-    requires { AreVariables scope.now.globals.now scope.now.proc.now names.now }
-    ensures { IfOk result (λ s. s ≡ slots_in (scope_of scope.now) names.now) }
+/// The slots of declared variables, in order.
+pub(crate) fn slots(
+    alloc: Global,
+    environment: &Environment,
+    names: &Names,
+) -> Result<Slots, AllocError>
+    requires { EachName (HasSlot (environment_of environment.now)) names.now }
+    ensures { IfOk result (λ s. s ≡ slots_in (environment_of environment.now) names.now) }
 {
     let mut items = Vec::new(alloc);
     for name in names.as_slice() {
-        items.push(slot(scope, name))?;
+        items.push(slot(environment, name))?;
     }
     Ok(Slots::new(items))
 }
 
-pub(crate) fn expr(alloc: Global, scope: &Scope, e: &Expr) -> Result<SlotExpr, AllocError>
-    requires { HasVariables scope.now.globals.now scope.now.proc.now (expression_of e.now) }
-    ensures { IfOk result (λ f. formula_of f ≡ formula_in (scope_of scope.now) (expression_of e.now)) }
+/// The expression over slots that stands for an expression over names.
+pub(crate) fn expr(
+    alloc: Global,
+    environment: &Environment,
+    e: &Expr,
+) -> Result<SlotExpr, AllocError>
+    requires { NamesInExpression (HasSlot (environment_of environment.now)) (expression_of e.now) }
+    ensures { let formula = formula_in (environment_of environment.now) (expression_of e.now) in
+        IfOk result (λ f. formula_of f ≡ formula) }
 {
     match e {
         Expr::Const(b) => Ok(SlotExpr::Const(*b)),
-        Expr::Var(name) => Ok(SlotExpr::Var(slot(scope, name))),
+        Expr::Var(name) => Ok(SlotExpr::Var(slot(environment, name))),
         Expr::Not(e) => {
-            let e = expr(alloc, scope, e.get())?;
+            let e = expr(alloc, environment, e.get())?;
             Ok(SlotExpr::Not(SlotSub::new(alloc, e)?))
         }
         Expr::Binary(op, left, right) => {
-            let left = expr(alloc, scope, left.get())?;
-            let right = expr(alloc, scope, right.get())?;
+            let left = expr(alloc, environment, left.get())?;
+            let right = expr(alloc, environment, right.get())?;
             let left = SlotSub::new(alloc, left)?;
             Ok(SlotExpr::Binary(*op, left, SlotSub::new(alloc, right)?))
         }
     }
 }
 
-pub(crate) fn exprs(alloc: Global, scope: &Scope, es: &Exprs) -> Result<SlotExprs, AllocError>
-    requires { HaveVariables scope.now.globals.now scope.now.proc.now es.now }
-    ensures { IfOk result (λ fs. fs ≡ formulas_in (scope_of scope.now) es.now) }
+/// The expressions over slots that stand for expressions over names, in order.
+pub(crate) fn exprs(
+    alloc: Global,
+    environment: &Environment,
+    es: &Exprs,
+) -> Result<SlotExprs, AllocError>
+    requires { NamesInExpressions (HasSlot (environment_of environment.now)) es.now }
+    ensures { IfOk result (λ fs. fs ≡ formulas_in (environment_of environment.now) es.now) }
 {
     let mut items = Vec::new(alloc);
     for e in es.as_slice() {
-        items.push(expr(alloc, scope, e)?)?;
+        items.push(expr(alloc, environment, e)?)?;
     }
     Ok(SlotExprs::new(items))
 }
 
-pub(crate) fn test(alloc: Global, scope: &Scope, d: &Decider) -> Result<Test, AllocError>
-    requires { HasTest scope.now.globals.now scope.now.proc.now (decision_of d.now) }
-    ensures { IfOk result (λ t. test_of t ≡ test_in (scope_of scope.now) (decision_of d.now)) }
+/// The test that stands for a decider.
+pub(crate) fn test(
+    alloc: Global,
+    environment: &Environment,
+    d: &Decider,
+) -> Result<Test, AllocError>
+    requires { NamesInDecision (HasSlot (environment_of environment.now)) (decision_of d.now) }
+    ensures { let test = test_in (environment_of environment.now) (decision_of d.now) in
+        IfOk result (λ t. test_of t ≡ test) }
 {
     match d {
         Decider::Choice => Ok(Test::Choice),
-        Decider::Value(e) => Ok(Test::Value(expr(alloc, scope, e)?)),
+        Decider::Value(e) => Ok(Test::Value(expr(alloc, environment, e)?)),
     }
 }
 
 /// The number of the statement with this label.
-pub(crate) fn label(scope: &Scope, name: &Name) -> u32
-    requires { HasLabel (scope_of scope.now) name.now.text }
-    ensures { result ≡ label_in (scope_of scope.now) name.now.text }
+pub(crate) fn label(environment: &Environment, name: &Name) -> u32
+    requires { HasLabel (environment_of environment.now) name.now }
+    ensures { result ≡ label_in (environment_of environment.now) name.now.text }
 {
-    number_of_label(scope.proc.body(), scope.start, name.text()).unwrap()
+    number_of_label(environment.proc.body(), environment.start, name.text()).unwrap()
 }
 
 /// The number of a procedure's first instruction.
-pub(crate) fn callee(scope: &Scope, name: &Name) -> u32
-    requires { HasHeading (scope_of scope.now) name.now.text }
-    ensures { result ≡ callee_in (scope_of scope.now) name.now.text }
+pub(crate) fn callee(environment: &Environment, name: &Name) -> u32
+    requires { HasHeading (environment_of environment.now) name.now }
+    ensures { result ≡ callee_in (environment_of environment.now) name.now.text }
 {
-    find_heading(scope.headings, name.text()).unwrap().entry()
+    find_heading(environment.headings, name.text())
+        .unwrap()
+        .entry()
 }

@@ -41,7 +41,8 @@ pub fn put<W: Write>(out: &mut W, bytes: &[u8]) -> Result<(), WriteFault>
 
 /// Writes the pieces one after the other, by `put`.
 pub fn put_each<W: Write>(out: &mut W, pieces: &[&[u8]]) -> Result<(), WriteFault>
-    ensures { Writes (W.contents out.old) (W.contents out.new) (flat_map (λ p. p.now) pieces.now) result }
+    ensures { let text = flat_map (λ p. p.now) pieces.now in
+        Writes (W.contents out.old) (W.contents out.new) text result }
 {
     for piece in pieces {
         put(out, piece)?;

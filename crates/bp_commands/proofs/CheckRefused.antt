@@ -1,7 +1,7 @@
 -- A text within its limit is never refused as too long.
 use Rattle.std.proofs.Common.{arith, ◌≡◌, sym, refl, subst, ℕ, List, Option, Result, Ok, Err}
 use Rattle.std.specs.Prelude.{IsErrAnd, MatchResult}
-use Rattle.bp_syntax.specs.Limits.{text_limit}
+use Rattle.bp_syntax.specs.declared.limits.TheConstants.{TEXT_LIMIT}
 use Rattle.bp_syntax.specs.declared.faults.ReadFault.TheVariants as read
 use Rattle.bp_commands.specs.Inputs.{Streams, IsInput}
 use Rattle.bp_commands.specs.Programs.{IsProgramRefusal}
@@ -11,7 +11,7 @@ use Rattle.bp_commands.specs.declared.programs.ProgramFault.TheVariants.{Read, C
 use Rattle.bp_commands.specs.declared.file_faults.FileFault.{FileFault}
 use Rattle.bp_commands.specs.declared.file_faults.FileFault.TheVariants.{Program}
 
-module _ (had left old : Option (List ℕ)) (text : List ℕ) (given : IsInput text_limit had left text) where
+module _ (had left old : Option (List ℕ)) (text : List ℕ) (given : IsInput TEXT_LIMIT had left text) where
   abbrev io : Streams
   io = record { input_before = had; input_after = left; output_before = old; output_after = old }
 

@@ -14,14 +14,14 @@ use Rattle.bp_commands.specs.declared.file_faults.FileFault.{FileFault}
 use Rattle.bp_commands.specs.declared.file_faults.FileFault.TheVariants as file
 use Rattle.bp_commands.specs.declared.programs.ProgramFault.{ProgramFault}
 use Rattle.bp_commands.specs.declared.programs.ProgramFault.TheVariants.{Read, Check}
-use Rattle.bp_commands.specs.Faults.{number_of_bundle_fault, number_of_file_fault, number_of_program_fault, place_of_bundle_fault, place_of_file_fault, place_of_program_fault}
+use Rattle.bp_commands.specs.Faults.{bundle_fault_number, file_fault_number, program_fault_number, bundle_fault_place, file_fault_place, program_fault_place}
 use Rattle.bp_commands.specs.FaultLines.{IsReportable}
 
 abbrev IsBundleReportable : BundleFault → Type 0
-IsBundleReportable f = IsReportable (number_of_bundle_fault f) (place_of_bundle_fault f) None
+IsBundleReportable f = IsReportable (bundle_fault_number f) (bundle_fault_place f) None
 
 abbrev IsProgramReportable : ProgramFault → Type 0
-IsProgramReportable f = IsReportable (number_of_program_fault f) (place_of_program_fault f) None
+IsProgramReportable f = IsReportable (program_fault_number f) (program_fault_place f) None
 
 read_reportable : (f : ReadFault) → IsProgramReportable (Read f)
 read_reportable read.TooLong = record { listed = refl; values = tt }
@@ -73,7 +73,7 @@ reportable (Setup f) = setup_reportable f
 reportable (Drive f) = drive_reportable f
 reportable Memory = record { listed = refl; values = tt }
 
-pub file_reportable : (f : FileFault) → IsReportable (number_of_file_fault f) (place_of_file_fault f) None
+pub file_reportable : (f : FileFault) → IsReportable (file_fault_number f) (file_fault_place f) None
 file_reportable file.Device = record { listed = refl; values = tt }
 file_reportable (file.Program f) = program_reportable f
 file_reportable file.Write = record { listed = refl; values = tt }

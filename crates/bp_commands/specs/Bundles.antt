@@ -34,8 +34,8 @@ pub record IsCodeOf (text : List ℕ) (c : Flat) : Type 0 where
   pub stands : StandsFor c program
 
 -- the default setup is refused
-abbrev pub IsSetupRefusal : Flat → SetupFault → Type 0
-IsSetupRefusal c f = (f ≡ setups.SetupFault.Memory) ⊎ (setup_fault c (defaults c.globals) ≡ Some f)
+abbrev pub IsDefaultSetupRefusal : Flat → SetupFault → Type 0
+IsDefaultSetupRefusal c f = (f ≡ setups.SetupFault.Memory) ⊎ (setup_fault c (defaults c.globals) ≡ Some f)
 
 -- why there is no code of the text
 abbrev pub IsCodeRefusal : List ℕ → BundleFault → Type 0
@@ -44,8 +44,8 @@ IsCodeRefusal text fault.Memory = ⊤
 IsCodeRefusal text f = ⊥
 
 module _ (text schedule : List ℕ) (old new : Option (List ℕ)) where
-  -- What was written is the trace of the legal history of the text's lawful program whose threads and bits are
-  -- the lines of the schedule.
+  -- What was written is the trace of the legal history of the text's lawful program whose threads
+  -- and bits are the lines of the schedule.
   pub record IsPartsDriven (r : Report) : Type 0 where
     pub program : Program
     pub of : IsLawfulText text program
@@ -59,7 +59,7 @@ module _ (text schedule : List ℕ) (old new : Option (List ℕ)) where
   pub record IsSetupRefused (f : SetupFault) : Type 0 where
     pub code : Flat
     pub of : IsCodeOf text code
-    pub refused : IsSetupRefusal code f
+    pub refused : IsDefaultSetupRefusal code f
     pub written : new ≡ old
 
   -- the default setup fits its code, and the schedule does not drive it

@@ -2,7 +2,7 @@
 use Rattle.std.specs.Prelude.{◌≡◌, ℕ, List, [], ◌∷◌, length, codes, decimal}
 use Rattle.std.specs.List.{concat}
 use Rattle.bp_tree.specs.Ast.{Program}
-use Rattle.bp_syntax.specs.Limits.{text_limit}
+use Rattle.bp_syntax.specs.declared.limits.TheConstants.{TEXT_LIMIT}
 use Rattle.bp_syntax.specs.declared.faults.ReadFault.TheVariants.{TooLong}
 use Rattle.bp_code.specs.Writing.{AppendsAll, AppendsPart}
 use Rattle.bp_commands.specs.Inputs.{Streams, IsInput, IsTooLong}
@@ -23,7 +23,7 @@ module _ (io : Streams) where
   -- the whole input is the text of a lawful program
   pub record IsProgramInput (p : Program) : Type 0 where
     pub text : List ℕ
-    pub whole : IsInput text_limit io.input_before io.input_after text
+    pub whole : IsInput TEXT_LIMIT io.input_before io.input_after text
     pub of : IsLawfulText text p
 
   -- the line of its numbers was written
@@ -41,16 +41,18 @@ module _ (io : Streams) where
   -- the whole input is a text that is refused
   pub record IsTextRefused (f : ProgramFault) : Type 0 where
     pub text : List ℕ
-    pub whole : IsInput text_limit io.input_before io.input_after text
+    pub whole : IsInput TEXT_LIMIT io.input_before io.input_after text
     pub refused : IsProgramRefusal text f
 
   abbrev IsUnwritten : Type 0
   IsUnwritten = io.output_after ≡ io.output_before
 
-  -- why the input is refused, and what was written; nothing is said of when memory is refused or a read fails
+  -- why the input is refused, and what was written; nothing is said of when memory is refused or a
+  -- read fails
   abbrev pub IsCheckRefusal : FileFault → Type 0
   IsCheckRefusal fault.Device = IsUnwritten
-  IsCheckRefusal (fault.Program (Read TooLong)) = IsUnwritten × IsTooLong text_limit io.input_before io.input_after
+  IsCheckRefusal (fault.Program (Read TooLong)) =
+      IsUnwritten × IsTooLong TEXT_LIMIT io.input_before io.input_after
   IsCheckRefusal (fault.Program f) = IsUnwritten × IsTextRefused f
   IsCheckRefusal fault.Write = IsCheckCutShort
   IsCheckRefusal fault.Memory = IsUnwritten

@@ -14,44 +14,39 @@ use Rattle.bp_commands.specs.declared.file_faults.FileFault.TheVariants as file
 use Rattle.bp_commands.specs.declared.programs.ProgramFault.{ProgramFault}
 use Rattle.bp_commands.specs.declared.programs.ProgramFault.TheVariants.{Read, Check}
 
-abbrev pub number_of_program_fault : ProgramFault → ℕ
-number_of_program_fault (Read f) = reads.number_of f
-number_of_program_fault (Check f at) = checks.number_of f
+abbrev pub program_fault_number : ProgramFault → ℕ
+program_fault_number (Read f) = reads.read_fault_number f
+program_fault_number (Check f at) = checks.check_fault_number f
 
-abbrev pub number_of_bundle_fault : BundleFault → ℕ
-number_of_bundle_fault Device = 54
-number_of_bundle_fault TooLong = 48
-number_of_bundle_fault (Program f) = number_of_program_fault f
-number_of_bundle_fault (Setup f) = setups.number_of_setup_fault f
-number_of_bundle_fault (Drive f) = drives.number_of_drive_fault f
-number_of_bundle_fault Memory = 7
+abbrev pub bundle_fault_number : BundleFault → ℕ
+bundle_fault_number Device = 54
+bundle_fault_number TooLong = 48
+bundle_fault_number (Program f) = program_fault_number f
+bundle_fault_number (Setup f) = setups.setup_fault_number f
+bundle_fault_number (Drive f) = drives.drive_fault_number f
+bundle_fault_number Memory = 7
 
-abbrev pub number_of_file_fault : FileFault → ℕ
-number_of_file_fault file.Device = 54
-number_of_file_fault (file.Program f) = number_of_program_fault f
-number_of_file_fault file.Write = 51
-number_of_file_fault file.Memory = 7
+abbrev pub file_fault_number : FileFault → ℕ
+file_fault_number file.Device = 54
+file_fault_number (file.Program f) = program_fault_number f
+file_fault_number file.Write = 51
+file_fault_number file.Memory = 7
 
 -- a byte of the text
-abbrev pub place_of_program_fault : ProgramFault → Option ℕ
-place_of_program_fault (Read (read.BadByte at)) = Some at
-place_of_program_fault (Read (read.OpenName at)) = Some at
-place_of_program_fault (Read (read.TooNested at)) = Some at
-place_of_program_fault (Read (read.TooManyTokens at)) = Some at
-place_of_program_fault (Read (read.Syntax at)) = Some at
-place_of_program_fault (Check f at) = Some at
-place_of_program_fault _ = None
+abbrev pub program_fault_place : ProgramFault → Option ℕ
+program_fault_place (Read f) = reads.read_fault_place f
+program_fault_place (Check f at) = Some at
 
 -- a byte of the text, a thread, or a line of the schedule
-abbrev pub place_of_bundle_fault : BundleFault → Option ℕ
-place_of_bundle_fault (Program f) = place_of_program_fault f
-place_of_bundle_fault (Setup f) = setups.place_of_setup_fault f
-place_of_bundle_fault (Drive f) = drives.place_of_drive_fault f
-place_of_bundle_fault _ = None
+abbrev pub bundle_fault_place : BundleFault → Option ℕ
+bundle_fault_place (Program f) = program_fault_place f
+bundle_fault_place (Setup f) = setups.setup_fault_place f
+bundle_fault_place (Drive f) = drives.drive_fault_place f
+bundle_fault_place _ = None
 
-abbrev pub place_of_file_fault : FileFault → Option ℕ
-place_of_file_fault (file.Program f) = place_of_program_fault f
-place_of_file_fault _ = None
+abbrev pub file_fault_place : FileFault → Option ℕ
+file_fault_place (file.Program f) = program_fault_place f
+file_fault_place _ = None
 
 -- what a fault of the input is to the bundle
 abbrev pub bundle_fault_of : InputFault → BundleFault

@@ -1,10 +1,12 @@
--- What reading an input within its limit takes and answers; what a command's reader and writer had before and after it.
+-- What reading an input within its limit takes and answers; what a command's reader and writer had
+-- before and after it.
 use Rattle.std.specs.Prelude.{◌≡◌, ℕ, ◌+◌, ◌≤◌, List, Option, length, ⊤}
 use Rattle.std.specs.Io.KnownBytes.{Consumes, IsAtEnd}
 use Rattle.bp_commands.specs.declared.inputs.InputFault.{InputFault}
 use Rattle.bp_commands.specs.declared.inputs.InputFault.TheVariants.{Device, TooLong, Memory}
 
--- the bytes that a command's reader had left, and those that its writer had taken, where they are known
+-- the bytes that a command's reader had left, and those that its writer had taken, where they are
+-- known
 pub record Streams : Type 0 where
   pub input_before : Option (List ℕ)
   pub input_after : Option (List ℕ)

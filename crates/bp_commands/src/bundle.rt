@@ -3,7 +3,7 @@ ghost use Rattle.std.specs.Prelude.{◌≡◌, ◌+◌, MatchResult};
 ghost use Rattle.bp_machine.specs.Setups.{Fits};
 ghost use Rattle.bp_commands.specs.declared.limits.TheConstants.{MAX_BUNDLE};
 ghost use Rattle.bp_commands.specs.Inputs.{Streams, TookAtMost};
-ghost use Rattle.bp_commands.specs.Bundles.{defaults, IsCodeOf, IsCodeRefusal, IsSetupRefusal, IsPartsDriven, IsPartsRefusal, IsBundleDriven, IsBundleRefusal};
+ghost use Rattle.bp_commands.specs.Bundles.{defaults, IsCodeOf, IsCodeRefusal, IsDefaultSetupRefusal, IsPartsDriven, IsPartsRefusal, IsBundleDriven, IsBundleRefusal};
 
 use crate::bundle_faults::BundleFault;
 use crate::bundle_parts::parts;
@@ -28,7 +28,7 @@ fn code_of(alloc: Global, text: &[u8]) -> Result<Code, BundleFault>
 fn default_setup(alloc: Global, code: &Code) -> Result<Setup, SetupFault>
     ensures { MatchResult result
         (λ s. (s ≡ defaults code.now.globals) × Fits code.now s)
-        (IsSetupRefusal code.now) }
+        (IsDefaultSetupRefusal code.now) }
 {
     let Ok(entries) = vec![in alloc; String::from_str(alloc, "main")?] else {
         return Err(SetupFault::Memory);
@@ -62,10 +62,10 @@ fn drive_parts<W: Write>(
     Ok(report)
 }
 
-/// Reads a bundle, a program and a schedule, and writes the trace to which the schedule drives the program: one
-/// thread that begins with `main`, all globals 0, at most 2 contexts and 1000 calls. It reads at most 1,048,577
-/// bytes. At a refusal nothing is written, but for a writer that refuses: it then has a proper prefix of the
-/// trace.
+/// Reads a bundle, a program and a schedule, and writes the trace to which the schedule drives the
+/// program: one thread that begins with `main`, all globals 0, at most 2 contexts and 1000 calls.
+/// It reads at most 1,048,577 bytes. At a refusal nothing is written, but for a writer that
+/// refuses: it then has a proper prefix of the trace.
 pub fn drive_bundle<R: Read, W: Write>(
     alloc: Global,
     input: &mut R,

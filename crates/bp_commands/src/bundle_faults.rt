@@ -32,12 +32,12 @@ pub enum BundleFault {
 impl BundleFault {
     ghost use Rattle.std.specs.Prelude.{◌≡◌};
     ghost use Rattle.std.specs.Prelude.{None};
-    ghost use Rattle.bp_commands.specs.Faults.{number_of_bundle_fault, place_of_bundle_fault};
+    ghost use Rattle.bp_commands.specs.Faults.{bundle_fault_number, bundle_fault_place};
     ghost use Rattle.bp_commands.specs.FaultLines.{IsReportable};
 
     /// The number by which users know the fault.
     pub fn number(&self) -> u32
-        ensures { result ≡ number_of_bundle_fault self.now }
+        ensures { result ≡ bundle_fault_number self.now }
     {
         match self {
             BundleFault::Device => 54,
@@ -51,7 +51,7 @@ impl BundleFault {
 
     /// The byte, line or thread that the fault names, where it names one.
     pub fn place(&self) -> Option<u32>
-        ensures { result ≡ place_of_bundle_fault self.now }
+        ensures { result ≡ bundle_fault_place self.now }
     {
         match self {
             BundleFault::Program(fault) => fault.place(),
@@ -63,7 +63,7 @@ impl BundleFault {
 
     /// The law that every fault has its line.
     pub fn is_reportable(&self)
-        ensures { IsReportable (number_of_bundle_fault self.now) (place_of_bundle_fault self.now) None }
+        ensures { IsReportable (bundle_fault_number self.now) (bundle_fault_place self.now) None }
     {
         let _ = self;
     }

@@ -4,7 +4,9 @@ ghost use Rattle.bp_commands.specs.BundleParts.{IsSeparated, HasNoSeparator, Has
 
 /// What follows a line that is exactly `%`, where the bytes begin with one.
 fn after_separator(bytes: &[u8]) -> Option<&[u8]>
-    ensures { MatchOption result (HasNoSeparator bytes.now) (λ rest. IsSeparated bytes.now rest.now) }
+    ensures { MatchOption result
+        (HasNoSeparator bytes.now)
+        (λ rest. IsSeparated bytes.now rest.now) }
 {
     match bytes {
         [b'%'] => Some(&[]),
@@ -15,7 +17,9 @@ fn after_separator(bytes: &[u8]) -> Option<&[u8]>
 
 /// Where the first line that is exactly `%` begins, and what follows it.
 fn first_separator(input: &[u8]) -> Option<(usize, &[u8])>
-    ensures { MatchOption result (HasNoneBefore input.now (length input.now)) (λ x. IsSplit input.now (take x.0 input.now) x.1.now) }
+    ensures { MatchOption result
+        (HasNoneBefore input.now (length input.now))
+        (λ x. IsSplit input.now (take x.0 input.now) x.1.now) }
 {
     let mut begins = true;
     for at in 0..input.len() {
@@ -29,8 +33,8 @@ fn first_separator(input: &[u8]) -> Option<(usize, &[u8])>
     None
 }
 
-/// The program text and the schedule of a bundle: what stands before the first line that is exactly `%` and
-/// what stands after it. Without such a line all is the text.
+/// The program text and the schedule of a bundle: what comes before the first line that is exactly
+/// `%` and what stands after it. Without such a line all is the text.
 pub fn parts(input: &[u8]) -> (&[u8], &[u8])
     ensures { IsParted input.now result.0.now result.1.now }
 {

@@ -1,6 +1,5 @@
 //! The command `check`.
 ghost use Rattle.std.specs.Prelude.{◌+◌, MatchResult};
-ghost use Rattle.bp_syntax.specs.Limits.{text_limit};
 ghost use Rattle.bp_code.specs.Writing.{Writes};
 ghost use Rattle.bp_commands.specs.Inputs.{Streams, TookAtMost};
 ghost use Rattle.bp_commands.specs.Checks.{check_line, IsCheckWritten, IsCheckRefusal};
@@ -15,7 +14,8 @@ use itoa::Buffer;
 use std::alloc::Global;
 use std::io::{Read, Write};
 
-/// Writes `ok P G` and a line feed: the numbers of procedures and of globals that a lawful program has.
+/// Writes `ok P G` and a line feed: the numbers of procedures and of globals that a lawful program
+/// has.
 pub fn show_check<W: Write>(checked: &Checked, out: &mut W) -> Result<(), WriteFault>
     ensures { Writes (W.contents out.old) (W.contents out.new) (check_line checked.now) result }
 {
@@ -27,9 +27,9 @@ pub fn show_check<W: Write>(checked: &Checked, out: &mut W) -> Result<(), WriteF
     put_each(out, &[b"ok ", procedures, b" ", globals, b"\n"])
 }
 
-/// Reads a program text, and writes `ok P G` with the numbers of its procedures and globals. It reads at most
-/// 65,537 bytes. At a refusal nothing is written, but for a writer that refuses: it then has a proper prefix of
-/// the line.
+/// Reads a program text, and writes `ok P G` with the numbers of its procedures and globals. It
+/// reads at most 65,537 bytes. At a refusal nothing is written, but for a writer that refuses: it
+/// then has a proper prefix of the line.
 pub fn check_text<R: Read, W: Write>(
     alloc: Global,
     input: &mut R,
@@ -42,7 +42,7 @@ pub fn check_text<R: Read, W: Write>(
       output_after = W.contents out.new;
     } in
         MatchResult result (λ _. IsCheckWritten io) (IsCheckRefusal io) }
-    ensures bound { TookAtMost (R.remaining input.old) (R.remaining input.new) (text_limit + 1) }
+    ensures bound { TookAtMost (R.remaining input.old) (R.remaining input.new) (TEXT_LIMIT + 1) }
 {
     let text = read_whole(alloc, TEXT_LIMIT, input)?;
     let checked = lawful_program(alloc, &text)?;

@@ -90,7 +90,8 @@ fn put_name<W: Write>(number: u32, name: &[u8], out: &mut W) -> Result<(), Write
 
 /// Writes the text and the number behind it, where there is one.
 fn put_place<W: Write>(text: &[u8], place: Option<u32>, out: &mut W) -> Result<(), WriteFault>
-    ensures { Writes (W.contents out.old) (W.contents out.new) (text.now ++ place_text place) result }
+    ensures { Writes (W.contents out.old) (W.contents out.new)
+        (text.now ++ place_text place) result }
 {
     match place {
         Some(n) => {
@@ -118,7 +119,8 @@ fn put_detail<W: Write>(
     wanted: Option<Reply>,
     out: &mut W,
 ) -> Result<(), WriteFault>
-    ensures { Writes (W.contents out.old) (W.contents out.new) (detail_text detail place wanted) result }
+    ensures { Writes (W.contents out.old) (W.contents out.new)
+        (detail_text detail place wanted) result }
 {
     match detail {
         Detail::Nothing => Ok(()),
@@ -132,7 +134,8 @@ fn put_detail<W: Write>(
     }
 }
 
-/// Writes the line of a fault by its number: its place is a byte, a thread or a line, as its detail says.
+/// Writes the line of a fault by its number: its place is a byte, a thread or a line, as its detail
+/// says.
 pub fn show_fault<W: Write>(
     number: u32,
     place: Option<u32>,
@@ -140,7 +143,8 @@ pub fn show_fault<W: Write>(
     out: &mut W,
 ) -> Result<(), WriteFault>
     requires { IsReportable number place wanted }
-    ensures { Writes (W.contents out.old) (W.contents out.new) (fault_line number place wanted) result }
+    ensures { Writes (W.contents out.old) (W.contents out.new)
+        (fault_line number place wanted) result }
 {
     let (name, detail) = text_fault(number);
     put_name(number, name, out)?;

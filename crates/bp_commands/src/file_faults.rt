@@ -25,12 +25,12 @@ pub enum FileFault {
 impl FileFault {
     ghost use Rattle.std.specs.Prelude.{◌≡◌};
     ghost use Rattle.std.specs.Prelude.{None};
-    ghost use Rattle.bp_commands.specs.Faults.{number_of_file_fault, place_of_file_fault};
+    ghost use Rattle.bp_commands.specs.Faults.{file_fault_number, file_fault_place};
     ghost use Rattle.bp_commands.specs.FaultLines.{IsReportable};
 
     /// The number by which users know the fault.
     pub fn number(&self) -> u32
-        ensures { result ≡ number_of_file_fault self.now }
+        ensures { result ≡ file_fault_number self.now }
     {
         match self {
             FileFault::Device => 54,
@@ -42,7 +42,7 @@ impl FileFault {
 
     /// The byte that the fault names, where it names one.
     pub fn place(&self) -> Option<u32>
-        ensures { result ≡ place_of_file_fault self.now }
+        ensures { result ≡ file_fault_place self.now }
     {
         match self {
             FileFault::Program(fault) => fault.place(),
@@ -52,7 +52,7 @@ impl FileFault {
 
     /// The law that every fault has its line.
     pub fn is_reportable(&self)
-        ensures { IsReportable (number_of_file_fault self.now) (place_of_file_fault self.now) None }
+        ensures { IsReportable (file_fault_number self.now) (file_fault_place self.now) None }
     {
         let _ = self;
     }

@@ -33,7 +33,8 @@ impl From<AllocError> for InputFault {
     }
 }
 
-/// Reads to the end of an input of at most so many bytes. It takes at most one byte more than the limit.
+/// Reads to the end of an input of at most so many bytes. It takes at most one byte more than the
+/// limit.
 pub fn read_whole<R: Read>(
     alloc: Global,
     limit: usize,

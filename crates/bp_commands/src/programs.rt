@@ -20,11 +20,11 @@ pub enum ProgramFault {
 
 impl ProgramFault {
     ghost use Rattle.std.specs.Prelude.{◌≡◌};
-    ghost use Rattle.bp_commands.specs.Faults.{number_of_program_fault, place_of_program_fault};
+    ghost use Rattle.bp_commands.specs.Faults.{program_fault_number, program_fault_place};
 
     /// The number by which users know the fault.
     pub fn number(&self) -> u32
-        ensures { result ≡ number_of_program_fault self.now }
+        ensures { result ≡ program_fault_number self.now }
     {
         match self {
             ProgramFault::Read(fault) => fault.number(),
@@ -34,15 +34,11 @@ impl ProgramFault {
 
     /// The byte that the fault names, where it names one.
     pub fn place(&self) -> Option<u32>
-        ensures { result ≡ place_of_program_fault self.now }
+        ensures { result ≡ program_fault_place self.now }
     {
         match self {
-            ProgramFault::Read(
-                ReadFault::BadByte(at) | ReadFault::OpenName(at) | ReadFault::TooNested(at),
-            ) => Some(*at),
-            ProgramFault::Read(ReadFault::TooManyTokens(at) | ReadFault::Syntax(at)) => Some(*at),
+            ProgramFault::Read(fault) => fault.place(),
             ProgramFault::Check(_, at) => Some(*at),
-            _ => None,
         }
     }
 }

@@ -3,7 +3,7 @@ use Rattle.std.proofs.Common.{◌≡◌, ◌≢◌, ℕ, zero, suc, ◌+◌, ◌
 use Rattle.std.specs.Option.{option_map, option_or}
 use Rattle.std.proofs.lemmas.Bool.Decides.{nat_tests}
 use Rattle.bp_code.specs.Flat.{Flat, Heading}
-use Rattle.bp_code.specs.Listing.{heading_named}
+use Rattle.bp_code.specs.Compiled.{heading_named}
 use Rattle.bp_machine.specs.declared.setups.SetupFault.TheVariants.{UnknownEntry, EntryHasFormals}
 use Rattle.bp_machine.specs.Setups.{entry_fault, entries_fault}
 

@@ -4,7 +4,7 @@ use Rattle.std.specs.Prelude.{slice_get, slice_index_or, unwrap_or}
 use Rattle.std.proofs.lemmas.List.{append-nil}
 use Rattle.bp_tree.specs.Ast.{Program}
 use Rattle.bp_code.specs.Configurations.{Frame, Configuration, is_call}
-use Rattle.bp_code.specs.Moves.{Effect, Leaves, Fails, Blocks, Misses, effect, moved, Moves}
+use Rattle.bp_code.specs.Moves.{StatementEffect, Leaves, Fails, Blocks, Misses, effect, after_effect, Moves}
 use Rattle.bp_machine.specs.declared.calls.Reply.{Reply}
 use Rattle.bp_machine.specs.declared.calls.Reply.TheVariants.{Stopped, Ended, NoContexts, Full, Blocked}
 use Rattle.bp_machine.specs.declared.calls.Call.{Call}
@@ -55,7 +55,7 @@ module _ (t : Program) (c : Configuration) (i : ℕ) (bit : Bool) (r : Reply) (g
   is_step fits e = by_mark c.failed fits refl e
 
   -- the effect of a step moves the configuration
-  moves_on : (e : Effect) → reply_to_effect e ≡ Some r → (d : Configuration) × (moved c i e ≡ Some d)
+  moves_on : (e : StatementEffect) → reply_to_effect e ≡ Some r → (d : Configuration) × (after_effect c i e ≡ Some d)
   moves_on (Leaves g s) h = (_, refl)
   moves_on Fails h = (_, refl)
   moves_on Blocks h = absurd (not_granted r Blocked h refl granted_is)

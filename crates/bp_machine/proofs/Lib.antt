@@ -8,6 +8,7 @@ pub mod HistoryWithCall
 pub mod RealFailures
 pub mod SessionAnswers
 pub mod SetupInRange
+pub mod SetupRefusals
 pub mod StackTops
 pub mod StandsAfterCall
 pub mod StandsAfterTransition

@@ -3,11 +3,11 @@ use Rattle.std.proofs.Common.{◌≡◌, ℕ, Bool, true, false, cond, List, [],
 use Rattle.std.proofs.lemmas.List.{append-nil}
 use Rattle.std.specs.Prelude.{unwrap_or}
 use Rattle.bp_tree.specs.Ast.{Name, Block, Done, Then, Skips, GoesTo, Returns, Assigns, Branches, Loops, Asserts, Assumes, Prints, Calls, Decision, Procedure, Program}
-use Rattle.bp_code.specs.Values.{Valuation, decided, values_of}
+use Rattle.bp_code.specs.Values.{Valuation, decision_value, expression_values}
 use Rattle.bp_code.specs.Continuations.{from_label}
 use Rattle.bp_code.specs.Configurations.{Frame, Configuration, procedure_named}
 use Rattle.bp_code.specs.Moves as moves
-use Rattle.bp_code.specs.Moves.{Effect, Leaves, Fails, Blocks, Misses, effect, moved, seen, leaving}
+use Rattle.bp_code.specs.Moves.{StatementEffect, Leaves, Fails, Blocks, Misses, effect, after_effect, frame_store, with_left}
 use Rattle.bp_machine.specs.declared.calls.Reply.{Reply}
 use Rattle.bp_machine.specs.declared.calls.Reply.TheVariants.{Stopped, Failed}
 use Rattle.bp_machine.specs.declared.calls.Call.{Call}
@@ -27,22 +27,22 @@ record Asserted (left : Block) (g : Valuation) (f : Frame) (bit : Bool) : Type 0
   decision : Decision
   rest : Block
   is : left ≡ Then label at (Asserts decision) rest
-  worth : decided (seen g f) bit decision ≡ false
+  worth : decision_value (frame_store g f) bit decision ≡ false
 
 module _ (ps : List Procedure) (g : Valuation) (f : Frame) (fs : List Frame) (bit : Bool) where
-  when_false : (b : Bool) (r : Block) → cond b (Leaves g (leaving f r ∷ fs)) Fails ≡ Fails → b ≡ false
+  when_false : (b : Bool) (r : Block) → cond b (Leaves g (with_left f r ∷ fs)) Fails ≡ Fails → b ≡ false
   when_false true r e = absurd cc
   when_false false r e = refl
 
-  no_block : (b : Bool) (r : Block) → cond b (Leaves g (leaving f r ∷ fs)) Blocks ≡ Fails → ⊥
+  no_block : (b : Bool) (r : Block) → cond b (Leaves g (with_left f r ∷ fs)) Blocks ≡ Fails → ⊥
   no_block true r e = cc
   no_block false r e = cc
 
-  no_jump : (o : Option Block) → moves.jumps g f fs o ≡ Fails → ⊥
+  no_jump : (o : Option Block) → moves.jump_effect g f fs o ≡ Fails → ⊥
   no_jump None e = cc
   no_jump (Some r) e = cc
 
-  no_call : (o : Option Procedure) (r : Block) (arguments : List Bool) → moves.calls g f fs r arguments o ≡ Fails → ⊥
+  no_call : (o : Option Procedure) (r : Block) (arguments : List Bool) → moves.call_effect g f fs r arguments o ≡ Fails → ⊥
   no_call None r arguments e = cc
   no_call (Some p) r arguments e = cc
 
@@ -55,12 +55,12 @@ module _ (ps : List Procedure) (g : Valuation) (f : Frame) (fs : List Frame) (bi
   asserted (Then label at (Branches d a b) r) e = absurd cc
   asserted (Then label at (Loops d a) r) e = absurd cc
   asserted (Then label at (Asserts d) r) e =
-      record { label = label; at = at; decision = d; rest = r; is = refl; worth = when_false (decided (seen g f) bit d) r e }
-  asserted (Then label at (Assumes d) r) e = absurd (no_block (decided (seen g f) bit d) r e)
+      record { label = label; at = at; decision = d; rest = r; is = refl; worth = when_false (decision_value (frame_store g f) bit d) r e }
+  asserted (Then label at (Assumes d) r) e = absurd (no_block (decision_value (frame_store g f) bit d) r e)
   asserted (Then label at (Prints es) r) e = absurd cc
-  asserted (Then label at (Calls x es) r) e = absurd (no_call (procedure_named ps x.text) r (values_of (seen g f) es) e)
+  asserted (Then label at (Calls x es) r) e = absurd (no_call (procedure_named ps x.text) r (expression_values (frame_store g f) es) e)
 
-told_fails : (e : Effect) → reply_to_effect e ≡ Some Failed → e ≡ Fails
+told_fails : (e : StatementEffect) → reply_to_effect e ≡ Some Failed → e ≡ Fails
 told_fails (Leaves g s) h = absurd cc
 told_fails Fails h = refl
 told_fails Blocks h = absurd cc
@@ -77,7 +77,7 @@ module _ (t : Program) (c : Configuration) (i : ℕ) (bit : Bool) (step : IsStep
 
   failed_next : (configuration_after_call t c i bit Failed).failed ≡ true
   failed_next =
-      ap (λ S. (unwrap_or (configuration_after_step t c i bit S) c).failed) step.stack ∙ ap (λ e. (unwrap_or (moved c i e) c).failed) fails_is
+      ap (λ S. (unwrap_or (configuration_after_step t c i bit S) c).failed) step.stack ∙ ap (λ e. (unwrap_or (after_effect c i e) c).failed) fails_is
 
 only_stopped : (failed : Bool) (rest : Option Reply) (r : Reply) → failed ≡ true → cond failed (Some Stopped) rest ≡ Some r → is_granted r ≡ false
 only_stopped failed rest r e h =
@@ -102,6 +102,7 @@ module _ (t : Program) (s : SetupOf) where
     later : List Call
     whole : xs ≡ before ++ call ∷ later
     thread : call.thread ≡ i
+    failed : call.reply ≡ Failed
     last : granted_threads later ≡ []
     stands : IsAtFalseAssertion (configuration_after t s (h ++ before)) i call.bit
 
@@ -118,6 +119,7 @@ module _ (t : Program) (s : SetupOf) where
         later = xs;
         whole = refl;
         thread = thread;
+        failed = is;
         last = none_after (h ++ x ∷ []) xs rest failed;
         stands = rw append-nil (subst (λ j. IsAtFalseAssertion c j x.bit) thread (at_false t c x.thread x.bit step));
       }
@@ -129,6 +131,7 @@ module _ (t : Program) (s : SetupOf) where
     later = r.later;
     whole = ap (λ ys. x ∷ ys) r.whole;
     thread = r.thread;
+    failed = r.failed;
     last = r.last;
     stands = rw (← append_assoc h (x ∷ []) r.before) r.stands;
   }
@@ -145,4 +148,4 @@ module _ (t : Program) (s : SetupOf) where
   pub real : (h : List Call) (i : ℕ) → IsLegal t s h → outcome_of h ≡ outcome.Failed i → IsRealFailure t s h i
   real h i legal e =
       let r = real_from [] h i legal e in
-      record { before = r.before; call = r.call; later = r.later; whole = r.whole; thread = r.thread; last = r.last; stands = r.stands }
+      record { before = r.before; call = r.call; later = r.later; whole = r.whole; thread = r.thread; failed = r.failed; last = r.last; stands = r.stands }

@@ -9,7 +9,7 @@ use Rattle.bp_tree.specs.Ast.{Name, Program}
 use Rattle.bp_code.specs.Bits.{bits_of}
 use Rattle.bp_code.specs.Steps.{Bits}
 use Rattle.bp_code.specs.Flat.{Flat}
-use Rattle.bp_code.specs.StandsFor.{StandsFor, named}
+use Rattle.bp_code.specs.StandsFor.{StandsFor, valuation_of}
 use Rattle.bp_code.specs.Alike.{StepsAlike}
 use Rattle.bp_machine.specs.declared.calls.Reply.{Reply}
 use Rattle.bp_machine.specs.declared.calls.Call.{Call}
@@ -87,12 +87,12 @@ count_more t s x h stands i guest has over is count so_far =
     rw (same, so_far) (ap (λ n. open_below n s h) (sym (add-one i)))
 
 -- the bit of a global, where its names stand for the bits of a word
-named_at : (gs : List Name) (bits : Bits) (n : ℕ) → n < length gs → option_map (λ (e : List ℕ × Bool). e.1) (slice_get (named gs bits) n) ≡ Some (bits n)
+named_at : (gs : List Name) (bits : Bits) (n : ℕ) → n < length gs → option_map (λ (e : List ℕ × Bool). e.1) (slice_get (valuation_of gs bits) n) ≡ Some (bits n)
 named_at [] bits n h = absurd (omega arith)
 named_at (g ∷ gs) bits zero h = refl
 named_at (g ∷ gs) bits (suc n) h = named_at gs (λ k. bits (suc k)) n (omega arith)
 
-named_past : (gs : List Name) (bits : Bits) (n : ℕ) → length gs ≤ n → option_map (λ (e : List ℕ × Bool). e.1) (slice_get (named gs bits) n) ≡ None
+named_past : (gs : List Name) (bits : Bits) (n : ℕ) → length gs ≤ n → option_map (λ (e : List ℕ × Bool). e.1) (slice_get (valuation_of gs bits) n) ≡ None
 named_past [] bits n h = refl
 named_past (g ∷ gs) bits zero h = absurd (omega arith)
 named_past (g ∷ gs) bits (suc n) h = named_past gs (λ k. bits (suc k)) n (omega arith)

@@ -6,20 +6,21 @@ use Rattle.std.proofs.lemmas.Bool.Decides.{nat_tests}
 use Rattle.std.specs.Coded.{le_prop}
 use Rattle.bp_tree.specs.Ast.{Program}
 use Rattle.bp_syntax.specs.Texts.{HasText}
-use Rattle.bp_check.specs.Faults.{IsLawful, max_globals}
+use Rattle.bp_check.specs.Faults.{IsLawful}
+use Rattle.bp_check.specs.declared.limits.TheConstants.{MAX_GLOBALS}
 use Rattle.bp_code.specs.Flat.{Flat}
 use Rattle.bp_code.specs.StandsFor.{StandsFor}
 use Rattle.bp_code.specs.Programs.{IsOfProgram}
-use Rattle.bp_code.proofs.Lawful as lawful
+use Rattle.bp_code.proofs.LawfulIsCompilable as lawful
 use Rattle.bp_machine.specs.declared.setups.SetupFault.{SetupFault}
 use Rattle.bp_machine.specs.declared.setups.SetupFault.TheVariants.{Threads, InitLength, OutOfRange}
 use Rattle.bp_machine.specs.declared.limits.TheConstants.{MAX_THREADS, MAX_CONTEXTS, MAX_CALLS}
 use Rattle.bp_machine.specs.Setups.{SetupOf, threads, entries_fault, fault_if, first_of, has_bad_threads, is_out_of_range, setup_fault, Fits, IsInRange}
 
-pub few_globals : (c : Flat) → IsOfProgram c → c.globals ≤ max_globals
+pub few_globals : (c : Flat) → IsOfProgram c → c.globals ≤ MAX_GLOBALS
 few_globals c of_some = ∥∥₁_elim of_some le_prop few
   where
-    few : (t : Program) × IsLawful t × HasText t × StandsFor c t → c.globals ≤ max_globals
+    few : (t : Program) × IsLawful t × HasText t × StandsFor c t → c.globals ≤ MAX_GLOBALS
     few (t, is_lawful, of_text, is) = omega (arith, lawful.few_globals t is_lawful, is.globals)
 
 neither : {X : Type 0} (a b : Option X) → option_or a b ≡ None → (a ≡ None) × (b ≡ None)

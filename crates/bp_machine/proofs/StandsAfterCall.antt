@@ -6,7 +6,7 @@ use Rattle.std.proofs.lemmas.List.{length-set, length-append}
 use Rattle.bp_tree.specs.Ast.{Program}
 use Rattle.bp_code.specs.Bits.{bits_of}
 use Rattle.bp_code.specs.Configurations.{Configuration}
-use Rattle.bp_code.specs.StandsFor.{named}
+use Rattle.bp_code.specs.StandsFor.{valuation_of}
 use Rattle.bp_code.specs.Alike.{ShowsStack}
 use Rattle.bp_machine.specs.declared.calls.Call.{Call}
 use Rattle.bp_machine.specs.ContextCounts.{IsCountOf}
@@ -46,7 +46,7 @@ module _ (t : Program) (s : SetupOf) (x : State) (h : List Call) (stands : Stand
     pub ended : guest_after.ended ≡ is_last call.reply
     pub guests : y.threads ≡ slice_set x.threads i guest_after
     pub after_is : configuration_after t s (h ++ call ∷ []) ≡ d
-    pub globals : d.globals ≡ named t.globals (bits_of y.globals)
+    pub globals : d.globals ≡ valuation_of t.globals (bits_of y.globals)
     pub failed : d.failed ≡ y.failed
     pub stacks : length d.stacks ≡ threads s
     pub stack : ShowsStack t (activations guest_after.stack) (stack_of d i)

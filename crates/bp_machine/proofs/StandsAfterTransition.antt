@@ -4,13 +4,13 @@ use Rattle.std.specs.Prelude.{slice_get, slice_set, unwrap_or}
 use Rattle.std.proofs.lemmas.List.{length-set, append-nil, get_or-set_same, get_or-set_other}
 use Rattle.bp_tree.specs.Ast.{Program}
 use Rattle.bp_code.specs.Configurations.{Configuration}
-use Rattle.bp_code.specs.Moves.{moved}
+use Rattle.bp_code.specs.Moves.{after_effect}
 use Rattle.bp_code.specs.Flat.{Flat}
 use Rattle.bp_code.specs.Alike.{ShowsStack, StepsAlike}
 use Rattle.bp_machine.specs.declared.calls.Reply.{Reply}
 use Rattle.bp_machine.specs.declared.calls.Reply.TheVariants.{Stopped, Failed, Stepped}
 use Rattle.bp_machine.specs.declared.calls.Call.{Call}
-use Rattle.bp_code.specs.declared.deeds.Deed.{Deed}
+use Rattle.bp_code.specs.declared.effects.Effect.{Effect}
 use Rattle.bp_machine.specs.declared.threads.Transition.{Transition}
 use Rattle.bp_machine.specs.declared.threads.Transition.TheVariants.{Stays, Fails, Steps}
 use Rattle.bp_machine.specs.ContextCounts.{used_with, count_with, IsCountOf}
@@ -83,7 +83,7 @@ module _ (c : Flat) (t : Program) (alike : StepsAlike c t) (s : SetupOf) (x : St
       let a = answer Fails is in
       let (going, f, fs, stack_is, effect_is) = a.comes in
       let d : Configuration = record now { failed = true } in
-      let moves_on = ap (λ S. unwrap_or (configuration_after_step t now i bit S) now) stack_is ∙ ap (λ e. unwrap_or (moved now i e) now) effect_is in
+      let moves_on = ap (λ S. unwrap_or (configuration_after_step t now i bit S) now) stack_is ∙ ap (λ e. unwrap_or (after_effect now i e) now) effect_is in
       advance t s x h stands i guest has (call_of Failed) (thread_after guest Fails) (state_after x i guest Fails) d
       (record {
         thread = refl;
@@ -100,13 +100,13 @@ module _ (c : Flat) (t : Program) (alike : StepsAlike c t) (s : SetupOf) (x : St
         contexts = subst (λ g. IsCountOf (count_with x.contexts i) g) (sym (granted_threads-append h (call_of Failed))) one_more;
       })
 
-  takes : (d : Deed) → IsTransition c.instructions x s.contexts i guest bit (Steps d) → StandsAfter t s (state_after x i guest (Steps d)) (h ++ call_of Stepped ∷ [])
+  takes : (d : Effect) → IsTransition c.instructions x s.contexts i guest bit (Steps d) → StandsAfter t s (state_after x i guest (Steps d)) (h ++ call_of Stepped ∷ [])
   takes d is =
       let a = answer (Steps d) is in
       let (going, f, fs, stack_is, reply_to_effect) = a.comes in
       let (g, stack, effect_is, worth, shown) = reply_to_effect in
       let after_it : Configuration = record { globals = g; stacks = slice_set now.stacks i stack; failed = false } in
-      let moves_on = ap (λ S. unwrap_or (configuration_after_step t now i bit S) now) stack_is ∙ ap (λ e. unwrap_or (moved now i e) now) effect_is in
+      let moves_on = ap (λ S. unwrap_or (configuration_after_step t now i bit S) now) stack_is ∙ ap (λ e. unwrap_or (after_effect now i e) now) effect_is in
       let inside : i < length now.stacks = omega (arith, stands.stacks, within) in
       advance t s x h stands i guest has (call_of Stepped) (thread_after guest (Steps d)) (state_after x i guest (Steps d)) after_it
       (record {

@@ -8,12 +8,12 @@ use Rattle.std.proofs.lemmas.Option.{slice_get-map, get_or_from_slice_get}
 use Rattle.std.proofs.lemmas.Nat.Bits.{bit_at-zero}
 use Rattle.bp_tree.specs.Ast.{Name, Procedure, Program}
 use Rattle.bp_code.specs.Bits.{bits_of}
-use Rattle.bp_code.specs.Values.{bound}
+use Rattle.bp_code.specs.Values.{binding}
 use Rattle.bp_code.specs.Configurations.{procedure_named, first_stack}
 use Rattle.bp_code.specs.Flat.{Flat, Heading}
-use Rattle.bp_code.specs.Listing.{heading_named}
+use Rattle.bp_code.specs.Compiled.{heading_named}
 use Rattle.bp_code.specs.Steps.{bits_from}
-use Rattle.bp_code.specs.StandsFor.{StandsFor, Place, Heads, named, variables, places_of}
+use Rattle.bp_code.specs.StandsFor.{StandsFor, Place, Heads, valuation_of, variables, places_of}
 use Rattle.bp_code.specs.Alike.{ShowsStack}
 use Rattle.bp_machine.specs.declared.setups.SetupFault.{SetupFault}
 use Rattle.bp_machine.specs.ContextCounts.{IsCountOf}
@@ -23,12 +23,12 @@ use Rattle.bp_machine.specs.GuestThreads.{GuestThreadOf, first_thread}
 use Rattle.bp_machine.proofs.ContextCounts.{count_of_none}
 
 -- names with these bits, and with 0 past them
-pub bound_is : (ns : List Name) (bs : List Bool) → bound ns bs ≡ named ns (bits_from bs)
+pub bound_is : (ns : List Name) (bs : List Bool) → binding ns bs ≡ valuation_of ns (bits_from bs)
 bound_is [] bs = refl
 bound_is (n ∷ ns) [] = ap (λ m. (n.text, false) ∷ m) (bound_is ns [])
 bound_is (n ∷ ns) (b ∷ bs) = ap (λ m. (n.text, b) ∷ m) (bound_is ns bs)
 
-zero_bits : (ns ms : List Name) → bound ns [] ++ bound ms [] ≡ named (ns ++ ms) (λ k. false)
+zero_bits : (ns ms : List Name) → binding ns [] ++ binding ms [] ≡ valuation_of (ns ++ ms) (λ k. false)
 zero_bits [] ms = bound_is ms []
 zero_bits (n ∷ ns) ms = ap (λ m. (n.text, false) ∷ m) (zero_bits ns ms)
 
@@ -85,7 +85,7 @@ module _ (c : Flat) (t : Program) (s : SetupOf) (is : StandsFor c t) where
       rw (named_is, number) (
         record {
           left = headed.entry;
-          locals = zero_bits p.formals p.locals ∙ ap (named (variables p)) (sym no_bits);
+          locals = zero_bits p.formals p.locals ∙ ap (valuation_of (variables p)) (sym no_bits);
         },
         tt,
       )
@@ -108,7 +108,7 @@ module _ (c : Flat) (t : Program) (s : SetupOf) (is : StandsFor c t) where
       → StandsAfter t s x []
   starts x fits word threads contexts failed = record {
     legal = tt;
-    globals = bound_is t.globals s.init ∙ ap (named t.globals) (sym word);
+    globals = bound_is t.globals s.init ∙ ap (valuation_of t.globals) (sym word);
     failed = sym failed;
     stacks = length-map s.entries (λ e. first_stack (procedure_named t.procedures e));
     thread_count = ap length threads ∙ length-map s.entries (first_thread c);

@@ -2,7 +2,7 @@
 use Rattle.std.proofs.Common.{◌≡◌, ℕ, ◌<◌, List, length, get_or, Some, refl, ap, ◌∙◌, Bool, true}
 use Rattle.std.specs.Prelude.{slice_get, slice_set}
 use Rattle.std.proofs.lemmas.Option.{get_or_from_slice_get, slice_get_read}
-use Rattle.bp_code.specs.declared.deeds.Deed.{Deed}
+use Rattle.bp_code.specs.declared.effects.Effect.{Effect}
 use Rattle.bp_machine.specs.declared.calls.Reply.{Reply}
 use Rattle.bp_machine.specs.declared.threads.Transition.{Transition}
 use Rattle.bp_machine.specs.declared.threads.Transition.TheVariants.{Stays, Fails, Steps}
@@ -46,7 +46,7 @@ module _ (x : State) (g : ℕ) (ls : List GuestThreadOf) (k : ContextCount) (f :
       ∙ ap (λ (y : State). state y.globals (slice_set x.threads i (thread_after guest v)) (count_with y.contexts i) true) whole
       ∙ rw e refl
 
-  pub steps_after : (d : Deed) → v ≡ Steps d → (m : ContextCount) → m ≡ count_with k i → (h : ℕ) → h ≡ globals_after g (Steps d)
+  pub steps_after : (d : Effect) → v ≡ Steps d → (m : ContextCount) → m ≡ count_with k i → (h : ℕ) → h ≡ globals_after g (Steps d)
       → state h (slice_set ls i new) m f ≡ state_after x i guest v
   steps_after d e m counts h moved =
       ap (λ ms. state h ms m f) threads_are

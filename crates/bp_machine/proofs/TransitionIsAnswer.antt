@@ -2,19 +2,19 @@
 use Rattle.std.proofs.Common.{◌≡◌, ℕ, ◌&&◌, Bool, true, false, cond, nat_le, List, [], ◌∷◌, length, Option, None, Some, refl, ap, sym, ◌∙◌, subst, arith}
 use Rattle.std.proofs.lemmas.List.{length-map}
 use Rattle.bp_tree.specs.Ast.{Program}
-use Rattle.bp_code.specs.Bits.{bits_of, words_of}
-use Rattle.bp_code.specs.declared.deeds.Deed.{Deed}
-use Rattle.bp_code.specs.declared.deeds.Deed.TheVariants.{Goes, Enters, Returns}
-use Rattle.bp_code.specs.declared.deeds.Deed.TheVariants as deed
-use Rattle.bp_code.specs.Deeds.{outcome_of}
+use Rattle.bp_code.specs.Bits.{bits_of, store_of}
+use Rattle.bp_code.specs.declared.effects.Effect.{Effect}
+use Rattle.bp_code.specs.declared.effects.Effect.TheVariants.{Continues, Enters, Returns}
+use Rattle.bp_code.specs.declared.effects.Effect.TheVariants as instr
+use Rattle.bp_code.specs.InstrEffects.{effect_of}
 use Rattle.bp_code.specs.Values.{Valuation}
 use Rattle.bp_code.specs.Configurations.{Frame, is_call}
 use Rattle.bp_code.specs.Moves as moves
-use Rattle.bp_code.specs.Moves.{Effect, Leaves, effect}
+use Rattle.bp_code.specs.Moves.{StatementEffect, Leaves, effect}
 use Rattle.bp_code.specs.Flat.{Flat, Instruction}
 use Rattle.std.specs.Prelude.{slice_get}
-use Rattle.bp_code.specs.Steps.{Activation, done_at}
-use Rattle.bp_code.specs.StandsFor.{named}
+use Rattle.bp_code.specs.Steps.{Activation, effect_at}
+use Rattle.bp_code.specs.StandsFor.{valuation_of}
 use Rattle.bp_code.specs.Alike.{ShowsStack, SameEffect, StepsAlike}
 use Rattle.bp_machine.specs.declared.calls.Reply.{Reply}
 use Rattle.bp_machine.specs.declared.calls.Reply.TheVariants.{Stopped, Full}
@@ -29,11 +29,11 @@ use Rattle.bp_machine.specs.Transitions.{transition_of, IsTransitionAt, IsTransi
 use Rattle.bp_machine.proofs.EffectSizes.{shown_length, same_leaves, same_fails, same_blocks, same_lost, not_call, is_a_call, fails_no_call, blocks_no_call}
 
 -- what a verdict says of an effect
-abbrev pub Tells : Program → Effect → ℕ → List ActivationRecord → Transition → Type 0
+abbrev pub Tells : Program → StatementEffect → ℕ → List ActivationRecord → Transition → Type 0
 Tells t e gw stack (Stays r) = is_granted r ≡ false
 Tells t e gw stack Fails = e ≡ moves.Fails
 Tells t e gw stack (Steps d) =
-    (g : Valuation) × (s : List Frame) × (e ≡ Leaves g s) × (g ≡ named t.globals (bits_of (globals_after gw (Steps d)))) × ShowsStack t (activations (stack_after d stack)) s
+    (g : Valuation) × (s : List Frame) × (e ≡ Leaves g s) × (g ≡ valuation_of t.globals (bits_of (globals_after gw (Steps d)))) × ShowsStack t (activations (stack_after d stack)) s
 
 not_full : (b full : Bool) (a c : Option Reply) → b ≡ false → cond (b && full) a c ≡ c
 not_full b full a c e = ap (λ d. cond (d && full) a c) e
@@ -46,38 +46,38 @@ module _ (t : Program) (g : Valuation) (f : Frame) (fs : List Frame) (bit : Bool
   below_length : length (activations rest) ≡ length fs
   below_length = shown_length t (activations rest) fs shows
 
-  abbrev Same : Deed → Type 0
-  Same d = SameEffect t (outcome_of (record { globals = gw; locals = top.locals }) d (activations rest)) (effect t.procedures f.left g f fs bit)
+  abbrev Same : Effect → Type 0
+  Same d = SameEffect t (effect_of (record { globals = gw; locals = top.locals }) d (activations rest)) (effect t.procedures f.left g f fs bit)
 
-  by_deed : (d : Deed) (full : Bool) → Same d → Answered full (transition_of d full)
-  by_deed (Goes m w) full same =
+  by_effect : (d : Effect) (full : Bool) → Same d → Answered full (transition_of d full)
+  by_effect (Continues m w) full same =
       let stack : List Activation = record { number = m; locals = bits_of w.locals } ∷ activations rest in
       let (h, s, is, worth, shown) = same_leaves t (bits_of w.globals) stack (effect t.procedures f.left g f fs bit) same in
       let size = shown_length t stack s shown in
       let plain = not_call t.procedures g f fs bit f.left h s is (omega (arith, size, below_length)) in
       record { reply = not_full _ full _ _ plain ∙ ap reply_to_effect is; tells = (h, s, is, worth, shown) }
-  by_deed Returns full same =
+  by_effect Returns full same =
       let stack : List Activation = activations rest in
       let (h, s, is, worth, shown) = same_leaves t (bits_of gw) stack (effect t.procedures f.left g f fs bit) same in
       let size = shown_length t stack s shown in
       let plain = not_call t.procedures g f fs bit f.left h s is (omega (arith, size, below_length)) in
       record { reply = not_full _ full _ _ plain ∙ ap reply_to_effect is; tells = (h, s, is, worth, shown) }
-  by_deed (Enters c locals m) true same =
+  by_effect (Enters c locals m) true same =
       let stack : List Activation = record { number = c; locals = bits_of locals } ∷ record { number = m; locals = bits_of top.locals } ∷ activations rest in
       let (h, s, is, worth, shown) = same_leaves t (bits_of gw) stack (effect t.procedures f.left g f fs bit) same in
       let size = shown_length t stack s shown in
       let call = is_a_call t.procedures g f fs bit f.left h s is (omega (arith, size, below_length)) in
       record { reply = ap (λ b. cond (b && true) (Some Full) (reply_to_effect (effect t.procedures f.left g f fs bit))) call; tells = refl }
-  by_deed (Enters c locals m) false same =
+  by_effect (Enters c locals m) false same =
       let stack : List Activation = record { number = c; locals = bits_of locals } ∷ record { number = m; locals = bits_of top.locals } ∷ activations rest in
       let (h, s, is, worth, shown) = same_leaves t (bits_of gw) stack (effect t.procedures f.left g f fs bit) same in
       let size = shown_length t stack s shown in
       let call = is_a_call t.procedures g f fs bit f.left h s is (omega (arith, size, below_length)) in
       record { reply = ap (λ b. cond (b && false) (Some Full) (reply_to_effect (effect t.procedures f.left g f fs bit))) call ∙ ap reply_to_effect is; tells = (h, s, is, worth, shown) }
-  by_deed deed.Fails full same =
+  by_effect instr.Fails full same =
       let is = same_fails t (effect t.procedures f.left g f fs bit) same in
       record { reply = not_full _ full _ _ (fails_no_call t.procedures g f fs bit f.left is) ∙ ap reply_to_effect is; tells = is }
-  by_deed deed.Blocks full same =
+  by_effect instr.Blocks full same =
       let is = same_blocks t (effect t.procedures f.left g f fs bit) same in
       record { reply = not_full _ full _ _ (blocks_no_call t.procedures g f fs bit f.left is) ∙ ap reply_to_effect is; tells = refl }
 
@@ -93,29 +93,29 @@ pub record IsAnswer (t : Program) (g : Valuation) (failed : Bool) (S : List Fram
   pub reply : cond failed (Some Stopped) (reply_on_stack t fits g S bit) ≡ Some (reply_of_transition v)
   pub comes : Comes t g failed S bit gw stack v
 
-module _ (c : Flat) (t : Program) (alike : StepsAlike c t) (bit : Bool) (gw : ℕ) (g : Valuation) (worth : g ≡ named t.globals (bits_of gw)) where
+module _ (c : Flat) (t : Program) (alike : StepsAlike c t) (bit : Bool) (gw : ℕ) (g : Valuation) (worth : g ≡ valuation_of t.globals (bits_of gw)) where
   comes_of : (f : Frame) (fs : List Frame) (stack : List ActivationRecord) (v : Transition) → Tells t (effect t.procedures f.left g f fs bit) gw stack v → Comes t g false (f ∷ fs) bit gw stack v
   comes_of f fs stack (Stays r) tells = tells
   comes_of f fs stack Fails tells = (refl, f, fs, refl, tells)
   comes_of f fs stack (Steps d) tells = (refl, f, fs, refl, tells)
 
   at_instruction : (a : ActivationRecord) (rest : List ActivationRecord) (f : Frame) (fs : List Frame) (v : Transition) → ShowsStack t (activations (a ∷ rest)) (f ∷ fs)
-      → (o : Option Instruction) → SameEffect t (done_at o (words_of (record { globals = gw; locals = a.locals })) (activations rest) bit) (effect t.procedures f.left g f fs bit)
-      → IsTransitionAt o gw a (nat_le MAX_FRAMES (length (a ∷ rest))) bit v → IsAnswer t g false (f ∷ fs) true bit gw (a ∷ rest) v
+      → (o : Option Instruction) → SameEffect t (effect_at o (store_of (record { globals = gw; locals = a.locals })) (activations rest) bit) (effect t.procedures f.left g f fs bit)
+      → IsTransitionAt c.instructions gw bit o a (nat_le MAX_FRAMES (length (a ∷ rest))) v → IsAnswer t g false (f ∷ fs) true bit gw (a ∷ rest) v
   at_instruction a rest f fs v shows None same is = absurd (same_lost t (effect t.procedures f.left g f fs bit) same)
-  at_instruction a rest f fs v shows (Some i) same (d, deed_is, is) =
+  at_instruction a rest f fs v shows (Some i) same (d, effect_is, is) =
       let full = nat_le MAX_FRAMES (length (a ∷ rest)) in
       let sizes : length (a ∷ rest) ≡ length (f ∷ fs) = sym (length-map (a ∷ rest) activation_of) ∙ shown_length t (activations (a ∷ rest)) (f ∷ fs) shows in
-      let told_is : SameEffect t (outcome_of (record { globals = gw; locals = a.locals }) d (activations rest)) (effect t.procedures f.left g f fs bit) =
-      rw (deed_is.each (activations rest)) same in
-      let done = by_deed t g f fs bit gw a rest shows.1 d full told_is in
+      let told_is : SameEffect t (effect_of (record { globals = gw; locals = a.locals }) d (activations rest)) (effect t.procedures f.left g f fs bit) =
+      rw (effect_is.each (activations rest)) same in
+      let done = by_effect t g f fs bit gw a rest shows.1 d full told_is in
       subst (λ w. IsAnswer t g false (f ∷ fs) true bit gw (a ∷ rest) w) (sym is)
       (record {
         reply = ap (λ n. cond (is_call f.left && nat_le MAX_FRAMES n) (Some Full) (reply_to_effect (effect t.procedures f.left g f fs bit))) (sym sizes) ∙ done.reply;
         comes = comes_of f fs (a ∷ rest) (transition_of d full) done.tells;
       })
 
-  on_stack : (stack : List ActivationRecord) (S : List Frame) (fits : Bool) (v : Transition) → ShowsStack t (activations stack) S → IsTransitionOn c.instructions gw fits stack bit v
+  on_stack : (stack : List ActivationRecord) (S : List Frame) (fits : Bool) (v : Transition) → ShowsStack t (activations stack) S → IsTransitionOn c.instructions gw bit fits stack v
       → IsAnswer t g false S fits bit gw stack v
   on_stack [] [] fits v shows is = subst (λ w. IsAnswer t g false [] fits bit gw [] w) (sym is) (record { reply = refl; comes = refl })
   on_stack [] (f ∷ fs) fits v shows is = absurd shows
@@ -124,12 +124,12 @@ module _ (c : Flat) (t : Program) (alike : StepsAlike c t) (bit : Bool) (gw : �
       subst (λ w. IsAnswer t g false (f ∷ fs) false bit gw (a ∷ rest) w) (sym is) (record { reply = refl; comes = refl })
   on_stack (a ∷ rest) (f ∷ fs) true v shows is =
       let moved = alike (bits_of gw) (activation_of a) (activations rest) f fs bit shows.0 shows.1 in
-      let done : SameEffect t (done_at (slice_get c.instructions a.number) (words_of (record { globals = gw; locals = a.locals })) (activations rest) bit) (effect t.procedures f.left g f fs bit) =
+      let done : SameEffect t (effect_at (slice_get c.instructions a.number) (store_of (record { globals = gw; locals = a.locals })) (activations rest) bit) (effect t.procedures f.left g f fs bit) =
       rw worth moved in
       at_instruction a rest f fs v shows (slice_get c.instructions a.number) done is
 
   pub answer_of : (failed : Bool) (stack : List ActivationRecord) (S : List Frame) (fits : Bool) (v : Transition) → ShowsStack t (activations stack) S
-      → IsTransitionUnless failed c.instructions gw fits stack bit v → IsAnswer t g failed S fits bit gw stack v
+      → IsTransitionUnless c.instructions gw bit failed fits stack v → IsAnswer t g failed S fits bit gw stack v
   answer_of true stack S fits v shows is =
       subst (λ w. IsAnswer t g true S fits bit gw stack w) (sym is) (record { reply = refl; comes = refl })
   answer_of false stack S fits v shows is = on_stack stack S fits v shows is

@@ -1,4 +1,5 @@
--- Counting contexts step by step: how many the steps so far are within, and which thread made the last of them.
+-- Counting contexts step by step: how many the steps so far are within, and which thread made the
+-- last of them.
 use Rattle.std.specs.Prelude.{if◌then◌else◌, ◌≡◌, ℕ, ◌+◌, ◌==◌, List, [], ◌∷◌, Option, None, Some}
 use Rattle.bp_machine.specs.declared.contexts.ContextCount.{ContextCount}
 use Rattle.bp_machine.specs.Contexts.{IsLeastWithin}

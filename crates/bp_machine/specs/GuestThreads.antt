@@ -1,10 +1,11 @@
 -- A guest thread as a session keeps it.
 use Rattle.std.specs.Prelude.{ℕ, Bool, false, List, [], ◌∷◌, option_map, unwrap_or}
 use Rattle.bp_code.specs.Flat.{Flat}
-use Rattle.bp_code.specs.Listing.{heading_named}
+use Rattle.bp_code.specs.Compiled.{heading_named}
 use Rattle.bp_machine.specs.declared.stacks.ActivationRecord.{ActivationRecord}
 
--- its stack, the topmost record first; the calls that it made; whether the last of them had a last reply
+-- its stack, the topmost record first; the calls that it made; whether the last of them had a last
+-- reply
 pub record GuestThreadOf : Type 0 where
   pub stack : List ActivationRecord
   pub calls : ℕ
@@ -12,8 +13,10 @@ pub record GuestThreadOf : Type 0 where
 
 -- a thread that begins with the procedure of this name
 abbrev pub first_thread : Flat → List ℕ → GuestThreadOf
-first_thread c name = record {
-  stack = record { number = unwrap_or (option_map (λ h. h.entry) (heading_named c.headings name)) 0; locals = 0 } ∷ [];
-  calls = 0;
-  ended = false;
-}
+first_thread c name =
+    let entry = unwrap_or (option_map (λ h. h.entry) (heading_named c.headings name)) 0 in
+    record {
+      stack = record { number = entry; locals = 0 } ∷ [];
+      calls = 0;
+      ended = false;
+    }

@@ -10,7 +10,8 @@ use Rattle.bp_machine.specs.Answers.{Answers, configuration_after_call}
 -- the configuration after the calls of a history, by their replies
 abbrev pub configuration_after_calls : Program → Configuration → List Call → Configuration
 configuration_after_calls t c [] = c
-configuration_after_calls t c (x ∷ xs) = configuration_after_calls t (configuration_after_call t c x.thread x.bit x.reply) xs
+configuration_after_calls t c (x ∷ xs) =
+    configuration_after_calls t (configuration_after_call t c x.thread x.bit x.reply) xs
 
 abbrev pub configuration_after : Program → SetupOf → List Call → Configuration
 configuration_after t s h = configuration_after_calls t (start t s) h
@@ -22,7 +23,8 @@ granted_calls h = filter (λ x. is_granted x.reply) h
 -- their threads
 abbrev pub granted_threads : List Call → List ℕ
 granted_threads [] = []
-granted_threads (x ∷ xs) = if is_granted x.reply then x.thread ∷ granted_threads xs else granted_threads xs
+granted_threads (x ∷ xs) =
+    if is_granted x.reply then x.thread ∷ granted_threads xs else granted_threads xs
 
 abbrev pub calls_of_thread : ℕ → List Call → List Call
 calls_of_thread i h = filter (λ x. x.thread == i) h
@@ -33,7 +35,8 @@ ends_with_last [] = false
 ends_with_last (x ∷ []) = is_last x.reply
 ends_with_last (x ∷ y ∷ xs) = ends_with_last (y ∷ xs)
 
--- the line of thread i is finished: its last call had such a reply, or it has as many calls as are allowed
+-- the line of thread i is finished: its last call had such a reply, or it has as many calls as are
+-- allowed
 abbrev pub is_finished : SetupOf → List Call → ℕ → Bool
 is_finished s h i =
     ends_with_last (calls_of_thread i h) || nat_le s.calls (length (calls_of_thread i h))
@@ -50,7 +53,8 @@ open_lines s h = open_below (threads s) s h
 pub record IsAllowed (t : Program) (s : SetupOf) (h : List Call) (x : Call) : Type 0 where
   pub thread : x.thread < threads s
   pub unfinished : is_finished s h x.thread ≡ false
-  pub answers : Answers t s.contexts (configuration_after t s h) (granted_threads h) x.thread x.bit x.reply
+  pub answers :
+      Answers t s.contexts (configuration_after t s h) (granted_threads h) x.thread x.bit x.reply
 
 abbrev pub IsLegalAfter : Program → SetupOf → List Call → List Call → Type 0
 IsLegalAfter t s h [] = Unit {0}

@@ -10,13 +10,22 @@ use Rattle.bp_machine.specs.Reports.{IsRun, outcome_of, IsRealFailure}
 
 -- the granted steps of a legal history are moves, one after the other, from the start
 abbrev pub StepsAreARun : Type 0
-StepsAreARun = (t : Program) (s : SetupOf) (h : List Call) → IsLegal t s h → IsRun t (start t s) (granted_calls h) (configuration_after t s h)
+StepsAreARun =
+    (t : Program) (s : SetupOf) (h : List Call)
+    → IsLegal t s h
+    → IsRun t (start t s) (granted_calls h) (configuration_after t s h)
 
 -- and their threads are within the contexts that are allowed
 abbrev pub StepsAreWithin : Type 0
-StepsAreWithin = (t : Program) (s : SetupOf) (h : List Call) → IsLegal t s h → IsWithin s.contexts (granted_threads h)
+StepsAreWithin =
+    (t : Program) (s : SetupOf) (h : List Call)
+    → IsLegal t s h
+    → IsWithin s.contexts (granted_threads h)
 
 -- a reported failure is a false assertion
 abbrev pub FailuresAreReal : Type 0
 FailuresAreReal =
-    (t : Program) (s : SetupOf) (h : List Call) (i : ℕ) → IsLegal t s h → outcome_of h ≡ Failed i → IsRealFailure t s h i
+    (t : Program) (s : SetupOf) (h : List Call) (i : ℕ)
+    → IsLegal t s h
+    → outcome_of h ≡ Failed i
+    → IsRealFailure t s h i

@@ -1,9 +1,9 @@
 -- What a history comes to.
 use Rattle.std.specs.Prelude.{◌≡◌, ℕ, Bool, List, [], ◌∷◌, ◌++◌, Option, length}
 use Rattle.bp_tree.specs.Ast.{Name, Block, Then, Asserts, Decision, Program}
-use Rattle.bp_code.specs.Values.{decided}
+use Rattle.bp_code.specs.Values.{decision_value}
 use Rattle.bp_code.specs.Configurations.{Frame, Configuration}
-use Rattle.bp_code.specs.Moves.{Moves, seen}
+use Rattle.bp_code.specs.Moves.{Moves, frame_store}
 use Rattle.bp_machine.specs.declared.calls.Reply.{Reply}
 use Rattle.bp_machine.specs.declared.calls.Reply.TheVariants.{Failed}
 use Rattle.bp_machine.specs.declared.calls.Call.{Call}
@@ -46,14 +46,15 @@ pub record IsAtFalseAssertion (c : Configuration) (i : ℕ) (bit : Bool) : Type 
   pub decision : Decision
   pub rest : Block
   pub asserts : frame.left ≡ Then label at (Asserts decision) rest
-  pub false : decided (seen c.globals frame) bit decision ≡ Bool.false
+  pub false : decision_value (frame_store c.globals frame) bit decision ≡ Bool.false
 
--- the last granted step of thread i in the history is at such an assertion
+-- the last granted step of the history is a failed one of thread i, at such an assertion
 pub record IsRealFailure (t : Program) (s : SetupOf) (h : List Call) (i : ℕ) : Type 0 where
   pub before : List Call
   pub call : Call
   pub later : List Call
   pub whole : h ≡ before ++ call ∷ later
   pub thread : call.thread ≡ i
+  pub failed : call.reply ≡ Failed
   pub last : granted_threads later ≡ []
   pub stands : IsAtFalseAssertion (configuration_after t s before) i call.bit

@@ -1,11 +1,12 @@
--- Encodings of the values of sessions, each record as the tuple of its fields. No public clause names one.
+-- Encodings of the values of sessions, each record as the tuple of its fields. No public clause
+-- names one.
 use Rattle.std.specs.Prelude.{ℕ, Bool, List, Option, refl}
 use Rattle.std.specs.Coded.{Coded, code_by, coded×, coded_ℕ, coded_bool, coded_list, coded_option}
 use Rattle.bp_code.specs.Flat.{Flat}
 use Rattle.bp_code.specs.Codes.{coded_flat}
 use Rattle.bp_machine.specs.declared.contexts.ContextCount.{ContextCount}
 use Rattle.bp_machine.specs.declared.stacks.ActivationRecord.{ActivationRecord}
-use Rattle.bp_machine.specs.Setups.{SetupOf}
+use Rattle.bp_machine.specs.Setups.{SetupOf, setup_of}
 use Rattle.bp_machine.specs.GuestThreads.{GuestThreadOf}
 use Rattle.bp_machine.specs.States.{State}
 use Rattle.bp_machine.specs.Sessions.{SessionOf}
@@ -13,17 +14,24 @@ use Rattle.bp_machine.specs.Sessions.{SessionOf}
 abbrev pub coded_setup : Coded SetupOf
 coded_setup =
     code_by ((List (List ℕ) × List Bool) × ((ℕ × ℕ) × Option ℕ))
-    (coded× (coded× (coded_list (coded_list coded_ℕ)) (coded_list coded_bool)) (coded× (coded× coded_ℕ coded_ℕ) (coded_option coded_ℕ)))
+    (coded×
+      (coded× (coded_list (coded_list coded_ℕ)) (coded_list coded_bool))
+      (coded× (coded× coded_ℕ coded_ℕ) (coded_option coded_ℕ)))
     (λ s. ((s.entries, s.init), ((s.contexts, s.calls), s.seed)))
-    (λ p. record { entries = p.0.0; init = p.0.1; contexts = p.1.0.0; calls = p.1.0.1; seed = p.1.1 })
+    (λ p. setup_of p.0.0 p.0.1 p.1.0.0 p.1.0.1 p.1.1)
     (λ _. refl)
 
 abbrev pub coded_activation_record : Coded ActivationRecord
-coded_activation_record = code_by (ℕ × ℕ) (coded× coded_ℕ coded_ℕ) (λ f. (f.number, f.locals)) (λ p. record { number = p.0; locals = p.1 }) (λ _. refl)
+coded_activation_record =
+    code_by (ℕ × ℕ) (coded× coded_ℕ coded_ℕ)
+    (λ f. (f.number, f.locals))
+    (λ p. record { number = p.0; locals = p.1 })
+    (λ _. refl)
 
 abbrev pub coded_thread : Coded GuestThreadOf
 coded_thread =
-    code_by (List ActivationRecord × (ℕ × Bool)) (coded× (coded_list coded_activation_record) (coded× coded_ℕ coded_bool))
+    code_by (List ActivationRecord × (ℕ × Bool))
+    (coded× (coded_list coded_activation_record) (coded× coded_ℕ coded_bool))
     (λ l. (l.stack, (l.calls, l.ended)))
     (λ p. record { stack = p.0; calls = p.1.0; ended = p.1.1 })
     (λ _. refl)

@@ -11,10 +11,10 @@ use Rattle.bp_machine.specs.Histories.{is_finished}
 use Rattle.bp_machine.specs.States.{State, StandsAfter}
 
 -- the number of a fault
-abbrev pub number_of_ask_fault : AskFault → ℕ
-number_of_ask_fault NoThread = 36
-number_of_ask_fault Finished = 37
-number_of_ask_fault Memory = 7
+abbrev pub ask_fault_number : AskFault → ℕ
+ask_fault_number NoThread = 36
+ask_fault_number Finished = 37
+ask_fault_number Memory = 7
 
 -- a session without memory
 pub record SessionOf : Type 0 where
@@ -36,8 +36,8 @@ pub record IsInOrder (x : SessionOf) : Type 0 where
   pub thread_count : length x.state.threads ≡ threads x.setup
   pub stands : ∥ ((t : Program) × (h : List Call) × StandsFor x.code t × Stands t x h) ∥₁
 
--- When a call of thread i is refused after the history h: where there is no such thread; else where its line is
--- finished. Of memory nothing is said.
+-- When a call of thread i is refused after the history h: where there is no such thread; else where
+-- its line is finished. Of memory nothing is said.
 abbrev pub IsAskRefusal : SetupOf → List Call → ℕ → AskFault → Type 0
 IsAskRefusal s h i NoThread = threads s ≤ i
 IsAskRefusal s h i Finished = (i < threads s) × (is_finished s h i ≡ true)

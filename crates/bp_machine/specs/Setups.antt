@@ -2,16 +2,16 @@
 use Rattle.std.specs.Prelude.{if◌then◌else◌, ◌≡◌, ℕ, ◌+◌, ◌<◌, ◌≤◌, ◌==◌, Bool, not, ◌||◌, nat_lt, List, [], ◌∷◌, Option, None, Some, is_some, length}
 use Rattle.std.specs.Option.{option_or}
 use Rattle.bp_tree.specs.Ast.{Program}
-use Rattle.bp_check.specs.Faults.{max_globals}
+use Rattle.bp_check.specs.declared.limits.TheConstants.{MAX_GLOBALS}
 use Rattle.bp_code.specs.Configurations.{Configuration, start_of}
 use Rattle.bp_code.specs.Flat.{Flat, Heading}
-use Rattle.bp_code.specs.Listing.{heading_named}
+use Rattle.bp_code.specs.Compiled.{heading_named}
 use Rattle.bp_machine.specs.declared.limits.TheConstants.{MAX_THREADS, MAX_CONTEXTS, MAX_CALLS}
 use Rattle.bp_machine.specs.declared.setups.SetupFault.{SetupFault}
 use Rattle.bp_machine.specs.declared.setups.SetupFault.TheVariants.{Threads, UnknownEntry, EntryHasFormals, InitLength, OutOfRange, Memory}
 
--- an entry procedure for each thread, a bit for each global, the contexts and the calls of a thread that are
--- allowed, and the seed of the choice bits
+-- an entry procedure for each thread, a bit for each global, the contexts and the calls of a thread
+-- that are allowed, and the seed of the choice bits
 pub record SetupOf : Type 0 where
   pub entries : List (List ℕ)
   pub init : List Bool
@@ -20,7 +20,13 @@ pub record SetupOf : Type 0 where
   pub seed : Option ℕ
 
 abbrev pub setup_of : List (List ℕ) → List Bool → ℕ → ℕ → Option ℕ → SetupOf
-setup_of entries init contexts calls seed = record { entries = entries; init = init; contexts = contexts; calls = calls; seed = seed }
+setup_of entries init contexts calls seed = record {
+  entries = entries;
+  init = init;
+  contexts = contexts;
+  calls = calls;
+  seed = seed;
+}
 
 abbrev pub threads : SetupOf → ℕ
 threads s = length s.entries
@@ -37,7 +43,8 @@ entry_fault k (Some h) = if h.formals == 0 then None else Some (EntryHasFormals 
 -- the first fault of the entries from thread k on
 abbrev pub entries_fault : Flat → ℕ → List (List ℕ) → Option SetupFault
 entries_fault c k [] = None
-entries_fault c k (e ∷ es) = option_or (entry_fault k (heading_named c.headings e)) (entries_fault c (k + 1) es)
+entries_fault c k (e ∷ es) =
+    option_or (entry_fault k (heading_named c.headings e)) (entries_fault c (k + 1) es)
 
 -- there are no threads, or too many
 abbrev pub has_bad_threads : SetupOf → Bool
@@ -64,7 +71,13 @@ setup_fault c s = first_of (
     ∷ fault_if (is_out_of_range s) OutOfRange
     ∷ [])
 
--- the setup fits the code: each entry is a procedure of it without formals, and there is a bit for each global
+-- why a setup is refused for a code: its first fault, or, where it has none, for memory
+abbrev pub IsSetupRefusal : Flat → SetupOf → SetupFault → Type 0
+IsSetupRefusal c s Memory = setup_fault c s ≡ None
+IsSetupRefusal c s f = setup_fault c s ≡ Some f
+
+-- the setup fits the code: each entry is a procedure of it without formals, and there is a bit for
+-- each global
 pub record Fits (c : Flat) (s : SetupOf) : Type 0 where
   pub entries : entries_fault c 0 s.entries ≡ None
   pub init : length s.init ≡ c.globals
@@ -73,23 +86,23 @@ pub record Fits (c : Flat) (s : SetupOf) : Type 0 where
 pub record IsInRange (s : SetupOf) : Type 0 where
   pub some : 0 < threads s
   pub few : threads s ≤ MAX_THREADS
-  pub bits : length s.init ≤ max_globals
+  pub bits : length s.init ≤ MAX_GLOBALS
   pub contexts : s.contexts ≤ MAX_CONTEXTS
   pub one : 0 < s.calls
   pub calls : s.calls ≤ MAX_CALLS
   pub unseeded : s.seed ≡ None
 
 -- the number of a fault
-abbrev pub number_of_setup_fault : SetupFault → ℕ
-number_of_setup_fault Threads = 31
-number_of_setup_fault (UnknownEntry k) = 32
-number_of_setup_fault (EntryHasFormals k) = 33
-number_of_setup_fault InitLength = 34
-number_of_setup_fault OutOfRange = 35
-number_of_setup_fault Memory = 7
+abbrev pub setup_fault_number : SetupFault → ℕ
+setup_fault_number Threads = 31
+setup_fault_number (UnknownEntry k) = 32
+setup_fault_number (EntryHasFormals k) = 33
+setup_fault_number InitLength = 34
+setup_fault_number OutOfRange = 35
+setup_fault_number Memory = 7
 
 -- the thread that a fault names
-abbrev pub place_of_setup_fault : SetupFault → Option ℕ
-place_of_setup_fault (UnknownEntry k) = Some k
-place_of_setup_fault (EntryHasFormals k) = Some k
-place_of_setup_fault f = None
+abbrev pub setup_fault_place : SetupFault → Option ℕ
+setup_fault_place (UnknownEntry k) = Some k
+setup_fault_place (EntryHasFormals k) = Some k
+setup_fault_place f = None

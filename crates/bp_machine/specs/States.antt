@@ -4,7 +4,7 @@ use Rattle.bp_tree.specs.Ast.{Program}
 use Rattle.bp_code.specs.Configurations.{Configuration}
 use Rattle.bp_code.specs.Bits.{bits_of}
 use Rattle.bp_code.specs.Steps.{Activation}
-use Rattle.bp_code.specs.StandsFor.{named}
+use Rattle.bp_code.specs.StandsFor.{valuation_of}
 use Rattle.bp_code.specs.Alike.{ShowsStack}
 use Rattle.bp_machine.specs.declared.calls.Call.{Call}
 use Rattle.bp_machine.specs.declared.contexts.ContextCount.{ContextCount}
@@ -29,7 +29,8 @@ abbrev pub activations : List ActivationRecord → List Activation
 activations fs = map activation_of fs
 
 -- this is thread i after the history, in the configuration c
-pub record ShowsThread (t : Program) (c : Configuration) (h : List Call) (i : ℕ) (guest : GuestThreadOf) : Type 0 where
+pub record ShowsThread
+    (t : Program) (c : Configuration) (h : List Call) (i : ℕ) (guest : GuestThreadOf) : Type 0 where
   pub stack : ShowsStack t (activations guest.stack) (stack_of c i)
   pub calls : guest.calls ≡ length (calls_of_thread i h)
   pub ended : guest.ended ≡ ends_with_last (calls_of_thread i h)
@@ -37,7 +38,7 @@ pub record ShowsThread (t : Program) (c : Configuration) (h : List Call) (i : �
 -- the state is that of the machine after the legal history h
 pub record StandsAfter (t : Program) (s : SetupOf) (x : State) (h : List Call) : Type 0 where
   pub legal : IsLegal t s h
-  pub globals : (configuration_after t s h).globals ≡ named t.globals (bits_of x.globals)
+  pub globals : (configuration_after t s h).globals ≡ valuation_of t.globals (bits_of x.globals)
   pub failed : (configuration_after t s h).failed ≡ x.failed
   pub stacks : length (configuration_after t s h).stacks ≡ threads s
   pub thread_count : length x.threads ≡ threads s

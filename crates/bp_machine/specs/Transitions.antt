@@ -1,13 +1,14 @@
--- What a call of a thread comes to in a session, and the state after it: how a session works, which no public
--- clause names.
+-- What a call of a thread comes to in a session, and the state after it: how a session works, which
+-- no public clause names.
 use Rattle.std.specs.Prelude.{if◌then◌else◌, ◌≡◌, ℕ, ◌+◌, ◌<◌, ◌^◌, Bool, true, false, ◌||◌, nat_le, List, [], ◌∷◌, Option, None, Some, length, slice_get, slice_set}
 use Rattle.bp_code.specs.Flat.{Instruction}
-use Rattle.bp_code.specs.Bits.{words_of}
-use Rattle.bp_code.specs.declared.deeds.Deed.{Deed}
-use Rattle.bp_code.specs.declared.deeds.Deed.TheVariants.{Goes, Enters, Returns}
-use Rattle.bp_code.specs.declared.deeds.Deed.TheVariants as deed
-use Rattle.bp_code.specs.Deeds.{outcome_of}
-use Rattle.bp_code.specs.Steps.{Activation, done_by}
+use Rattle.bp_code.specs.Bits.{store_of}
+use Rattle.bp_code.specs.declared.stores.Store.{Store}
+use Rattle.bp_code.specs.declared.effects.Effect.{Effect}
+use Rattle.bp_code.specs.declared.effects.Effect.TheVariants.{Continues, Enters, Returns}
+use Rattle.bp_code.specs.declared.effects.Effect.TheVariants as instr
+use Rattle.bp_code.specs.InstrEffects.{effect_of}
+use Rattle.bp_code.specs.Steps.{Activation, instruction_effect}
 use Rattle.bp_machine.specs.declared.calls.Reply.{Reply}
 use Rattle.bp_machine.specs.declared.calls.Reply.TheVariants.{Stopped, Ended, NoContexts, Full, Blocked, Failed, Stepped}
 use Rattle.bp_machine.specs.declared.stacks.ActivationRecord.{ActivationRecord}
@@ -22,36 +23,47 @@ use Rattle.bp_machine.specs.States.{State}
 use Rattle.bp_machine.specs.declared.sessions.AskFault.{AskFault}
 use Rattle.bp_machine.specs.declared.sessions.AskFault.TheVariants.{NoThread, Finished, Memory}
 
--- the deed is that of the instruction in this frame
-pub record IsDeedOf (i : Instruction) (globals : ℕ) (f : ActivationRecord) (bit : Bool) (d : Deed) : Type 0 where
-  pub each : (below : List Activation)
-      → outcome_of (record { globals = globals; locals = f.locals }) d below ≡ done_by i (words_of (record { globals = globals; locals = f.locals })) below bit
+-- what the topmost record sees: the globals, and its locals
+abbrev pub store_at : ℕ → ActivationRecord → Store
+store_at globals f = record { globals = globals; locals = f.locals }
 
--- what a deed comes to, where the stack may be full
-abbrev pub transition_of : Deed → Bool → Transition
+-- the effect is that of the instruction, where it sees this store
+pub record IsEffectOf (i : Instruction) (s : Store) (bit : Bool) (d : Effect) : Type 0 where
+  pub each : (below : List Activation)
+      → effect_of s d below ≡ instruction_effect i (store_of s) below bit
+
+-- what an effect comes to, where the stack may be full
+abbrev pub transition_of : Effect → Bool → Transition
 transition_of (Enters c locals m) full = if full then Stays Full else Steps (Enters c locals m)
-transition_of deed.Fails full = Fails
-transition_of deed.Blocks full = Stays Blocked
+transition_of instr.Fails full = Fails
+transition_of instr.Blocks full = Stays Blocked
 transition_of d full = Steps d
 
--- the next instruction of the topmost frame
-abbrev pub IsTransitionAt : Option Instruction → ℕ → ActivationRecord → Bool → Bool → Transition → Type 0
-IsTransitionAt None g f full bit v = v ≡ Stays Ended
-IsTransitionAt (Some i) g f full bit v = (d : Deed) × IsDeedOf i g f bit d × (v ≡ transition_of d full)
+module _ (code : List Instruction) (g : ℕ) (bit : Bool) where
+  -- at the next instruction of the topmost record
+  abbrev pub IsTransitionAt : Option Instruction → ActivationRecord → Bool → Transition → Type 0
+  IsTransitionAt None f full v = v ≡ Stays Ended
+  IsTransitionAt (Some i) f full v =
+      (d : Effect) × IsEffectOf i (store_at g f) bit d × (v ≡ transition_of d full)
 
-abbrev pub IsTransitionOn : List Instruction → ℕ → Bool → List ActivationRecord → Bool → Transition → Type 0
-IsTransitionOn code g fits [] bit v = v ≡ Stays Ended
-IsTransitionOn code g true (f ∷ fs) bit v = IsTransitionAt (slice_get code f.number) g f (nat_le MAX_FRAMES (length (f ∷ fs))) bit v
-IsTransitionOn code g false (f ∷ fs) bit v = v ≡ Stays NoContexts
+  -- on a stack, where one more step fits within the contexts or not
+  abbrev pub IsTransitionOn : Bool → List ActivationRecord → Transition → Type 0
+  IsTransitionOn fits [] v = v ≡ Stays Ended
+  IsTransitionOn true (f ∷ fs) v =
+      IsTransitionAt (slice_get code f.number) f (nat_le MAX_FRAMES (length (f ∷ fs))) v
+  IsTransitionOn false (f ∷ fs) v = v ≡ Stays NoContexts
 
-abbrev pub IsTransitionUnless : Bool → List Instruction → ℕ → Bool → List ActivationRecord → Bool → Transition → Type 0
-IsTransitionUnless true code g fits stack bit v = v ≡ Stays Stopped
-IsTransitionUnless false code g fits stack bit v = IsTransitionOn code g fits stack bit v
+  -- where an assertion failed earlier or not
+  abbrev pub IsTransitionUnless : Bool → Bool → List ActivationRecord → Transition → Type 0
+  IsTransitionUnless true fits stack v = v ≡ Stays Stopped
+  IsTransitionUnless false fits stack v = IsTransitionOn fits stack v
 
 -- what a call of this thread, thread i, comes to, where so many contexts are allowed
-abbrev pub IsTransition : List Instruction → State → ℕ → ℕ → GuestThreadOf → Bool → Transition → Type 0
+abbrev pub IsTransition :
+    List Instruction → State → ℕ → ℕ → GuestThreadOf → Bool → Transition → Type 0
 IsTransition code x most i guest bit v =
-    IsTransitionUnless x.failed code x.globals (nat_le (used_with x.contexts i) most) guest.stack bit v
+    let fits = nat_le (used_with x.contexts i) most in
+    IsTransitionUnless code x.globals bit x.failed fits guest.stack v
 
 abbrev pub reply_of_transition : Transition → Reply
 reply_of_transition (Stays r) = r
@@ -59,11 +71,12 @@ reply_of_transition Fails = Failed
 reply_of_transition (Steps d) = Stepped
 
 -- the stack after a step
-abbrev pub stack_after : Deed → List ActivationRecord → List ActivationRecord
+abbrev pub stack_after : Effect → List ActivationRecord → List ActivationRecord
 stack_after d [] = []
-stack_after (Goes m w) (f ∷ fs) = record { number = m; locals = w.locals } ∷ fs
+stack_after (Continues m w) (f ∷ fs) = record { number = m; locals = w.locals } ∷ fs
 stack_after Returns (f ∷ fs) = fs
-stack_after (Enters c locals m) (f ∷ fs) = record { number = c; locals = locals } ∷ record { number = m; locals = f.locals } ∷ fs
+stack_after (Enters c locals m) (f ∷ fs) =
+    record { number = c; locals = locals } ∷ record { number = m; locals = f.locals } ∷ fs
 stack_after d (f ∷ fs) = f ∷ fs
 
 abbrev pub stack_after_transition : Transition → List ActivationRecord → List ActivationRecord
@@ -79,12 +92,13 @@ thread_after guest v = record {
 }
 
 abbrev pub globals_after : ℕ → Transition → ℕ
-globals_after g (Steps (Goes m w)) = w.globals
+globals_after g (Steps (Continues m w)) = w.globals
 globals_after g v = g
 
 -- the state after a call of thread i
 abbrev pub state_after : State → ℕ → GuestThreadOf → Transition → State
-state_after x i guest (Stays r) = record x { threads = slice_set x.threads i (thread_after guest (Stays r)) }
+state_after x i guest (Stays r) =
+    record x { threads = slice_set x.threads i (thread_after guest (Stays r)) }
 state_after x i guest Fails = record {
   globals = x.globals;
   threads = slice_set x.threads i (thread_after guest Fails);
@@ -108,7 +122,8 @@ abbrev pub is_over : SetupOf → GuestThreadOf → Bool
 is_over s guest = guest.ended || nat_le s.calls guest.calls
 
 -- what a call of thread i comes to, which is there and may make it
-pub record IsNextTransition (code : List Instruction) (s : SetupOf) (x : State) (i : ℕ) (bit : Bool) (v : Transition) : Type 0 where
+pub record IsNextTransition
+    (code : List Instruction) (s : SetupOf) (x : State) (i : ℕ) (bit : Bool) (v : Transition) : Type 0 where
   pub guest : GuestThreadOf
   pub has : slice_get x.threads i ≡ Some guest
   pub goes_on : is_over s guest ≡ false
@@ -117,5 +132,6 @@ pub record IsNextTransition (code : List Instruction) (s : SetupOf) (x : State) 
 -- why a call of thread i is refused before memory is taken
 abbrev pub IsKeptRefusal : SetupOf → State → ℕ → AskFault → Type 0
 IsKeptRefusal s x i NoThread = slice_get x.threads i ≡ None
-IsKeptRefusal s x i Finished = (guest : GuestThreadOf) × (slice_get x.threads i ≡ Some guest) × (is_over s guest ≡ true)
+IsKeptRefusal s x i Finished =
+    (guest : GuestThreadOf) × (slice_get x.threads i ≡ Some guest) × (is_over s guest ≡ true)
 IsKeptRefusal s x i Memory = ⊥

@@ -11,7 +11,8 @@ pub fn steps_are_within()
     ensures { StepsAreWithin }
 {}
 
-/// Where the outcome of a legal history is a failure, its last granted step is at an assertion of 0.
+/// Where the outcome of a legal history is a failure, its last granted step is at an assertion of
+/// 0.
 pub fn failures_are_real()
     ensures { FailuresAreReal }
 {}

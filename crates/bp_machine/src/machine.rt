@@ -14,8 +14,8 @@ use crate::contexts::ContextCount;
 use crate::limits::{MAX_FRAMES, MAX_THREADS};
 use crate::stacks::Stack;
 use crate::threads::{GuestThread, Transition};
-use bp_code::words::bit_at;
-use bp_code::{Code, Deed, Words};
+use bp_code::stores::bit_at;
+use bp_code::{Code, Effect, Store};
 use std::alloc::AllocError;
 use std::marker::Model;
 
@@ -33,30 +33,35 @@ impl Model for Machine {
 
     ghost Value = { State };
 
-    ghost view = { λ m. record { globals = m.globals; threads = m.threads.items; contexts = m.contexts; failed = m.failed } };
+    ghost view = { λ m. record {
+        globals = m.globals;
+        threads = m.threads.items;
+        contexts = m.contexts;
+        failed = m.failed;
+    } };
 }
 
-/// What a deed comes to, where the stack may be full.
-fn transition_of(deed: Deed, is_full: bool) -> Transition
-    ensures { result ≡ transition_of deed is_full }
+/// What an effect comes to, where the stack may be full.
+fn transition_of(effect: Effect, is_full: bool) -> Transition
+    ensures { result ≡ transition_of effect is_full }
 {
-    match deed {
-        Deed::Enters { .. } => {
+    match effect {
+        Effect::Enters { .. } => {
             if is_full {
                 Transition::Stays(Reply::Full)
             } else {
-                Transition::Steps(deed)
+                Transition::Steps(effect)
             }
         }
-        Deed::Fails => Transition::Fails,
-        Deed::Blocks => Transition::Stays(Reply::Blocked),
-        Deed::Goes { .. } | Deed::Returns => Transition::Steps(deed),
+        Effect::Fails => Transition::Fails,
+        Effect::Blocks => Transition::Stays(Reply::Blocked),
+        Effect::Continues { .. } | Effect::Returns => Transition::Steps(effect),
     }
 }
 
 /// What a call of a thread with this stack comes to.
 fn transition_on(code: &Code, globals: u128, fits: bool, stack: &Stack, bit: bool) -> Transition
-    ensures { IsTransitionOn code.now.instructions globals fits stack.now bit result }
+    ensures { IsTransitionOn code.now.instructions globals bit fits stack.now result }
 {
     let Some(top) = stack.top() else {
         return Transition::Stays(Reply::Ended);
@@ -67,19 +72,19 @@ fn transition_on(code: &Code, globals: u128, fits: bool, stack: &Stack, bit: boo
     let Some(instr) = code.get(top.number) else {
         return Transition::Stays(Reply::Ended);
     };
-    let words = Words {
+    let store = Store {
         globals,
         locals: top.locals,
     };
-    transition_of(instr.act(words, bit), stack.len() >= MAX_FRAMES)
+    transition_of(instr.effect(store, bit), stack.len() >= MAX_FRAMES)
 }
 
 /// The globals after a step.
-fn globals_after(globals: u128, deed: Deed) -> u128
-    ensures { result ≡ globals_after globals (Transition.Steps deed) }
+fn globals_after(globals: u128, effect: Effect) -> u128
+    ensures { result ≡ globals_after globals (Transition.Steps effect) }
 {
-    match deed {
-        Deed::Goes { words, .. } => words.globals,
+    match effect {
+        Effect::Continues { store, .. } => store.globals,
         _ => globals,
     }
 }
@@ -169,7 +174,8 @@ impl Machine {
         transition_on(code, self.globals, fits, guest.stack(), bit)
     }
 
-    /// Makes a call of the thread. Only the step of a call takes memory; without it the machine stays.
+    /// Makes a call of the thread. Only the step of a call takes memory; without it the machine
+    /// stays.
     pub(crate) fn make(&mut self, thread: u32, transition: Transition) -> Result<(), AllocError>
         requires within { thread < length self.old.threads }
         requires calls { (guest : GuestThreadOf)
@@ -190,9 +196,9 @@ impl Machine {
                 self.failed = true;
                 Ok(())
             }
-            Transition::Steps(deed) => {
+            Transition::Steps(effect) => {
                 self.contexts = self.contexts.with(thread);
-                self.globals = globals_after(self.globals, deed);
+                self.globals = globals_after(self.globals, effect);
                 Ok(())
             }
         }

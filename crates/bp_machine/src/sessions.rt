@@ -14,7 +14,7 @@ use crate::calls::Call;
 use crate::machine::Machine;
 use crate::setups::Setup;
 use crate::threads::{Transition, first_threads};
-use bp_code::words::word_of;
+use bp_code::stores::word_of;
 use bp_code::{Code, steps_alike};
 use std::alloc::{AllocError, Global};
 use std::marker::Model;
@@ -35,11 +35,11 @@ pub enum AskFault {
 }
 
 impl AskFault {
-    ghost use Rattle.bp_machine.specs.Sessions.{number_of_ask_fault};
+    ghost use Rattle.bp_machine.specs.Sessions.{ask_fault_number};
 
     /// The number of the fault.
     pub fn number(&self) -> u32
-        ensures { result ≡ number_of_ask_fault self.now }
+        ensures { result ≡ ask_fault_number self.now }
     {
         match self {
             AskFault::NoThread => 36,
@@ -69,7 +69,11 @@ impl Model for Session {
 
     ghost view = { λ s. record { code = s.code; setup = s.setup; state = s.machine } };
 
-    ghost invariant = { λ s. IsInOrder (record { code = s.code; setup = s.setup; state = s.machine }) };
+    ghost invariant = { λ s. IsInOrder (record {
+        code = s.code;
+        setup = s.setup;
+        state = s.machine;
+    }) };
 }
 
 impl Session {
@@ -122,7 +126,8 @@ impl Session {
         ensures { (t : Program) (h : List Answered)
             → StandsFor self.now.code t
             → Stands t self.now h
-            → result ≡ option_map (λ e. e.1) (slice_get (configuration_after t self.now.setup h).globals n) }
+            → let globals = (configuration_after t self.now.setup h).globals in
+                result ≡ option_map (λ e. e.1) (slice_get globals n) }
     {
         self.code.is_of_a_program();
         if n >= self.code.globals() {
@@ -160,7 +165,8 @@ impl Session {
 
     /// What a call of the thread comes to.
     fn transition(&self, thread: u32, bit: bool) -> Result<Transition, AskFault>
-        ensures found { IfOk result (IsNextTransition self.now.code.instructions self.now.setup self.now.state thread bit) }
+        ensures found { let code = self.now.code.instructions in
+            IfOk result (IsNextTransition code self.now.setup self.now.state thread bit) }
         ensures refused { IfErr result (λ e. IsKeptRefusal self.now.setup self.now.state thread e) }
     {
         let Some(guest) = self.machine.thread(thread) else {

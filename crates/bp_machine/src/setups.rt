@@ -2,7 +2,7 @@
 ghost use Rattle.std.specs.Prelude.{◌≡◌, ◌⊎◌, ◌≤◌, ℕ, List, None, Some, map, length, slice_get, string_bytes, MatchResult, IfOk, option_map};
 ghost use Rattle.std.specs.Option.{option_copied};
 ghost use Rattle.bp_machine.specs.declared.limits.TheConstants.{MAX_THREADS};
-ghost use Rattle.bp_machine.specs.Setups.{SetupOf, setup_of, threads, entries_fault, entry_fault, setup_fault, is_out_of_range, Fits, IsInRange, number_of_setup_fault, place_of_setup_fault};
+ghost use Rattle.bp_machine.specs.Setups.{SetupOf, setup_of, threads, entries_fault, entry_fault, setup_fault, IsSetupRefusal, Fits, IsInRange, setup_fault_number, setup_fault_place};
 
 use crate::limits::{MAX_CALLS, MAX_CONTEXTS, MAX_THREADS};
 use bp_code::Code;
@@ -25,7 +25,8 @@ pub enum SetupFault {
     /// There is not one initial bit for each global.
     #[error("there must be one initial bit for each global")]
     InitLength,
-    /// More than 1,000 contexts, no call, more than 100,000 calls, or a seed, which no setup takes yet.
+    /// More than 1,000 contexts, no call, more than 100,000 calls, or a seed, which no setup takes
+    /// yet.
     #[error("a number is out of its range")]
     OutOfRange,
     /// There was not enough memory.
@@ -36,7 +37,7 @@ pub enum SetupFault {
 impl SetupFault {
     /// The number by which users know the fault.
     pub fn number(&self) -> u32
-        ensures { result ≡ number_of_setup_fault self.now }
+        ensures { result ≡ setup_fault_number self.now }
     {
         match self {
             SetupFault::Threads => 31,
@@ -50,7 +51,7 @@ impl SetupFault {
 
     /// The thread that the fault names, where it names one.
     pub fn place(&self) -> Option<u32>
-        ensures { result ≡ place_of_setup_fault self.now }
+        ensures { result ≡ setup_fault_place self.now }
     {
         match self {
             SetupFault::UnknownEntry(thread) | SetupFault::EntryHasFormals(thread) => Some(*thread),
@@ -59,8 +60,8 @@ impl SetupFault {
     }
 }
 
-/// An entry procedure for each guest thread, a bit for each global, and how many contexts and how many
-/// calls of a thread are allowed.
+/// An entry procedure for each guest thread, a bit for each global, and how many contexts and how
+/// many calls of a thread are allowed.
 #[derive(Drop)]
 pub struct Setup {
     entries: Vec<String>,
@@ -72,13 +73,14 @@ pub struct Setup {
 
 impl Model for Setup {
     ghost use Rattle.std.specs.Prelude.{map, string_bytes};
-    ghost use Rattle.bp_machine.specs.Setups.{SetupOf, IsInRange};
+    ghost use Rattle.bp_machine.specs.Setups.{SetupOf, setup_of, IsInRange};
 
     ghost Value = { SetupOf };
 
-    ghost view = { λ s. record { entries = map string_bytes s.entries.items; init = s.init.items; contexts = s.contexts; calls = s.calls; seed = s.seed } };
+    ghost view = { λ s. setup_of (map string_bytes s.entries.items) s.init.items s.contexts s.calls s.seed };
 
-    ghost invariant = { λ s. IsInRange (record { entries = map string_bytes s.entries.items; init = s.init.items; contexts = s.contexts; calls = s.calls; seed = s.seed }) };
+    ghost invariant = { λ s. IsInRange
+        (setup_of (map string_bytes s.entries.items) s.init.items s.contexts s.calls s.seed) };
 }
 
 /// The first fault of the entries.
@@ -105,7 +107,8 @@ fn fault_of_setup(
     calls: u32,
     seed: Option<u64>,
 ) -> Option<SetupFault>
-    ensures { result ≡ setup_fault code.now (setup_of (map string_bytes entries.now) init.now contexts calls seed) }
+    ensures { let given = setup_of (map string_bytes entries.now) init.now contexts calls seed in
+        result ≡ setup_fault code.now given }
 {
     if entries.is_empty() || entries.len() > MAX_THREADS {
         return Some(SetupFault::Threads);
@@ -143,7 +146,8 @@ fn kept(
     seed: Option<u64>,
 ) -> Result<Setup, AllocError>
     requires { IsInRange (setup_of (map string_bytes entries.now) init.now contexts calls seed) }
-    ensures { IfOk result (λ s. s ≡ setup_of (map string_bytes entries.now) init.now contexts calls seed) }
+    ensures { let given = setup_of (map string_bytes entries.now) init.now contexts calls seed in
+        IfOk result (λ s. s ≡ given) }
 {
     let entries = copies(alloc, entries)?;
     let init = Vec::from_slice(alloc, init)?;
@@ -168,8 +172,8 @@ impl From<AllocError> for SetupFault {
 }
 
 impl Setup {
-    /// The setup of guest threads that begin with these procedures, on globals with these bits in order of
-    /// declaration, within so many contexts, with at most so many calls of each thread.
+    /// The setup of guest threads that begin with these procedures, on globals with these bits in
+    /// order of declaration, within so many contexts, with at most so many calls of each thread.
     pub fn new(
         alloc: Global,
         code: &Code,
@@ -180,7 +184,9 @@ impl Setup {
         seed: Option<u64>,
     ) -> Result<Setup, SetupFault>
         ensures answer { let given = setup_of (map string_bytes entries.now) init.now contexts calls seed in
-            MatchResult result (λ s. (s ≡ given) × (setup_fault code.now given ≡ None)) (λ e. (e ≡ SetupFault.Memory) ⊎ (setup_fault code.now given ≡ Some e)) }
+            MatchResult result
+            (λ s. (s ≡ given) × (setup_fault code.now given ≡ None))
+            (IsSetupRefusal code.now given) }
         ensures taken { IfOk result (λ s. Fits code.now s × IsInRange s) }
     {
         code.is_of_a_program();
@@ -190,8 +196,8 @@ impl Setup {
         }
     }
 
-    /// The law that the numbers of every setup are within their limits, and that it has no more initial bits
-    /// than a program may have globals.
+    /// The law that the numbers of every setup are within their limits, and that it has no more
+    /// initial bits than a program may have globals.
     pub fn is_in_range(&self)
         ensures { IsInRange self.now }
     {

@@ -2,7 +2,7 @@
 ghost use Rattle.std.specs.Prelude.{◌≡◌, [], ◌∷◌, ◌<◌, ◌≤◌, length, reverse, IfOk, OnOk, OnErr};
 ghost use Rattle.bp_machine.specs.Stacks.{top_of, with_top, entered_top};
 
-use bp_code::Deed;
+use bp_code::Effect;
 use std::alloc::{AllocError, Global};
 use std::marker::Model;
 
@@ -13,7 +13,8 @@ pub struct ActivationRecord {
     pub locals: u128,
 }
 
-/// The calls of a thread that have not returned, the topmost last in memory and first in a contract.
+/// The calls of a thread that have not returned, the topmost last in memory and first in a
+/// contract.
 #[derive(Drop)]
 pub(crate) struct Stack {
     frames: Vec<ActivationRecord>,
@@ -44,7 +45,8 @@ fn enter(
     frame: ActivationRecord,
     next: u32,
 ) -> Result<(), AllocError>
-    ensures ok { OnOk result (reverse frames.new.items ≡ entered_top frame next (reverse frames.old.items)) }
+    ensures ok { OnOk result
+        (reverse frames.new.items ≡ entered_top frame next (reverse frames.old.items)) }
     ensures err { OnErr result (frames.new.items ≡ frames.old.items) }
 {
     let Some(caller) = frames.last().copied() else {
@@ -86,22 +88,22 @@ impl Stack {
     }
 
     /// Makes a step. Only a call takes memory; without it the stack stays.
-    pub(crate) fn make(&mut self, deed: Deed) -> Result<(), AllocError>
-        ensures ok { OnOk result (self.new ≡ stack_after deed self.old) }
+    pub(crate) fn make(&mut self, effect: Effect) -> Result<(), AllocError>
+        ensures ok { OnOk result (self.new ≡ stack_after effect self.old) }
         ensures err { OnErr result (self.new ≡ self.old) }
     {
-        match deed {
-            Deed::Goes { words, next } => replace_top(
+        match effect {
+            Effect::Continues { store, next } => replace_top(
                 &mut self.frames,
                 ActivationRecord {
                     number: next,
-                    locals: words.locals,
+                    locals: store.locals,
                 },
             ),
-            Deed::Returns => {
+            Effect::Returns => {
                 let _ = self.frames.pop();
             }
-            Deed::Enters {
+            Effect::Enters {
                 callee,
                 locals,
                 next,
@@ -113,7 +115,7 @@ impl Stack {
                 },
                 next,
             )?,
-            Deed::Fails | Deed::Blocks => {}
+            Effect::Fails | Effect::Blocks => {}
         }
         Ok(())
     }

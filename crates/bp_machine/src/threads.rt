@@ -5,7 +5,7 @@ ghost use Rattle.bp_machine.specs.Transitions.{thread_after, reply_of_transition
 
 use crate::calls::Reply;
 use crate::stacks::Stack;
-use bp_code::{Code, Deed};
+use bp_code::{Code, Effect};
 use std::alloc::{AllocError, Global};
 use std::marker::Model;
 
@@ -17,7 +17,7 @@ pub(crate) enum Transition {
     /// A failed assertion.
     Fails,
     /// A step.
-    Steps(Deed),
+    Steps(Effect),
 }
 
 impl Transition {
@@ -33,7 +33,8 @@ impl Transition {
     }
 }
 
-/// A guest thread: its stack, how many calls it made, and whether the last of them had a last reply.
+/// A guest thread: its stack, how many calls it made, and whether the last of them had a last
+/// reply.
 #[derive(Drop)]
 pub(crate) struct GuestThread {
     stack: Stack,
@@ -82,8 +83,8 @@ impl GuestThread {
         ensures ok { OnOk result (self.new ≡ thread_after self.old transition) }
         ensures err { OnErr result (self.new ≡ self.old) }
     {
-        if let Transition::Steps(deed) = transition {
-            self.stack.make(deed)?;
+        if let Transition::Steps(effect) = transition {
+            self.stack.make(effect)?;
         }
         self.calls += 1;
         self.ended = transition.reply().is_last();
@@ -97,7 +98,8 @@ pub(crate) fn first_threads(
     code: &Code,
     entries: &[String],
 ) -> Result<Vec<GuestThread>, AllocError>
-    ensures { IfOk result (λ v. v.items ≡ map (first_thread code.now) (map string_bytes entries.now)) }
+    ensures { IfOk result
+        (λ v. v.items ≡ map (first_thread code.now) (map string_bytes entries.now)) }
 {
     let mut threads = Vec::new(alloc);
     for name in entries {

@@ -5,7 +5,8 @@ use Rattle.std.specs.Coded.{le_prop}
 use Rattle.bp_tree.specs.Ast.{Name, Expression, Constant, Variable, Negation, Operation, Decision, Choose, Decide, Block, Done, Then, Statement, Skips, GoesTo, Returns, Assigns, Branches, Loops, Asserts, Assumes, Prints, Calls, Procedure, Program}
 use Rattle.bp_syntax.specs.NamesIn.{EachName, NamesInExpression, NamesInExpressions, NamesInDecision, NamesInLabel, NamesInBlock, NamesInStatement, NamesInProcedure, NamesInProcedures, NamesInProgram}
 use Rattle.bp_syntax.specs.Texts.{IsTextOf, HasText}
-use Rattle.bp_syntax.proofs.NamesOf.{IsShort, Spelled, in_program, longer, tokens_short}
+use Rattle.bp_syntax.specs.declared.limits.TheConstants.{TEXT_LIMIT}
+use Rattle.bp_syntax.proofs.NamesOfTokens.{IsShort, Spelled, in_program, longer, tokens_short}
 
 -- where each name's fact has one proof, so has that of all names
 module _ (P : Name → Type 0) (one : (n : Name) (x y : P n) → x ≡ y) where
@@ -59,15 +60,15 @@ module _ (P : Name → Type 0) (one : (n : Name) (x y : P n) → x ≡ y) where
   one_program : (p : Program) (x y : NamesInProgram P p) → x ≡ y
   one_program p x y = λ i. (one_each p.globals x.0 y.0 i, one_procedures p.procedures x.1 y.1 i)
 
-of_text : (text : List ℕ) (p : Program) → IsTextOf text p → NamesInProgram (IsShort 65536) p
+of_text : (text : List ℕ) (p : Program) → IsTextOf text p → NamesInProgram (IsShort TEXT_LIMIT) p
 of_text text p is =
     let scanned = is.scanned in
     let short = is.short in
     let here : Spelled (IsShort (length text)) is.tokens = subst (Spelled (IsShort (length text))) scanned.tokens (tokens_short scanned.cut) in
-    in_program (IsShort 65536) is.derives (longer (length text) 65536 is.tokens (omega (arith, short)) here)
+    in_program (IsShort TEXT_LIMIT) is.derives (longer (length text) TEXT_LIMIT is.tokens (omega (arith, short)) here)
 
-pub short_names : (p : Program) → HasText p → NamesInProgram (λ n. length n.text ≤ 65536) p
-short_names p of_some = ∥∥₁_elim of_some (one_program (IsShort 65536) (λ n. le_prop) p) short
+pub short_names : (p : Program) → HasText p → NamesInProgram (λ n. length n.text ≤ TEXT_LIMIT) p
+short_names p of_some = ∥∥₁_elim of_some (one_program (IsShort TEXT_LIMIT) (λ n. le_prop) p) short
   where
-    short : (text : List ℕ) × IsTextOf text p → NamesInProgram (IsShort 65536) p
+    short : (text : List ℕ) × IsTextOf text p → NamesInProgram (IsShort TEXT_LIMIT) p
     short (text, is) = of_text text p is

@@ -1,12 +1,12 @@
 -- Each kind of token has a spelling.
 use Rattle.std.proofs.Common.{ℕ, List, refl, codes}
 use Rattle.bp_syntax.specs.Tokens.{Token, IsReal}
-use Rattle.bp_syntax.specs.declared.tokens.Kind.{Kind}
-use Rattle.bp_syntax.specs.declared.tokens.Kind.TheVariants as kind
-use Rattle.bp_syntax.specs.declared.tokens.Sort.TheVariants as sort
+use Rattle.bp_syntax.specs.declared.tokens.TokenKind.{TokenKind}
+use Rattle.bp_syntax.specs.declared.tokens.TokenKind.TheVariants as kind
+use Rattle.bp_syntax.specs.declared.tokens.LexemeKind.TheVariants as lexeme
 
 -- a spelling of each kind of token
-abbrev pub spelling : Kind → List ℕ
+abbrev pub spelling : TokenKind → List ℕ
 spelling kind.Name = codes "a"
 spelling kind.Zero = codes "0"
 spelling kind.One = codes "1"
@@ -41,40 +41,40 @@ spelling kind.Assert = codes "assert"
 spelling kind.Print = codes "print"
 spelling kind.Assume = codes "assume"
 
-abbrev pub some_token : Kind → Token
+abbrev pub some_token : TokenKind → Token
 some_token k = record { kind = k; at = 0; text = spelling k }
 
-pub some_real : (k : Kind) → IsReal (some_token k)
-some_real kind.Name = record { sort = sort.Identifier; fits = refl; spells = refl }
-some_real kind.Zero = record { sort = sort.Constant; fits = refl; spells = refl }
-some_real kind.One = record { sort = sort.Constant; fits = refl; spells = refl }
-some_real kind.Semicolon = record { sort = sort.Symbol; fits = refl; spells = refl }
-some_real kind.Comma = record { sort = sort.Symbol; fits = refl; spells = refl }
-some_real kind.Open = record { sort = sort.Symbol; fits = refl; spells = refl }
-some_real kind.Close = record { sort = sort.Symbol; fits = refl; spells = refl }
-some_real kind.Colon = record { sort = sort.Symbol; fits = refl; spells = refl }
-some_real kind.Bar = record { sort = sort.Symbol; fits = refl; spells = refl }
-some_real kind.Ampersand = record { sort = sort.Symbol; fits = refl; spells = refl }
-some_real kind.Caret = record { sort = sort.Symbol; fits = refl; spells = refl }
-some_real kind.Equal = record { sort = sort.Symbol; fits = refl; spells = refl }
-some_real kind.Bang = record { sort = sort.Symbol; fits = refl; spells = refl }
-some_real kind.Question = record { sort = sort.Symbol; fits = refl; spells = refl }
-some_real kind.Becomes = record { sort = sort.Symbol; fits = refl; spells = refl }
-some_real kind.Differ = record { sort = sort.Symbol; fits = refl; spells = refl }
-some_real kind.Implies = record { sort = sort.Symbol; fits = refl; spells = refl }
-some_real kind.Decl = record { sort = sort.Identifier; fits = refl; spells = refl }
-some_real kind.Begin = record { sort = sort.Identifier; fits = refl; spells = refl }
-some_real kind.End = record { sort = sort.Identifier; fits = refl; spells = refl }
-some_real kind.Skip = record { sort = sort.Identifier; fits = refl; spells = refl }
-some_real kind.Goto = record { sort = sort.Identifier; fits = refl; spells = refl }
-some_real kind.Return = record { sort = sort.Identifier; fits = refl; spells = refl }
-some_real kind.If = record { sort = sort.Identifier; fits = refl; spells = refl }
-some_real kind.Then = record { sort = sort.Identifier; fits = refl; spells = refl }
-some_real kind.Else = record { sort = sort.Identifier; fits = refl; spells = refl }
-some_real kind.Fi = record { sort = sort.Identifier; fits = refl; spells = refl }
-some_real kind.While = record { sort = sort.Identifier; fits = refl; spells = refl }
-some_real kind.Do = record { sort = sort.Identifier; fits = refl; spells = refl }
-some_real kind.Od = record { sort = sort.Identifier; fits = refl; spells = refl }
-some_real kind.Assert = record { sort = sort.Identifier; fits = refl; spells = refl }
-some_real kind.Print = record { sort = sort.Identifier; fits = refl; spells = refl }
-some_real kind.Assume = record { sort = sort.Identifier; fits = refl; spells = refl }
+pub some_real : (k : TokenKind) → IsReal (some_token k)
+some_real kind.Name = record { lexeme = lexeme.Identifier; fits = refl; spells = refl }
+some_real kind.Zero = record { lexeme = lexeme.Constant; fits = refl; spells = refl }
+some_real kind.One = record { lexeme = lexeme.Constant; fits = refl; spells = refl }
+some_real kind.Semicolon = record { lexeme = lexeme.Symbol; fits = refl; spells = refl }
+some_real kind.Comma = record { lexeme = lexeme.Symbol; fits = refl; spells = refl }
+some_real kind.Open = record { lexeme = lexeme.Symbol; fits = refl; spells = refl }
+some_real kind.Close = record { lexeme = lexeme.Symbol; fits = refl; spells = refl }
+some_real kind.Colon = record { lexeme = lexeme.Symbol; fits = refl; spells = refl }
+some_real kind.Bar = record { lexeme = lexeme.Symbol; fits = refl; spells = refl }
+some_real kind.Ampersand = record { lexeme = lexeme.Symbol; fits = refl; spells = refl }
+some_real kind.Caret = record { lexeme = lexeme.Symbol; fits = refl; spells = refl }
+some_real kind.Equal = record { lexeme = lexeme.Symbol; fits = refl; spells = refl }
+some_real kind.Bang = record { lexeme = lexeme.Symbol; fits = refl; spells = refl }
+some_real kind.Question = record { lexeme = lexeme.Symbol; fits = refl; spells = refl }
+some_real kind.Becomes = record { lexeme = lexeme.Symbol; fits = refl; spells = refl }
+some_real kind.Differ = record { lexeme = lexeme.Symbol; fits = refl; spells = refl }
+some_real kind.Implies = record { lexeme = lexeme.Symbol; fits = refl; spells = refl }
+some_real kind.Decl = record { lexeme = lexeme.Identifier; fits = refl; spells = refl }
+some_real kind.Begin = record { lexeme = lexeme.Identifier; fits = refl; spells = refl }
+some_real kind.End = record { lexeme = lexeme.Identifier; fits = refl; spells = refl }
+some_real kind.Skip = record { lexeme = lexeme.Identifier; fits = refl; spells = refl }
+some_real kind.Goto = record { lexeme = lexeme.Identifier; fits = refl; spells = refl }
+some_real kind.Return = record { lexeme = lexeme.Identifier; fits = refl; spells = refl }
+some_real kind.If = record { lexeme = lexeme.Identifier; fits = refl; spells = refl }
+some_real kind.Then = record { lexeme = lexeme.Identifier; fits = refl; spells = refl }
+some_real kind.Else = record { lexeme = lexeme.Identifier; fits = refl; spells = refl }
+some_real kind.Fi = record { lexeme = lexeme.Identifier; fits = refl; spells = refl }
+some_real kind.While = record { lexeme = lexeme.Identifier; fits = refl; spells = refl }
+some_real kind.Do = record { lexeme = lexeme.Identifier; fits = refl; spells = refl }
+some_real kind.Od = record { lexeme = lexeme.Identifier; fits = refl; spells = refl }
+some_real kind.Assert = record { lexeme = lexeme.Identifier; fits = refl; spells = refl }
+some_real kind.Print = record { lexeme = lexeme.Identifier; fits = refl; spells = refl }
+some_real kind.Assume = record { lexeme = lexeme.Identifier; fits = refl; spells = refl }

@@ -1,131 +1,324 @@
--- The grammar, a rule for each production, in the order of docs/language.md; the lists of names and expressions stand
--- last. That a list of tokens begins with a phrase of some tree, and what follows the phrase, is said by IsExpr ts e r
--- and the like.
+-- The grammar, a rule for each production, in the order of docs/language.md; the lists of names and
+-- expressions come last. IsExpr ts e rest says that the tokens ts begin with an expression, which
+-- is e, and that the tokens rest follow it; so with the other phrases. Tokens are named for what
+-- begins with them.
 use Rattle.std.specs.Prelude.{◌≡◌, ℕ, true, false, List, [], ◌∷◌, ◌++◌, Option, None, Some}
 use Rattle.bp_tree.specs.Ast.{Name, Expression, Constant, Variable, Negation, Operation, Decision, Choose, Decide, Block, Done, Then, Statement, Skips, GoesTo, Returns, Assigns, Branches, Loops, Asserts, Assumes, Prints, Calls, Procedure, Program}
 use Rattle.bp_tree.specs.declared.exprs.Op.TheVariants as op
 use Rattle.bp_syntax.specs.Tokens.{Token}
-use Rattle.bp_syntax.specs.declared.tokens.Kind.TheVariants as kind
+use Rattle.bp_syntax.specs.declared.tokens.TokenKind.{TokenKind}
+use Rattle.bp_syntax.specs.declared.tokens.TokenKind.TheVariants as kind
+
+-- a word: the first token is of this kind, and the rest follows it
+pub data Word (k : TokenKind) : List Token → List Token → Type 0 where
+  first_word : {token : Token} {rest : List Token} → token.kind ≡ k → Word k (token ∷ rest) rest
 
 -- the name that a token spells
 abbrev pub name_of : Token → Name
-name_of x = record { text = x.text; at = x.at }
+name_of token = record { text = token.text; at = token.at }
+
+-- NAME
+pub data IsName : List Token → Name → List Token → Type 0 where
+  first_name :
+      {token : Token} {rest : List Token}
+      → token.kind ≡ kind.Name
+      → IsName (token ∷ rest) (name_of token) rest
 
 mutual
   -- program = decl* proc*
   pub data Derives : List Token → Program → Type 0 where
-    program : (ts : List Token) (gs : List Name) (us : List Token) (ps : List Procedure) → IsDecls ts gs us → IsProcs us ps [] → Derives ts (record { globals = gs; procedures = ps })
+    program :
+        {ts at_procs : List Token} {globals : List Name} {procedures : List Procedure}
+        → IsDecls ts globals at_procs
+        → IsProcs at_procs procedures []
+        → Derives ts (record { globals = globals; procedures = procedures })
 
   -- decl*
   pub data IsDecls : List Token → List Name → List Token → Type 0 where
-    no_decl : (r : List Token) → IsDecls r [] r
-    more_decls : (ts : List Token) (ns : List Name) (us : List Token) (ms : List Name) (r : List Token) → IsDecl ts ns us → IsDecls us ms r → IsDecls ts (ns ++ ms) r
+    no_decl : {rest : List Token} → IsDecls rest [] rest
+    more_decls :
+        {ts at_more rest : List Token} {names more : List Name}
+        → IsDecl ts names at_more
+        → IsDecls at_more more rest
+        → IsDecls ts (names ++ more) rest
 
   -- decl = "decl" NAME,+ ";"
   pub data IsDecl : List Token → List Name → List Token → Type 0 where
-    decl : (x : Token) (ts : List Token) (ns : List Name) (y : Token) (r : List Token) → x.kind ≡ kind.Decl → IsNames ts ns (y ∷ r) → y.kind ≡ kind.Semicolon → IsDecl (x ∷ ts) ns r
+    decl :
+        {ts at_names at_end rest : List Token} {names : List Name}
+        → Word kind.Decl ts at_names
+        → IsNames at_names names at_end
+        → Word kind.Semicolon at_end rest
+        → IsDecl ts names rest
 
   -- proc*
   pub data IsProcs : List Token → List Procedure → List Token → Type 0 where
-    no_proc : (r : List Token) → IsProcs r [] r
-    more_procs : (ts : List Token) (p : Procedure) (us : List Token) (ps : List Procedure) (r : List Token) → IsProc ts p us → IsProcs us ps r → IsProcs ts (p ∷ ps) r
+    no_proc : {rest : List Token} → IsProcs rest [] rest
+    more_procs :
+        {ts at_more rest : List Token} {procedure : Procedure} {more : List Procedure}
+        → IsProc ts procedure at_more
+        → IsProcs at_more more rest
+        → IsProcs ts (procedure ∷ more) rest
 
   -- proc = NAME "(" NAME,* ")" "begin" decl* stmt+ "end"
   pub data IsProc : List Token → Procedure → List Token → Type 0 where
-    proc : (x y : Token) (ts : List Token) (fs : List Name) (z v : Token) (us : List Token) (ls : List Name) (vs : List Token) (b : Block) (w : Token) (r : List Token) → x.kind ≡ kind.Name → y.kind ≡ kind.Open → IsAnyNames ts fs (z ∷ v ∷ us) → z.kind ≡ kind.Close → v.kind ≡ kind.Begin → IsDecls us ls vs → IsStmts vs b (w ∷ r) → w.kind ≡ kind.End → IsProc (x ∷ y ∷ ts) (record { name = name_of x; formals = fs; locals = ls; body = b }) r
+    proc :
+        {ts at_open at_formals at_close at_begin at_locals at_body at_end rest : List Token}
+        {name : Name} {formals locals : List Name} {body : Block}
+        → IsName ts name at_open
+        → Word kind.Open at_open at_formals
+        → IsAnyNames at_formals formals at_close
+        → Word kind.Close at_close at_begin
+        → Word kind.Begin at_begin at_locals
+        → IsDecls at_locals locals at_body
+        → IsStmts at_body body at_end
+        → Word kind.End at_end rest
+        → IsProc ts (record { name = name; formals = formals; locals = locals; body = body }) rest
 
   -- stmt+
   pub data IsStmts : List Token → Block → List Token → Type 0 where
-    one_stmt : (ts : List Token) (l : Option Name) (at : ℕ) (s : Statement) (r : List Token) → IsStmt ts l at s r → IsStmts ts (Then l at s Done) r
-    more_stmts : (ts : List Token) (l : Option Name) (at : ℕ) (s : Statement) (us : List Token) (b : Block) (r : List Token) → IsStmt ts l at s us → IsStmts us b r → IsStmts ts (Then l at s b) r
+    one_stmt :
+        {ts rest : List Token} {label : Option Name} {at : ℕ} {statement : Statement}
+        → IsStmt ts label at statement rest
+        → IsStmts ts (Then label at statement Done) rest
+    more_stmts :
+        {ts at_more rest : List Token}
+        {label : Option Name} {at : ℕ} {statement : Statement} {more : Block}
+        → IsStmt ts label at statement at_more
+        → IsStmts at_more more rest
+        → IsStmts ts (Then label at statement more) rest
 
-  -- stmt = label? form, label = NAME ":": its label, the place of its first token after the label, and what it does
+  -- stmt = label? form, label = NAME ":"; its place is that of its first token after the label
   pub data IsStmt : List Token → Option Name → ℕ → Statement → List Token → Type 0 where
-    labelled : (x y z : Token) (ts : List Token) (s : Statement) (r : List Token) → x.kind ≡ kind.Name → y.kind ≡ kind.Colon → IsForm (z ∷ ts) s r → IsStmt (x ∷ y ∷ z ∷ ts) (Some (name_of x)) z.at s r
-    unlabelled : (x : Token) (ts : List Token) (s : Statement) (r : List Token) → IsForm (x ∷ ts) s r → IsStmt (x ∷ ts) None x.at s r
+    labelled :
+        {ts at_colon behind rest : List Token}
+        {label : Name} {first : Token} {statement : Statement}
+        → IsName ts label at_colon
+        → Word kind.Colon at_colon (first ∷ behind)
+        → IsForm (first ∷ behind) statement rest
+        → IsStmt ts (Some label) first.at statement rest
+    unlabelled :
+        {behind rest : List Token} {first : Token} {statement : Statement}
+        → IsForm (first ∷ behind) statement rest
+        → IsStmt (first ∷ behind) None first.at statement rest
 
   -- form, each of its productions
   pub data IsForm : List Token → Statement → List Token → Type 0 where
     -- "skip" ";"
-    skip : (x y : Token) (r : List Token) → x.kind ≡ kind.Skip → y.kind ≡ kind.Semicolon → IsForm (x ∷ y ∷ r) Skips r
+    skip :
+        {ts at_end rest : List Token}
+        → Word kind.Skip ts at_end
+        → Word kind.Semicolon at_end rest
+        → IsForm ts Skips rest
     -- "goto" NAME ";"
-    jump : (x n y : Token) (r : List Token) → x.kind ≡ kind.Goto → n.kind ≡ kind.Name → y.kind ≡ kind.Semicolon → IsForm (x ∷ n ∷ y ∷ r) (GoesTo (name_of n)) r
+    jump :
+        {ts at_label at_end rest : List Token} {label : Name}
+        → Word kind.Goto ts at_label
+        → IsName at_label label at_end
+        → Word kind.Semicolon at_end rest
+        → IsForm ts (GoesTo label) rest
     -- "return" ";"
-    returning : (x y : Token) (r : List Token) → x.kind ≡ kind.Return → y.kind ≡ kind.Semicolon → IsForm (x ∷ y ∷ r) Returns r
+    returning :
+        {ts at_end rest : List Token}
+        → Word kind.Return ts at_end
+        → Word kind.Semicolon at_end rest
+        → IsForm ts Returns rest
     -- NAME,+ ":=" expr,+ ";"
-    assignment : (ts : List Token) (ns : List Name) (x : Token) (us : List Token) (es : List Expression) (y : Token) (r : List Token) → IsNames ts ns (x ∷ us) → x.kind ≡ kind.Becomes → IsExprs us es (y ∷ r) → y.kind ≡ kind.Semicolon → IsForm ts (Assigns ns es) r
+    assignment :
+        {ts at_becomes at_values at_end rest : List Token}
+        {targets : List Name} {values : List Expression}
+        → IsNames ts targets at_becomes
+        → Word kind.Becomes at_becomes at_values
+        → IsExprs at_values values at_end
+        → Word kind.Semicolon at_end rest
+        → IsForm ts (Assigns targets values) rest
     -- "if" "(" decider ")" "then" stmt+ "else" stmt+ "fi"
-    branch : (x y : Token) (ts : List Token) (d : Decision) (z t : Token) (us : List Token) (a : Block) (e : Token) (vs : List Token) (b : Block) (f : Token) (r : List Token) → x.kind ≡ kind.If → y.kind ≡ kind.Open → IsDecider ts d (z ∷ t ∷ us) → z.kind ≡ kind.Close → t.kind ≡ kind.Then → IsStmts us a (e ∷ vs) → e.kind ≡ kind.Else → IsStmts vs b (f ∷ r) → f.kind ≡ kind.Fi → IsForm (x ∷ y ∷ ts) (Branches d a b) r
+    branch :
+        {ts at_open at_test at_close at_then at_first at_else at_second at_fi rest : List Token}
+        {test : Decision} {first second : Block}
+        → Word kind.If ts at_open
+        → Word kind.Open at_open at_test
+        → IsDecider at_test test at_close
+        → Word kind.Close at_close at_then
+        → Word kind.Then at_then at_first
+        → IsStmts at_first first at_else
+        → Word kind.Else at_else at_second
+        → IsStmts at_second second at_fi
+        → Word kind.Fi at_fi rest
+        → IsForm ts (Branches test first second) rest
     -- "while" "(" decider ")" "do" stmt+ "od"
-    loop : (x y : Token) (ts : List Token) (d : Decision) (z t : Token) (us : List Token) (a : Block) (o : Token) (r : List Token) → x.kind ≡ kind.While → y.kind ≡ kind.Open → IsDecider ts d (z ∷ t ∷ us) → z.kind ≡ kind.Close → t.kind ≡ kind.Do → IsStmts us a (o ∷ r) → o.kind ≡ kind.Od → IsForm (x ∷ y ∷ ts) (Loops d a) r
+    loop :
+        {ts at_open at_test at_close at_do at_body at_od rest : List Token}
+        {test : Decision} {body : Block}
+        → Word kind.While ts at_open
+        → Word kind.Open at_open at_test
+        → IsDecider at_test test at_close
+        → Word kind.Close at_close at_do
+        → Word kind.Do at_do at_body
+        → IsStmts at_body body at_od
+        → Word kind.Od at_od rest
+        → IsForm ts (Loops test body) rest
     -- "assert" "(" decider ")" ";"
-    assertion : (x y : Token) (ts : List Token) (d : Decision) (z w : Token) (r : List Token) → x.kind ≡ kind.Assert → y.kind ≡ kind.Open → IsDecider ts d (z ∷ w ∷ r) → z.kind ≡ kind.Close → w.kind ≡ kind.Semicolon → IsForm (x ∷ y ∷ ts) (Asserts d) r
+    assertion :
+        {ts at_open at_test at_close at_end rest : List Token} {test : Decision}
+        → Word kind.Assert ts at_open
+        → Word kind.Open at_open at_test
+        → IsDecider at_test test at_close
+        → Word kind.Close at_close at_end
+        → Word kind.Semicolon at_end rest
+        → IsForm ts (Asserts test) rest
     -- "assume" "(" decider ")" ";"
-    assumption : (x y : Token) (ts : List Token) (d : Decision) (z w : Token) (r : List Token) → x.kind ≡ kind.Assume → y.kind ≡ kind.Open → IsDecider ts d (z ∷ w ∷ r) → z.kind ≡ kind.Close → w.kind ≡ kind.Semicolon → IsForm (x ∷ y ∷ ts) (Assumes d) r
+    assumption :
+        {ts at_open at_test at_close at_end rest : List Token} {test : Decision}
+        → Word kind.Assume ts at_open
+        → Word kind.Open at_open at_test
+        → IsDecider at_test test at_close
+        → Word kind.Close at_close at_end
+        → Word kind.Semicolon at_end rest
+        → IsForm ts (Assumes test) rest
     -- "print" "(" expr,+ ")" ";"
-    printing : (x y : Token) (ts : List Token) (es : List Expression) (z w : Token) (r : List Token) → x.kind ≡ kind.Print → y.kind ≡ kind.Open → IsExprs ts es (z ∷ w ∷ r) → z.kind ≡ kind.Close → w.kind ≡ kind.Semicolon → IsForm (x ∷ y ∷ ts) (Prints es) r
+    printing :
+        {ts at_open at_values at_close at_end rest : List Token} {values : List Expression}
+        → Word kind.Print ts at_open
+        → Word kind.Open at_open at_values
+        → IsExprs at_values values at_close
+        → Word kind.Close at_close at_end
+        → Word kind.Semicolon at_end rest
+        → IsForm ts (Prints values) rest
     -- NAME "(" expr,* ")" ";"
-    call : (x y : Token) (ts : List Token) (es : List Expression) (z w : Token) (r : List Token) → x.kind ≡ kind.Name → y.kind ≡ kind.Open → IsAnyExprs ts es (z ∷ w ∷ r) → z.kind ≡ kind.Close → w.kind ≡ kind.Semicolon → IsForm (x ∷ y ∷ ts) (Calls (name_of x) es) r
+    call :
+        {ts at_open at_arguments at_close at_end rest : List Token}
+        {callee : Name} {arguments : List Expression}
+        → IsName ts callee at_open
+        → Word kind.Open at_open at_arguments
+        → IsAnyExprs at_arguments arguments at_close
+        → Word kind.Close at_close at_end
+        → Word kind.Semicolon at_end rest
+        → IsForm ts (Calls callee arguments) rest
 
   -- decider = "?" | expr
   pub data IsDecider : List Token → Decision → List Token → Type 0 where
-    choice : (x : Token) (r : List Token) → x.kind ≡ kind.Question → IsDecider (x ∷ r) Choose r
-    by_value : (ts : List Token) (e : Expression) (r : List Token) → IsExpr ts e r → IsDecider ts (Decide e) r
+    choice : {ts rest : List Token} → Word kind.Question ts rest → IsDecider ts Choose rest
+    by_value :
+        {ts rest : List Token} {e : Expression}
+        → IsExpr ts e rest
+        → IsDecider ts (Decide e) rest
 
   -- expr = or | or "=>" expr
   pub data IsExpr : List Token → Expression → List Token → Type 0 where
-    of_or : (ts : List Token) (e : Expression) (r : List Token) → IsOr ts e r → IsExpr ts e r
-    implication : (ts : List Token) (a : Expression) (x : Token) (us : List Token) (b : Expression) (r : List Token) → IsOr ts a (x ∷ us) → x.kind ≡ kind.Implies → IsExpr us b r → IsExpr ts (Operation op.Implies a b) r
+    of_or : {ts rest : List Token} {e : Expression} → IsOr ts e rest → IsExpr ts e rest
+    implication :
+        {ts at_word at_right rest : List Token} {left right : Expression}
+        → IsOr ts left at_word
+        → Word kind.Implies at_word at_right
+        → IsExpr at_right right rest
+        → IsExpr ts (Operation op.Implies left right) rest
 
   -- or = xor | or "|" xor
   pub data IsOr : List Token → Expression → List Token → Type 0 where
-    of_xor : (ts : List Token) (e : Expression) (r : List Token) → IsXor ts e r → IsOr ts e r
-    disjunction : (ts : List Token) (a : Expression) (x : Token) (us : List Token) (b : Expression) (r : List Token) → IsOr ts a (x ∷ us) → x.kind ≡ kind.Bar → IsXor us b r → IsOr ts (Operation op.Or a b) r
+    of_xor : {ts rest : List Token} {e : Expression} → IsXor ts e rest → IsOr ts e rest
+    disjunction :
+        {ts at_word at_right rest : List Token} {left right : Expression}
+        → IsOr ts left at_word
+        → Word kind.Bar at_word at_right
+        → IsXor at_right right rest
+        → IsOr ts (Operation op.Or left right) rest
 
   -- xor = and | xor "^" and
   pub data IsXor : List Token → Expression → List Token → Type 0 where
-    of_and : (ts : List Token) (e : Expression) (r : List Token) → IsAnd ts e r → IsXor ts e r
-    exclusion : (ts : List Token) (a : Expression) (x : Token) (us : List Token) (b : Expression) (r : List Token) → IsXor ts a (x ∷ us) → x.kind ≡ kind.Caret → IsAnd us b r → IsXor ts (Operation op.Xor a b) r
+    of_and : {ts rest : List Token} {e : Expression} → IsAnd ts e rest → IsXor ts e rest
+    exclusion :
+        {ts at_word at_right rest : List Token} {left right : Expression}
+        → IsXor ts left at_word
+        → Word kind.Caret at_word at_right
+        → IsAnd at_right right rest
+        → IsXor ts (Operation op.Xor left right) rest
 
   -- and = eq | and "&" eq
   pub data IsAnd : List Token → Expression → List Token → Type 0 where
-    of_eq : (ts : List Token) (e : Expression) (r : List Token) → IsEq ts e r → IsAnd ts e r
-    conjunction : (ts : List Token) (a : Expression) (x : Token) (us : List Token) (b : Expression) (r : List Token) → IsAnd ts a (x ∷ us) → x.kind ≡ kind.Ampersand → IsEq us b r → IsAnd ts (Operation op.And a b) r
+    of_eq : {ts rest : List Token} {e : Expression} → IsEq ts e rest → IsAnd ts e rest
+    conjunction :
+        {ts at_word at_right rest : List Token} {left right : Expression}
+        → IsAnd ts left at_word
+        → Word kind.Ampersand at_word at_right
+        → IsEq at_right right rest
+        → IsAnd ts (Operation op.And left right) rest
 
   -- eq = un | eq "=" un | eq "!=" un
   pub data IsEq : List Token → Expression → List Token → Type 0 where
-    of_un : (ts : List Token) (e : Expression) (r : List Token) → IsUn ts e r → IsEq ts e r
-    equality : (ts : List Token) (a : Expression) (x : Token) (us : List Token) (b : Expression) (r : List Token) → IsEq ts a (x ∷ us) → x.kind ≡ kind.Equal → IsUn us b r → IsEq ts (Operation op.Equal a b) r
-    difference : (ts : List Token) (a : Expression) (x : Token) (us : List Token) (b : Expression) (r : List Token) → IsEq ts a (x ∷ us) → x.kind ≡ kind.Differ → IsUn us b r → IsEq ts (Operation op.Differ a b) r
+    of_un : {ts rest : List Token} {e : Expression} → IsUn ts e rest → IsEq ts e rest
+    equality :
+        {ts at_word at_right rest : List Token} {left right : Expression}
+        → IsEq ts left at_word
+        → Word kind.Equal at_word at_right
+        → IsUn at_right right rest
+        → IsEq ts (Operation op.Equal left right) rest
+    difference :
+        {ts at_word at_right rest : List Token} {left right : Expression}
+        → IsEq ts left at_word
+        → Word kind.Differ at_word at_right
+        → IsUn at_right right rest
+        → IsEq ts (Operation op.Differ left right) rest
 
   -- un = "!" un | atom
   pub data IsUn : List Token → Expression → List Token → Type 0 where
-    negation : (x : Token) (ts : List Token) (e : Expression) (r : List Token) → x.kind ≡ kind.Bang → IsUn ts e r → IsUn (x ∷ ts) (Negation e) r
-    of_atom : (ts : List Token) (e : Expression) (r : List Token) → IsAtom ts e r → IsUn ts e r
+    negation :
+        {ts at_operand rest : List Token} {e : Expression}
+        → Word kind.Bang ts at_operand
+        → IsUn at_operand e rest
+        → IsUn ts (Negation e) rest
+    of_atom : {ts rest : List Token} {e : Expression} → IsAtom ts e rest → IsUn ts e rest
 
   -- atom = "0" | "1" | NAME | "(" expr ")"
   pub data IsAtom : List Token → Expression → List Token → Type 0 where
-    constant_0 : (x : Token) (r : List Token) → x.kind ≡ kind.Zero → IsAtom (x ∷ r) (Constant false) r
-    constant_1 : (x : Token) (r : List Token) → x.kind ≡ kind.One → IsAtom (x ∷ r) (Constant true) r
-    variable : (x : Token) (r : List Token) → x.kind ≡ kind.Name → IsAtom (x ∷ r) (Variable (name_of x)) r
-    brackets : (x : Token) (ts : List Token) (e : Expression) (y : Token) (r : List Token) → x.kind ≡ kind.Open → IsExpr ts e (y ∷ r) → y.kind ≡ kind.Close → IsAtom (x ∷ ts) e r
+    constant_0 : {ts rest : List Token} → Word kind.Zero ts rest → IsAtom ts (Constant false) rest
+    constant_1 : {ts rest : List Token} → Word kind.One ts rest → IsAtom ts (Constant true) rest
+    variable :
+        {ts rest : List Token} {name : Name}
+        → IsName ts name rest
+        → IsAtom ts (Variable name) rest
+    brackets :
+        {ts at_inside at_close rest : List Token} {e : Expression}
+        → Word kind.Open ts at_inside
+        → IsExpr at_inside e at_close
+        → Word kind.Close at_close rest
+        → IsAtom ts e rest
 
   -- NAME,+
   pub data IsNames : List Token → List Name → List Token → Type 0 where
-    one_name : (x : Token) (r : List Token) → x.kind ≡ kind.Name → IsNames (x ∷ r) (name_of x ∷ []) r
-    more_names : (x y : Token) (ts : List Token) (ns : List Name) (r : List Token) → x.kind ≡ kind.Name → y.kind ≡ kind.Comma → IsNames ts ns r → IsNames (x ∷ y ∷ ts) (name_of x ∷ ns) r
+    one_name :
+        {ts rest : List Token} {name : Name}
+        → IsName ts name rest
+        → IsNames ts (name ∷ []) rest
+    more_names :
+        {ts at_comma at_more rest : List Token} {name : Name} {more : List Name}
+        → IsName ts name at_comma
+        → Word kind.Comma at_comma at_more
+        → IsNames at_more more rest
+        → IsNames ts (name ∷ more) rest
 
   -- NAME,*
   pub data IsAnyNames : List Token → List Name → List Token → Type 0 where
-    no_names : (r : List Token) → IsAnyNames r [] r
-    some_names : (ts : List Token) (ns : List Name) (r : List Token) → IsNames ts ns r → IsAnyNames ts ns r
+    no_names : {rest : List Token} → IsAnyNames rest [] rest
+    some_names :
+        {ts rest : List Token} {names : List Name}
+        → IsNames ts names rest
+        → IsAnyNames ts names rest
 
   -- expr,+
   pub data IsExprs : List Token → List Expression → List Token → Type 0 where
-    one_expr : (ts : List Token) (e : Expression) (r : List Token) → IsExpr ts e r → IsExprs ts (e ∷ []) r
-    more_exprs : (ts : List Token) (e : Expression) (y : Token) (us : List Token) (es : List Expression) (r : List Token) → IsExpr ts e (y ∷ us) → y.kind ≡ kind.Comma → IsExprs us es r → IsExprs ts (e ∷ es) r
+    one_expr : {ts rest : List Token} {e : Expression} → IsExpr ts e rest → IsExprs ts (e ∷ []) rest
+    more_exprs :
+        {ts at_comma at_more rest : List Token} {e : Expression} {more : List Expression}
+        → IsExpr ts e at_comma
+        → Word kind.Comma at_comma at_more
+        → IsExprs at_more more rest
+        → IsExprs ts (e ∷ more) rest
 
   -- expr,*
   pub data IsAnyExprs : List Token → List Expression → List Token → Type 0 where
-    no_exprs : (r : List Token) → IsAnyExprs r [] r
-    some_exprs : (ts : List Token) (es : List Expression) (r : List Token) → IsExprs ts es r → IsAnyExprs ts es r
+    no_exprs : {rest : List Token} → IsAnyExprs rest [] rest
+    some_exprs :
+        {ts rest : List Token} {es : List Expression}
+        → IsExprs ts es rest
+        → IsAnyExprs ts es rest

@@ -7,7 +7,11 @@ use Rattle.bp_syntax.specs.Grammar.{Derives}
 
 -- each text has a cut, and no other
 abbrev pub OneCut : Type 0
-OneCut = (text : List ℕ) → (pieces : List Piece) × IsCut 0 text pieces × ((others : List Piece) → IsCut 0 text others → others ≡ pieces)
+OneCut =
+    (text : List ℕ)
+    → (pieces : List Piece)
+    × IsCut 0 text pieces
+    × ((others : List Piece) → IsCut 0 text others → others ≡ pieces)
 
 -- a list of tokens has at most one tree
 abbrev pub OneTree : Type 0

@@ -1,5 +1,5 @@
--- What holds of each name in a program, wherever it stands.
-use Rattle.std.specs.Prelude.{List, [], ◌∷◌, Option, None, Some}
+-- What holds of each name in a program, wherever it appears.
+use Rattle.std.specs.Prelude.{ℕ, ◌≤◌, length, List, [], ◌∷◌, Option, None, Some}
 use Rattle.bp_tree.specs.Ast.{Name, Expression, Constant, Variable, Negation, Operation, Decision, Choose, Decide, Block, Done, Then, Statement, Skips, GoesTo, Returns, Assigns, Branches, Loops, Asserts, Assumes, Prints, Calls, Procedure, Program}
 
 module _ (P : Name → Type 0) where
@@ -51,3 +51,7 @@ module _ (P : Name → Type 0) where
 
   abbrev pub NamesInProgram : Program → Type 0
   NamesInProgram p = EachName p.globals × NamesInProcedures p.procedures
+
+-- no name of the program is longer than so many bytes
+abbrev pub HasShortNames : ℕ → Program → Type 0
+HasShortNames most p = NamesInProgram (λ n. length n.text ≤ most) p

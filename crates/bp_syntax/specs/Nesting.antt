@@ -1,26 +1,26 @@
--- How deep statements stand in others.
+-- How deep statements nest.
 use Rattle.std.specs.Prelude.{◌≡◌, ℕ, ◌+◌, ◌-◌, ◌≤◌, List, [], ◌∷◌, ◌++◌}
-use Rattle.bp_syntax.specs.Limits.{nesting_limit}
+use Rattle.bp_syntax.specs.declared.limits.TheConstants.{NESTING_LIMIT}
 use Rattle.bp_syntax.specs.Tokens.{Token}
-use Rattle.bp_syntax.specs.declared.tokens.Kind.{Kind}
-use Rattle.bp_syntax.specs.declared.tokens.Kind.TheVariants as kind
+use Rattle.bp_syntax.specs.declared.tokens.TokenKind.{TokenKind}
+use Rattle.bp_syntax.specs.declared.tokens.TokenKind.TheVariants as kind
 
 -- the depth behind a token of the kind, where it was n before; it never falls below 0
-abbrev pub step : Kind → ℕ → ℕ
-step kind.If n = n + 1
-step kind.While n = n + 1
-step kind.Fi n = n - 1
-step kind.Od n = n - 1
-step _ n = n
+abbrev pub depth_after : TokenKind → ℕ → ℕ
+depth_after kind.If n = n + 1
+depth_after kind.While n = n + 1
+depth_after kind.Fi n = n - 1
+depth_after kind.Od n = n - 1
+depth_after _ n = n
 
 -- the depth behind the tokens, where it was n before
 abbrev pub depth_from : ℕ → List Token → ℕ
 depth_from n [] = n
-depth_from n (t ∷ ts) = depth_from (step t.kind n) ts
+depth_from n (t ∷ ts) = depth_from (depth_after t.kind n) ts
 
 abbrev pub depth : List Token → ℕ
 depth ts = depth_from 0 ts
 
--- behind no front of the tokens is the depth over the limit
+-- the depth is at most the limit behind each token
 abbrev pub IsShallow : List Token → Type 0
-IsShallow ts = (front rest : List Token) → ts ≡ front ++ rest → depth front ≤ nesting_limit
+IsShallow ts = (front rest : List Token) → ts ≡ front ++ rest → depth front ≤ NESTING_LIMIT

@@ -1,7 +1,7 @@
 -- Texts of programs, and how the others are refused.
 use Rattle.std.specs.Prelude.{ℕ, ◌<◌, ◌≤◌, List, length}
 use Rattle.bp_tree.specs.Ast.{Program}
-use Rattle.bp_syntax.specs.Limits.{text_limit}
+use Rattle.bp_syntax.specs.declared.limits.TheConstants.{TEXT_LIMIT}
 use Rattle.bp_syntax.specs.Tokens.{Token}
 use Rattle.bp_syntax.specs.Cut.{HasTokens, HasBadByte, HasOpenName}
 use Rattle.bp_syntax.specs.Grammar.{Derives}
@@ -13,7 +13,7 @@ use Rattle.bp_syntax.specs.declared.faults.ReadFault.TheVariants as fault
 
 -- the text keeps the limits, and the grammar derives the tree from it
 pub record IsTextOf (text : List ℕ) (p : Program) : Type 0 where
-  pub short : length text ≤ text_limit
+  pub short : length text ≤ TEXT_LIMIT
   pub tokens : List Token
   pub scanned : HasTokens text tokens
   pub shallow : IsShallow tokens
@@ -24,15 +24,27 @@ pub record IsTextOf (text : List ℕ) (p : Program) : Type 0 where
 abbrev pub HasText : Program → Type 0
 HasText p = ∥ ((text : List ℕ) × IsTextOf text p) ∥₁
 
--- the first fault of the text; nothing is said of memory
-abbrev pub IsFault : List ℕ → ReadFault → Type 0
-IsFault text fault.TooLong = text_limit < length text
-IsFault text (fault.BadByte at) = (length text ≤ text_limit) × HasBadByte text at
-IsFault text (fault.OpenName at) = (length text ≤ text_limit) × HasOpenName text at
-IsFault text (fault.TooNested at) =
-    (length text ≤ text_limit) × (tokens : List Token) × HasTokens text tokens × BreaksAt IsShallow tokens at
-IsFault text (fault.TooManyTokens at) =
-    (length text ≤ text_limit) × (tokens : List Token) × HasTokens text tokens × IsShallow tokens × BreaksAt IsSparse tokens at
-IsFault text (fault.Syntax at) =
-    (length text ≤ text_limit) × (tokens : List Token) × HasTokens text tokens × IsShallow tokens × IsSparse tokens × HasSyntaxFault text tokens at
-IsFault text fault.Memory = Unit {0}
+-- how a text is refused: for its first fault; nothing is said of memory
+abbrev pub IsRefusal : List ℕ → ReadFault → Type 0
+IsRefusal text fault.TooLong = TEXT_LIMIT < length text
+IsRefusal text (fault.BadByte at) = (length text ≤ TEXT_LIMIT) × HasBadByte text at
+IsRefusal text (fault.OpenName at) = (length text ≤ TEXT_LIMIT) × HasOpenName text at
+IsRefusal text (fault.TooNested at) =
+    (length text ≤ TEXT_LIMIT)
+    × (tokens : List Token)
+    × HasTokens text tokens
+    × BreaksAt IsShallow tokens at
+IsRefusal text (fault.TooManyTokens at) =
+    (length text ≤ TEXT_LIMIT)
+    × (tokens : List Token)
+    × HasTokens text tokens
+    × IsShallow tokens
+    × BreaksAt IsSparse tokens at
+IsRefusal text (fault.Syntax at) =
+    (length text ≤ TEXT_LIMIT)
+    × (tokens : List Token)
+    × HasTokens text tokens
+    × IsShallow tokens
+    × IsSparse tokens
+    × HasSyntaxFault text tokens at
+IsRefusal text fault.Memory = Unit {0}

@@ -1,6 +1,6 @@
 //! Why a text is refused.
 ghost use Rattle.std.specs.Prelude.{◌≡◌};
-ghost use Rattle.bp_syntax.specs.Faults.{number_of};
+ghost use Rattle.bp_syntax.specs.Faults.{read_fault_number, read_fault_place};
 ghost use Rattle.bp_syntax.specs.declared.faults.ReadFault.TheVariants.{Memory};
 
 use std::alloc::{AllocError, AllocFailed};
@@ -9,23 +9,22 @@ use thiserror::Error;
 /// Why `read` refuses a text. Each place is the offset of a byte of the text, from 0.
 #[derive(Debug, Drop, PartialEq, Eq, Error)]
 pub enum ReadFault {
-    /// The text has more than 65,536 bytes.
+    /// The text has more bytes than `TEXT_LIMIT`.
     #[error("the text is too long")]
     TooLong,
-    /// The first byte but `{` with which no piece of the scan begins.
+    /// The first byte but `{` with which no piece of the language begins.
     #[error("bad byte at {0}")]
     BadByte(u32),
     /// The first `{` that begins no braced name.
     #[error("open name at {0}")]
     OpenName(u32),
-    /// The first `if` or `while` that makes the depth 65.
+    /// The first `if` or `while` that makes the depth greater than `NESTING_LIMIT`.
     #[error("too nested at {0}")]
     TooNested(u32),
-    /// The first token that is the 1,025th in succession without a separator.
+    /// The first token past `SUCCESSION_LIMIT` in succession without a separator.
     #[error("too many tokens at {0}")]
     TooManyTokens(u32),
-    /// The first token up to and including which the tokens begin no program; the text's length where
-    /// all of them begin one and are none.
+    /// The first token after which no program can go on; the text's length where it ends too early.
     #[error("syntax at {0}")]
     Syntax(u32),
     /// A growth of memory was refused.
@@ -36,7 +35,7 @@ pub enum ReadFault {
 impl ReadFault {
     /// The number of the fault, 1 to 7.
     pub fn number(&self) -> u32
-        ensures { result ≡ number_of self.now }
+        ensures { result ≡ read_fault_number self.now }
     {
         match self {
             ReadFault::TooLong => 1,
@@ -46,6 +45,21 @@ impl ReadFault {
             ReadFault::TooManyTokens(_) => 5,
             ReadFault::Syntax(_) => 6,
             ReadFault::Memory => 7,
+        }
+    }
+
+    /// The offset of the byte that the fault names, where it names one.
+    pub fn place(&self) -> Option<u32>
+        ensures { result ≡ read_fault_place self.now }
+    {
+        match self {
+            ReadFault::BadByte(at) => Some(*at),
+            ReadFault::OpenName(at) => Some(*at),
+            ReadFault::TooNested(at) => Some(*at),
+            ReadFault::TooManyTokens(at) => Some(*at),
+            ReadFault::Syntax(at) => Some(*at),
+            ReadFault::TooLong => None,
+            ReadFault::Memory => None,
         }
     }
 }

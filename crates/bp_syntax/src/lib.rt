@@ -1,16 +1,14 @@
-//! The reader of program texts: a text is cut into tokens, and a tree is read from them.
+//! Reads program texts: the lexer cuts a text into tokens, and the parser makes a tree of them.
 #![tactic(auto)]
 
-mod expressions;
 mod faults;
-mod fronts;
+mod laws;
+mod lexemes;
+mod lexer;
 pub mod limits;
 mod nesting;
-mod operators;
-mod programs;
-mod reader;
-mod scans;
-mod statements;
+mod parser;
+mod reading;
 mod successions;
 #[cfg(test)]
 mod tests;
@@ -19,4 +17,6 @@ mod trees;
 
 pub use bp_tree::{Block, Decider, Expr, Exprs, Form, Name, Names, Op, Proc, Procs, Stmt, Sub};
 pub use faults::ReadFault;
-pub use trees::{Tree, has_one_cut, has_one_tree, read};
+pub use laws::{has_one_cut, has_one_tree};
+pub use reading::read;
+pub use trees::Tree;

@@ -1,32 +1,31 @@
-//! How deep statements stand in others.
+//! How deep statements nest.
 ghost use Rattle.std.specs.Prelude.{◌≡◌, ◌≤◌};
-ghost use Rattle.bp_syntax.specs.Limits.{nesting_limit};
 ghost use Rattle.bp_syntax.specs.Nesting as rule;
-ghost use Rattle.bp_syntax.specs.Depths.{too_deep};
-ghost use Rattle.bp_syntax.specs.Scan.{all_seen};
+ghost use Rattle.bp_syntax.specs.DepthCount.{first_too_deep};
+ghost use Rattle.bp_syntax.specs.Views.{token_list};
 
 use crate::limits::NESTING_LIMIT;
-use crate::tokens::{Kind, Token};
+use crate::tokens::{Token, TokenKind};
 
-// The depth behind a token of the kind.
-fn step(kind: Kind, depth: usize) -> usize
-    requires { depth ≤ nesting_limit }
-    ensures { result ≡ rule.step kind depth }
+/// The depth behind a token of the kind.
+fn depth_after(kind: TokenKind, depth: usize) -> usize
+    requires { depth ≤ NESTING_LIMIT }
+    ensures { result ≡ rule.depth_after kind depth }
 {
     match kind {
-        Kind::If | Kind::While => depth + 1,
-        Kind::Fi | Kind::Od => depth.saturating_sub(1),
+        TokenKind::If | TokenKind::While => depth + 1,
+        TokenKind::Fi | TokenKind::Od => depth.saturating_sub(1),
         _ => depth,
     }
 }
 
 /// The place of the first token that goes too deep.
-pub(crate) fn first_nested(tokens: &[Token]) -> Option<u32>
-    ensures { result ≡ too_deep 0 (all_seen tokens.now) }
+pub(crate) fn first_too_deep(tokens: &[Token]) -> Option<u32>
+    ensures { result ≡ first_too_deep 0 (token_list tokens.now) }
 {
     let mut depth = 0;
     for token in tokens {
-        depth = step(token.kind, depth);
+        depth = depth_after(token.kind, depth);
         if depth > NESTING_LIMIT {
             return Some(token.at);
         }

@@ -1,31 +1,32 @@
 //! Tokens in succession without a separator.
 ghost use Rattle.std.specs.Prelude.{◌≡◌};
 ghost use Rattle.bp_syntax.specs.Successions as rule;
-ghost use Rattle.bp_syntax.specs.Crowds.{crowd};
-ghost use Rattle.bp_syntax.specs.Scan.{all_seen};
+ghost use Rattle.bp_syntax.specs.SuccessionCount.{first_too_many};
+ghost use Rattle.bp_syntax.specs.Views.{token_list};
 
 use crate::limits::SUCCESSION_LIMIT;
-use crate::tokens::{Kind, Token};
+use crate::tokens::{Token, TokenKind};
 
-fn is_separator(kind: Kind) -> bool
+/// Whether a token of the kind separates successions.
+fn is_separator(kind: TokenKind) -> bool
     ensures { result ≡ rule.is_separator kind }
 {
     matches!(
         kind,
-        Kind::Semicolon
-            | Kind::Then
-            | Kind::Do
-            | Kind::Else
-            | Kind::Fi
-            | Kind::Od
-            | Kind::Begin
-            | Kind::End
+        TokenKind::Semicolon
+            | TokenKind::Then
+            | TokenKind::Do
+            | TokenKind::Else
+            | TokenKind::Fi
+            | TokenKind::Od
+            | TokenKind::Begin
+            | TokenKind::End
     )
 }
 
 /// The place of the first token that is one too many in succession without a separator.
-pub(crate) fn first_crowd(tokens: &[Token]) -> Option<u32>
-    ensures { result ≡ crowd 0 (all_seen tokens.now) }
+pub(crate) fn first_too_many(tokens: &[Token]) -> Option<u32>
+    ensures { result ≡ first_too_many 0 (token_list tokens.now) }
 {
     let mut count = 0;
     for token in tokens {

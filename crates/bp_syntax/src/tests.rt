@@ -2,10 +2,10 @@
 mod productions;
 mod programs;
 
+use crate::lexer::scan;
 use crate::limits::TEXT_LIMIT;
-use crate::nesting::first_nested;
-use crate::scans::scan;
-use crate::tokens::{Kind, Token};
+use crate::nesting::first_too_deep;
+use crate::tokens::{Token, TokenKind};
 use crate::{Decider, Expr, Form, ReadFault, has_one_cut, has_one_tree, read};
 use std::alloc::{AllocError, Global};
 use std::test::Fail;
@@ -67,7 +67,7 @@ fn tokens_of(alloc: Global, text: &[u8]) -> Result<Vec<Token>, ReadFault> {
 }
 
 // Whether the tokens of the text are of these kinds.
-fn has_kinds(alloc: Global, text: &[u8], kinds: &[Kind]) -> Result<bool, ReadFault> {
+fn has_kinds(alloc: Global, text: &[u8], kinds: &[TokenKind]) -> Result<bool, ReadFault> {
     let tokens = tokens_of(alloc, text)?;
     let found = tokens.as_slice();
     Ok(found.len() == kinds.len() && found.iter().zip(kinds).all(|(t, kind)| t.kind == *kind))
@@ -81,32 +81,50 @@ fn is_refused(alloc: Global, text: &[u8], fault: ReadFault) -> bool {
 #[test]
 fn takes_the_longest_symbol(rt: HostRuntime) -> Result<(), Fail> {
     let alloc = rt.alloc();
-    assert!(rt; has_kinds(alloc, b"!=", &[Kind::Differ])?);
-    assert!(rt; has_kinds(alloc, b"! =", &[Kind::Bang, Kind::Equal])?);
-    assert!(rt; has_kinds(alloc, b"=>", &[Kind::Implies])?);
-    assert!(rt; has_kinds(alloc, b":=", &[Kind::Becomes])?);
-    assert!(rt; has_kinds(alloc, b": =", &[Kind::Colon, Kind::Equal])?);
-    assert!(rt; has_kinds(alloc, b"!!==", &[Kind::Bang, Kind::Differ, Kind::Equal])?);
+    assert!(rt; has_kinds(alloc, b"!=", &[TokenKind::Differ])?);
+    assert!(rt; has_kinds(alloc, b"! =", &[TokenKind::Bang, TokenKind::Equal])?);
+    assert!(rt; has_kinds(alloc, b"=>", &[TokenKind::Implies])?);
+    assert!(rt; has_kinds(alloc, b":=", &[TokenKind::Becomes])?);
+    assert!(rt; has_kinds(alloc, b": =", &[TokenKind::Colon, TokenKind::Equal])?);
+    assert!(rt;
+        has_kinds(
+            alloc,
+            b"!!==",
+            &[TokenKind::Bang, TokenKind::Differ, TokenKind::Equal]
+        )?
+    );
     Ok(())
 }
 
 #[test]
 fn takes_the_longest_identifier(rt: HostRuntime) -> Result<(), Fail> {
     let alloc = rt.alloc();
-    assert!(rt; has_kinds(alloc, b"end_", &[Kind::Name])?);
-    assert!(rt; has_kinds(alloc, b"ifx", &[Kind::Name])?);
-    assert!(rt; has_kinds(alloc, b"if x", &[Kind::If, Kind::Name])?);
-    assert!(rt; has_kinds(alloc, b"01x2", &[Kind::Zero, Kind::One, Kind::Name])?);
+    assert!(rt; has_kinds(alloc, b"end_", &[TokenKind::Name])?);
+    assert!(rt; has_kinds(alloc, b"ifx", &[TokenKind::Name])?);
+    assert!(rt; has_kinds(alloc, b"if x", &[TokenKind::If, TokenKind::Name])?);
+    assert!(rt;
+        has_kinds(
+            alloc,
+            b"01x2",
+            &[TokenKind::Zero, TokenKind::One, TokenKind::Name]
+        )?
+    );
     Ok(())
 }
 
 #[test]
 fn leaves_comments_out(rt: HostRuntime) -> Result<(), Fail> {
     let alloc = rt.alloc();
-    assert!(rt; has_kinds(alloc, b"0// no end of line", &[Kind::Zero])?);
-    assert!(rt; has_kinds(alloc, b"0//\x80\xff\x00\n1", &[Kind::Zero, Kind::One])?);
+    assert!(rt; has_kinds(alloc, b"0// no end of line", &[TokenKind::Zero])?);
+    assert!(rt;
+        has_kinds(
+            alloc,
+            b"0//\x80\xff\x00\n1",
+            &[TokenKind::Zero, TokenKind::One]
+        )?
+    );
     assert!(rt; has_kinds(alloc, b"//{", &[])?);
-    assert!(rt; has_kinds(alloc, b"//\n//\n?", &[Kind::Question])?);
+    assert!(rt; has_kinds(alloc, b"//\n//\n?", &[TokenKind::Question])?);
     assert!(rt; is_refused(alloc, b"0 / /", ReadFault::BadByte(2)));
     Ok(())
 }
@@ -128,7 +146,7 @@ fn takes_braces_as_part_of_a_name(rt: HostRuntime) -> Result<(), Fail> {
 #[test]
 fn ends_a_name_at_its_first_closing_brace(rt: HostRuntime) -> Result<(), Fail> {
     let alloc = rt.alloc();
-    assert!(rt; has_kinds(alloc, b"{a}{b}", &[Kind::Name, Kind::Name])?);
+    assert!(rt; has_kinds(alloc, b"{a}{b}", &[TokenKind::Name, TokenKind::Name])?);
     assert!(rt; is_refused(alloc, b"decl {a}};", ReadFault::BadByte(8)));
     Ok(())
 }
@@ -159,7 +177,7 @@ fn reads_a_text_of_open_braces(rt: HostRuntime) -> Result<(), Fail> {
 }
 
 #[test]
-fn tells_a_bad_byte_before_an_open_brace(rt: HostRuntime) -> Result<(), Fail> {
+fn reports_a_bad_byte_before_an_open_brace(rt: HostRuntime) -> Result<(), Fail> {
     let alloc = rt.alloc();
     assert!(rt; is_refused(alloc, b"decl {p; > \x7f", ReadFault::BadByte(9)));
     assert!(rt; is_refused(alloc, b"{a\nb}", ReadFault::BadByte(4)));
@@ -188,7 +206,7 @@ fn nested_loops(alloc: Global, count: u32) -> Result<Vec<u8>, AllocError> {
 // The place of the first token of the text that nests too deep.
 fn nests_too_deep_at(alloc: Global, text: &[u8]) -> Result<Option<u32>, ReadFault> {
     let tokens = tokens_of(alloc, text)?;
-    Ok(first_nested(tokens.as_slice()))
+    Ok(first_too_deep(tokens.as_slice()))
 }
 
 #[test]
@@ -218,7 +236,7 @@ fn never_nests_below_the_start(rt: HostRuntime) -> Result<(), Fail> {
 }
 
 #[test]
-fn tells_an_open_brace_before_the_nesting(rt: HostRuntime) -> Result<(), Fail> {
+fn reports_an_open_brace_before_the_nesting(rt: HostRuntime) -> Result<(), Fail> {
     let alloc = rt.alloc();
     let mut text = repeated(alloc, b"", b"while ", 65)?;
     text.push(b'{')?;
@@ -227,7 +245,7 @@ fn tells_an_open_brace_before_the_nesting(rt: HostRuntime) -> Result<(), Fail> {
 }
 
 #[test]
-fn tells_the_nesting_before_a_succession(rt: HostRuntime) -> Result<(), Fail> {
+fn reports_the_nesting_before_a_succession(rt: HostRuntime) -> Result<(), Fail> {
     let alloc = rt.alloc();
     let many = repeated(alloc, b"", b"!", 1_100)?;
     let text = repeated(alloc, many.as_slice(), b"if ", 65)?;
@@ -236,7 +254,7 @@ fn tells_the_nesting_before_a_succession(rt: HostRuntime) -> Result<(), Fail> {
 }
 
 #[test]
-fn tells_a_succession_before_the_syntax(rt: HostRuntime) -> Result<(), Fail> {
+fn reports_a_succession_before_the_syntax(rt: HostRuntime) -> Result<(), Fail> {
     let alloc = rt.alloc();
     let text = repeated(alloc, b"", b"!", 1_025)?;
     assert!(rt; is_refused(alloc, text.as_slice(), ReadFault::TooManyTokens(1_024)));

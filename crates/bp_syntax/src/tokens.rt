@@ -1,10 +1,10 @@
-//! What the bytes of a text spell: the sorts of pieces, and the kinds of tokens.
+//! What the bytes of a text spell: the kinds of lexemes, and the kinds of tokens.
 ghost use Rattle.std.specs.Prelude.{◌≡◌};
 ghost use Rattle.bp_syntax.specs.Tokens as spelling;
 
-/// The sort of a piece of a text.
+/// The kind of a piece of a text.
 #[derive(Clone, Copy, Debug, PartialEq, Eq)]
-pub(crate) enum Sort {
+pub(crate) enum LexemeKind {
     White,
     Comment,
     Identifier,
@@ -15,7 +15,7 @@ pub(crate) enum Sort {
 
 /// What a token is: a name, a constant, a symbol or a reserved word.
 #[derive(Clone, Copy, Debug, PartialEq, Eq)]
-pub(crate) enum Kind {
+pub(crate) enum TokenKind {
     Name,
     Zero,
     One,
@@ -54,119 +54,127 @@ pub(crate) enum Kind {
 /// A token: its kind, the offset of its first byte, its bytes.
 #[derive(Clone, Copy, Debug)]
 pub(crate) struct Token<'a> {
-    pub(crate) kind: Kind,
+    pub(crate) kind: TokenKind,
     pub(crate) at: u32,
     pub(crate) text: &'a str,
 }
 
+/// Whether the byte is a space, a tab, a line feed or a carriage return.
 pub(crate) fn is_white(b: u8) -> bool
     ensures { result ≡ spelling.is_white b }
 {
     b == b' ' || b == b'\t' || b == b'\n' || b == b'\r'
 }
 
+/// Whether an identifier may begin with the byte.
 pub(crate) fn is_letter(b: u8) -> bool
     ensures { result ≡ spelling.is_letter b }
 {
     b.is_ascii_alphabetic() || b == b'_'
 }
 
+/// Whether an identifier may go on with the byte.
 pub(crate) fn is_word_byte(b: u8) -> bool
     ensures { result ≡ spelling.is_word_byte b }
 {
     b.is_ascii_alphanumeric() || b == b'_'
 }
 
+/// Whether a comment may go on with the byte.
 pub(crate) fn is_comment_byte(b: u8) -> bool
     ensures { result ≡ spelling.is_comment_byte b }
 {
     b != b'\n'
 }
 
+/// Whether a braced name may have the byte inside.
 pub(crate) fn is_braced_byte(b: u8) -> bool
     ensures { result ≡ spelling.is_braced_byte b }
 {
     32 <= b && b <= 126 && b != b'}'
 }
 
-pub(crate) fn constant(b: u8) -> Option<Kind>
+/// The kind of the constant that the byte is.
+pub(crate) fn constant(b: u8) -> Option<TokenKind>
     ensures { result ≡ spelling.constant b }
 {
     match b {
-        b'0' => Some(Kind::Zero),
-        b'1' => Some(Kind::One),
+        b'0' => Some(TokenKind::Zero),
+        b'1' => Some(TokenKind::One),
         _ => None,
     }
 }
 
-pub(crate) fn symbol(b: u8) -> Option<Kind>
+/// The kind of the symbol that the byte is.
+pub(crate) fn symbol(b: u8) -> Option<TokenKind>
     ensures { result ≡ spelling.symbol b }
 {
     match b {
-        b';' => Some(Kind::Semicolon),
-        b',' => Some(Kind::Comma),
-        b'(' => Some(Kind::Open),
-        b')' => Some(Kind::Close),
-        b':' => Some(Kind::Colon),
-        b'|' => Some(Kind::Bar),
-        b'&' => Some(Kind::Ampersand),
-        b'^' => Some(Kind::Caret),
-        b'=' => Some(Kind::Equal),
-        b'!' => Some(Kind::Bang),
-        b'?' => Some(Kind::Question),
+        b';' => Some(TokenKind::Semicolon),
+        b',' => Some(TokenKind::Comma),
+        b'(' => Some(TokenKind::Open),
+        b')' => Some(TokenKind::Close),
+        b':' => Some(TokenKind::Colon),
+        b'|' => Some(TokenKind::Bar),
+        b'&' => Some(TokenKind::Ampersand),
+        b'^' => Some(TokenKind::Caret),
+        b'=' => Some(TokenKind::Equal),
+        b'!' => Some(TokenKind::Bang),
+        b'?' => Some(TokenKind::Question),
         _ => None,
     }
 }
 
-pub(crate) fn long_symbol(b: u8, c: u8) -> Option<Kind>
+/// The kind of the symbol that the two bytes are.
+pub(crate) fn long_symbol(b: u8, c: u8) -> Option<TokenKind>
     ensures { result ≡ spelling.long_symbol b c }
 {
     if b == b':' && c == b'=' {
-        Some(Kind::Becomes)
+        Some(TokenKind::Becomes)
     } else if b == b'!' && c == b'=' {
-        Some(Kind::Differ)
+        Some(TokenKind::Differ)
     } else if b == b'=' && c == b'>' {
-        Some(Kind::Implies)
+        Some(TokenKind::Implies)
     } else {
         None
     }
 }
 
-// The kind of an identifier: a reserved word, or a name.
-fn word(text: &[u8]) -> Kind
-    ensures { result ≡ spelling.word text.now }
+/// The kind of an identifier: a reserved word, or a name.
+fn word_kind(text: &[u8]) -> TokenKind
+    ensures { result ≡ spelling.word_kind text.now }
 {
     match text {
-        b"decl" => Kind::Decl,
-        b"begin" => Kind::Begin,
-        b"end" => Kind::End,
-        b"skip" => Kind::Skip,
-        b"goto" => Kind::Goto,
-        b"return" => Kind::Return,
-        b"if" => Kind::If,
-        b"then" => Kind::Then,
-        b"else" => Kind::Else,
-        b"fi" => Kind::Fi,
-        b"while" => Kind::While,
-        b"do" => Kind::Do,
-        b"od" => Kind::Od,
-        b"assert" => Kind::Assert,
-        b"print" => Kind::Print,
-        b"assume" => Kind::Assume,
-        _ => Kind::Name,
+        b"decl" => TokenKind::Decl,
+        b"begin" => TokenKind::Begin,
+        b"end" => TokenKind::End,
+        b"skip" => TokenKind::Skip,
+        b"goto" => TokenKind::Goto,
+        b"return" => TokenKind::Return,
+        b"if" => TokenKind::If,
+        b"then" => TokenKind::Then,
+        b"else" => TokenKind::Else,
+        b"fi" => TokenKind::Fi,
+        b"while" => TokenKind::While,
+        b"do" => TokenKind::Do,
+        b"od" => TokenKind::Od,
+        b"assert" => TokenKind::Assert,
+        b"print" => TokenKind::Print,
+        b"assume" => TokenKind::Assume,
+        _ => TokenKind::Name,
     }
 }
 
 /// The kind of the token that a piece is. White and comments are no tokens.
-pub(crate) fn kind_of(sort: Sort, text: &[u8]) -> Option<Kind>
-    ensures { result ≡ spelling.kind_of sort text.now }
+pub(crate) fn kind_of(kind: LexemeKind, text: &[u8]) -> Option<TokenKind>
+    ensures { result ≡ spelling.kind_of kind text.now }
 {
-    match (sort, text) {
-        (Sort::Identifier, _) => Some(word(text)),
-        (Sort::Braced, _) => Some(Kind::Name),
-        (Sort::Constant, [b]) => constant(*b),
-        (Sort::Symbol, [b]) => symbol(*b),
-        (Sort::Symbol, [b, c]) => long_symbol(*b, *c),
+    match (kind, text) {
+        (LexemeKind::Identifier, _) => Some(word_kind(text)),
+        (LexemeKind::Braced, _) => Some(TokenKind::Name),
+        (LexemeKind::Constant, [b]) => constant(*b),
+        (LexemeKind::Symbol, [b]) => symbol(*b),
+        (LexemeKind::Symbol, [b, c]) => long_symbol(*b, *c),
         _ => None,
     }
 }

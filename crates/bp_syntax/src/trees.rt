@@ -1,26 +1,19 @@
-//! Programs as trees, and how a text is read.
-ghost use Rattle.std.specs.Prelude.{◌≡◌, ◌≤◌, IfOk, MatchResult, length};
+//! Programs as trees.
+ghost use Rattle.std.specs.Prelude.{◌≡◌, ◌≤◌, IfOk};
 ghost use Rattle.bp_tree.specs.Sizes.{procedures_size};
-ghost use Rattle.bp_tree.specs.Ast.{Program as SomeProgram};
-ghost use Rattle.bp_syntax.specs.Texts.{IsTextOf, HasText, IsFault};
-ghost use Rattle.bp_syntax.specs.Laws.{OneCut, OneTree};
-ghost use Rattle.bp_syntax.specs.NamesIn.{NamesInProgram};
+ghost use Rattle.bp_syntax.specs.Texts.{HasText};
+ghost use Rattle.bp_syntax.specs.NamesIn.{HasShortNames};
 
-use crate::faults::ReadFault;
 use crate::limits::TEXT_LIMIT;
-use crate::nesting::first_nested;
-use crate::programs::parse;
-use crate::scans::scan;
-use crate::successions::first_crowd;
 use bp_tree::{Name, Names, Proc, Procs};
-use std::alloc::{AllocError, Global};
+use std::alloc::AllocError;
 use std::marker::Model;
 
 /// The tree of a program text that was read.
 #[derive(Drop)]
 pub struct Tree {
-    globals: Names,
-    procs: Procs,
+    pub(crate) globals: Names,
+    pub(crate) procs: Procs,
 }
 
 impl Model for Tree {
@@ -57,14 +50,14 @@ impl Tree {
 
     /// Law: a program has no more statements and procedures together than a text has bytes.
     pub fn has_few_statements(&self)
-        ensures { procedures_size self.now.procedures ≤ 65536 }
+        ensures { procedures_size self.now.procedures ≤ TEXT_LIMIT }
     {
         let _ = &self.globals;
     }
 
     /// Law: no name in a program is longer than a text.
     pub fn has_short_names(&self)
-        ensures { NamesInProgram (λ n. length n.text ≤ 65536) self.now }
+        ensures { HasShortNames TEXT_LIMIT self.now }
     {
         let _ = &self.globals;
     }
@@ -78,34 +71,3 @@ impl Tree {
         Ok(Tree { globals, procs })
     }
 }
-
-/// Reads a program text. A refusal is the first that applies, each found over the whole text before the next:
-/// `TooLong`, `BadByte`, `OpenName`, `TooNested`, `TooManyTokens`, `Syntax`. `Memory` may come in any of these passes.
-pub fn read(alloc: Global, text: &[u8]) -> Result<Tree, ReadFault>
-    ensures answer { MatchResult result (IsTextOf text.now) (IsFault text.now) }
-    ensures whole { (p : SomeProgram) → IsTextOf text.now p → MatchResult result (λ t. t ≡ p) (λ e. e ≡ ReadFault.Memory) }
-{
-    if text.len() > TEXT_LIMIT {
-        return Err(ReadFault::TooLong);
-    }
-    let scanned = scan(alloc, text)?;
-    let tokens = scanned.as_slice();
-    if let Some(nested) = first_nested(tokens) {
-        return Err(ReadFault::TooNested(nested));
-    }
-    if let Some(crowd) = first_crowd(tokens) {
-        return Err(ReadFault::TooManyTokens(crowd));
-    }
-    let (globals, procs) = parse(alloc, tokens, text.len() as u32)?;
-    Ok(Tree { globals, procs })
-}
-
-/// Law: each text has one cut.
-pub fn has_one_cut()
-    ensures { OneCut }
-{}
-
-/// Law: a list of tokens has at most one tree.
-pub fn has_one_tree()
-    ensures { OneTree }
-{}

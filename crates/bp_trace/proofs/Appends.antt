@@ -8,7 +8,7 @@ use Rattle.std.proofs.KnownBytes.{Appends-trans, Appends-nil}
 use Rattle.std.specs.Io.KnownBytes.{Appends}
 use Rattle.bp_code.specs.Writing.{AppendsAll, AppendsPart, Writes}
 use Rattle.bp_trace.specs.Schedules.{bit_digit}
-use Rattle.bp_code.proofs.Pieces.{AppendsPart_within, flat_map_at}
+use Rattle.bp_code.proofs.AppendsPieces.{AppendsPart_within, flat_map_at}
 
 pub all_then : (a b c : Option (List ℕ)) (t u : List ℕ) → AppendsAll a b t → AppendsAll b c u → AppendsAll a c (t ++ u)
 all_then a b c t u p q = record { grown = Appends-trans a b c t u p.grown q.grown }

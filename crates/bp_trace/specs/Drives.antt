@@ -17,25 +17,26 @@ use Rattle.bp_trace.specs.Schedules.{schedule_text, lines_of_history, IsLineAt, 
 use Rattle.bp_trace.specs.TraceText.{trace_text}
 
 -- the number of a fault
-abbrev pub number_of_drive_fault : DriveFault → ℕ
-number_of_drive_fault TooLong = 48
-number_of_drive_fault (Line n) = 42
-number_of_drive_fault (AfterFinish n) = 47
-number_of_drive_fault Memory = 7
-number_of_drive_fault Write = 51
+abbrev pub drive_fault_number : DriveFault → ℕ
+drive_fault_number TooLong = 48
+drive_fault_number (Line n) = 42
+drive_fault_number (AfterFinish n) = 47
+drive_fault_number Memory = 7
+drive_fault_number Write = 51
 
 -- the line of the schedule that a fault names
-abbrev pub place_of_drive_fault : DriveFault → Option ℕ
-place_of_drive_fault (Line n) = Some n
-place_of_drive_fault (AfterFinish n) = Some n
-place_of_drive_fault f = None
+abbrev pub drive_fault_place : DriveFault → Option ℕ
+drive_fault_place (Line n) = Some n
+drive_fault_place (AfterFinish n) = Some n
+drive_fault_place f = None
 
 -- the history is legal for every program that the code stands for
 abbrev pub IsLegalFor : Flat → SetupOf → List Call → Type 0
 IsLegalFor c s h = (t : Program) → StandsFor c t → IsLegal t s h
 
 -- such a history makes the calls of the lines before the n-th, which begins the rest
-pub record Reaches (c : Flat) (s : SetupOf) (schedule : List ℕ) (n : ℕ) (rest : List ℕ) : Type 0 where
+pub record Reaches
+    (c : Flat) (s : SetupOf) (schedule : List ℕ) (n : ℕ) (rest : List ℕ) : Type 0 where
   pub history : List Call
   pub legal : IsLegalFor c s history
   pub whole : schedule ≡ schedule_text (lines_of_history history) ++ rest
@@ -62,18 +63,22 @@ pub record IsDriven (c : Flat) (s : SetupOf) (schedule : List ℕ) (h : List Cal
   pub legal : IsLegalFor c s h
   pub lines : schedule ≡ schedule_text (lines_of_history h)
 
--- Each refusal, the first that applies; the bytes of the writer before and after it. Nothing is said of when
--- memory is refused.
+-- Each refusal, the first that applies; the bytes of the writer before and after it. Nothing is
+-- said of when memory is refused.
 module _ (c : Flat) (s : SetupOf) (schedule : List ℕ) (old new : Option (List ℕ)) where
+  abbrev IsShort : Type 0
+  IsShort = length schedule ≤ MAX_SCHEDULE
+
   abbrev pub IsRefusal : DriveFault → Type 0
   IsRefusal TooLong = (new ≡ old) × (MAX_SCHEDULE < length schedule)
-  IsRefusal (Line n) = (new ≡ old) × (length schedule ≤ MAX_SCHEDULE) × IsBadLine c s schedule n
-  IsRefusal (AfterFinish n) = (new ≡ old) × (length schedule ≤ MAX_SCHEDULE) × IsAfterFinish c s schedule n
-  IsRefusal Memory = new ≡ old
+  IsRefusal (Line n) = (new ≡ old) × IsShort × IsBadLine c s schedule n
+  IsRefusal (AfterFinish n) = (new ≡ old) × IsShort × IsAfterFinish c s schedule n
+  IsRefusal Memory = (new ≡ old) × IsShort
   IsRefusal Write = (h : List Call) × IsDriven c s schedule h × AppendsPart old new (trace_text s h)
 
 -- the schedule drives the program to a history, which is written and reported
-pub record IsPlayed (c : Flat) (s : SetupOf) (schedule : List ℕ) (old new : Option (List ℕ)) (r : Report) : Type 0 where
+pub record IsPlayed
+    (c : Flat) (s : SetupOf) (schedule : List ℕ) (old new : Option (List ℕ)) (r : Report) : Type 0 where
   pub history : List Call
   pub driven : IsDriven c s schedule history
   pub written : AppendsAll old new (trace_text s history)

@@ -1,4 +1,5 @@
--- What a line of a schedule does to a session: a device of the driver, which no public clause names.
+-- What a line of a schedule does to a session: a device of the driver, which no public clause
+-- names.
 use Rattle.std.specs.Prelude.{◌≡◌, ℕ, ◌++◌, ◌∷◌, [], true, List}
 use Rattle.bp_machine.specs.declared.calls.Call.{Call}
 use Rattle.bp_machine.specs.declared.sessions.AskFault.{AskFault}

@@ -30,7 +30,9 @@ limit_lines s = concat (
     ∷ codes "\n" ∷ [])
 
 abbrev pub head_text : SetupOf → List ℕ
-head_text s = codes "btrace 1\n" ++ (flat_map entry_line s.entries ++ (init_line s.init ++ limit_lines s))
+head_text s =
+    codes "btrace 1\n"
+    ++ (flat_map entry_line s.entries ++ (init_line s.init ++ limit_lines s))
 
 -- the thread, the choice bit and the letter of the reply
 abbrev pub call_line : Call → List ℕ
@@ -38,7 +40,10 @@ call_line x = decimal x.thread ++ 32 ∷ bit_digit x.bit ∷ 32 ∷ letter_of x.
 
 -- the number of calls, and of the lines that are open
 abbrev pub end_line : ℕ → ℕ → List ℕ
-end_line calls left_open = concat (codes "end " ∷ decimal calls ∷ codes " " ∷ decimal left_open ∷ codes "\n" ∷ [])
+end_line calls left_open = concat (
+    codes "end " ∷ decimal calls
+    ∷ codes " " ∷ decimal left_open
+    ∷ codes "\n" ∷ [])
 
 abbrev pub trace_text : SetupOf → List Call → List ℕ
 trace_text s h = head_text s ++ (flat_map call_line h ++ end_line (length h) (open_lines s h))

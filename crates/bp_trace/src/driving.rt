@@ -85,9 +85,9 @@ fn play(
     Ok(calls)
 }
 
-/// Plays the lines of a schedule, one call each, and then writes the trace of the history. A line is the number
-/// of a thread, a space, the choice bit and a line feed. At a refusal nothing is written, but for a writer that
-/// refuses: it then has a proper prefix of the trace.
+/// Plays the lines of a schedule, one call each, and then writes the trace of the history. A line
+/// is the number of a thread, a space, the choice bit and a line feed. At a refusal nothing is
+/// written, but for a writer that refuses: it then has a proper prefix of the trace.
 pub fn drive<W: Write>(
     alloc: Global,
     code: &Code,

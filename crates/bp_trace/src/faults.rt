@@ -26,11 +26,11 @@ pub enum DriveFault {
 
 impl DriveFault {
     ghost use Rattle.std.specs.Prelude.{◌≡◌};
-    ghost use Rattle.bp_trace.specs.Drives.{number_of_drive_fault, place_of_drive_fault};
+    ghost use Rattle.bp_trace.specs.Drives.{drive_fault_number, drive_fault_place};
 
     /// The number by which users know the fault.
     pub fn number(&self) -> u32
-        ensures { result ≡ number_of_drive_fault self.now }
+        ensures { result ≡ drive_fault_number self.now }
     {
         match self {
             DriveFault::TooLong => 48,
@@ -43,7 +43,7 @@ impl DriveFault {
 
     /// The line of the schedule that the fault names, where it names one.
     pub fn place(&self) -> Option<u32>
-        ensures { result ≡ place_of_drive_fault self.now }
+        ensures { result ≡ drive_fault_place self.now }
     {
         match self {
             DriveFault::Line(line) | DriveFault::AfterFinish(line) => Some(*line),

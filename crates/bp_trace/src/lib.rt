@@ -1,4 +1,5 @@
-//! Schedules and traces: a schedule drives a program through a session, and the history is written as a text.
+//! Schedules and traces: a schedule drives a program through a session, and the history is written
+//! as a text.
 #![tactic(auto)]
 
 mod driving;

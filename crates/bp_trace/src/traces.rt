@@ -1,6 +1,6 @@
 //! Writing the text of a trace.
 ghost use Rattle.std.specs.Prelude.{◌≡◌, ◌≤◌, map, flat_map, length};
-ghost use Rattle.bp_check.specs.Faults.{max_globals};
+ghost use Rattle.bp_check.specs.declared.limits.TheConstants.{MAX_GLOBALS};
 ghost use Rattle.bp_code.specs.Writing.{Writes};
 ghost use Rattle.bp_machine.specs.Histories.{open_lines};
 ghost use Rattle.bp_trace.specs.Schedules.{bit_digit};
@@ -20,7 +20,8 @@ pub(crate) fn bit_digit(bit: bool) -> u8
 
 /// Writes a line for the entry of each thread.
 fn write_entries<W: Write>(setup: &Setup, out: &mut W) -> Result<(), WriteFault>
-    ensures { Writes (W.contents out.old) (W.contents out.new) (flat_map entry_line setup.now.entries) result }
+    ensures { Writes (W.contents out.old) (W.contents out.new)
+        (flat_map entry_line setup.now.entries) result }
 {
     for thread in 0..setup.threads() {
         if let Some(name) = setup.entry(thread) {
@@ -32,8 +33,9 @@ fn write_entries<W: Write>(setup: &Setup, out: &mut W) -> Result<(), WriteFault>
 
 /// Writes a digit for each global.
 fn write_bits<W: Write>(setup: &Setup, out: &mut W) -> Result<(), WriteFault>
-    requires { length setup.now.init ≤ max_globals }
-    ensures { Writes (W.contents out.old) (W.contents out.new) (map bit_digit setup.now.init) result }
+    requires { length setup.now.init ≤ MAX_GLOBALS }
+    ensures { Writes (W.contents out.old) (W.contents out.new)
+        (map bit_digit setup.now.init) result }
 {
     let mut n = 0;
     while let Some(bit) = setup.init(n) {
@@ -45,7 +47,7 @@ fn write_bits<W: Write>(setup: &Setup, out: &mut W) -> Result<(), WriteFault>
 
 /// Writes a digit for each global, or a dash where there is none.
 fn write_digits<W: Write>(setup: &Setup, out: &mut W) -> Result<(), WriteFault>
-    requires { length setup.now.init ≤ max_globals }
+    requires { length setup.now.init ≤ MAX_GLOBALS }
     ensures { Writes (W.contents out.old) (W.contents out.new) (init_digits setup.now.init) result }
 {
     if setup.init(0).is_none() {
@@ -57,7 +59,7 @@ fn write_digits<W: Write>(setup: &Setup, out: &mut W) -> Result<(), WriteFault>
 
 /// Writes the line of the initial bits.
 fn write_init<W: Write>(setup: &Setup, out: &mut W) -> Result<(), WriteFault>
-    requires { length setup.now.init ≤ max_globals }
+    requires { length setup.now.init ≤ MAX_GLOBALS }
     ensures { Writes (W.contents out.old) (W.contents out.new) (init_line setup.now.init) result }
 {
     put(out, b"init ")?;
@@ -126,7 +128,8 @@ pub fn write_end<W: Write>(calls: u64, left_open: u32, out: &mut W) -> Result<()
 
 /// Writes a line for each call.
 fn write_calls<W: Write>(history: &[Call], out: &mut W) -> Result<(), WriteFault>
-    ensures { Writes (W.contents out.old) (W.contents out.new) (flat_map call_line history.now) result }
+    ensures { Writes (W.contents out.old) (W.contents out.new)
+        (flat_map call_line history.now) result }
 {
     for call in history {
         write_call(call, out)?;
@@ -142,7 +145,8 @@ pub(crate) fn write_with_open_lines<W: Write>(
     out: &mut W,
 ) -> Result<(), WriteFault>
     requires { left_open ≡ open_lines setup.now history.now }
-    ensures { Writes (W.contents out.old) (W.contents out.new) (trace_text setup.now history.now) result }
+    ensures { Writes (W.contents out.old) (W.contents out.new)
+        (trace_text setup.now history.now) result }
 {
     write_head(setup, out)?;
     write_calls(history, out)?;
@@ -151,7 +155,8 @@ pub(crate) fn write_with_open_lines<W: Write>(
 
 /// Writes the trace of a setup and a history.
 pub fn write_trace<W: Write>(setup: &Setup, history: &[Call], out: &mut W) -> Result<(), WriteFault>
-    ensures { Writes (W.contents out.old) (W.contents out.new) (trace_text setup.now history.now) result }
+    ensures { Writes (W.contents out.old) (W.contents out.new)
+        (trace_text setup.now history.now) result }
 {
     let left_open = open_lines(setup, history);
     write_with_open_lines(setup, history, left_open, out)

@@ -13,7 +13,8 @@ pub data Expression : Type 0 where
   Negation : (e : Expression) → Expression
   Operation : (op : Op) (left right : Expression) → Expression
 
--- what decides a branch, a loop or an assertion: the call's choice bit, or an expression
+-- what decides a branch, a loop, an assertion or an assumption: the call's choice bit, or an
+-- expression
 pub data Decision : Type 0 where
   Choose : Decision
   Decide : (e : Expression) → Decision

@@ -1,4 +1,4 @@
--- What statements of src/ stand for.
+-- The statement and the block that a form and statements of src/ stand for.
 use Rattle.std.specs.Prelude.{List, [], ◌∷◌}
 use Rattle.bp_tree.specs.declared.stmts.Form.{Form}
 use Rattle.bp_tree.specs.declared.stmts.Form.TheVariants.{Skip, Goto, Return, Assign, If, While, Assert, Assume, Print, Call}

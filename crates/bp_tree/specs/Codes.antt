@@ -1,5 +1,5 @@
--- Codes of the data of Ast. An expression or a block is coded as the list of its nodes in postfix order,
--- from which a stack builds it again.
+-- An encoding of the data of Ast, which models need; no contract names it. An expression or a block
+-- is coded as the list of its nodes in postfix order, from which a stack builds it again.
 use Rattle.std.specs.Prelude.{◌≡◌, ℕ, zero, suc, Bool, true, false, cond, List, [], ◌∷◌, ◌⊎◌, Option, None, Some, refl}
 use Rattle.std.specs.Coded.{Coded, code_by, coded×, coded⊎, coded_ℕ, coded_bool, coded_list, coded_option}
 use Rattle.std.proofs.Common.{inl, inr, ◌∙◌}
@@ -100,9 +100,10 @@ decision_again (Decide e) = refl
 abbrev pub coded_decision : Coded Decision
 coded_decision = code_by (Option Expression) (coded_option coded_expression) decision_part decision_from decision_again
 
--- A node of a block: its end (0), or a statement with its label and place. A statement that holds no blocks is
--- whole in its node: skip (0) or return (1), a jump, an assignment, an assertion (true) or an assumption (false),
--- a print or a call. A branch (true) or a loop (false) has its decision there, and takes its blocks from the stack.
+-- A node of a block: its end (0), or a statement with its label and place. A statement that holds
+-- no blocks is whole in its node: skip (0) or return (1), a jump, an assignment, an assertion
+-- (true) or an assumption (false), a print or a call. A branch (true) or a loop (false) has its
+-- decision there, and takes its blocks from the stack.
 
 abbrev pub PlainNode : Type 0
 PlainNode =

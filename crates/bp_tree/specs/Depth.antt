@@ -1,4 +1,5 @@
--- Sizes of the data of Ast, which fall from a value to its parts.
+-- How deep the data of Ast go: a whole is deeper than its parts. Measures of recursions; no
+-- contract names them.
 use Rattle.std.specs.Prelude.{ℕ, ◌+◌, max}
 use Rattle.bp_tree.specs.Ast.{Expression, Constant, Variable, Negation, Operation, Block, Done, Then, Statement, Branches, Loops}
 

@@ -1,4 +1,5 @@
--- What the enums of src/ stand for: one level each, as the parts are seen by their models.
+-- The expression and the decision that an enum of src/ stands for, whose parts are seen by their
+-- models.
 use Rattle.bp_tree.specs.declared.exprs.Expr.{Expr}
 use Rattle.bp_tree.specs.declared.exprs.Expr.TheVariants.{Const, Var, Not, Binary}
 use Rattle.bp_tree.specs.declared.exprs.Decider.{Decider}

@@ -60,6 +60,7 @@ impl Model for Sub {
 }
 
 impl Sub {
+    /// The operand that is this expression.
     pub fn new(alloc: Global, expr: Expr) -> Result<Sub, AllocError>
         ensures { IfOk result (λ s. s ≡ expression_of expr) }
     {
@@ -68,6 +69,7 @@ impl Sub {
         })
     }
 
+    /// The expression.
     pub fn get(&self) -> &Expr
         ensures { expression_of result.now ≡ self.now }
     {
@@ -148,12 +150,14 @@ impl Model for Exprs {
 }
 
 impl Exprs {
+    /// The expressions of a vector.
     pub fn new(items: Vec<Expr>) -> Exprs
         ensures { result ≡ map expression_of items.items }
     {
         Exprs { items }
     }
 
+    /// The expressions, in order.
     pub fn as_slice(&self) -> &[Expr]
         ensures { map expression_of result.now ≡ self.now }
     {

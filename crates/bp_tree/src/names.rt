@@ -4,7 +4,7 @@ ghost use Rattle.std.specs.Prelude.{◌≡◌, IfOk, string_bytes};
 use std::alloc::AllocError;
 use std::marker::Model;
 
-/// A name as it is spelled, braces included, and where it stands.
+/// A name as it is spelled, braces included, and its place in the text.
 #[derive(Drop)]
 pub struct Name {
     text: String,
@@ -76,12 +76,14 @@ impl Model for Names {
 }
 
 impl Names {
+    /// The names of a vector.
     pub fn new(items: Vec<Name>) -> Names
         ensures { result ≡ items.items }
     {
         Names { items }
     }
 
+    /// The names, in order.
     pub fn as_slice(&self) -> &[Name]
         ensures { result.now ≡ self.now }
     {

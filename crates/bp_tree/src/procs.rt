@@ -23,12 +23,18 @@ impl Model for Proc {
 
     ghost coded = { coded_procedure };
 
-    ghost view = { λ p. record { name = p.name; formals = p.formals; locals = p.locals; body = p.body } };
+    ghost view = { λ p. record {
+      name = p.name;
+      formals = p.formals;
+      locals = p.locals;
+      body = p.body;
+    } };
 }
 
 impl Proc {
     ghost use Rattle.bp_tree.specs.Blocks.{block_of};
 
+    /// The procedure of these parts.
     pub fn new(name: Name, formals: Names, locals: Names, body: Block) -> Proc
         ensures { result ≡ record { name = name; formals = formals; locals = locals; body = body } }
     {
@@ -40,6 +46,7 @@ impl Proc {
         }
     }
 
+    /// Its name.
     pub fn name(&self) -> &Name
         ensures { result.now ≡ self.now.name }
     {
@@ -103,12 +110,14 @@ impl Model for Procs {
 }
 
 impl Procs {
+    /// The procedures of a vector.
     pub fn new(items: Vec<Proc>) -> Procs
         ensures { result ≡ items.items }
     {
         Procs { items }
     }
 
+    /// The procedures, in order.
     pub fn as_slice(&self) -> &[Proc]
         ensures { result.now ≡ self.now }
     {

@@ -59,9 +59,9 @@ impl Model for Block {
 
     ghost size = { depth };
 
-    ghost use Rattle.bp_tree.specs.Falls.{falls};
+    ghost use Rattle.bp_tree.specs.SizeDecreases.{block_size_decreases};
 
-    ghost size_decreases = { λ a h. falls a.items.items };
+    ghost size_decreases = { λ a h. block_size_decreases a.items.items };
 }
 
 impl Stmt {
@@ -72,6 +72,7 @@ impl Stmt {
         Stmt { label, at, form }
     }
 
+    /// The label, if the statement has one.
     pub fn label(&self) -> Option<&Name>
         ensures { option_copied result ≡ self.now.label }
     {
@@ -85,6 +86,7 @@ impl Stmt {
         self.at
     }
 
+    /// What the statement does.
     pub fn form(&self) -> &Form
         ensures { result.now ≡ self.now.form }
     {
@@ -143,12 +145,14 @@ impl Form {
 }
 
 impl Block {
+    /// The block of these statements.
     pub fn new(items: Vec<Stmt>) -> Block
         ensures { result ≡ block_of items.items }
     {
         Block { items }
     }
 
+    /// The statements, in order.
     pub fn as_slice(&self) -> &[Stmt]
         ensures { block_of result.now ≡ self.now }
     {

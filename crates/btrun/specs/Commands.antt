@@ -1,5 +1,5 @@
--- What the words of the command line ask for. How words are told apart as commands, options and values is said by
--- the rules of `clap`.
+-- What the words of the command line ask for. How words are told apart as commands, options and
+-- values is said by the rules of `clap`.
 use Rattle.std.specs.Prelude.{◌≡◌, ◌==◌, Bool, true, not, List, [], ◌∷◌, Option, Some, None, codes, unwrap_or}
 use Rattle.clap.specs.Walk.{Row, Text, first_of}
 use Rattle.clap.specs.Simple.{App, new_app, new_rule, on_top, with_rule, with_subcommand}
@@ -8,11 +8,15 @@ use Rattle.btrun.specs.declared.commands.Task.TheVariants.{Bundle, Check}
 
 -- `check FILE`
 abbrev pub check_app : App
-check_app = with_rule (new_app (codes "check")) (record (new_rule (codes "FILE")) { required = true })
+check_app =
+    with_rule (new_app (codes "check")) (record (new_rule (codes "FILE")) { required = true })
 
 -- all commands
 abbrev pub btrun_app : App
-btrun_app = with_subcommand (on_top (λ s. record s { has_version = true }) (new_app (codes "btrun"))) check_app.top
+btrun_app =
+    with_subcommand
+    (on_top (λ s. record s { has_version = true }) (new_app (codes "btrun")))
+    check_app.top
 
 -- the value of an argument, empty where it has none
 abbrev pub value_of : Text → List Row → Text

@@ -20,6 +20,14 @@ pub enum Task<'a> {
     Check(&'a str),
 }
 
+/// What `--help` says behind the commands.
+const NOTES: &str =
+    "Without a command standard input is a bundle: a program, a line '%', and a schedule of lines\n'THREAD BIT'. One thread begins with 'main', all globals are 0, and at most 2 contexts and\n1000 calls are allowed. The trace of the run is printed.\n\nExamples:\n  btrun < FILE\n  btrun check FILE\n\nExit status:\n  0  done, and no assertion failed\n  1  an assertion failed\n  2  the input or the words were refused\n  3  memory, a device or the output failed";
+
+/// What `check --help` says behind the arguments.
+const CHECK_NOTES: &str =
+    "The first fault is one line on standard error, with the offset of its byte.\n\nExample:\n  btrun check lock.bp\n\nExit status:\n  0  the program is lawful\n  2  it is refused, or the words were\n  3  memory, a device or the output failed";
+
 /// `check FILE`.
 fn check_command<'a>(alloc: Global) -> Result<Command<'a>, AllocError>
     ensures { IfOk result (λ c. (app_of c ≡ check_app) × ((out-Command c).has_globals ≡ false)) }
@@ -31,6 +39,7 @@ fn check_command<'a>(alloc: Global) -> Result<Command<'a>, AllocError>
         .about(
             "Checks a program and prints 'ok', its number of procedures and its number of globals",
         )
+        .after_help(CHECK_NOTES)
         .arg(file)
 }
 
@@ -43,6 +52,7 @@ fn command<'a>(alloc: Global) -> Result<Command<'a>, AllocError>
         .about(
             "Runs concurrent Boolean programs. Without a command it reads a bundle from standard input and prints its trace",
         )
+        .after_help(NOTES)
         .subcommand(check_command(alloc)?)
 }
 
@@ -57,13 +67,18 @@ fn task_of<'a>(matches: &ArgMatches<'a>) -> Task<'a>
     }
 }
 
-/// Reads the words, of which the first is the program's name. The error also has the texts of help and version.
+/// Reads the words, of which the first is the program's name. The error also has the texts of help
+/// and version.
 pub fn read_words<'a>(alloc: Global, words: &'a [String]) -> Result<Task<'a>, Error>
-    ensures task { IfOk result (λ t. IsTaskOf (subcommand_of btrun_app (map string_bytes words.now)) t) }
+    ensures task { IfOk result
+        (λ t. IsTaskOf (subcommand_of btrun_app (map string_bytes words.now)) t) }
     ensures refusal { FailsBy (fault_of btrun_app (map string_bytes words.now)) result }
-    ensures bundle { (program : List ℕ) → map string_bytes words.now ≡ program ∷ []
+    ensures bundle { (program : List ℕ)
+        → map string_bytes words.now ≡ program ∷ []
         → MatchResult result (λ t. t ≡ Task.Bundle) (λ e. kind_of e ≡ ErrorKind.OutOfMemory) }
-    ensures check { (program file : List ℕ) → is_plain file ≡ true → map string_bytes words.now ≡ program ∷ codes "check" ∷ file ∷ []
+    ensures check { (program file : List ℕ)
+        → is_plain file ≡ true
+        → map string_bytes words.now ≡ program ∷ codes "check" ∷ file ∷ []
         → MatchResult result (IsCheckOf file) (λ e. kind_of e ≡ ErrorKind.OutOfMemory) }
 {
     let command = command(alloc)?;

@@ -46,7 +46,7 @@ fn another_comes_earlier(rt: HostRuntime) -> Result<(), Fail> {
 fn of_two_at_one_place_the_lesser_number(rt: HostRuntime) -> Result<(), Fail> {
     let unknown_and_uneven = refusal(rt.alloc(), b"main() begin y := 0, 1; end")?;
     assert_eq!(rt; unknown_and_uneven, Some((15, 13)));
-    // The second target is unknown and stands there twice; it is unknown at its first place already.
+    // The second target is unknown and appears twice; it is unknown at its first place already.
     let unknown_and_twice = refusal(rt.alloc(), b"main() begin y, y := 0, 1; end")?;
     assert_eq!(rt; unknown_and_twice, Some((15, 13)));
     Ok(())

@@ -4,7 +4,8 @@ use super::refusal;
 use std::alloc::{AllocError, Global};
 use std::test::Fail;
 
-/// The names `a0`, `a1` and so on, so many, with `, ` between them, behind a beginning and before an end.
+/// The names `a0`, `a1` and so on, so many, with `, ` between them, behind a beginning and before
+/// an end.
 fn listed(alloc: Global, before: &[u8], count: u32, after: &[u8]) -> Result<Vec<u8>, AllocError> {
     let mut text = Vec::new(alloc);
     text.extend_from_slice(before)?;

@@ -4,7 +4,8 @@ use crate::{check_text, lawful_program, show_check};
 use std::alloc::Global;
 use std::test::Fail;
 
-/// What checking a text comes to: the number of its fault and the place, or none; and what was written.
+/// What checking a text comes to: the number of its fault and the place, or none; and what was
+/// written.
 fn checked(alloc: Global, text: &[u8]) -> Result<(Option<(u32, Option<u32>)>, Vec<u8>), Fail> {
     let mut input = text;
     let mut out = Vec::new(alloc);

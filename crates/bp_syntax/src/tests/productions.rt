@@ -4,9 +4,9 @@ use crate::{ReadFault, read};
 use std::alloc::Global;
 use std::test::Fail;
 
-// A production in a program: what stands before it, its tokens with a space between, what stands
-// after it. Then, for each token, where the text stops opening a program that lacks it, has it twice,
-// or has another in its place; None where the text is read.
+// A production in a program: what comes before it, its tokens with a space between, what comes
+// after it. Then, for each token, where the text stops opening a program that lacks it, has it
+// twice, or has another in its place; None where the text is read.
 struct Production {
     before: &'static str,
     tokens: &'static [&'static str],

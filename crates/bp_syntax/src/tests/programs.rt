@@ -252,7 +252,7 @@ fn bracketed(alloc: Global, depth: u32) -> Result<Vec<u8>, Fail> {
 #[test]
 fn reads_the_deepest_brackets(rt: HostRuntime) -> Result<(), Fail> {
     let alloc = rt.alloc();
-    // Two tokens stand before the brackets, and the constant in them: 1,023 tokens, and 1,025.
+    // Two tokens come before the brackets, and the constant inside them: 1,023 tokens, and 1,025.
     assert!(rt; read(alloc, bracketed(alloc, 510)?.as_slice()).is_ok());
     assert_eq!(rt;
         read(alloc, bracketed(alloc, 511)?.as_slice()).err(),

@@ -1,5 +1,5 @@
 use Rattle.std.proofs.Common.{refl}
-use Rattle.bp_check.proofs.Refusing.{refusal_of}
+use Rattle.bp_check.proofs.LeastIsRefusal.{refusal_of}
 use Rattle.bp_check.proofs.checks.check.Goals as goal
 
 pub returns-in-Ok-Some : goal.returns-in-Ok-Some

@@ -1,4 +1,4 @@
-use Rattle.bp_check.proofs.Statements.{jump_anywhere, sides_anywhere, call_anywhere, ok_then}
+use Rattle.bp_check.proofs.FaultsOfStatement.{jump_anywhere, sides_anywhere, call_anywhere, ok_then}
 use Rattle.bp_check.proofs.forms.misuse.Goals as goal
 
 pub returns-in-Assign : goal.returns-in-Assign

@@ -1,5 +1,5 @@
 use Rattle.bp_tree.specs.Blocks.{statement_of}
-use Rattle.bp_check.proofs.Statements.{with_stray}
+use Rattle.bp_check.proofs.FaultsOfStatement.{with_stray}
 use Rattle.bp_check.proofs.forms.statement_fault.Goals as goal
 
 pub returns : goal.returns

@@ -1,5 +1,5 @@
 use Rattle.bp_check.specs.Scopes.{Among, SomeUses}
-use Rattle.bp_check.proofs.Strays.{both_stray}
+use Rattle.bp_check.proofs.StrayNames.{both_stray}
 use Rattle.bp_check.proofs.forms.stray.Goals as goal
 
 pub returns-in-Assign : goal.returns-in-Assign

@@ -2,7 +2,7 @@ use Rattle.std.proofs.Common.{arith, ap}
 use Rattle.bp_tree.specs.Blocks.{statement_of}
 use Rattle.bp_tree.specs.Depth.{statement_depth}
 use Rattle.bp_check.specs.Sets.{all_labelled}
-use Rattle.bp_check.proofs.Walks.{collect_more, inside_depth}
+use Rattle.bp_check.proofs.CollectedStatements.{collect_more, inside_depth}
 use Rattle.bp_check.proofs.procedures.+collect.Goals as goal
 
 pub collect-collect_inside-requires : goal.collect-collect_inside-requires

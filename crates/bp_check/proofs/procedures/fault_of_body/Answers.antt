@@ -2,8 +2,8 @@ use Rattle.std.proofs.Common.{ap, ◌∙◌}
 use Rattle.bp_check.specs.declared.faults.CheckFault.TheVariants.{TwiceLabel}
 use Rattle.bp_check.specs.Scopes.{labels, labels_of, statements}
 use Rattle.bp_check.specs.Faults.{IsTwice}
-use Rattle.bp_check.specs.Sets.{all_labelled, Only, IsFaultOfSome}
-use Rattle.bp_check.proofs.Finding.{finds_both}
+use Rattle.bp_check.specs.Sets.{all_labelled, Only, IsFaultOfStatements}
+use Rattle.bp_check.proofs.LeastOfBoth.{finds_both}
 use Rattle.bp_check.proofs.procedures.fault_of_body.Goals as goal
 
 pub returns : goal.returns
@@ -12,4 +12,4 @@ returns c =
     let found_labels = c.in_ok-labels.ensures ∙ c.in_ok-labels_in.ensures ∙ ap (λ xs. labels_of (all_labelled xs)) c.deref.ensures.value ∙ ap labels_of c.in_ok-stmts.ensures in
     let stmts = ap all_labelled c.deref-2.ensures.value ∙ c.in_ok-stmts.ensures in
     rw c.least.ensures
-    (finds_both (IsFaultOfSome c.args.declared.now c.args.callees.now (labels q.body) (statements q.body)) (Only TwiceLabel (IsTwice (labels q.body))) _ _ (rw (found_labels, stmts) at c.in_ok-found.ensures) (rw found_labels at c.twice.ensures))
+    (finds_both (IsFaultOfStatements c.args.declared.now c.args.callees.now (labels q.body) (statements q.body)) (Only TwiceLabel (IsTwice (labels q.body))) _ _ (rw (found_labels, stmts) at c.in_ok-found.ensures) (rw found_labels at c.least_repeat.ensures))

@@ -1,6 +1,6 @@
 use Rattle.std.proofs.Common.{ap, ◌∙◌}
 use Rattle.bp_check.specs.Sets.{names_of}
-use Rattle.bp_check.proofs.Walks.{labels_more, pushed_label, no_label}
+use Rattle.bp_check.proofs.CollectedStatements.{labels_more, pushed_label, no_label}
 use Rattle.bp_check.proofs.procedures.gather_labels.Goals as goal
 use Rattle.bp_check.proofs.procedures.gather_labels.Goals.{in-Some+in_ok-push-in-Some, in-None}
 

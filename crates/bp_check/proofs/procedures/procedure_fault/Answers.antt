@@ -1,15 +1,15 @@
 use Rattle.std.proofs.Common.{◌++◌, ◌∙◌, ap}
 use Rattle.bp_check.specs.declared.faults.CheckFault.TheVariants.{TwiceLocal}
-use Rattle.bp_check.specs.Faults.{max_own_names}
+use Rattle.bp_check.specs.declared.limits.TheConstants.{MAX_OWN_NAMES}
 use Rattle.bp_tree.specs.Lookup.{variables}
 use Rattle.bp_check.specs.Sets.{IsFaultOfNames, IsFaultOfBody}
-use Rattle.bp_check.proofs.Finding.{finds_both}
+use Rattle.bp_check.proofs.LeastOfBoth.{finds_both}
 use Rattle.bp_check.proofs.procedures.procedure_fault.Goals as goal
 
 pub returns : goal.returns
 returns c =
     let q = c.args.proc.now in
-    let own = c.in_ok-own.ensures ∙ c.in_ok-names_of_own.ensures in
+    let own = c.in_ok-own.ensures ∙ c.in_ok-own_names.ensures in
     let declared = c.new-declared.ensures ∙ ap (λ ns. ns ++ c.args.globals.now) own in
     rw c.least.ensures
-    (finds_both (IsFaultOfNames TwiceLocal max_own_names (variables q)) (IsFaultOfBody (variables q ++ c.args.globals.now) c.args.callees.now q) _ _ (rw own at c.fault_of_names-found.ensures) (rw declared at c.in_ok-inside.ensures))
+    (finds_both (IsFaultOfNames TwiceLocal MAX_OWN_NAMES (variables q)) (IsFaultOfBody (variables q ++ c.args.globals.now) c.args.callees.now q) _ _ (rw own at c.fault_of_names-found.ensures) (rw declared at c.in_ok-inside.ensures))

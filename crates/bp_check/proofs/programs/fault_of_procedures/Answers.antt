@@ -1,7 +1,7 @@
 use Rattle.std.proofs.Common.{take, ap, sym, ◌∙◌, ◌++◌, ◌∷◌, []}
 use Rattle.std.proofs.lemmas.List.{take_all, take_more}
 use Rattle.bp_check.specs.Sets.{IsProcedureFault}
-use Rattle.bp_check.proofs.Several.{one_of_more}
+use Rattle.bp_check.proofs.LeastOfMore.{one_of_more}
 use Rattle.bp_check.proofs.programs.fault_of_procedures.Goals as goal
 
 pub loop-proc-preserved : goal.loop-proc-preserved

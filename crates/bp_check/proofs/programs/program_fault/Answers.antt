@@ -1,4 +1,4 @@
-use Rattle.bp_check.proofs.Parts.{all_parts}
+use Rattle.bp_check.proofs.FaultsOfParts.{all_parts}
 use Rattle.bp_check.proofs.programs.program_fault.Goals as goal
 
 pub returns : goal.returns

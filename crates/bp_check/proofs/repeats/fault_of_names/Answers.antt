@@ -1,9 +1,9 @@
 use Rattle.bp_check.specs.declared.faults.CheckFault.TheVariants.{Limit}
 use Rattle.bp_check.specs.Faults.{IsTwice, IsPast}
 use Rattle.bp_check.specs.Sets.{Only}
-use Rattle.bp_check.proofs.Finding.{finds_both}
+use Rattle.bp_check.proofs.LeastOfBoth.{finds_both}
 use Rattle.bp_check.proofs.repeats.fault_of_names.Goals as goal
 
 pub returns : goal.returns
 returns c =
-    rw c.least.ensures (finds_both (Only c.args.fault (IsTwice c.args.names.now)) (Only Limit (IsPast c.args.limit c.args.names.now)) _ _ c.twice-found.ensures c.past.ensures)
+    rw c.least.ensures (finds_both (Only c.args.fault (IsTwice c.args.names.now)) (Only Limit (IsPast c.args.limit c.args.names.now)) _ _ c.least_repeat-found.ensures c.first_past.ensures)

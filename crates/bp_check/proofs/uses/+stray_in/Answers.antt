@@ -1,5 +1,5 @@
 use Rattle.bp_check.specs.Scopes.{Uses}
-use Rattle.bp_check.proofs.Strays.{none_stray, both_stray}
+use Rattle.bp_check.proofs.StrayNames.{none_stray, both_stray}
 use Rattle.bp_check.proofs.uses.+stray_in.Goals as goal
 
 pub returns-in-Const : goal.returns-in-Const

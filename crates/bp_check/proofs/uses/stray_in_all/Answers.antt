@@ -1,5 +1,5 @@
 use Rattle.std.proofs.lemmas.List.{take_all}
-use Rattle.bp_check.proofs.Strays.{expression_more}
+use Rattle.bp_check.proofs.StrayNames.{expression_more}
 use Rattle.bp_check.proofs.uses.stray_in_all.Goals as goal
 
 pub loop-expr-preserved : goal.loop-expr-preserved

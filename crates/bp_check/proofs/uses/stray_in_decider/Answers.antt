@@ -1,4 +1,4 @@
-use Rattle.bp_check.proofs.Strays.{none_stray}
+use Rattle.bp_check.proofs.StrayNames.{none_stray}
 use Rattle.bp_check.proofs.uses.stray_in_decider.Goals as goal
 
 pub returns-in-Choice : goal.returns-in-Choice

@@ -1,5 +1,5 @@
 use Rattle.std.proofs.lemmas.List.{take_all}
-use Rattle.bp_check.proofs.Strays.{name_more}
+use Rattle.bp_check.proofs.StrayNames.{name_more}
 use Rattle.bp_check.proofs.uses.stray_names.Goals as goal
 
 pub loop-name-preserved : goal.loop-name-preserved

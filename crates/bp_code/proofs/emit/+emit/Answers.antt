@@ -1,8 +1,8 @@
 use Rattle.std.proofs.Common.{◌≡◌, ◌+◌, ap, arith, length}
 use Rattle.bp_tree.specs.Blocks.{statement_of}
-use Rattle.bp_code.specs.Scopes.{scope_of}
-use Rattle.bp_code.specs.Listing.{block_size, size}
-use Rattle.bp_code.proofs.Blocks.{block_item, item_depth, listing_more}
+use Rattle.bp_code.specs.Environments.{environment_of}
+use Rattle.bp_code.specs.Compiled.{block_size, size}
+use Rattle.bp_code.proofs.BlockItems.{block_item, item_depth, code_more}
 use Rattle.bp_code.proofs.emit.+emit.Goals as goal
 
 pub emit_block-emit-requires : goal.emit_block-emit-requires
@@ -33,5 +33,5 @@ emit_block-loop-i-preserved t c =
     record {
       room = omega arith;
       known = known.1;
-      code = listing_more (scope_of c.args.scope.now) stmts c.loop-i.i item.result _ _ _ (length c.loop-i.out.items) (length c.emit.new.out.items) c.following-follows.result c.args.next c.loop-i-test.true item.is follows code one c.loop-i.invariant.code;
+      code = code_more (environment_of c.args.environment.now) stmts c.loop-i.i item.result _ _ _ (length c.loop-i.out.items) (length c.emit.new.out.items) c.following-follows.result c.args.next c.loop-i-test.true item.is follows code one c.loop-i.invariant.code;
     }

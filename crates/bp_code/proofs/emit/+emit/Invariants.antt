@@ -3,16 +3,16 @@ use Rattle.bp_tree.specs.Ast.{Branches, Loops}
 use Rattle.bp_tree.specs.Views.{decision_of}
 use Rattle.bp_tree.specs.Blocks.{block_of, statement_of}
 use Rattle.bp_tree.specs.Depth.{depth, statement_depth}
-use Rattle.bp_code.specs.Scopes.{scope_of}
+use Rattle.bp_code.specs.Environments.{environment_of}
 use Rattle.bp_code.specs.Known.{IsKnown}
-use Rattle.bp_code.specs.Listing.{block_size, listing}
+use Rattle.bp_code.specs.Compiled.{block_size, block_code}
 use Rattle.bp_code.proofs.emit.+emit.Given as goal
 
 abbrev pub invariant-emit_block-loop-i : goal.invariant-emit_block-loop-i
 invariant-emit_block-loop-i l = record {
   room : length l.out.items + block_size (block_of (drop l.i l.stmts)) ≡ length l.fn.out.items + block_size (block_of l.stmts);
-  known : IsKnown (scope_of l.scope) (block_of (drop l.i l.stmts));
-  code : l.out.items ++ listing (scope_of l.scope) (block_of (drop l.i l.stmts)) (length l.out.items) l.next ≡ l.fn.out.items ++ listing (scope_of l.scope) (block_of l.stmts) (length l.fn.out.items) l.next;
+  known : IsKnown (environment_of l.environment) (block_of (drop l.i l.stmts));
+  code : l.out.items ++ block_code (environment_of l.environment) (block_of (drop l.i l.stmts)) (length l.out.items) l.next ≡ l.fn.out.items ++ block_code (environment_of l.environment) (block_of l.stmts) (length l.fn.out.items) l.next;
 }
 
 abbrev pub decreases-emit_block : goal.decreases-emit_block

@@ -1,10 +1,10 @@
 use Rattle.std.proofs.Common.{◌<◌, length, ap, ◌∙◌, arith}
 use Rattle.std.proofs.lemmas.Bool.Decides.{nat_tests}
-use Rattle.bp_code.specs.Listing.{first_of}
-use Rattle.bp_code.proofs.Blocks.{first_within}
+use Rattle.bp_code.specs.Compiled.{block_entry}
+use Rattle.bp_code.proofs.BlockItems.{first_within}
 use Rattle.bp_code.proofs.emit.first.Goals as goal
 
 pub returns-else-is_empty : goal.returns-else-is_empty
 returns-else-is_empty c =
     let some : 0 < length c.as_slice.result.now = grind (arith, nat_tests, c.if-is_empty.ensures) in
-    first_within c.as_slice.result.now 0 c.args.at c.args.next some ∙ ap (λ b. first_of b c.args.at c.args.next) c.as_slice.ensures
+    first_within c.as_slice.result.now 0 c.args.at c.args.next some ∙ ap (λ b. block_entry b c.args.at c.args.next) c.as_slice.ensures

@@ -1,5 +1,5 @@
 use Rattle.std.proofs.Common.{◌+◌}
-use Rattle.bp_code.proofs.Blocks.{first_within, first_past}
+use Rattle.bp_code.proofs.BlockItems.{first_within, first_past}
 use Rattle.bp_code.proofs.emit.following.Goals as goal
 
 pub returns-then-i-stmts : goal.returns-then-i-stmts

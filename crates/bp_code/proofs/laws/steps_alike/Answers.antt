@@ -1,4 +1,4 @@
-use Rattle.bp_code.proofs.Alike.{steps_alike}
+use Rattle.bp_code.proofs.StandsForStepsAlike.{steps_alike}
 use Rattle.bp_code.proofs.laws.steps_alike.Goals as goal
 
 pub returns : goal.returns

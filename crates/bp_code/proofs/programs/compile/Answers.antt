@@ -1,4 +1,4 @@
-use Rattle.bp_code.proofs.Lawful.{lawful_compiles}
+use Rattle.bp_code.proofs.LawfulIsCompilable.{lawful_compiles}
 use Rattle.bp_code.proofs.programs.compile.Goals as goal
 
 pub compile_program-requires-clause-able : goal.compile_program-requires-clause-able

@@ -1,8 +1,8 @@
 use Rattle.std.proofs.Common.{sym, ◌∙◌, length, append-nil}
 use Rattle.bp_tree.specs.Ast.{Program}
-use Rattle.bp_code.proofs.Blocks.{drop_item, dropped_all}
-use Rattle.bp_code.proofs.Knowing.{all_few, all_known}
-use Rattle.bp_code.proofs.Compiled.{flat_stands}
+use Rattle.bp_code.proofs.ListItems.{drop_item, dropped_all}
+use Rattle.bp_code.proofs.DeclaredIsKnown.{all_few, all_known}
+use Rattle.bp_code.proofs.CompiledStandsFor.{flat_stands}
 use Rattle.bp_code.proofs.programs.compile_program.Goals as goal
 
 pub headings_of-requires-clause-few : goal.headings_of-requires-clause-few

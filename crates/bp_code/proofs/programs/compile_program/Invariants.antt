@@ -1,6 +1,6 @@
 use Rattle.std.proofs.Common.{◌≡◌, ◌+◌, ◌++◌, length, drop}
 use Rattle.bp_code.specs.Compilable.{AllCompilableIn}
-use Rattle.bp_code.specs.Listing.{procedures_size, headings_from, listing_from}
+use Rattle.bp_code.specs.Compiled.{procedures_size, headings_from, procedures_code}
 use Rattle.bp_code.proofs.programs.compile_program.Given as goal
 
 abbrev pub invariant-loop-proc : goal.invariant-loop-proc
@@ -9,5 +9,5 @@ invariant-loop-proc l =
     record {
       size : length l.instrs.items + procedures_size (drop l.proc-index l.procs) ≡ procedures_size l.procs;
       able : AllCompilableIn (record { globals = l.globals; procedures = l.procs }) (drop l.proc-index l.procs);
-      code : l.instrs.items ++ listing_from l.globals headings (length l.instrs.items) (drop l.proc-index l.procs) ≡ listing_from l.globals headings 0 l.procs;
+      code : l.instrs.items ++ procedures_code l.globals headings (length l.instrs.items) (drop l.proc-index l.procs) ≡ procedures_code l.globals headings 0 l.procs;
     }

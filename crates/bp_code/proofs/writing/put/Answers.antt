@@ -1,5 +1,5 @@
 use Rattle.std.proofs.Common.{arith, length-drop}
-use Rattle.bp_code.proofs.Pieces.{all_from, Appends_next}
+use Rattle.bp_code.proofs.AppendsPieces.{all_from, Appends_next}
 use Rattle.bp_code.proofs.writing.put.Goals as goal
 
 pub loop-done-preserved : goal.loop-done-preserved

@@ -1,5 +1,5 @@
 use Rattle.std.proofs.Common.{◌∙◌, ap, is_some}
-use Rattle.bp_check.proofs.Firsts.{first_has}
+use Rattle.bp_check.proofs.FirstIndex.{first_has}
 use Rattle.bp_check.proofs.tables.NameTable.has.Goals as goal
 
 pub returns : goal.returns

@@ -1,5 +1,5 @@
 use Rattle.std.proofs.Common.{◌∙◌}
-use Rattle.bp_code.proofs.Blocks.{taken_all}
+use Rattle.bp_code.proofs.ListItems.{taken_all}
 use Rattle.bp_code.proofs.code.Code.try_copy.Goals as goal
 
 pub invariant_of-result : goal.invariant_of-result

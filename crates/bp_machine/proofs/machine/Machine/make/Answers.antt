@@ -11,4 +11,4 @@ returns-in-Fails-clause-ok c = λ guest has.
 
 pub returns-in-Steps-clause-ok : goal.returns-in-Steps-clause-ok
 returns-in-Steps-clause-ok c = λ guest has.
-    steps_after c.args.self.now c.self.inside.globals c.self.inside.threads.items c.self.inside.contexts c.self.inside.failed c.self.view_is c.args.thread guest c.index_mut-guest.result.now c.make.new.self c.args.transition has c.index_mut-guest.ensures.value c.in_ok-make.ensures.ok c.in-Steps.deed c.in-Steps.is c.with-self-inside-in-Steps.result c.with-self-inside-in-Steps.ensures.value c.globals_after-self-inside.result c.globals_after-self-inside.ensures
+    steps_after c.args.self.now c.self.inside.globals c.self.inside.threads.items c.self.inside.contexts c.self.inside.failed c.self.view_is c.args.thread guest c.index_mut-guest.result.now c.make.new.self c.args.transition has c.index_mut-guest.ensures.value c.in_ok-make.ensures.ok c.in-Steps.effect c.in-Steps.is c.with-self-inside-in-Steps.result c.with-self-inside-in-Steps.ensures.value c.globals_after-self-inside.result c.globals_after-self-inside.ensures

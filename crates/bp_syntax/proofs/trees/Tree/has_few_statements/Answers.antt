@@ -1,4 +1,4 @@
-use Rattle.bp_syntax.proofs.Sizes.{few_statements}
+use Rattle.bp_syntax.proofs.FewStatements.{few_statements}
 use Rattle.bp_syntax.proofs.trees.Tree.has_few_statements.Goals as goal
 
 pub returns : goal.returns

@@ -1,5 +1,5 @@
 use Rattle.std.proofs.Common.{sym, subst}
-use Rattle.bp_syntax.specs.Reading.{program_of}
+use Rattle.bp_syntax.specs.ParserState.{program_of}
 use Rattle.bp_syntax.specs.Texts.{HasText}
 use Rattle.bp_syntax.proofs.trees.Tree.try_copy.Goals as goal
 

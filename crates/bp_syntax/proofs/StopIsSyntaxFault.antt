@@ -1,0 +1,114 @@
+-- Where the parser ends is a program of the grammar, and where it stops is the syntax fault.
+use Rattle.std.proofs.Common.{◌≡◌, ℕ, List, [], ◌∷◌, ◌++◌, Option, Some, None, refl, sym, ap, subst, ◌∙◌, inl, inr, append_assoc, length}
+use Rattle.std.proofs.lemmas.List.{append-nil}
+use Rattle.bp_tree.specs.Ast.{Program}
+use Rattle.bp_syntax.specs.Tokens.{Token}
+use Rattle.bp_syntax.specs.Grammar.{Derives, program}
+use Rattle.bp_syntax.specs.Opens.{Opens, HasSyntaxFault}
+use Rattle.bp_syntax.specs.ParserState.{Wanted, wanted_after, program_at_end, Got, Stops, result_at_end, result_after, parse_result, whole_program}
+use Rattle.bp_syntax.proofs.WantedPhrases.{Needs, complete, decls, procs}
+use Rattle.bp_syntax.proofs.NextTokenIsWanted.{sound, sound_end}
+use Rattle.bp_syntax.proofs.WantedIsCompletable.{completed}
+use Rattle.bp_syntax.proofs.ProgramsAreRead.{derived_is_read}
+
+-- what is wanted at the start is a program
+whole : (ts : List Token) (q : Program) → Needs whole_program ts q → Derives ts q
+whole ts q (decls gs d (procs ps f complete)) = program d f
+
+-- what is read to the end is of the grammar
+read_is_needed : (ts : List Token) (w : Wanted) (q : Program) → parse_result w ts ≡ Got q → Needs w ts q
+read_is_needed [] w q e = end_by (program_at_end w) refl e
+  where
+    end_by : (o : Option Program) → program_at_end w ≡ o → result_at_end o ≡ Got q → Needs w [] q
+    end_by None h e = let z : ⊥ = cc in absurd z
+    end_by (Some p) h e = sound_end w q (h ∙ (let s : Some p ≡ Some q = cc in s))
+read_is_needed (x ∷ ts) w q e = step_by (wanted_after w x) refl e (read_is_needed ts)
+  where
+    step_by : (o : Option Wanted) → wanted_after w x ≡ o → result_after o (λ v. parse_result v ts) (Stops (x ∷ ts)) ≡ Got q → ((v : Wanted) (p : Program) → parse_result v ts ≡ Got p → Needs v ts p) → Needs w (x ∷ ts) q
+    step_by None h e rest = let z : ⊥ = cc in absurd z
+    step_by (Some v) h e rest = sound w x v h ts q (rest v q e)
+
+pub read_is_derived : (ts : List Token) (p : Program) → parse_result whole_program ts ≡ Got p → Derives ts p
+read_is_derived ts p e = whole ts p (read_is_needed ts whole_program p e)
+
+-- where the parser stops: it read the tokens before, and the next may not come, or the tokens may not end
+record Stopped (w : Wanted) (ts left : List Token) : Type 0 where
+  front : List Token
+  parts : ts ≡ front ++ left
+  wanted : Wanted
+  through : (us : List Token) → parse_result w (front ++ us) ≡ parse_result wanted us
+  needs : (us : List Token) (q : Program) → Needs wanted us q → Needs w (front ++ us) q
+  refuses_more : (x : Token) (r us : List Token) → left ≡ x ∷ r → parse_result wanted (x ∷ us) ≡ Stops (x ∷ us)
+
+stopped : (ts : List Token) (w : Wanted) (left : List Token) → parse_result w ts ≡ Stops left → Stopped w ts left
+stopped [] w left e = end_by (program_at_end w) refl e
+  where
+    end_by : (o : Option Program) → program_at_end w ≡ o → result_at_end o ≡ Stops left → Stopped w [] left
+    end_by (Some p) h e = let z : ⊥ = cc in absurd z
+    end_by None h e =
+        let l : [] ≡ left = cc in
+        record {
+          front = [];
+          parts = l;
+          wanted = w;
+          through = λ us. refl;
+          needs = λ us q n. n;
+          refuses_more = λ x r us m. let z : ⊥ = cc in absurd z;
+        }
+stopped (x ∷ ts) w left e = step_by (wanted_after w x) refl e (stopped ts)
+  where
+    step_by : (o : Option Wanted) → wanted_after w x ≡ o → result_after o (λ v. parse_result v ts) (Stops (x ∷ ts)) ≡ Stops left → ((v : Wanted) (l : List Token) → parse_result v ts ≡ Stops l → Stopped v ts l) → Stopped w (x ∷ ts) left
+    step_by None h e rest =
+        let l : x ∷ ts ≡ left = cc in
+        record {
+          front = [];
+          parts = l;
+          wanted = w;
+          through = λ us. refl;
+          needs = λ us q n. n;
+          refuses_more = λ y r us m.
+              let s : x ≡ y = cc in
+              subst (λ z. parse_result w (z ∷ us) ≡ Stops (z ∷ us)) s (ap (λ o. result_after o (λ v. parse_result v us) (Stops (x ∷ us))) h);
+        }
+    step_by (Some v) h e rest =
+        let s = rest v left e in
+        record {
+          front = x ∷ s.front;
+          parts = ap (λ l. x ∷ l) s.parts;
+          wanted = s.wanted;
+          through = λ us. ap (λ o. result_after o (λ u. parse_result u (s.front ++ us)) (Stops (x ∷ (s.front ++ us)))) h ∙ s.through us;
+          needs = λ us q n. sound w x v h (s.front ++ us) q (s.needs us q n);
+          refuses_more = s.refuses_more;
+        }
+
+needed_opens : (front : List Token) (w : Wanted) → ((us : List Token) (q : Program) → Needs w us q → Needs whole_program (front ++ us) q) → Opens front
+needed_opens front w needs =
+    let c = completed w in
+    record { more = c.more; real = c.real; tree = c.tree; derives = whole (front ++ c.more) c.tree (needs c.more c.tree c.needs) }
+
+got_or_stops : {p : Program} {l : List Token} → Got p ≡ Stops l → ⊥
+got_or_stops e = cc
+
+-- where the parser stops is the syntax fault
+pub stops_at_fault : (text : List ℕ) (ts left : List Token) (at : ℕ) → parse_result whole_program ts ≡ Stops left → ((x : Token) (r : List Token) → left ≡ x ∷ r → x.at ≡ at) → (left ≡ [] → at ≡ length text) → HasSyntaxFault text ts at
+stops_at_fault text ts [] at e here there =
+    let s = stopped ts whole_program [] e in
+    let whole : ts ≡ s.front = s.parts ∙ append-nil s.front in
+    inr (
+      subst Opens (sym whole) (needed_opens s.front s.wanted s.needs),
+      λ p d. got_or_stops (sym (derived_is_read d) ∙ e),
+      there refl,
+    )
+stops_at_fault text ts (x ∷ r) at e here there =
+    let s = stopped ts whole_program (x ∷ r) e in
+    inl (record {
+      front = s.front;
+      token = x;
+      rest = r;
+      parts = s.parts;
+      before = needed_opens s.front s.wanted s.needs;
+      after = λ o.
+          let d : Derives (s.front ++ x ∷ o.more) o.tree = subst (λ l. Derives l o.tree) (append_assoc s.front (x ∷ []) o.more) o.derives in
+          got_or_stops (sym (derived_is_read d) ∙ s.through (x ∷ o.more) ∙ s.refuses_more x r o.more refl);
+      place = here x r refl;
+    })

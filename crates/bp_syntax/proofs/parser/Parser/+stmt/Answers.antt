@@ -1,0 +1,98 @@
+use Rattle.std.proofs.Common.{◌≡◌, ◌∙◌, ap, sym, refl, Some, arith}
+use Rattle.bp_tree.specs.Ast.{Block, Then, Skips, Returns}
+use Rattle.bp_tree.specs.Blocks.{statement_of}
+use Rattle.bp_syntax.specs.ParserState.{WordThen, FormThen, GotoThen, IfThen, WhileThen, AssertThen, AssumeThen, PrintThen, StmtsThen, MoreStmts, parse_result, kind_ahead, place_ahead}
+use Rattle.bp_syntax.specs.declared.tokens.TokenKind.TheVariants as kind
+use Rattle.bp_syntax.proofs.ResultByNextToken.{at_exit, passed_on, word_comes, before_block, block_is, one_more_form}
+use Rattle.bp_syntax.proofs.ResultAfterToken.{more_stmts_ahead, no_stmt}
+use Rattle.bp_syntax.proofs.parser.Parser.+stmt.Goals as goal
+
+pub form-returns-in-Some-Skip-clause-reads : goal.form-returns-in-Some-Skip-clause-reads
+form-returns-in-Some-Skip-clause-reads t c next =
+    let old = c.args.self.now in
+    let then = next (place_ahead old) in
+    let h : kind_ahead old ≡ Some kind.Skip = cc in
+    passed_on c.keyword_statement.result (FormThen next) (WordThen kind.Skip (WordThen kind.Semicolon (then Skips))) old old c.keyword_statement.new.self (λ f. then (statement_of f))
+    (word_comes kind.Skip next old (WordThen kind.Semicolon (then Skips)) h (λ x. refl)) (c.keyword_statement.ensures.reads then)
+
+pub form-returns-in-Some-Return-clause-reads : goal.form-returns-in-Some-Return-clause-reads
+form-returns-in-Some-Return-clause-reads t c next =
+    let old = c.args.self.now in
+    let then = next (place_ahead old) in
+    let h : kind_ahead old ≡ Some kind.Return = cc in
+    passed_on c.keyword_statement-in-Some-Return.result (FormThen next) (WordThen kind.Return (WordThen kind.Semicolon (then Returns))) old old c.keyword_statement-in-Some-Return.new.self (λ f. then (statement_of f))
+    (word_comes kind.Return next old (WordThen kind.Semicolon (then Returns)) h (λ x. refl)) (c.keyword_statement-in-Some-Return.ensures.reads then)
+
+pub form-returns-in-Some-Goto-clause-reads : goal.form-returns-in-Some-Goto-clause-reads
+form-returns-in-Some-Goto-clause-reads t c next =
+    let old = c.args.self.now in
+    let then = next (place_ahead old) in
+    let h : kind_ahead old ≡ Some kind.Goto = cc in
+    passed_on c.jump.result (FormThen next) (WordThen kind.Goto (GotoThen then)) old old c.jump.new.self (λ f. then (statement_of f))
+    (word_comes kind.Goto next old (GotoThen then) h (λ x. refl)) (c.jump.ensures.reads then)
+
+pub form-returns-in-Some-If-clause-reads : goal.form-returns-in-Some-If-clause-reads
+form-returns-in-Some-If-clause-reads t c next =
+    let old = c.args.self.now in
+    let then = next (place_ahead old) in
+    let h : kind_ahead old ≡ Some kind.If = cc in
+    passed_on c.branch-self.result (FormThen next) (WordThen kind.If (IfThen then)) old old c.branch-self.new.self (λ f. then (statement_of f))
+    (word_comes kind.If next old (IfThen then) h (λ x. refl)) (c.branch-self.ensures.reads then)
+
+pub form-returns-in-Some-While-clause-reads : goal.form-returns-in-Some-While-clause-reads
+form-returns-in-Some-While-clause-reads t c next =
+    let old = c.args.self.now in
+    let then = next (place_ahead old) in
+    let h : kind_ahead old ≡ Some kind.While = cc in
+    passed_on c.repetition.result (FormThen next) (WordThen kind.While (WhileThen then)) old old c.repetition.new.self (λ f. then (statement_of f))
+    (word_comes kind.While next old (WhileThen then) h (λ x. refl)) (c.repetition.ensures.reads then)
+
+pub form-returns-in-Some-Assert-clause-reads : goal.form-returns-in-Some-Assert-clause-reads
+form-returns-in-Some-Assert-clause-reads t c next =
+    let old = c.args.self.now in
+    let then = next (place_ahead old) in
+    let h : kind_ahead old ≡ Some kind.Assert = cc in
+    passed_on c.assertion.result (FormThen next) (WordThen kind.Assert (AssertThen then)) old old c.assertion.new.self (λ f. then (statement_of f))
+    (word_comes kind.Assert next old (AssertThen then) h (λ x. refl)) (c.assertion.ensures.reads then)
+
+pub form-returns-in-Some-Assume-clause-reads : goal.form-returns-in-Some-Assume-clause-reads
+form-returns-in-Some-Assume-clause-reads t c next =
+    let old = c.args.self.now in
+    let then = next (place_ahead old) in
+    let h : kind_ahead old ≡ Some kind.Assume = cc in
+    passed_on c.assumption.result (FormThen next) (WordThen kind.Assume (AssumeThen then)) old old c.assumption.new.self (λ f. then (statement_of f))
+    (word_comes kind.Assume next old (AssumeThen then) h (λ x. refl)) (c.assumption.ensures.reads then)
+
+pub form-returns-in-Some-Print-clause-reads : goal.form-returns-in-Some-Print-clause-reads
+form-returns-in-Some-Print-clause-reads t c next =
+    let old = c.args.self.now in
+    let then = next (place_ahead old) in
+    let h : kind_ahead old ≡ Some kind.Print = cc in
+    passed_on c.printing.result (FormThen next) (WordThen kind.Print (PrintThen then)) old old c.printing.new.self (λ f. then (statement_of f))
+    (word_comes kind.Print next old (PrintThen then) h (λ x. refl)) (c.printing.ensures.reads then)
+
+pub stmts-returns-in_err-stmt-2-clause-reads : goal.stmts-returns-in_err-stmt-2-clause-reads
+stmts-returns-in_err-stmt-2-clause-reads t c next =
+    let then = λ (b : Block). next (before_block c.loop-alloc.stmts.items b) in
+    at_exit _ c.in_err-stmt-2.field-0.0 (StmtsThen next) c.args.self.now c.stmt-in-loop-alloc.new.self next _ c.from_residual-in_err-stmt-2.ensures.1
+    (c.loop-alloc.invariant.reads next ∙ more_stmts_ahead then c.loop-alloc.self (sym c.loop-alloc-test.ensures))
+    (c.in_err-stmt-2.ensures.reads (λ l at s. MoreStmts (λ b. then (Then l at s b))))
+
+pub stmts-loop-alloc-preserved : goal.stmts-loop-alloc-preserved
+stmts-loop-alloc-preserved t c = record {
+  reads = λ next.
+      let then = λ (b : Block). next (before_block c.loop-alloc.stmts.items b) in
+      c.loop-alloc.invariant.reads next
+      ∙ more_stmts_ahead then c.loop-alloc.self (sym c.loop-alloc-test.ensures)
+      ∙ c.in_ok-stmt-2.ensures.reads (λ l at s. MoreStmts (λ b. then (Then l at s b)))
+      ∙ one_more_form next c.loop-alloc.stmts.items _ c.in_ok-stmt-2.field-0 c.stmt-in-loop-alloc.new.self c.in_ok-push-2.ensures.items;
+  shorter = let less = c.in_ok-stmt-2.ensures.shorter in let so_far = c.loop-alloc.invariant.shorter in omega arith;
+}
+
+pub stmts-returns-clause-reads : goal.stmts-returns-clause-reads
+stmts-returns-clause-reads t c next =
+    let ts = c.loop-alloc.self in
+    let then = λ (b : Block). next (before_block c.loop-alloc.stmts.items b) in
+    c.loop-alloc.invariant.reads next
+    ∙ no_stmt then ts (sym c.loop-alloc-test.ensures)
+    ∙ ap (λ b. parse_result (next b) ts) (block_is c.loop-alloc.stmts.items ∙ sym c.new.ensures)

@@ -1,0 +1,11 @@
+use Rattle.std.proofs.Common.{[], sym, ap, map}
+use Rattle.bp_tree.specs.Views.{expression_of}
+use Rattle.bp_syntax.specs.ParserState.{ExprsThen, parse_result}
+use Rattle.bp_syntax.proofs.ResultByNextToken.{at_exit}
+use Rattle.bp_syntax.proofs.parser.Parser.expr_list.Goals as goal
+
+pub returns-in_err-exprs-clause-reads : goal.returns-in_err-exprs-clause-reads
+returns-in_err-exprs-clause-reads c next =
+    at_exit _ c.in_err-exprs.field-0.0 (ExprsThen [] next) c.args.self.now c.exprs.new.self next _ c.from_residual.ensures.1
+    (ap (λ l. parse_result (ExprsThen (map expression_of l) next) c.args.self.now) (sym c.new-exprs.ensures.items))
+    (c.in_err-exprs.ensures.reads next)

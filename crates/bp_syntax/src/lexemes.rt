@@ -1,0 +1,128 @@
+//! The first lexeme of a text.
+ghost use Rattle.std.specs.Prelude.{◌≡◌, ◌≤◌, ◌<◌, [], ◌∷◌, length};
+ghost use Rattle.bp_syntax.specs.Lexer.{run, is_continuation, comment, first_symbol, unbraced_lexeme, IsNameless, IsFirstLexeme};
+
+use crate::tokens::{
+    LexemeKind, constant, is_braced_byte, is_comment_byte, is_letter, is_white, is_word_byte,
+    long_symbol, symbol,
+};
+
+/// What a text begins with: a piece of some kind, or a byte with which no piece begins.
+#[derive(Clone, Copy, Debug, PartialEq, Eq)]
+pub(crate) enum Lexeme {
+    /// The longest piece that fits, and its length.
+    Piece(LexemeKind, usize),
+    /// A brace that begins no name. No name begins in so many bytes from it on.
+    OpenBrace(usize),
+    /// Another byte with which no piece begins.
+    BadByte,
+}
+
+/// Whether a piece of the kind goes on with this byte behind its first.
+fn is_continuation(kind: LexemeKind, b: u8) -> bool
+    ensures { result ≡ is_continuation kind b }
+{
+    match kind {
+        LexemeKind::Identifier => is_word_byte(b),
+        LexemeKind::Comment => is_comment_byte(b),
+        LexemeKind::Braced => is_braced_byte(b),
+        _ => false,
+    }
+}
+
+/// The number of bytes with which a piece of the kind goes on.
+fn run(kind: LexemeKind, text: &[u8]) -> usize
+    ensures value { result ≡ run (is_continuation kind) text.now }
+    ensures within { result ≤ length text.now }
+{
+    for (i, b) in text.iter().enumerate() {
+        if !is_continuation(kind, *b) {
+            return i;
+        }
+    }
+    text.len()
+}
+
+/// The comment that a slash begins, where these bytes follow it, and its length.
+fn comment(rest: &[u8]) -> Option<(LexemeKind, usize)>
+    ensures { result ≡ comment rest.now }
+{
+    if *rest.first()? == b'/' {
+        Some((
+            LexemeKind::Comment,
+            2 + run(LexemeKind::Comment, &rest[1..]),
+        ))
+    } else {
+        None
+    }
+}
+
+/// The symbol that the text begins with, and its length.
+fn first_symbol(first: u8, rest: &[u8]) -> Option<(LexemeKind, usize)>
+    ensures { result ≡ first_symbol first rest.now }
+{
+    if let Some(second) = rest.first() {
+        if long_symbol(first, *second).is_some() {
+            return Some((LexemeKind::Symbol, 2));
+        }
+    }
+    if symbol(first).is_some() {
+        Some((LexemeKind::Symbol, 1))
+    } else {
+        None
+    }
+}
+
+/// The longest piece at the start of a text that begins with no brace, and its length.
+fn unbraced_lexeme(first: u8, rest: &[u8]) -> Option<(LexemeKind, usize)>
+    ensures { result ≡ unbraced_lexeme first rest.now }
+{
+    if is_letter(first) {
+        Some((
+            LexemeKind::Identifier,
+            1 + run(LexemeKind::Identifier, rest),
+        ))
+    } else if is_white(first) {
+        Some((LexemeKind::White, 1))
+    } else if constant(first).is_some() {
+        Some((LexemeKind::Constant, 1))
+    } else if first == b'/' {
+        comment(rest)
+    } else {
+        first_symbol(first, rest)
+    }
+}
+
+/// The lexeme that a brace begins, where these bytes follow it.
+fn braced_lexeme(rest: &[u8]) -> Lexeme
+    ensures { IsFirstLexeme (123 ∷ rest.now) result }
+{
+    let inside = run(LexemeKind::Braced, rest);
+    if rest.get(inside).copied() == Some(b'}') {
+        Lexeme::Piece(LexemeKind::Braced, inside + 2)
+    } else {
+        Lexeme::OpenBrace(inside + 1)
+    }
+}
+
+/// The first lexeme of a text in whose first `nameless` bytes no braced name begins. So no byte is
+/// searched twice for the end of a name.
+pub(crate) fn first_lexeme(text: &[u8], nameless: usize) -> Lexeme
+    requires some { 0 < length text.now }
+    requires nameless { IsNameless nameless text.now }
+    ensures { IsFirstLexeme text.now result }
+{
+    let first = text[0];
+    if first == b'{' {
+        if nameless > 0 {
+            Lexeme::OpenBrace(nameless)
+        } else {
+            braced_lexeme(&text[1..])
+        }
+    } else {
+        match unbraced_lexeme(first, &text[1..]) {
+            Some((kind, len)) => Lexeme::Piece(kind, len),
+            None => Lexeme::BadByte,
+        }
+    }
+}

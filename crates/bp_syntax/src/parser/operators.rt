@@ -1,0 +1,33 @@
+//! The operators between two operands, by their precedence.
+ghost use Rattle.std.specs.Prelude.{◌≡◌};
+ghost use Rattle.bp_syntax.specs.ParserState as rule;
+
+use crate::tokens::TokenKind;
+use bp_tree::Op;
+
+/// How strongly an operator that associates to the left binds: the strongest first.
+#[derive(Clone, Copy, Debug, PartialEq, Eq)]
+pub(crate) enum Precedence {
+    /// `=` and `!=`.
+    Equality,
+    /// `&`.
+    Conjunction,
+    /// `^`.
+    Exclusion,
+    /// `|`.
+    Disjunction,
+}
+
+/// The operator of the precedence that a token of the kind is.
+pub(crate) fn operator(precedence: Precedence, kind: TokenKind) -> Option<Op>
+    ensures { result ≡ rule.operator precedence kind }
+{
+    match (precedence, kind) {
+        (Precedence::Equality, TokenKind::Equal) => Some(Op::Equal),
+        (Precedence::Equality, TokenKind::Differ) => Some(Op::Differ),
+        (Precedence::Conjunction, TokenKind::Ampersand) => Some(Op::And),
+        (Precedence::Exclusion, TokenKind::Caret) => Some(Op::Xor),
+        (Precedence::Disjunction, TokenKind::Bar) => Some(Op::Or),
+        _ => None,
+    }
+}

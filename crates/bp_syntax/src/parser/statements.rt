@@ -1,0 +1,234 @@
+//! Statements.
+ghost use Rattle.std.specs.Prelude.{◌≡◌, ◌<◌, ◌≤◌, length, ℕ, Option, OnOk, true};
+ghost use Rattle.bp_tree.specs.Ast as tree;
+ghost use Rattle.bp_tree.specs.Blocks.{statement_of};
+ghost use Rattle.bp_syntax.specs.ParserState.{Wanted, KeywordThen, OneWordThen, GotoThen, IfThen, WhileThen, AssertThen, AssumeThen, PrintThen, AssignThen, CallThen, FormThen, StmtThen, StmtsThen, ReadsBy, ReadsPhrase, place_ahead, is_at, is_at_form};
+ghost use Rattle.bp_syntax.specs.declared.tokens.TokenKind.TheVariants as kind;
+
+use crate::parser::{Parser, Stop};
+use crate::tokens::TokenKind;
+use bp_tree::{Block, Form, Name, Stmt};
+use std::alloc::Global;
+
+impl<'a> Parser<'a> {
+    /// Reads an assignment.
+    fn assignment(&mut self, alloc: Global) -> Result<Form, Stop>
+        ensures reads { ReadsPhrase result AssignThen self.old self.new statement_of }
+        ensures shorter { OnOk result (length self.new < length self.old) }
+    {
+        let targets = self.name_list(alloc)?;
+        self.expect(TokenKind::Becomes)?;
+        let values = self.expr_list(alloc)?;
+        self.expect(TokenKind::Semicolon)?;
+        Ok(Form::Assign(targets, values))
+    }
+
+    /// Reads a call.
+    fn call(&mut self, alloc: Global) -> Result<Form, Stop>
+        ensures reads { ReadsPhrase result CallThen self.old self.new statement_of }
+        ensures shorter { OnOk result (length self.new < length self.old) }
+    {
+        let callee = self.name(alloc)?;
+        self.expect(TokenKind::Open)?;
+        let arguments = self.any_exprs(alloc)?;
+        self.expect(TokenKind::Close)?;
+        self.expect(TokenKind::Semicolon)?;
+        Ok(Form::Call(callee, arguments))
+    }
+
+    /// Reads a jump.
+    fn jump(&mut self, alloc: Global) -> Result<Form, Stop>
+        ensures reads { ReadsPhrase result (KeywordThen kind.Goto GotoThen)
+            self.old self.new statement_of }
+        ensures shorter { OnOk result (length self.new < length self.old) }
+    {
+        self.expect(TokenKind::Goto)?;
+        let to = self.name(alloc)?;
+        self.expect(TokenKind::Semicolon)?;
+        Ok(Form::Goto(to))
+    }
+
+    /// Reads a print.
+    fn printing(&mut self, alloc: Global) -> Result<Form, Stop>
+        ensures reads { ReadsPhrase result (KeywordThen kind.Print PrintThen)
+            self.old self.new statement_of }
+        ensures shorter { OnOk result (length self.new < length self.old) }
+    {
+        self.expect(TokenKind::Print)?;
+        self.expect(TokenKind::Open)?;
+        let values = self.expr_list(alloc)?;
+        self.expect(TokenKind::Close)?;
+        self.expect(TokenKind::Semicolon)?;
+        Ok(Form::Print(values))
+    }
+
+    /// Reads an assertion.
+    fn assertion(&mut self, alloc: Global) -> Result<Form, Stop>
+        ensures reads { ReadsPhrase result (KeywordThen kind.Assert AssertThen)
+            self.old self.new statement_of }
+        ensures shorter { OnOk result (length self.new < length self.old) }
+    {
+        self.expect(TokenKind::Assert)?;
+        let decider = self.condition(alloc)?;
+        self.expect(TokenKind::Semicolon)?;
+        Ok(Form::Assert(decider))
+    }
+
+    /// Reads an assumption.
+    fn assumption(&mut self, alloc: Global) -> Result<Form, Stop>
+        ensures reads { ReadsPhrase result (KeywordThen kind.Assume AssumeThen)
+            self.old self.new statement_of }
+        ensures shorter { OnOk result (length self.new < length self.old) }
+    {
+        self.expect(TokenKind::Assume)?;
+        let decider = self.condition(alloc)?;
+        self.expect(TokenKind::Semicolon)?;
+        Ok(Form::Assume(decider))
+    }
+
+    /// Reads a branch. Branches and loops nest no deeper than their limit, which bounds the
+    /// recursion.
+    #[cycle(stmt)]
+    fn branch(&mut self, alloc: Global) -> Result<Form, Stop>
+        ensures reads { ReadsPhrase result (KeywordThen kind.If IfThen)
+            self.old self.new statement_of }
+        ensures shorter { OnOk result (length self.new < length self.old) }
+    {
+        self.expect(TokenKind::If)?;
+        let decider = self.condition(alloc)?;
+        self.expect(TokenKind::Then)?;
+        let yes = self.stmts(alloc)?;
+        self.expect(TokenKind::Else)?;
+        let no = self.stmts(alloc)?;
+        self.expect(TokenKind::Fi)?;
+        Ok(Form::If(decider, yes, no))
+    }
+
+    /// Reads a loop.
+    #[cycle(stmt)]
+    fn repetition(&mut self, alloc: Global) -> Result<Form, Stop>
+        ensures reads { ReadsPhrase result (KeywordThen kind.While WhileThen)
+            self.old self.new statement_of }
+        ensures shorter { OnOk result (length self.new < length self.old) }
+    {
+        self.expect(TokenKind::While)?;
+        let decider = self.condition(alloc)?;
+        self.expect(TokenKind::Do)?;
+        let body = self.stmts(alloc)?;
+        self.expect(TokenKind::Od)?;
+        Ok(Form::While(decider, body))
+    }
+
+    /// Reads what begins with a name: a call or an assignment.
+    fn call_or_assignment(&mut self, alloc: Global) -> Result<Form, Stop>
+        requires { is_at kind.Name self.old ≡ true }
+        ensures reads { (next : ℕ → tree.Statement → Wanted)
+            → ReadsBy result (FormThen next) self.old self.new
+            (λ f. next (place_ahead self.old) (statement_of f)) }
+        ensures shorter { OnOk result (length self.new < length self.old) }
+    {
+        if self.at_second(TokenKind::Open) {
+            self.call(alloc)
+        } else {
+            self.assignment(alloc)
+        }
+    }
+
+    /// Reads a statement that is one word.
+    fn keyword_statement(&mut self, word: TokenKind, form: Form) -> Result<Form, Stop>
+        ensures reads { ReadsPhrase result (OneWordThen word (statement_of form))
+            self.old self.new statement_of }
+        ensures shorter { OnOk result (length self.new < length self.old) }
+    {
+        self.expect(word)?;
+        self.expect(TokenKind::Semicolon)?;
+        Ok(form)
+    }
+
+    /// Reads form; the next token says which.
+    #[cycle(stmt)]
+    fn form(&mut self, alloc: Global) -> Result<Form, Stop>
+        ensures reads { (next : ℕ → tree.Statement → Wanted)
+            → ReadsBy result (FormThen next) self.old self.new
+            (λ f. next (place_ahead self.old) (statement_of f)) }
+        ensures shorter { OnOk result (length self.new < length self.old) }
+    {
+        match self.peek() {
+            Some(TokenKind::Skip) => self.keyword_statement(TokenKind::Skip, Form::Skip),
+            Some(TokenKind::Return) => self.keyword_statement(TokenKind::Return, Form::Return),
+            Some(TokenKind::Goto) => self.jump(alloc),
+            Some(TokenKind::Name) => self.call_or_assignment(alloc),
+            Some(TokenKind::If) => self.branch(alloc),
+            Some(TokenKind::While) => self.repetition(alloc),
+            Some(TokenKind::Assert) => self.assertion(alloc),
+            Some(TokenKind::Assume) => self.assumption(alloc),
+            Some(TokenKind::Print) => self.printing(alloc),
+            _ => Err(Stop::Unexpected),
+        }
+    }
+
+    /// Reads label?.
+    fn label(&mut self, alloc: Global) -> Result<Option<Name>, Stop>
+        ensures reads { (next : Option tree.Name → ℕ → tree.Statement → Wanted)
+            → ReadsBy result (StmtThen next) self.old self.new (λ l. FormThen (next l)) }
+        ensures no_longer { OnOk result (length self.new ≤ length self.old) }
+    {
+        if self.at(TokenKind::Name) {
+            if self.at_second(TokenKind::Colon) {
+                let name = self.name(alloc)?;
+                self.expect(TokenKind::Colon)?;
+                return Ok(Some(name));
+            }
+        }
+        Ok(None)
+    }
+
+    /// Reads stmt.
+    #[cycle(stmt)]
+    fn stmt(&mut self, alloc: Global) -> Result<Stmt, Stop>
+        ensures reads { (next : Option tree.Name → ℕ → tree.Statement → Wanted)
+            → ReadsBy result (StmtThen next) self.old self.new
+            (λ s. next s.label s.at (statement_of s.form)) }
+        ensures shorter { OnOk result (length self.new < length self.old) }
+    {
+        let label = self.label(alloc)?;
+        let at = self.place();
+        let form = self.form(alloc)?;
+        Ok(Stmt::new(label, at, form))
+    }
+
+    /// Whether the next token begins a statement.
+    fn at_stmt(&self) -> bool
+        ensures { result ≡ is_at_form self.now }
+    {
+        match self.peek() {
+            Some(kind) => matches!(
+                kind,
+                TokenKind::Skip
+                    | TokenKind::Goto
+                    | TokenKind::Return
+                    | TokenKind::Name
+                    | TokenKind::If
+                    | TokenKind::While
+                    | TokenKind::Assert
+                    | TokenKind::Assume
+                    | TokenKind::Print
+            ),
+            None => false,
+        }
+    }
+
+    /// Reads stmt+.
+    #[cycle(stmt)]
+    pub(crate) fn stmts(&mut self, alloc: Global) -> Result<Block, Stop>
+        ensures reads { ReadsPhrase result StmtsThen self.old self.new (λ x. x) }
+        ensures shorter { OnOk result (length self.new < length self.old) }
+    {
+        let mut stmts = Vec::new(alloc);
+        stmts.push(self.stmt(alloc)?)?;
+        while self.at_stmt() {
+            stmts.push(self.stmt(alloc)?)?;
+        }
+        Ok(Block::new(stmts))
+    }
+}
