@@ -3,6 +3,7 @@ mod BitsFrom
 mod BlockItems
 mod CompiledStandsFor
 mod DeclaredIsKnown
+pub mod HeadingsOfProcedures
 pub mod LawfulIsCompilable
 mod ListItems
 mod SlotOf

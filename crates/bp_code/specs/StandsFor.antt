@@ -17,10 +17,10 @@ valuation_of (x ∷ xs) bits = (x.text, bits 0) ∷ valuation_of xs (λ k. bits 
 
 -- the same of a store in a frame of the procedure p
 abbrev pub named_store : List Name → Procedure → Store Bits → Store Valuation
-named_store globals p w =
+named_store globals p store =
     record {
-      globals = valuation_of globals w.globals;
-      locals = valuation_of (variables p) w.locals;
+      globals = valuation_of globals store.globals;
+      locals = valuation_of (variables p) store.locals;
     }
 
 -- a place in a program: the procedure, and what remains of its statements
@@ -57,19 +57,19 @@ Remains table n p r = slice_get table n ≡ Some (place p r)
 module _ (t : Program) (p : Procedure) where
   -- the formulas have the values of the expressions, whatever the store
   pub record AreValues (fs : List Formula) (es : List Expression) : Type 0 where
-    pub equal : (w : Store Bits)
-        → formula_values w fs ≡ expression_values (named_store t.globals p w) es
+    pub equal : (store : Store Bits)
+        → formula_values store fs ≡ expression_values (named_store t.globals p store) es
 
   -- the test has the value of the decision, whatever the store and the choice bit
   pub record IsTestOf (test : Option Formula) (d : Decision) : Type 0 where
-    pub equal : (w : Store Bits) (bit : Bool)
-        → test_value w bit test ≡ decision_value (named_store t.globals p w) bit d
+    pub equal : (store : Store Bits) (bit : Bool)
+        → test_value store bit test ≡ decision_value (named_store t.globals p store) bit d
 
   -- the slots are written as the targets are, whatever the store
   pub record AreTargets (slots : List Slot) (xs : List Name) : Type 0 where
-    pub equal : (w : Store Bits) (bits : List Bool)
-        → named_store t.globals p (with_slots w slots bits)
-        ≡ after_assignment (named_store t.globals p w) xs bits
+    pub equal : (store : Store Bits) (bits : List Bool)
+        → named_store t.globals p (with_slots store slots bits)
+        ≡ after_assignment (named_store t.globals p store) xs bits
 
 -- What the instruction of a place is: of the statement's kind, with the same values, and with
 -- successors at which remains what the statement leaves. r is what remains after the statement.
@@ -182,3 +182,9 @@ pub record StandsFor (c : Flat) (t : Program) : Type 0 where
   pub each : (n : ℕ) (p : Procedure) (r : Block) → Remains (places_of t.procedures) n p r
       → (i : Instruction) × (slice_get c.instructions n ≡ Some i)
       × Does t (places_of t.procedures) p r i
+
+-- the instruction of this number is where the found procedure begins
+pub record IsEntryOf (t : Program) (found : Option Procedure) (n : ℕ) : Type 0 where
+  pub procedure : Procedure
+  pub is : found ≡ Some procedure
+  pub begins : Remains (places_of t.procedures) n procedure procedure.body

@@ -30,32 +30,33 @@ abbrev pub bits_from : List Bool → Bits
 bits_from bs k = slice_index_or bs k false
 
 abbrev pub slot_bit : Store Bits → Slot → Bool
-slot_bit w (Global k) = w.globals k
-slot_bit w (Local k) = w.locals k
+slot_bit store (Global k) = store.globals k
+slot_bit store (Local k) = store.locals k
 
 abbrev pub with_slot : Store Bits → Slot → Bool → Store Bits
-with_slot w (Global k) b = record w { globals = with_bit w.globals k b }
-with_slot w (Local k) b = record w { locals = with_bit w.locals k b }
+with_slot store (Global k) b = record store { globals = with_bit store.globals k b }
+with_slot store (Local k) b = record store { locals = with_bit store.locals k b }
 
 -- each slot gets its bit, the first slot first
 abbrev pub with_slots : Store Bits → List Slot → List Bool → Store Bits
-with_slots w [] bs = w
-with_slots w (s ∷ ss) [] = w
-with_slots w (s ∷ ss) (b ∷ bs) = with_slots (with_slot w s b) ss bs
+with_slots store [] bs = store
+with_slots store (s ∷ ss) [] = store
+with_slots store (s ∷ ss) (b ∷ bs) = with_slots (with_slot store s b) ss bs
 
 abbrev pub formula_value : Store Bits → Formula → Bool
-formula_value w (Bit b) = b
-formula_value w (At s) = slot_bit w s
-formula_value w (Inverse f) = not (formula_value w f)
-formula_value w (Joined op a b) = operation_value op (formula_value w a) (formula_value w b)
+formula_value store (Bit b) = b
+formula_value store (At s) = slot_bit store s
+formula_value store (Inverse f) = not (formula_value store f)
+formula_value store (Joined op a b) =
+    operation_value op (formula_value store a) (formula_value store b)
 
 abbrev pub formula_values : Store Bits → List Formula → List Bool
-formula_values w fs = map (formula_value w) fs
+formula_values store fs = map (formula_value store) fs
 
 -- a test without a formula has the choice bit as its value
 abbrev pub test_value : Store Bits → Bool → Option Formula → Bool
-test_value w bit None = bit
-test_value w bit (Some f) = formula_value w f
+test_value store bit None = bit
+test_value store bit (Some f) = formula_value store f
 
 -- what an instruction does to its thread
 abbrev pub InstructionEffect : Type 0
@@ -63,32 +64,32 @@ InstructionEffect = Effect Bits Activation
 
 -- the step to the instruction n of the activation with this store
 abbrev pub step_to : Store Bits → ℕ → List Activation → InstructionEffect
-step_to w n below = Leaves w.globals (activation n w.locals ∷ below)
+step_to store n below = Leaves store.globals (activation n store.locals ∷ below)
 
 -- the effect of an instruction in the topmost activation, above the activations below
 abbrev pub instruction_effect
     : Instruction → Store Bits → List Activation → Bool → InstructionEffect
-instruction_effect (Skip m) w below bit = step_to w m below
-instruction_effect (Goto m) w below bit = step_to w m below
-instruction_effect Return w below bit = Leaves w.globals below
-instruction_effect (Assign slots fs m) w below bit =
-    step_to (with_slots w slots (formula_values w fs)) m below
-instruction_effect (If test m e) w below bit =
-    step_to w (if test_value w bit test then m else e) below
-instruction_effect (While test m e) w below bit =
-    step_to w (if test_value w bit test then m else e) below
-instruction_effect (Assert test m) w below bit =
-    if test_value w bit test then step_to w m below else Fails
-instruction_effect (Assume test m) w below bit =
-    if test_value w bit test then step_to w m below else Blocks
-instruction_effect (Print fs m) w below bit = step_to w m below
-instruction_effect (Call c fs m) w below bit =
-    let new = activation c (bits_from (formula_values w fs)) in
-    Leaves w.globals (new ∷ activation m w.locals ∷ below)
+instruction_effect (Skip m) store below bit = step_to store m below
+instruction_effect (Goto m) store below bit = step_to store m below
+instruction_effect Return store below bit = Leaves store.globals below
+instruction_effect (Assign slots fs m) store below bit =
+    step_to (with_slots store slots (formula_values store fs)) m below
+instruction_effect (If test m e) store below bit =
+    step_to store (if test_value store bit test then m else e) below
+instruction_effect (While test m e) store below bit =
+    step_to store (if test_value store bit test then m else e) below
+instruction_effect (Assert test m) store below bit =
+    if test_value store bit test then step_to store m below else Fails
+instruction_effect (Assume test m) store below bit =
+    if test_value store bit test then step_to store m below else Blocks
+instruction_effect (Print fs m) store below bit = step_to store m below
+instruction_effect (Call c fs m) store below bit =
+    let new = activation c (bits_from (formula_values store fs)) in
+    Leaves store.globals (new ∷ activation m store.locals ∷ below)
 
 abbrev pub effect_at : Option Instruction → Store Bits → List Activation → Bool → InstructionEffect
-effect_at None w below bit = Misses
-effect_at (Some i) w below bit = instruction_effect i w below bit
+effect_at None store below bit = Misses
+effect_at (Some i) store below bit = instruction_effect i store below bit
 
 -- the effect of the next step of the activation a above the activations below
 abbrev pub step : List Instruction → Bits → Activation → List Activation → Bool → InstructionEffect

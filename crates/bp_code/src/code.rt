@@ -1,8 +1,11 @@
 //! Flat code.
-ghost use Rattle.std.specs.Prelude.{◌≡◌, IfOk, IsTrue, ◌↔◌, length, option_map, slice_get};
+ghost use Rattle.std.specs.Prelude.{◌≡◌, None, IfOk, IsTrue, ◌↔◌, length, option_map, slice_get, MatchOption};
 ghost use Rattle.std.specs.Option.{option_copied};
+ghost use Rattle.bp_tree.specs.Ast.{Program};
+ghost use Rattle.bp_code.specs.Configurations.{procedure_named};
 ghost use Rattle.bp_code.specs.Flat.{flat};
 ghost use Rattle.bp_code.specs.Compiled.{heading_named};
+ghost use Rattle.bp_code.specs.StandsFor.{StandsFor, IsEntryOf};
 ghost use Rattle.bp_code.specs.Programs.{IsOfProgram};
 
 use crate::headings::{Heading, find_heading};
@@ -64,7 +67,12 @@ impl Code {
 
     /// The number of the first instruction of the first procedure of this name.
     pub fn entry(&self, name: &str) -> Option<u32>
-        ensures { result ≡ option_map (λ h. h.entry) (heading_named self.now.headings name.now) }
+        ensures heading { result
+            ≡ option_map (λ h. h.entry) (heading_named self.now.headings name.now) }
+        ensures program { (t : Program)
+            → StandsFor self.now t
+            → let found = procedure_named t.procedures name.now in
+            MatchOption result (found ≡ None) (IsEntryOf t found) }
     {
         match find_heading(self.headings.as_slice(), name) {
             Some(heading) => Some(heading.entry()),
@@ -74,7 +82,12 @@ impl Code {
 
     /// How many formals the first procedure of this name has.
     pub fn formals(&self, name: &str) -> Option<u32>
-        ensures { result ≡ option_map (λ h. h.formals) (heading_named self.now.headings name.now) }
+        ensures heading { result
+            ≡ option_map (λ h. h.formals) (heading_named self.now.headings name.now) }
+        ensures program { (t : Program)
+            → StandsFor self.now t
+            → let found = procedure_named t.procedures name.now in
+            result ≡ option_map (λ p. length p.formals) found }
     {
         match find_heading(self.headings.as_slice(), name) {
             Some(heading) => Some(heading.formals()),
