@@ -2,6 +2,7 @@ pub mod Tokens
 pub mod Cut
 pub mod Lexer
 pub mod Faults
+pub mod Words
 pub mod Grammar
 pub mod Opens
 pub mod ParserState
