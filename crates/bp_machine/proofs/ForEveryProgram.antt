@@ -23,6 +23,10 @@ pub is_true : (c : Flat) (b : Bool) → IsOfProgram c → ((t : Program) → Sta
 is_true c true of_some each = refl
 is_true c false of_some each = absurd (∥∥₁_elim (for_one c ⊥ of_some (λ t is. false≢true (each t is))) (λ x y. absurd x) (λ e. e))
 
+pub is_untrue : (c : Flat) (b : Bool) → IsOfProgram c → ((t : Program) → StandsFor c t → b ≡ false) → b ≡ false
+is_untrue c false of_some each = refl
+is_untrue c true of_some each = absurd (∥∥₁_elim (for_one c ⊥ of_some (λ t is. false≢true (sym (each t is)))) (λ x y. absurd x) (λ e. e))
+
 pub is_false : (c : Flat) (P : Type 0) → IsOfProgram c → ((t : Program) → StandsFor c t → P → ⊥) → P → ⊥
 is_false c P of_some each p = ∥∥₁_elim (for_one c ⊥ of_some (λ t is. each t is p)) (λ x y. absurd x) (λ e. e)
 

@@ -1,4 +1,4 @@
--- A setup without a fault fits its code, and its numbers are within their limits, since a code has few globals.
+-- A setup without a fault fits its program, and its numbers are within their limits, since a program has few globals.
 use Rattle.std.proofs.Common.{◌≡◌, ℕ, ◌<◌, ◌≤◌, ◌==◌, ◌||◌, nat_lt, not, Bool, true, false, length, [], ◌∷◌, Option, None, Some, refl, arith, is_some}
 use Rattle.std.specs.Option.{option_or}
 use Rattle.std.proofs.Math.Logic.{∥∥₁_elim}
@@ -13,6 +13,7 @@ use Rattle.bp_code.specs.StandsFor.{StandsFor}
 use Rattle.bp_code.specs.Programs.{IsOfProgram}
 use Rattle.bp_code.proofs.LawfulIsCompilable as lawful
 use Rattle.bp_machine.specs.declared.setups.SetupFault.{SetupFault}
+use Rattle.bp_machine.proofs.ForEveryProgram.{is_untrue}
 use Rattle.bp_machine.specs.declared.setups.SetupFault.TheVariants.{Threads, InitLength, OutOfRange}
 use Rattle.bp_machine.specs.declared.limits.TheConstants.{MAX_THREADS, MAX_CONTEXTS, MAX_CALLS}
 use Rattle.bp_machine.specs.Setups.{SetupOf, threads, entries_fault, fault_if, first_of, has_bad_threads, is_out_of_range, setup_fault, Fits, IsInRange}
@@ -48,33 +49,45 @@ above a b e = grind (arith, nat_tests)
 some_of : (a : ℕ) → (a == 0) ≡ false → 0 < a
 some_of a e = grind (arith, nat_tests)
 
-module _ (c : Flat) (s : SetupOf) (none : setup_fault c s ≡ None) where
+module _ (t : Program) (s : SetupOf) (none : setup_fault t s ≡ None) where
   -- no fault of the four, the first first
-  rest : (entries_fault c 0 s.entries ≡ None) × (first_of (fault_if (not (length s.init == c.globals)) InitLength ∷ fault_if (is_out_of_range s) OutOfRange ∷ []) ≡ None)
-  rest = neither (entries_fault c 0 s.entries) _ (neither (fault_if (has_bad_threads s) Threads) _ none).1
+  rest : (entries_fault t 0 s.entries ≡ None) × (first_of (fault_if (not (length s.init == length t.globals)) InitLength ∷ fault_if (is_out_of_range s) OutOfRange ∷ []) ≡ None)
+  rest = neither (entries_fault t 0 s.entries) _ (neither (fault_if (has_bad_threads s) Threads) _ none).1
 
-  bits : not (length s.init == c.globals) ≡ false
-  bits = untrue _ InitLength (neither (fault_if (not (length s.init == c.globals)) InitLength) _ rest.1).0
+  bits : not (length s.init == length t.globals) ≡ false
+  bits = untrue _ InitLength (neither (fault_if (not (length s.init == length t.globals)) InitLength) _ rest.1).0
 
-  numbers : is_out_of_range s ≡ false
-  numbers =
-      let last = (neither (fault_if (not (length s.init == c.globals)) InitLength) _ rest.1).1 in
+  threads_fine : has_bad_threads s ≡ false
+  threads_fine = untrue (has_bad_threads s) Threads (neither (fault_if (has_bad_threads s) Threads) _ none).0
+
+  numbers_fine : is_out_of_range s ≡ false
+  numbers_fine =
+      let last = (neither (fault_if (not (length s.init == length t.globals)) InitLength) _ rest.1).1 in
       untrue _ OutOfRange (neither (fault_if (is_out_of_range s) OutOfRange) _ last).0
 
-  pub fits : Fits c s
-  fits = record { entries = rest.0; init = equal (length s.init) c.globals bits }
+  pub fits : Fits t s
+  fits = record { entries = rest.0; init = equal (length s.init) (length t.globals) bits }
 
-  pub in_range : IsOfProgram c → IsInRange s
-  in_range of_some =
-      let threads_fine = untrue (has_bad_threads s) Threads (neither (fault_if (has_bad_threads s) Threads) _ none).0 in
-      let counted = no_other (threads s == 0) (nat_lt MAX_THREADS (threads s)) threads_fine in
+-- a setup without a fault for the programs that a code stands for
+module _ (c : Flat) (s : SetupOf) (of_some : IsOfProgram c) (none : (t : Program) → StandsFor c t → setup_fault t s ≡ None) where
+  few_bits : length s.init ≤ MAX_GLOBALS
+  few_bits = ∥∥₁_elim of_some le_prop few
+    where
+      few : (t : Program) × IsLawful t × HasText t × StandsFor c t → length s.init ≤ MAX_GLOBALS
+      few (t, is_lawful, of_text, is) = omega (arith, lawful.few_globals t is_lawful, (fits t s (none t is)).init)
+
+  pub in_range : IsInRange s
+  in_range =
+      let good_threads = is_untrue c (has_bad_threads s) of_some (λ t is. threads_fine t s (none t is)) in
+      let numbers = is_untrue c (is_out_of_range s) of_some (λ t is. numbers_fine t s (none t is)) in
+      let counted = no_other (threads s == 0) (nat_lt MAX_THREADS (threads s)) good_threads in
       let a = no_other (nat_lt MAX_CONTEXTS s.contexts) _ numbers in
       let b = no_other (s.calls == 0) _ a.1 in
       let d = no_other (nat_lt MAX_CALLS s.calls) (is_some s.seed) b.1 in
       record {
         some = some_of (threads s) counted.0;
         few = above MAX_THREADS (threads s) counted.1;
-        bits = omega (arith, fits.init, few_globals c of_some);
+        bits = few_bits;
         contexts = above MAX_CONTEXTS s.contexts a.0;
         one = some_of s.calls b.0;
         calls = above MAX_CALLS s.calls d.0;

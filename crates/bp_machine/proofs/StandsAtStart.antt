@@ -15,6 +15,7 @@ use Rattle.bp_code.specs.Compiled.{heading_named}
 use Rattle.bp_code.specs.Steps.{bits_from}
 use Rattle.bp_code.specs.StandsFor.{StandsFor, Place, Heads, valuation_of, variables, places_of}
 use Rattle.bp_code.specs.Alike.{ShowsStack}
+use Rattle.bp_code.proofs.HeadingsOfProcedures.{SameHeading, heading_of_procedure}
 use Rattle.bp_machine.specs.declared.setups.SetupFault.{SetupFault}
 use Rattle.bp_machine.specs.ContextCounts.{IsCountOf}
 use Rattle.bp_machine.specs.Setups.{SetupOf, start, entry_fault, entries_fault, Fits}
@@ -35,28 +36,9 @@ zero_bits (n ∷ ns) ms = ap (λ m. (n.text, false) ∷ m) (zero_bits ns ms)
 no_bits : bits_of 0 ≡ (λ k. false)
 no_bits = fun_ext (λ k. ap (λ n. n == 1) (bit_at-zero k))
 
--- the first heading of a name is that of the first procedure of the name
-module _ (table : List Place) (x : List ℕ) where
-  step : (b : Bool) (g h : Heading) (p : Procedure) (rest : Option Heading) (others : Option Procedure) → Heads table p g → cond b (Some g) rest ≡ Some h
-      → (rest ≡ Some h → (q : Procedure) × (others ≡ Some q) × Heads table q h) → (q : Procedure) × (cond b (Some p) others ≡ Some q) × Heads table q h
-  step true g h p rest others headed e next = let same : g ≡ h = cc in (p, refl, subst (λ (k : Heading). Heads table p k) same headed)
-  step false g h p rest others headed e next = next e
-
-  heads : (hs : List Heading) (ps : List Procedure) → length hs ≡ length ps
-      → ((k : ℕ) (p : Procedure) → slice_get ps k ≡ Some p → (h : Heading) × (slice_get hs k ≡ Some h) × Heads table p h)
-      → (h : Heading) → heading_named hs x ≡ Some h → (p : Procedure) × (procedure_named ps x ≡ Some p) × Heads table p h
-  heads [] ps size each h found = absurd cc
-  heads (g ∷ hs) [] size each h found = absurd (omega (arith, size))
-  heads (g ∷ hs) (p ∷ ps) size each h found =
-      let (first, same, headed) = each 0 p refl in
-      let is : first ≡ g = cc in
-      let own = subst (λ (k : Heading). Heads table p k) is headed in
-      let here = ap (λ n. cond (bytes_eq n x) (Some g) (heading_named hs x)) (sym own.name) ∙ found in
-      step (bytes_eq p.name.text x) g h p (heading_named hs x) (procedure_named ps x) own here (heads hs ps (omega (arith, size)) (λ k q at. each (suc k) q at) h)
-
-entry_fine : (k : ℕ) (o : Option Heading) (rest : Option SetupFault) → option_or (entry_fault k o) rest ≡ None → (h : Heading) × (o ≡ Some h)
+entry_fine : (k : ℕ) (o : Option Procedure) (rest : Option SetupFault) → option_or (entry_fault k o) rest ≡ None → (p : Procedure) × (o ≡ Some p)
 entry_fine k None rest e = absurd cc
-entry_fine k (Some h) rest e = (h, refl)
+entry_fine k (Some p) rest e = (p, refl)
 
 others_fine : (o rest : Option SetupFault) → option_or o rest ≡ None → rest ≡ None
 others_fine None rest e = e
@@ -68,43 +50,48 @@ of_map f (Some x) y e = let same : f x ≡ y = cc in (x, refl, same)
 
 module _ (c : Flat) (t : Program) (s : SetupOf) (is : StandsFor c t) where
   -- the entry of a thread, where the setup fits
-  entry_here : (es : List (List ℕ)) (k i : ℕ) (e : List ℕ) → entries_fault c k es ≡ None → slice_get es i ≡ Some e
-      → (h : Heading) × (heading_named c.headings e ≡ Some h)
+  entry_here : (es : List (List ℕ)) (k i : ℕ) (e : List ℕ) → entries_fault t k es ≡ None → slice_get es i ≡ Some e
+      → (p : Procedure) × (procedure_named t.procedures e ≡ Some p)
   entry_here [] k i e none found = absurd cc
   entry_here (d ∷ es) k zero e none found =
       let same : d ≡ e = cc in
-      subst (λ n. (h : Heading) × (heading_named c.headings n ≡ Some h)) same (entry_fine k (heading_named c.headings d) (entries_fault c (k + 1) es) none)
+      subst (λ n. (p : Procedure) × (procedure_named t.procedures n ≡ Some p)) same (entry_fine k (procedure_named t.procedures d) (entries_fault t (k + 1) es) none)
   entry_here (d ∷ es) k (suc i) e none found =
-      entry_here es (k + 1) i e (others_fine (entry_fault k (heading_named c.headings d)) (entries_fault c (k + 1) es) none) found
+      entry_here es (k + 1) i e (others_fine (entry_fault k (procedure_named t.procedures d)) (entries_fault t (k + 1) es) none) found
 
-  shown : (e : List ℕ) (h : Heading) → heading_named c.headings e ≡ Some h
-      → ShowsStack t (activations (first_thread c e).stack) (first_stack (procedure_named t.procedures e))
-  shown e h found =
-      let (p, named_is, headed) = heads (places_of t.procedures) e c.headings t.procedures is.procedures is.headed h found in
+  -- the first thread at a procedure shows its first stack
+  at_heading : (e : List ℕ) (p : Procedure) (o : Option Heading) → heading_named c.headings e ≡ o → procedure_named t.procedures e ≡ Some p
+      → SameHeading (places_of t.procedures) o (procedure_named t.procedures e) → ShowsStack t (activations (first_thread c e).stack) (first_stack (procedure_named t.procedures e))
+  at_heading e p None found is_named none = absurd cc
+  at_heading e p (Some h) found is_named (q, named_is, headed) =
       let number : unwrap_or (option_map (λ (k : Heading). k.entry) (heading_named c.headings e)) 0 ≡ h.entry = ap (λ o. unwrap_or (option_map (λ (k : Heading). k.entry) o) 0) found in
       rw (named_is, number) (
         record {
           left = headed.entry;
-          locals = zero_bits p.formals p.locals ∙ ap (valuation_of (variables p)) (sym no_bits);
+          locals = zero_bits q.formals q.locals ∙ ap (valuation_of (variables q)) (sym no_bits);
         },
         tt,
       )
 
-  guest_here : (x : State) → Fits c s → x.threads ≡ map (first_thread c) s.entries → (i : ℕ) (l : GuestThreadOf) → slice_get x.threads i ≡ Some l → ShowsThread t (start t s) [] i l
+  shown : (e : List ℕ) (p : Procedure) → procedure_named t.procedures e ≡ Some p
+      → ShowsStack t (activations (first_thread c e).stack) (first_stack (procedure_named t.procedures e))
+  shown e p is_named = at_heading e p (heading_named c.headings e) refl is_named (heading_of_procedure c t e is)
+
+  guest_here : (x : State) → Fits t s → x.threads ≡ map (first_thread c) s.entries → (i : ℕ) (l : GuestThreadOf) → slice_get x.threads i ≡ Some l → ShowsThread t (start t s) [] i l
   guest_here x fits threads i l at =
       let found = sym (slice_get-map (first_thread c) s.entries i) ∙ sym (ap (λ ls. slice_get ls i) threads) ∙ at in
       let (e, has, line_is) = of_map (first_thread c) (slice_get s.entries i) l found in
-      let (h, headed) = entry_here s.entries 0 i e fits.entries has in
+      let (p, is_named) = entry_here s.entries 0 i e fits.entries has in
       let stack = slice_get-map (λ n. first_stack (procedure_named t.procedures n)) s.entries i ∙ ap (option_map (λ n. first_stack (procedure_named t.procedures n))) has in
       let stack_is = get_or_from_slice_get (map (λ n. first_stack (procedure_named t.procedures n)) s.entries) i (first_stack (procedure_named t.procedures e)) [] stack in
       subst (λ m. ShowsThread t (start t s) [] i m) line_is
       (record {
-        stack = subst (λ fs. ShowsStack t (activations (first_thread c e).stack) fs) (sym stack_is) (shown e h headed);
+        stack = subst (λ fs. ShowsStack t (activations (first_thread c e).stack) fs) (sym stack_is) (shown e p is_named);
         calls = refl;
         ended = refl;
       })
 
-  pub starts : (x : State) → Fits c s → bits_of x.globals ≡ bits_from s.init → x.threads ≡ map (first_thread c) s.entries → x.contexts ≡ record { used = 0; last = None } → x.failed ≡ false
+  pub starts : (x : State) → Fits t s → bits_of x.globals ≡ bits_from s.init → x.threads ≡ map (first_thread c) s.entries → x.contexts ≡ record { used = 0; last = None } → x.failed ≡ false
       → StandsAfter t s x []
   starts x fits word threads contexts failed = record {
     legal = tt;

@@ -1,11 +1,11 @@
 -- What a session starts from, and when a setup is refused.
 use Rattle.std.specs.Prelude.{if◌then◌else◌, ◌≡◌, ℕ, ◌+◌, ◌<◌, ◌≤◌, ◌==◌, Bool, not, ◌||◌, nat_lt, List, [], ◌∷◌, Option, None, Some, is_some, length}
 use Rattle.std.specs.Option.{option_or}
-use Rattle.bp_tree.specs.Ast.{Program}
+use Rattle.bp_tree.specs.Ast.{Procedure, Program}
 use Rattle.bp_check.specs.declared.limits.TheConstants.{MAX_GLOBALS}
-use Rattle.bp_code.specs.Configurations.{Configuration, start_of}
-use Rattle.bp_code.specs.Flat.{Flat, Heading}
-use Rattle.bp_code.specs.Compiled.{heading_named}
+use Rattle.bp_code.specs.Configurations.{Configuration, procedure_named, start_of}
+use Rattle.bp_code.specs.Flat.{Flat}
+use Rattle.bp_code.specs.StandsFor.{StandsFor}
 use Rattle.bp_machine.specs.declared.limits.TheConstants.{MAX_THREADS, MAX_CONTEXTS, MAX_CALLS}
 use Rattle.bp_machine.specs.declared.setups.SetupFault.{SetupFault}
 use Rattle.bp_machine.specs.declared.setups.SetupFault.TheVariants.{Threads, UnknownEntry, EntryHasFormals, InitLength, OutOfRange, Memory}
@@ -36,15 +36,15 @@ abbrev pub start : Program → SetupOf → Configuration
 start t s = start_of t s.entries s.init
 
 -- an entry is a procedure without formals
-abbrev pub entry_fault : ℕ → Option Heading → Option SetupFault
+abbrev pub entry_fault : ℕ → Option Procedure → Option SetupFault
 entry_fault k None = Some (UnknownEntry k)
-entry_fault k (Some h) = if h.formals == 0 then None else Some (EntryHasFormals k)
+entry_fault k (Some p) = if length p.formals == 0 then None else Some (EntryHasFormals k)
 
 -- the first fault of the entries from thread k on
-abbrev pub entries_fault : Flat → ℕ → List (List ℕ) → Option SetupFault
-entries_fault c k [] = None
-entries_fault c k (e ∷ es) =
-    option_or (entry_fault k (heading_named c.headings e)) (entries_fault c (k + 1) es)
+abbrev pub entries_fault : Program → ℕ → List (List ℕ) → Option SetupFault
+entries_fault t k [] = None
+entries_fault t k (e ∷ es) =
+    option_or (entry_fault k (procedure_named t.procedures e)) (entries_fault t (k + 1) es)
 
 -- there are no threads, or too many
 abbrev pub has_bad_threads : SetupOf → Bool
@@ -62,25 +62,29 @@ abbrev pub first_of : List (Option SetupFault) → Option SetupFault
 first_of [] = None
 first_of (o ∷ os) = option_or o (first_of os)
 
--- the first fault of a setup for a code
-abbrev pub setup_fault : Flat → SetupOf → Option SetupFault
-setup_fault c s = first_of (
+-- the first fault of a setup for a program
+abbrev pub setup_fault : Program → SetupOf → Option SetupFault
+setup_fault t s = first_of (
     fault_if (has_bad_threads s) Threads
-    ∷ entries_fault c 0 s.entries
-    ∷ fault_if (not (length s.init == c.globals)) InitLength
+    ∷ entries_fault t 0 s.entries
+    ∷ fault_if (not (length s.init == length t.globals)) InitLength
     ∷ fault_if (is_out_of_range s) OutOfRange
     ∷ [])
 
--- why a setup is refused for a code: its first fault, or, where it has none, for memory
-abbrev pub IsSetupRefusal : Flat → SetupOf → SetupFault → Type 0
-IsSetupRefusal c s Memory = setup_fault c s ≡ None
-IsSetupRefusal c s f = setup_fault c s ≡ Some f
+-- why a setup is refused for a program: its first fault, or, where it has none, for memory
+abbrev pub IsSetupRefusal : Program → SetupOf → SetupFault → Type 0
+IsSetupRefusal t s Memory = setup_fault t s ≡ None
+IsSetupRefusal t s f = setup_fault t s ≡ Some f
 
--- the setup fits the code: each entry is a procedure of it without formals, and there is a bit for
+-- the setup fits the program: each entry is a procedure of it without formals, and there is a bit for
 -- each global
-pub record Fits (c : Flat) (s : SetupOf) : Type 0 where
-  pub entries : entries_fault c 0 s.entries ≡ None
-  pub init : length s.init ≡ c.globals
+pub record Fits (t : Program) (s : SetupOf) : Type 0 where
+  pub entries : entries_fault t 0 s.entries ≡ None
+  pub init : length s.init ≡ length t.globals
+
+-- the setup fits each program that the code stands for
+abbrev pub FitsCode : Flat → SetupOf → Type 0
+FitsCode c s = (t : Program) → StandsFor c t → Fits t s
 
 -- the numbers are within their limits, and there are no more bits than a program may have globals
 pub record IsInRange (s : SetupOf) : Type 0 where

@@ -5,7 +5,7 @@ ghost use Rattle.bp_code.specs.StandsFor.{StandsFor};
 ghost use Rattle.bp_machine.specs.declared.calls.Call.{Call as Answered};
 ghost use Rattle.bp_machine.specs.Contexts.{IsLeastWithin};
 ghost use Rattle.bp_machine.specs.GuestThreads.{GuestThreadOf};
-ghost use Rattle.bp_machine.specs.Setups.{Fits};
+ghost use Rattle.bp_machine.specs.Setups.{FitsCode};
 ghost use Rattle.bp_machine.specs.Histories.{granted_threads, configuration_after, open_lines};
 ghost use Rattle.bp_machine.specs.Sessions.{Stands, IsAskRefusal};
 ghost use Rattle.bp_machine.specs.Transitions.{IsNextTransition, IsKeptRefusal};
@@ -81,7 +81,7 @@ impl Session {
 
     /// A session of a code in a setup that fits it, before any call.
     pub fn new(alloc: Global, code: &Code, setup: &Setup) -> Result<Session, AllocError>
-        requires { Fits code.now setup.now }
+        requires { FitsCode code.now setup.now }
         ensures stands { IfOk result (λ x. (t : Program) → StandsFor code.now t → Stands t x []) }
         ensures kept { IfOk result (λ x. (x.code ≡ code.now) × (x.setup ≡ setup.now)) }
     {

@@ -1,8 +1,10 @@
 //! What a session starts from.
 ghost use Rattle.std.specs.Prelude.{◌≡◌, ◌⊎◌, ◌≤◌, ℕ, List, None, Some, map, length, slice_get, string_bytes, MatchResult, IfOk, option_map};
 ghost use Rattle.std.specs.Option.{option_copied};
+ghost use Rattle.bp_tree.specs.Ast.{Program};
+ghost use Rattle.bp_code.specs.StandsFor.{StandsFor};
 ghost use Rattle.bp_machine.specs.declared.limits.TheConstants.{MAX_THREADS};
-ghost use Rattle.bp_machine.specs.Setups.{SetupOf, setup_of, threads, entries_fault, entry_fault, setup_fault, IsSetupRefusal, Fits, IsInRange, setup_fault_number, setup_fault_place};
+ghost use Rattle.bp_machine.specs.Setups.{SetupOf, setup_of, threads, entries_fault, entry_fault, setup_fault, IsSetupRefusal, FitsCode, IsInRange, setup_fault_number, setup_fault_place};
 
 use crate::limits::{MAX_CALLS, MAX_CONTEXTS, MAX_THREADS};
 use bp_code::Code;
@@ -86,7 +88,9 @@ impl Model for Setup {
 /// The first fault of the entries.
 fn fault_of_entries(code: &Code, entries: &[String]) -> Option<SetupFault>
     requires { length entries.now ≤ MAX_THREADS }
-    ensures { result ≡ entries_fault code.now 0 (map string_bytes entries.now) }
+    ensures { (t : Program)
+        → StandsFor code.now t
+        → result ≡ entries_fault t 0 (map string_bytes entries.now) }
 {
     for (thread, name) in entries.iter().enumerate() {
         match code.formals(name.as_str()) {
@@ -108,7 +112,9 @@ fn fault_of_setup(
     seed: Option<u64>,
 ) -> Option<SetupFault>
     ensures { let given = setup_of (map string_bytes entries.now) init.now contexts calls seed in
-        result ≡ setup_fault code.now given }
+        (t : Program)
+        → StandsFor code.now t
+        → result ≡ setup_fault t given }
 {
     if entries.is_empty() || entries.len() > MAX_THREADS {
         return Some(SetupFault::Threads);
@@ -183,11 +189,14 @@ impl Setup {
         calls: u32,
         seed: Option<u64>,
     ) -> Result<Setup, SetupFault>
-        ensures answer { let given = setup_of (map string_bytes entries.now) init.now contexts calls seed in
-            MatchResult result
-            (λ s. (s ≡ given) × (setup_fault code.now given ≡ None))
-            (IsSetupRefusal code.now given) }
-        ensures taken { IfOk result (λ s. Fits code.now s × IsInRange s) }
+        ensures answer { let names = map string_bytes entries.now in
+            let given = setup_of names init.now contexts calls seed in
+            (t : Program)
+            → StandsFor code.now t
+            → MatchResult result
+                (λ s. (s ≡ given) × (setup_fault t given ≡ None))
+                (IsSetupRefusal t given) }
+        ensures taken { IfOk result (λ s. FitsCode code.now s × IsInRange s) }
     {
         code.is_of_a_program();
         match fault_of_setup(code, entries, init, contexts, calls, seed) {

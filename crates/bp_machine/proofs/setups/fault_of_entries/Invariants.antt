@@ -1,7 +1,10 @@
 use Rattle.std.proofs.Common.{◌≡◌, drop, map, string_bytes}
+use Rattle.bp_tree.specs.Ast.{Program}
+use Rattle.bp_code.specs.StandsFor.{StandsFor}
 use Rattle.bp_machine.specs.Setups.{entries_fault}
 use Rattle.bp_machine.proofs.setups.fault_of_entries.Given as goal
 
 abbrev pub invariant-loop-thread : goal.invariant-loop-thread
 invariant-loop-thread l =
-    entries_fault l.code 0 (map string_bytes l.entries) ≡ entries_fault l.code l.thread (drop l.thread (map string_bytes l.entries))
+    (t : Program) → StandsFor l.code t
+    → entries_fault t 0 (map string_bytes l.entries) ≡ entries_fault t l.thread (drop l.thread (map string_bytes l.entries))

@@ -1,15 +1,15 @@
 use Rattle.std.proofs.Common.{sym, ◌∙◌, map, string_bytes}
 use Rattle.bp_machine.specs.Setups.{setup_of}
-use Rattle.bp_machine.proofs.SetupInRange.{in_range}
+use Rattle.bp_machine.proofs.SetupInRange.{fits, in_range}
 use Rattle.bp_machine.proofs.SetupRefusals.{fault_refuses}
 use Rattle.bp_machine.proofs.setups.Setup.new.Goals as goal
 
 pub kept-requires : goal.kept-requires
 kept-requires c =
     in_range c.args.code.now (setup_of (map string_bytes c.args.entries.now) c.args.init.now c.args.contexts c.args.calls c.args.seed)
-    (sym c.fault_of_setup.ensures ∙ c.in-None.is) c.is_of_a_program.ensures
+    c.is_of_a_program.ensures (λ t is. sym (c.fault_of_setup.ensures t is) ∙ c.in-None.is)
 
 pub returns-in-Some-clause-answer : goal.returns-in-Some-clause-answer
-returns-in-Some-clause-answer c =
-    fault_refuses c.args.code.now (setup_of (map string_bytes c.args.entries.now) c.args.init.now c.args.contexts c.args.calls c.args.seed)
-    c.in-Some.fault (sym c.fault_of_setup.ensures ∙ c.in-Some.is)
+returns-in-Some-clause-answer c = λ t is.
+    fault_refuses t (setup_of (map string_bytes c.args.entries.now) c.args.init.now c.args.contexts c.args.calls c.args.seed)
+    c.in-Some.fault (sym (c.fault_of_setup.ensures t is) ∙ c.in-Some.is)
