@@ -5,6 +5,7 @@ pub mod EntryFaults
 pub mod ForEveryProgram
 pub mod GrantedSteps
 pub mod HistoryWithCall
+pub mod LegalLength
 pub mod RealFailures
 pub mod SessionAnswers
 pub mod SetupInRange

@@ -1,5 +1,5 @@
 -- A new session stands after the empty history.
-use Rattle.std.proofs.Common.{◌≡◌, ℕ, zero, suc, ◌+◌, ◌==◌, Bool, true, false, cond, List, [], ◌∷◌, ◌++◌, length, map, Option, None, Some, refl, ap, sym, ◌∙◌, subst, arith, bytes_eq}
+use Rattle.std.proofs.Common.{◌≡◌, ℕ, zero, suc, ◌+◌, ◌==◌, Bool, false, List, [], ◌∷◌, ◌++◌, length, map, Option, None, Some, refl, ap, sym, ◌∙◌, subst}
 use Rattle.std.specs.Prelude.{slice_get, option_map, unwrap_or}
 use Rattle.std.specs.Option.{option_or}
 use Rattle.std.proofs.Math.Path.{fun_ext}
@@ -13,7 +13,7 @@ use Rattle.bp_code.specs.Configurations.{procedure_named, first_stack}
 use Rattle.bp_code.specs.Flat.{Flat, Heading}
 use Rattle.bp_code.specs.Compiled.{heading_named}
 use Rattle.bp_code.specs.Steps.{bits_from}
-use Rattle.bp_code.specs.StandsFor.{StandsFor, Place, Heads, valuation_of, variables, places_of}
+use Rattle.bp_code.specs.StandsFor.{StandsFor, valuation_of, variables, places_of}
 use Rattle.bp_code.specs.Alike.{ShowsStack}
 use Rattle.bp_code.proofs.HeadingsOfProcedures.{SameHeading, heading_of_procedure}
 use Rattle.bp_machine.specs.declared.setups.SetupFault.{SetupFault}

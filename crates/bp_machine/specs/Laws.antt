@@ -1,10 +1,10 @@
 -- Laws of histories.
-use Rattle.std.specs.Prelude.{◌≡◌, ℕ, List}
+use Rattle.std.specs.Prelude.{◌≡◌, ◌≤◌, ◌*◌, ℕ, List, length}
 use Rattle.bp_tree.specs.Ast.{Program}
 use Rattle.bp_machine.specs.declared.calls.Call.{Call}
 use Rattle.bp_machine.specs.declared.reports.Outcome.TheVariants.{Failed}
 use Rattle.bp_machine.specs.Contexts.{IsWithin}
-use Rattle.bp_machine.specs.Setups.{SetupOf, start}
+use Rattle.bp_machine.specs.Setups.{SetupOf, start, threads}
 use Rattle.bp_machine.specs.Histories.{configuration_after, granted_threads, granted_calls, IsLegal}
 use Rattle.bp_machine.specs.Reports.{IsRun, outcome_of, IsRealFailure}
 
@@ -29,3 +29,10 @@ FailuresAreReal =
     → IsLegal t s h
     → outcome_of h ≡ Failed i
     → IsRealFailure t s h i
+
+-- a legal history has at most as many calls as its threads may make together
+abbrev pub HistoriesAreShort : Type 0
+HistoriesAreShort =
+    (t : Program) (s : SetupOf) (h : List Call)
+    → IsLegal t s h
+    → length h ≤ threads s * s.calls

@@ -15,8 +15,8 @@ abbrev pub coded_setup : Coded SetupOf
 coded_setup =
     code_by ((List (List ℕ) × List Bool) × ((ℕ × ℕ) × Option ℕ))
     (coded×
-      (coded× (coded_list (coded_list coded_ℕ)) (coded_list coded_bool))
-      (coded× (coded× coded_ℕ coded_ℕ) (coded_option coded_ℕ)))
+    (coded× (coded_list (coded_list coded_ℕ)) (coded_list coded_bool))
+    (coded× (coded× coded_ℕ coded_ℕ) (coded_option coded_ℕ)))
     (λ s. ((s.entries, s.init), ((s.contexts, s.calls), s.seed)))
     (λ p. setup_of p.0.0 p.0.1 p.1.0.0 p.1.0.1 p.1.1)
     (λ _. refl)

@@ -1,5 +1,5 @@
 //! Laws of histories. These functions do nothing: their contracts are the laws.
-ghost use Rattle.bp_machine.specs.Laws.{StepsAreARun, StepsAreWithin, FailuresAreReal};
+ghost use Rattle.bp_machine.specs.Laws.{StepsAreARun, StepsAreWithin, FailuresAreReal, HistoriesAreShort};
 
 /// The granted steps of a legal history are a run of the program.
 pub fn steps_are_a_run()
@@ -15,4 +15,9 @@ pub fn steps_are_within()
 /// 0.
 pub fn failures_are_real()
     ensures { FailuresAreReal }
+{}
+
+/// A legal history has at most as many calls as its threads may make together.
+pub fn histories_are_short()
+    ensures { HistoriesAreShort }
 {}

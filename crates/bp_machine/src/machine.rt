@@ -34,10 +34,10 @@ impl Model for Machine {
     ghost Value = { State };
 
     ghost view = { λ m. record {
-        globals = m.globals;
-        threads = m.threads.items;
-        contexts = m.contexts;
-        failed = m.failed;
+      globals = m.globals;
+      threads = m.threads.items;
+      contexts = m.contexts;
+      failed = m.failed;
     } };
 }
 

@@ -70,9 +70,9 @@ impl Model for Session {
     ghost view = { λ s. record { code = s.code; setup = s.setup; state = s.machine } };
 
     ghost invariant = { λ s. IsInOrder (record {
-        code = s.code;
-        setup = s.setup;
-        state = s.machine;
+      code = s.code;
+      setup = s.setup;
+      state = s.machine;
     }) };
 }
 
@@ -127,7 +127,7 @@ impl Session {
             → StandsFor self.now.code t
             → Stands t self.now h
             → let globals = (configuration_after t self.now.setup h).globals in
-                result ≡ option_map (λ e. e.1) (slice_get globals n) }
+            result ≡ option_map (λ e. e.1) (slice_get globals n) }
     {
         self.code.is_of_a_program();
         if n >= self.code.globals() {

@@ -194,8 +194,8 @@ impl Setup {
             (t : Program)
             → StandsFor code.now t
             → MatchResult result
-                (λ s. (s ≡ given) × (setup_fault t given ≡ None))
-                (IsSetupRefusal t given) }
+            (λ s. (s ≡ given) × (setup_fault t given ≡ None))
+            (IsSetupRefusal t given) }
         ensures taken { IfOk result (λ s. FitsCode code.now s × IsInRange s) }
     {
         code.is_of_a_program();

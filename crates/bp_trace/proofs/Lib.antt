@@ -1,4 +1,5 @@
 pub mod Appends
 mod LinesDriveAgain
 mod PlayedLines
+mod ScheduleLength
 mod ScheduleLineAt

@@ -6,8 +6,6 @@ use Rattle.std.proofs.lemmas.List.{append-nil}
 use Rattle.std.proofs.Math.Seq.{drop-append_seam}
 use Rattle.bp_tree.specs.Ast.{Program}
 use Rattle.bp_code.specs.Configurations.{Configuration}
-use Rattle.bp_code.specs.Flat.{Flat}
-use Rattle.bp_code.specs.StandsFor.{StandsFor}
 use Rattle.bp_machine.specs.declared.calls.Reply.{Reply}
 use Rattle.bp_machine.specs.declared.calls.Call.{Call}
 use Rattle.bp_machine.specs.declared.limits.TheConstants.{MAX_THREADS}
@@ -18,6 +16,7 @@ use Rattle.bp_trace.specs.declared.schedules.ScheduleLine.{ScheduleLine}
 use Rattle.bp_trace.specs.Schedules.{bit_digit, line_text, line_of_call, lines_of_history, schedule_text}
 use Rattle.bp_trace.specs.Drives.{IsDriven, IsBadLine, IsAfterFinish}
 use Rattle.bp_trace.specs.Laws.{LinesDriveAgain}
+use Rattle.bp_trace.proofs.ScheduleLength.{schedule_short}
 use Rattle.bp_trace.proofs.ScheduleLineAt.{number_of_line, line_front}
 
 same_bit : (x y : Bool) → bit_digit x ≡ bit_digit y → x ≡ y
@@ -111,32 +110,32 @@ module _ (t : Program) (s : SetupOf) where
         legal = subst (λ q. IsLegalAfter t s q more.left) (append_assoc p (y ∷ []) ys) more.legal;
       }
 
-module _ (c : Flat) (t : Program) (s : SetupOf) (h : List Call) (is : StandsFor c t) (few : threads s ≤ MAX_THREADS) (legal : IsLegal t s h) where
-  alone : (g : List Call) → IsDriven c s (schedule_text (lines_of_history h)) g → g ≡ h
+module _ (t : Program) (s : SetupOf) (h : List Call) (few : threads s ≤ MAX_THREADS) (legal : IsLegal t s h) where
+  alone : (g : List Call) → IsDriven t s (schedule_text (lines_of_history h)) g → g ≡ h
   alone g driven = none_left on.left on.lines on.whole
     where
       on : GoesOn t s [] g h []
-      on = goes_on t s few [] g h [] (driven.legal t is) legal (driven.lines ∙ sym (append-nil (schedule_text (lines_of_history g))))
+      on = goes_on t s few [] g h [] driven.legal legal (driven.lines ∙ sym (append-nil (schedule_text (lines_of_history g))))
 
       none_left : (k : List Call) → [] ≡ schedule_text (lines_of_history k) → h ≡ g ++ k → g ≡ h
       none_left [] none whole = sym (whole ∙ append-nil g)
       none_left (x ∷ xs) none whole = absurd (not_empty (line_of_call x) (schedule_text (lines_of_history xs)) none)
 
-  no_bad_line : (n : ℕ) → IsBadLine c s (schedule_text (lines_of_history h)) n → ⊥
+  no_bad_line : (n : ℕ) → IsBadLine t s (schedule_text (lines_of_history h)) n → ⊥
   no_bad_line n bad = next on.left on.lines on.legal
     where
       on : GoesOn t s [] bad.reached.history h bad.rest
-      on = goes_on t s few [] bad.reached.history h bad.rest (bad.reached.legal t is) legal bad.reached.whole
+      on = goes_on t s few [] bad.reached.history h bad.rest bad.reached.legal legal bad.reached.whole
 
       next : (k : List Call) → bad.rest ≡ schedule_text (lines_of_history k) → IsLegalAfter t s bad.reached.history k → ⊥
       next [] lines legal = bad.some lines
       next (x ∷ xs) lines (allowed, rest) = bad.bad (line_of_call x) (schedule_text (lines_of_history xs)) allowed.thread lines
 
-  none_finished : (n : ℕ) → IsAfterFinish c s (schedule_text (lines_of_history h)) n → ⊥
+  none_finished : (n : ℕ) → IsAfterFinish t s (schedule_text (lines_of_history h)) n → ⊥
   none_finished n late = next on.left on.lines on.legal
     where
       on : GoesOn t s [] late.reached.history h late.rest
-      on = goes_on t s few [] late.reached.history h late.rest (late.reached.legal t is) legal late.reached.whole
+      on = goes_on t s few [] late.reached.history h late.rest late.reached.legal legal late.reached.whole
 
       next : (k : List Call) → late.rest ≡ schedule_text (lines_of_history k) → IsLegalAfter t s late.reached.history k → ⊥
       next [] lines legal = not_empty late.line late.begins.0 (sym lines ∙ late.begins.2)
@@ -148,8 +147,9 @@ module _ (c : Flat) (t : Program) (s : SetupOf) (h : List Call) (is : StandsFor 
           false≢true (sym allowed.unfinished ∙ ap (λ i. is_finished s late.reached.history i) thread ∙ late.finished)
 
 pub lines_drive_again : LinesDriveAgain
-lines_drive_again c t s h is few legal = record {
-  alone = alone c t s h is few legal;
-  lines = no_bad_line c t s h is few legal;
-  finishes = none_finished c t s h is few legal;
+lines_drive_again t s h range legal = record {
+  driven = record { short = schedule_short t s h range legal; legal = legal; lines = refl };
+  alone = alone t s h range.few legal;
+  lines = no_bad_line t s h range.few legal;
+  finishes = none_finished t s h range.few legal;
 }

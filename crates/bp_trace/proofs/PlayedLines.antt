@@ -7,7 +7,6 @@ use Rattle.std.proofs.lemmas.List.{map-append}
 use Rattle.std.proofs.lemmas.List.{append-nil}
 use Rattle.std.proofs.lemmas.List.Concat.{flat_map-append}
 use Rattle.bp_tree.specs.Ast.{Program}
-use Rattle.bp_code.specs.Flat.{Flat}
 use Rattle.bp_code.specs.StandsFor.{StandsFor}
 use Rattle.bp_code.specs.Programs.{IsOfProgram}
 use Rattle.bp_machine.specs.declared.calls.Call.{Call}
@@ -22,7 +21,7 @@ use Rattle.bp_trace.specs.declared.faults.DriveFault.TheVariants as fault
 use Rattle.bp_trace.specs.declared.schedules.ScheduleLine.{ScheduleLine}
 use Rattle.bp_trace.specs.declared.limits.TheConstants.{MAX_SCHEDULE}
 use Rattle.bp_trace.specs.Schedules.{bit_digit, line_text, schedule_text, line_of_call, lines_of_history, IsLineAt}
-use Rattle.bp_trace.specs.Drives.{IsLegalFor, IsRefusal}
+use Rattle.bp_trace.specs.Drives.{IsRefusal}
 use Rattle.bp_trace.specs.LinePlays.{drive_fault_of, IsAdded, IsLineRefusal}
 
 module _ (x : SessionOf) (h : List Call) (of_some : IsOfProgram x.code) (stands : StandsForAll x h) where
@@ -65,27 +64,26 @@ module _ (schedule : List ℕ) (old new : List Call) (line : ScheduleLine) (plac
       let longer = ap length added.is ∙ length-append old (added.call ∷ []) in
       omega (arith, longer, few, length-append (decimal line.thread) (32 ∷ bit_digit line.bit ∷ 10 ∷ []))
 
--- the history is legal, where the session stands after it
-pub legal_of : (x : SessionOf) (c : Flat) (s : SetupOf) (h : List Call) → x.code ≡ c → x.setup ≡ s → StandsForAll x h → IsLegalFor c s h
-legal_of x c s h code setup stands = λ t is. subst (λ z. IsLegal t z h) setup (stands t (subst (λ z. StandsFor z t) (sym code) is)).legal
-
 -- the refusal of a line, as that of the schedule
-module _ (x : SessionOf) (c : Flat) (s : SetupOf) (h : List Call) (code : x.code ≡ c) (setup : x.setup ≡ s) (stands : StandsForAll x h)
-    (schedule rest : List ℕ) (short : length schedule ≤ MAX_SCHEDULE) (whole : schedule ≡ schedule_text (lines_of_history h) ++ rest)
-    (line : ScheduleLine) (n many : ℕ) (number : n ≡ length h + 1) (all : many ≡ threads s) (begins : IsLineAt many rest line) where
-  pub line_refused : (f : DriveFault) → IsLineRefusal x.setup h line n f → (bytes : Option (List ℕ)) → IsRefusal c s schedule bytes bytes f
-  line_refused fault.TooLong r bytes = absurd r
-  line_refused (fault.Line m) r bytes = absurd r
-  line_refused (fault.AfterFinish m) r bytes = (
-    refl,
-    short,
-    record {
-      rest = rest;
-      reached = record { history = h; legal = legal_of x c s h code setup stands; whole = whole; number = r.0 ∙ number };
-      line = line;
-      begins = subst (λ k. IsLineAt k rest line) all begins;
-      finished = ap (λ z. is_finished z h line.thread) (sym setup) ∙ r.1;
-    },
-  )
-  line_refused fault.Memory r bytes = (refl, short)
-  line_refused fault.Write r bytes = absurd r
+module _ (x : SessionOf) (t : Program) (is : StandsFor x.code t) (s : SetupOf) (h : List Call) (setup : x.setup ≡ s) (stands : StandsForAll x h)
+    (schedule rest : List ℕ) (short : length schedule ≤ MAX_SCHEDULE) (whole : schedule ≡ schedule_text (lines_of_history h) ++ rest) where
+  pub legal_of : IsLegal t s h
+  legal_of = subst (λ z. IsLegal t z h) setup (stands t is).legal
+
+  module _ (line : ScheduleLine) (n many : ℕ) (number : n ≡ length h + 1) (all : many ≡ threads s) (begins : IsLineAt many rest line) where
+    pub line_refused : (f : DriveFault) → IsLineRefusal x.setup h line n f → (bytes : Option (List ℕ)) → IsRefusal t s schedule bytes bytes f
+    line_refused fault.TooLong r bytes = absurd r
+    line_refused (fault.Line m) r bytes = absurd r
+    line_refused (fault.AfterFinish m) r bytes = (
+      refl,
+      short,
+      record {
+        rest = rest;
+        reached = record { history = h; legal = legal_of; whole = whole; number = r.0 ∙ number };
+        line = line;
+        begins = subst (λ k. IsLineAt k rest line) all begins;
+        finished = ap (λ z. is_finished z h line.thread) (sym setup) ∙ r.1;
+      },
+    )
+    line_refused fault.Memory r bytes = (refl, short)
+    line_refused fault.Write r bytes = absurd r

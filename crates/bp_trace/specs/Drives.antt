@@ -1,7 +1,5 @@
 -- What a schedule drives a program to.
 use Rattle.std.specs.Prelude.{◌≡◌, ◌≢◌, ℕ, ◌+◌, ◌<◌, ◌≤◌, true, List, [], ◌++◌, Option, None, Some, length}
-use Rattle.bp_code.specs.Flat.{Flat}
-use Rattle.bp_code.specs.StandsFor.{StandsFor}
 use Rattle.bp_code.specs.Writing.{AppendsAll, AppendsPart}
 use Rattle.bp_tree.specs.Ast.{Program}
 use Rattle.bp_machine.specs.declared.calls.Call.{Call}
@@ -30,56 +28,52 @@ drive_fault_place (Line n) = Some n
 drive_fault_place (AfterFinish n) = Some n
 drive_fault_place f = None
 
--- the history is legal for every program that the code stands for
-abbrev pub IsLegalFor : Flat → SetupOf → List Call → Type 0
-IsLegalFor c s h = (t : Program) → StandsFor c t → IsLegal t s h
-
--- such a history makes the calls of the lines before the n-th, which begins the rest
+-- a legal history makes the calls of the lines before the n-th, which begins the rest
 pub record Reaches
-    (c : Flat) (s : SetupOf) (schedule : List ℕ) (n : ℕ) (rest : List ℕ) : Type 0 where
+    (t : Program) (s : SetupOf) (schedule : List ℕ) (n : ℕ) (rest : List ℕ) : Type 0 where
   pub history : List Call
-  pub legal : IsLegalFor c s history
+  pub legal : IsLegal t s history
   pub whole : schedule ≡ schedule_text (lines_of_history history) ++ rest
   pub number : n ≡ length history + 1
 
 -- the n-th line is no line of a thread of the setup
-pub record IsBadLine (c : Flat) (s : SetupOf) (schedule : List ℕ) (n : ℕ) : Type 0 where
+pub record IsBadLine (t : Program) (s : SetupOf) (schedule : List ℕ) (n : ℕ) : Type 0 where
   pub rest : List ℕ
-  pub reached : Reaches c s schedule n rest
+  pub reached : Reaches t s schedule n rest
   pub some : rest ≢ []
   pub bad : HasNoLine (threads s) rest
 
 -- the n-th line is one of a thread whose line is finished
-pub record IsAfterFinish (c : Flat) (s : SetupOf) (schedule : List ℕ) (n : ℕ) : Type 0 where
+pub record IsAfterFinish (t : Program) (s : SetupOf) (schedule : List ℕ) (n : ℕ) : Type 0 where
   pub rest : List ℕ
-  pub reached : Reaches c s schedule n rest
+  pub reached : Reaches t s schedule n rest
   pub line : ScheduleLine
   pub begins : IsLineAt (threads s) rest line
   pub finished : is_finished s reached.history line.thread ≡ true
 
--- the schedule is short enough, and its lines are those of such a history
-pub record IsDriven (c : Flat) (s : SetupOf) (schedule : List ℕ) (h : List Call) : Type 0 where
+-- the schedule is short enough, and its lines are those of a legal history
+pub record IsDriven (t : Program) (s : SetupOf) (schedule : List ℕ) (h : List Call) : Type 0 where
   pub short : length schedule ≤ MAX_SCHEDULE
-  pub legal : IsLegalFor c s h
+  pub legal : IsLegal t s h
   pub lines : schedule ≡ schedule_text (lines_of_history h)
 
 -- Each refusal, the first that applies; the bytes of the writer before and after it. Nothing is
 -- said of when memory is refused.
-module _ (c : Flat) (s : SetupOf) (schedule : List ℕ) (old new : Option (List ℕ)) where
+module _ (t : Program) (s : SetupOf) (schedule : List ℕ) (old new : Option (List ℕ)) where
   abbrev IsShort : Type 0
   IsShort = length schedule ≤ MAX_SCHEDULE
 
   abbrev pub IsRefusal : DriveFault → Type 0
   IsRefusal TooLong = (new ≡ old) × (MAX_SCHEDULE < length schedule)
-  IsRefusal (Line n) = (new ≡ old) × IsShort × IsBadLine c s schedule n
-  IsRefusal (AfterFinish n) = (new ≡ old) × IsShort × IsAfterFinish c s schedule n
+  IsRefusal (Line n) = (new ≡ old) × IsShort × IsBadLine t s schedule n
+  IsRefusal (AfterFinish n) = (new ≡ old) × IsShort × IsAfterFinish t s schedule n
   IsRefusal Memory = (new ≡ old) × IsShort
-  IsRefusal Write = (h : List Call) × IsDriven c s schedule h × AppendsPart old new (trace_text s h)
+  IsRefusal Write = (h : List Call) × IsDriven t s schedule h × AppendsPart old new (trace_text s h)
 
 -- the schedule drives the program to a history, which is written and reported
 pub record IsPlayed
-    (c : Flat) (s : SetupOf) (schedule : List ℕ) (old new : Option (List ℕ)) (r : Report) : Type 0 where
+    (t : Program) (s : SetupOf) (schedule : List ℕ) (old new : Option (List ℕ)) (r : Report) : Type 0 where
   pub history : List Call
-  pub driven : IsDriven c s schedule history
+  pub driven : IsDriven t s schedule history
   pub written : AppendsAll old new (trace_text s history)
   pub report : IsReport s history r

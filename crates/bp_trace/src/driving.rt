@@ -1,8 +1,10 @@
 //! Driving a program by a schedule.
 ghost use Rattle.std.specs.Prelude.{◌≡◌, ◌<◌, ◌≤◌, ℕ, List, Option, [], length, IfOk, IfErr, OnOk, MatchResult};
+ghost use Rattle.bp_tree.specs.Ast.{Program};
+ghost use Rattle.bp_code.specs.StandsFor.{StandsFor};
 ghost use Rattle.bp_code.specs.Programs.{IsOfProgram};
 ghost use Rattle.bp_machine.specs.declared.limits.TheConstants.{MAX_THREADS};
-ghost use Rattle.bp_machine.specs.Setups.{Fits};
+ghost use Rattle.bp_machine.specs.Setups.{FitsCode};
 ghost use Rattle.bp_machine.specs.Sessions.{StandsForAll};
 ghost use Rattle.bp_trace.specs.declared.limits.TheConstants.{MAX_SCHEDULE};
 ghost use Rattle.bp_trace.specs.Schedules.{schedule_text, lines_of_history};
@@ -69,8 +71,9 @@ fn play(
     ensures stands { IfOk result (λ h. StandsForAll session.new h.items) }
     ensures lines { IfOk result (λ h. schedule.now ≡ schedule_text (lines_of_history h.items)) }
     ensures kept { (session.new.code ≡ session.old.code) × (session.new.setup ≡ session.old.setup) }
-    ensures refused { (bytes : Option (List ℕ))
-        → IfErr result (IsRefusal session.old.code session.old.setup schedule.now bytes bytes) }
+    ensures refused { (t : Program) (bytes : Option (List ℕ))
+        → StandsFor session.old.code t
+        → IfErr result (IsRefusal t session.old.setup schedule.now bytes bytes) }
 {
     let mut calls = Vec::new(alloc);
     let mut at = 0;
@@ -95,10 +98,12 @@ pub fn drive<W: Write>(
     schedule: &[u8],
     out: &mut W,
 ) -> Result<Report, DriveFault>
-    requires { Fits code.now setup.now }
-    ensures { MatchResult result
-        (IsPlayed code.now setup.now schedule.now (W.contents out.old) (W.contents out.new))
-        (IsRefusal code.now setup.now schedule.now (W.contents out.old) (W.contents out.new)) }
+    requires { FitsCode code.now setup.now }
+    ensures { (t : Program)
+        → StandsFor code.now t
+        → MatchResult result
+        (IsPlayed t setup.now schedule.now (W.contents out.old) (W.contents out.new))
+        (IsRefusal t setup.now schedule.now (W.contents out.old) (W.contents out.new)) }
 {
     if schedule.len() > MAX_SCHEDULE {
         return Err(DriveFault::TooLong);

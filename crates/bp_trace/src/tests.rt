@@ -1,6 +1,6 @@
 //! Schedules of a small program, and their traces.
 ghost use Rattle.std.specs.Prelude.{IfOk};
-ghost use Rattle.bp_machine.specs.Setups.{Fits};
+ghost use Rattle.bp_machine.specs.Setups.{FitsCode};
 
 use crate::schedules::line_at;
 use crate::{DriveFault, ScheduleLine, drive, write_call, write_end, write_head, write_trace};
@@ -26,7 +26,7 @@ fn code_of(alloc: Global, text: &[u8]) -> Result<Code, Fail> {
 }
 
 fn setup_of(alloc: Global, code: &Code) -> Result<Setup, Fail>
-    ensures { IfOk result (Fits code.now) }
+    ensures { IfOk result (FitsCode code.now) }
 {
     let entries = vec![in alloc; String::from_str(alloc, "main")?]?;
     Ok(Setup::new(alloc, code, &entries, &[false], 2, 1000, None)?)
@@ -128,7 +128,7 @@ fn threads_of(
     contexts: u32,
     calls: u32,
 ) -> Result<Setup, Fail>
-    ensures { IfOk result (Fits code.now) }
+    ensures { IfOk result (FitsCode code.now) }
 {
     let mut entries = Vec::new(alloc);
     for _ in 0..threads {

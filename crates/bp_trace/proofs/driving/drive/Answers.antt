@@ -15,8 +15,9 @@ report_of-report-requires-clause-program g c =
     subst IsOfProgram (sym (c.play.ensures.kept.0 ∙ c.in_ok-session.ensures.kept.0)) c.is_of_a_program.ensures
 
 pub returns-in_err-calls : goal.returns-in_err-calls
-returns-in_err-calls g c =
+returns-in_err-calls g c = λ t is.
     let p = err_from_is_err_and c.from_residual-in_err-calls.result c.from_residual-in_err-calls.ensures.1 in
-    let refused = c.in_err-calls.ensures.refused (g.W.Write.contents c.args.out.now) in
     let kept = c.in_ok-session.ensures.kept in
-    rw (p.1, p.2) (rw (kept.0, kept.1) at refused)
+    let is_kept = subst (λ k. StandsFor k t) (sym kept.0) is in
+    let refused = c.in_err-calls.ensures.refused t (g.W.Write.contents c.args.out.now) is_kept in
+    rw (p.1, p.2) (rw kept.1 at refused)

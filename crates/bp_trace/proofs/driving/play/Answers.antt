@@ -1,6 +1,7 @@
 use Rattle.std.proofs.Common.{◌∙◌, sym, subst, arith, drop}
 use Rattle.std.proofs.lemmas.Result.{err_from_is_err_and}
 use Rattle.bp_code.specs.Programs.{IsOfProgram}
+use Rattle.bp_code.specs.StandsFor.{StandsFor}
 use Rattle.bp_trace.proofs.PlayedLines.{next_within, next_front, next_few, line_refused}
 use Rattle.bp_trace.proofs.driving.play.Goals as goal
 
@@ -8,11 +9,12 @@ pub play_line-requires-clause-program : goal.play_line-requires-clause-program
 play_line-requires-clause-program c = subst IsOfProgram (sym c.loop-at.invariant.code) c.requires.program
 
 pub returns-in_err-play_line-clause-refused : goal.returns-in_err-play_line-clause-refused
-returns-in_err-play_line-clause-refused c = λ bytes.
+returns-in_err-play_line-clause-refused c = λ t bytes is.
     let p = err_from_is_err_and c.from_residual.result c.from_residual.ensures.1 in
     let begins = rw c.text_from.ensures at c.in-Some.ensures in
     let refused = c.in_err-play_line.ensures.refused in
-    rw (p.1, p.2) (line_refused c.loop-at.session c.args.session.now.code c.args.session.now.setup c.loop-at.calls.items c.loop-at.invariant.code c.loop-at.invariant.setup c.loop-at.invariant.stands
+    let is_kept = subst (λ k. StandsFor k t) (sym c.loop-at.invariant.code) is in
+    rw (p.1, p.2) (line_refused c.loop-at.session t is_kept c.args.session.now.setup c.loop-at.calls.items c.loop-at.invariant.setup c.loop-at.invariant.stands
     c.args.schedule.now (drop c.loop-at.at c.args.schedule.now) c.requires.short c.loop-at.invariant.front c.in-Some.line _ c.args.threads (omega (arith, c.len.ensures, c.loop-at.calls.ok.0)) c.requires.threads begins c.in_err-play_line.field-0.0 refused bytes)
 
 pub loop-at-preserved : goal.loop-at-preserved
