@@ -8,7 +8,7 @@ use Rattle.bp_machine.specs.declared.calls.Call.{Call}
 use Rattle.bp_machine.specs.declared.reports.Report.{Report}
 use Rattle.bp_machine.specs.declared.setups.SetupFault as setups
 use Rattle.bp_machine.specs.declared.setups.SetupFault.{SetupFault}
-use Rattle.bp_machine.specs.Setups.{SetupOf, setup_of, setup_fault, Fits}
+use Rattle.bp_machine.specs.Setups.{SetupOf, setup_of, setup_fault, FitsCode}
 use Rattle.bp_machine.specs.Histories.{IsLegal}
 use Rattle.bp_machine.specs.Reports.{IsReport}
 use Rattle.bp_trace.specs.Schedules.{schedule_text, lines_of_history}
@@ -27,15 +27,10 @@ abbrev pub defaults : ℕ → SetupOf
 defaults globals =
     setup_of (codes "main" ∷ []) (replicate globals false) DEFAULT_CONTEXTS DEFAULT_CALLS None
 
--- the code stands for the lawful program of the text
-pub record IsCodeOf (text : List ℕ) (c : Flat) : Type 0 where
-  pub program : Program
-  pub of : IsLawfulText text program
-  pub stands : StandsFor c program
-
--- the default setup is refused
-abbrev pub IsDefaultSetupRefusal : Flat → SetupFault → Type 0
-IsDefaultSetupRefusal c f = (f ≡ setups.SetupFault.Memory) ⊎ (setup_fault c (defaults c.globals) ≡ Some f)
+-- the default setup of the program is refused; memory may be refused before it is looked at
+abbrev pub IsDefaultRefusal : Program → SetupFault → Type 0
+IsDefaultRefusal t f =
+    (f ≡ setups.SetupFault.Memory) ⊎ (setup_fault t (defaults (length t.globals)) ≡ Some f)
 
 -- why there is no code of the text
 abbrev pub IsCodeRefusal : List ℕ → BundleFault → Type 0
@@ -55,19 +50,19 @@ module _ (text schedule : List ℕ) (old new : Option (List ℕ)) where
     pub written : AppendsAll old new (trace_text (defaults (length program.globals)) history)
     pub report : IsReport (defaults (length program.globals)) history r
 
-  -- the program has a code, which the default setup does not fit
+  -- the text has a lawful program, whose default setup is refused
   pub record IsSetupRefused (f : SetupFault) : Type 0 where
-    pub code : Flat
-    pub of : IsCodeOf text code
-    pub refused : IsDefaultSetupRefusal code f
+    pub program : Program
+    pub of : IsLawfulText text program
+    pub refused : IsDefaultRefusal program f
     pub written : new ≡ old
 
-  -- the default setup fits its code, and the schedule does not drive it
+  -- its default setup has no fault, and the schedule does not drive it
   pub record IsDriveRefused (f : DriveFault) : Type 0 where
-    pub code : Flat
-    pub of : IsCodeOf text code
-    pub fits : Fits code (defaults code.globals)
-    pub refused : drives.IsRefusal code (defaults code.globals) schedule old new f
+    pub program : Program
+    pub of : IsLawfulText text program
+    pub fine : setup_fault program (defaults (length program.globals)) ≡ None
+    pub refused : drives.IsRefusal program (defaults (length program.globals)) schedule old new f
 
   -- why the parts of a bundle are refused, and what was written: the first of these that applies
   abbrev pub IsPartsRefusal : BundleFault → Type 0
@@ -103,3 +98,15 @@ module _ (io : Streams) where
   IsBundleRefusal fault.TooLong = IsUnwritten × IsTooLong MAX_BUNDLE io.input_before io.input_after
   IsBundleRefusal fault.Memory = IsUnwritten
   IsBundleRefusal f = IsWholeRefused f
+
+-- the code stands for the lawful program of the text; no public clause names it
+pub record IsCodeOf (text : List ℕ) (c : Flat) : Type 0 where
+  pub program : Program
+  pub of : IsLawfulText text program
+  pub stands : StandsFor c program
+
+-- the default setup of a program, which has no fault; no public clause names it
+pub record IsDefaultSetup (t : Program) (c : Flat) (s : SetupOf) : Type 0 where
+  pub is : s ≡ defaults (length t.globals)
+  pub fine : setup_fault t s ≡ None
+  pub fits : FitsCode c s

@@ -1,9 +1,10 @@
 //! The command without a name: it drives a bundle.
 ghost use Rattle.std.specs.Prelude.{◌≡◌, ◌+◌, MatchResult};
-ghost use Rattle.bp_machine.specs.Setups.{Fits};
+ghost use Rattle.bp_tree.specs.Ast.{Program};
+ghost use Rattle.bp_code.specs.StandsFor.{StandsFor};
 ghost use Rattle.bp_commands.specs.declared.limits.TheConstants.{MAX_BUNDLE};
 ghost use Rattle.bp_commands.specs.Inputs.{Streams, TookAtMost};
-ghost use Rattle.bp_commands.specs.Bundles.{defaults, IsCodeOf, IsCodeRefusal, IsDefaultSetupRefusal, IsPartsDriven, IsPartsRefusal, IsBundleDriven, IsBundleRefusal};
+ghost use Rattle.bp_commands.specs.Bundles.{IsCodeOf, IsCodeRefusal, IsDefaultSetup, IsDefaultRefusal, IsPartsDriven, IsPartsRefusal, IsBundleDriven, IsBundleRefusal};
 
 use crate::bundle_faults::BundleFault;
 use crate::bundle_parts::parts;
@@ -26,9 +27,9 @@ fn code_of(alloc: Global, text: &[u8]) -> Result<Code, BundleFault>
 
 /// One thread that begins with `main`, and all globals 0.
 fn default_setup(alloc: Global, code: &Code) -> Result<Setup, SetupFault>
-    ensures { MatchResult result
-        (λ s. (s ≡ defaults code.now.globals) × Fits code.now s)
-        (IsDefaultSetupRefusal code.now) }
+    ensures { (t : Program)
+        → StandsFor code.now t
+        → MatchResult result (IsDefaultSetup t code.now) (IsDefaultRefusal t) }
 {
     let Ok(entries) = vec![in alloc; String::from_str(alloc, "main")?] else {
         return Err(SetupFault::Memory);

@@ -8,12 +8,14 @@ use Rattle.bp_commands.proofs.bundle.drive_parts.Goals as goal
 pub returns-in_err-report : goal.returns-in_err-report
 returns-in_err-report g c =
     let p = err_from_is_err_and c.from_residual-in_err-report.result c.from_residual-in_err-report.ensures.1 in
-    let fits = ok_of _ _ (λ f d. d ≡ fault.Setup f) c.default_setup.result c.in_ok-setup.setup c.in_ok-setup.ensures.cases c.default_setup.ensures in
-    let (f, is, refused) = err_of _ _ (λ f d. d ≡ fault.Drive f) c.drive.result c.in_err-report.field-0.0 c.in_err-report.ensures.cases c.drive.ensures in
-    rw (p.1, p.2, is) (drive_refused _ _ _ _ f c.in_ok-code.code c.in_ok-setup.setup c.in_ok-code.ensures fits.0 fits.1 refused)
+    let code = c.in_ok-code.ensures in
+    let setup = ok_of _ _ (λ f d. d ≡ fault.Setup f) c.default_setup.result c.in_ok-setup.setup c.in_ok-setup.ensures.cases (c.default_setup.ensures code.program code.stands) in
+    let (f, is, refused) = err_of _ _ (λ f d. d ≡ fault.Drive f) c.drive.result c.in_err-report.field-0.0 c.in_err-report.ensures.cases (c.drive.ensures code.program code.stands) in
+    rw (p.1, p.2, is) (drive_refused _ _ _ _ c.in_ok-code.code c.in_ok-setup.setup code setup f refused)
 
 pub returns : goal.returns
 returns g c =
-    let fits = ok_of _ _ (λ f d. d ≡ fault.Setup f) c.default_setup.result c.in_ok-setup.setup c.in_ok-setup.ensures.cases c.default_setup.ensures in
-    let played = ok_of _ _ (λ f d. d ≡ fault.Drive f) c.drive.result c.in_ok-report.report c.in_ok-report.ensures.cases c.drive.ensures in
-    parts_driven _ _ _ _ _ c.in_ok-code.code c.in_ok-setup.setup c.in_ok-code.ensures fits.0 played
+    let code = c.in_ok-code.ensures in
+    let setup = ok_of _ _ (λ f d. d ≡ fault.Setup f) c.default_setup.result c.in_ok-setup.setup c.in_ok-setup.ensures.cases (c.default_setup.ensures code.program code.stands) in
+    let played = ok_of _ _ (λ f d. d ≡ fault.Drive f) c.drive.result c.in_ok-report.report c.in_ok-report.ensures.cases (c.drive.ensures code.program code.stands) in
+    parts_driven _ _ _ _ c.in_ok-code.code c.in_ok-setup.setup code setup _ played
