@@ -1,11 +1,11 @@
 -- What driving the program of a text by the default setup says of the parts of a bundle.
-use Rattle.std.proofs.Common.{◌≡◌, ap, ◌∙◌, sym, subst, List, ℕ, Option, None, length}
+use Rattle.std.proofs.Common.{◌≡◌, subst, List, ℕ, Option, None}
 use Rattle.bp_code.specs.Flat.{Flat}
 use Rattle.bp_machine.specs.declared.reports.Report.{Report}
 use Rattle.bp_machine.specs.Setups.{SetupOf, setup_fault}
 use Rattle.bp_trace.specs.Drives.{IsPlayed, IsRefusal}
 use Rattle.bp_trace.specs.declared.faults.DriveFault.{DriveFault}
-use Rattle.bp_commands.specs.Bundles.{defaults, IsCodeOf, IsDefaultSetup, IsPartsDriven, IsDriveRefused}
+use Rattle.bp_commands.specs.Bundles.{IsCodeOf, IsDefaultSetup, IsPartsDriven, IsDriveRefused}
 
 module _ (text schedule : List ℕ) (old new : Option (List ℕ)) (c : Flat) (s : SetupOf) (code : IsCodeOf text c) (setup : IsDefaultSetup code.program c s) where
   pub parts_driven : (r : Report) → IsPlayed code.program s schedule old new r → IsPartsDriven text schedule old new r

@@ -1,5 +1,5 @@
 -- What a bundle is driven to, and why one is refused.
-use Rattle.std.specs.Prelude.{◌≡◌, ◌⊎◌, ℕ, false, List, [], ◌∷◌, Option, None, Some, length, codes, replicate, ⊤}
+use Rattle.std.specs.Prelude.{◌≡◌, ◌⊎◌, ℕ, false, List, [], ◌∷◌, Option, None, Some, length, codes, replicate}
 use Rattle.bp_tree.specs.Ast.{Program}
 use Rattle.bp_code.specs.Flat.{Flat}
 use Rattle.bp_code.specs.StandsFor.{StandsFor}
@@ -15,7 +15,7 @@ use Rattle.bp_trace.specs.Schedules.{schedule_text, lines_of_history}
 use Rattle.bp_trace.specs.TraceText.{trace_text}
 use Rattle.bp_trace.specs.declared.faults.DriveFault.{DriveFault}
 use Rattle.bp_trace.specs.Drives as drives
-use Rattle.bp_commands.specs.Inputs.{Streams, IsInput, IsTooLong}
+use Rattle.bp_commands.specs.Inputs.{Streams, IsInput, IsTooLong, TookAtMost}
 use Rattle.bp_commands.specs.BundleParts.{IsParted}
 use Rattle.bp_commands.specs.Programs.{IsLawfulText, IsProgramRefusal}
 use Rattle.bp_commands.specs.declared.limits.TheConstants.{MAX_BUNDLE, DEFAULT_CONTEXTS, DEFAULT_CALLS}
@@ -35,7 +35,7 @@ IsDefaultRefusal t f =
 -- why there is no code of the text
 abbrev pub IsCodeRefusal : List ℕ → BundleFault → Type 0
 IsCodeRefusal text (fault.Program f) = IsProgramRefusal text f
-IsCodeRefusal text fault.Memory = ⊤
+IsCodeRefusal text fault.Memory = (t : Program) × IsLawfulText text t
 IsCodeRefusal text f = ⊥
 
 module _ (text schedule : List ℕ) (old new : Option (List ℕ)) where
@@ -92,11 +92,13 @@ module _ (io : Streams) where
   abbrev IsUnwritten : Type 0
   IsUnwritten = io.output_after ≡ io.output_before
 
-  -- nothing is said of when memory is refused or a read fails
+  -- Nothing is said of when a read fails. Where memory is refused, the bundle was not longer than its limit
+  -- as far as it was read.
   abbrev pub IsBundleRefusal : BundleFault → Type 0
   IsBundleRefusal fault.Device = IsUnwritten
   IsBundleRefusal fault.TooLong = IsUnwritten × IsTooLong MAX_BUNDLE io.input_before io.input_after
-  IsBundleRefusal fault.Memory = IsUnwritten
+  IsBundleRefusal fault.Memory =
+      IsUnwritten × TookAtMost io.input_before io.input_after MAX_BUNDLE
   IsBundleRefusal f = IsWholeRefused f
 
 -- the code stands for the lawful program of the text; no public clause names it

@@ -5,7 +5,7 @@ use Rattle.bp_tree.specs.Ast.{Program}
 use Rattle.bp_syntax.specs.declared.limits.TheConstants.{TEXT_LIMIT}
 use Rattle.bp_syntax.specs.declared.faults.ReadFault.TheVariants.{TooLong}
 use Rattle.bp_code.specs.Writing.{AppendsAll, AppendsPart}
-use Rattle.bp_commands.specs.Inputs.{Streams, IsInput, IsTooLong}
+use Rattle.bp_commands.specs.Inputs.{Streams, IsInput, IsTooLong, TookAtMost}
 use Rattle.bp_commands.specs.Programs.{IsLawfulText, IsProgramRefusal}
 use Rattle.bp_commands.specs.declared.programs.ProgramFault.{ProgramFault}
 use Rattle.bp_commands.specs.declared.programs.ProgramFault.TheVariants.{Read}
@@ -55,4 +55,5 @@ module _ (io : Streams) where
       IsUnwritten × IsTooLong TEXT_LIMIT io.input_before io.input_after
   IsCheckRefusal (fault.Program f) = IsUnwritten × IsTextRefused f
   IsCheckRefusal fault.Write = IsCheckCutShort
-  IsCheckRefusal fault.Memory = IsUnwritten
+  IsCheckRefusal fault.Memory =
+      IsUnwritten × TookAtMost io.input_before io.input_after TEXT_LIMIT

@@ -34,4 +34,4 @@ pub record IsTooLong (limit : ℕ) (old new : Option (List ℕ)) : Type 0 where
 abbrev pub IsInputRefusal : ℕ → Option (List ℕ) → Option (List ℕ) → InputFault → Type 0
 IsInputRefusal limit old new Device = ⊤
 IsInputRefusal limit old new TooLong = IsTooLong limit old new
-IsInputRefusal limit old new Memory = ⊤
+IsInputRefusal limit old new Memory = TookAtMost old new limit

@@ -47,7 +47,7 @@ pub fn read_whole<R: Read>(
 {
     let mut bytes = Vec::new(alloc);
     let mut chunk = [0; CHUNK];
-    while bytes.len() <= limit {
+    loop {
         let room = CHUNK.min((limit - bytes.len()).saturating_add(1));
         let Ok(count) = input.read(&mut chunk[..room]) else {
             return Err(InputFault::Device);
@@ -55,7 +55,9 @@ pub fn read_whole<R: Read>(
         if count == 0 {
             return Ok(bytes);
         }
+        if count > limit - bytes.len() {
+            return Err(InputFault::TooLong);
+        }
         bytes.extend_from_slice(&chunk[..count])?;
     }
-    Err(InputFault::TooLong)
 }
