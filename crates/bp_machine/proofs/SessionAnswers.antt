@@ -21,9 +21,9 @@ use Rattle.bp_machine.specs.Setups.{SetupOf, threads}
 use Rattle.bp_machine.specs.Histories.{configuration_after, is_finished, ends_with_last, calls_of_thread, open_below}
 use Rattle.bp_machine.specs.States.{State, StandsAfter}
 use Rattle.bp_machine.specs.GuestThreads.{GuestThreadOf}
-use Rattle.bp_machine.specs.Transitions.{reply_of_transition, thread_after, state_after, is_over, IsKeptRefusal, IsNextTransition}
+use Rattle.bp_machine.specs.Transitions.{reply_of_transition, thread_after, state_after, is_over, IsKeptRefusal, IsNextTransition, IsCallTransition}
 use Rattle.bp_machine.specs.Sessions.{SessionOf, Stands, IsInOrder, IsAskRefusal}
-use Rattle.bp_machine.proofs.StandsAfterTransition.{stands_after}
+use Rattle.bp_machine.proofs.StandsAfterTransition.{stands_after, call_step}
 
 module _ (t : Program) (s : SetupOf) (x : State) (h : List Call) (stands : StandsAfter t s x h) (i : ℕ) (guest : GuestThreadOf) (has : slice_get x.threads i ≡ Some guest) where
   -- whether the line is finished is what the session keeps of it
@@ -35,13 +35,12 @@ module _ (t : Program) (s : SetupOf) (x : State) (h : List Call) (stands : Stand
   within_threads : i < threads s
   within_threads = omega (arith, slice_get_within x.threads i guest has, stands.thread_count)
 
-  -- where it goes on, the machine may refuse it for memory alone
-  pub refused_for_memory : is_over s guest ≡ false → IsAskRefusal s h i Memory
-  refused_for_memory goes_on = (within_threads, sym over_is ∙ goes_on)
+  unfinished : is_over s guest ≡ false → is_finished s h i ≡ false
+  unfinished goes_on = sym over_is ∙ goes_on
 
-module _ (t : Program) (s : SetupOf) (x : State) (h : List Call) (stands : StandsAfter t s x h) (i : ℕ) where
+module _ (t : Program) (s : SetupOf) (x : State) (h : List Call) (stands : StandsAfter t s x h) (i : ℕ) (bit : Bool) where
   -- why a session refuses a call is why it is refused after the history
-  pub refused_after : (e : AskFault) → IsKeptRefusal s x i e → IsAskRefusal s h i e
+  pub refused_after : (e : AskFault) → IsKeptRefusal s x i e → IsAskRefusal t s h i bit e
   refused_after NoThread none = there (slice_get_cases x.threads i).1
     where
       there : ((y : GuestThreadOf) × (i < length x.threads) × (slice_get x.threads i ≡ Some y) × (get_or x.threads i y ≡ y)) ⊎ ((length x.threads ≤ i) × (slice_get x.threads i ≡ None)) → threads s ≤ i
@@ -50,6 +49,14 @@ module _ (t : Program) (s : SetupOf) (x : State) (h : List Call) (stands : Stand
   refused_after Finished (guest, has, over) = (within_threads t s x h stands i guest has, sym (over_is t s x h stands i guest has) ∙ over)
   refused_after Memory never = absurd never
 
+-- where a call goes on, memory may be refused only where its step is a call
+pub refused_for_memory : (x : SessionOf) (t : Program) (h : List Call) → StepsAlike x.code t → Stands t x h
+    → (i : ℕ) (bit : Bool) (v : Transition) → IsNextTransition x.code.instructions x.setup x.state i bit v → IsCallTransition v → IsAskRefusal t x.setup h i bit Memory
+refused_for_memory x t h alike stands i bit v next call =
+    let inside = within_threads t x.setup x.state h stands i next.guest next.has in
+    let open_still = unfinished t x.setup x.state h stands i next.guest next.has next.goes_on in
+    (inside, open_still, call_step x.code t alike x.setup x.state h stands i next.guest next.has inside open_still bit v call next.is)
+
 pub answered : (x : SessionOf) (t : Program) (h : List Call) → StepsAlike x.code t → Stands t x h
     → (i : ℕ) (bit : Bool) (v : Transition) → (next : IsNextTransition x.code.instructions x.setup x.state i bit v)
     → (y : State) → y ≡ state_after x.state i next.guest v → (r : Reply) → r ≡ reply_of_transition v
@@ -57,8 +64,8 @@ pub answered : (x : SessionOf) (t : Program) (h : List Call) → StepsAlike x.co
 answered x t h alike stands i bit v next y made r replied =
     let guest = next.guest in
     let inside = within_threads t x.setup x.state h stands i guest next.has in
-    let unfinished = sym (over_is t x.setup x.state h stands i guest next.has) ∙ next.goes_on in
-    rw (made, replied) (stands_after x.code t alike x.setup x.state h stands i guest next.has inside unfinished bit v next.is)
+    let open_still = unfinished t x.setup x.state h stands i guest next.has next.goes_on in
+    rw (made, replied) (stands_after x.code t alike x.setup x.state h stands i guest next.has inside open_still bit v next.is)
 
 same_thread_count : (x : State) (i : ℕ) (guest : GuestThreadOf) (v : Transition) → length (state_after x i guest v).threads ≡ length x.threads
 same_thread_count x i guest (Stays r) = length-set x.threads i (thread_after guest (Stays r))

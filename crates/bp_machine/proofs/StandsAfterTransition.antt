@@ -1,9 +1,9 @@
 -- A session that stands after a history stands after it with the call that it answers.
-use Rattle.std.proofs.Common.{◌≡◌, ℕ, ◌<◌, Bool, true, false, cond, nat_le, List, [], ◌∷◌, ◌++◌, length, Some, refl, ap, sym, ◌∙◌, subst, arith}
+use Rattle.std.proofs.Common.{◌≡◌, ℕ, ◌+◌, ◌<◌, Bool, true, false, cond, nat_le, List, [], ◌∷◌, ◌++◌, length, Some, refl, ap, sym, ◌∙◌, subst, arith}
 use Rattle.std.specs.Prelude.{slice_get, slice_set, unwrap_or}
 use Rattle.std.proofs.lemmas.List.{length-set, append-nil, get_or-set_same, get_or-set_other}
 use Rattle.bp_tree.specs.Ast.{Program}
-use Rattle.bp_code.specs.Configurations.{Configuration}
+use Rattle.bp_code.specs.Configurations.{Frame, Configuration}
 use Rattle.bp_code.specs.Moves.{after_effect}
 use Rattle.bp_code.specs.Flat.{Flat}
 use Rattle.bp_code.specs.Alike.{ShowsStack, StepsAlike}
@@ -20,11 +20,16 @@ use Rattle.bp_machine.specs.Answers.{stack_of, reply_on_stack, configuration_aft
 use Rattle.bp_machine.specs.Histories.{configuration_after, granted_threads, is_finished, IsAllowed}
 use Rattle.bp_machine.specs.States.{State, activations, StandsAfter}
 use Rattle.bp_machine.specs.GuestThreads.{GuestThreadOf}
-use Rattle.bp_machine.specs.Transitions.{IsTransition, reply_of_transition, thread_after, state_after, stack_after}
+use Rattle.bp_machine.specs.Transitions.{IsTransition, reply_of_transition, thread_after, state_after, stack_after, IsEntering, IsCallTransition}
 use Rattle.bp_machine.proofs.ContextCounts.{counts_more, fits_with}
 use Rattle.bp_machine.proofs.HistoryWithCall.{configuration_after-append, granted_threads-append}
 use Rattle.bp_machine.proofs.TransitionIsAnswer.{IsAnswer, answer_of}
 use Rattle.bp_machine.proofs.StandsAfterCall.{advance}
+use Rattle.bp_machine.proofs.EffectSizes.{shown_length, is_a_call}
+use Rattle.bp_machine.specs.Sessions.{IsCallStep}
+use Rattle.bp_machine.specs.declared.stacks.ActivationRecord.{ActivationRecord}
+use Rattle.bp_code.specs.declared.effects.Effect.TheVariants.{Continues, Enters, Returns}
+use Rattle.bp_code.specs.declared.effects.Effect.TheVariants as instr
 
 module _ (c : Flat) (t : Program) (alike : StepsAlike c t) (s : SetupOf) (x : State) (h : List Call) (stands : StandsAfter t s x h)
     (i : ℕ) (guest : GuestThreadOf) (has : slice_get x.threads i ≡ Some guest) (within : i < threads s) (unfinished : is_finished s h i ≡ false) (bit : Bool) where
@@ -55,6 +60,42 @@ module _ (c : Flat) (t : Program) (alike : StepsAlike c t) (s : SetupOf) (x : St
         is = ap (λ b. cond b (Some Stopped) (reply_on_stack t fits now.globals (stack_of now i) bit)) stands.failed ∙ answer.reply;
       };
     }
+
+  -- the sizes of the stacks before and after the step of a call
+  sizes : (cal loc m : ℕ) (own : List ActivationRecord) (f : Frame) (fs stack : List Frame) → ShowsStack t (activations own) (f ∷ fs)
+      → ShowsStack t (activations (stack_after (Enters cal loc m) own)) stack → length stack ≡ length fs + 2
+  sizes cal loc m [] f fs stack shows shown = absurd shows
+  sizes cal loc m (a ∷ rest) f fs stack shows shown =
+      let after = shown_length t (activations (stack_after (Enters cal loc m) (a ∷ rest))) stack shown in
+      let before = shown_length t (activations rest) fs shows.1 in
+      omega (arith, after, before)
+
+  -- the step of a call is a granted step at a call statement
+  pub enters : (cal loc m : ℕ) → IsTransition c.instructions x s.contexts i guest bit (Steps (Enters cal loc m)) → IsCallStep t s h i bit
+  enters cal loc m is =
+      let a = answer (Steps (Enters cal loc m)) is in
+      let (going, f, fs, stack_is, told) = a.comes in
+      let (g, stack, effect_is, worth, shown) = told in
+      let shows = subst (λ S. ShowsStack t (activations guest.stack) S) stack_is (stands.thread i guest has).stack in
+      record {
+        frame = f;
+        below = fs;
+        stack = stack_is;
+        calls = is_a_call t.procedures now.globals f fs bit f.left g stack effect_is (sizes cal loc m guest.stack f fs stack shows shown);
+        steps = (allowed (Steps (Enters cal loc m)) is).answers;
+      }
+
+  pub call_step : (v : Transition) → IsCallTransition v → IsTransition c.instructions x s.contexts i guest bit v → IsCallStep t s h i bit
+  call_step (Stays r) call is = absurd call
+  call_step Fails call is = absurd call
+  call_step (Steps d) call is = by_effect d call is
+    where
+      by_effect : (d : Effect) → IsEntering d → IsTransition c.instructions x s.contexts i guest bit (Steps d) → IsCallStep t s h i bit
+      by_effect (Enters cal loc m) call is = enters cal loc m is
+      by_effect (Continues m w) call is = absurd call
+      by_effect Returns call is = absurd call
+      by_effect instr.Fails call is = absurd call
+      by_effect instr.Blocks call is = absurd call
 
   stays : (r : Reply) → IsTransition c.instructions x s.contexts i guest bit (Stays r) → StandsAfter t s (state_after x i guest (Stays r)) (h ++ call_of r ∷ [])
   stays r is =

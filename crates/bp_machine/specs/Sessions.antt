@@ -1,13 +1,16 @@
 -- Sessions as contracts see them.
-use Rattle.std.specs.Prelude.{◌≡◌, ◌<◌, ◌≤◌, ℕ, true, false, List, length}
+use Rattle.std.specs.Prelude.{◌≡◌, ◌<◌, ◌≤◌, ℕ, Bool, true, false, List, ◌∷◌, length}
 use Rattle.bp_tree.specs.Ast.{Program}
+use Rattle.bp_code.specs.Configurations.{Frame, is_call}
 use Rattle.bp_code.specs.Flat.{Flat}
 use Rattle.bp_code.specs.StandsFor.{StandsFor}
 use Rattle.bp_machine.specs.declared.calls.Call.{Call}
+use Rattle.bp_machine.specs.declared.calls.Reply.TheVariants.{Stepped}
 use Rattle.bp_machine.specs.declared.sessions.AskFault.{AskFault}
 use Rattle.bp_machine.specs.declared.sessions.AskFault.TheVariants.{NoThread, Finished, Memory}
 use Rattle.bp_machine.specs.Setups.{SetupOf, threads, IsInRange}
-use Rattle.bp_machine.specs.Histories.{is_finished}
+use Rattle.bp_machine.specs.Answers.{stack_of, Answers}
+use Rattle.bp_machine.specs.Histories.{configuration_after, granted_threads, is_finished}
 use Rattle.bp_machine.specs.States.{State, StandsAfter}
 
 -- the number of a fault
@@ -36,9 +39,18 @@ pub record IsInOrder (x : SessionOf) : Type 0 where
   pub thread_count : length x.state.threads ≡ threads x.setup
   pub stands : ∥ ((t : Program) × (h : List Call) × StandsFor x.code t × Stands t x h) ∥₁
 
+-- the machine would grant the next step of thread i, which is a call
+pub record IsCallStep (t : Program) (s : SetupOf) (h : List Call) (i : ℕ) (bit : Bool) : Type 0 where
+  pub frame : Frame
+  pub below : List Frame
+  pub stack : stack_of (configuration_after t s h) i ≡ frame ∷ below
+  pub calls : is_call frame.left ≡ true
+  pub steps : Answers t s.contexts (configuration_after t s h) (granted_threads h) i bit Stepped
+
 -- When a call of thread i is refused after the history h: where there is no such thread; else where
--- its line is finished. Of memory nothing is said.
-abbrev pub IsAskRefusal : SetupOf → List Call → ℕ → AskFault → Type 0
-IsAskRefusal s h i NoThread = threads s ≤ i
-IsAskRefusal s h i Finished = (i < threads s) × (is_finished s h i ≡ true)
-IsAskRefusal s h i Memory = (i < threads s) × (is_finished s h i ≡ false)
+-- its line is finished; and memory may be refused only where its step is a call.
+module _ (t : Program) (s : SetupOf) (h : List Call) (i : ℕ) (bit : Bool) where
+  abbrev pub IsAskRefusal : AskFault → Type 0
+  IsAskRefusal NoThread = threads s ≤ i
+  IsAskRefusal Finished = (i < threads s) × (is_finished s h i ≡ true)
+  IsAskRefusal Memory = (i < threads s) × (is_finished s h i ≡ false) × IsCallStep t s h i bit

@@ -135,3 +135,13 @@ IsKeptRefusal s x i NoThread = slice_get x.threads i ≡ None
 IsKeptRefusal s x i Finished =
     (guest : GuestThreadOf) × (slice_get x.threads i ≡ Some guest) × (is_over s guest ≡ true)
 IsKeptRefusal s x i Memory = ⊥
+
+-- the effect is that of a call
+abbrev pub IsEntering : Effect → Type 0
+IsEntering (Enters c locals m) = Unit {0}
+IsEntering d = ⊥
+
+-- the transition is the step of a call
+abbrev pub IsCallTransition : Transition → Type 0
+IsCallTransition (Steps d) = IsEntering d
+IsCallTransition v = ⊥

@@ -7,7 +7,7 @@ ghost use Rattle.bp_machine.specs.Setups.{SetupOf};
 ghost use Rattle.bp_machine.specs.Histories.{open_lines};
 ghost use Rattle.bp_machine.specs.GuestThreads.{GuestThreadOf};
 ghost use Rattle.bp_machine.specs.States.{StandsAfter};
-ghost use Rattle.bp_machine.specs.Transitions.{transition_of, IsTransitionOn, IsTransition, MayGrow, globals_after, state_after};
+ghost use Rattle.bp_machine.specs.Transitions.{transition_of, IsTransitionOn, IsTransition, MayGrow, globals_after, state_after, IsCallTransition};
 
 use crate::calls::Reply;
 use crate::contexts::ContextCount;
@@ -186,6 +186,7 @@ impl Machine {
             → slice_get self.old.threads thread ≡ Some guest
             → self.new ≡ state_after self.old thread guest transition) }
         ensures err { OnErr result (self.new ≡ self.old) }
+        ensures entering { OnErr result (IsCallTransition transition) }
     {
         let guest = &mut self.threads[thread as usize];
         guest.make(transition)?;

@@ -107,8 +107,9 @@ impl Session {
         ensures asked { IfOk result (λ c. (c.thread ≡ thread) × (c.bit ≡ bit)) }
         ensures kept { (self.new.code ≡ self.old.code) × (self.new.setup ≡ self.old.setup) }
         ensures refused { (t : Program) (h : List Answered)
+            → StandsFor self.old.code t
             → Stands t self.old h
-            → IfErr result (IsAskRefusal self.old.setup h thread) }
+            → IfErr result (IsAskRefusal t self.old.setup h thread bit) }
         ensures same { OnErr result (self.new ≡ self.old) }
     {
         steps_alike(&self.code);

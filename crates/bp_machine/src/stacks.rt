@@ -64,7 +64,7 @@ fn enter(
 }
 
 impl Stack {
-    ghost use Rattle.bp_machine.specs.Transitions.{stack_after};
+    ghost use Rattle.bp_machine.specs.Transitions.{stack_after, IsEntering};
 
     /// The stack of a thread that begins at this instruction, with its locals 0.
     pub(crate) fn start(alloc: Global, number: u32) -> Result<Stack, AllocError>
@@ -91,6 +91,7 @@ impl Stack {
     pub(crate) fn make(&mut self, effect: Effect) -> Result<(), AllocError>
         ensures ok { OnOk result (self.new ≡ stack_after effect self.old) }
         ensures err { OnErr result (self.new ≡ self.old) }
+        ensures entering { OnErr result (IsEntering effect) }
     {
         match effect {
             Effect::Continues { store, next } => replace_top(

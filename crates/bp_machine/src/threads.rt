@@ -1,7 +1,7 @@
 //! The guest threads of a session, and what a call does to one.
 ghost use Rattle.std.specs.Prelude.{◌≡◌, ◌||◌, ◌+◌, ◌<◌, ◌^◌, map, nat_le, string_bytes, IfOk, OnOk, OnErr};
 ghost use Rattle.bp_machine.specs.GuestThreads.{first_thread};
-ghost use Rattle.bp_machine.specs.Transitions.{thread_after, reply_of_transition};
+ghost use Rattle.bp_machine.specs.Transitions.{thread_after, reply_of_transition, IsCallTransition};
 
 use crate::calls::Reply;
 use crate::stacks::Stack;
@@ -82,6 +82,7 @@ impl GuestThread {
         requires { self.old.calls + 1 < 2 ^ 32 }
         ensures ok { OnOk result (self.new ≡ thread_after self.old transition) }
         ensures err { OnErr result (self.new ≡ self.old) }
+        ensures entering { OnErr result (IsCallTransition transition) }
     {
         if let Transition::Steps(effect) = transition {
             self.stack.make(effect)?;

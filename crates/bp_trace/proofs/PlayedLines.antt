@@ -27,12 +27,12 @@ use Rattle.bp_trace.specs.LinePlays.{drive_fault_of, IsAdded, IsLineRefusal}
 module _ (x : SessionOf) (h : List Call) (of_some : IsOfProgram x.code) (stands : StandsForAll x h) where
   -- the refusal of a call of a thread that is there
   pub refused_line : (line : ScheduleLine) (n : ℕ) (f : AskFault) → line.thread < threads x.setup
-      → ((t : Program) (g : List Call) → Stands t x g → IsAskRefusal x.setup g line.thread f) → IsLineRefusal x.setup h line n (drive_fault_of f n)
-  refused_line line n NoThread within refused = absurd (is_false x.code (line.thread < threads x.setup) of_some (λ t is. past (refused t h (stands t is))) within)
+      → ((t : Program) (g : List Call) → StandsFor x.code t → Stands t x g → IsAskRefusal t x.setup g line.thread line.bit f) → IsLineRefusal x.setup h line n (drive_fault_of f n)
+  refused_line line n NoThread within refused = absurd (is_false x.code (line.thread < threads x.setup) of_some (λ t is. past (refused t h is (stands t is))) within)
     where
       past : threads x.setup ≤ line.thread → line.thread < threads x.setup → ⊥
       past beyond below = omega arith
-  refused_line line n Finished within refused = (refl, is_true x.code (is_finished x.setup h line.thread) of_some (λ t is. (refused t h (stands t is)).1))
+  refused_line line n Finished within refused = (refl, is_true x.code (is_finished x.setup h line.thread) of_some (λ t is. (refused t h is (stands t is)).1))
   refused_line line n Memory within refused = tt
 
 -- one more line of the schedule
