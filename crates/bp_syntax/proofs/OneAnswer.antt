@@ -105,7 +105,7 @@ only_answer text (Err e) a p t = only_memory text p e t a
 pub scan_fault : (text : List ℕ) (e : ReadFault) → length text ≤ TEXT_LIMIT → IsScanFault text e → IsRefusal text e
 scan_fault text (fault.BadByte at) le f = (le, f)
 scan_fault text (fault.OpenName at) le f = (le, f)
-scan_fault text fault.Memory le f = tt
+scan_fault text fault.Memory le f = le
 scan_fault text fault.TooLong le f = absurd f
 scan_fault text (fault.TooNested at) le f = absurd f
 scan_fault text (fault.TooManyTokens at) le f = absurd f
@@ -122,7 +122,7 @@ end_is end (x ∷ r) e = let z : ⊥ = cc in absurd z
 pub parse_fault : (text : List ℕ) (ts : List Token) (e : ReadFault) → length text ≤ TEXT_LIMIT → HasTokens text ts → IsShallow ts → IsSparse ts → IsParseFault ts (length text) e → IsRefusal text e
 parse_fault text ts (fault.Syntax at) le has shallow sparse f =
     (le, ts, has, shallow, sparse, stops_at_fault text ts f.0 at f.1 (λ x r e. sym (place_is (length text) f.0 x r e) ∙ sym f.2) (λ e. f.2 ∙ end_is (length text) f.0 e))
-parse_fault text ts fault.Memory le has shallow sparse f = tt
+parse_fault text ts fault.Memory le has shallow sparse f = le
 parse_fault text ts fault.TooLong le has shallow sparse f = absurd f
 parse_fault text ts (fault.BadByte at) le has shallow sparse f = absurd f
 parse_fault text ts (fault.OpenName at) le has shallow sparse f = absurd f
