@@ -19,3 +19,4 @@ pub mod NamesOfTokens
 pub mod ShortNames
 pub mod ResultByNextToken
 pub mod OneAnswer
+pub mod OneRefusal
