@@ -1,7 +1,7 @@
 -- Laws of texts, of the scan and of the grammar.
-use Rattle.std.specs.Prelude.{◌≡◌, ◌≢◌, ℕ, List}
+use Rattle.std.specs.Prelude.{◌≡◌, ◌≢◌, ℕ, List, All}
 use Rattle.bp_tree.specs.Ast.{Program}
-use Rattle.bp_syntax.specs.Tokens.{Token}
+use Rattle.bp_syntax.specs.Tokens.{Token, IsSpelled}
 use Rattle.bp_syntax.specs.Cut.{Piece, IsCut}
 use Rattle.bp_syntax.specs.Grammar.{Derives}
 use Rattle.bp_syntax.specs.Texts.{IsTextOf, IsRefusal}
@@ -37,3 +37,7 @@ NoRefusalOfPrograms =
     → IsTextOf text p
     → IsRefusal text e
     → e ≡ Memory
+
+-- what is spelled as a name holds no line feed
+abbrev pub NamesOnOneLine : Type 0
+NamesOnOneLine = (s : List ℕ) → IsSpelled s → All (λ b. b ≢ 10) s

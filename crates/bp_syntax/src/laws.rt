@@ -1,5 +1,5 @@
 //! Laws of texts, of their cut and of the grammar.
-ghost use Rattle.bp_syntax.specs.Laws.{OneCut, OneTree, OneRefusal, NoRefusalOfPrograms};
+ghost use Rattle.bp_syntax.specs.Laws.{OneCut, OneTree, OneRefusal, NoRefusalOfPrograms, NamesOnOneLine};
 
 /// Law: each text has one cut.
 pub fn has_one_cut()
@@ -15,4 +15,9 @@ pub fn has_one_tree()
 pub fn has_one_refusal()
     ensures one { OneRefusal }
     ensures none { NoRefusalOfPrograms }
+{}
+
+/// Law: a name of a program holds no line feed.
+pub fn has_names_on_one_line()
+    ensures { NamesOnOneLine }
 {}
