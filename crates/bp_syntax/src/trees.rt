@@ -70,6 +70,13 @@ impl Tree {
         let _ = &self.globals;
     }
 
+    /// Law: each tree is that of some text.
+    pub fn is_of_a_text(&self)
+        ensures { HasText self.now }
+    {
+        let _ = &self.globals;
+    }
+
     /// A copy, which equals its source.
     pub fn try_copy(&self) -> Result<Tree, AllocError>
         ensures { IfOk result (λ t. t ≡ self.now) }
