@@ -5,6 +5,7 @@ pub mod AmongAppend
 pub mod RepeatedNames
 pub mod FaultsOfParts
 pub mod LeastIsRefusal
+pub mod OneRefusal
 pub mod LeastOfMore
 pub mod FaultsOfStatement
 pub mod StrayNames

@@ -1,8 +1,12 @@
--- What each lawful program keeps.
-use Rattle.std.specs.Prelude.{◌≡◌, ℕ, ◌<◌, ◌≤◌, ◌++◌, true, false, List, Some, take, map, length, slice_get}
+-- What each lawful program keeps, and how many refusals a program has.
+use Rattle.std.specs.Prelude.{◌≡◌, ◌≢◌, ℕ, ◌<◌, ◌≤◌, ◌++◌, true, false, List, Some, take, map, length, slice_get}
 use Rattle.bp_tree.specs.Ast.{Name, Statement, GoesTo, Assigns, Calls, Procedure, Program}
 use Rattle.bp_tree.specs.Lookup.{variables, procedure_named}
 use Rattle.bp_check.specs.Scopes.{has, Mentions, Among, Labelled, statements, labels}
+use Rattle.bp_check.specs.Faults.{IsLawful}
+use Rattle.bp_check.specs.Refusals.{IsRefusal}
+use Rattle.bp_check.specs.declared.faults.CheckFault.{CheckFault}
+use Rattle.bp_check.specs.declared.faults.CheckFault.TheVariants.{Memory}
 use Rattle.bp_check.specs.declared.limits.TheConstants.{MAX_PROCEDURES, MAX_GLOBALS, MAX_OWN_NAMES}
 
 -- no more names of a kind than their limit
@@ -46,3 +50,21 @@ pub record HasSoundStatements (p : Program) : Type 0 where
       → Among (statements q.body) s
       → Mentions s.statement n
       → has (variables q ++ p.globals) n.text ≡ true
+
+-- a program has at most one refusal, memory aside
+abbrev pub OneRefusal : Type 0
+OneRefusal =
+    (p : Program) (f g : CheckFault) (at place : ℕ)
+    → f ≢ Memory
+    → g ≢ Memory
+    → IsRefusal p f at
+    → IsRefusal p g place
+    → (f ≡ g) × (at ≡ place)
+
+-- a lawful program has no refusal, memory aside
+abbrev pub NoRefusalOfLawful : Type 0
+NoRefusalOfLawful =
+    (p : Program) (f : CheckFault) (at : ℕ)
+    → IsLawful p
+    → IsRefusal p f at
+    → f ≡ Memory
