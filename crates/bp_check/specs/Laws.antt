@@ -28,7 +28,7 @@ pub record HasDistinctNames (p : Program) : Type 0 where
   pub labels_in : (q : Procedure) → Among p.procedures q → AreDistinct (labels q.body)
 
 -- in the procedure q a jump has its label; a call has its procedure, and as many arguments as that
--- has formals; an assignment has different targets, and as many right sides if it has targets
+-- has formals; an assignment has targets, no two of them alike, and as many right sides
 abbrev pub IsSound : Program → Procedure → Statement → Type 0
 IsSound p q (GoesTo to) = has (labels q.body) to.text ≡ true
 IsSound p q (Calls callee arguments) =
@@ -36,7 +36,7 @@ IsSound p q (Calls callee arguments) =
     × (procedure_named p.procedures callee.text ≡ Some r)
     × (length arguments ≡ length r.formals)
 IsSound p q (Assigns targets values) =
-    (0 < length targets → length targets ≡ length values) × AreDistinct targets
+    (0 < length targets) × (length targets ≡ length values) × AreDistinct targets
 IsSound p q _ = Unit {0}
 
 -- each statement of each procedure is sound, and names only variables that its procedure sees
