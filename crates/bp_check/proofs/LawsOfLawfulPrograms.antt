@@ -6,7 +6,9 @@ use Rattle.std.proofs.lemmas.Bool.{cases_lt}
 use Rattle.bp_tree.specs.Ast.{Name, Expression, Statement, Skips, GoesTo, Returns, Assigns, Branches, Loops, Asserts, Assumes, Prints, Calls, Procedure, Program}
 use Rattle.bp_tree.specs.Lookup.{variables, procedure_named}
 use Rattle.bp_check.specs.declared.faults.CheckFault.TheVariants as fault
+use Rattle.bp_syntax.specs.Texts.{HasText}
 use Rattle.bp_check.specs.Scopes.{Among, Labelled, statements, labels}
+use Rattle.bp_check.proofs.AssignmentsHaveTargets.{have_targets}
 use Rattle.bp_check.specs.Faults.{IsTwice, IsPast, CallsNone, CallsWrongly, IsUneven, IsLawful}
 use Rattle.bp_check.specs.declared.limits.TheConstants.{MAX_PROCEDURES, MAX_GLOBALS, MAX_OWN_NAMES}
 use Rattle.bp_check.specs.Laws.{HasFewNames, AreDistinct, HasDistinctNames, IsSound, HasSoundStatements}
@@ -63,7 +65,7 @@ module _ (p : Program) (lawful : IsLawful p) where
       let first = slice_get-get_or xs 0 (record { text = []; at = 0 }) some in
       elim (same_or_not (length xs) (length es)) [ inl same ↦ same | inr other ↦ absurd (none n.at (other, n, record { stands = first; place = refl })) ]
 
-  module _ (q : Procedure) (mq : Among p.procedures q) (label : Option Name) where
+  module _ (of_text : HasText p) (q : Procedure) (mq : Among p.procedures q) (label : Option Name) where
     sound_in : (w : Statement) → Among (statements q.body) (record { label = label; statement = w }) → IsSound p q w
     sound_in (GoesTo to) ms = is_true _ (λ e. lawful fault.UnknownLabel to.at (q, record { label = label; statement = GoesTo to }, mq, ms, (e, refl)))
     sound_in (Calls x es) ms =
@@ -71,7 +73,8 @@ module _ (p : Program) (lawful : IsLawful p) where
         found_callee q x es (procedure_named p.procedures x.text) refl (λ at e. lawful fault.UnknownProcedure at (q, s, mq, ms, e)) (λ at e. lawful fault.Arity at (q, s, mq, ms, e))
     sound_in (Assigns xs es) ms =
         let s : Labelled = record { label = label; statement = Assigns xs es } in
-        (even xs es (λ at e. lawful fault.Lengths at (q, s, mq, ms, e)), distinct xs (λ at e. lawful fault.TwiceTarget at (q, s, mq, ms, e)))
+        let some : 0 < length xs = have_targets p of_text q mq s ms in
+        (some, even xs es (λ at e. lawful fault.Lengths at (q, s, mq, ms, e)) some, distinct xs (λ at e. lawful fault.TwiceTarget at (q, s, mq, ms, e)))
     sound_in Skips ms = tt
     sound_in Returns ms = tt
     sound_in (Branches d a b) ms = tt
@@ -80,8 +83,8 @@ module _ (p : Program) (lawful : IsLawful p) where
     sound_in (Assumes d) ms = tt
     sound_in (Prints es) ms = tt
 
-  pub sound_statements : HasSoundStatements p
-  sound_statements = record {
-    sound = λ q s mq ms. sound_in q mq s.label s.statement ms;
+  pub sound_statements : HasText p → HasSoundStatements p
+  sound_statements of_text = record {
+    sound = λ q s mq ms. sound_in of_text q mq s.label s.statement ms;
     declared = λ q s n mq ms u. is_true _ (λ e. lawful fault.UnknownVariable n.at (q, s, mq, ms, (n, u, e, refl)));
   }

@@ -2,9 +2,11 @@ pub mod LeastOfBoth
 pub mod FirstIndex
 pub mod LawsOfLawfulPrograms
 pub mod AmongAppend
+pub mod AssignmentsHaveTargets
 pub mod RepeatedNames
 pub mod FaultsOfParts
 pub mod LeastIsRefusal
+pub mod OneRefusal
 pub mod LeastOfMore
 pub mod FaultsOfStatement
 pub mod StrayNames

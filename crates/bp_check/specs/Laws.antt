@@ -1,8 +1,12 @@
--- What each lawful program keeps.
-use Rattle.std.specs.Prelude.{◌≡◌, ℕ, ◌<◌, ◌≤◌, ◌++◌, true, false, List, Some, take, map, length, slice_get}
+-- What each lawful program keeps, and how many refusals a program has.
+use Rattle.std.specs.Prelude.{◌≡◌, ◌≢◌, ℕ, ◌<◌, ◌≤◌, ◌++◌, true, false, List, Some, take, map, length, slice_get}
 use Rattle.bp_tree.specs.Ast.{Name, Statement, GoesTo, Assigns, Calls, Procedure, Program}
 use Rattle.bp_tree.specs.Lookup.{variables, procedure_named}
 use Rattle.bp_check.specs.Scopes.{has, Mentions, Among, Labelled, statements, labels}
+use Rattle.bp_check.specs.Faults.{IsLawful}
+use Rattle.bp_check.specs.Refusals.{IsRefusal}
+use Rattle.bp_check.specs.declared.faults.CheckFault.{CheckFault}
+use Rattle.bp_check.specs.declared.faults.CheckFault.TheVariants.{Memory}
 use Rattle.bp_check.specs.declared.limits.TheConstants.{MAX_PROCEDURES, MAX_GLOBALS, MAX_OWN_NAMES}
 
 -- no more names of a kind than their limit
@@ -24,7 +28,7 @@ pub record HasDistinctNames (p : Program) : Type 0 where
   pub labels_in : (q : Procedure) → Among p.procedures q → AreDistinct (labels q.body)
 
 -- in the procedure q a jump has its label; a call has its procedure, and as many arguments as that
--- has formals; an assignment has different targets, and as many right sides if it has targets
+-- has formals; an assignment has targets, no two of them alike, and as many right sides
 abbrev pub IsSound : Program → Procedure → Statement → Type 0
 IsSound p q (GoesTo to) = has (labels q.body) to.text ≡ true
 IsSound p q (Calls callee arguments) =
@@ -32,7 +36,7 @@ IsSound p q (Calls callee arguments) =
     × (procedure_named p.procedures callee.text ≡ Some r)
     × (length arguments ≡ length r.formals)
 IsSound p q (Assigns targets values) =
-    (0 < length targets → length targets ≡ length values) × AreDistinct targets
+    (0 < length targets) × (length targets ≡ length values) × AreDistinct targets
 IsSound p q _ = Unit {0}
 
 -- each statement of each procedure is sound, and names only variables that its procedure sees
@@ -46,3 +50,21 @@ pub record HasSoundStatements (p : Program) : Type 0 where
       → Among (statements q.body) s
       → Mentions s.statement n
       → has (variables q ++ p.globals) n.text ≡ true
+
+-- a program has at most one refusal, memory aside
+abbrev pub OneRefusal : Type 0
+OneRefusal =
+    (p : Program) (f g : CheckFault) (at place : ℕ)
+    → f ≢ Memory
+    → g ≢ Memory
+    → IsRefusal p f at
+    → IsRefusal p g place
+    → (f ≡ g) × (at ≡ place)
+
+-- a lawful program has no refusal, memory aside
+abbrev pub NoRefusalOfLawful : Type 0
+NoRefusalOfLawful =
+    (p : Program) (f : CheckFault) (at : ℕ)
+    → IsLawful p
+    → IsRefusal p f at
+    → f ≡ Memory

@@ -56,12 +56,12 @@ impl Checked {
         let _ = &self.tree;
     }
 
-    /// Law: each variable, label and procedure that a statement names is declared, and an
-    /// assignment and a call have as many values as they need.
+    /// Law: each variable, label and procedure that a statement names is declared, an assignment
+    /// has targets, and an assignment and a call have as many values as they need.
     pub fn has_sound_statements(&self)
         ensures { HasSoundStatements self.now }
     {
-        let _ = &self.tree;
+        self.tree.is_of_a_text();
     }
 
     /// Law: there are no more statements and procedures together than a text has bytes.

@@ -5,6 +5,7 @@ mod callees;
 mod checks;
 mod faults;
 mod forms;
+mod laws;
 mod least;
 pub mod limits;
 mod procedures;
@@ -18,3 +19,4 @@ mod uses;
 
 pub use checks::{CheckRefusal, Checked, check};
 pub use faults::CheckFault;
+pub use laws::has_one_refusal;

@@ -3,7 +3,7 @@ mod faults;
 mod limits;
 mod names;
 
-use crate::{CheckFault, check};
+use crate::{CheckFault, check, has_one_refusal};
 use bp_syntax::read;
 use std::alloc::Global;
 use std::test::Fail;
@@ -19,6 +19,7 @@ fn refusal(alloc: Global, text: &[u8]) -> Result<Option<(u32, u32)>, Fail> {
 
 #[test]
 fn takes_lawful_trees(rt: HostRuntime) -> Result<(), Fail> {
+    has_one_refusal();
     let alloc = rt.alloc();
     assert_eq!(rt; refusal(alloc, b"")?, None);
     let tree = read(alloc, b"decl x; main() begin x := 1; assert (x); end")?;

@@ -16,6 +16,9 @@ pub mod StopIsSyntaxFault
 pub mod FewStatements
 pub mod PrecedenceRank
 pub mod NamesOfTokens
+pub mod OneProofOfNames
 pub mod ShortNames
+pub mod SpelledNames
 pub mod ResultByNextToken
 pub mod OneAnswer
+pub mod OneRefusal

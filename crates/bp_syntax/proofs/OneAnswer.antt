@@ -8,7 +8,7 @@ use Rattle.bp_syntax.specs.Tokens.{Token, fits, kind_of}
 use Rattle.bp_syntax.specs.Cut.{Piece, IsCut, ends, piece, open_brace, bad_byte, first_bad_byte, first_open_brace, tokens_of, with_token, HasTokens, HasBadByte, HasOpenName}
 use Rattle.bp_syntax.specs.Lexer.{IsScanFault}
 use Rattle.bp_syntax.specs.Grammar.{Derives}
-use Rattle.bp_syntax.specs.Opens.{AllReal, Opens, HasSyntaxFault}
+use Rattle.bp_syntax.specs.Opens.{AllReal, Opens, BreaksAt, HasSyntaxFault}
 use Rattle.bp_syntax.specs.Nesting.{IsShallow}
 use Rattle.bp_syntax.specs.DepthCount.{first_too_deep}
 use Rattle.bp_syntax.specs.Successions.{IsSparse}
@@ -26,15 +26,15 @@ use Rattle.bp_syntax.proofs.StopIsSyntaxFault.{read_is_derived, stops_at_fault}
 use Rattle.bp_syntax.proofs.FirstTooDeep.{none_is_shallow, some_is_deep, shallow_front}
 
 -- a text has one list of tokens
-same_tokens : (text : List ℕ) (ts us : List Token) → HasTokens text ts → HasTokens text us → ts ≡ us
+pub same_tokens : (text : List ℕ) (ts us : List Token) → HasTokens text ts → HasTokens text us → ts ≡ us
 same_tokens text ts us a b = sym a.tokens ∙ ap tokens_of (one_cut 0 text a.pieces b.pieces a.cut b.cut) ∙ b.tokens
 
-good_or_bad : (text : List ℕ) (ts : List Token) (at : ℕ) → HasTokens text ts → HasBadByte text at → ⊥
+pub good_or_bad : (text : List ℕ) (ts : List Token) (at : ℕ) → HasTokens text ts → HasBadByte text at → ⊥
 good_or_bad text ts at a b =
     let e : None ≡ Some at = sym a.good ∙ ap first_bad_byte (one_cut 0 text a.pieces b.pieces a.cut b.cut) ∙ b.bad in
     cc
 
-closed_or_open : (text : List ℕ) (ts : List Token) (at : ℕ) → HasTokens text ts → HasOpenName text at → ⊥
+pub closed_or_open : (text : List ℕ) (ts : List Token) (at : ℕ) → HasTokens text ts → HasOpenName text at → ⊥
 closed_or_open text ts at a b =
     let e : None ≡ Some at = sym a.closed ∙ ap first_open_brace (one_cut 0 text a.pieces b.pieces a.cut b.cut) ∙ b.unclosed in
     cc
@@ -44,17 +44,17 @@ real_and k None at bytes ts f e r = r
 real_and k (Some kd) at bytes ts f e r = (record { lexeme = k; fits = f; spells = e }, r)
 
 -- the tokens of a text are real
-all_real : {at : ℕ} {s : List ℕ} {ps : List Piece} → IsCut at s ps → AllReal (tokens_of ps)
+pub all_real : {at : ℕ} {s : List ℕ} {ps : List Piece} → IsCut at s ps → AllReal (tokens_of ps)
 all_real ends = tt
 all_real (piece {at = at} {n = n} {text = s} {kind = k} {more = ps} l c) = real_and k (kind_of k (take n s)) at (take n s) (tokens_of ps) l.is_lexeme refl (all_real c)
 all_real (open_brace none is c) = all_real c
 all_real (bad_byte none never c) = all_real c
 
-real_rest : (front rest : List Token) → AllReal (front ++ rest) → AllReal rest
+pub real_rest : (front rest : List Token) → AllReal (front ++ rest) → AllReal rest
 real_rest [] rest r = r
 real_rest (x ∷ front) rest r = real_rest front rest r.1
 
-sparse_front : (front rest : List Token) → IsSparse (front ++ rest) → IsSparse front
+pub sparse_front : (front rest : List Token) → IsSparse (front ++ rest) → IsSparse front
 sparse_front front rest s before run after parts plain =
     s before run (after ++ rest) (ap (λ l. l ++ rest) parts ∙ append_assoc before (run ++ after) rest ∙ ap (λ l. before ++ l) (append_assoc run after rest)) plain
 
@@ -73,19 +73,25 @@ no_syntax_fault text ts at p real d f =
     (λ n. n.1 p d)
     f
 
+pub shallow_or_nested : (ts : List Token) (at : ℕ) → IsShallow ts → BreaksAt IsShallow ts at → ⊥
+shallow_or_nested ts at all b =
+    let here : IsShallow (b.front ++ b.token ∷ b.rest) = subst IsShallow b.parts all in
+    b.after (shallow_front (b.front ++ b.token ∷ []) b.rest (subst IsShallow (sym (append_assoc b.front (b.token ∷ []) b.rest)) here))
+
+pub sparse_or_crowded : (ts : List Token) (at : ℕ) → IsSparse ts → BreaksAt IsSparse ts at → ⊥
+sparse_or_crowded ts at all b =
+    let here : IsSparse (b.front ++ b.token ∷ b.rest) = subst IsSparse b.parts all in
+    b.after (sparse_front (b.front ++ b.token ∷ []) b.rest (subst IsSparse (sym (append_assoc b.front (b.token ∷ []) b.rest)) here))
+
 -- a program's text has no fault
-only_memory : (text : List ℕ) (p : Program) (e : ReadFault) → IsTextOf text p → IsRefusal text e → e ≡ fault.Memory
+pub only_memory : (text : List ℕ) (p : Program) (e : ReadFault) → IsTextOf text p → IsRefusal text e → e ≡ fault.Memory
 only_memory text p fault.TooLong t f = let s = t.short in absurd (omega arith)
 only_memory text p (fault.BadByte at) t f = absurd (good_or_bad text t.tokens at t.scanned f.1)
 only_memory text p (fault.OpenName at) t f = absurd (closed_or_open text t.tokens at t.scanned f.1)
 only_memory text p (fault.TooNested at) t f =
-    let b = f.3 in
-    let shallow : IsShallow (b.front ++ b.token ∷ b.rest) = subst IsShallow (same_tokens text t.tokens f.1 t.scanned f.2 ∙ b.parts) t.shallow in
-    absurd (b.after (shallow_front (b.front ++ b.token ∷ []) b.rest (subst IsShallow (sym (append_assoc b.front (b.token ∷ []) b.rest)) shallow)))
+    absurd (shallow_or_nested f.1 at (subst IsShallow (same_tokens text t.tokens f.1 t.scanned f.2) t.shallow) f.3)
 only_memory text p (fault.TooManyTokens at) t f =
-    let b = f.4 in
-    let sparse : IsSparse (b.front ++ b.token ∷ b.rest) = subst IsSparse (same_tokens text t.tokens f.1 t.scanned f.2 ∙ b.parts) t.sparse in
-    absurd (b.after (sparse_front (b.front ++ b.token ∷ []) b.rest (subst IsSparse (sym (append_assoc b.front (b.token ∷ []) b.rest)) sparse)))
+    absurd (sparse_or_crowded f.1 at (subst IsSparse (same_tokens text t.tokens f.1 t.scanned f.2) t.sparse) f.4)
 only_memory text p (fault.Syntax at) t f =
     let real : AllReal t.tokens = subst AllReal t.scanned.tokens (all_real t.scanned.cut) in
     let same = same_tokens text f.1 t.tokens f.2 t.scanned in
@@ -105,7 +111,7 @@ only_answer text (Err e) a p t = only_memory text p e t a
 pub scan_fault : (text : List ℕ) (e : ReadFault) → length text ≤ TEXT_LIMIT → IsScanFault text e → IsRefusal text e
 scan_fault text (fault.BadByte at) le f = (le, f)
 scan_fault text (fault.OpenName at) le f = (le, f)
-scan_fault text fault.Memory le f = tt
+scan_fault text fault.Memory le f = le
 scan_fault text fault.TooLong le f = absurd f
 scan_fault text (fault.TooNested at) le f = absurd f
 scan_fault text (fault.TooManyTokens at) le f = absurd f
@@ -122,7 +128,7 @@ end_is end (x ∷ r) e = let z : ⊥ = cc in absurd z
 pub parse_fault : (text : List ℕ) (ts : List Token) (e : ReadFault) → length text ≤ TEXT_LIMIT → HasTokens text ts → IsShallow ts → IsSparse ts → IsParseFault ts (length text) e → IsRefusal text e
 parse_fault text ts (fault.Syntax at) le has shallow sparse f =
     (le, ts, has, shallow, sparse, stops_at_fault text ts f.0 at f.1 (λ x r e. sym (place_is (length text) f.0 x r e) ∙ sym f.2) (λ e. f.2 ∙ end_is (length text) f.0 e))
-parse_fault text ts fault.Memory le has shallow sparse f = tt
+parse_fault text ts fault.Memory le has shallow sparse f = le
 parse_fault text ts fault.TooLong le has shallow sparse f = absurd f
 parse_fault text ts (fault.BadByte at) le has shallow sparse f = absurd f
 parse_fault text ts (fault.OpenName at) le has shallow sparse f = absurd f

@@ -1,6 +1,7 @@
 -- What holds of each name in a program, wherever it appears.
 use Rattle.std.specs.Prelude.{ℕ, ◌≤◌, length, List, [], ◌∷◌, Option, None, Some}
 use Rattle.bp_tree.specs.Ast.{Name, Expression, Constant, Variable, Negation, Operation, Decision, Choose, Decide, Block, Done, Then, Statement, Skips, GoesTo, Returns, Assigns, Branches, Loops, Asserts, Assumes, Prints, Calls, Procedure, Program}
+use Rattle.bp_syntax.specs.Tokens.{IsSpelled}
 
 module _ (P : Name → Type 0) where
   abbrev pub EachName : List Name → Type 0
@@ -55,3 +56,7 @@ module _ (P : Name → Type 0) where
 -- no name of the program is longer than so many bytes
 abbrev pub HasShortNames : ℕ → Program → Type 0
 HasShortNames most p = NamesInProgram (λ n. length n.text ≤ most) p
+
+-- each name of the program is an identifier that is not reserved, or a braced name
+abbrev pub HasSpelledNames : Program → Type 0
+HasSpelledNames p = NamesInProgram (λ n. IsSpelled n.text) p

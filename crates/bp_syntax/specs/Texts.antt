@@ -24,7 +24,7 @@ pub record IsTextOf (text : List ℕ) (p : Program) : Type 0 where
 abbrev pub HasText : Program → Type 0
 HasText p = ∥ ((text : List ℕ) × IsTextOf text p) ∥₁
 
--- how a text is refused: for its first fault; nothing is said of memory
+-- how a text is refused: for its first fault; for memory only where it is not too long
 abbrev pub IsRefusal : List ℕ → ReadFault → Type 0
 IsRefusal text fault.TooLong = TEXT_LIMIT < length text
 IsRefusal text (fault.BadByte at) = (length text ≤ TEXT_LIMIT) × HasBadByte text at
@@ -47,4 +47,4 @@ IsRefusal text (fault.Syntax at) =
     × IsShallow tokens
     × IsSparse tokens
     × HasSyntaxFault text tokens at
-IsRefusal text fault.Memory = Unit {0}
+IsRefusal text fault.Memory = length text ≤ TEXT_LIMIT

@@ -1,5 +1,5 @@
 -- What the bytes of a text spell: the kinds of lexemes, and the kinds of tokens.
-use Rattle.std.specs.Prelude.{◌≡◌, ℕ, Bool, true, false, not, ◌||◌, ◌&&◌, ◌==◌, nat_eq, nat_le, is_some, List, [], ◌∷◌, Option, Some, None}
+use Rattle.std.specs.Prelude.{◌≡◌, ◌⊎◌, ℕ, Bool, true, false, not, ◌||◌, ◌&&◌, ◌==◌, nat_eq, nat_le, is_some, List, [], ◌∷◌, Option, Some, None}
 use Rattle.std.specs.Char.{is_ascii_alphabetic, is_ascii_alphanumeric}
 use Rattle.std.specs.List.{list_any, list_all}
 use Rattle.std.specs.Map.{lookup}
@@ -77,6 +77,9 @@ reserved_words =
 abbrev pub word_kind : List ℕ → TokenKind
 word_kind s = unwrap_or (lookup (bytes_eq s) reserved_words) kind.Name
 
+abbrev pub is_reserved : List ℕ → Bool
+is_reserved s = is_some (lookup (bytes_eq s) reserved_words)
+
 -- the bytes are one lexeme of the kind
 abbrev pub fits : LexemeKind → List ℕ → Bool
 fits lexeme.White (b ∷ []) = is_white b
@@ -87,6 +90,12 @@ fits lexeme.Constant (b ∷ []) = is_some (constant b)
 fits lexeme.Symbol (b ∷ []) = is_some (symbol b)
 fits lexeme.Symbol (b ∷ c ∷ []) = is_some (long_symbol b c)
 fits _ _ = false
+
+-- the bytes spell a name: they are an identifier that is not reserved, or a braced name
+abbrev pub IsSpelled : List ℕ → Type 0
+IsSpelled s =
+    ((fits lexeme.Identifier s ≡ true) × (is_reserved s ≡ false))
+    ⊎ (fits lexeme.Braced s ≡ true)
 
 -- the kind of the token that such a lexeme is; white and comments are no tokens
 abbrev pub kind_of : LexemeKind → List ℕ → Option TokenKind

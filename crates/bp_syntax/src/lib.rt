@@ -17,6 +17,6 @@ mod trees;
 
 pub use bp_tree::{Block, Decider, Expr, Exprs, Form, Name, Names, Op, Proc, Procs, Stmt, Sub};
 pub use faults::ReadFault;
-pub use laws::{has_one_cut, has_one_tree};
+pub use laws::{has_names_on_one_line, has_one_cut, has_one_refusal, has_one_tree};
 pub use reading::read;
 pub use trees::Tree;

@@ -2,7 +2,7 @@
 ghost use Rattle.std.specs.Prelude.{◌≡◌, ◌≤◌, IfOk};
 ghost use Rattle.bp_tree.specs.Sizes.{procedures_size};
 ghost use Rattle.bp_syntax.specs.Texts.{HasText};
-ghost use Rattle.bp_syntax.specs.NamesIn.{HasShortNames};
+ghost use Rattle.bp_syntax.specs.NamesIn.{HasShortNames, HasSpelledNames};
 
 use crate::limits::TEXT_LIMIT;
 use bp_tree::{Name, Names, Proc, Procs};
@@ -58,6 +58,21 @@ impl Tree {
     /// Law: no name in a program is longer than a text.
     pub fn has_short_names(&self)
         ensures { HasShortNames TEXT_LIMIT self.now }
+    {
+        let _ = &self.globals;
+    }
+
+    /// Law: each name in a program is an identifier that is not reserved, or a braced name. So it
+    /// holds no line feed (`has_names_on_one_line`).
+    pub fn has_spelled_names(&self)
+        ensures { HasSpelledNames self.now }
+    {
+        let _ = &self.globals;
+    }
+
+    /// Law: each tree is that of some text.
+    pub fn is_of_a_text(&self)
+        ensures { HasText self.now }
     {
         let _ = &self.globals;
     }
