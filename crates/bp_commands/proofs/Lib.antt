@@ -1,5 +1,5 @@
-mod CheckRefused
 mod FirstSeparator
 mod MappedErrors
 mod PartsDriven
 mod Reportable
+mod TextRefused
