@@ -1,3 +1,4 @@
+pub mod Appends
 pub mod AppendsPieces
 mod BitsFrom
 mod BlockItems
@@ -6,6 +7,7 @@ mod DeclaredIsKnown
 pub mod HeadingsOfProcedures
 pub mod LawfulIsCompilable
 mod ListItems
+mod ListingLines
 mod SlotOf
 mod SlotsAreVariables
 pub mod StandsForStepsAlike

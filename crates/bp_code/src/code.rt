@@ -109,6 +109,13 @@ impl Code {
         self.headings.as_slice()
     }
 
+    /// The instructions in order of number.
+    pub(crate) fn instrs(&self) -> &[Instr]
+        ensures { result.now ≡ self.now.instructions }
+    {
+        self.instrs.as_slice()
+    }
+
     /// The law that every code stands for the lawful program of some text.
     pub fn is_of_a_program(&self)
         ensures { IsOfProgram self.now }

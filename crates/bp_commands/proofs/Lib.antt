@@ -1,6 +1,6 @@
-mod CheckRefused
 mod FirstSeparator
 mod InputRefused
 mod MappedErrors
 mod PartsDriven
 mod Reportable
+mod TextRefused

@@ -4,5 +4,7 @@ pub mod Checks
 pub mod FaultLines
 pub mod Faults
 pub mod Inputs
+pub mod Listings
+pub mod ProgramInputs
 pub mod Programs
 pub mod Statuses

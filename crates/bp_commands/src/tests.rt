@@ -1,6 +1,7 @@
 //! Worked examples, and what fails under them.
 mod bundles;
 mod check;
+mod code;
 mod fault_lines;
 
 use std::io;

@@ -1,0 +1,43 @@
+-- The lines of a listing from one number on.
+use Rattle.std.proofs.Common.{◌≡◌, refl, sym, ap, ◌∙◌, ℕ, zero, suc, ◌+◌, ◌-◌, ◌<◌, ◌≤◌, List, [], ◌∷◌, ◌++◌, length, take, drop, get_or, arith}
+use Rattle.bp_code.specs.Flat.{Instruction, Heading}
+use Rattle.bp_code.specs.Listing.{heading_line, instruction_line, instruction_lines, lines_between, end_before, procedure_lines}
+use Rattle.bp_code.proofs.ListItems.{drop_item, dropped_all}
+
+take_one : (is : List Instruction) (n k : ℕ) (i : Instruction) → instruction_lines n (take (suc k) (i ∷ is)) ≡ instruction_line n i ++ instruction_lines (n + 1) (take k is)
+take_one is n k i = refl
+
+-- the line of the n-th, and those behind it
+pub lines_next : (is : List Instruction) (n end : ℕ) (i : Instruction) → n < end → n < length is → i ≡ get_or is n i
+    → lines_between is n end ≡ instruction_line n i ++ lines_between is (n + 1) end
+lines_next is n end i before within has =
+    let count : end - n ≡ suc (end - (n + 1)) = omega arith in
+    ap (λ xs. instruction_lines n (take (end - n) xs)) (drop_item is n i within has)
+    ∙ ap (λ k. instruction_lines n (take k (i ∷ drop (n + 1) is))) count
+    ∙ take_one (drop (n + 1) is) n (end - (n + 1)) i
+
+take_none : (n k : ℕ) → instruction_lines n (take k []) ≡ []
+take_none n k = take_cases k
+  where
+    take_cases : (k : ℕ) → instruction_lines n (take k []) ≡ []
+    take_cases zero = refl
+    take_cases (suc k) = refl
+
+-- behind the last one there is none
+pub lines_past : (is : List Instruction) (n end : ℕ) → length is ≤ n → lines_between is n end ≡ []
+lines_past is n end past = ap (λ xs. instruction_lines n (take (end - n) xs)) (dropped_all is n past) ∙ take_none n (end - n)
+
+pub lines_beyond : (is : List Instruction) (n end : ℕ) → length is ≤ n → lines_between is n end ≡ lines_between is (n + 1) end
+lines_beyond is n end past =
+    lines_past is n end past ∙ sym (lines_past is (n + 1) end (omega arith))
+
+-- none are left
+pub lines_ended : (is : List Instruction) (n end : ℕ) → end ≤ n → lines_between is n end ≡ []
+lines_ended is n end over =
+    let count : end - n ≡ 0 = omega arith in
+    ap (λ k. instruction_lines n (take k (drop n is))) count
+
+-- the lines of the n-th procedure, and those behind it
+pub procedures_next : (is : List Instruction) (hs : List Heading) (n : ℕ) (h : Heading) → n < length hs → h ≡ get_or hs n h
+    → procedure_lines is (drop n hs) ≡ heading_line h ++ (lines_between is h.entry (end_before is (drop (n + 1) hs)) ++ procedure_lines is (drop (n + 1) hs))
+procedures_next is hs n h within has = ap (procedure_lines is) (drop_item hs n h within has)
