@@ -6,7 +6,10 @@ use crate::lexer::scan;
 use crate::limits::TEXT_LIMIT;
 use crate::nesting::first_too_deep;
 use crate::tokens::{Token, TokenKind};
-use crate::{Decider, Expr, Form, ReadFault, has_one_cut, has_one_tree, read};
+use crate::{
+    Decider, Expr, Form, ReadFault, has_names_on_one_line, has_one_cut, has_one_refusal,
+    has_one_tree, read,
+};
 use std::alloc::{AllocError, Global};
 use std::test::Fail;
 
@@ -16,6 +19,8 @@ const SMALL: &[u8] = b"decl x, y; main() begin x, y := 1, x; assert (!y); end";
 fn reads_declarations_and_a_procedure(rt: HostRuntime) -> Result<(), Fail> {
     has_one_cut();
     has_one_tree();
+    has_one_refusal();
+    has_names_on_one_line();
     let tree = read(rt.alloc(), SMALL)?;
     let globals = tree.globals();
     assert_eq!(rt; globals.len(), 2);

@@ -105,6 +105,8 @@ fn reads_procedures_and_labels(rt: HostRuntime) -> Result<(), Fail> {
     let tree = read(rt.alloc(), RECURSIVE)?;
     tree.has_few_statements();
     tree.has_short_names();
+    tree.has_spelled_names();
+    tree.is_of_a_text();
     let procs = tree.procs();
     assert_eq!(rt; procs.len(), 2);
     assert_eq!(rt; procs[0].locals().len(), 1);
