@@ -4,28 +4,42 @@ use Rattle.std.specs.Prelude.{◌≡◌, ◌==◌, Bool, true, not, List, [], �
 use Rattle.clap.specs.Walk.{Row, Text, first_of}
 use Rattle.clap.specs.Simple.{App, new_app, new_rule, on_top, with_rule, with_subcommand}
 use Rattle.btrun.specs.declared.commands.Task.{Task}
-use Rattle.btrun.specs.declared.commands.Task.TheVariants.{Bundle, Check}
+use Rattle.btrun.specs.declared.commands.Task.TheVariants.{Bundle, Check, Code}
+
+-- a command of this name and a file
+abbrev pub file_app : Text → App
+file_app name = with_rule (new_app name) (record (new_rule (codes "FILE")) { required = true })
 
 -- `check FILE`
 abbrev pub check_app : App
-check_app =
-    with_rule (new_app (codes "check")) (record (new_rule (codes "FILE")) { required = true })
+check_app = file_app (codes "check")
+
+-- `code FILE`
+abbrev pub code_app : App
+code_app = file_app (codes "code")
 
 -- all commands
 abbrev pub btrun_app : App
 btrun_app =
     with_subcommand
+    (with_subcommand
     (on_top (λ s. record s { has_version = true }) (new_app (codes "btrun")))
-    check_app.top
+    check_app.top)
+    code_app.top
 
 -- the value of an argument, empty where it has none
 abbrev pub value_of : Text → List Row → Text
 value_of id rows = unwrap_or (first_of id rows) []
 
+-- the command has this name, and its file is the path
+abbrev pub IsOfFile : Text → Text → List Row → Text → Type 0
+IsOfFile command name rows path = (name ≡ command) × (path ≡ value_of (codes "FILE") rows)
+
 -- what the command of this name asks for, with its arguments
 abbrev pub IsAsked : Text → List Row → Task → Type 0
-IsAsked name rows Bundle = name ≡ codes "check" → ⊥
-IsAsked name rows (Check path) = (name ≡ codes "check") × (path.now ≡ value_of (codes "FILE") rows)
+IsAsked name rows Bundle = (name ≡ codes "check" → ⊥) × (name ≡ codes "code" → ⊥)
+IsAsked name rows (Check path) = IsOfFile (codes "check") name rows path.now
+IsAsked name rows (Code path) = IsOfFile (codes "code") name rows path.now
 
 -- what the words ask for, by the command that they name
 abbrev pub IsTaskOf : Option (Text × List Row) → Task → Type 0
@@ -39,5 +53,10 @@ is_plain (b ∷ bs) = not (b == 45)
 
 -- the task is to check this file
 abbrev pub IsCheckOf : Text → Task → Type 0
-IsCheckOf file Bundle = ⊥
 IsCheckOf file (Check path) = path.now ≡ file
+IsCheckOf file task = ⊥
+
+-- the task is to list the code of this file
+abbrev pub IsCodeOf : Text → Task → Type 0
+IsCodeOf file (Code path) = path.now ≡ file
+IsCodeOf file task = ⊥

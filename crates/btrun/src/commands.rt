@@ -2,7 +2,7 @@
 ghost use Rattle.std.specs.Prelude.{◌≡◌, true, false, ℕ, List, [], ◌∷◌, map, codes, string_bytes, IfOk, MatchResult};
 ghost use Rattle.clap.specs.Words.{FailsBy, app_of, fault_of, kind_of, subcommand_of, subcommand_rows_of};
 ghost use Rattle.clap.specs.declared.builder.command.Command.TheViews.{out-Command};
-ghost use Rattle.btrun.specs.Commands.{btrun_app, check_app, is_plain, IsCheckOf, IsTaskOf};
+ghost use Rattle.btrun.specs.Commands.{btrun_app, file_app, is_plain, IsCheckOf, IsCodeOf, IsTaskOf};
 
 use clap::error::ErrorKind;
 use clap::{Arg, ArgMatches, Command, Error};
@@ -18,28 +18,45 @@ pub enum Task<'a> {
     Bundle,
     /// Check the program of this file.
     Check(&'a str),
+    /// List the code of the program of this file.
+    Code(&'a str),
 }
 
 /// What `--help` says behind the commands.
 const NOTES: &str =
-    "Without a command standard input is a bundle: a program, a line '%', and a schedule of lines\n'THREAD BIT'. One thread begins with 'main', all globals are 0, and at most 2 contexts and\n1000 calls are allowed. The trace of the run is printed.\n\nExamples:\n  btrun < FILE\n  btrun check FILE\n\nExit status:\n  0  done, and no assertion failed\n  1  an assertion failed\n  2  the input or the words were refused\n  3  memory, a device or the output failed";
+    "Without a command standard input is a bundle: a program, a line '%', and a schedule of lines\n'THREAD BIT'. One thread begins with 'main', all globals are 0, and at most 2 contexts and\n1000 calls are allowed. The trace of the run is printed.\n\nExamples:\n  btrun < FILE\n  btrun check FILE\n  btrun code FILE\n\nExit status:\n  0  done, and no assertion failed\n  1  an assertion failed\n  2  the input or the words were refused\n  3  memory, a device or the output failed";
+
+/// What `check` does.
+const CHECK_ABOUT: &str =
+    "Checks a program and prints 'ok', its number of procedures and its number of globals";
 
 /// What `check --help` says behind the arguments.
 const CHECK_NOTES: &str =
     "The first fault is one line on standard error, with the offset of its byte.\n\nExample:\n  btrun check lock.bp\n\nExit status:\n  0  the program is lawful\n  2  it is refused, or the words were\n  3  memory, a device or the output failed";
 
-/// `check FILE`.
-fn check_command<'a>(alloc: Global) -> Result<Command<'a>, AllocError>
-    ensures { IfOk result (λ c. (app_of c ≡ check_app) × ((out-Command c).has_globals ≡ false)) }
+/// What `code` does.
+const CODE_ABOUT: &str = "Prints the listing of a program's code";
+
+/// What `code --help` says behind the arguments.
+const CODE_NOTES: &str =
+    "A procedure has a line 'proc NAME FORMALS LOCALS', and behind it a line for each instruction,\nwith its number and those of its successors. The first fault is one line on standard error, with\nthe offset of its byte.\n\nExample:\n  btrun code lock.bp\n\nExit status:\n  0  the listing is printed\n  2  the program is refused, or the words were\n  3  memory, a device or the output failed";
+
+/// A command of this name and a file.
+fn file_command<'a>(
+    alloc: Global,
+    name: &'a str,
+    about: &'a str,
+    notes: &'a str,
+) -> Result<Command<'a>, AllocError>
+    ensures { IfOk result
+        (λ c. (app_of c ≡ file_app name.now) × ((out-Command c).has_globals ≡ false)) }
 {
     let file = Arg::new(alloc, "FILE")
         .required(true)
         .help("The file of the program");
-    Command::new(alloc, "check")
-        .about(
-            "Checks a program and prints 'ok', its number of procedures and its number of globals",
-        )
-        .after_help(CHECK_NOTES)
+    Command::new(alloc, name)
+        .about(about)
+        .after_help(notes)
         .arg(file)
 }
 
@@ -53,7 +70,8 @@ fn command<'a>(alloc: Global) -> Result<Command<'a>, AllocError>
             "Runs concurrent Boolean programs. Without a command it reads a bundle from standard input and prints its trace",
         )
         .after_help(NOTES)
-        .subcommand(check_command(alloc)?)
+        .subcommand(file_command(alloc, "check", CHECK_ABOUT, CHECK_NOTES)?)?
+        .subcommand(file_command(alloc, "code", CODE_ABOUT, CODE_NOTES)?)
 }
 
 /// The task that the matched words name.
@@ -63,6 +81,7 @@ fn task_of<'a>(matches: &ArgMatches<'a>) -> Task<'a>
     match matches.subcommand() {
         // FILE is required, so it is there.
         Some(("check", words)) => Task::Check(words.get_str("FILE").unwrap_or("")),
+        Some(("code", words)) => Task::Code(words.get_str("FILE").unwrap_or("")),
         _ => Task::Bundle,
     }
 }
@@ -80,6 +99,10 @@ pub fn read_words<'a>(alloc: Global, words: &'a [String]) -> Result<Task<'a>, Er
         → is_plain file ≡ true
         → map string_bytes words.now ≡ program ∷ codes "check" ∷ file ∷ []
         → MatchResult result (IsCheckOf file) (λ e. kind_of e ≡ ErrorKind.OutOfMemory) }
+    ensures code { (program file : List ℕ)
+        → is_plain file ≡ true
+        → map string_bytes words.now ≡ program ∷ codes "code" ∷ file ∷ []
+        → MatchResult result (IsCodeOf file) (λ e. kind_of e ≡ ErrorKind.OutOfMemory) }
 {
     let command = command(alloc)?;
     let matches = command.try_get_matches_from(words)?;

@@ -2,6 +2,8 @@
 
 mod bundle;
 mod check;
+mod code;
+mod files;
 mod usage;
 
 use crate::commands::{Task, read_words};
@@ -14,6 +16,7 @@ fn run_words(rt: &HostRuntime, words: &[String]) -> u8 {
     match read_words(rt.alloc(), words) {
         Ok(Task::Bundle) => bundle::drive_input(rt),
         Ok(Task::Check(path)) => check::check_file(rt, path),
+        Ok(Task::Code(path)) => code::list_file(rt, path),
         Err(error) => usage::explain(rt, &error),
     }
 }

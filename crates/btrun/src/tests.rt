@@ -27,6 +27,8 @@ fn reads_words(rt: HostRuntime) -> Result<(), Fail> {
     assert!(rt; matches!(read_words(alloc, &words(alloc, &[])?), Ok(Task::Bundle)));
     let check = words(alloc, &["check", "p.bp"])?;
     assert!(rt; matches!(read_words(alloc, &check), Ok(Task::Check(path)) if path == "p.bp"));
+    let code = words(alloc, &["code", "p.bp"])?;
+    assert!(rt; matches!(read_words(alloc, &code), Ok(Task::Code(path)) if path == "p.bp"));
     let dashed = words(alloc, &["check", "--", "-p"])?;
     assert!(rt; matches!(read_words(alloc, &dashed), Ok(Task::Check(path)) if path == "-p"));
     Ok(())

@@ -3,7 +3,7 @@ use Rattle.clap.specs.Words.{fault_of, kind_of, subcommand_of, is_simple_and_fre
 use Rattle.clap.specs.declared.error.kind.ErrorKind.TheVariants.{OutOfMemory}
 use Rattle.clap.specs.Simple.{is_simple}
 use Rattle.btrun.specs.Commands.{btrun_app, IsTaskOf}
-use Rattle.btrun.proofs.PlainWords.{none_faulty, check_faulty, check_asked, only_memory}
+use Rattle.btrun.proofs.PlainWords.{none_faulty, check_faulty, check_asked, code_faulty, code_asked, only_memory}
 use Rattle.btrun.proofs.commands.read_words.Goals as goal
 
 is_exact : is_simple_and_free btrun_app ≡ true
@@ -34,3 +34,13 @@ pub returns-clause-check : goal.returns-clause-check
 returns-clause-check c program file plain is =
     let named = (c.in_ok-matches.ensures.matches (ap is_simple c.in_ok-command.ensures ∙ refl)).1 ∙ ap₂ subcommand_of c.in_ok-command.ensures is in
     check_asked program file c.task_of.result plain (subst (λ command. IsTaskOf command c.task_of.result) named c.task_of.ensures)
+
+pub returns-in_err-matches-clause-code : goal.returns-in_err-matches-clause-code
+returns-in_err-matches-clause-code c program file plain is =
+    let memory = refused c (ap (fault_of btrun_app) is ∙ code_faulty program file plain) in
+    search rules
+
+pub returns-clause-code : goal.returns-clause-code
+returns-clause-code c program file plain is =
+    let named = (c.in_ok-matches.ensures.matches (ap is_simple c.in_ok-command.ensures ∙ refl)).1 ∙ ap₂ subcommand_of c.in_ok-command.ensures is in
+    code_asked program file c.task_of.result plain (subst (λ command. IsTaskOf command c.task_of.result) named c.task_of.ensures)

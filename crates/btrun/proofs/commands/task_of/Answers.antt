@@ -4,14 +4,21 @@ use Rattle.clap.specs.declared.parser.matches.ArgMatches.{ArgMatches}
 use Rattle.clap.specs.declared.parser.matches.ArgMatches.TheViews.{out-ArgMatches}
 use Rattle.clap.proofs.WalkLemmas.{first_value-rows}
 use Rattle.btrun.specs.Commands.{IsTaskOf, value_of}
-use Rattle.btrun.specs.declared.commands.Task.TheVariants.{Check}
+use Rattle.btrun.specs.declared.commands.Task.TheVariants.{Check, Code}
 use Rattle.btrun.proofs.commands.task_of.Goals as goal
 
 -- the command that was named, where its name and its arguments are known
-named : (command : Option (Text × List Row)) (rows : List Row) (path : Bor Text) → Some (codes "check") ≡ option_map (λ p. p.0) command
+check_named : (command : Option (Text × List Row)) (rows : List Row) (path : Bor Text) → Some (codes "check") ≡ option_map (λ p. p.0) command
     → Some rows ≡ option_map (λ p. p.1) command → path.now ≡ value_of (codes "FILE") rows → IsTaskOf command (Check path)
-named None rows path is_check have value = search rules
-named (Some p) rows path is_check have value =
+check_named None rows path is_check have value = search rules
+check_named (Some p) rows path is_check have value =
+    let same : rows ≡ p.1 = search rules in
+    (search rules, value ∙ ap (value_of (codes "FILE")) same)
+
+code_named : (command : Option (Text × List Row)) (rows : List Row) (path : Bor Text) → Some (codes "code") ≡ option_map (λ p. p.0) command
+    → Some rows ≡ option_map (λ p. p.1) command → path.now ≡ value_of (codes "FILE") rows → IsTaskOf command (Code path)
+code_named None rows path is_code have value = search rules
+code_named (Some p) rows path is_code have value =
     let same : rows ≡ p.1 = search rules in
     (search rules, value ∙ ap (value_of (codes "FILE")) same)
 
@@ -33,5 +40,13 @@ returns-in-Some-check-default c =
     let rows = c.in-Some-check-default.ensures.rows in
     let value = c.get_str.ensures ∙ first_value-rows (found_of c.in-Some-check-default.words.now) (codes "FILE") in
     let name : Some (codes "check") ≡ subcommand_name_of c.args.matches.now = search rules in
-    named (subcommand_rows_of c.args.matches.now) (rows_of (found_of c.in-Some-check-default.words.now)) c.unwrap_or.result (name ∙ name_of_rows c.args.matches.now) rows
+    check_named (subcommand_rows_of c.args.matches.now) (rows_of (found_of c.in-Some-check-default.words.now)) c.unwrap_or.result (name ∙ name_of_rows c.args.matches.now) rows
     (given_or_empty c.get_str.result _ c.unwrap_or.result _ c.unwrap_or.ensures refl value)
+
+pub returns-in-Some-code-default : goal.returns-in-Some-code-default
+returns-in-Some-code-default c =
+    let rows = c.in-Some-code-default.ensures.rows in
+    let value = c.get_str-in-Some-code-default.ensures ∙ first_value-rows (found_of c.in-Some-code-default.words.now) (codes "FILE") in
+    let name : Some (codes "code") ≡ subcommand_name_of c.args.matches.now = search rules in
+    code_named (subcommand_rows_of c.args.matches.now) (rows_of (found_of c.in-Some-code-default.words.now)) c.unwrap_or-in-Some-code-default.result (name ∙ name_of_rows c.args.matches.now) rows
+    (given_or_empty c.get_str-in-Some-code-default.result _ c.unwrap_or-in-Some-code-default.result _ c.unwrap_or-in-Some-code-default.ensures refl value)
