@@ -1,14 +1,12 @@
 -- What a bundle is driven to, and why one is refused.
 use Rattle.std.specs.Prelude.{◌≡◌, ◌⊎◌, ℕ, false, List, [], ◌∷◌, Option, None, Some, length, codes, replicate}
 use Rattle.bp_tree.specs.Ast.{Program}
-use Rattle.bp_code.specs.Flat.{Flat}
-use Rattle.bp_code.specs.StandsFor.{StandsFor}
 use Rattle.bp_code.specs.Writing.{AppendsAll}
 use Rattle.bp_machine.specs.declared.calls.Call.{Call}
 use Rattle.bp_machine.specs.declared.reports.Report.{Report}
 use Rattle.bp_machine.specs.declared.setups.SetupFault as setups
 use Rattle.bp_machine.specs.declared.setups.SetupFault.{SetupFault}
-use Rattle.bp_machine.specs.Setups.{SetupOf, setup_of, setup_fault, FitsCode}
+use Rattle.bp_machine.specs.Setups.{SetupOf, setup_of, setup_fault}
 use Rattle.bp_machine.specs.Histories.{IsLegal}
 use Rattle.bp_machine.specs.Reports.{IsReport}
 use Rattle.bp_trace.specs.Schedules.{schedule_text, lines_of_history}
@@ -100,15 +98,3 @@ module _ (io : Streams) where
   IsBundleRefusal fault.Memory =
       IsUnwritten × TookAtMost io.input_before io.input_after MAX_BUNDLE
   IsBundleRefusal f = IsWholeRefused f
-
--- the code stands for the lawful program of the text; no public clause names it
-pub record IsCodeOf (text : List ℕ) (c : Flat) : Type 0 where
-  pub program : Program
-  pub of : IsLawfulText text program
-  pub stands : StandsFor c program
-
--- the default setup of a program, which has no fault; no public clause names it
-pub record IsDefaultSetup (t : Program) (c : Flat) (s : SetupOf) : Type 0 where
-  pub is : s ≡ defaults (length t.globals)
-  pub fine : setup_fault t s ≡ None
-  pub fits : FitsCode c s

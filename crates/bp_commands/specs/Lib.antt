@@ -1,6 +1,7 @@
 pub mod BundleParts
 pub mod Bundles
 pub mod Checks
+pub mod DefaultSetups
 pub mod FaultLines
 pub mod Faults
 pub mod Inputs

@@ -4,7 +4,8 @@ ghost use Rattle.bp_tree.specs.Ast.{Program};
 ghost use Rattle.bp_code.specs.StandsFor.{StandsFor};
 ghost use Rattle.bp_commands.specs.declared.limits.TheConstants.{MAX_BUNDLE};
 ghost use Rattle.bp_commands.specs.Inputs.{Streams, TookAtMost};
-ghost use Rattle.bp_commands.specs.Bundles.{IsCodeOf, IsCodeRefusal, IsDefaultSetup, IsDefaultRefusal, IsPartsDriven, IsPartsRefusal, IsBundleDriven, IsBundleRefusal};
+ghost use Rattle.bp_commands.specs.DefaultSetups.{IsCodeOf, IsDefaultSetup};
+ghost use Rattle.bp_commands.specs.Bundles.{IsCodeRefusal, IsDefaultRefusal, IsPartsDriven, IsPartsRefusal, IsBundleDriven, IsBundleRefusal};
 
 use crate::bundle_faults::BundleFault;
 use crate::bundle_parts::parts;

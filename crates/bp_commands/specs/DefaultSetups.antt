@@ -1,0 +1,21 @@
+-- The code of a bundle's program and its default setup, as the command has them. No public clause
+-- names these.
+use Rattle.std.specs.Prelude.{◌≡◌, ℕ, List, None, length}
+use Rattle.bp_tree.specs.Ast.{Program}
+use Rattle.bp_code.specs.Flat.{Flat}
+use Rattle.bp_code.specs.StandsFor.{StandsFor}
+use Rattle.bp_machine.specs.Setups.{SetupOf, setup_fault, FitsCode}
+use Rattle.bp_commands.specs.Programs.{IsLawfulText}
+use Rattle.bp_commands.specs.Bundles.{defaults}
+
+-- the code stands for the lawful program of the text
+pub record IsCodeOf (text : List ℕ) (c : Flat) : Type 0 where
+  pub program : Program
+  pub of : IsLawfulText text program
+  pub stands : StandsFor c program
+
+-- the default setup of a program, which has no fault
+pub record IsDefaultSetup (t : Program) (c : Flat) (s : SetupOf) : Type 0 where
+  pub is : s ≡ defaults (length t.globals)
+  pub fine : setup_fault t s ≡ None
+  pub fits : FitsCode c s
