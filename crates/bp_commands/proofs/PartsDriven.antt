@@ -6,9 +6,9 @@ use Rattle.bp_machine.specs.Setups.{SetupOf, setup_fault}
 use Rattle.bp_trace.specs.Drives.{IsPlayed, IsRefusal}
 use Rattle.bp_trace.specs.declared.faults.DriveFault.{DriveFault}
 use Rattle.bp_commands.specs.Bundles.{IsPartsDriven, IsDriveRefused}
-use Rattle.bp_commands.specs.DefaultSetups.{IsCodeOf, IsDefaultSetup}
+use Rattle.bp_commands.specs.DefaultSetups.{IsProgramCode, IsDefaultSetup}
 
-module _ (text schedule : List ℕ) (old new : Option (List ℕ)) (c : Flat) (s : SetupOf) (code : IsCodeOf text c) (setup : IsDefaultSetup code.program c s) where
+module _ (text schedule : List ℕ) (old new : Option (List ℕ)) (c : Flat) (s : SetupOf) (code : IsProgramCode text c) (setup : IsDefaultSetup code.program c s) where
   pub parts_driven : (r : Report) → IsPlayed code.program s schedule old new r → IsPartsDriven text schedule old new r
   parts_driven r played =
       let kept = subst (λ x. IsPlayed code.program x schedule old new r) setup.is played in

@@ -9,7 +9,7 @@ use Rattle.bp_commands.specs.Programs.{IsLawfulText}
 use Rattle.bp_commands.specs.Bundles.{defaults}
 
 -- the code stands for the lawful program of the text
-pub record IsCodeOf (text : List ℕ) (c : Flat) : Type 0 where
+pub record IsProgramCode (text : List ℕ) (c : Flat) : Type 0 where
   pub program : Program
   pub of : IsLawfulText text program
   pub stands : StandsFor c program

@@ -4,7 +4,7 @@ ghost use Rattle.bp_tree.specs.Ast.{Program};
 ghost use Rattle.bp_code.specs.StandsFor.{StandsFor};
 ghost use Rattle.bp_commands.specs.declared.limits.TheConstants.{MAX_BUNDLE};
 ghost use Rattle.bp_commands.specs.Inputs.{Streams, TookAtMost};
-ghost use Rattle.bp_commands.specs.DefaultSetups.{IsCodeOf, IsDefaultSetup};
+ghost use Rattle.bp_commands.specs.DefaultSetups.{IsProgramCode, IsDefaultSetup};
 ghost use Rattle.bp_commands.specs.Bundles.{IsCodeRefusal, IsDefaultRefusal, IsPartsDriven, IsPartsRefusal, IsBundleDriven, IsBundleRefusal};
 
 use crate::bundle_faults::BundleFault;
@@ -20,7 +20,7 @@ use std::io::{Read, Write};
 
 /// The code of the lawful program of a text.
 fn code_of(alloc: Global, text: &[u8]) -> Result<Code, BundleFault>
-    ensures { MatchResult result (IsCodeOf text.now) (IsCodeRefusal text.now) }
+    ensures { MatchResult result (IsProgramCode text.now) (IsCodeRefusal text.now) }
 {
     let checked = lawful_program(alloc, text)?;
     Ok(compile(alloc, &checked)?)

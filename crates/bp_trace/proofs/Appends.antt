@@ -1,28 +1,14 @@
--- How the pieces of a text add up.
-use Rattle.std.proofs.Common.{◌≡◌, ℕ, ◌+◌, ◌<◌, List, [], ◌∷◌, ◌++◌, Option, length, take, drop, map, flat_map, get_or, ap, sym, ◌∙◌, subst, ◌≤◌, ◌⊎◌, inl, inr, None, Some, Result, Ok, Err, Bool}
+-- How the texts of a list's elements add up.
+use Rattle.std.proofs.Common.{◌≡◌, ℕ, ◌+◌, ◌<◌, List, [], ◌∷◌, ◌++◌, Option, length, take, drop, map, flat_map, get_or, ap, sym, ◌∙◌, subst, ◌≤◌, ◌⊎◌, inl, inr, None, Some, Bool}
 use Rattle.std.specs.Prelude.{slice_get}
 use Rattle.std.proofs.lemmas.Option.{slice_get_cases, slice_get_within, get_or_from_slice_get}
 use Rattle.std.proofs.lemmas.List.{append-nil, take_more, take_all}
 use Rattle.std.proofs.lemmas.List.Concat.{flat_map-append, flat_map_single}
-use Rattle.std.proofs.KnownBytes.{Appends-trans, Appends-nil}
+use Rattle.std.proofs.KnownBytes.{Appends-trans}
 use Rattle.std.specs.Io.KnownBytes.{Appends}
-use Rattle.bp_code.specs.Writing.{AppendsAll, AppendsPart, Writes}
+use Rattle.bp_code.specs.Writing.{AppendsAll, AppendsPart}
 use Rattle.bp_trace.specs.Schedules.{bit_digit}
 use Rattle.bp_code.proofs.AppendsPieces.{AppendsPart_within, flat_map_at}
-
-pub all_then : (a b c : Option (List ℕ)) (t u : List ℕ) → AppendsAll a b t → AppendsAll b c u → AppendsAll a c (t ++ u)
-all_then a b c t u p q = record { grown = Appends-trans a b c t u p.grown q.grown }
-
-pub part_first : (a b : Option (List ℕ)) (t u : List ℕ) → AppendsPart a b t → AppendsPart a b (t ++ u)
-part_first a b t u p = AppendsPart_within a a b [] t u (Appends-nil a) p
-
-pub part_then : (a b c : Option (List ℕ)) (t u : List ℕ) → AppendsAll a b t → AppendsPart b c u → AppendsPart a c (t ++ u)
-part_then a b c t u p q = subst (λ x. AppendsPart a c (t ++ x)) (append-nil u) (AppendsPart_within a b c t u [] p.grown q)
-
--- the last call of a chain
-pub writes_then : {T E : Type 0} (a b c : Option (List ℕ)) (t u : List ℕ) (r : Result T E) → AppendsAll a b t → Writes b c u r → Writes a c (t ++ u) r
-writes_then a b c t u (Ok x) p q = all_then a b c t u p q
-writes_then a b c t u (Err x) p q = part_then a b c t u p q
 
 -- past the last element there is none
 pub past_end : {X : Type 0} (xs : List X) (i : ℕ) → slice_get xs i ≡ None → length xs ≤ i
