@@ -90,8 +90,8 @@ module _ (io : Streams) where
   abbrev IsUnwritten : Type 0
   IsUnwritten = io.output_after ≡ io.output_before
 
-  -- Nothing is said of when a read fails. Where memory is refused, the bundle was not longer than its limit
-  -- as far as it was read.
+  -- Nothing is said of when a read fails. Where memory is refused, the bundle was not longer than
+  -- its limit as far as it was read.
   abbrev pub IsBundleRefusal : BundleFault → Type 0
   IsBundleRefusal fault.Device = IsUnwritten
   IsBundleRefusal fault.TooLong = IsUnwritten × IsTooLong MAX_BUNDLE io.input_before io.input_after

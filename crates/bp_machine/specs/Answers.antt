@@ -43,7 +43,8 @@ reply_of t fits c i bit =
 -- the reply r is the machine's, where the threads of the steps so far are these, and k contexts are
 -- allowed
 pub record Answers
-    (t : Program) (k : ℕ) (c : Configuration) (steps : List ℕ) (i : ℕ) (bit : Bool) (r : Reply) : Type 0 where
+    (t : Program) (k : ℕ) (c : Configuration) (steps : List ℕ) (i : ℕ) (bit : Bool) (r : Reply)
+    : Type 0 where
   pub fits : Bool
   pub decides : IsTrue fits ↔ IsWithin k (steps ++ i ∷ [])
   pub is : reply_of t fits c i bit ≡ Some r

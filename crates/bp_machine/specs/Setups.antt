@@ -76,8 +76,8 @@ abbrev pub IsSetupRefusal : Program → SetupOf → SetupFault → Type 0
 IsSetupRefusal t s Memory = setup_fault t s ≡ None
 IsSetupRefusal t s f = setup_fault t s ≡ Some f
 
--- the setup fits the program: each entry is a procedure of it without formals, and there is a bit for
--- each global
+-- the setup fits the program: each entry is a procedure of it without formals, and there is a bit
+-- for each global
 pub record Fits (t : Program) (s : SetupOf) : Type 0 where
   pub entries : entries_fault t 0 s.entries ≡ None
   pub init : length s.init ≡ length t.globals

@@ -123,7 +123,8 @@ is_over s guest = guest.ended || nat_le s.calls guest.calls
 
 -- what a call of thread i comes to, which is there and may make it
 pub record IsNextTransition
-    (code : List Instruction) (s : SetupOf) (x : State) (i : ℕ) (bit : Bool) (v : Transition) : Type 0 where
+    (code : List Instruction) (s : SetupOf) (x : State) (i : ℕ) (bit : Bool) (v : Transition)
+    : Type 0 where
   pub guest : GuestThreadOf
   pub has : slice_get x.threads i ≡ Some guest
   pub goes_on : is_over s guest ≡ false

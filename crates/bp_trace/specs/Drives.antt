@@ -72,7 +72,8 @@ module _ (t : Program) (s : SetupOf) (schedule : List ℕ) (old new : Option (Li
 
 -- the schedule drives the program to a history, which is written and reported
 pub record IsPlayed
-    (t : Program) (s : SetupOf) (schedule : List ℕ) (old new : Option (List ℕ)) (r : Report) : Type 0 where
+    (t : Program) (s : SetupOf) (schedule : List ℕ) (old new : Option (List ℕ)) (r : Report)
+    : Type 0 where
   pub history : List Call
   pub driven : IsDriven t s schedule history
   pub written : AppendsAll old new (trace_text s history)
