@@ -143,7 +143,7 @@ type Wanted = Result<&'static [u8], DriveFault>;
 
 /// Whether the schedule drives the code to what is wanted.
 fn comes_to(alloc: Global, code: &Code, setup: &Setup, schedule: &[u8], wanted: Wanted) -> bool
-    requires { Fits code.now setup.now }
+    requires { FitsCode code.now setup.now }
 {
     let mut out = Vec::new(alloc);
     match (drive(alloc, code, setup, schedule, &mut out), wanted) {
