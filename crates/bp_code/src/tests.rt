@@ -137,12 +137,18 @@ fn heads_a_procedure(rt: HostRuntime) -> Result<(), Fail> {
 }
 
 /// The program that calls itself once.
-const RECURSION: &[u8] =
-    b"decl g;\nmain() begin decl h; h := !g; A(g,h); skip; A(g,h); skip;\n  if (g) then R: skip; else skip; fi end\nA(a1,a2) begin if (a1) then A(a2,a1); else g := a2; fi end\n";
+const RECURSION: &[u8] = b"\
+    decl g;\n\
+    main() begin decl h; h := !g; A(g,h); skip; A(g,h); skip;\n  \
+    if (g) then R: skip; else skip; fi end\n\
+    A(a1,a2) begin if (a1) then A(a2,a1); else g := a2; fi end\n";
 
 /// Its listing.
-const LISTING_OF_RECURSION: &[u8] =
-    b"proc main 0 1\n0 assign 1\n1 call 9 2\n2 skip 3\n3 call 9 4\n4 skip 5\n5 if 6 7\n6 skip 8\n7 skip 8\n8 return\nproc A 2 0\n9 if 10 11\n10 call 9 12\n11 assign 12\n12 return\n";
+const LISTING_OF_RECURSION: &[u8] = b"\
+    proc main 0 1\n0 assign 1\n1 call 9 2\n2 skip 3\n\
+    3 call 9 4\n4 skip 5\n5 if 6 7\n6 skip 8\n7 skip 8\n\
+    8 return\nproc A 2 0\n9 if 10 11\n10 call 9 12\n\
+    11 assign 12\n12 return\n";
 
 fn listing_of(alloc: Global, text: &[u8]) -> Result<Vec<u8>, Fail> {
     let mut out = Vec::new(alloc);
@@ -166,8 +172,9 @@ fn lists_programs(rt: HostRuntime) -> Result<(), Fail> {
         alloc,
         b"{two words}(a) begin decl b, c; assert (a); assume (?); return; end f() begin skip; end",
     )?;
-    let lines =
-        b"proc {two words} 1 2\n0 assert 1\n1 assume 2\n2 return\n3 return\nproc f 0 0\n4 skip 5\n5 return\n";
+    let lines = b"\
+        proc {two words} 1 2\n0 assert 1\n1 assume 2\n2 return\n\
+        3 return\nproc f 0 0\n4 skip 5\n5 return\n";
     assert!(&rt; tests.as_slice() == lines.as_slice());
     let none = listing_of(alloc, b"decl x;")?;
     assert!(&rt; none.is_empty());

@@ -7,8 +7,11 @@ mod fault_lines;
 use std::io;
 use std::io::{ErrorKind, Read, Write};
 
-const RECURSIVE: &[u8] =
-    b"decl g;\nmain() begin decl h; h := !g; A(g,h); skip; A(g,h); skip;\n  if (g) then R: skip; else skip; fi end\nA(a1,a2) begin if (a1) then A(a2,a1); else g := a2; fi end";
+const RECURSIVE: &[u8] = b"\
+    decl g;\n\
+    main() begin decl h; h := !g; A(g,h); skip; A(g,h); skip;\n  \
+    if (g) then R: skip; else skip; fi end\n\
+    A(a1,a2) begin if (a1) then A(a2,a1); else g := a2; fi end";
 
 /// A writer that takes so many bytes, one at a time, and then fails.
 #[derive(Drop)]

@@ -40,7 +40,8 @@ pub record IsInOrder (x : SessionOf) : Type 0 where
   pub stands : ∥ ((t : Program) × (h : List Call) × StandsFor x.code t × Stands t x h) ∥₁
 
 -- the machine would grant the next step of thread i, which is a call
-pub record IsCallStep (t : Program) (s : SetupOf) (h : List Call) (i : ℕ) (bit : Bool) : Type 0 where
+pub record IsCallStep (t : Program) (s : SetupOf) (h : List Call) (i : ℕ) (bit : Bool)
+    : Type 0 where
   pub frame : Frame
   pub below : List Frame
   pub stack : stack_of (configuration_after t s h) i ≡ frame ∷ below

@@ -79,7 +79,9 @@ impl Model for Setup {
 
     ghost Value = { SetupOf };
 
-    ghost view = { λ s. setup_of (map string_bytes s.entries.items) s.init.items s.contexts s.calls s.seed };
+    ghost view = { λ s.
+        let names = map string_bytes s.entries.items in
+        setup_of names s.init.items s.contexts s.calls s.seed };
 
     ghost invariant = { λ s. IsInRange
         (setup_of (map string_bytes s.entries.items) s.init.items s.contexts s.calls s.seed) };

@@ -44,7 +44,7 @@ is_braced_rest (b ∷ c ∷ bs) = is_braced_byte b && is_braced_rest (c ∷ bs)
 abbrev pub constants : List (ℕ × TokenKind)
 constants = (48, kind.Zero) ∷ (49, kind.One) ∷ []
 
--- ; , ( ) : | & ^ = ! ?
+-- the tokens of one byte that are no digits
 abbrev pub symbols : List (ℕ × TokenKind)
 symbols =
     (59, kind.Semicolon) ∷ (44, kind.Comma) ∷ (40, kind.Open) ∷ (41, kind.Close)

@@ -15,8 +15,9 @@ const PROGRAM: &[u8] = b"decl x; main() begin x := 1; assert (x); end";
 
 const HEAD: &[u8] = b"btrace 1\nentry main\ninit 0\ncontexts 2\ncalls 1000\nseed none\n";
 
-const TRACE: &[u8] =
-    b"btrace 1\nentry main\ninit 0\ncontexts 2\ncalls 1000\nseed none\n0 0 s\n0 1 s\n0 0 s\n0 0 e\nend 4 0\n";
+const TRACE: &[u8] = b"\
+    btrace 1\nentry main\ninit 0\ncontexts 2\ncalls 1000\n\
+    seed none\n0 0 s\n0 1 s\n0 0 s\n0 0 e\nend 4 0\n";
 
 fn code_of(alloc: Global, text: &[u8]) -> Result<Code, Fail> {
     let Ok(checked) = check(alloc, read(alloc, text)?) else {

@@ -5,7 +5,8 @@ use Rattle.bp_tree.specs.Ast.{Name, Procedure}
 -- the first procedure with this name
 abbrev pub procedure_named : List Procedure → List ℕ → Option Procedure
 procedure_named [] text = None
-procedure_named (q ∷ qs) text = if bytes_eq q.name.text text then Some q else procedure_named qs text
+procedure_named (q ∷ qs) text =
+    if bytes_eq q.name.text text then Some q else procedure_named qs text
 
 -- the formals of a procedure and then its declared locals
 abbrev pub variables : Procedure → List Name

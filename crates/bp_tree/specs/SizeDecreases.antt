@@ -23,7 +23,9 @@ form_size_decreases (Call callee arguments) = omega arith
 
 statements_size_decreases : (items : List Stmt) → most deep-Stmt items ≤ depth (block_of items)
 statements_size_decreases [] = omega arith
-statements_size_decreases (s ∷ rest) = omega (arith, form_size_decreases s.form, statements_size_decreases rest)
+statements_size_decreases (s ∷ rest) =
+    omega (arith, form_size_decreases s.form, statements_size_decreases rest)
 
-pub block_size_decreases : (items : List Stmt) → max (most deep-Stmt items) 0 ≤ depth (block_of items)
+pub block_size_decreases :
+    (items : List Stmt) → max (most deep-Stmt items) 0 ≤ depth (block_of items)
 block_size_decreases items = omega (arith, statements_size_decreases items)

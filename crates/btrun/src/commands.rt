@@ -23,23 +23,34 @@ pub enum Task<'a> {
 }
 
 /// What `--help` says behind the commands.
-const NOTES: &str =
-    "Without a command standard input is a bundle: a program, a line '%', and a schedule of lines\n'THREAD BIT'. One thread begins with 'main', all globals are 0, and at most 2 contexts and\n1000 calls are allowed. The trace of the run is printed.\n\nExamples:\n  btrun < FILE\n  btrun check FILE\n  btrun code FILE\n\nExit status:\n  0  done, and no assertion failed\n  1  an assertion failed\n  2  the input or the words were refused\n  3  memory, a device or the output failed";
+const NOTES: &str = "\
+    Without a command standard input is a bundle: a program, a line '%', and a schedule of lines\n\
+    'THREAD BIT'. One thread begins with 'main', all globals are 0, and at most 2 contexts and\n\
+    1000 calls are allowed. The trace of the run is printed.\n\n\
+    Examples:\n  btrun < FILE\n  btrun check FILE\n  btrun code FILE\n\n\
+    Exit status:\n  0  done, and no assertion failed\n  1  an assertion failed\n  \
+    2  the input or the words were refused\n  3  memory, a device or the output failed";
 
 /// What `check` does.
 const CHECK_ABOUT: &str =
     "Checks a program and prints 'ok', its number of procedures and its number of globals";
 
 /// What `check --help` says behind the arguments.
-const CHECK_NOTES: &str =
-    "The first fault is one line on standard error, with the offset of its byte.\n\nExample:\n  btrun check lock.bp\n\nExit status:\n  0  the program is lawful\n  2  it is refused, or the words were\n  3  memory, a device or the output failed";
+const CHECK_NOTES: &str = "\
+    The first fault is one line on standard error, with the offset of its byte.\n\n\
+    Example:\n  btrun check lock.bp\n\nExit status:\n  0  the program is lawful\n  \
+    2  it is refused, or the words were\n  3  memory, a device or the output failed";
 
 /// What `code` does.
 const CODE_ABOUT: &str = "Prints the listing of a program's code";
 
 /// What `code --help` says behind the arguments.
-const CODE_NOTES: &str =
-    "A procedure has a line 'proc NAME FORMALS LOCALS', and behind it a line for each instruction,\nwith its number and those of its successors. The first fault is one line on standard error, with\nthe offset of its byte.\n\nExample:\n  btrun code lock.bp\n\nExit status:\n  0  the listing is printed\n  2  the program is refused, or the words were\n  3  memory, a device or the output failed";
+const CODE_NOTES: &str = "\
+    A procedure has a line 'proc NAME FORMALS LOCALS', and behind it a line for each instruction,\n\
+    with its number and those of its successors. The first fault is one line on standard error, with\n\
+    the offset of its byte.\n\nExample:\n  btrun code lock.bp\n\n\
+    Exit status:\n  0  the listing is printed\n  2  the program is refused, or the words were\n  \
+    3  memory, a device or the output failed";
 
 /// A command of this name and a file.
 fn file_command<'a>(
@@ -67,7 +78,8 @@ fn command<'a>(alloc: Global) -> Result<Command<'a>, AllocError>
     Command::new(alloc, "btrun")
         .version(VERSION)
         .about(
-            "Runs concurrent Boolean programs. Without a command it reads a bundle from standard input and prints its trace",
+            "Runs concurrent Boolean programs. \
+            Without a command it reads a bundle from standard input and prints its trace",
         )
         .after_help(NOTES)
         .subcommand(file_command(alloc, "check", CHECK_ABOUT, CHECK_NOTES)?)?

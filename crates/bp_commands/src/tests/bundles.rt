@@ -8,8 +8,9 @@ use std::test::Fail;
 
 const STORED: &[u8] = b"decl x;\nmain() begin x := 1; assert (x); end\n%\n0 0\n0 1\n0 0\n0 0\n";
 
-const STORED_TRACE: &[u8] =
-    b"btrace 1\nentry main\ninit 0\ncontexts 2\ncalls 1000\nseed none\n0 0 s\n0 1 s\n0 0 s\n0 0 e\nend 4 0\n";
+const STORED_TRACE: &[u8] = b"\
+    btrace 1\nentry main\ninit 0\ncontexts 2\ncalls 1000\n\
+    seed none\n0 0 s\n0 1 s\n0 0 s\n0 0 e\nend 4 0\n";
 
 /// What a bundle comes to: the number of its fault and the place, or none; and what was written.
 fn driven(alloc: Global, bundle: &[u8]) -> Result<(Option<(u32, Option<u32>)>, Vec<u8>), Fail> {
@@ -105,11 +106,13 @@ fn drives_jumps_and_calls(rt: HostRuntime) -> Result<(), Fail> {
     let alloc = rt.alloc();
     let six = b"\nseed none\n0 0 s\n0 0 s\n0 0 s\n0 0 s\n0 0 s\n0 0 e\nend 6 0\n";
     // After the body that was jumped into, the loop's test is made.
-    let jump =
-        b"decl x; main() begin goto m; while (x) do m: skip; od print (x); end\n%\n0 0\n0 0\n0 0\n0 0\n0 0\n0 0\n";
+    let jump = b"\
+        decl x; main() begin goto m; while (x) do m: skip; od print (x); end\n\
+        %\n0 0\n0 0\n0 0\n0 0\n0 0\n0 0\n";
     assert!(rt; ends_in(alloc, jump, six)?);
-    let call =
-        b"p(a, b) begin print (a, b); end main() begin decl a, b; a := 1; p(b, a); end\n%\n0 0\n0 0\n0 0\n0 0\n0 0\n0 0\n";
+    let call = b"\
+        p(a, b) begin print (a, b); end main() begin decl a, b; a := 1; p(b, a); end\n\
+        %\n0 0\n0 0\n0 0\n0 0\n0 0\n0 0\n";
     assert!(rt; ends_in(alloc, call, six)?);
     assert!(rt; ends_in(alloc, RECURSIVE, b"\nseed none\nend 0 1\n")?);
     Ok(())
@@ -127,8 +130,9 @@ fn drives_expressions_and_assumptions(rt: HostRuntime) -> Result<(), Fail> {
             b"\ninit 000\ncontexts 2\ncalls 1000\nseed none\n0 0 s\n0 0 s\n0 0 e\nend 3 0\n"
         )?
     );
-    let braces =
-        b"decl {p == q, r}; main() begin {p == q, r} := !{p == q, r}; print ({p == q, r}); end\n%\n0 0\n0 0\n0 0\n0 0\n";
+    let braces = b"\
+        decl {p == q, r}; main() begin {p == q, r} := !{p == q, r}; print ({p == q, r}); end\n\
+        %\n0 0\n0 0\n0 0\n0 0\n";
     assert!(rt; ends_in(alloc, braces, b"\n0 0 s\n0 0 s\n0 0 s\n0 0 e\nend 4 0\n")?);
     let granted = b"main() begin assume (1); end\n%\n0 0\n0 0\n0 0\n";
     assert!(rt; ends_in(alloc, granted, b"\n0 0 s\n0 0 s\n0 0 e\nend 3 0\n")?);

@@ -4,8 +4,11 @@ use crate::list_program;
 use std::alloc::Global;
 use std::test::Fail;
 
-const LISTING: &[u8] =
-    b"proc main 0 1\n0 assign 1\n1 call 9 2\n2 skip 3\n3 call 9 4\n4 skip 5\n5 if 6 7\n6 skip 8\n7 skip 8\n8 return\nproc A 2 0\n9 if 10 11\n10 call 9 12\n11 assign 12\n12 return\n";
+const LISTING: &[u8] = b"\
+    proc main 0 1\n0 assign 1\n1 call 9 2\n2 skip 3\n\
+    3 call 9 4\n4 skip 5\n5 if 6 7\n6 skip 8\n7 skip 8\n\
+    8 return\nproc A 2 0\n9 if 10 11\n10 call 9 12\n\
+    11 assign 12\n12 return\n";
 
 /// Whether this listing of the text's program is written.
 fn is_listed(alloc: Global, text: &[u8], listing: &[u8]) -> Result<bool, Fail> {

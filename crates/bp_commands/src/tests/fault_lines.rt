@@ -3,8 +3,10 @@ use crate::{exit_status, show_fault};
 use bp_machine::Reply;
 use std::test::Fail;
 
-const FAULT_LINES: &[u8] =
-    b"btrun: 44 Reply line 7 wanted s\nbtrun: 6 Syntax at 13\nbtrun: 32 UnknownEntry thread 0\nbtrun: 1 TooLong\nbtrun: 48 TooLong\nbtrun: 45 NoEnd\nbtrun: 54 Device\n";
+const FAULT_LINES: &[u8] = b"\
+    btrun: 44 Reply line 7 wanted s\nbtrun: 6 Syntax at 13\n\
+    btrun: 32 UnknownEntry thread 0\nbtrun: 1 TooLong\n\
+    btrun: 48 TooLong\nbtrun: 45 NoEnd\nbtrun: 54 Device\n";
 
 #[test]
 fn shows_faults(rt: HostRuntime) -> Result<(), Fail> {
