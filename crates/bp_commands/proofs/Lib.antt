@@ -1,3 +1,4 @@
+mod BufferRefused
 mod FirstSeparator
 mod InputRefused
 mod MappedErrors

@@ -1,7 +1,9 @@
+pub mod Buffered
 pub mod BundleParts
 pub mod Bundles
 pub mod Checks
 pub mod DefaultSetups
+pub mod Endings
 pub mod FaultLines
 pub mod Faults
 pub mod Inputs

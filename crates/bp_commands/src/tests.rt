@@ -2,7 +2,9 @@
 mod bundles;
 mod check;
 mod code;
+mod endings;
 mod fault_lines;
+mod messages;
 
 use std::io;
 use std::io::{ErrorKind, Read, Write};

@@ -1,0 +1,20 @@
+use Rattle.std.proofs.Common.{◌∙◌, ap}
+use Rattle.std.proofs.lemmas.Result.{err_from_is_err_and}
+use Rattle.bp_commands.specs.Checks.{check_line}
+use Rattle.bp_commands.proofs.BufferRefused.{held_alone, file_not_taken, file_not_written, file_unbuffered}
+use Rattle.bp_commands.proofs.buffered.check_buffered.Goals as goal
+
+pub returns-in_default-clause-answer : goal.returns-in_default-clause-answer
+returns-in_default-clause-answer g c = file_unbuffered check_line _ _
+
+pub returns-in_err-check_text-clause-answer : goal.returns-in_err-check_text-clause-answer
+returns-in_err-check_text-clause-answer g c =
+    let p = err_from_is_err_and c.from_residual.result c.from_residual.ensures.1 in
+    let held = held_alone _ _ c.in-Ok.ensures.empty ∙ ap g.W.Write.contents c.in-Ok.ensures.inner in
+    rw (p.1, p.2) (file_not_written _ _ _ check_line _ _ held c.in_err-check_text.field-0.0 c.in_err-check_text.ensures.answer)
+
+pub returns-in_err-hand_on-clause-answer : goal.returns-in_err-hand_on-clause-answer
+returns-in_err-hand_on-clause-answer g c =
+    let p = err_from_is_err_and c.from_residual-in_err-hand_on.result c.from_residual-in_err-hand_on.ensures.1 in
+    let held = held_alone _ _ c.in-Ok.ensures.empty ∙ ap g.W.Write.contents c.in-Ok.ensures.inner in
+    rw (p.1, p.2) (file_not_taken _ _ _ check_line _ _ held c.in_ok-check_text.ensures.answer)

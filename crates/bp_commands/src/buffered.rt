@@ -1,0 +1,105 @@
+//! The commands through a buffer in front of their output.
+ghost use Rattle.std.specs.Prelude.{◌+◌, IfOk, MatchResult};
+ghost use Rattle.std.specs.Io.Buffered.{writer_contents};
+ghost use Rattle.std.specs.Io.KnownBytes.{Keeps};
+ghost use Rattle.bp_syntax.specs.declared.limits.TheConstants.{TEXT_LIMIT};
+ghost use Rattle.bp_commands.specs.declared.limits.TheConstants.{MAX_BUNDLE};
+ghost use Rattle.bp_commands.specs.Inputs.{Streams, TookAtMost};
+ghost use Rattle.bp_commands.specs.Checks.{check_line};
+ghost use Rattle.bp_commands.specs.Listings.{listing_of};
+ghost use Rattle.bp_commands.specs.Buffered.{Ends, IsWrittenTo, IsNotWritten, IsDrivenTo, IsNotDriven};
+
+use crate::bundle::drive_bundle;
+use crate::bundle_faults::BundleFault;
+use crate::check::check_text;
+use crate::code::list_program;
+use crate::file_faults::FileFault;
+use bp_code::WriteFault;
+use bp_machine::Report;
+use bp_trace::DriveFault;
+use std::alloc::Global;
+use std::io::{BufWriter, Read, Write};
+
+/// Hands on what a buffer holds, and gives back the output behind it.
+fn hand_on<W: Write + Drop>(out: BufWriter<W>) -> Result<W, WriteFault>
+    ensures { IfOk result (λ o. Keeps (writer_contents W.contents out) (W.contents o)) }
+{
+    match out.into_inner() {
+        Ok(output) => Ok(output),
+        Err(_) => Err(WriteFault::Write),
+    }
+}
+
+/// Checks the program of an input as `check_text` does, and gives back the output, which has the
+/// line. Its pieces are gathered in a buffer, which is handed on at the end.
+pub fn check_buffered<R: Read, W: Write + Drop>(
+    alloc: Global,
+    input: &mut R,
+    output: W,
+) -> Result<W, FileFault>
+    ensures answer { let ends : Ends = record {
+      input_before = R.remaining input.old;
+      input_after = R.remaining input.new;
+      output_before = W.contents output;
+    } in
+        MatchResult result
+        (λ o. IsWrittenTo ends check_line (W.contents o))
+        (IsNotWritten ends check_line) }
+    ensures bound { TookAtMost (R.remaining input.old) (R.remaining input.new) (TEXT_LIMIT + 1) }
+{
+    let Ok(mut out) = BufWriter::new(alloc, output) else {
+        return Err(FileFault::Memory);
+    };
+    check_text(alloc, input, &mut out)?;
+    Ok(hand_on(out)?)
+}
+
+/// Lists the code of an input's program as `list_program` does, and gives back the output, which
+/// has the listing.
+pub fn list_buffered<R: Read, W: Write + Drop>(
+    alloc: Global,
+    input: &mut R,
+    output: W,
+) -> Result<W, FileFault>
+    ensures answer { let ends : Ends = record {
+      input_before = R.remaining input.old;
+      input_after = R.remaining input.new;
+      output_before = W.contents output;
+    } in
+        MatchResult result
+        (λ o. IsWrittenTo ends listing_of (W.contents o))
+        (IsNotWritten ends listing_of) }
+    ensures bound { TookAtMost (R.remaining input.old) (R.remaining input.new) (TEXT_LIMIT + 1) }
+{
+    let Ok(mut out) = BufWriter::new(alloc, output) else {
+        return Err(FileFault::Memory);
+    };
+    list_program(alloc, input, &mut out)?;
+    Ok(hand_on(out)?)
+}
+
+/// Drives a bundle as `drive_bundle` does, and gives back the output, which has the trace.
+pub fn drive_buffered<R: Read, W: Write + Drop>(
+    alloc: Global,
+    input: &mut R,
+    output: W,
+) -> Result<(Report, W), BundleFault>
+    ensures answer { let ends : Ends = record {
+      input_before = R.remaining input.old;
+      input_after = R.remaining input.new;
+      output_before = W.contents output;
+    } in
+        MatchResult result
+        (λ r. IsDrivenTo ends (W.contents r.1) r.0)
+        (IsNotDriven ends) }
+    ensures bound { TookAtMost (R.remaining input.old) (R.remaining input.new) (MAX_BUNDLE + 1) }
+{
+    let Ok(mut out) = BufWriter::new(alloc, output) else {
+        return Err(BundleFault::Memory);
+    };
+    let report = drive_bundle(alloc, input, &mut out)?;
+    match hand_on(out) {
+        Ok(output) => Ok((report, output)),
+        Err(_) => Err(BundleFault::Drive(DriveFault::Write)),
+    }
+}

@@ -1,0 +1,112 @@
+//! How a run ends: the line on standard error, and the exit status.
+ghost use Rattle.std.specs.Prelude.{◌≡◌, None, Some, false, MatchResult};
+ghost use Rattle.std.specs.IoError.{error_kind};
+ghost use Rattle.bp_commands.specs.FaultLines.{fault_line, IsReportable};
+ghost use Rattle.bp_commands.specs.Statuses.{status_of};
+ghost use Rattle.bp_commands.specs.Faults.{bundle_fault_number, file_fault_number};
+ghost use Rattle.bp_commands.specs.Endings.{outcome_status, bundle_fault_line, file_fault_line, opening_fault_of, words_fault_of, HasLine};
+
+use crate::bundle_faults::BundleFault;
+use crate::fault_lines::show_fault;
+use crate::file_faults::FileFault;
+use crate::statuses::exit_status;
+use bp_code::WriteFault;
+use bp_machine::{Outcome, Report};
+use std::io::{self, ErrorKind, Write};
+
+/// Why the words of the command line are not read.
+#[derive(Clone, Copy, Debug, PartialEq, Eq)]
+pub enum WordsFault {
+    /// A word is not UTF-8.
+    NotText,
+    /// There was not enough memory.
+    Memory,
+}
+
+/// Why a file is not opened.
+pub fn opening_fault(error: &io::Error) -> FileFault
+    ensures { result ≡ opening_fault_of (error_kind error.now) }
+{
+    match error.kind() {
+        ErrorKind::OutOfMemory => FileFault::Memory,
+        _ => FileFault::Device,
+    }
+}
+
+/// Why the words of the command line are not read.
+pub fn words_fault(error: &io::Error) -> WordsFault
+    ensures { result ≡ words_fault_of (error_kind error.now) }
+{
+    match error.kind() {
+        ErrorKind::OutOfMemory => WordsFault::Memory,
+        _ => WordsFault::NotText,
+    }
+}
+
+/// Writes the line of a fault, and answers the status of a run that it ended.
+fn refuse<E: Write>(number: u32, place: Option<u32>, errors: &mut E) -> u8
+    requires { IsReportable number place None }
+    ensures status { result ≡ status_of false (Some number) }
+    ensures line { HasLine (fault_line number place None) (E.contents errors.old) (E.contents errors.new) }
+{
+    // Where standard error fails, the status still reports the fault.
+    let _ = show_fault(number, place, None, errors);
+    exit_status(false, Some(number))
+}
+
+/// Ends a run for want of memory.
+pub fn refuse_memory<E: Write>(errors: &mut E) -> u8
+    ensures status { result ≡ 3 }
+    ensures line { HasLine (fault_line 7 None None) (E.contents errors.old) (E.contents errors.new) }
+{
+    refuse(7, None, errors)
+}
+
+/// Ends a run that drove a bundle, by what `drive_buffered` answered.
+pub fn end_bundle<W, E: Write>(done: &Result<(Report, W), BundleFault>, errors: &mut E) -> u8
+    ensures status { MatchResult done.now
+        (λ r. result ≡ outcome_status r.0.outcome)
+        (λ f. result ≡ status_of false (Some (bundle_fault_number f))) }
+    ensures line { MatchResult done.now
+        (λ _. E.contents errors.new ≡ E.contents errors.old)
+        (λ f. HasLine (bundle_fault_line f) (E.contents errors.old) (E.contents errors.new)) }
+{
+    match done {
+        Ok((report, _)) => exit_status(matches!(report.outcome, Outcome::Failed { .. }), None),
+        Err(fault) => {
+            fault.is_reportable();
+            refuse(fault.number(), fault.place(), errors)
+        }
+    }
+}
+
+/// Ends a run whose command read a file, by what `check_buffered` or `list_buffered` answered.
+pub fn end_file<W, E: Write>(done: &Result<W, FileFault>, errors: &mut E) -> u8
+    ensures status { MatchResult done.now
+        (λ _. result ≡ 0)
+        (λ f. result ≡ status_of false (Some (file_fault_number f))) }
+    ensures line { MatchResult done.now
+        (λ _. E.contents errors.new ≡ E.contents errors.old)
+        (λ f. HasLine (file_fault_line f) (E.contents errors.old) (E.contents errors.new)) }
+{
+    match done {
+        Ok(_) => exit_status(false, None),
+        Err(fault) => {
+            fault.is_reportable();
+            refuse(fault.number(), fault.place(), errors)
+        }
+    }
+}
+
+/// Ends a run that printed the help or the version, or could not.
+pub fn end_printed<E: Write>(printed: &io::Result<()>, errors: &mut E) -> u8
+    ensures status { MatchResult printed.now (λ _. result ≡ 0) (λ _. result ≡ 3) }
+    ensures line { MatchResult printed.now
+        (λ _. E.contents errors.new ≡ E.contents errors.old)
+        (λ _. HasLine (fault_line 51 None None) (E.contents errors.old) (E.contents errors.new)) }
+{
+    match printed {
+        Ok(()) => exit_status(false, None),
+        Err(_) => refuse(WriteFault::Write.number(), None, errors),
+    }
+}
