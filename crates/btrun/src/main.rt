@@ -4,7 +4,6 @@
 
 mod commands;
 mod runs;
-mod streams;
 #[cfg(test)]
 mod tests;
 

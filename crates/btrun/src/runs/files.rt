@@ -1,33 +1,38 @@
-//! What the runs share whose command names a file: how it is opened, and how the run ends.
+//! Runs of `check FILE` and `code FILE`.
+ghost use Rattle.std.specs.Prelude.{◌≡◌, ◌⊎◌, IfErr};
 
-use crate::streams::{finish, refuse, refuse_device, refuse_memory};
-use bp_commands::FileFault;
+use bp_commands::{FileFault, check_buffered, end_file, list_buffered, opening_fault};
 use std::fs::File;
-use std::io::{BufWriter, Stdout};
+use std::io::Stdout;
 
-/// The file, or the exit status where it cannot be opened.
-pub fn open(rt: &HostRuntime, path: &str) -> Result<File, u8> {
+/// The file of this path.
+fn open(rt: &HostRuntime, path: &str) -> Result<File, FileFault>
+    ensures { IfErr result (λ f. (f ≡ FileFault.Device) ⊎ (f ≡ FileFault.Memory)) }
+{
     match File::open(rt, path) {
         Ok(file) => Ok(file),
-        Err(fault) => Err(refuse_device(rt, &fault)),
+        Err(error) => Err(opening_fault(&error)),
     }
 }
 
-/// The buffer of the output, or the exit status where there is no memory for it.
-pub fn output(rt: &HostRuntime) -> Result<BufWriter<Stdout>, u8> {
-    match BufWriter::new(rt.alloc(), rt.stdout()) {
-        Ok(out) => Ok(out),
-        Err(_) => Err(refuse_memory(rt)),
-    }
+/// Checks the program of a file.
+fn checked(rt: &HostRuntime, path: &str) -> Result<Stdout, FileFault> {
+    let mut file = open(rt, path)?;
+    check_buffered(rt.alloc(), &mut file, rt.stdout())
 }
 
-/// Ends a run by what its command answered, and answers the exit status.
-pub fn end(rt: &HostRuntime, out: BufWriter<Stdout>, done: Result<(), FileFault>) -> u8 {
-    match done {
-        Ok(()) => finish(rt, out, false),
-        Err(fault) => {
-            fault.is_reportable();
-            refuse(rt, fault.number(), fault.place())
-        }
-    }
+/// Lists the code of the program of a file.
+fn listed(rt: &HostRuntime, path: &str) -> Result<Stdout, FileFault> {
+    let mut file = open(rt, path)?;
+    list_buffered(rt.alloc(), &mut file, rt.stdout())
+}
+
+/// Checks the program of a file, and answers the exit status.
+pub fn check_file(rt: &HostRuntime, path: &str) -> u8 {
+    end_file(&checked(rt, path), &mut rt.stderr())
+}
+
+/// Lists the code of the program of a file, and answers the exit status.
+pub fn list_file(rt: &HostRuntime, path: &str) -> u8 {
+    end_file(&listed(rt, path), &mut rt.stderr())
 }

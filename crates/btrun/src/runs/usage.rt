@@ -1,11 +1,9 @@
 //! A run whose words ask for help or the version, or for nothing that there is.
-ghost use Rattle.std.specs.Prelude.{◌≡◌, ◌⊎◌};
 ghost use Rattle.clap.specs.Words.{kind_of};
-ghost use Rattle.btrun.specs.Statuses.{IsWordsStatus};
+ghost use Rattle.btrun.specs.Statuses.{IsWordsStatus, IsUnreadStatus};
 
 use crate::commands::not_text;
-use crate::streams::{refuse_memory, refuse_write};
-use bp_commands::exit_status;
+use bp_commands::{WordsFault, end_printed, refuse_memory};
 use clap::Error;
 use clap::error::ErrorKind;
 
@@ -17,11 +15,10 @@ pub fn explain(rt: &HostRuntime, error: &Error) -> u8
     ensures { IsWordsStatus (kind_of error.now) result }
 {
     match error.kind() {
-        ErrorKind::OutOfMemory => refuse_memory(rt),
-        ErrorKind::DisplayHelp | ErrorKind::DisplayVersion => match error.print(rt) {
-            Ok(()) => exit_status(false, None),
-            Err(_) => refuse_write(rt),
-        },
+        ErrorKind::OutOfMemory => refuse_memory(&mut rt.stderr()),
+        ErrorKind::DisplayHelp | ErrorKind::DisplayVersion => {
+            end_printed(&error.print(rt), &mut rt.stderr())
+        }
         _ => {
             // Where standard error fails, the status still reports the fault.
             let _ = error.print(rt);
@@ -30,12 +27,15 @@ pub fn explain(rt: &HostRuntime, error: &Error) -> u8
     }
 }
 
-/// Refuses words that are not UTF-8.
-pub fn refuse_words(rt: &HostRuntime) -> u8
-    ensures { (result ≡ 2) ⊎ (result ≡ 3) }
+/// Refuses words that were not read.
+pub fn refuse_words(rt: &HostRuntime, fault: WordsFault) -> u8
+    ensures { IsUnreadStatus fault result }
 {
-    match not_text(rt.alloc()) {
-        Ok(error) => explain(rt, &error),
-        Err(_) => refuse_memory(rt),
+    match fault {
+        WordsFault::Memory => refuse_memory(&mut rt.stderr()),
+        WordsFault::NotText => match not_text(rt.alloc()) {
+            Ok(error) => explain(rt, &error),
+            Err(_) => refuse_memory(&mut rt.stderr()),
+        },
     }
 }
