@@ -1,16 +1,16 @@
 -- What a command refuses over an empty buffer is refused through it.
-use Rattle.std.proofs.Common.{◌≡◌, ap, arith, refl, subst, inl, inr, ℕ, List, Option, None, Some, []}
+use Rattle.std.proofs.Common.{◌≡◌, ◌∙◌, ap, arith, refl, subst, inl, inr, ℕ, List, Option, None, Some, []}
 use Rattle.std.proofs.lemmas.List.{append-nil}
-use Rattle.std.specs.Io.KnownBytes.{append_known, Consumes}
+use Rattle.std.specs.Io.KnownBytes.{append_known, Appends, Consumes, Keeps}
 use Rattle.bp_tree.specs.Ast.{Program as Tree}
 use Rattle.bp_syntax.specs.declared.limits.TheConstants.{TEXT_LIMIT}
 use Rattle.bp_commands.specs.declared.limits.TheConstants.{MAX_BUNDLE}
 use Rattle.bp_machine.specs.declared.reports.Report.{Report}
 use Rattle.bp_trace.specs.declared.faults.DriveFault.TheVariants as drive
 use Rattle.bp_commands.specs.Inputs.{Streams, TookAtMost}
-use Rattle.bp_commands.specs.ProgramInputs.{IsProgramWritten, IsFileRefusal}
+use Rattle.bp_commands.specs.ProgramInputs.{IsProgramInput, IsProgramWritten, IsFileRefusal}
 use Rattle.bp_commands.specs.Bundles.{IsBundleDriven, IsBundleRefusal}
-use Rattle.bp_commands.specs.Buffered.{Ends, IsNotWritten, IsNotDriven}
+use Rattle.bp_commands.specs.Buffered.{Ends, IsWrittenTo, IsNotWritten, IsNotDriven}
 use Rattle.bp_commands.specs.declared.file_faults.FileFault.{FileFault}
 use Rattle.bp_commands.specs.declared.file_faults.FileFault.TheVariants as file
 use Rattle.bp_commands.specs.declared.bundle_faults.BundleFault.{BundleFault}
@@ -27,6 +27,12 @@ consumes_nothing (Some bytes) = refl
 
 took_nothing : (had : Option (List ℕ)) (n : ℕ) → TookAtMost had had n
 took_nothing had n = record { bytes = []; taken = consumes_nothing had; short = omega arith }
+
+appends_kept : (a b c : Option (List ℕ)) (text : List ℕ) → Keeps b c → Appends a b text → Appends a c text
+appends_kept None b c text kept grown = tt
+appends_kept (Some xs) None c text kept grown = absurd grown
+appends_kept (Some xs) (Some ys) None text kept grown = absurd kept
+appends_kept (Some xs) (Some ys) (Some zs) text kept grown = kept ∙ grown
 
 module _ (had left old : Option (List ℕ)) where
   abbrev ends : Ends
@@ -56,6 +62,13 @@ module _ (had left old : Option (List ℕ)) where
     file_not_taken held after same written =
         let moved = subst (λ o. IsProgramWritten (from o after) text_of) same written in
         record { bytes = after; why = inr (refl, moved) }
+
+    -- what was handed on is what the buffer was given
+    pub file_handed_on : (held after taken : Option (List ℕ)) → held ≡ old → Keeps after taken → IsProgramWritten (from held after) text_of → IsWrittenTo ends text_of taken
+    file_handed_on held after taken same kept written =
+        let moved = subst (λ o. IsProgramWritten (from o after) text_of) same written in
+        let given : IsProgramInput (from old taken) moved.program = record { text = moved.given.text; whole = moved.given.whole; of = moved.given.of } in
+        record { program = moved.program; given = given; written = record { grown = appends_kept old after taken (text_of moved.program) kept moved.written.grown } }
 
 -- without memory for the buffer nothing is read and nothing written
 pub bundle_unbuffered : (had old : Option (List ℕ)) → IsNotDriven (record { input_before = had; input_after = had; output_before = old }) bundle.Memory

@@ -1,7 +1,7 @@
 use Rattle.std.proofs.Common.{◌∙◌, ap}
 use Rattle.std.proofs.lemmas.Result.{err_from_is_err_and}
 use Rattle.bp_commands.specs.Checks.{check_line}
-use Rattle.bp_commands.proofs.BufferRefused.{held_alone, file_not_taken, file_not_written, file_unbuffered}
+use Rattle.bp_commands.proofs.BufferRefused.{held_alone, file_handed_on, file_not_taken, file_not_written, file_unbuffered}
 use Rattle.bp_commands.proofs.buffered.check_buffered.Goals as goal
 
 pub returns-in_default-clause-answer : goal.returns-in_default-clause-answer
@@ -18,3 +18,8 @@ returns-in_err-hand_on-clause-answer g c =
     let p = err_from_is_err_and c.from_residual-in_err-hand_on.result c.from_residual-in_err-hand_on.ensures.1 in
     let held = held_alone _ _ c.in-Ok.ensures.empty ∙ ap g.W.Write.contents c.in-Ok.ensures.inner in
     rw (p.1, p.2) (file_not_taken _ _ _ check_line _ _ held c.in_ok-check_text.ensures.answer)
+
+pub returns-clause-answer : goal.returns-clause-answer
+returns-clause-answer g c =
+    let held = held_alone _ _ c.in-Ok.ensures.empty ∙ ap g.W.Write.contents c.in-Ok.ensures.inner in
+    file_handed_on _ _ _ check_line _ _ _ held c.in_ok-hand_on.ensures c.in_ok-check_text.ensures.answer
