@@ -47,7 +47,8 @@ pub fn words_fault(error: &io::Error) -> WordsFault
 fn refuse<E: Write>(number: u32, place: Option<u32>, errors: &mut E) -> u8
     requires { IsReportable number place None }
     ensures status { result ≡ status_of false (Some number) }
-    ensures line { HasLine (fault_line number place None) (E.contents errors.old) (E.contents errors.new) }
+    ensures line { let text = fault_line number place None in
+        HasLine text (E.contents errors.old) (E.contents errors.new) }
 {
     // Where standard error fails, the status still reports the fault.
     let _ = show_fault(number, place, None, errors);
@@ -57,7 +58,8 @@ fn refuse<E: Write>(number: u32, place: Option<u32>, errors: &mut E) -> u8
 /// Ends a run for want of memory.
 pub fn refuse_memory<E: Write>(errors: &mut E) -> u8
     ensures status { result ≡ 3 }
-    ensures line { HasLine (fault_line 7 None None) (E.contents errors.old) (E.contents errors.new) }
+    ensures line { let text = fault_line 7 None None in
+        HasLine text (E.contents errors.old) (E.contents errors.new) }
 {
     refuse(7, None, errors)
 }
