@@ -7,13 +7,22 @@ use crate::limits::TEXT_LIMIT;
 use crate::nesting::first_too_deep;
 use crate::tokens::{Token, TokenKind};
 use crate::{
-    Decider, Expr, Form, ReadFault, has_names_on_one_line, has_one_cut, has_one_refusal,
-    has_one_tree, read,
+    Decider, Expr, Form, Name, Proc, ReadFault, Stmt, Tree, has_names_on_one_line, has_one_cut,
+    has_one_refusal, has_one_tree, read,
 };
 use std::alloc::{AllocError, Global};
 use std::test::Fail;
 
 const SMALL: &[u8] = b"decl x, y; main() begin x, y := 1, x; assert (!y); end";
+
+fn is_name(name: &Name, text: &str, at: u32) -> bool {
+    name.text() == text && name.at() == at
+}
+
+fn declares_two_and_a_procedure(tree: &Tree) -> bool {
+    matches!(tree.globals(), [x, y] if is_name(x, "x", 5) && is_name(y, "y", 8))
+        && matches!(tree.procs(), [main] if is_name(main.name(), "main", 11))
+}
 
 #[test]
 fn reads_declarations_and_a_procedure(rt: HostRuntime) -> Result<(), Fail> {
@@ -22,14 +31,7 @@ fn reads_declarations_and_a_procedure(rt: HostRuntime) -> Result<(), Fail> {
     has_one_refusal();
     has_names_on_one_line();
     let tree = read(rt.alloc(), SMALL)?;
-    let globals = tree.globals();
-    assert_eq!(rt; globals.len(), 2);
-    assert_eq!(rt; globals[1].text(), "y");
-    assert_eq!(rt; globals[1].at(), 8);
-    let procs = tree.procs();
-    assert_eq!(rt; procs.len(), 1);
-    assert_eq!(rt; procs[0].name().text(), "main");
-    assert_eq!(rt; procs[0].name().at(), 11);
+    assert!(rt; declares_two_and_a_procedure(&tree));
     Ok(())
 }
 
@@ -50,17 +52,24 @@ fn is_assertion(form: &Form) -> bool {
     }
 }
 
+fn are_both(first: &Stmt, second: &Stmt) -> bool {
+    first.at() == 24
+        && is_assignment(first.form())
+        && second.at() == 38
+        && is_assertion(second.form())
+}
+
+fn has_both(procs: &[Proc]) -> bool {
+    match procs {
+        [main] => matches!(main.body(), [first, second] if are_both(first, second)),
+        _ => false,
+    }
+}
+
 #[test]
 fn reads_statements(rt: HostRuntime) -> Result<(), Fail> {
     let tree = read(rt.alloc(), SMALL)?.try_copy()?;
-    let procs = tree.procs();
-    assert_eq!(rt; procs.len(), 1);
-    let body = procs[0].body();
-    assert_eq!(rt; body.len(), 2);
-    assert_eq!(rt; body[0].at(), 24);
-    assert!(rt; is_assignment(body[0].form()));
-    assert_eq!(rt; body[1].at(), 38);
-    assert!(rt; is_assertion(body[1].form()));
+    assert!(rt; has_both(tree.procs()));
     Ok(())
 }
 
@@ -134,17 +143,24 @@ fn leaves_comments_out(rt: HostRuntime) -> Result<(), Fail> {
     Ok(())
 }
 
+// Whether the names are spelled like these.
+fn are_spelled(names: &[Name], texts: &[&str]) -> bool {
+    names.len() == texts.len()
+        && names
+            .iter()
+            .zip(texts)
+            .all(|(name, text)| name.text() == *text)
+}
+
+fn is_fourth_at(names: &[Name], at: u32) -> bool {
+    matches!(names, [_, _, _, fourth, _] if fourth.at() == at)
+}
+
 #[test]
 fn takes_braces_as_part_of_a_name(rt: HostRuntime) -> Result<(), Fail> {
     let tree = read(rt.alloc(), b"decl {}, {a{b}, {a//b}, {if }, a;")?;
-    let globals = tree.globals();
-    assert_eq!(rt; globals.len(), 5);
-    assert_eq!(rt; globals[0].text(), "{}");
-    assert_eq!(rt; globals[1].text(), "{a{b}");
-    assert_eq!(rt; globals[2].text(), "{a//b}");
-    assert_eq!(rt; globals[3].text(), "{if }");
-    assert_eq!(rt; globals[3].at(), 24);
-    assert_eq!(rt; globals[4].text(), "a");
+    let texts = ["{}", "{a{b}", "{a//b}", "{if }", "a"];
+    assert!(rt; are_spelled(tree.globals(), &texts) && is_fourth_at(tree.globals(), 24));
     Ok(())
 }
 
@@ -294,36 +310,87 @@ fn numbers_faults(rt: HostRuntime) -> Result<(), Fail> {
     Ok(())
 }
 
+fn is_empty(tree: &Tree) -> bool {
+    tree.globals().is_empty() && tree.procs().is_empty()
+}
+
+#[test]
+fn reads_the_empty_text(rt: HostRuntime) -> Result<(), Fail> {
+    let tree = read(rt.alloc(), b"")?;
+    assert!(rt; is_empty(&tree));
+    Ok(())
+}
+
+// So many spaces.
+fn spaces(alloc: Global, count: usize) -> Result<Vec<u8>, AllocError> {
+    vec![in alloc; b' '; count]
+}
+
 #[test]
 fn keeps_the_limit_of_bytes(rt: HostRuntime) -> Result<(), Fail> {
     let alloc = rt.alloc();
-    let empty = read(alloc, b"")?;
-    assert_eq!(rt; empty.globals().len(), 0);
-    assert_eq!(rt; empty.procs().len(), 0);
-    let mut text = vec![in alloc; b' '; 65_536]?;
-    assert!(rt; read(alloc, text.as_slice()).is_ok());
-    text.push(b' ')?;
-    assert_eq!(rt;
-        read(alloc, text.as_slice()).err(),
-        Some(ReadFault::TooLong)
-    );
+    assert!(rt; read(alloc, spaces(alloc, 65_536)?.as_slice()).is_ok());
+    let past = spaces(alloc, 65_537)?;
+    assert!(rt; is_refused(alloc, past.as_slice(), ReadFault::TooLong));
     Ok(())
+}
+
+// An assignment of a negation of a constant, so many times negated.
+fn negations(alloc: Global, count: u32) -> Result<Vec<u8>, AllocError> {
+    let mut text = repeated(alloc, b"decl x; main() begin x := ", b"!", count)?;
+    text.extend_from_slice(b"0; end")?;
+    Ok(text)
 }
 
 #[test]
 fn keeps_the_limit_of_succession(rt: HostRuntime) -> Result<(), Fail> {
     let alloc = rt.alloc();
-    let mut few = Vec::new(alloc);
-    few.extend_from_slice(b"decl x; main() begin x := ")?;
-    let mut many = few.clone()?;
-    // With the name and the sign before them, 1,024 tokens, and one more.
-    few.extend_from_slice(vec![in alloc; b'!'; 1_021]?.as_slice())?;
-    few.extend_from_slice(b"0; end")?;
-    assert!(rt; read(alloc, few.as_slice()).is_ok());
-    many.extend_from_slice(vec![in alloc; b'!'; 1_100]?.as_slice())?;
-    assert_eq!(rt;
-        read(alloc, many.as_slice()).err(),
-        Some(ReadFault::TooManyTokens(1_048))
-    );
+    // With the name and the sign before them, 1,024 tokens, and more.
+    assert!(rt; read(alloc, negations(alloc, 1_021)?.as_slice()).is_ok());
+    let past = negations(alloc, 1_100)?;
+    assert!(rt; is_refused(alloc, past.as_slice(), ReadFault::TooManyTokens(1_048)));
+    Ok(())
+}
+
+// A declaration of a name of so many bytes.
+fn long_name(alloc: Global, count: u32) -> Result<Vec<u8>, AllocError> {
+    let mut text = repeated(alloc, b"decl ", b"a", count)?;
+    text.push(b';')?;
+    Ok(text)
+}
+
+fn declares_one_of(tree: &Tree, count: usize) -> bool {
+    match tree.globals() {
+        [name] => name.text().len() == count && name.text().bytes().all(|b| b == b'a'),
+        _ => false,
+    }
+}
+
+#[test]
+fn reads_and_copies_a_long_name(rt: HostRuntime) -> Result<(), Fail> {
+    let alloc = rt.alloc();
+    let tree = read(alloc, long_name(alloc, 300)?.as_slice())?.try_copy()?;
+    assert!(rt; declares_one_of(&tree, 300));
+    Ok(())
+}
+
+// Whether the fault is shown in these words.
+fn is_shown(alloc: Global, fault: ReadFault, words: &str) -> Result<bool, AllocError> {
+    Ok(format!(in alloc; "{fault}")?.as_str() == words)
+}
+
+#[test]
+fn shows_faults(rt: HostRuntime) -> Result<(), Fail> {
+    for (fault, words) in [
+        (ReadFault::TooLong, "the text is too long"),
+        (ReadFault::BadByte(18), "bad byte at 18"),
+        (ReadFault::OpenName(5), "open name at 5"),
+        (ReadFault::TooNested(845), "too nested at 845"),
+        (ReadFault::TooManyTokens(2_070), "too many tokens at 2070"),
+        (ReadFault::Syntax(0), "syntax at 0"),
+        (ReadFault::Memory, "out of memory"),
+    ] {
+        assert!(rt; is_shown(rt.alloc(), fault, words)?);
+    }
     Ok(())
 }

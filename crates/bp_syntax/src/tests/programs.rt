@@ -1,6 +1,7 @@
 //! Programs of the whole language, with their trees and their faults.
-use crate::{Expr, Form, Op, ReadFault, Stmt, Tree, read};
-use std::alloc::Global;
+use super::{nested_loops, repeated};
+use crate::{Expr, Form, Op, Proc, ReadFault, Stmt, Tree, read};
+use std::alloc::{AllocError, Global};
 use std::test::Fail;
 
 fn body(tree: &Tree) -> &[Stmt] {
@@ -39,58 +40,76 @@ fn operands(expr: &Expr, wanted: Op) -> Option<(&Expr, &Expr)> {
     }
 }
 
-fn implies_to_the_right(expr: &Expr) -> Option<bool> {
-    let (a, rest) = operands(expr, Op::Implies)?;
+// Whether the expressions are the names `a`, `b` and `c`.
+fn are_names(a: &Expr, b: &Expr, c: &Expr) -> bool {
+    is_name(a, "a") && is_name(b, "b") && is_name(c, "c")
+}
+
+fn implies_to_the_right(tree: &Tree) -> Option<bool> {
+    let (a, rest) = operands(first_value(tree)?, Op::Implies)?;
     let (b, c) = operands(rest, Op::Implies)?;
-    Some(is_name(a, "a") && is_name(b, "b") && is_name(c, "c"))
+    Some(are_names(a, b, c))
 }
 
-fn equals_to_the_left(expr: &Expr) -> Option<bool> {
-    let (both, c) = operands(expr, Op::Differ)?;
+#[test]
+fn binds_implications(rt: HostRuntime) -> Result<(), Fail> {
+    let tree = read(rt.alloc(), b"main() begin x := a => b => c; end")?;
+    assert!(rt; implies_to_the_right(&tree) == Some(true));
+    Ok(())
+}
+
+fn equals_to_the_left(tree: &Tree) -> Option<bool> {
+    let (both, c) = operands(first_value(tree)?, Op::Differ)?;
     let (a, b) = operands(both, Op::Equal)?;
-    Some(is_name(a, "a") && is_name(b, "b") && is_name(c, "c"))
+    Some(are_names(a, b, c))
 }
 
-fn negates_the_left(expr: &Expr) -> Option<bool> {
-    let (left, b) = operands(expr, Op::Equal)?;
+#[test]
+fn binds_equalities(rt: HostRuntime) -> Result<(), Fail> {
+    let tree = read(rt.alloc(), b"main() begin x := a = b != c; end")?;
+    assert!(rt; equals_to_the_left(&tree) == Some(true));
+    Ok(())
+}
+
+fn negates_the_left(tree: &Tree) -> Option<bool> {
+    let (left, b) = operands(first_value(tree)?, Op::Equal)?;
     match left {
         Expr::Not(a) => Some(is_name(a.get(), "a") && is_name(b, "b")),
         _ => None,
     }
 }
 
-fn binds_and_before_xor_before_or(expr: &Expr) -> Option<bool> {
-    let (a, rest) = operands(expr, Op::Or)?;
-    let (both, d) = operands(rest, Op::Xor)?;
-    let (b, c) = operands(both, Op::And)?;
-    Some(is_name(a, "a") && is_name(b, "b") && is_name(c, "c") && is_name(d, "d"))
+#[test]
+fn binds_a_negation(rt: HostRuntime) -> Result<(), Fail> {
+    let tree = read(rt.alloc(), b"main() begin x := !a = b; end")?;
+    assert!(rt; negates_the_left(&tree) == Some(true));
+    Ok(())
 }
 
-fn brackets_bind(expr: &Expr) -> Option<bool> {
-    let (both, c) = operands(expr, Op::Implies)?;
-    let (a, b) = operands(both, Op::Implies)?;
-    Some(is_name(a, "a") && is_name(b, "b") && is_name(c, "c"))
+fn binds_and_before_xor_before_or(tree: &Tree) -> Option<bool> {
+    let (a, rest) = operands(first_value(tree)?, Op::Or)?;
+    let (both, d) = operands(rest, Op::Xor)?;
+    let (b, c) = operands(both, Op::And)?;
+    Some(are_names(a, b, c) && is_name(d, "d"))
 }
 
 #[test]
 fn binds_operators(rt: HostRuntime) -> Result<(), Fail> {
-    let alloc = rt.alloc();
-    let right = read(alloc, b"main() begin x := a => b => c; end")?;
-    assert_eq!(rt;
-        first_value(&right).and_then(implies_to_the_right),
-        Some(true)
-    );
-    let left = read(alloc, b"main() begin x := a = b != c; end")?;
-    assert_eq!(rt; first_value(&left).and_then(equals_to_the_left), Some(true));
-    let not = read(alloc, b"main() begin x := !a = b; end")?;
-    assert_eq!(rt; first_value(&not).and_then(negates_the_left), Some(true));
-    let strong = read(alloc, b"main() begin x := a | b & c ^ d; end")?;
-    assert_eq!(rt;
-        first_value(&strong).and_then(binds_and_before_xor_before_or),
-        Some(true)
-    );
-    let brackets = read(alloc, b"main() begin x := (a => b) => c; end")?;
-    assert_eq!(rt; first_value(&brackets).and_then(brackets_bind), Some(true));
+    let tree = read(rt.alloc(), b"main() begin x := a | b & c ^ d; end")?;
+    assert!(rt; binds_and_before_xor_before_or(&tree) == Some(true));
+    Ok(())
+}
+
+fn implies_in_brackets(tree: &Tree) -> Option<bool> {
+    let (both, c) = operands(first_value(tree)?, Op::Implies)?;
+    let (a, b) = operands(both, Op::Implies)?;
+    Some(are_names(a, b, c))
+}
+
+#[test]
+fn binds_brackets(rt: HostRuntime) -> Result<(), Fail> {
+    let tree = read(rt.alloc(), b"main() begin x := (a => b) => c; end")?;
+    assert!(rt; implies_in_brackets(&tree) == Some(true));
     Ok(())
 }
 
@@ -100,6 +119,37 @@ main() begin decl h; h := !g; A(g,h); skip; A(g,h); skip;
   if (g) then R: skip; else skip; fi end
 A(a1,a2) begin if (a1) then A(a2,a1); else g := a2; fi end";
 
+// Whether the statement is a branch: one labelled statement at this place, or one without a label.
+fn is_labelled_branch(stmt: &Stmt, at: u32) -> bool {
+    match stmt.form() {
+        Form::If(_, yes, no) => {
+            matches!(yes.as_slice(), [one] if one.label().is_some() && one.at() == at)
+                && matches!(no.as_slice(), [one] if one.label().is_none())
+        }
+        _ => false,
+    }
+}
+
+fn calls(stmt: &Stmt, text: &str) -> bool {
+    matches!(stmt.form(), Form::Call(callee, _) if callee.text() == text)
+}
+
+// Whether the procedure is the first of the recursive program.
+fn is_recursive_main(proc: &Proc) -> bool {
+    proc.locals().len() == 1
+        && matches!(
+            proc.body(),
+            [_, call, _, _, _, branch] if calls(call, "A") && is_labelled_branch(branch, 83)
+        )
+}
+
+fn is_recursive(tree: &Tree) -> bool {
+    match tree.procs() {
+        [main, a] => is_recursive_main(main) && a.name().at() == 107 && a.formals().len() == 2,
+        _ => false,
+    }
+}
+
 #[test]
 fn reads_procedures_and_labels(rt: HostRuntime) -> Result<(), Fail> {
     let tree = read(rt.alloc(), RECURSIVE)?;
@@ -107,24 +157,7 @@ fn reads_procedures_and_labels(rt: HostRuntime) -> Result<(), Fail> {
     tree.has_short_names();
     tree.has_spelled_names();
     tree.is_of_a_text();
-    let procs = tree.procs();
-    assert_eq!(rt; procs.len(), 2);
-    assert_eq!(rt; procs[0].locals().len(), 1);
-    assert_eq!(rt; procs[1].name().at(), 107);
-    assert_eq!(rt; procs[1].formals().len(), 2);
-    let stmts = procs[0].body();
-    assert_eq!(rt; stmts.len(), 6);
-    assert!(rt; matches!(stmts[1].form(), Form::Call(callee, _) if callee.text() == "A"));
-    let Form::If(_, yes, no) = stmts[5].form() else {
-        assert!(rt; false);
-        return Ok(());
-    };
-    let (yes, no) = (yes.as_slice(), no.as_slice());
-    assert_eq!(rt; yes.len(), 1);
-    assert!(rt; yes[0].label().is_some());
-    assert_eq!(rt; yes[0].at(), 83);
-    assert_eq!(rt; no.len(), 1);
-    assert!(rt; no[0].label().is_none());
+    assert!(rt; is_recursive(&tree));
     Ok(())
 }
 
@@ -146,21 +179,47 @@ fn refuses_a_cut_program(rt: HostRuntime) -> Result<(), Fail> {
     Ok(())
 }
 
+fn goes_to(stmt: &Stmt, text: &str) -> bool {
+    matches!(stmt.form(), Form::Goto(to) if to.text() == text)
+}
+
+fn loops_over_one(stmt: &Stmt) -> bool {
+    matches!(stmt.form(), Form::While(_, body) if body.as_slice().len() == 1)
+}
+
+fn assumes_at(stmt: &Stmt, at: u32) -> bool {
+    stmt.at() == at && matches!(stmt.form(), Form::Assume(_))
+}
+
+fn prints_two(stmt: &Stmt) -> bool {
+    matches!(stmt.form(), Form::Print(values) if values.as_slice().len() == 2)
+}
+
+fn calls_with_nothing(stmt: &Stmt) -> bool {
+    matches!(stmt.form(), Form::Call(_, none) if none.as_slice().is_empty())
+}
+
+// Whether the statements are a jump, a loop, an assumption, a print and a call.
+fn are_those(stmts: &[Stmt]) -> bool {
+    match stmts {
+        [jump, repetition, assumption, print, call] => {
+            goes_to(jump, "l")
+                && loops_over_one(repetition)
+                && assumes_at(assumption, 45)
+                && prints_two(print)
+                && calls_with_nothing(call)
+        }
+        _ => false,
+    }
+}
+
 #[test]
 fn reads_all_statements(rt: HostRuntime) -> Result<(), Fail> {
-    let alloc = rt.alloc();
     let tree = read(
-        alloc,
+        rt.alloc(),
         b"p() begin goto l; while (?) do return; od l: assume (0); print (1, a); p(); end",
     )?;
-    let stmts = body(&tree);
-    assert_eq!(rt; stmts.len(), 5);
-    assert!(rt; matches!(stmts[0].form(), Form::Goto(to) if to.text() == "l"));
-    assert!(rt; matches!(stmts[1].form(), Form::While(_, body) if body.as_slice().len() == 1));
-    assert!(rt; matches!(stmts[2].form(), Form::Assume(_)));
-    assert_eq!(rt; stmts[2].at(), 45);
-    assert!(rt; matches!(stmts[3].form(), Form::Print(values) if values.as_slice().len() == 2));
-    assert!(rt; matches!(stmts[4].form(), Form::Call(_, none) if none.as_slice().is_empty()));
+    assert!(rt; are_those(body(&tree)));
     Ok(())
 }
 
@@ -170,39 +229,20 @@ fn reads_what_once_had_no_rule(rt: HostRuntime) -> Result<(), Fail> {
     Ok(())
 }
 
-// Loops in one another around a `skip`.
-fn nested(alloc: Global, depth: u32) -> Result<Vec<u8>, Fail> {
-    let mut text = Vec::new(alloc);
-    text.extend_from_slice(b"main() begin ")?;
-    for _ in 0..depth {
-        text.extend_from_slice(b"while (0) do ")?;
-    }
-    text.extend_from_slice(b"skip;")?;
-    for _ in 0..depth {
-        text.extend_from_slice(b" od")?;
-    }
-    text.extend_from_slice(b" end")?;
-    Ok(text)
-}
-
 #[test]
 fn nests_to_the_limit(rt: HostRuntime) -> Result<(), Fail> {
     let alloc = rt.alloc();
-    assert!(rt; read(alloc, nested(alloc, 64)?.as_slice()).is_ok());
+    assert!(rt; read(alloc, nested_loops(alloc, 64)?.as_slice()).is_ok());
     assert_eq!(rt;
-        read(alloc, nested(alloc, 65)?.as_slice()).err(),
+        read(alloc, nested_loops(alloc, 65)?.as_slice()).err(),
         Some(ReadFault::TooNested(845))
     );
     Ok(())
 }
 
 // An assignment of a disjunction.
-fn long(alloc: Global, more: u32) -> Result<Vec<u8>, Fail> {
-    let mut text = Vec::new(alloc);
-    text.extend_from_slice(b"decl x; main() begin x := 0")?;
-    for _ in 0..more {
-        text.extend_from_slice(b" | 0")?;
-    }
+fn long(alloc: Global, more: u32) -> Result<Vec<u8>, AllocError> {
+    let mut text = repeated(alloc, b"decl x; main() begin x := 0", b" | 0", more)?;
     text.extend_from_slice(b"; end")?;
     Ok(text)
 }
@@ -218,35 +258,24 @@ fn reads_a_long_expression(rt: HostRuntime) -> Result<(), Fail> {
     Ok(())
 }
 
+fn declares_a_braced_name(tree: &Tree) -> bool {
+    matches!(tree.globals(), [name] if name.text() == "{p == q, r}") && body(tree).len() == 2
+}
+
 #[test]
 fn reads_braced_names(rt: HostRuntime) -> Result<(), Fail> {
-    let alloc = rt.alloc();
     let tree = read(
-        alloc,
+        rt.alloc(),
         b"decl {p == q, r}; main() begin {p == q, r} := !{p == q, r}; print ({p == q, r}); end",
     )?;
-    let globals = tree.globals();
-    assert_eq!(rt; globals.len(), 1);
-    assert_eq!(rt; globals[0].text(), "{p == q, r}");
-    assert_eq!(rt; body(&tree).len(), 2);
-    assert_eq!(rt;
-        read(alloc, b"decl {p; main() begin skip; end").err(),
-        Some(ReadFault::OpenName(5))
-    );
+    assert!(rt; declares_a_braced_name(&tree));
     Ok(())
 }
 
 // An assignment of brackets around a constant.
-fn bracketed(alloc: Global, depth: u32) -> Result<Vec<u8>, Fail> {
-    let mut text = Vec::new(alloc);
-    text.extend_from_slice(b"decl x; main() begin x := ")?;
-    for _ in 0..depth {
-        text.push(b'(')?;
-    }
-    text.push(b'0')?;
-    for _ in 0..depth {
-        text.push(b')')?;
-    }
+fn bracketed(alloc: Global, depth: u32) -> Result<Vec<u8>, AllocError> {
+    let mut text = repeated(alloc, b"decl x; main() begin x := ", b"(", depth)?;
+    text.extend_from_slice(repeated(alloc, b"0", b")", depth)?.as_slice())?;
     text.extend_from_slice(b"; end")?;
     Ok(text)
 }
