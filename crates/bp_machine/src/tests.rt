@@ -1,6 +1,7 @@
 //! Setups and sessions of small programs.
+mod examples;
 
-use crate::{AskFault, Reply, Session, Setup, SetupFault};
+use crate::{AskFault, Session, Setup, SetupFault};
 use bp_check::check;
 use bp_code::{Code, compile};
 use bp_syntax::read;
@@ -14,40 +15,28 @@ fn code_of(alloc: Global, text: &[u8]) -> Result<Code, Fail> {
     Ok(compile(alloc, &checked)?)
 }
 
-fn setup_with(
-    alloc: Global,
-    code: &Code,
-    entry: &str,
-    init: &[bool],
-    contexts: u32,
-    calls: u32,
-) -> Result<Result<Setup, SetupFault>, Fail> {
-    let entries = vec![in alloc; String::from_str(alloc, entry)?]?;
-    Ok(Setup::new(alloc, code, &entries, init, contexts, calls, None))
+const ASSIGNMENT: &[u8] = b"decl x; main() begin x := 1; assert (x); end";
+
+/// Whether the setup has one thread, which begins with `main`.
+fn has_main_alone(setup: &Setup) -> bool {
+    setup.threads() == 1
+        && matches!(setup.entry(0), Some(name) if name == "main")
+        && setup.entry(1).is_none()
+}
+
+/// Whether the setup has an initial 1, a context and ten calls.
+fn has_its_numbers(setup: &Setup) -> bool {
+    matches!((setup.init(0), setup.init(1)), (Some(true), None))
+        && (setup.contexts(), setup.calls()) == (1, 10)
+        && setup.seed().is_none()
 }
 
 #[test]
 fn takes_setups_that_fit(rt: HostRuntime) -> Result<(), Fail> {
     let alloc = rt.alloc();
-    let code = code_of(alloc, b"decl x; main() begin x := 1; assert (x); end")?;
-    let none = Setup::new(alloc, &code, &[], &[true], 1, 10, None);
-    assert!(rt; matches!(none, Err(SetupFault::Threads)));
-    let unknown = setup_with(alloc, &code, "nain", &[true], 1, 10)?;
-    assert!(rt; matches!(unknown, Err(SetupFault::UnknownEntry(0))));
-    let init = setup_with(alloc, &code, "main", &[true, true], 1, 10)?;
-    assert!(rt; matches!(init, Err(SetupFault::InitLength)));
-    let contexts = setup_with(alloc, &code, "main", &[true], 1001, 10)?;
-    assert!(rt; matches!(contexts, Err(SetupFault::OutOfRange)));
-    let setup = setup_with(alloc, &code, "main", &[true], 1, 10)??;
-    assert_eq!(rt; setup.threads(), 1);
-    assert_eq!(rt; setup.entry(0), Some("main"));
-    assert_eq!(rt; setup.entry(1), None);
-    assert_eq!(rt; setup.init(0), Some(true));
-    assert_eq!(rt; setup.init(1), None);
-    assert_eq!(rt; setup.contexts(), 1);
-    assert_eq!(rt; setup.calls(), 10);
-    assert_eq!(rt; setup.seed(), None);
-    assert_eq!(rt; SetupFault::UnknownEntry(1).number(), 32);
+    let code = code_of(alloc, ASSIGNMENT)?;
+    let setup = Setup::new(alloc, &code, &mains(alloc, 1)?, &[true], 1, 10, None)?;
+    assert!(rt; has_main_alone(&setup) && has_its_numbers(&setup));
     Ok(())
 }
 
@@ -78,7 +67,7 @@ fn refusal(
 #[test]
 fn refuses_setups_past_their_limits(rt: HostRuntime) -> Result<(), Fail> {
     let alloc = rt.alloc();
-    let code = code_of(alloc, b"decl x; main() begin x := 1; assert (x); end")?;
+    let code = code_of(alloc, ASSIGNMENT)?;
     for (threads, calls, seed, fault) in [
         (0, 10, None, Some(SetupFault::Threads)),
         (64, 100_000, None, None),
@@ -92,82 +81,131 @@ fn refuses_setups_past_their_limits(rt: HostRuntime) -> Result<(), Fail> {
     Ok(())
 }
 
-#[test]
-fn refuses_the_second_entry(rt: HostRuntime) -> Result<(), Fail> {
-    let alloc = rt.alloc();
-    let code = code_of(alloc, b"main() begin skip; end")?;
-    let mut entries = mains(alloc, 1)?;
-    entries.push(String::from_str(alloc, "B")?)?;
-    let setup = Setup::new(alloc, &code, &entries, &[], 1, 10, None);
-    assert!(rt; matches!(setup, Err(SetupFault::UnknownEntry(1))));
-    Ok(())
-}
-
-/// The letters of the replies to calls of thread 0 with these bits.
-fn letters(alloc: Global, session: &mut Session, bits: &[bool]) -> Result<Vec<u8>, Fail> {
-    let mut letters = Vec::new(alloc);
-    for bit in bits {
-        letters.push(session.ask_with(0, *bit)?.reply.letter())?;
-    }
-    Ok(letters)
-}
-
-fn session_of(alloc: Global, text: &[u8], init: &[bool]) -> Result<Option<Session>, Fail> {
+/// A session of the text before any call.
+fn session_with(
+    alloc: Global,
+    text: &[u8],
+    entries: &[&str],
+    init: &[bool],
+    contexts: u32,
+    calls: u32,
+) -> Result<Session, Fail> {
     let code = code_of(alloc, text)?;
-    let entries = vec![in alloc; String::from_str(alloc, "main")?]?;
-    match Setup::new(alloc, &code, &entries, init, 2, 1000, None) {
-        Ok(setup) => Ok(Some(Session::new(alloc, &code, &setup)?)),
-        Err(_) => Ok(None),
+    let mut names = Vec::new(alloc);
+    for entry in entries {
+        names.push(String::from_str(alloc, entry)?)?;
     }
+    let setup = Setup::new(alloc, &code, &names, init, contexts, calls, None)?;
+    Ok(Session::new(alloc, &code, &setup)?)
+}
+
+/// A session of `main` within two contexts and 1,000 calls.
+fn session_of(alloc: Global, text: &[u8], init: &[bool]) -> Result<Session, Fail> {
+    session_with(alloc, text, &["main"], init, 2, 1000)
+}
+
+/// What a session comes to: how many threads may go on, and how many contexts are used.
+type End = (u32, u32);
+
+/// Whether calls of these threads, each with the choice bit 0, have replies of these letters, and
+/// the session then comes to this end.
+fn comes_to(
+    session: &mut Session,
+    threads: &[u32],
+    letters: &[u8],
+    end: End,
+) -> Result<bool, AskFault> {
+    for (thread, letter) in threads.iter().zip(letters) {
+        if session.ask_with(*thread, false)?.reply.letter() != *letter {
+            return Ok(false);
+        }
+    }
+    let (left_open, contexts) = end;
+    Ok(
+        threads.len() == letters.len()
+            && session.open_lines() == left_open
+            && session.contexts_used() == contexts,
+    )
 }
 
 #[test]
 fn assigns_in_parallel(rt: HostRuntime) -> Result<(), Fail> {
-    let alloc = rt.alloc();
     let text = b"decl x, y; main() begin x, y := 1, x; assert (!y); end";
-    let mut session = session_of(alloc, text, &[false, false])?.ok_or("refused")?;
-    let told = letters(alloc, &mut session, &[false, false, false, false])?;
-    assert_eq!(rt; told.as_slice(), b"ssse".as_slice());
-    assert_eq!(rt; session.global(0), Some(true));
-    assert_eq!(rt; session.contexts_used(), 1);
-    assert_eq!(rt; session.open_lines(), 0);
+    let mut session = session_of(rt.alloc(), text, &[false, false])?;
+    assert!(rt; comes_to(&mut session, &[0; 4], b"ssse", (0, 1))?);
+    assert!(rt; session.global(0) == Some(true));
     Ok(())
 }
 
 #[test]
 fn fails_at_a_false_choice(rt: HostRuntime) -> Result<(), Fail> {
-    let alloc = rt.alloc();
-    let mut session = session_of(alloc, b"main() begin assert (?); end", &[])?.ok_or("refused")?;
-    assert_eq!(rt; session.ask_with(0, false)?.reply, Reply::Failed);
+    let mut session = session_of(rt.alloc(), b"main() begin assert (?); end", &[])?;
+    assert!(rt; comes_to(&mut session, &[0], b"f", (0, 1))?);
     assert!(rt; session.is_failed());
     assert!(rt; session.ask_with(0, false) == Err(AskFault::Finished));
     assert!(rt; session.ask_with(1, false) == Err(AskFault::NoThread));
-    assert_eq!(rt; AskFault::NoThread.number(), 36);
-    assert_eq!(rt; AskFault::Finished.number(), 37);
     Ok(())
 }
 
-/// Declares 128 globals, `gaa` the first and `ghp` the last, which are swapped.
-fn swaps_the_outermost(alloc: Global) -> Result<Vec<u8>, AllocError> {
-    let mut text = Vec::new(alloc);
-    text.extend_from_slice(b"decl gaa")?;
-    for n in 1..128 {
-        text.extend_from_slice(&[b',', b'g', b'a' + n / 16, b'a' + n % 16])?;
-    }
-    text.extend_from_slice(b"; main() begin ghp := 1; assert (ghp); assert (!gaa); ")?;
-    text.extend_from_slice(b"gaa, ghp := ghp, gaa; assert (gaa); assert (!ghp); end")?;
-    Ok(text)
+#[test]
+fn numbers_refused_calls(rt: HostRuntime) {
+    assert_eq!(rt; AskFault::NoThread.number(), 36);
+    assert_eq!(rt; AskFault::Finished.number(), 37);
+    assert_eq!(rt; AskFault::Memory.number(), 7);
 }
 
 #[test]
-fn keeps_each_bit_of_the_globals(rt: HostRuntime) -> Result<(), Fail> {
-    let alloc = rt.alloc();
-    let text = swaps_the_outermost(alloc)?;
-    let mut session = session_of(alloc, &text, &[false; 128])?.ok_or("refused")?;
-    let told = letters(alloc, &mut session, &[false; 8])?;
-    assert_eq!(rt; told.as_slice(), b"ssssssse".as_slice());
-    assert_eq!(rt; session.global(0), Some(true));
-    assert_eq!(rt; session.global(127), Some(false));
-    assert_eq!(rt; session.global(128), None);
+fn numbers_faults_of_a_setup(rt: HostRuntime) {
+    assert_eq!(rt; SetupFault::Threads.number(), 31);
+    assert_eq!(rt; SetupFault::UnknownEntry(1).number(), 32);
+    assert_eq!(rt; SetupFault::EntryHasFormals(0).number(), 33);
+    assert_eq!(rt; SetupFault::InitLength.number(), 34);
+    assert_eq!(rt; SetupFault::OutOfRange.number(), 35);
+    assert_eq!(rt; SetupFault::Memory.number(), 7);
+}
+
+/// Whether the fault of a setup is shown in these words.
+fn is_setup_shown(alloc: Global, fault: SetupFault, words: &str) -> Result<bool, AllocError> {
+    Ok(format!(in alloc; "{fault}")?.as_str() == words)
+}
+
+#[test]
+fn shows_faults_of_a_setup(rt: HostRuntime) -> Result<(), Fail> {
+    for (fault, words) in [
+        (SetupFault::Threads, "there must be 1 to 64 guest threads"),
+        (
+            SetupFault::UnknownEntry(63),
+            "thread 63 begins with a procedure that is not there",
+        ),
+        (
+            SetupFault::EntryHasFormals(0),
+            "thread 0 begins with a procedure that has formals",
+        ),
+        (
+            SetupFault::InitLength,
+            "there must be one initial bit for each global",
+        ),
+        (SetupFault::OutOfRange, "a number is out of its range"),
+        (SetupFault::Memory, "out of memory"),
+    ] {
+        assert!(rt; is_setup_shown(rt.alloc(), fault, words)?);
+    }
+    Ok(())
+}
+
+/// Whether the refusal of a call is shown in these words.
+fn is_call_shown(alloc: Global, fault: AskFault, words: &str) -> Result<bool, AllocError> {
+    Ok(format!(in alloc; "{fault}")?.as_str() == words)
+}
+
+#[test]
+fn shows_refused_calls(rt: HostRuntime) -> Result<(), Fail> {
+    for (fault, words) in [
+        (AskFault::NoThread, "there is no such thread"),
+        (AskFault::Finished, "the thread has made its last call"),
+        (AskFault::Memory, "out of memory"),
+    ] {
+        assert!(rt; is_call_shown(rt.alloc(), fault, words)?);
+    }
     Ok(())
 }
