@@ -1,4 +1,6 @@
 //! Schedules of a small program, and their traces.
+mod examples;
+
 ghost use Rattle.std.specs.Prelude.{IfOk};
 ghost use Rattle.bp_machine.specs.Setups.{FitsCode};
 
@@ -8,7 +10,7 @@ use bp_check::check;
 use bp_code::{Code, compile};
 use bp_machine::{Call, Outcome, Reply, Report, Setup};
 use bp_syntax::read;
-use std::alloc::Global;
+use std::alloc::{AllocError, Global};
 use std::test::Fail;
 
 const PROGRAM: &[u8] = b"decl x; main() begin x := 1; assert (x); end";
@@ -121,96 +123,75 @@ fn reads_turns(rt: HostRuntime) {
     assert!(&rt; line_at(64, b"6").is_none());
 }
 
-/// A setup of so many threads of `main`, within so many contexts and calls.
-fn threads_of(
+/// Whether the fault is shown in these words.
+fn is_shown(alloc: Global, fault: DriveFault, words: &str) -> Result<bool, AllocError> {
+    Ok(format!(in alloc; "{fault}")?.as_str() == words)
+}
+
+#[test]
+fn shows_faults(rt: HostRuntime) -> Result<(), Fail> {
+    for (fault, words) in [
+        (DriveFault::TooLong, "the schedule is too long"),
+        (
+            DriveFault::Line(8),
+            "line 8 of the schedule is not a thread and a choice bit",
+        ),
+        (
+            DriveFault::AfterFinish(5),
+            "line 5 of the schedule is of a thread that has made its last call",
+        ),
+        (DriveFault::Memory, "out of memory"),
+        (DriveFault::Write, "the output could not be written"),
+    ] {
+        assert!(&rt; is_shown(rt.alloc(), fault, words)?);
+    }
+    Ok(())
+}
+
+/// The piece so many times, behind the front and before the end.
+fn repeated(
     alloc: Global,
-    code: &Code,
-    threads: u32,
-    contexts: u32,
-    calls: u32,
-) -> Result<Setup, Fail>
-    ensures { IfOk result (FitsCode code.now) }
-{
-    let mut entries = Vec::new(alloc);
-    for _ in 0..threads {
-        entries.push(String::from_str(alloc, "main")?)?;
+    front: &[u8],
+    piece: &[u8],
+    count: u32,
+    end: &[u8],
+) -> Result<Vec<u8>, AllocError> {
+    let mut text = Vec::new(alloc);
+    text.extend_from_slice(front)?;
+    for _ in 0..count {
+        text.extend_from_slice(piece)?;
     }
-    let init = vec![in alloc; false; code.globals() as usize]?;
-    Ok(Setup::new(alloc, code, &entries, &init, contexts, calls, None)?)
+    text.extend_from_slice(end)?;
+    Ok(text)
 }
 
-/// What a run is to come to: the end of its trace, or the fault for which nothing is written.
-type Wanted = Result<&'static [u8], DriveFault>;
+/// A name of more bytes than a buffer of a writer has.
+fn long_name(alloc: Global) -> Result<String, AllocError> {
+    let mut name = String::new(alloc);
+    for _ in 0..5_000 {
+        name.push('a')?;
+    }
+    Ok(name)
+}
 
-/// Whether the schedule drives the code to what is wanted.
-fn comes_to(alloc: Global, code: &Code, setup: &Setup, schedule: &[u8], wanted: Wanted) -> bool
-    requires { FitsCode code.now setup.now }
-{
+/// A setup of one thread of that name, and no globals.
+fn setup_of_long_name(alloc: Global) -> Result<Setup, Fail> {
+    let name = long_name(alloc)?;
+    let code = code_of(
+        alloc,
+        format!(in alloc; "{name}() begin skip; end")?.as_bytes(),
+    )?;
+    let entries = vec![in alloc; name]?;
+    Ok(Setup::new(alloc, &code, &entries, &[], 2, 1000, None)?)
+}
+
+#[test]
+fn writes_a_long_piece(rt: HostRuntime) -> Result<(), Fail> {
+    let alloc = rt.alloc();
     let mut out = Vec::new(alloc);
-    match (drive(alloc, code, setup, schedule, &mut out), wanted) {
-        (Ok(_), Ok(end)) => out.ends_with(end),
-        (Err(fault), Err(due)) => fault == due && out.is_empty(),
-        _ => false,
-    }
-}
-
-const NOT_AND_TEST: &[u8] = b"decl x; main() begin x := !x; assert (x); end";
-
-#[test]
-fn keeps_within_contexts(rt: HostRuntime) -> Result<(), Fail> {
-    let alloc = rt.alloc();
-    let code = code_of(alloc, NOT_AND_TEST)?;
-    let one = threads_of(alloc, &code, 2, 1, 10)?;
-    let end = b"\n0 0 s\n1 0 n\n0 0 s\n0 0 s\n0 0 e\nend 5 0\n".as_slice();
-    assert!(&rt; comes_to(alloc, &code, &one, b"0 0\n1 0\n0 0\n0 0\n0 0\n", Ok(end)));
-    let none = threads_of(alloc, &code, 1, 0, 10)?;
-    let end = b"\nseed none\n0 0 n\nend 1 0\n".as_slice();
-    assert!(&rt; comes_to(alloc, &code, &none, b"0 0\n", Ok(end)));
-    let end = b"\nseed none\nend 0 1\n".as_slice();
-    assert!(&rt; comes_to(alloc, &code, &none, b"", Ok(end)));
-    Ok(())
-}
-
-#[test]
-fn stops_at_a_failure_of_another_thread(rt: HostRuntime) -> Result<(), Fail> {
-    let alloc = rt.alloc();
-    let code = code_of(alloc, NOT_AND_TEST)?;
-    let setup = threads_of(alloc, &code, 2, 3, 10)?;
-    let failed = b"\n0 0 s\n1 0 s\n0 0 f\nend 3 1\n".as_slice();
-    let stopped = b"\n0 0 f\n1 0 x\nend 4 0\n".as_slice();
-    for (schedule, wanted) in [
-        (b"0 0\n1 0\n0 0\n".as_slice(), Ok(failed)),
-        (b"0 0\n1 0\n0 0\n1 0\n".as_slice(), Ok(stopped)),
-        (
-            b"0 0\n1 0\n0 0\n1 0\n0 0\n".as_slice(),
-            Err(DriveFault::AfterFinish(5)),
-        ),
-        (
-            b"0 0\n1 0\n0 0\n1 0\n1 0\n".as_slice(),
-            Err(DriveFault::AfterFinish(5)),
-        ),
-    ] {
-        assert!(&rt; comes_to(alloc, &code, &setup, schedule, wanted));
-    }
-    Ok(())
-}
-
-#[test]
-fn ends_a_line_at_its_last_call(rt: HostRuntime) -> Result<(), Fail> {
-    let alloc = rt.alloc();
-    let code = code_of(alloc, b"main() begin skip; skip; skip; skip; end")?;
-    let setup = threads_of(alloc, &code, 1, 2, 3)?;
-    let two = b"\n0 1 s\n0 1 s\nend 2 1\n".as_slice();
-    let three = b"\n0 1 s\nend 3 0\n".as_slice();
-    for (schedule, wanted) in [
-        (b"0 1\n0 1\n".as_slice(), Ok(two)),
-        (b"0 1\n0 1\n0 1\n".as_slice(), Ok(three)),
-        (
-            b"0 1\n0 1\n0 1\n0 1\n".as_slice(),
-            Err(DriveFault::AfterFinish(4)),
-        ),
-    ] {
-        assert!(&rt; comes_to(alloc, &code, &setup, schedule, wanted));
-    }
+    write_head(&setup_of_long_name(alloc)?, &mut out)?;
+    let end = b"\ninit -\ncontexts 2\ncalls 1000\nseed none\n";
+    let expected = repeated(alloc, b"btrace 1\nentry ", b"a", 5_000, end)?;
+    assert!(&rt; out.as_slice() == expected.as_slice());
     Ok(())
 }
