@@ -19,35 +19,65 @@ fn listed(alloc: Global, before: &[u8], count: u32, after: &[u8]) -> Result<Vec<
     Ok(text)
 }
 
+/// The refusal of the text of these names, where it is refused.
+fn refusal_of(
+    alloc: Global,
+    before: &[u8],
+    count: u32,
+    after: &[u8],
+) -> Result<Option<(u32, u32)>, Fail> {
+    refusal(alloc, &listed(alloc, before, count, after)?)
+}
+
 #[test]
 fn globals(rt: HostRuntime) -> Result<(), Fail> {
     let alloc = rt.alloc();
-    let most = listed(alloc, b"decl ", 128, b"; main() begin skip; end")?;
-    assert_eq!(rt; refusal(alloc, &most)?, None);
-    let past = listed(alloc, b"decl ", 129, b"; main() begin skip; end")?;
-    assert_eq!(rt; refusal(alloc, &past)?, Some((21, 663)));
-    let later = listed(alloc, b"decl ", 129, b", a0; main() begin skip; end")?;
-    assert_eq!(rt; refusal(alloc, &later)?, Some((21, 663)));
-    let twice_there = listed(alloc, b"decl ", 128, b", a0; main() begin skip; end")?;
-    assert_eq!(rt; refusal(alloc, &twice_there)?, Some((11, 663)));
+    assert_eq!(rt;
+        refusal_of(alloc, b"decl ", 128, b"; main() begin skip; end")?,
+        None
+    );
+    assert_eq!(rt;
+        refusal_of(alloc, b"decl ", 129, b"; main() begin skip; end")?,
+        Some((21, 663))
+    );
+    assert_eq!(rt;
+        refusal_of(alloc, b"decl ", 129, b", a0; main() begin skip; end")?,
+        Some((21, 663))
+    );
+    assert_eq!(rt;
+        refusal_of(alloc, b"decl ", 128, b", a0; main() begin skip; end")?,
+        Some((11, 663))
+    );
     Ok(())
 }
 
 #[test]
 fn formals_and_locals(rt: HostRuntime) -> Result<(), Fail> {
     let alloc = rt.alloc();
-    let most = listed(alloc, b"main(", 128, b") begin skip; end")?;
-    assert_eq!(rt; refusal(alloc, &most)?, None);
-    let past = listed(alloc, b"main(", 129, b") begin skip; end")?;
-    assert_eq!(rt; refusal(alloc, &past)?, Some((21, 663)));
-    let twice_there = listed(alloc, b"main(", 128, b", a0) begin skip; end")?;
-    assert_eq!(rt; refusal(alloc, &twice_there)?, Some((13, 663)));
-    let one_local = listed(alloc, b"main(", 127, b") begin decl b; skip; end")?;
-    assert_eq!(rt; refusal(alloc, &one_local)?, None);
-    let two_locals = listed(alloc, b"main(", 127, b") begin decl b, c; skip; end")?;
-    assert_eq!(rt; refusal(alloc, &two_locals)?, Some((21, 671)));
-    let earlier = listed(alloc, b"decl x, x; main(", 129, b") begin skip; end")?;
-    assert_eq!(rt; refusal(alloc, &earlier)?, Some((11, 8)));
+    assert_eq!(rt;
+        refusal_of(alloc, b"main(", 128, b") begin skip; end")?,
+        None
+    );
+    assert_eq!(rt;
+        refusal_of(alloc, b"main(", 129, b") begin skip; end")?,
+        Some((21, 663))
+    );
+    assert_eq!(rt;
+        refusal_of(alloc, b"main(", 128, b", a0) begin skip; end")?,
+        Some((13, 663))
+    );
+    assert_eq!(rt;
+        refusal_of(alloc, b"main(", 127, b") begin decl b; skip; end")?,
+        None
+    );
+    assert_eq!(rt;
+        refusal_of(alloc, b"main(", 127, b") begin decl b, c; skip; end")?,
+        Some((21, 671))
+    );
+    assert_eq!(rt;
+        refusal_of(alloc, b"decl x, x; main(", 129, b") begin skip; end")?,
+        Some((11, 8))
+    );
     Ok(())
 }
 
