@@ -1,11 +1,10 @@
 //! Procedures that are found by their names.
-ghost use Rattle.std.specs.Prelude.{◌≡◌, ◌++◌, OnOk, IfOk, map};
+ghost use Rattle.std.specs.Prelude.{◌≡◌, IfOk, map};
 ghost use Rattle.std.specs.Option.{option_copied};
 ghost use Rattle.bp_tree.specs.Lookup.{procedure_named};
-ghost use Rattle.bp_check.specs.Sets.{names_of};
 
 use crate::tables::NameTable;
-use bp_tree::{Name, Proc};
+use bp_tree::Proc;
 use std::alloc::{AllocError, Global};
 use std::marker::Model;
 
@@ -36,9 +35,7 @@ impl<'a> Callees<'a> {
     pub(crate) fn new(alloc: Global, procs: &'a [Proc]) -> Result<Callees<'a>, AllocError>
         ensures { IfOk result (λ c. c ≡ procs.now) }
     {
-        let mut names = Vec::new(alloc);
-        gather_proc_names(&mut names, procs)?;
-        let names = NameTable::new(alloc, names)?;
+        let names = NameTable::of_procedures(alloc, procs)?;
         Ok(Callees { procs, names })
     }
 
@@ -56,15 +53,4 @@ impl<'a> Callees<'a> {
         let first = self.names.first(text)?;
         self.procs.get(first)
     }
-}
-
-/// Appends the names of procedures.
-fn gather_proc_names<'a>(out: &mut Vec<&'a Name>, procs: &'a [Proc]) -> Result<(), AllocError>
-    ensures { OnOk result (names_of out.new.items
-        ≡ names_of out.old.items ++ map (λ q. q.name) procs.now) }
-{
-    for proc in procs {
-        out.push(proc.name())?;
-    }
-    Ok(())
 }

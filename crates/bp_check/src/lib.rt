@@ -20,3 +20,4 @@ mod uses;
 pub use checks::{CheckRefusal, Checked, check};
 pub use faults::CheckFault;
 pub use laws::has_one_refusal;
+pub use tables::NameTable;

@@ -1,7 +1,6 @@
 //! The faults of a procedure.
 ghost use Rattle.std.specs.Prelude.{◌≡◌, ◌++◌, IfOk, OnOk};
 ghost use Rattle.bp_tree.specs.Blocks.{block_of, statement_of};
-ghost use Rattle.bp_tree.specs.Lookup.{variables};
 ghost use Rattle.bp_check.specs.Scopes.{statements, statements_inside, labels_of};
 ghost use Rattle.bp_check.specs.Sets.{names_of, all_labelled, IsFaultOfStatements, IsFaultOfBody, IsProcedureFault};
 ghost use Rattle.bp_check.specs.LeastFound.{Finds};
@@ -13,7 +12,7 @@ use crate::least::least;
 use crate::limits::MAX_OWN_NAMES;
 use crate::repeats::{fault_of_names, least_repeat};
 use crate::scopes::Scope;
-use crate::tables::{NameTable, gather};
+use crate::tables::NameTable;
 use bp_tree::{Form, Name, Proc, Stmt};
 use std::alloc::{AllocError, Global};
 
@@ -79,16 +78,6 @@ fn fault_of_statements(
     Ok(best)
 }
 
-/// Formals, and then declared locals.
-fn own_names<'a>(alloc: Global, proc: &'a Proc) -> Result<Vec<&'a Name>, AllocError>
-    ensures { IfOk result (λ v. names_of v.items ≡ variables proc.now) }
-{
-    let mut names = Vec::new(alloc);
-    gather(&mut names, proc.formals())?;
-    gather(&mut names, proc.locals())?;
-    Ok(names)
-}
-
 /// The statements of a procedure, at any depth.
 fn all_statements<'a>(alloc: Global, proc: &'a Proc) -> Result<Vec<&'a Stmt>, AllocError>
     ensures { IfOk result (λ v. all_labelled v.items ≡ statements proc.now.body) }
@@ -131,7 +120,7 @@ pub(crate) fn procedure_fault<'a>(
 ) -> Result<Option<Found>, AllocError>
     ensures { IfOk result (Finds (IsProcedureFault globals.now callees.now proc.now)) }
 {
-    let own = NameTable::new(alloc, own_names(alloc, proc)?)?;
+    let own = NameTable::of_variables(alloc, proc)?;
     let found = fault_of_names(&own, CheckFault::TwiceLocal, MAX_OWN_NAMES);
     let declared = Scope::new(own, globals);
     let inside = fault_of_body(alloc, &declared, callees, proc)?;

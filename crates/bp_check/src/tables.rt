@@ -1,17 +1,18 @@
 //! Names that are found by their texts.
-ghost use Rattle.std.specs.Prelude.{◌≡◌, ◌++◌, OnOk, IfOk, take};
+ghost use Rattle.std.specs.Prelude.{◌≡◌, ◌++◌, OnOk, IfOk, map, take};
+ghost use Rattle.bp_tree.specs.Lookup.{variables};
 ghost use Rattle.bp_check.specs.Scopes.{has};
 ghost use Rattle.bp_check.specs.Sets.{names_of};
 ghost use Rattle.bp_check.specs.Tables.{HasFirstIndices, first_index};
 
-use bp_tree::Name;
+use bp_tree::{Name, Proc};
 use std::alloc::{AllocError, Global};
 use std::collections::BTreeMap;
 use std::marker::Model;
 
 /// Names in order, each of which is found by its text without a walk over the others.
 #[derive(Drop)]
-pub(crate) struct NameTable<'a> {
+pub struct NameTable<'a> {
     names: Vec<&'a Name>,
     /// For each text the index of the first name that is spelled so.
     first: BTreeMap<&'a str, usize>,
@@ -43,12 +44,32 @@ impl<'a> NameTable<'a> {
         Ok(NameTable { names, first })
     }
 
-    /// The table of a list of names.
-    pub(crate) fn of(alloc: Global, names: &'a [Name]) -> Result<NameTable<'a>, AllocError>
+    /// The table of a list of names. Its only error is refused memory.
+    pub fn of(alloc: Global, names: &'a [Name]) -> Result<NameTable<'a>, AllocError>
         ensures { IfOk result (λ t. t ≡ names.now) }
     {
         let mut all = Vec::new(alloc);
         gather(&mut all, names)?;
+        NameTable::new(alloc, all)
+    }
+
+    /// The table of a procedure's formals and then its declared locals. Its only error is refused
+    /// memory.
+    pub fn of_variables(alloc: Global, proc: &'a Proc) -> Result<NameTable<'a>, AllocError>
+        ensures { IfOk result (λ t. t ≡ variables proc.now) }
+    {
+        let mut all = Vec::new(alloc);
+        gather(&mut all, proc.formals())?;
+        gather(&mut all, proc.locals())?;
+        NameTable::new(alloc, all)
+    }
+
+    /// The table of the names of procedures. Its only error is refused memory.
+    pub fn of_procedures(alloc: Global, procs: &'a [Proc]) -> Result<NameTable<'a>, AllocError>
+        ensures { IfOk result (λ t. t ≡ map (λ q. q.name) procs.now) }
+    {
+        let mut all = Vec::new(alloc);
+        gather_procedures(&mut all, procs)?;
         NameTable::new(alloc, all)
     }
 
@@ -60,7 +81,7 @@ impl<'a> NameTable<'a> {
     }
 
     /// The index of the first name that is spelled so.
-    pub(crate) fn first(&self, text: &str) -> Option<usize>
+    pub fn first(&self, text: &str) -> Option<usize>
         ensures { result ≡ first_index self.now text.now }
     {
         self.first.get(text).copied()
@@ -85,11 +106,22 @@ impl<'a> NameTable<'a> {
 }
 
 /// Appends names to a list.
-pub(crate) fn gather<'a>(out: &mut Vec<&'a Name>, names: &'a [Name]) -> Result<(), AllocError>
+fn gather<'a>(out: &mut Vec<&'a Name>, names: &'a [Name]) -> Result<(), AllocError>
     ensures { OnOk result (names_of out.new.items ≡ names_of out.old.items ++ names.now) }
 {
     for name in names {
         out.push(name)?;
+    }
+    Ok(())
+}
+
+/// Appends the names of procedures to a list.
+fn gather_procedures<'a>(out: &mut Vec<&'a Name>, procs: &'a [Proc]) -> Result<(), AllocError>
+    ensures { OnOk result (names_of out.new.items
+        ≡ names_of out.old.items ++ map (λ q. q.name) procs.now) }
+{
+    for proc in procs {
+        out.push(proc.name())?;
     }
     Ok(())
 }

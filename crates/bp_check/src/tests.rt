@@ -2,6 +2,7 @@
 mod faults;
 mod limits;
 mod names;
+mod tables;
 
 use crate::{CheckFault, CheckRefusal, check, has_one_refusal};
 use bp_syntax::read;

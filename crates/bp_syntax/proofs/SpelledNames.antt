@@ -26,7 +26,7 @@ word_or_braced : (s : List ℕ) → fits lexeme.Identifier s ≡ true → fits l
 word_or_braced [] a b = false≢true a
 word_or_braced (c ∷ cs) a b = false≢true (subst (λ x. is_letter x ≡ true) (eqb-true c 123 (both_left _ _ b)) (both_left _ _ a))
 
-one_spelling : (s : List ℕ) (x y : IsSpelled s) → x ≡ y
+pub one_spelling : (s : List ℕ) (x y : IsSpelled s) → x ≡ y
 one_spelling s (inl x) (inl y) = λ i. inl (Bool-set _ _ x.0 y.0 i, Bool-set _ _ x.1 y.1 i)
 one_spelling s (inl x) (inr y) = absurd (word_or_braced s x.0 y)
 one_spelling s (inr x) (inl y) = absurd (word_or_braced s y.0 x)
