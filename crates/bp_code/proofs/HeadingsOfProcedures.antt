@@ -1,11 +1,11 @@
 -- The headings of a code that stands for a program are those of its procedures, in order; so a name finds the
 -- heading of the procedure that it finds in the program.
-use Rattle.std.proofs.Common.{◌≡◌, ℕ, suc, Bool, true, false, List, [], ◌∷◌, length, Option, None, Some, option_map, refl, ap, sym, ◌∙◌, subst, arith, bytes_eq, if◌then◌else◌}
+use Rattle.std.proofs.Common.{◌≡◌, ℕ, ◌+◌, map, suc, Bool, true, false, List, [], ◌∷◌, length, Option, None, Some, option_map, refl, ap, sym, ◌∙◌, subst, arith, bytes_eq, if◌then◌else◌}
 use Rattle.std.specs.Prelude.{slice_get, MatchOption}
-use Rattle.bp_tree.specs.Ast.{Procedure, Program}
+use Rattle.bp_tree.specs.Ast.{Name, Procedure, Program}
 use Rattle.bp_code.specs.Configurations.{procedure_named}
 use Rattle.bp_code.specs.Flat.{Flat, Heading}
-use Rattle.bp_code.specs.Compiled.{heading_named}
+use Rattle.bp_code.specs.Compiled.{block_size, heading_named, headings_from}
 use Rattle.bp_code.specs.StandsFor.{StandsFor, Place, Heads, IsEntryOf, places_of}
 
 -- no heading and no procedure, or the heading of the procedure
@@ -62,3 +62,8 @@ module _ (c : Flat) (t : Program) (x : List ℕ) (is : StandsFor c t) where
 
   pub entry_missing : None ≡ option_map (λ (k : Heading). k.entry) (heading_named c.headings x) → procedure_named t.procedures x ≡ None
   entry_missing e = subst (λ o. MatchOption o (procedure_named t.procedures x ≡ None) (IsEntryOf t (procedure_named t.procedures x))) (sym e) entry_of_procedure
+
+-- headings have the names of their procedures, in order
+pub names_of_headings : (n : ℕ) (ps : List Procedure) → map (λ (h : Heading). h.name) (headings_from n ps) ≡ map (λ (m : Name). m.text) (map (λ (p : Procedure). p.name) ps)
+names_of_headings n [] = refl
+names_of_headings n (p ∷ ps) = ap (λ ns. p.name.text ∷ ns) (names_of_headings (n + block_size p.body + 1) ps)

@@ -1,5 +1,5 @@
 -- Lawful programs have a code: each name in them is declared.
-use Rattle.std.proofs.Common.{◌≡◌, ◌≢◌, ◌⊎◌, ℕ, suc, ◌<◌, ◌≤◌, ◌||◌, Bool, true, false, cond, List, [], ◌∷◌, ◌++◌, length, get_or, Option, None, Some, IsSome, refl, ap, sym, ◌∙◌, inl, inr, arith, bytes_eq, option_map}
+use Rattle.std.proofs.Common.{◌≡◌, ◌≢◌, ◌⊎◌, ℕ, ◌<◌, ◌≤◌, ◌||◌, Bool, true, false, cond, List, [], ◌∷◌, ◌++◌, length, get_or, Option, None, Some, IsSome, refl, ap, sym, ◌∙◌, inl, inr, arith, bytes_eq, option_map}
 use Rattle.std.specs.Option.{option_or, option_to_list}
 use Rattle.std.proofs.lemmas.List.Folds.{list_any-append}
 use Rattle.std.proofs.lemmas.Option.{slice_get-get_or}
@@ -7,13 +7,12 @@ use Rattle.std.proofs.lemmas.Bool.{cases_lt}
 use Rattle.bp_tree.specs.Ast.{Name, Expression, Constant, Variable, Negation, Operation, Decision, Choose, Decide, Block, Done, Then, Statement, Skips, GoesTo, Returns, Assigns, Branches, Loops, Asserts, Assumes, Prints, Calls, Procedure, Program}
 use Rattle.bp_tree.specs.Lookup.{procedure_named, variables}
 use Rattle.bp_tree.specs.Sizes.{procedures_size}
-use Rattle.bp_check.specs.declared.faults.CheckFault.TheVariants as fault
 use Rattle.bp_check.specs.Scopes.{has, Uses, SomeUses, DecisionUses, Mentions, Among, Labelled, statements, statements_inside, labels, labels_of}
-use Rattle.bp_check.specs.Faults.{IsPast, CallsNone, CallsWrongly, JumpsNowhere, IsLawful}
-use Rattle.bp_code.specs.declared.limits.TheConstants.{SLOTS}
+use Rattle.bp_check.proofs.FirstIndex.{first_has}
+use Rattle.bp_check.specs.Laws.{HasFewNames, IsSound, HasSoundStatements}
 use Rattle.bp_code.specs.declared.slots.Slot.TheVariants.{Global, Local}
 use Rattle.bp_code.specs.Continuations.{chain, has_label, from_label, from_inside}
-use Rattle.bp_code.specs.Slots.{place_from, slot_of, HasSlot}
+use Rattle.bp_code.specs.Slots.{slot_of, HasSlot}
 use Rattle.bp_syntax.specs.NamesIn.{EachName, NamesInExpression, NamesInExpressions, NamesInDecision}
 use Rattle.bp_code.specs.Compilable.{HasCallee, HasNames, HasNamesIn, IsCompilableIn, AllCompilableIn, IsCompilable}
 
@@ -23,19 +22,10 @@ one_of : (a b : Bool) → (a || b) ≡ true → (a ≡ true) ⊎ (b ≡ true)
 one_of true b e = inl refl
 one_of false b e = inr e
 
-is_true : (b : Bool) → (b ≡ false → ⊥) → b ≡ true
-is_true true h = refl
-is_true false h = absurd (h refl)
-
 first_or_later : {X : Type 0} (b : Bool) (x : X) (o : Option X) → (b ≡ true) ⊎ IsSome o → IsSome (cond b (Some x) o)
 first_or_later true x o h = refl
 first_or_later false x o (inl e) = absurd cc
 first_or_later false x o (inr s) = s
-
-placed : (ns : List Name) (k : ℕ) (x : List ℕ) → has ns x ≡ true → IsSome (place_from k ns x)
-placed [] k x e = absurd cc
-placed (n ∷ ns) k x e =
-    first_or_later (bytes_eq n.text x) k (place_from (suc k) ns x) (elim (one_of (bytes_eq n.text x) (has ns x) e) [ inl here ↦ inl here | inr there ↦ inr (placed ns (suc k) x there) ])
 
 some_map : {X Y : Type 0} (f : X → Y) (o : Option X) → IsSome o → IsSome (option_map f o)
 some_map f None h = h
@@ -59,16 +49,13 @@ among_back : {X : Type 0} (xs ys : List X) (x : X) → Among ys x → Among (xs 
 among_back [] ys x m = m
 among_back (y ∷ xs) ys x m = inr (among_back xs ys x m)
 
-same_or_not : (m n : ℕ) → (m ≡ n) ⊎ (m ≢ n)
-same_or_not m n = elim (cases_lt m n) [ inl less ↦ inr (λ e. omega arith) | inr more ↦ elim (cases_lt n m) [ inl less ↦ inr (λ e. omega arith) | inr other ↦ inl (omega arith) ] ]
-
 module _ (t : Program) (p : Procedure) where
   slotted : (x : List ℕ) → has (variables p ++ t.globals) x ≡ true → IsSome (slot_of t.globals p x)
   slotted x e =
       let parts = sym (list_any-append (λ (n : Name). bytes_eq n.text x) (variables p) t.globals) ∙ e in
       some_or _ _ (elim (one_of (has (variables p) x) (has t.globals x) parts) [
-        | inl own ↦ inl (some_map Local _ (placed (p.formals ++ p.locals) 0 x own))
-        | inr shared ↦ inr (some_map Global _ (placed t.globals 0 x shared))
+        | inl own ↦ inl (some_map Local _ (first_has x 0 (variables p) ∙ own))
+        | inr shared ↦ inr (some_map Global _ (first_has x 0 t.globals ∙ shared))
       ])
 
   in_expression : (e : Expression) → ((n : Name) → Uses e n → has (variables p ++ t.globals) n.text ≡ true) → NamesInExpression (HasSlot t.globals p) e
@@ -134,18 +121,10 @@ module _ (t : Program) (p : Procedure) where
     found_inside (Prints es) label at r x e = absurd cc
     found_inside (Calls y es) label at r x e = absurd cc
 
-  -- a statement without faults
+  -- a sound statement, all of whose variables are declared
   pub record IsFine (s : Statement) : Type 0 where
+    pub sound : IsSound t p s
     pub uses : (n : Name) → Mentions s n → has (variables p ++ t.globals) n.text ≡ true
-    pub callee : (at : ℕ) → CallsNone t.procedures s at → ⊥
-    pub arity : (at : ℕ) → CallsWrongly t.procedures s at → ⊥
-    pub jump : (at : ℕ) → JumpsNowhere (labels p.body) s at → ⊥
-
-  found_callee : (x : Name) (arguments : List Expression) (o : Option Procedure) → procedure_named t.procedures x.text ≡ o
-      → ((at : ℕ) → CallsNone t.procedures (Calls x arguments) at → ⊥) → ((at : ℕ) → CallsWrongly t.procedures (Calls x arguments) at → ⊥) → HasCallee t p x arguments
-  found_callee x arguments None is none wrong = absurd (none x.at (is, refl))
-  found_callee x arguments (Some q) is none wrong =
-      elim (same_or_not (length arguments) (length q.formals)) [ inl same ↦ (q, is, same) | inr other ↦ absurd (wrong x.at (q, is, other, refl)) ]
 
   mutual
     in_block : (b : Block) → ((l : Labelled) → Among (statements b) l → IsFine l.statement) → HasNames t p b
@@ -155,7 +134,7 @@ module _ (t : Program) (p : Procedure) where
 
     in_statement : (s : Statement) → IsFine s → ((l : Labelled) → Among (statements_inside s) l → IsFine l.statement) → HasNamesIn t p s
     in_statement Skips fine inside = tt
-    in_statement (GoesTo x) fine inside = found_in p.body Done x.text (is_true _ (λ e. fine.jump x.at (e, refl)))
+    in_statement (GoesTo x) fine inside = found_in p.body Done x.text fine.sound
     in_statement Returns fine inside = tt
     in_statement (Assigns xs es) fine inside = (in_names xs (λ n u. fine.uses n (inl u)), in_expressions es (λ n u. fine.uses n (inr u)))
     in_statement (Branches d a b) fine inside =
@@ -165,42 +144,22 @@ module _ (t : Program) (p : Procedure) where
     in_statement (Assumes d) fine inside = in_decision d fine.uses
     in_statement (Prints es) fine inside = in_expressions es fine.uses
     in_statement (Calls x es) fine inside =
-        (in_expressions es fine.uses, found_callee x es (procedure_named t.procedures x.text) refl fine.callee fine.arity)
+        (in_expressions es fine.uses, fine.sound)
 
--- no more names than the limit
-few_names : (ns : List Name) (limit : ℕ) → ((at : ℕ) → IsPast limit ns at → ⊥) → length ns ≤ limit
-few_names ns limit none = elim (cases_lt limit (length ns)) [ inl more ↦ absurd (past more) | inr few ↦ few ]
-  where
-    past : limit < length ns → ⊥
-    past more =
-        let n : Name = get_or ns limit (record { text = []; at = 0 }) in
-        none n.at (n, record { stands = slice_get-get_or ns limit (record { text = []; at = 0 }) more; place = refl })
-
-module _ (t : Program) (lawful : IsLawful t) where
-  fine_in : (p : Procedure) → Among t.procedures p → (l : Labelled) → Among (statements p.body) l → IsFine t p l.statement
-  fine_in p mp l ml = record {
-    uses = λ n u. is_true _ (λ e. lawful fault.UnknownVariable n.at (p, l, mp, ml, (n, u, e, refl)));
-    callee = λ at x. lawful fault.UnknownProcedure at (p, l, mp, ml, x);
-    arity = λ at x. lawful fault.Arity at (p, l, mp, ml, x);
-    jump = λ at x. lawful fault.UnknownLabel at (p, l, mp, ml, x);
-  }
-
+module _ (t : Program) (few : HasFewNames t) (sound : HasSoundStatements t) where
   compilable_in : (p : Procedure) → Among t.procedures p → IsCompilableIn t p
   compilable_in p mp = record {
-    few = few_names (variables p) SLOTS (λ at x. lawful fault.Limit at (inr (inr (p, mp, x))));
-    names = in_block t p p.body (fine_in p mp);
+    few = few.own p mp;
+    names = in_block t p p.body (λ l ml. record { sound = sound.sound p l mp ml; uses = λ n u. sound.declared p l n mp ml u });
   }
 
   all_in : (ps : List Procedure) → ((p : Procedure) → Among ps p → Among t.procedures p) → AllCompilableIn t ps
   all_in [] within = tt
   all_in (p ∷ ps) within = (compilable_in p (within p (inl refl)), all_in ps (λ q m. within q (inr m)))
 
-  pub few_globals : length t.globals ≤ SLOTS
-  few_globals = few_names t.globals SLOTS (λ at x. lawful fault.Limit at (inr (inl x)))
-
   pub lawful_compiles : procedures_size t.procedures ≤ 65536 → IsCompilable t
-  lawful_compiles few = record {
-    few = few_globals;
+  lawful_compiles short = record {
+    few = few.globals;
     each = all_in t.procedures (λ p m. m);
-    instructions = omega (arith, few);
+    instructions = omega (arith, short);
   }

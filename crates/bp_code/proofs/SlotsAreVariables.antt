@@ -7,33 +7,27 @@ use Rattle.bp_code.specs.declared.slots.Slot.TheVariants.{Global, Local}
 use Rattle.bp_code.specs.Values.{lookup, update, variable_value, after_write, after_assignment, operation_value, expression_value, expression_values}
 use Rattle.bp_code.specs.Effects.{Store}
 use Rattle.bp_code.specs.Steps.{Bits, with_bit, slot_bit, with_slot, with_slots, formula_value, formula_values}
-use Rattle.bp_code.specs.Slots.{place_from, slot_of, HasSlot}
+use Rattle.bp_check.specs.Tables.{first_index_from}
+use Rattle.bp_code.specs.Slots.{slot_of, HasSlot}
 use Rattle.bp_code.specs.StandsFor.{valuation_of, variables, named_store, AreValues, IsTestOf, AreTargets}
 use Rattle.bp_syntax.specs.NamesIn.{EachName, NamesInExpression, NamesInExpressions, NamesInDecision}
+use Rattle.bp_code.proofs.FirstNames.{index_later}
 use Rattle.bp_code.specs.Compiled.{Environment, slot_in, slots_in, formula_in, formulas_in, test_in}
 
 pub some_is : {A : Type 0} (o : Option A) (d : A) → IsSome o → o ≡ Some (unwrap_or o d)
 some_is None d h = cc
 some_is (Some x) d h = refl
 
-place_later : (n : ℕ) (ys : List Name) (x : List ℕ) → place_from (suc n) ys x ≡ option_map suc (place_from n ys x)
-place_later n [] x = refl
-place_later n (y ∷ ys) x =
-    elim (bytes_eq y.text x) as (λ b. cond b (Some (suc n)) (place_from (suc (suc n)) ys x) ≡ option_map suc (cond b (Some n) (place_from (suc n) ys x))) [
-      | true ↦ refl
-      | false ↦ place_later (suc n) ys x
-    ]
-
 shifted : (bits : Bits) (o : Option ℕ) → option_map bits (option_map suc o) ≡ option_map (λ k. bits (suc k)) o
 shifted bits None = refl
 shifted bits (Some k) = refl
 
-lookup_in_valuation : (ns : List Name) (bits : Bits) (x : List ℕ) → lookup (valuation_of ns bits) x ≡ option_map bits (place_from 0 ns x)
+lookup_in_valuation : (ns : List Name) (bits : Bits) (x : List ℕ) → lookup (valuation_of ns bits) x ≡ option_map bits (first_index_from 0 ns x)
 lookup_in_valuation [] bits x = refl
 lookup_in_valuation (y ∷ ys) bits x =
-    elim (bytes_eq y.text x) as (λ b. cond b (Some (bits 0)) (lookup (valuation_of ys (λ k. bits (suc k))) x) ≡ option_map bits (cond b (Some 0) (place_from 1 ys x))) [
+    elim (bytes_eq y.text x) as (λ b. cond b (Some (bits 0)) (lookup (valuation_of ys (λ k. bits (suc k))) x) ≡ option_map bits (cond b (Some 0) (first_index_from 1 ys x))) [
       | true ↦ refl
-      | false ↦ lookup_in_valuation ys (λ k. bits (suc k)) x ∙ sym (ap (option_map bits) (place_later 0 ys x) ∙ shifted bits (place_from 0 ys x))
+      | false ↦ lookup_in_valuation ys (λ k. bits (suc k)) x ∙ sym (ap (option_map bits) (index_later 0 ys x) ∙ shifted bits (first_index_from 0 ys x))
     ]
 
 -- a place after the first is one after another
@@ -43,17 +37,17 @@ before (Some j) k e = let same : suc j ≡ k = cc in (j, refl, sym same)
 
 -- one name, where the law holds of the names after it
 update_first : (y : Name) (ys : List Name) (bits : Bits) (x : List ℕ) (c : Bool) (k : ℕ) (b : Bool)
-    → ((j : ℕ) → place_from 0 ys x ≡ Some j → update (valuation_of ys (λ i. bits (suc i))) x b ≡ valuation_of ys (with_bit (λ i. bits (suc i)) j b))
-    → cond c (Some 0) (place_from 1 ys x) ≡ Some k
+    → ((j : ℕ) → first_index_from 0 ys x ≡ Some j → update (valuation_of ys (λ i. bits (suc i))) x b ≡ valuation_of ys (with_bit (λ i. bits (suc i)) j b))
+    → cond c (Some 0) (first_index_from 1 ys x) ≡ Some k
     → cond c ((y.text, b) ∷ valuation_of ys (λ i. bits (suc i))) ((y.text, bits 0) ∷ update (valuation_of ys (λ i. bits (suc i))) x b) ≡ valuation_of (y ∷ ys) (with_bit bits k b)
 update_first y ys bits x true k b rest e =
     let first : 0 ≡ k = cc in
     subst (λ j. (y.text, b) ∷ valuation_of ys (λ i. bits (suc i)) ≡ valuation_of (y ∷ ys) (with_bit bits j b)) first refl
 update_first y ys bits x false k b rest e =
-    let at = before (place_from 0 ys x) k (sym (place_later 0 ys x) ∙ e) in
+    let at = before (first_index_from 0 ys x) k (sym (index_later 0 ys x) ∙ e) in
     rw at.2 (ap (λ m. (y.text, bits 0) ∷ m) (rest at.0 at.1))
 
-update_in_valuation : (ns : List Name) (bits : Bits) (x : List ℕ) (k : ℕ) (b : Bool) → place_from 0 ns x ≡ Some k
+update_in_valuation : (ns : List Name) (bits : Bits) (x : List ℕ) (k : ℕ) (b : Bool) → first_index_from 0 ns x ≡ Some k
     → update (valuation_of ns bits) x b ≡ valuation_of ns (with_bit bits k b)
 update_in_valuation [] bits x k b e = cc
 update_in_valuation (y ∷ ys) bits x k b e = update_first y ys bits x (bytes_eq y.text x) k b (λ j d. update_in_valuation ys (λ i. bits (suc i)) x j b d) e
@@ -67,9 +61,9 @@ read_at None None w s e = cc
 module _ (globals : List Name) (p : Procedure) (w : Store Bits) where
   pub slot_read : (x : List ℕ) (s : Slot) → slot_of globals p x ≡ Some s → slot_bit w s ≡ variable_value (named_store globals p w) x
   slot_read x s e =
-      sym (rw (lookup_in_valuation (variables p) w.locals x, lookup_in_valuation globals w.globals x) (read_at (place_from 0 (variables p) x) (place_from 0 globals x) w s e))
+      sym (rw (lookup_in_valuation (variables p) w.locals x, lookup_in_valuation globals w.globals x) (read_at (first_index_from 0 (variables p) x) (first_index_from 0 globals x) w s e))
 
-  after_write_at : (x : List ℕ) (b : Bool) (s : Slot) (l g : Option ℕ) → place_from 0 (variables p) x ≡ l → place_from 0 globals x ≡ g
+  after_write_at : (x : List ℕ) (b : Bool) (s : Slot) (l g : Option ℕ) → first_index_from 0 (variables p) x ≡ l → first_index_from 0 globals x ≡ g
       → option_or (option_map Local l) (option_map Global g) ≡ Some s
       → named_store globals p (with_slot w s b) ≡ after_write (named_store globals p w) x b
   after_write_at x b s (Some k) g el eg e =
@@ -84,7 +78,7 @@ module _ (globals : List Name) (p : Procedure) (w : Store Bits) where
 
   pub slot_after_write : (x : List ℕ) (b : Bool) (s : Slot) → slot_of globals p x ≡ Some s
       → named_store globals p (with_slot w s b) ≡ after_write (named_store globals p w) x b
-  slot_after_write x b s e = after_write_at x b s (place_from 0 (variables p) x) (place_from 0 globals x) refl refl e
+  slot_after_write x b s e = after_write_at x b s (first_index_from 0 (variables p) x) (first_index_from 0 globals x) refl refl e
 
 module _ (t : Program) (p : Procedure) (environment : Environment) (same : environment.globals ≡ t.globals) (own : environment.procedure ≡ p) where
   slot_is : (x : List ℕ) → IsSome (slot_of t.globals p x) → slot_of t.globals p x ≡ Some (slot_in environment x)

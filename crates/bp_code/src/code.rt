@@ -6,7 +6,7 @@ ghost use Rattle.bp_code.specs.Configurations.{procedure_named};
 ghost use Rattle.bp_code.specs.Flat.{flat};
 ghost use Rattle.bp_code.specs.Compiled.{heading_named};
 ghost use Rattle.bp_code.specs.StandsFor.{StandsFor, IsEntryOf};
-ghost use Rattle.bp_code.specs.Programs.{IsOfProgram};
+ghost use Rattle.bp_code.specs.Programs.{IsOfProgram, HasSpelledHeadings};
 
 use crate::headings::{Heading, find_heading};
 use crate::instrs::Instr;
@@ -119,6 +119,14 @@ impl Code {
     /// The law that every code stands for the lawful program of some text.
     pub fn is_of_a_program(&self)
         ensures { IsOfProgram self.now }
+    {
+        let _ = &self.globals;
+    }
+
+    /// The law that the name of each heading is an identifier that is not reserved, or a braced
+    /// name. So it holds no line feed (`has_names_on_one_line` of `bp_syntax`).
+    pub fn has_spelled_headings(&self)
+        ensures { HasSpelledHeadings self.now }
     {
         let _ = &self.globals;
     }

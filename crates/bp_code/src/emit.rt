@@ -5,13 +5,14 @@ ghost use Rattle.bp_tree.specs.Views.{decision_of};
 ghost use Rattle.bp_tree.specs.Blocks.{block_of, statement_of};
 ghost use Rattle.bp_code.specs.Environments.{environment_of};
 ghost use Rattle.bp_code.specs.Known.{IsKnown, IsKnownIn};
+ghost use Rattle.bp_code.specs.Layouts.{block_sizes, inner_sizes, AreSizesOf};
 ghost use Rattle.bp_code.specs.Compiled.{block_entry, block_size, size, with_block, with_statement};
 
 use crate::actions::{Action, Assignment, Branch, Call};
+use crate::environments::Environment;
 use crate::expr_lists::Arguments;
 use crate::instrs::Instr;
-use crate::layout::{Environment, size_of, size_of_block};
-use crate::translate::{callee, exprs, label, slots, test};
+use crate::translate::{exprs, slots, test};
 use bp_tree::{Block, Decider, Form, Stmt};
 use std::alloc::AllocError;
 
@@ -49,12 +50,14 @@ fn following(stmts: &[Stmt], i: usize, after: u32, next: u32) -> u32
 #[cycle(emit)]
 pub(crate) fn emit_block(
     out: &mut Vec<Instr>,
-    environment: &Environment,
+    environment: &Environment<'_, '_>,
     stmts: &[Stmt],
     next: u32,
 ) -> Result<(), AllocError>
     requires room { length out.old.items + block_size (block_of stmts.now) < 2 ^ 32 }
     requires known { IsKnown (environment_of environment.now) (block_of stmts.now) }
+    requires placed { let sizes = block_sizes (block_of stmts.now) in
+        AreSizesOf environment.now.layout (length out.old.items) sizes }
     ensures code { let environment = environment_of environment.now in
         let block = block_of stmts.now in
         OnOk result (out.new.items ≡ with_block environment out.old.items block next) }
@@ -62,7 +65,8 @@ pub(crate) fn emit_block(
         OnOk result (length out.new.items ≡ grown) }
 {
     for (i, stmt) in stmts.iter().enumerate() {
-        let after = out.len() as u32 + size_of(stmt.form());
+        let number = out.len() as u32;
+        let after = number + environment.layout.size_at(number);
         let follows = following(stmts, i, after, next);
         emit(out, environment, stmt.form(), follows)?;
     }
@@ -73,12 +77,14 @@ pub(crate) fn emit_block(
 #[cycle(emit)]
 fn emit(
     out: &mut Vec<Instr>,
-    environment: &Environment,
+    environment: &Environment<'_, '_>,
     form: &Form,
     next: u32,
 ) -> Result<(), AllocError>
     requires room { length out.old.items + size (statement_of form.now) < 2 ^ 32 }
     requires known { IsKnownIn (environment_of environment.now) (statement_of form.now) }
+    requires placed { let sizes = inner_sizes (statement_of form.now) in
+        AreSizesOf environment.now.layout (length out.old.items + 1) sizes }
     ensures code { let environment = environment_of environment.now in
         let statement = statement_of form.now in
         OnOk result (out.new.items ≡ with_statement environment out.old.items statement next) }
@@ -91,7 +97,7 @@ fn emit(
         Form::While(d, body) => return emit_while(out, environment, d, body, next),
         Form::Skip => Action::Skip { next },
         Form::Goto(to) => Action::Goto {
-            next: label(environment, to),
+            next: environment.label(to),
         },
         Form::Return => Action::Return,
         Form::Assign(targets, values) => {
@@ -116,7 +122,7 @@ fn emit(
             next,
         },
         Form::Call(name, arguments) => Action::Call(Call {
-            callee: callee(environment, name),
+            callee: environment.callee(name),
             arguments: Arguments::new(exprs(alloc, environment, arguments)?),
             next,
         }),
@@ -128,7 +134,7 @@ fn emit(
 #[cycle(emit)]
 fn emit_if(
     out: &mut Vec<Instr>,
-    environment: &Environment,
+    environment: &Environment<'_, '_>,
     d: &Decider,
     a: &Block,
     b: &Block,
@@ -138,6 +144,8 @@ fn emit_if(
         length out.old.items + size statement < 2 ^ 32 }
     requires known { let statement = Branches (decision_of d.now) a.now b.now in
         IsKnownIn (environment_of environment.now) statement }
+    requires placed { let sizes = inner_sizes (Branches (decision_of d.now) a.now b.now) in
+        AreSizesOf environment.now.layout (length out.old.items + 1) sizes }
     ensures code { let environment = environment_of environment.now in
         let statement = Branches (decision_of d.now) a.now b.now in
         OnOk result (out.new.items ≡ with_statement environment out.old.items statement next) }
@@ -145,7 +153,7 @@ fn emit_if(
         OnOk result (length out.new.items ≡ length out.old.items + size statement) }
 {
     let at = out.len() as u32;
-    let second = at + 1 + size_of_block(a.as_slice());
+    let second = at + 1 + environment.layout.size_of_block(a.as_slice(), at + 1);
     let test = test(*out.allocator(), environment, d)?;
     let branch = Branch {
         test,
@@ -161,7 +169,7 @@ fn emit_if(
 #[cycle(emit)]
 fn emit_while(
     out: &mut Vec<Instr>,
-    environment: &Environment,
+    environment: &Environment<'_, '_>,
     d: &Decider,
     body: &Block,
     next: u32,
@@ -170,6 +178,8 @@ fn emit_while(
         length out.old.items + size statement < 2 ^ 32 }
     requires known { let statement = Loops (decision_of d.now) body.now in
         IsKnownIn (environment_of environment.now) statement }
+    requires placed { let sizes = inner_sizes (Loops (decision_of d.now) body.now) in
+        AreSizesOf environment.now.layout (length out.old.items + 1) sizes }
     ensures code { let environment = environment_of environment.now in
         let statement = Loops (decision_of d.now) body.now in
         OnOk result (out.new.items ≡ with_statement environment out.old.items statement next) }

@@ -1,135 +1,180 @@
-//! How a program is laid out: the slots of its variables, the sizes of its statements, and the
-//! numbers of its labels.
-ghost use Rattle.std.specs.Prelude.{◌≡◌, ◌+◌, ◌*◌, ◌^◌, ◌<◌, ◌≤◌, ◌++◌, IsSome, length, map, IfOk};
+//! How the instructions of a procedure are laid out: how many each of its statements has, and the
+//! numbers of its labels. Both are written down in one walk.
+ghost use Rattle.std.specs.Prelude.{◌≡◌, ◌+◌, ◌^◌, ◌<◌, ◌≤◌, ◌++◌, ◌∷◌, ℕ, List, None, Some, if◌then◌else◌, IfOk, OnOk, IfSome, length};
+ghost use Rattle.std.specs.Option.{option_or};
 ghost use Rattle.bp_tree.specs.Blocks.{block_of, statement_of};
-ghost use Rattle.bp_code.specs.declared.limits.TheConstants.{SLOTS};
+ghost use Rattle.bp_check.specs.Tables.{index_in};
 ghost use Rattle.bp_code.specs.Continuations.{has_label};
-ghost use Rattle.bp_code.specs.Slots.{place_from, slot_of};
 ghost use Rattle.bp_code.specs.Compiled.{block_size, size, label_number, inner_number};
+ghost use Rattle.bp_code.specs.Layouts.{block_sizes, inner_sizes, AreSizesOf};
 
-use crate::headings::Heading;
-use crate::slots::{Index, Slot};
 use bp_tree::{Form, Name, Proc, Stmt};
+use std::alloc::{AllocError, Global};
+use std::collections::BTreeMap;
 
-/// What the names in the statements of a procedure mean: the globals, the procedure, the number of
-/// its first instruction, and the headings of all procedures.
+/// The number of a procedure's first instruction, the sizes of its statements in the order of the
+/// text, and the number of each of its labels.
 #[derive(Drop)]
-pub(crate) struct Environment<'a> {
-    pub(crate) globals: &'a [Name],
-    pub(crate) proc: &'a Proc,
-    pub(crate) start: u32,
-    pub(crate) headings: &'a [Heading],
-    ghost few_globals: { length globals.now ≤ SLOTS },
-    ghost few_variables: { length (proc.now.formals ++ proc.now.locals) ≤ SLOTS },
-    ghost short: { start + block_size proc.now.body < 2 ^ 32 },
+pub(crate) struct Layout<'a> {
+    start: u32,
+    sizes: Vec<u32>,
+    labels: BTreeMap<&'a str, u32>,
 }
 
-/// The place of the first name that is spelled so, where the first of the names has the place
-/// `first`.
-fn place_of(names: &[Name], first: u8, text: &str) -> Option<Index>
-    requires { first + length names.now ≤ SLOTS }
-    ensures { result ≡ place_from first names.now text.now }
-{
-    for (i, name) in names.iter().enumerate() {
-        if name.text() == text {
-            return Some(Index::new(first + i as u8));
+impl<'a> Layout<'a> {
+    /// The layout of a procedure whose first instruction has the number `start`.
+    pub(crate) fn new(alloc: Global, proc: &'a Proc, start: u32) -> Result<Layout<'a>, AllocError>
+        requires { start + block_size proc.now.body < 2 ^ 32 }
+        ensures start { IfOk result (λ l. l.start ≡ start) }
+        ensures sizes { IfOk result (λ l. l.sizes.items ≡ block_sizes proc.now.body) }
+        ensures labels { IfOk result (λ l. (text : List ℕ)
+            → index_in l.labels text ≡ label_number proc.now.body start text) }
+    {
+        let mut sizes = Vec::new(alloc);
+        let mut labels = BTreeMap::new(alloc);
+        note_block(&mut sizes, &mut labels, start, proc.body())?;
+        Ok(Layout {
+            start,
+            sizes,
+            labels,
+        })
+    }
+
+    /// How many instructions the statement of this number has.
+    pub(crate) fn size_at(&self, number: u32) -> u32
+        requires { (n : ℕ) × (more : List ℕ) × AreSizesOf self.now number (n ∷ more) }
+        ensures { (n : ℕ) (more : List ℕ)
+            → AreSizesOf self.now number (n ∷ more)
+            → result ≡ n }
+    {
+        self.sizes[(number - self.start) as usize]
+    }
+
+    /// How many instructions the statements have, of which the first has this number.
+    pub(crate) fn size_of_block(&self, stmts: &[Stmt], number: u32) -> u32
+        requires room { number + block_size (block_of stmts.now) < 2 ^ 32 }
+        requires placed { let sizes = block_sizes (block_of stmts.now) in
+            AreSizesOf self.now number sizes }
+        ensures { result ≡ block_size (block_of stmts.now) }
+    {
+        let mut total = 0;
+        for _stmt in stmts {
+            total += self.size_at(number + total);
         }
+        total
     }
-    None
+
+    /// The number of the procedure's first instruction.
+    pub(crate) fn start(&self) -> u32
+        ensures { result ≡ self.now.start }
+    {
+        self.start
+    }
+
+    /// How many instructions the procedure's statements have.
+    pub(crate) fn len(&self) -> usize
+        ensures { result ≡ length self.now.sizes.items }
+    {
+        self.sizes.len()
+    }
+
+    /// The number of the statement with this label.
+    pub(crate) fn label(&self, text: &str) -> Option<u32>
+        ensures { result ≡ index_in self.now.labels text.now }
+    {
+        self.labels.get(text).copied()
+    }
 }
 
-/// The slot of a variable: its place among the formals and then the locals, or else among the
-/// globals.
-pub(crate) fn slot_named(globals: &[Name], proc: &Proc, text: &str) -> Option<Slot>
-    requires globals { length globals.now ≤ SLOTS }
-    requires variables { length (proc.now.formals ++ proc.now.locals) ≤ SLOTS }
-    ensures { result ≡ slot_of globals.now proc.now text.now }
+/// Notes the sizes and labels of statements, which begin behind those that were noted.
+#[cycle(note)]
+fn note_block<'a>(
+    sizes: &mut Vec<u32>,
+    labels: &mut BTreeMap<&'a str, u32>,
+    start: u32,
+    stmts: &'a [Stmt],
+) -> Result<(), AllocError>
+    requires { start + length sizes.old.items + block_size (block_of stmts.now) < 2 ^ 32 }
+    ensures sizes { OnOk result
+        (sizes.new.items ≡ sizes.old.items ++ block_sizes (block_of stmts.now)) }
+    ensures labels { OnOk result ((text : List ℕ)
+        → let number = start + length sizes.old.items in
+        let found = label_number (block_of stmts.now) number text in
+        index_in labels.new text ≡ option_or (index_in labels.old text) found) }
 {
-    let formals = proc.formals();
-    if let Some(index) = place_of(formals, 0, text) {
-        return Some(Slot::Local(index));
-    }
-    if let Some(index) = place_of(proc.locals(), formals.len() as u8, text) {
-        return Some(Slot::Local(index));
-    }
-    match place_of(globals, 0, text) {
-        Some(index) => Some(Slot::Global(index)),
-        None => None,
-    }
-}
-
-/// How many instructions the statements have.
-#[cycle(size)]
-pub(crate) fn size_of_block(stmts: &[Stmt]) -> u32
-    requires { block_size (block_of stmts.now) < 2 ^ 32 }
-    ensures { result ≡ block_size (block_of stmts.now) }
-{
-    let mut total = 0;
     for stmt in stmts {
-        total += size_of(stmt.form());
+        note(sizes, labels, start, stmt)?;
     }
-    total
+    Ok(())
 }
 
-/// How many instructions a statement has.
-#[cycle(size)]
-pub(crate) fn size_of(form: &Form) -> u32
-    requires { size (statement_of form.now) < 2 ^ 32 }
-    ensures { result ≡ size (statement_of form.now) }
+/// Notes a statement and those inside it. Its own size is known behind them.
+#[cycle(note)]
+fn note<'a>(
+    sizes: &mut Vec<u32>,
+    labels: &mut BTreeMap<&'a str, u32>,
+    start: u32,
+    stmt: &'a Stmt,
+) -> Result<(), AllocError>
+    requires { start + length sizes.old.items + size (statement_of stmt.now.form) < 2 ^ 32 }
+    ensures sizes { let statement = statement_of stmt.now.form in
+        OnOk result
+        (sizes.new.items ≡ sizes.old.items ++ (size statement ∷ inner_sizes statement)) }
+    ensures labels { OnOk result ((text : List ℕ)
+        → let number = start + length sizes.old.items in
+        let inside = inner_number (statement_of stmt.now.form) number text in
+        let found = if has_label stmt.now.label text then Some number else inside in
+        index_in labels.new text ≡ option_or (index_in labels.old text) found) }
 {
-    match form {
-        Form::If(_, a, b) => 1 + (size_of_block(a.as_slice()) + size_of_block(b.as_slice())),
-        Form::While(_, body) => 1 + size_of_block(body.as_slice()),
-        _ => 1,
+    let index = sizes.len();
+    if let Some(label) = stmt.label() {
+        note_label(labels, label, start + index as u32)?;
     }
+    sizes.push(0)?;
+    note_inside(sizes, labels, start, stmt.form())?;
+    sizes[index] = (sizes.len() - index) as u32;
+    Ok(())
 }
 
-/// The number of the first statement with this label, where the first of the statements has the
-/// number `start`.
-#[cycle(label)]
-pub(crate) fn number_of_label(stmts: &[Stmt], start: u32, text: &str) -> Option<u32>
-    requires { start + block_size (block_of stmts.now) < 2 ^ 32 }
-    ensures { result ≡ label_number (block_of stmts.now) start text.now }
-{
-    let mut number = start;
-    for stmt in stmts {
-        if is_labelled(stmt, text) {
-            return Some(number);
-        }
-        let inside = number_inside(stmt.form(), number, text);
-        if inside.is_some() {
-            return inside;
-        }
-        number += size_of(stmt.form());
-    }
-    None
-}
-
-/// The same within one statement, which has the number `at`.
-#[cycle(label)]
-fn number_inside(form: &Form, at: u32, text: &str) -> Option<u32>
-    requires { at + size (statement_of form.now) < 2 ^ 32 }
-    ensures { result ≡ inner_number (statement_of form.now) at text.now }
+/// Notes the statements inside a statement, which is the last one that was noted.
+#[cycle(note)]
+fn note_inside<'a>(
+    sizes: &mut Vec<u32>,
+    labels: &mut BTreeMap<&'a str, u32>,
+    start: u32,
+    form: &'a Form,
+) -> Result<(), AllocError>
+    requires { start + length sizes.old.items + size (statement_of form.now) ≤ 2 ^ 32 }
+    ensures sizes { OnOk result
+        (sizes.new.items ≡ sizes.old.items ++ inner_sizes (statement_of form.now)) }
+    ensures labels { OnOk result ((number : ℕ) (text : List ℕ)
+        → number + 1 ≡ start + length sizes.old.items
+        → let found = inner_number (statement_of form.now) number text in
+        index_in labels.new text ≡ option_or (index_in labels.old text) found) }
 {
     match form {
         Form::If(_, a, b) => {
-            let inside = number_of_label(a.as_slice(), at + 1, text);
-            if inside.is_some() {
-                return inside;
-            }
-            number_of_label(b.as_slice(), at + 1 + size_of_block(a.as_slice()), text)
+            note_block(sizes, labels, start, a.as_slice())?;
+            note_block(sizes, labels, start, b.as_slice())
         }
-        Form::While(_, body) => number_of_label(body.as_slice(), at + 1, text),
-        _ => None,
+        Form::While(_, body) => note_block(sizes, labels, start, body.as_slice()),
+        _ => Ok(()),
     }
 }
 
-/// Whether the statement has this label.
-fn is_labelled(stmt: &Stmt, text: &str) -> bool
-    ensures { result ≡ has_label stmt.now.label text.now }
+/// Notes the number of a label, unless an earlier one is spelled so.
+fn note_label<'a>(
+    labels: &mut BTreeMap<&'a str, u32>,
+    label: &'a Name,
+    number: u32,
+) -> Result<(), AllocError>
+    ensures { OnOk result ((text : List ℕ)
+        → let found = if has_label (Some label.now) text then Some number else None in
+        index_in labels.new text ≡ option_or (index_in labels.old text) found) }
 {
-    match stmt.label() {
-        Some(label) => label.text() == text,
-        None => false,
+    let text = label.text();
+    if labels.get(text).is_none() {
+        labels.insert(text, number)?;
     }
+    Ok(())
 }

@@ -1,5 +1,5 @@
 //! The code of a whole program.
-ghost use Rattle.std.specs.Prelude.{◌≡◌, ◌+◌, ◌^◌, ◌<◌, ◌≤◌, ◌++◌, ◌∷◌, [], IfOk, OnOk, length};
+ghost use Rattle.std.specs.Prelude.{◌≡◌, ◌+◌, ◌^◌, ◌<◌, ◌≤◌, ◌++◌, ◌∷◌, [], IfOk, OnOk, length, map};
 ghost use Rattle.bp_code.specs.declared.limits.TheConstants.{SLOTS};
 ghost use Rattle.bp_tree.specs.Ast.{Program};
 ghost use Rattle.bp_code.specs.Known.{IsKnown};
@@ -12,10 +12,12 @@ ghost use Rattle.bp_code.specs.StandsFor.{StandsFor};
 use crate::actions::Action;
 use crate::code::Code;
 use crate::emit::{emit_block, push};
+use crate::environments::Environment;
 use crate::headings::Heading;
 use crate::instrs::Instr;
-use crate::layout::{Environment, size_of_block};
-use bp_check::Checked;
+use crate::layout::Layout;
+use crate::sizes::size_of_block;
+use bp_check::{Checked, NameTable};
 use bp_tree::{Name, Proc};
 use std::alloc::{AllocError, Global};
 
@@ -39,13 +41,15 @@ fn headings_of(alloc: Global, procs: &[Proc]) -> Result<Vec<Heading>, AllocError
 }
 
 /// Adds the instructions of a procedure, with a return after its statements.
-pub(crate) fn emit_proc(
+fn emit_proc<'a>(
     out: &mut Vec<Instr>,
-    globals: &[Name],
-    proc: &Proc,
+    globals: &NameTable<'a>,
+    procs: &NameTable<'a>,
     headings: &[Heading],
+    proc: &'a Proc,
 ) -> Result<(), AllocError>
     requires globals { length globals.now ≤ SLOTS }
+    requires named { map (λ h. h.name) headings.now ≡ map (λ n. n.text) procs.now }
     requires variables { length (proc.now.formals ++ proc.now.locals) ≤ SLOTS }
     requires room { length out.old.items + block_size proc.now.body + 1 < 2 ^ 32 }
     requires known { let start = length out.old.items in
@@ -56,14 +60,17 @@ pub(crate) fn emit_proc(
     ensures grown { let grown = length out.old.items + block_size proc.now.body + 1 in
         OnOk result (length out.new.items ≡ grown) }
 {
+    let alloc = *out.allocator();
     let start = out.len() as u32;
     let environment = Environment {
         globals,
-        proc,
-        start,
+        procs,
         headings,
+        proc,
+        own: NameTable::of_variables(alloc, proc)?,
+        layout: Layout::new(alloc, proc, start)?,
     };
-    let end = start + size_of_block(proc.body());
+    let end = start + environment.layout.len() as u32;
     emit_block(out, &environment, proc.body(), end)?;
     push(out, Instr::new(Action::Return))
 }
@@ -74,7 +81,9 @@ pub fn compile(alloc: Global, checked: &Checked) -> Result<Code, AllocError>
     ensures compiled { IfOk result (λ c. c ≡ flat_of checked.now) }
 {
     let tree = checked.tree();
-    tree.has_few_statements();
+    checked.has_few_statements();
+    checked.has_few_names();
+    checked.has_sound_statements();
     compile_program(alloc, tree.globals(), tree.procs())
 }
 
@@ -89,9 +98,12 @@ fn compile_program(alloc: Global, globals: &[Name], procs: &[Proc]) -> Result<Co
         IfOk result (λ c. c ≡ flat_of t) }
 {
     let headings = headings_of(alloc, procs)?;
+    let global_names = NameTable::of(alloc, globals)?;
+    let proc_names = NameTable::of_procedures(alloc, procs)?;
     let mut instrs = Vec::new(alloc);
     for proc in procs {
-        emit_proc(&mut instrs, globals, proc, headings.as_slice())?;
+        let headings = headings.as_slice();
+        emit_proc(&mut instrs, &global_names, &proc_names, headings, proc)?;
     }
     Ok(Code::new(headings, globals.len() as u32, instrs))
 }

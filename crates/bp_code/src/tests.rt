@@ -2,13 +2,11 @@
 use crate::actions::{Action, Branch};
 use crate::exprs::Test;
 use crate::instrs::Instr;
-use crate::programs::emit_proc;
 use crate::stores::{bit_at, with_bit, word_of};
 use crate::{Code, Effect, Heading, Kind, Store, WriteFault, compile, list, put, put_each};
 use bp_check::check;
 use bp_syntax::read;
-use bp_tree::{Block, Decider, Form, Name, Names, Proc, Stmt};
-use std::alloc::{AllocError, Global};
+use std::alloc::Global;
 use std::io::{self, ErrorKind, Write};
 use std::test::Fail;
 
@@ -55,29 +53,16 @@ fn carries_out_an_instruction(rt: HostRuntime) -> Result<(), Fail> {
     Ok(())
 }
 
-// The instructions of a procedure `main` whose body is `while (?) do skip; od`.
-fn instrs_of_a_loop(alloc: Global) -> Result<Vec<Instr>, AllocError> {
-    let name = Name::new(String::from_str(alloc, "main")?, 0);
-    let body = Block::new(vec![in alloc; Stmt::new(None, 26, Form::Skip)]?);
-    let stmt = Stmt::new(None, 13, Form::While(Decider::Choice, body));
-    let formals = Names::new(Vec::new(alloc));
-    let locals = Names::new(Vec::new(alloc));
-    let proc = Proc::new(name, formals, locals, Block::new(vec![in alloc; stmt]?));
-    let mut instrs = Vec::new(alloc);
-    emit_proc(&mut instrs, &[], &proc, &[])?;
-    Ok(instrs)
-}
-
 #[test]
 fn lists_a_loop(rt: HostRuntime) -> Result<(), Fail> {
-    let instrs = instrs_of_a_loop(rt.alloc())?;
-    assert_eq!(&rt; instrs.len(), 3);
+    let code = code_of(rt.alloc(), b"main() begin while (?) do skip; od end")?;
+    assert_eq!(&rt; code.len(), 3);
     for (number, kind, next, other) in [
         (0, Kind::While, Some(1), Some(2)),
         (1, Kind::Skip, Some(0), None),
         (2, Kind::Return, None, None),
     ] {
-        let Some(instr) = instrs.get(number) else {
+        let Some(instr) = code.get(number) else {
             return Err(Fail::from("no such instruction"));
         };
         assert!(&rt; instr.kind() == kind);

@@ -1,33 +1,23 @@
 //! From program trees to flat code.
-ghost use Rattle.std.specs.Prelude.{◌≡◌, ◌+◌, ◌^◌, ◌<◌, ◌≤◌, ◌++◌, IsSome, IfOk, OnOk, length, map};
+ghost use Rattle.std.specs.Prelude.{◌≡◌, IfOk};
 ghost use Rattle.bp_tree.specs.Views.{expression_of, decision_of};
-ghost use Rattle.bp_tree.specs.Blocks.{block_of, statement_of};
 ghost use Rattle.bp_code.specs.Views.{formula_of, test_of};
 ghost use Rattle.bp_code.specs.Environments.{environment_of};
 ghost use Rattle.bp_syntax.specs.NamesIn.{EachName, NamesInExpression, NamesInExpressions, NamesInDecision};
-ghost use Rattle.bp_code.specs.Known.{HasSlot, HasLabel, HasHeading};
-ghost use Rattle.bp_code.specs.Compiled.{slot_in, slots_in, formula_in, formulas_in, test_in, label_in, callee_in, block_size, size, block_code, statement_code};
+ghost use Rattle.bp_code.specs.Known.{HasSlot};
+ghost use Rattle.bp_code.specs.Compiled.{slots_in, formula_in, formulas_in, test_in};
 
+use crate::environments::Environment;
 use crate::expr_lists::SlotExprs;
 use crate::exprs::{SlotExpr, SlotSub, Test};
-use crate::headings::find_heading;
-use crate::layout::{Environment, number_of_label, slot_named};
-use crate::slots::{Slot, Slots};
-use bp_tree::{Decider, Expr, Exprs, Name, Names};
+use crate::slots::Slots;
+use bp_tree::{Decider, Expr, Exprs, Names};
 use std::alloc::{AllocError, Global};
-
-/// The slot of a declared variable.
-pub(crate) fn slot(environment: &Environment, name: &Name) -> Slot
-    requires { HasSlot (environment_of environment.now) name.now }
-    ensures { result ≡ slot_in (environment_of environment.now) name.now.text }
-{
-    slot_named(environment.globals, environment.proc, name.text()).unwrap()
-}
 
 /// The slots of declared variables, in order.
 pub(crate) fn slots(
     alloc: Global,
-    environment: &Environment,
+    environment: &Environment<'_, '_>,
     names: &Names,
 ) -> Result<Slots, AllocError>
     requires { EachName (HasSlot (environment_of environment.now)) names.now }
@@ -35,7 +25,7 @@ pub(crate) fn slots(
 {
     let mut items = Vec::new(alloc);
     for name in names.as_slice() {
-        items.push(slot(environment, name))?;
+        items.push(environment.slot(name))?;
     }
     Ok(Slots::new(items))
 }
@@ -43,7 +33,7 @@ pub(crate) fn slots(
 /// The expression over slots that stands for an expression over names.
 pub(crate) fn expr(
     alloc: Global,
-    environment: &Environment,
+    environment: &Environment<'_, '_>,
     e: &Expr,
 ) -> Result<SlotExpr, AllocError>
     requires { NamesInExpression (HasSlot (environment_of environment.now)) (expression_of e.now) }
@@ -52,7 +42,7 @@ pub(crate) fn expr(
 {
     match e {
         Expr::Const(b) => Ok(SlotExpr::Const(*b)),
-        Expr::Var(name) => Ok(SlotExpr::Var(slot(environment, name))),
+        Expr::Var(name) => Ok(SlotExpr::Var(environment.slot(name))),
         Expr::Not(e) => {
             let e = expr(alloc, environment, e.get())?;
             Ok(SlotExpr::Not(SlotSub::new(alloc, e)?))
@@ -69,7 +59,7 @@ pub(crate) fn expr(
 /// The expressions over slots that stand for expressions over names, in order.
 pub(crate) fn exprs(
     alloc: Global,
-    environment: &Environment,
+    environment: &Environment<'_, '_>,
     es: &Exprs,
 ) -> Result<SlotExprs, AllocError>
     requires { NamesInExpressions (HasSlot (environment_of environment.now)) es.now }
@@ -85,7 +75,7 @@ pub(crate) fn exprs(
 /// The test that stands for a decider.
 pub(crate) fn test(
     alloc: Global,
-    environment: &Environment,
+    environment: &Environment<'_, '_>,
     d: &Decider,
 ) -> Result<Test, AllocError>
     requires { NamesInDecision (HasSlot (environment_of environment.now)) (decision_of d.now) }
@@ -96,22 +86,4 @@ pub(crate) fn test(
         Decider::Choice => Ok(Test::Choice),
         Decider::Value(e) => Ok(Test::Value(expr(alloc, environment, e)?)),
     }
-}
-
-/// The number of the statement with this label.
-pub(crate) fn label(environment: &Environment, name: &Name) -> u32
-    requires { HasLabel (environment_of environment.now) name.now }
-    ensures { result ≡ label_in (environment_of environment.now) name.now.text }
-{
-    number_of_label(environment.proc.body(), environment.start, name.text()).unwrap()
-}
-
-/// The number of a procedure's first instruction.
-pub(crate) fn callee(environment: &Environment, name: &Name) -> u32
-    requires { HasHeading (environment_of environment.now) name.now }
-    ensures { result ≡ callee_in (environment_of environment.now) name.now.text }
-{
-    find_heading(environment.headings, name.text())
-        .unwrap()
-        .entry()
 }

@@ -11,7 +11,7 @@ use Rattle.bp_check.specs.declared.limits.TheConstants.{MAX_GLOBALS}
 use Rattle.bp_code.specs.Flat.{Flat}
 use Rattle.bp_code.specs.StandsFor.{StandsFor}
 use Rattle.bp_code.specs.Programs.{IsOfProgram}
-use Rattle.bp_code.proofs.LawfulIsCompilable as lawful
+use Rattle.bp_check.proofs.LawsOfLawfulPrograms.{few_names}
 use Rattle.bp_machine.specs.declared.setups.SetupFault.{SetupFault}
 use Rattle.bp_machine.proofs.ForEveryProgram.{is_untrue}
 use Rattle.bp_machine.specs.declared.setups.SetupFault.TheVariants.{Threads, InitLength, OutOfRange}
@@ -22,7 +22,7 @@ pub few_globals : (c : Flat) → IsOfProgram c → c.globals ≤ MAX_GLOBALS
 few_globals c of_some = ∥∥₁_elim of_some le_prop few
   where
     few : (t : Program) × IsLawful t × HasText t × StandsFor c t → c.globals ≤ MAX_GLOBALS
-    few (t, is_lawful, of_text, is) = omega (arith, lawful.few_globals t is_lawful, is.globals)
+    few (t, is_lawful, of_text, is) = omega (arith, (few_names t is_lawful).globals, is.globals)
 
 neither : {X : Type 0} (a b : Option X) → option_or a b ≡ None → (a ≡ None) × (b ≡ None)
 neither None b e = (refl, e)
@@ -74,7 +74,7 @@ module _ (c : Flat) (s : SetupOf) (of_some : IsOfProgram c) (none : (t : Program
   few_bits = ∥∥₁_elim of_some le_prop few
     where
       few : (t : Program) × IsLawful t × HasText t × StandsFor c t → length s.init ≤ MAX_GLOBALS
-      few (t, is_lawful, of_text, is) = omega (arith, lawful.few_globals t is_lawful, (fits t s (none t is)).init)
+      few (t, is_lawful, of_text, is) = omega (arith, (few_names t is_lawful).globals, (fits t s (none t is)).init)
 
   pub in_range : IsInRange s
   in_range =

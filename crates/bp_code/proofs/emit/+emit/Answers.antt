@@ -1,37 +1,80 @@
-use Rattle.std.proofs.Common.{◌≡◌, ◌+◌, ap, arith, length}
-use Rattle.bp_tree.specs.Blocks.{statement_of}
+use Rattle.std.proofs.Common.{◌≡◌, ◌+◌, ap, subst, arith, length, drop}
+use Rattle.bp_tree.specs.Blocks.{block_of, statement_of}
+use Rattle.bp_tree.specs.Depth.{depth}
 use Rattle.bp_code.specs.Environments.{environment_of}
 use Rattle.bp_code.specs.Compiled.{block_size, size}
+use Rattle.bp_code.specs.Layouts.{block_sizes, AreSizesOf}
 use Rattle.bp_code.proofs.BlockItems.{block_item, item_depth, code_more}
+use Rattle.bp_code.proofs.SizesInLayout.{inside, behind, second_part}
 use Rattle.bp_code.proofs.emit.+emit.Goals as goal
+
+pub emit_block-size_at-requires : goal.emit_block-size_at-requires
+emit_block-size_at-requires t c =
+    let split = block_item c.args.stmts.now c.loop-i.i c.index-stmts-i.result c.loop-i-test.true c.index-stmts-i.is in
+    let number : c.len-number.result ≡ length c.loop-i.out.items = rw c.len-number.ensures (let ok = c.loop-i.out.ok in omega arith) in
+    rw number (_, _, rw split at c.loop-i.invariant.placed)
+
+pub emit_block-overflow_add-after : goal.emit_block-overflow_add-after
+emit_block-overflow_add-after t c =
+    let split = block_item c.args.stmts.now c.loop-i.i c.index-stmts-i.result c.loop-i-test.true c.index-stmts-i.is in
+    let more = ap block_size split in
+    let number : c.len-number.result ≡ length c.loop-i.out.items = rw c.len-number.ensures (let ok = c.loop-i.out.ok in omega arith) in
+    let sizes = rw number at c.size_at.ensures in
+    let is = sizes _ _ (rw split at c.loop-i.invariant.placed) in
+    let so_far = c.loop-i.invariant.room in
+    let room = c.requires.room in
+    omega arith
 
 pub emit_block-emit-requires : goal.emit_block-emit-requires
 emit_block-emit-requires t c =
     let stmts = c.args.stmts.now in
     let item = c.index-stmts-i in
+    let s = statement_of item.result.form in
     let deep = item_depth stmts c.loop-i.i item.result c.loop-i-test.true item.is in
     let split = block_item stmts c.loop-i.i item.result c.loop-i-test.true item.is in
     let more = ap block_size split in
     let known = rw split at c.loop-i.invariant.known in
+    let placed = rw split at c.loop-i.invariant.placed in
     let so_far = c.loop-i.invariant.room in
     let room = c.requires.room in
-    rw c.form-in-loop-i.ensures (omega arith, (omega arith, known.0))
+    rw c.form.ensures (omega arith, (omega arith, (known.0, inside _ _ (length c.loop-i.out.items) (size s) s _ placed)))
 
 pub emit_block-loop-i-preserved : goal.emit_block-loop-i-preserved
 emit_block-loop-i-preserved t c =
     let stmts = c.args.stmts.now in
     let item = c.index-stmts-i in
+    let s = statement_of item.result.form in
     let split = block_item stmts c.loop-i.i item.result c.loop-i-test.true item.is in
     let more = ap block_size split in
     let known = rw split at c.loop-i.invariant.known in
+    let placed = rw split at c.loop-i.invariant.placed in
     let so_far = c.loop-i.invariant.room in
-    let one = rw c.form-in-loop-i.ensures at c.in_ok-emit.ensures.grown in
-    let code = rw c.form-in-loop-i.ensures at c.in_ok-emit.ensures.code in
-    let after : c.len.result + c.size_of.result ≡ length c.loop-i.out.items + size (statement_of item.result.form) =
-    rw (c.len.ensures, c.size_of.ensures, c.form.ensures) (let ok = c.loop-i.out.ok in omega arith) in
+    let one = rw c.form.ensures at c.in_ok-emit.ensures.grown in
+    let code = rw c.form.ensures at c.in_ok-emit.ensures.code in
+    let number : c.len-number.result ≡ length c.loop-i.out.items = rw c.len-number.ensures (let ok = c.loop-i.out.ok in omega arith) in
+    let sizes = rw number at c.size_at.ensures in
+    let is = sizes _ _ placed in
+    let after : c.len-number.result + c.size_at.result ≡ length c.loop-i.out.items + size s = omega arith in
     let follows = rw after at c.following-follows.ensures in
+    let rest = block_sizes (block_of (drop (c.loop-i.i + 1) stmts)) in
+    let moved : length c.loop-i.out.items + size s ≡ length c.emit.new.out.items = omega arith in
     record {
       room = omega arith;
       known = known.1;
+      placed = subst (λ n. AreSizesOf c.args.environment.now.layout n rest) moved (behind _ _ (length c.loop-i.out.items) (size s) s rest placed);
       code = code_more (environment_of c.args.environment.now) stmts c.loop-i.i item.result _ _ _ (length c.loop-i.out.items) (length c.emit.new.out.items) c.following-follows.result c.args.next c.loop-i-test.true item.is follows code one c.loop-i.invariant.code;
     }
+
+pub emit_if-emit_block-requires-2 : goal.emit_if-emit_block-requires-2
+emit_if-emit_block-requires-2 t c =
+    let a = c.args.a.now in
+    let b = c.args.b.now in
+    let start = length c.args.out.now.items in
+    let deep = ap depth c.as_slice-3.ensures in
+    let many = ap block_size c.as_slice-3.ensures in
+    let grown = rw c.as_slice-2.ensures at c.in_ok-emit_block.ensures.grown in
+    let one = c.in_ok-push.ensures.grown in
+    let room = c.requires.room in
+    let moved : start + 1 + block_size a ≡ length c.emit_block.new.out.items = omega arith in
+    let placed = subst (λ n. AreSizesOf c.args.environment.now.layout n (block_sizes b)) moved (second_part _ _ (start + 1) a b c.requires.placed) in
+    rw c.as_slice-3.ensures (omega arith, (omega arith, (c.requires.known.2, placed)))

@@ -5,6 +5,7 @@ use Rattle.bp_tree.specs.Blocks.{block_of, statement_of}
 use Rattle.bp_tree.specs.Depth.{depth, statement_depth}
 use Rattle.bp_code.specs.Environments.{environment_of}
 use Rattle.bp_code.specs.Known.{IsKnown}
+use Rattle.bp_code.specs.Layouts.{block_sizes, AreSizesOf}
 use Rattle.bp_code.specs.Compiled.{block_size, block_code}
 use Rattle.bp_code.proofs.emit.+emit.Given as goal
 
@@ -12,6 +13,7 @@ abbrev pub invariant-emit_block-loop-i : goal.invariant-emit_block-loop-i
 invariant-emit_block-loop-i l = record {
   room : length l.out.items + block_size (block_of (drop l.i l.stmts)) ≡ length l.fn.out.items + block_size (block_of l.stmts);
   known : IsKnown (environment_of l.environment) (block_of (drop l.i l.stmts));
+  placed : AreSizesOf l.environment.layout (length l.out.items) (block_sizes (block_of (drop l.i l.stmts)));
   code : l.out.items ++ block_code (environment_of l.environment) (block_of (drop l.i l.stmts)) (length l.out.items) l.next ≡ l.fn.out.items ++ block_code (environment_of l.environment) (block_of l.stmts) (length l.fn.out.items) l.next;
 }
 

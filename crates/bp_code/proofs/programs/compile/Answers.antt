@@ -3,8 +3,7 @@ use Rattle.bp_code.proofs.programs.compile.Goals as goal
 
 pub compile_program-requires-clause-able : goal.compile_program-requires-clause-able
 compile_program-requires-clause-able c =
-    let few = rw c.tree-tree.ensures.value at c.has_few_statements.ensures in
-    rw (c.globals.ensures.value, c.procs.ensures.value, c.tree-tree.ensures.value) (lawful_compiles c.args.checked.now c.tree-tree.ensures.lawful few)
+    rw (c.globals.ensures.value, c.procs.ensures.value, c.tree-tree.ensures.value) (lawful_compiles c.args.checked.now c.has_few_names.ensures c.has_sound_statements.ensures c.has_few_statements.ensures)
 
 pub compile_program-requires-clause-lawful : goal.compile_program-requires-clause-lawful
 compile_program-requires-clause-lawful c =

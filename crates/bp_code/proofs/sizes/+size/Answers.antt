@@ -2,7 +2,7 @@ use Rattle.std.proofs.Common.{◌≡◌, ◌+◌, ap, arith, drop}
 use Rattle.bp_tree.specs.Blocks.{block_of}
 use Rattle.bp_code.specs.Compiled.{block_size}
 use Rattle.bp_code.proofs.BlockItems.{block_item, item_depth}
-use Rattle.bp_code.proofs.layout.+size.Goals as goal
+use Rattle.bp_code.proofs.sizes.+size.Goals as goal
 
 pub size_of_block-size_of-total-requires : goal.size_of_block-size_of-total-requires
 size_of_block-size_of-total-requires t c =

@@ -2,7 +2,7 @@ use Rattle.std.proofs.Common.{◌≡◌, ◌+◌, ◌*◌, drop}
 use Rattle.bp_tree.specs.Blocks.{block_of, statement_of}
 use Rattle.bp_tree.specs.Depth.{depth, statement_depth}
 use Rattle.bp_code.specs.Compiled.{block_size}
-use Rattle.bp_code.proofs.layout.+size.Given as goal
+use Rattle.bp_code.proofs.sizes.+size.Given as goal
 
 abbrev pub invariant-size_of_block-loop-stmt : goal.invariant-size_of_block-loop-stmt
 invariant-size_of_block-loop-stmt l = l.total + block_size (block_of (drop l.stmt-index l.stmts)) ≡ block_size (block_of l.stmts)

@@ -1,0 +1,108 @@
+#!/usr/bin/env python3
+"""Nanoseconds a byte that btrun takes to compile texts of each kind, of half the longest length and of all of it.
+
+Usage: bench/compiling.py [PROGRAM [RUNS]]
+
+PROGRAM is the built program, crates/btrun/out/btrun if left out. Each text is lawful. It is read and checked by
+'btrun check', and read, checked and compiled as a bundle with no line of a schedule; the difference is what the
+code costs. Each time is the processor time of a run less that of the same run on a text of one statement, the
+least of RUNS runs.
+"""
+import os
+import resource
+import subprocess
+import sys
+import tempfile
+
+LIMIT = 65536
+
+SIZES = (LIMIT // 2, LIMIT)
+
+
+def repeated(before, piece, after):
+    """Texts with as many pieces as fit, filled with spaces. A '#' in a piece is its number."""
+    def text(size):
+        middle, count = b"", 0
+        while True:
+            more = piece.replace(b"#", b"%d" % count)
+            if len(before) + len(middle) + len(more) + len(after) > size:
+                break
+            middle, count = middle + more, count + 1
+        return before + middle + b" " * (size - len(before) - len(middle) - len(after)) + after
+    return text
+
+
+LOOPS = b"while (?) do " * 64
+BRANCHES = b"if (?) then " * 64
+
+KINDS = {
+    "jumps inside 64 loops": repeated(
+        b"main() begin " + LOOPS, b"goto e; ", b"od " * 64 + b"e: skip; end"
+    ),
+    "jumps inside one loop": repeated(
+        b"main() begin while (?) do ", b"goto e; ", b"od e: skip; end"
+    ),
+    "labels and jumps": repeated(b"main() begin while (?) do ", b"l#: goto l#; ", b"od end"),
+    "procedures with calls": repeated(b"", b"p#() begin p#(); end ", b"main() begin skip; end"),
+    "loops, 64 deep": repeated(b"main() begin ", LOOPS + b"skip; " + b"od " * 64, b"end"),
+    "branches, 64 deep": repeated(
+        b"main() begin ", BRANCHES + b"skip; " + b"else skip; fi " * 64, b"end"
+    ),
+    "assignments": repeated(
+        b"decl a, b, c; main() begin ", b"a, b := !a & (b | c), a => b; ", b"end"
+    ),
+    "long assignments": repeated(
+        b"decl a; main() begin ", b"a := 0" + b"|a" * 500 + b"; ", b"end"
+    ),
+    "128 locals": repeated(
+        b"p(" + b",".join(b"v%d" % n for n in range(128)) + b") begin ",
+        b"v127 := v63; ", b"end main() begin skip; end"
+    ),
+    "statements": repeated(b"main() begin ", b"skip; ", b"end"),
+}
+
+
+def children():
+    """The processor seconds of all runs so far."""
+    usage = resource.getrusage(resource.RUSAGE_CHILDREN)
+    return usage.ru_utime + usage.ru_stime
+
+
+def seconds(words, text, runs):
+    best = None
+    for _ in range(runs):
+        before = children()
+        done = subprocess.run(words, input=text, stdout=subprocess.DEVNULL, stderr=subprocess.PIPE)
+        spent = children() - before
+        assert done.returncode == 0, done.stderr
+        best = spent if best is None else min(best, spent)
+    return best
+
+
+def both(program, text, runs, path):
+    """The seconds to read and check a text, and those to compile it as well."""
+    with open(path, "wb") as file:
+        file.write(text)
+    checked = seconds([program, "check", path], b"", runs)
+    return checked, seconds([program], text + b"\n%\n", runs)
+
+
+def main():
+    program = sys.argv[1] if len(sys.argv) > 1 else "crates/btrun/out/btrun"
+    runs = int(sys.argv[2]) if len(sys.argv) > 2 else 20
+    path = os.path.join(tempfile.mkdtemp(), "text.bp")
+    nothing = both(program, b"main() begin skip; end", runs, path)
+    print("%-24s %17s %17s" % ("", "read and checked", "compiled"))
+    print("%-24s" % "kind" + " %8d" * 4 % (SIZES + SIZES))
+    for kind, text in KINDS.items():
+        checked, compiled = [], []
+        for size in SIZES:
+            first, second = both(program, text(size), runs, path)
+            spent = first - nothing[0]
+            checked.append(max(spent, 0.0) * 1e9 / size)
+            compiled.append(max(second - nothing[1] - spent, 0.0) * 1e9 / size)
+        print("%-24s" % kind + " %8.1f" * 4 % tuple(checked + compiled))
+
+
+if __name__ == "__main__":
+    main()

@@ -1,0 +1,116 @@
+use Rattle.std.proofs.Common.{◌≡◌, ◌+◌, ◌-◌, ap, ◌∙◌, arith, length, [], ◌∷◌, ◌++◌, append_assoc, length-append}
+use Rattle.std.proofs.lemmas.List.{set_at}
+use Rattle.std.proofs.lemmas.Result.{on_ok_weaker}
+use Rattle.bp_tree.specs.Views.{decision_of}
+use Rattle.bp_tree.specs.Blocks.{statement_of}
+use Rattle.bp_tree.specs.Depth.{depth, statement_depth}
+use Rattle.bp_check.specs.Tables.{index_in}
+use Rattle.bp_code.specs.Compiled.{block_size, size}
+use Rattle.bp_code.specs.Layouts.{block_sizes, inner_sizes}
+use Rattle.bp_code.proofs.BlockItems.{block_item, item_depth}
+use Rattle.bp_code.proofs.SizesInLayout.{sizes_length, inner_length}
+use Rattle.bp_code.proofs.NotedStatements.{sizes_more, labels_more, labels_of_both}
+use Rattle.bp_code.proofs.layout.+note.Goals as goal
+
+pub note-overflow_cast-len : goal.note-overflow_cast-len
+note-overflow_cast-len t c =
+    let old = c.args.sizes.now.items in
+    let inside = inner_sizes (statement_of c.args.stmt.now.form) in
+    let noted = rw (c.form.ensures, c.in_ok-push.ensures.items) at c.in_ok-note_inside.ensures.sizes in
+    let long = ap length noted in
+    let one = inner_length (statement_of c.args.stmt.now.form) in
+    let counts = length-append (old ++ 0 ∷ []) inside in
+    let count = length-append old (0 ∷ []) in
+    let room = c.requires in
+    rw (c.len.ensures, c.len-index.ensures) (let ok = c.note_inside.new.sizes.ok in let was = c.args.sizes.now.ok in omega arith)
+
+pub note-returns-clause-sizes : goal.note-returns-clause-sizes
+note-returns-clause-sizes t c =
+    let old = c.args.sizes.now.items in
+    let statement = statement_of c.args.stmt.now.form in
+    let inside = inner_sizes statement in
+    let noted = rw (c.form.ensures, c.in_ok-push.ensures.items) at c.in_ok-note_inside.ensures.sizes in
+    let items = noted ∙ append_assoc old (0 ∷ []) inside in
+    let long = ap length items in
+    let counts = length-append old (0 ∷ inside) in
+    let one = inner_length statement in
+    let start : length old ≡ c.len-index.result = rw c.len-index.ensures (let was = c.args.sizes.now.ok in omega arith) in
+    let value : c.len.result - c.len-index.result ≡ size statement =
+    rw (c.len.ensures, c.len-index.ensures) (let ok = c.note_inside.new.sizes.ok in let was = c.args.sizes.now.ok in omega arith) in
+    rw (items, value) (set_at old 0 inside (size statement) c.len-index.result start)
+
+pub note_block-note-requires : goal.note_block-note-requires
+note_block-note-requires t c =
+    let stmts = c.args.stmts.now in
+    let i = c.loop-stmt.stmt-index in
+    let deep = item_depth stmts i c.stmt-item.result c.loop-stmt-test.true c.stmt-item.is in
+    let more = ap block_size (block_item stmts i c.stmt-item.result c.loop-stmt-test.true c.stmt-item.is) in
+    let so_far = c.loop-stmt.invariant.room in
+    let room = c.requires in
+    (omega arith, omega arith)
+
+pub note_block-loop-stmt-preserved : goal.note_block-loop-stmt-preserved
+note_block-loop-stmt-preserved t c =
+    let stmts = c.args.stmts.now in
+    let i = c.loop-stmt.stmt-index in
+    let s = c.stmt-item.result in
+    let old = c.loop-stmt.sizes.items in
+    let statement = statement_of s.form in
+    let more = ap block_size (block_item stmts i s c.loop-stmt-test.true c.stmt-item.is) in
+    let noted = c.in_ok-note.ensures in
+    let one = inner_length statement in
+    let long = ap length noted.sizes in
+    let counts = length-append old (size statement ∷ inner_sizes statement) in
+    let so_far = c.loop-stmt.invariant.room in
+    let moved : c.args.start + length c.note.new.sizes.items ≡ c.args.start + length old + size statement = omega arith in
+    record {
+      room = omega arith;
+      sizes = sizes_more stmts i s c.loop-stmt-test.true c.stmt-item.is old c.note.new.sizes.items _ noted.sizes c.loop-stmt.invariant.sizes;
+      labels = λ x. labels_more stmts i s c.loop-stmt-test.true c.stmt-item.is x (c.args.start + length old) (c.args.start + length c.note.new.sizes.items)
+          (index_in c.loop-stmt.labels x) (index_in c.note.new.labels x) _ (noted.labels x) moved (c.loop-stmt.invariant.labels x);
+    }
+
+pub note_inside-note_block-requires : goal.note_inside-note_block-requires
+note_inside-note_block-requires t c =
+    let deep = ap (λ f. statement_depth (statement_of f)) c.in-If.is in
+    let many = ap (λ f. size (statement_of f)) c.in-If.is in
+    let part = ap depth c.as_slice.ensures in
+    let few = ap block_size c.as_slice.ensures in
+    let room = c.requires in
+    (omega arith, omega arith)
+
+pub note_inside-note_block-requires-in-If : goal.note_inside-note_block-requires-in-If
+note_inside-note_block-requires-in-If t c =
+    let deep = ap (λ f. statement_depth (statement_of f)) c.in-If.is in
+    let many = ap (λ f. size (statement_of f)) c.in-If.is in
+    let part = ap depth c.as_slice-in-If.ensures in
+    let few = ap block_size c.as_slice-in-If.ensures in
+    let noted = rw c.as_slice.ensures at c.in_ok-note_block-in-If.ensures.sizes in
+    let long = ap length noted in
+    let counts = length-append c.args.sizes.now.items (block_sizes c.in-If.a) in
+    let one = sizes_length c.in-If.a in
+    let room = c.requires in
+    (omega arith, omega arith)
+
+pub note_inside-note_block-requires-in-While : goal.note_inside-note_block-requires-in-While
+note_inside-note_block-requires-in-While t c =
+    let deep = ap (λ f. statement_depth (statement_of f)) c.in-While.is in
+    let many = ap (λ f. size (statement_of f)) c.in-While.is in
+    let part = ap depth c.as_slice-in-While.ensures in
+    let few = ap block_size c.as_slice-in-While.ensures in
+    let room = c.requires in
+    (omega arith, omega arith)
+
+pub note_inside-returns-in_ok-note_block-in-If-clause-labels :
+    goal.note_inside-returns-in_ok-note_block-in-If-clause-labels
+note_inside-returns-in_ok-note_block-in-If-clause-labels t c =
+    let noted = rw c.as_slice.ensures at c.in_ok-note_block-in-If.ensures in
+    let others = rw c.as_slice-in-If.ensures at c.note_block-in-If.ensures.labels in
+    let long = ap length noted.sizes in
+    let counts = length-append c.args.sizes.now.items (block_sizes c.in-If.a) in
+    let one = sizes_length c.in-If.a in
+    on_ok_weaker c.note_block-in-If.result (λ labels number x e.
+    let second : number + 1 + block_size c.in-If.a ≡ c.args.start + length c.note_block.new.sizes.items = omega arith in
+    rw c.in-If.is
+    (labels_of_both (decision_of c.in-If.field-0) c.in-If.a c.in-If.b x number _ _ (index_in c.args.labels.now x) (index_in c.note_block.new.labels x) (index_in c.note_block-in-If.new.labels x)
+    e second (noted.labels x) (labels x))) others
