@@ -25,10 +25,11 @@ def repeated(before, piece, after):
         middle, count = b"", 0
         while True:
             more = piece.replace(b"#", b"%d" % count)
-            if len(before) + len(middle) + len(more) + len(after) > size:
+            if len(before) + len(middle) + len(more) + len(after) >= size:
                 break
             middle, count = middle + more, count + 1
-        return before + middle + b" " * (size - len(before) - len(middle) - len(after)) + after
+        text = before + middle + after
+        return text + b" " * (size - len(text) - 1) + b"\n"
     return text
 
 
@@ -43,7 +44,10 @@ KINDS = {
         b"main() begin while (?) do ", b"goto e; ", b"od e: skip; end"
     ),
     "labels and jumps": repeated(b"main() begin while (?) do ", b"l#: goto l#; ", b"od end"),
-    "procedures with calls": repeated(b"", b"p#() begin p#(); end ", b"main() begin skip; end"),
+    "procedures with calls": repeated(
+        b"".join(b"p%d() begin p%d(); end " % (n, n) for n in range(255)) + b"main() begin ",
+        b"p254(); ", b"end"
+    ),
     "loops, 64 deep": repeated(b"main() begin ", LOOPS + b"skip; " + b"od " * 64, b"end"),
     "branches, 64 deep": repeated(
         b"main() begin ", BRANCHES + b"skip; " + b"else skip; fi " * 64, b"end"
@@ -84,14 +88,14 @@ def both(program, text, runs, path):
     with open(path, "wb") as file:
         file.write(text)
     checked = seconds([program, "check", path], b"", runs)
-    return checked, seconds([program], text + b"\n%\n", runs)
+    return checked, seconds([program], text + b"%\n", runs)
 
 
 def main():
     program = sys.argv[1] if len(sys.argv) > 1 else "crates/btrun/out/btrun"
     runs = int(sys.argv[2]) if len(sys.argv) > 2 else 20
     path = os.path.join(tempfile.mkdtemp(), "text.bp")
-    nothing = both(program, b"main() begin skip; end", runs, path)
+    nothing = both(program, b"main() begin skip; end\n", runs, path)
     print("%-24s %17s %17s" % ("", "read and checked", "compiled"))
     print("%-24s" % "kind" + " %8d" * 4 % (SIZES + SIZES))
     for kind, text in KINDS.items():
