@@ -6,6 +6,7 @@ pub mod ForEveryProgram
 pub mod GrantedSteps
 pub mod HistoryWithCall
 pub mod LegalLength
+pub mod OneCodeOneMeaning
 pub mod RealFailures
 pub mod SessionAnswers
 pub mod SetupInRange

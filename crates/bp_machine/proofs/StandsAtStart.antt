@@ -36,11 +36,11 @@ zero_bits (n ∷ ns) ms = ap (λ m. (n.text, false) ∷ m) (zero_bits ns ms)
 no_bits : bits_of 0 ≡ (λ k. false)
 no_bits = fun_ext (λ k. ap (λ n. n == 1) (bit_at-zero k))
 
-entry_fine : (k : ℕ) (o : Option Procedure) (rest : Option SetupFault) → option_or (entry_fault k o) rest ≡ None → (p : Procedure) × (o ≡ Some p)
+pub entry_fine : (k : ℕ) (o : Option Procedure) (rest : Option SetupFault) → option_or (entry_fault k o) rest ≡ None → (p : Procedure) × (o ≡ Some p)
 entry_fine k None rest e = absurd cc
 entry_fine k (Some p) rest e = (p, refl)
 
-others_fine : (o rest : Option SetupFault) → option_or o rest ≡ None → rest ≡ None
+pub others_fine : (o rest : Option SetupFault) → option_or o rest ≡ None → rest ≡ None
 others_fine None rest e = e
 others_fine (Some f) rest e = absurd cc
 
@@ -73,7 +73,7 @@ module _ (c : Flat) (t : Program) (s : SetupOf) (is : StandsFor c t) where
         tt,
       )
 
-  shown : (e : List ℕ) (p : Procedure) → procedure_named t.procedures e ≡ Some p
+  pub shown : (e : List ℕ) (p : Procedure) → procedure_named t.procedures e ≡ Some p
       → ShowsStack t (activations (first_thread c e).stack) (first_stack (procedure_named t.procedures e))
   shown e p is_named = at_heading e p (heading_named c.headings e) refl is_named (heading_of_procedure c t e is)
 

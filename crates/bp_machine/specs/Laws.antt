@@ -1,11 +1,14 @@
 -- Laws of histories.
 use Rattle.std.specs.Prelude.{◌≡◌, ◌≤◌, ◌*◌, ℕ, List, length}
 use Rattle.bp_tree.specs.Ast.{Program}
+use Rattle.bp_code.specs.Flat.{Flat}
+use Rattle.bp_code.specs.StandsFor.{StandsFor}
 use Rattle.bp_machine.specs.declared.calls.Call.{Call}
 use Rattle.bp_machine.specs.declared.reports.Outcome.TheVariants.{Failed}
 use Rattle.bp_machine.specs.Contexts.{IsWithin}
-use Rattle.bp_machine.specs.Setups.{SetupOf, start, threads}
+use Rattle.bp_machine.specs.Setups.{SetupOf, start, threads, FitsCode}
 use Rattle.bp_machine.specs.Histories.{configuration_after, granted_threads, granted_calls, IsLegal}
+use Rattle.bp_machine.specs.PrintedRows.{printed_rows}
 use Rattle.bp_machine.specs.Reports.{IsRun, outcome_of, IsRealFailure}
 
 -- the granted steps of a legal history are moves, one after the other, from the start
@@ -36,3 +39,14 @@ HistoriesAreShort =
     (t : Program) (s : SetupOf) (h : List Call)
     → IsLegal t s h
     → length h ≤ threads s * s.calls
+
+-- programs for which one code stands have the same legal histories, which print the same rows; their
+-- reports are the same as well, since a report is of the setup and the calls alone
+abbrev pub OneCodeOneMeaning : Type 0
+OneCodeOneMeaning =
+    (c : Flat) (t u : Program) (s : SetupOf) (h : List Call)
+    → StandsFor c t
+    → StandsFor c u
+    → FitsCode c s
+    → IsLegal t s h
+    → IsLegal u s h × (printed_rows t s h ≡ printed_rows u s h)

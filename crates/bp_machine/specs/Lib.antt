@@ -4,6 +4,7 @@ pub mod Contexts
 pub mod GuestThreads
 pub mod Histories
 pub mod Laws
+pub mod PrintedRows
 pub mod Replies
 pub mod Reports
 pub mod SessionCodes

@@ -1,5 +1,5 @@
 //! Laws of histories. These functions do nothing: their contracts are the laws.
-ghost use Rattle.bp_machine.specs.Laws.{StepsAreARun, StepsAreWithin, FailuresAreReal, HistoriesAreShort};
+ghost use Rattle.bp_machine.specs.Laws.{StepsAreARun, StepsAreWithin, FailuresAreReal, HistoriesAreShort, OneCodeOneMeaning};
 
 /// The granted steps of a legal history are a run of the program.
 pub fn steps_are_a_run()
@@ -20,4 +20,10 @@ pub fn failures_are_real()
 /// A legal history has at most as many calls as its threads may make together.
 pub fn histories_are_short()
     ensures { HistoriesAreShort }
+{}
+
+/// Programs for which one code stands have the same legal histories, of the setups that fit the
+/// code, and print the same rows.
+pub fn one_code_has_one_meaning()
+    ensures { OneCodeOneMeaning }
 {}

@@ -17,7 +17,10 @@ mod threads;
 
 pub use calls::{Call, Reply};
 pub use histories::{open_lines, outcome_of};
-pub use laws::{failures_are_real, histories_are_short, steps_are_a_run, steps_are_within};
+pub use laws::{
+    failures_are_real, histories_are_short, one_code_has_one_meaning, steps_are_a_run,
+    steps_are_within,
+};
 pub use reports::{Outcome, Report, report_of};
 pub use sessions::{AskFault, Session};
 pub use setups::{Setup, SetupFault};
