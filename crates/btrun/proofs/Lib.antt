@@ -1,1 +1,2 @@
+mod NoHelpEntered
 mod PlainWords

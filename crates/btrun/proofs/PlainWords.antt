@@ -65,9 +65,7 @@ is_not_code same = cc
 
 check_of : (command : Option (Text × List Row)) (file : Text) (task : Task) → command_and_file command ≡ Some (codes "check", file) → IsTaskOf command task → IsCheckOf file task
 check_of None file task name asks = search rules
-check_of (Some command) file Bundle name asks =
-    let check : command.0 ≡ codes "check" = search rules in
-    absurd (asks.0 check)
+check_of (Some command) file Bundle name asks = absurd asks
 check_of (Some command) file (Check path) name asks =
     let value : value_of (codes "FILE") command.1 ≡ file = search rules in
     asks.1 ∙ value
@@ -77,9 +75,7 @@ check_of (Some command) file (Code path) name asks =
 
 code_of : (command : Option (Text × List Row)) (file : Text) (task : Task) → command_and_file command ≡ Some (codes "code", file) → IsTaskOf command task → IsCodeOf file task
 code_of None file task name asks = search rules
-code_of (Some command) file Bundle name asks =
-    let code : command.0 ≡ codes "code" = search rules in
-    absurd (asks.1 code)
+code_of (Some command) file Bundle name asks = absurd asks
 code_of (Some command) file (Code path) name asks =
     let value : value_of (codes "FILE") command.1 ≡ file = search rules in
     asks.1 ∙ value

@@ -1,6 +1,6 @@
 -- What the words of the command line ask for. How words are told apart as commands, options and
 -- values is said by the rules of `clap`.
-use Rattle.std.specs.Prelude.{◌≡◌, ◌==◌, Bool, true, not, List, [], ◌∷◌, Option, Some, None, codes, unwrap_or}
+use Rattle.std.specs.Prelude.{◌≡◌, ◌⊎◌, ◌==◌, Bool, true, not, List, [], ◌∷◌, Option, Some, None, codes, unwrap_or}
 use Rattle.clap.specs.Walk.{Row, Text, first_of}
 use Rattle.clap.specs.Simple.{App, new_app, new_rule, on_top, with_rule, with_subcommand}
 use Rattle.btrun.specs.declared.commands.Task.{Task}
@@ -35,9 +35,14 @@ value_of id rows = unwrap_or (first_of id rows) []
 abbrev pub IsOfFile : Text → Text → List Row → Text → Type 0
 IsOfFile command name rows path = (name ≡ command) × (path ≡ value_of (codes "FILE") rows)
 
--- what the command of this name asks for, with its arguments
+-- the words name no command, or one of those that there are
+abbrev pub IsOurs : Option (Text × List Row) → Type 0
+IsOurs None = Unit {0}
+IsOurs (Some command) = (command.0 ≡ codes "check") ⊎ (command.0 ≡ codes "code")
+
+-- what the command of this name asks for, with its arguments; a bundle is asked for without one
 abbrev pub IsAsked : Text → List Row → Task → Type 0
-IsAsked name rows Bundle = (name ≡ codes "check" → ⊥) × (name ≡ codes "code" → ⊥)
+IsAsked name rows Bundle = ⊥
 IsAsked name rows (Check path) = IsOfFile (codes "check") name rows path.now
 IsAsked name rows (Code path) = IsOfFile (codes "code") name rows path.now
 

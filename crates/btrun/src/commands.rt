@@ -2,7 +2,7 @@
 ghost use Rattle.std.specs.Prelude.{◌≡◌, true, false, ℕ, List, [], ◌∷◌, map, codes, string_bytes, IfOk, MatchResult};
 ghost use Rattle.clap.specs.Words.{FailsBy, app_of, fault_of, kind_of, subcommand_of, subcommand_rows_of};
 ghost use Rattle.clap.specs.declared.builder.command.Command.TheViews.{out-Command};
-ghost use Rattle.btrun.specs.Commands.{btrun_app, file_app, is_plain, IsCheckOf, IsCodeOf, IsTaskOf};
+ghost use Rattle.btrun.specs.Commands.{btrun_app, file_app, is_plain, IsOurs, IsCheckOf, IsCodeOf, IsTaskOf};
 
 use clap::error::ErrorKind;
 use clap::{Arg, ArgMatches, Command, Error};
@@ -88,6 +88,7 @@ fn command<'a>(alloc: Global) -> Result<Command<'a>, AllocError>
 
 /// The task that the matched words name.
 fn task_of<'a>(matches: &ArgMatches<'a>) -> Task<'a>
+    requires { IsOurs (subcommand_rows_of matches.now) }
     ensures { IsTaskOf (subcommand_rows_of matches.now) result }
 {
     match matches.subcommand() {

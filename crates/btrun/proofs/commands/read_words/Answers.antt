@@ -1,8 +1,9 @@
-use Rattle.std.proofs.Common.{ap, ap₂, refl, rules, subst, true, map, string_bytes, [], ◌≡◌, ◌∙◌}
+use Rattle.std.proofs.Common.{ap, ap₂, refl, rules, subst, sym, true, map, string_bytes, [], ◌≡◌, ◌∙◌}
 use Rattle.clap.specs.Words.{fault_of, kind_of, subcommand_of, is_simple_and_free}
 use Rattle.clap.specs.declared.error.kind.ErrorKind.TheVariants.{OutOfMemory}
 use Rattle.clap.specs.Simple.{is_simple}
-use Rattle.btrun.specs.Commands.{btrun_app, IsTaskOf}
+use Rattle.btrun.specs.Commands.{btrun_app, IsOurs, IsTaskOf}
+use Rattle.btrun.proofs.NoHelpEntered.{named_ours}
 use Rattle.btrun.proofs.PlainWords.{none_faulty, check_faulty, check_asked, code_faulty, code_asked, only_memory}
 use Rattle.btrun.proofs.commands.read_words.Goals as goal
 
@@ -44,3 +45,10 @@ pub returns-clause-code : goal.returns-clause-code
 returns-clause-code c program file plain is =
     let named = (c.in_ok-matches.ensures.matches (ap is_simple c.in_ok-command.ensures ∙ refl)).1 ∙ ap₂ subcommand_of c.in_ok-command.ensures is in
     code_asked program file c.task_of.result plain (subst (λ command. IsTaskOf command c.task_of.result) named c.task_of.ensures)
+
+pub task_of-requires : goal.task_of-requires
+task_of-requires c =
+    let kinds = c.in_ok-matches.ensures.kinds (ap is_simple_and_free c.in_ok-command.ensures ∙ is_exact) in
+    let clean = subst (λ a. fault_of a (map string_bytes c.args.words.now) ≡ []) c.in_ok-command.ensures kinds in
+    let named = (c.in_ok-matches.ensures.matches (ap is_simple c.in_ok-command.ensures ∙ refl)).1 ∙ ap (λ a. subcommand_of a (map string_bytes c.args.words.now)) c.in_ok-command.ensures in
+    subst IsOurs (sym named) (named_ours (map string_bytes c.args.words.now) clean)
