@@ -72,36 +72,42 @@ def children():
     return usage.ru_utime + usage.ru_stime
 
 
-def seconds(words, text, runs):
-    best = None
-    for _ in range(runs):
-        before = children()
-        done = subprocess.run(words, input=text, stdout=subprocess.DEVNULL, stderr=subprocess.PIPE)
-        spent = children() - before
-        assert done.returncode == 0, done.stderr
-        best = spent if best is None else min(best, spent)
-    return best
+def seconds(words, text):
+    before = children()
+    done = subprocess.run(words, input=text, stdout=subprocess.DEVNULL, stderr=subprocess.PIPE)
+    assert done.returncode == 0, done.stderr
+    return children() - before
 
 
-def both(program, text, runs, path):
-    """The seconds to read and check a text, and those to compile it as well."""
+def both(program, text, path):
+    """The seconds of a run that reads and checks a text, and of one that compiles it as well."""
     with open(path, "wb") as file:
         file.write(text)
-    checked = seconds([program, "check", path], b"", runs)
-    return checked, seconds([program], text + b"%\n", runs)
+    return seconds([program, "check", path], b""), seconds([program], text + b"%\n")
+
+
+def least(program, texts, runs):
+    """Of each text the least of both over the runs. Each round measures all texts, so that a busy moment of the
+    machine spoils one run of each, not all runs of one."""
+    path = os.path.join(tempfile.mkdtemp(), "text.bp")
+    best = [(float("inf"), float("inf"))] * len(texts)
+    for _ in range(runs):
+        for k, text in enumerate(texts):
+            best[k] = tuple(map(min, best[k], both(program, text, path)))
+    return best
 
 
 def main():
     program = sys.argv[1] if len(sys.argv) > 1 else "crates/btrun/out/btrun"
     runs = int(sys.argv[2]) if len(sys.argv) > 2 else 20
-    path = os.path.join(tempfile.mkdtemp(), "text.bp")
-    nothing = both(program, b"main() begin skip; end\n", runs, path)
+    texts = [text(size) for text in KINDS.values() for size in SIZES]
+    nothing, *best = least(program, [b"main() begin skip; end\n"] + texts, runs)
     print("%-24s %17s %17s" % ("", "read and checked", "compiled"))
     print("%-24s" % "kind" + " %8d" * 4 % (SIZES + SIZES))
-    for kind, text in KINDS.items():
+    for kind in KINDS:
         checked, compiled = [], []
         for size in SIZES:
-            first, second = both(program, text(size), runs, path)
+            first, second = best.pop(0)
             spent = first - nothing[0]
             checked.append(max(spent, 0.0) * 1e9 / size)
             compiled.append(max(second - nothing[1] - spent, 0.0) * 1e9 / size)
