@@ -7,9 +7,10 @@ mod DeclaredIsKnown
 mod FirstNames
 pub mod HeadingsOfProcedures
 pub mod LawfulIsCompilable
-mod ListItems
+pub mod ListItems
 mod ListingLines
 mod NotedStatements
+pub mod SameAnswer
 mod SizesInLayout
 mod SlotsAreVariables
 mod SpelledHeadings

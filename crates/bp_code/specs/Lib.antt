@@ -16,6 +16,7 @@ pub mod Known
 pub mod Layouts
 pub mod Listing
 pub mod Moves
+pub mod Prints
 pub mod Programs
 pub mod Resolved
 pub mod Same

@@ -7,7 +7,7 @@ ghost use Rattle.bp_code.specs.Views.{formula_of};
 
 use crate::exprs::SlotExpr;
 use crate::stores::{Store, with_bit};
-use std::alloc::AllocError;
+use std::alloc::{AllocError, Global};
 use std::marker::Model;
 
 /// Expressions in order: right sides, arguments or printed values.
@@ -44,6 +44,17 @@ impl SlotExprs {
         ensures { map formula_of result.now ≡ self.now }
     {
         self.items.as_slice()
+    }
+
+    /// The values in order.
+    pub fn values(&self, alloc: Global, store: Store) -> Result<Vec<bool>, AllocError>
+        ensures { IfOk result (λ v. v.items ≡ formula_values (store_of store) self.now) }
+    {
+        let mut values = Vec::new(alloc);
+        for expr in self.items.as_slice() {
+            values.push(expr.value(store))?;
+        }
+        Ok(values)
     }
 
     /// A copy, which equals its source.

@@ -16,6 +16,7 @@ mod layout;
 pub mod limits;
 pub mod listing;
 mod names;
+mod prints;
 mod programs;
 mod sizes;
 mod slots;
