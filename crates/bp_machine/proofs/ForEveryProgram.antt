@@ -1,5 +1,5 @@
 -- What holds for every program that a code stands for, where it stands for one.
-use Rattle.std.proofs.Common.{◌≡◌, ℕ, Bool, true, false, List, None, refl, sym, subst}
+use Rattle.std.proofs.Common.{◌≡◌, ℕ, Bool, true, false, List, refl, sym}
 use Rattle.std.proofs.lemmas.Bool.{false≢true}
 use Rattle.std.proofs.Math.Logic.{∥∥₁_map, ∥∥₁_elim}
 use Rattle.std.proofs.Math.Nat.{ℕ_set}
@@ -8,10 +8,8 @@ use Rattle.bp_code.specs.Flat.{Flat}
 use Rattle.bp_code.specs.StandsFor.{StandsFor}
 use Rattle.bp_code.specs.Programs.{IsOfProgram}
 use Rattle.bp_machine.specs.declared.calls.Call.{Call}
-use Rattle.bp_machine.specs.Contexts.{IsLeastWithin}
-use Rattle.bp_machine.specs.Histories.{granted_threads, open_lines}
+use Rattle.bp_machine.specs.Histories.{open_lines}
 use Rattle.bp_machine.specs.Sessions.{SessionOf, Stands, StandsForAll}
-use Rattle.bp_machine.proofs.ContextCounts.{opened, opened_least, least_opened}
 
 for_one : (c : Flat) (P : Type 0) → IsOfProgram c → ((t : Program) → StandsFor c t → P) → ∥ P ∥₁
 for_one c P of_some each = ∥∥₁_map of_some (λ p. each p.0 p.3)
@@ -33,8 +31,3 @@ is_false c P of_some each p = ∥∥₁_elim (for_one c ⊥ of_some (λ t is. ea
 module _ (x : SessionOf) (h : List Call) (of_some : IsOfProgram x.code) (stands : StandsForAll x h) where
   pub same_open : (n : ℕ) → ((t : Program) (g : List Call) → Stands t x g → n ≡ open_lines x.setup g) → n ≡ open_lines x.setup h
   same_open n counted = same_number x.code n (open_lines x.setup h) of_some (λ t is. counted t h (stands t is))
-
-  pub least_used : (n : ℕ) → ((t : Program) (g : List Call) → Stands t x g → IsLeastWithin n (granted_threads g)) → IsLeastWithin n (granted_threads h)
-  least_used n counted =
-      let same = same_number x.code n (opened None (granted_threads h)) of_some (λ t is. least_opened n (granted_threads h) (counted t h (stands t is))) in
-      subst (λ k. IsLeastWithin k (granted_threads h)) (sym same) (opened_least (granted_threads h))

@@ -1,5 +1,5 @@
 -- A legal history has at most as many calls as its threads may make together.
-use Rattle.std.proofs.Common.{◌≡◌, ◌≢◌, ℕ, zero, suc, ◌+◌, ◌*◌, ◌<◌, ◌≤◌, ◌==◌, Bool, true, false, cond, ◌||◌, nat_le, List, [], ◌∷◌, ◌++◌, length, refl, ap, ◌∙◌, subst, arith, append_assoc, inl, inr}
+use Rattle.std.proofs.Common.{◌≡◌, ◌≢◌, ℕ, zero, suc, ◌+◌, ◌*◌, ◌<◌, ◌≤◌, ◌==◌, Bool, true, false, cond, ◌||◌, nat_le, List, [], ◌∷◌, ◌++◌, length, refl, ap, sym, ◌∙◌, subst, arith, append_assoc, add-one, inl, inr}
 use Rattle.std.proofs.Math.Nat.{suc-mul}
 use Rattle.std.proofs.lemmas.List.{append-nil, length-append}
 use Rattle.std.proofs.lemmas.Bool.Decides.{nat_tests}
@@ -16,7 +16,7 @@ AllBelow n [] = Unit {0}
 AllBelow n (x ∷ xs) = (x.thread < n) × AllBelow n xs
 
 -- the calls of the threads below n
-total : ℕ → List Call → ℕ
+pub total : ℕ → List Call → ℕ
 total zero h = 0
 total (suc n) h = total n h + length (calls_of_thread n h)
 
@@ -49,6 +49,14 @@ total_more (suc n) x xs h = elim (same_or_not x.thread n) [
   where
     below : x.thread ≢ n → x.thread < n
     below other = grind (arith, nat_tests)
+
+pub total_next : (n : ℕ) (h : List Call) → total n h + length (calls_of_thread n h) ≡ total (n + 1) h
+unfolding total
+total_next n h = ap (λ k. total k h) (sym (add-one n))
+
+pub total_zero : (h : List Call) → 0 ≡ total 0 h
+unfolding total
+total_zero h = refl
 
 total_none : (n : ℕ) → total n [] ≡ 0
 unfolding total
@@ -99,6 +107,10 @@ module _ (t : Program) (s : SetupOf) where
   -- each call of a legal history is of a thread of the setup
   pub all_below : (h : List Call) → IsLegal t s h → AllBelow (threads s) h
   all_below h legal = below_after [] h legal
+
+  -- the calls of all threads are all calls
+  pub all_calls : (h : List Call) → IsLegal t s h → total (threads s) h ≡ length h
+  all_calls h legal = total_all (threads s) h (all_below h legal)
 
   pub legal_length : (h : List Call) → IsLegal t s h → length h ≤ threads s * s.calls
   legal_length h legal =

@@ -7,7 +7,12 @@ pub mod GrantedSteps
 pub mod HistoryWithCall
 pub mod LegalLength
 pub mod OneCodeOneMeaning
+pub mod OpenLines
+pub mod OutcomeWithCall
+pub mod PreparedSessions
+pub mod PrintsAlike
 pub mod RealFailures
+pub mod SeededWithCall
 pub mod SessionAnswers
 pub mod SetupInRange
 pub mod SetupRefusals
@@ -17,3 +22,4 @@ pub mod StandsAfterTransition
 pub mod StandsAtStart
 pub mod StateAfterTransition
 pub mod TransitionIsAnswer
+pub mod WordsOfChoices

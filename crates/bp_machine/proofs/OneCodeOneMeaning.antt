@@ -7,11 +7,10 @@ use Rattle.std.proofs.lemmas.List.{get_or-set_same, get_or-set_other, get_or_pas
 use Rattle.std.proofs.lemmas.Bool.{cases_lt}
 use Rattle.std.proofs.lemmas.Bool.Decides.{nat_tests}
 use Rattle.bp_tree.specs.Ast.{Block, Done, Then, Skips, GoesTo, Returns, Assigns, Branches, Loops, Asserts, Assumes, Prints, Calls, Procedure, Program}
-use Rattle.bp_code.specs.Effects.{Store}
 use Rattle.bp_code.specs.Configurations.{Frame, Configuration, is_call, first_stack, procedure_named}
 use Rattle.bp_code.specs.Moves.{StatementEffect, Leaves, Fails, Blocks, Misses, effect, after_effect}
-use Rattle.bp_code.specs.Flat.{Flat, Instruction, Print, Call}
-use Rattle.bp_code.specs.Steps.{Bits, Activation, InstructionEffect, bits_from, step, formula_values}
+use Rattle.bp_code.specs.Flat.{Flat, Instruction, Call}
+use Rattle.bp_code.specs.Steps.{Bits, Activation, InstructionEffect, bits_from, step}
 use Rattle.bp_code.specs.StandsFor.{StandsFor, Does, Remains, valuation_of, variables, places_of}
 use Rattle.bp_code.specs.Alike.{ShowsStack, SameEffect}
 use Rattle.bp_code.proofs.StandsForStepsAlike.{steps_alike}
@@ -25,9 +24,10 @@ use Rattle.bp_machine.specs.GuestThreads.{first_thread}
 use Rattle.bp_machine.specs.States.{activations}
 use Rattle.bp_machine.specs.Setups.{SetupOf, start, entries_fault, entry_fault, Fits, FitsCode}
 use Rattle.bp_machine.specs.Histories.{configuration_after, IsLegalAfter, IsLegal}
-use Rattle.bp_machine.specs.PrintedRows.{values_at, values_printed, rows_of_call, rows_after, printed_rows}
+use Rattle.bp_machine.specs.PrintedRows.{rows_of_call, rows_after, printed_rows}
 use Rattle.bp_machine.proofs.EffectSizes.{shown_length}
 use Rattle.bp_machine.proofs.HistoryWithCall.{configuration_after-append}
+use Rattle.bp_machine.proofs.PrintsAlike.{printed_here, printed_alike}
 use Rattle.bp_machine.proofs.StandsAtStart.{bound_is, entry_fine, others_fine, shown}
 
 -- ---- what the code does
@@ -42,11 +42,6 @@ abbrev pub is_call_at : Option Instruction → Bool
 is_call_at (Some (Call c fs m)) = true
 is_call_at o = false
 
--- what an instruction prints
-abbrev pub printed_at : Option Instruction → Store Bits → Option (List Bool)
-printed_at (Some (Print fs m)) store = Some (formula_values store fs)
-printed_at o store = None
-
 abbrev pub reply_to_step : InstructionEffect → Option Reply
 reply_to_step (Leaves g stack) = Some Stepped
 reply_to_step Fails = Some Failed
@@ -59,10 +54,6 @@ module _ (code : List Instruction) where
   reply_here fits g (a ∷ below) bit =
       cond (not fits) (Some NoContexts)
       (cond (is_call_at (slice_get code a.number) && nat_le MAX_FRAMES (length (a ∷ below))) (Some Full) (reply_to_step (step code g a below bit)))
-
-  abbrev pub printed_here : Bits → List Activation → Option (List Bool)
-  printed_here g [] = None
-  printed_here g (a ∷ below) = printed_at (slice_get code a.number) (record { globals = g; locals = a.locals })
 
   abbrev pub state_after_effect : CodeState → ℕ → InstructionEffect → CodeState
   state_after_effect z i (Leaves b stack) = record { globals = b; stacks = λ j. cond (j == i) stack (z.stacks j); failed = false }
@@ -96,20 +87,6 @@ module _ (t : Program) (table : List Rattle.bp_code.specs.StandsFor.Place) (p : 
   call_alike (Then label at (Assumes d) r) i c = rw c.is refl
   call_alike (Then label at (Prints es) r) i c = rw c.is refl
   call_alike (Then label at (Calls x es) r) i c = rw c.is refl
-
-  print_alike : (left : Block) (i : Instruction) (w : Store Bits) → Does t table p left i
-      → values_at (Rattle.bp_code.specs.StandsFor.named_store t.globals p w) left ≡ printed_at (Some i) w
-  print_alike Done i w is = rw is refl
-  print_alike (Then label at Skips r) i w c = rw c.is refl
-  print_alike (Then label at (GoesTo x) r) i w c = rw c.is refl
-  print_alike (Then label at Returns r) i w is = rw is refl
-  print_alike (Then label at (Assigns xs es) r) i w c = rw c.is refl
-  print_alike (Then label at (Branches d a b) r) i w c = rw c.is refl
-  print_alike (Then label at (Loops d a) r) i w c = rw c.is refl
-  print_alike (Then label at (Asserts d) r) i w c = rw c.is refl
-  print_alike (Then label at (Assumes d) r) i w c = rw c.is refl
-  print_alike (Then label at (Prints es) r) i w c = rw c.is (ap Some (sym (c.values_are.equal w)))
-  print_alike (Then label at (Calls x es) r) i w c = rw c.is refl
 
 reply_alike : (t : Program) (o : InstructionEffect) (e : StatementEffect) → SameEffect t o e → reply_to_effect e ≡ reply_to_step o
 reply_alike t (Leaves b stack) (Leaves g s) same = refl
@@ -156,19 +133,11 @@ module _ (c : Flat) (t : Program) (st : StandsFor c t) (z : CodeState) (k : Conf
   pub reply_is : (fits : Bool) (i : ℕ) (bit : Bool) → reply_of t fits k i bit ≡ cond z.failed (Some Stopped) (reply_here c.instructions fits z.globals (z.stacks i) bit)
   reply_is fits i bit = λ j. cond (shows.failed j) (Some Stopped) (reply_on fits bit (z.stacks i) (stack_of k i) (shows.stack i) j)
 
-  printed_on : (acts : List Activation) (frames : List Frame) → ShowsStack t acts frames → values_printed k.globals frames ≡ printed_here c.instructions z.globals acts
-  printed_on [] [] shown = refl
-  printed_on [] (f ∷ fs) shown = absurd shown
-  printed_on (a ∷ below) [] shown = absurd shown
-  printed_on (a ∷ below) (f ∷ fs) shown =
-      let found = st.each a.number f.procedure f.left shown.0.left in
-      rw (found.1, shows.globals, shown.0.locals) (print_alike t (places_of t.procedures) f.procedure f.left found.0 (record { globals = z.globals; locals = a.locals }) found.2)
-
   pub rows_are : (x : calls.Call) → rows_of_call k x ≡ cond (is_granted x.reply)
       (option_to_list (option_map (λ (vs : List Bool). record { thread = x.thread; values = vs }) (printed_here c.instructions z.globals (z.stacks x.thread)))) []
   rows_are x =
       ap (λ o. cond (is_granted x.reply) (option_to_list (option_map (λ (vs : List Bool). record { thread = x.thread; values = vs }) o)) [])
-      (printed_on (z.stacks x.thread) (stack_of k x.thread) (shows.stack x.thread))
+      (printed_alike c t st k.globals z.globals shows.globals (z.stacks x.thread) (stack_of k x.thread) (shows.stack x.thread))
 
   module _ (i : ℕ) (within : i < length k.stacks) where
     stack_after_set : (stack : List Activation) (s : List Frame) → ShowsStack t stack s → (j : ℕ) (b : Bool) → (j == i) ≡ b

@@ -1,5 +1,5 @@
 -- What a session that stands after a history answers: a call, a refusal, and its accessors.
-use Rattle.std.proofs.Common.{◌≡◌, ℕ, ◌+◌, ◌<◌, ◌||◌, nat_le, Bool, false, List, [], ◌∷◌, ◌++◌, length, Some, refl, ap, sym, ◌∙◌, arith, cond, add-one, zero, suc, ◌≤◌, None, get_or, ◌⊎◌, inl, inr}
+use Rattle.std.proofs.Common.{◌≡◌, ℕ, ◌+◌, ◌/◌, ◌<◌, ◌||◌, nat_le, Bool, true, false, List, [], ◌∷◌, ◌++◌, length, Option, Some, is_some, refl, ap, sym, ◌∙◌, subst, arith, cond, add-one, zero, suc, ◌≤◌, None, get_or, ◌⊎◌, inl, inr}
 use Rattle.std.specs.Option.{option_map}
 use Rattle.std.proofs.lemmas.List.{length-set}
 use Rattle.std.specs.Prelude.{slice_get}
@@ -11,19 +11,23 @@ use Rattle.bp_code.specs.Steps.{Bits}
 use Rattle.bp_code.specs.Flat.{Flat}
 use Rattle.bp_code.specs.StandsFor.{StandsFor, valuation_of}
 use Rattle.bp_code.specs.Alike.{StepsAlike}
-use Rattle.bp_machine.specs.declared.calls.Reply.{Reply}
 use Rattle.bp_machine.specs.declared.calls.Call.{Call}
 use Rattle.bp_machine.specs.declared.threads.Transition.{Transition}
 use Rattle.bp_machine.specs.declared.threads.Transition.TheVariants.{Stays, Fails, Steps}
 use Rattle.bp_machine.specs.declared.sessions.AskFault.{AskFault}
-use Rattle.bp_machine.specs.declared.sessions.AskFault.TheVariants.{NoThread, Finished, Memory}
-use Rattle.bp_machine.specs.Setups.{SetupOf, threads}
-use Rattle.bp_machine.specs.Histories.{configuration_after, is_finished, ends_with_last, calls_of_thread, open_below}
-use Rattle.bp_machine.specs.States.{State, StandsAfter}
+use Rattle.bp_machine.specs.declared.sessions.AskFault.TheVariants.{NoThread, Finished, Seeded, Unseeded, Memory}
+use Rattle.bp_machine.specs.declared.sessions.Prepared.{Prepared}
+use Rattle.bp_machine.specs.ChoiceBits.{ChoicesOf, choice_bit, choice_word}
+use Rattle.bp_machine.specs.SeededHistories.{IsBitOfCall}
+use Rattle.bp_machine.specs.Setups.{SetupOf, threads, IsInRange}
+use Rattle.bp_machine.specs.Histories.{configuration_after, is_finished, ends_with_last, calls_of_thread, open_below, IsAllowed}
+use Rattle.bp_machine.specs.States.{State, MachineOf, StandsAfter}
 use Rattle.bp_machine.specs.GuestThreads.{GuestThreadOf}
-use Rattle.bp_machine.specs.Transitions.{reply_of_transition, thread_after, state_after, is_over, IsKeptRefusal, IsNextTransition, IsCallTransition}
-use Rattle.bp_machine.specs.Sessions.{SessionOf, Stands, IsInOrder, IsAskRefusal}
-use Rattle.bp_machine.proofs.StandsAfterTransition.{stands_after, call_step}
+use Rattle.bp_machine.specs.Transitions.{reply_of_transition, thread_after, state_after, is_over, IsCallTransition}
+use Rattle.bp_machine.specs.Sessions.{SessionOf, Stands, IsInOrder, HasOpenLine, IsNextCall, IsAskRefusal, choices_of}
+use Rattle.bp_machine.specs.KeptSessions.{AreDrawn, IsGiven, IsKeptBit, IsJudged, IsKeptRefusal}
+use Rattle.bp_machine.proofs.SeededWithCall.{seeded-append, choices_after}
+use Rattle.bp_machine.proofs.StandsAfterTransition.{allowed, stands_after, call_step}
 
 module _ (t : Program) (s : SetupOf) (x : State) (h : List Call) (stands : StandsAfter t s x h) (i : ℕ) (guest : GuestThreadOf) (has : slice_get x.threads i ≡ Some guest) where
   -- whether the line is finished is what the session keeps of it
@@ -32,59 +36,156 @@ module _ (t : Program) (s : SetupOf) (x : State) (h : List Call) (stands : Stand
       let shown = stands.thread i guest has in
       ap (λ b. b || nat_le s.calls guest.calls) shown.ended ∙ ap (λ n. ends_with_last (calls_of_thread i h) || nat_le s.calls n) shown.calls
 
-  within_threads : i < threads s
+  pub within_threads : i < threads s
   within_threads = omega (arith, slice_get_within x.threads i guest has, stands.thread_count)
 
   unfinished : is_over s guest ≡ false → is_finished s h i ≡ false
   unfinished goes_on = sym over_is ∙ goes_on
 
-module _ (t : Program) (s : SetupOf) (x : State) (h : List Call) (stands : StandsAfter t s x h) (i : ℕ) (bit : Bool) where
-  -- why a session refuses a call is why it is refused after the history
-  pub refused_after : (e : AskFault) → IsKeptRefusal s x i e → IsAskRefusal t s h i bit e
-  refused_after NoThread none = there (slice_get_cases x.threads i).1
+-- a session has choices of a thread exactly where its setup has a seed
+module _ (s : SetupOf) (choices : List ChoicesOf) (count : length choices ≡ choices_of s) (i : ℕ) where
+  count_at : (seed : Option ℕ) → s.seed ≡ seed → length choices ≡ cond (is_some seed) (threads s) 0
+  count_at seed e = count ∙ ap (λ o. cond (is_some o) (threads s) 0) e
+
+  pub has_seed : (c : ChoicesOf) → slice_get choices i ≡ Some c → (seed : ℕ) × (s.seed ≡ Some seed)
+  has_seed c at = go s.seed refl
     where
-      there : ((y : GuestThreadOf) × (i < length x.threads) × (slice_get x.threads i ≡ Some y) × (get_or x.threads i y ≡ y)) ⊎ ((length x.threads ≤ i) × (slice_get x.threads i ≡ None)) → threads s ≤ i
+      go : (o : Option ℕ) → s.seed ≡ o → (seed : ℕ) × (s.seed ≡ Some seed)
+      go (Some seed) e = (seed, e)
+      go None e = absurd (omega (arith, slice_get_within choices i c at, count_at None e))
+
+  pub no_seed : i < threads s → slice_get choices i ≡ None → s.seed ≡ None
+  no_seed within none = go s.seed refl
+    where
+      past : ((y : ChoicesOf) × (i < length choices) × (slice_get choices i ≡ Some y) × (get_or choices i y ≡ y)) ⊎ ((length choices ≤ i) × (slice_get choices i ≡ None)) → length choices ≤ i
+      past (inl (y, inside, has, is)) = let a = has in let b = none in absurd cc
+      past (inr (is, has)) = is
+
+      go : (o : Option ℕ) → s.seed ≡ o → s.seed ≡ None
+      go None e = e
+      go (Some seed) e = absurd (omega (arith, within, past (slice_get_cases choices i).1, count_at (Some seed) e))
+
+is_some_of : {X : Type 0} (o : Option X) (y : X) → o ≡ Some y → is_some o ≡ true
+is_some_of o y e = ap is_some e
+
+module _ (t : Program) (x : SessionOf) (h : List Call) (stands : Stands t x h) (count : length x.choices ≡ choices_of x.setup) (i : ℕ) (given : Option Bool) where
+  abbrev s : SetupOf
+  s = x.setup
+
+  abbrev state : State
+  state = x.machine.state
+
+  has_open_line : (guest : GuestThreadOf) → slice_get state.threads i ≡ Some guest → is_over s guest ≡ false → HasOpenLine s h i
+  has_open_line guest has goes_on =
+      (within_threads t s state h stands.state i guest has, unfinished t s state h stands.state i guest has goes_on)
+
+  -- why a session refuses a call is why it is refused after the history
+  pub refused_after : (e : AskFault) → IsKeptRefusal x i given e → IsAskRefusal t s h i given e
+  refused_after NoThread none = there (slice_get_cases state.threads i).1
+    where
+      there : ((y : GuestThreadOf) × (i < length state.threads) × (slice_get state.threads i ≡ Some y) × (get_or state.threads i y ≡ y)) ⊎ ((length state.threads ≤ i) × (slice_get state.threads i ≡ None)) → threads s ≤ i
       there (inl (y, inside, has, is)) = let a = has in let b = none in absurd cc
-      there (inr (past, is)) = omega (arith, past, stands.thread_count)
-  refused_after Finished (guest, has, over) = (within_threads t s x h stands i guest has, sym (over_is t s x h stands i guest has) ∙ over)
+      there (inr (past, is)) = omega (arith, past, stands.state.thread_count)
+  refused_after Finished over = (within_threads t s state h stands.state i over.guest over.has, sym (over_is t s state h stands.state i over.guest over.has) ∙ over.over)
+  refused_after Seeded (goes_on, ((c, has), (bit, is))) =
+      let seeded = has_seed s x.choices count i c has in
+      (has_open_line goes_on.guest goes_on.has goes_on.goes_on, is_some_of given bit is, is_some_of s.seed seeded.0 seeded.1)
+  refused_after Unseeded (goes_on, (none, is)) =
+      let line = has_open_line goes_on.guest goes_on.has goes_on.goes_on in
+      (line, is, no_seed s x.choices count i line.0 none)
   refused_after Memory never = absurd never
 
--- where a call goes on, memory may be refused only where its step is a call
-pub refused_for_memory : (x : SessionOf) (t : Program) (h : List Call) → StepsAlike x.code t → Stands t x h
-    → (i : ℕ) (bit : Bool) (v : Transition) → IsNextTransition x.code.instructions x.setup x.state i bit v → IsCallTransition v → IsAskRefusal t x.setup h i bit Memory
-refused_for_memory x t h alike stands i bit v next call =
-    let inside = within_threads t x.setup x.state h stands i next.guest next.has in
-    let open_still = unfinished t x.setup x.state h stands i next.guest next.has next.goes_on in
-    (inside, open_still, call_step x.code t alike x.setup x.state h stands i next.guest next.has inside open_still bit v call next.is)
+  -- the bit that a session gives a call is the one that it has to have
+  bit_of : (given : Option Bool) (bit : Bool) → i < threads s → IsKeptBit x.choices i given bit → IsBitOfCall s h i given bit
+  bit_of (Some b) bit within (none, is) = (no_seed s x.choices count i within none, is)
+  bit_of None bit within (c, has, is) =
+      let seeded = has_seed s x.choices count i c has in
+      let at = stands.choices seeded.0 i c seeded.1 has in
+      record {
+        seed = seeded.0;
+        has = seeded.1;
+        is = is ∙ ap (λ w. bits_of w c.place) at.word ∙ ap (bits_of (choice_word seeded.0 i (length (calls_of_thread i h) / 32))) at.place;
+      }
 
-pub answered : (x : SessionOf) (t : Program) (h : List Call) → StepsAlike x.code t → Stands t x h
-    → (i : ℕ) (bit : Bool) (v : Transition) → (next : IsNextTransition x.code.instructions x.setup x.state i bit v)
-    → (y : State) → y ≡ state_after x.state i next.guest v → (r : Reply) → r ≡ reply_of_transition v
-    → StandsAfter t x.setup y (h ++ record { thread = i; bit = bit; reply = r } ∷ [])
-answered x t h alike stands i bit v next y made r replied =
-    let guest = next.guest in
-    let inside = within_threads t x.setup x.state h stands i guest next.has in
-    let open_still = unfinished t x.setup x.state h stands i guest next.has next.goes_on in
-    rw (made, replied) (stands_after x.code t alike x.setup x.state h stands i guest next.has inside open_still bit v next.is)
+  module _ (alike : StepsAlike x.code t) (p : Prepared) (judged : IsJudged x i given p) where
+    line_of : HasOpenLine s h i
+    line_of = let next = judged.transition in has_open_line next.guest next.has next.goes_on
+
+    -- the call that was judged is the next call
+    pub judged_next : IsNextCall t s h i given p.call
+    judged_next =
+        let next = judged.transition in
+        let may = allowed x.code t alike s state h stands.state i next.guest next.has line_of.0 line_of.1 p.call.bit p.transition next.is in
+        record {
+          thread = judged.thread;
+          bit = bit_of given p.call.bit line_of.0 judged.bit;
+          allowed = subst (λ r. IsAllowed t s h (record { thread = p.call.thread; bit = p.call.bit; reply = r })) (sym judged.reply)
+              (subst (λ j. IsAllowed t s h (record { thread = j; bit = p.call.bit; reply = reply_of_transition p.transition })) (sym judged.thread) may);
+        }
+
+    -- memory may be refused only where its step is a call
+    pub refused_for_memory : IsCallTransition p.transition → IsAskRefusal t s h i given Memory
+    refused_for_memory call =
+        let next = judged.transition in
+        let step = call_step x.code t alike s state h stands.state i next.guest next.has line_of.0 line_of.1 p.call.bit p.transition call next.is in
+        (line_of, (p.call.bit, bit_of given p.call.bit line_of.0 judged.bit, step))
+
+pub given_bit : (choices : List ChoicesOf) (i : ℕ) (given : Option Bool) (bit : Bool) → IsKeptBit choices i given bit → IsGiven given bit
+given_bit choices i (Some b) bit is = is.1
+given_bit choices i None bit is = tt
+
+-- the session stands after the history with the call that was made
+module _ (t : Program) (x : SessionOf) (h : List Call) (stands : Stands t x h) (count : length x.choices ≡ choices_of x.setup) (alike : StepsAlike x.code t)
+    (p : Prepared) (given : Option Bool) (judged : IsJudged x p.call.thread given p)
+    (y : State) (made : y ≡ state_after x.machine.state p.call.thread judged.transition.guest p.transition)
+    (choices : List ChoicesOf) (drawn : AreDrawn p.call.thread x.choices choices) where
+  abbrev i : ℕ
+  i = p.call.thread
+
+  state_stands : StandsAfter t x.setup y (h ++ p.call ∷ [])
+  state_stands =
+      let next = judged.transition in
+      let line = judged_next t x h stands count i given alike p judged in
+      let after = stands_after x.code t alike x.setup x.machine.state h stands.state i next.guest next.has line.allowed.thread line.allowed.unfinished p.call.bit p.transition next.is in
+      subst (λ z. StandsAfter t x.setup z (h ++ p.call ∷ [])) (sym made)
+      (subst (λ r. StandsAfter t x.setup (state_after x.machine.state i next.guest p.transition) (h ++ record { thread = i; bit = p.call.bit; reply = r } ∷ [])) (sym judged.reply) after)
+
+  -- with a seed, the call has its bit
+  call_bit : (seed : ℕ) → x.setup.seed ≡ Some seed → (given : Option Bool) → IsBitOfCall x.setup h i given p.call.bit → p.call.bit ≡ choice_bit seed i (length (calls_of_thread i h))
+  call_bit seed e (Some b) (none, is) = let a = e in let b = none in absurd cc
+  call_bit seed e None is =
+      let same : is.seed ≡ seed = let a = is.has in let b = e in cc in
+      is.is ∙ ap (λ n. choice_bit n i (length (calls_of_thread i h))) same
+
+  pub committed : (machine : MachineOf) → machine.state ≡ y → (ready : Option Call)
+      → Stands t (record { code = x.code; setup = x.setup; machine = machine; choices = choices; ready = ready }) (h ++ p.call ∷ [])
+  committed machine is ready = record {
+    state = subst (λ z. StandsAfter t x.setup z (h ++ p.call ∷ [])) (sym is) state_stands;
+    seeded = λ seed e.
+        seeded-append seed h p.call (stands.seeded seed e) (call_bit seed e given (judged_next t x h stands count i given alike p judged).bit);
+    choices = λ seed j c e at. choices_after seed h p.call x.choices choices drawn (λ k d. stands.choices seed k d e) j c at;
+  }
 
 same_thread_count : (x : State) (i : ℕ) (guest : GuestThreadOf) (v : Transition) → length (state_after x i guest v).threads ≡ length x.threads
 same_thread_count x i guest (Stays r) = length-set x.threads i (thread_after guest (Stays r))
 same_thread_count x i guest Fails = length-set x.threads i (thread_after guest Fails)
 same_thread_count x i guest (Steps d) = length-set x.threads i (thread_after guest (Steps d))
 
--- where it stood after some history, it stands after a longer one
-pub still_in_order : (code : Flat) (setup : SetupOf) (x y : State) (i : ℕ) (guest : GuestThreadOf) (v : Transition) → y ≡ state_after x i guest v
-    → IsInOrder (record { code = code; setup = setup; state = x })
-    → ((t : Program) (h : List Call) → StandsFor code t → StandsAfter t setup x h → (g : List Call) × StandsAfter t setup y g)
-    → IsInOrder (record { code = code; setup = setup; state = y })
-still_in_order code setup x y i guest v made order goes_on = record {
-  range = order.range;
-  thread_count = ap (λ (z : State). length z.threads) made ∙ same_thread_count x i guest v ∙ order.thread_count;
+-- a session in order is in order with the call that was made
+pub still_in_order : (x y : SessionOf) (i : ℕ) (guest : GuestThreadOf) (v : Transition)
+    → y.code ≡ x.code → y.setup ≡ x.setup → y.machine.state ≡ state_after x.machine.state i guest v → length y.choices ≡ length x.choices
+    → IsInOrder x
+    → ((t : Program) (h : List Call) → StandsFor x.code t → Stands t x h → (g : List Call) × Stands t y g)
+    → IsInOrder y
+still_in_order x y i guest v code setup made count order goes_on = record {
+  range = subst IsInRange (sym setup) order.range;
+  thread_count = ap (λ (z : State). length z.threads) made ∙ same_thread_count x.machine.state i guest v ∙ order.thread_count ∙ ap threads (sym setup);
+  choice_count = count ∙ order.choice_count ∙ ap choices_of (sym setup);
   stands = ∥∥₁_map order.stands next;
 }
   where
-    next : (t : Program) × (h : List Call) × StandsFor code t × StandsAfter t setup x h → (t : Program) × (h : List Call) × StandsFor code t × StandsAfter t setup y h
-    next (t, h, is, stands) = let configuration_after = goes_on t h is stands in (t, configuration_after.0, is, configuration_after.1)
+    next : (t : Program) × (h : List Call) × StandsFor x.code t × Stands t x h → (t : Program) × (h : List Call) × StandsFor y.code t × Stands t y h
+    next (t, h, is, stands) = let later = goes_on t h is stands in (t, later.0, subst (λ c. StandsFor c t) (sym code) is, later.1)
 
 -- one more line of those that were counted
 pub count_more : (t : Program) (s : SetupOf) (x : State) (h : List Call) (stands : StandsAfter t s x h) (i : ℕ) (guest : GuestThreadOf) → slice_get x.threads i ≡ Some guest

@@ -1,5 +1,5 @@
 -- A setup without a fault fits its program, and its numbers are within their limits, since a program has few globals.
-use Rattle.std.proofs.Common.{◌≡◌, ℕ, ◌<◌, ◌≤◌, ◌==◌, ◌||◌, nat_lt, not, Bool, true, false, length, [], ◌∷◌, Option, None, Some, refl, arith, is_some}
+use Rattle.std.proofs.Common.{◌≡◌, ℕ, ◌<◌, ◌≤◌, ◌==◌, ◌||◌, nat_lt, not, Bool, true, false, length, [], ◌∷◌, Option, None, Some, refl, arith}
 use Rattle.std.specs.Option.{option_or}
 use Rattle.std.proofs.Math.Logic.{∥∥₁_elim}
 use Rattle.std.proofs.lemmas.Bool.Decides.{nat_tests}
@@ -35,10 +35,6 @@ untrue false f e = refl
 no_other : (a b : Bool) → (a || b) ≡ false → (a ≡ false) × (b ≡ false)
 no_other true b e = absurd cc
 no_other false b e = (refl, e)
-
-not_none : (o : Option ℕ) → is_some o ≡ false → o ≡ None
-not_none None e = refl
-not_none (Some n) e = absurd cc
 
 equal : (a b : ℕ) → not (a == b) ≡ false → a ≡ b
 equal a b e = grind (arith, nat_tests)
@@ -83,13 +79,11 @@ module _ (c : Flat) (s : SetupOf) (of_some : IsOfProgram c) (none : (t : Program
       let counted = no_other (threads s == 0) (nat_lt MAX_THREADS (threads s)) good_threads in
       let a = no_other (nat_lt MAX_CONTEXTS s.contexts) _ numbers in
       let b = no_other (s.calls == 0) _ a.1 in
-      let d = no_other (nat_lt MAX_CALLS s.calls) (is_some s.seed) b.1 in
       record {
         some = some_of (threads s) counted.0;
         few = above MAX_THREADS (threads s) counted.1;
         bits = few_bits;
         contexts = above MAX_CONTEXTS s.contexts a.0;
         one = some_of s.calls b.0;
-        calls = above MAX_CALLS s.calls d.0;
-        unseeded = not_none s.seed d.1;
+        calls = above MAX_CALLS s.calls b.1;
       }

@@ -14,6 +14,7 @@ use Rattle.bp_machine.specs.Setups.{SetupOf, threads}
 use Rattle.bp_machine.specs.Answers.{stack_of}
 use Rattle.bp_machine.specs.Replies.{is_last}
 use Rattle.bp_machine.specs.Histories.{configuration_after, granted_threads, calls_of_thread, ends_with_last, IsAllowed}
+use Rattle.bp_machine.specs.Reports.{outcome_of, is_failure}
 use Rattle.bp_machine.specs.States.{State, activations, ShowsThread, StandsAfter}
 use Rattle.bp_machine.specs.GuestThreads.{GuestThreadOf}
 use Rattle.bp_machine.proofs.HistoryWithCall.{legal-append, calls_of_thread-same, calls_of_thread-other, ends_with_last-append}
@@ -47,7 +48,8 @@ module _ (t : Program) (s : SetupOf) (x : State) (h : List Call) (stands : Stand
     pub guests : y.threads ≡ slice_set x.threads i guest_after
     pub after_is : configuration_after t s (h ++ call ∷ []) ≡ d
     pub globals : d.globals ≡ valuation_of t.globals (bits_of y.globals)
-    pub failed : d.failed ≡ y.failed
+    pub failed : d.failed ≡ is_failure y.outcome
+    pub outcome : y.outcome ≡ outcome_of (h ++ call ∷ [])
     pub stacks : length d.stacks ≡ threads s
     pub stack : ShowsStack t (activations guest_after.stack) (stack_of d i)
     pub others : (j : ℕ) → j ≢ i → stack_of d j ≡ stack_of (configuration_after t s h) j
@@ -80,6 +82,7 @@ module _ (t : Program) (s : SetupOf) (x : State) (h : List Call) (stands : Stand
         legal = legal-append t s h call stands.legal e.allowed;
         globals = ap (λ (c : Configuration). c.globals) is ∙ e.globals;
         failed = ap (λ (c : Configuration). c.failed) is ∙ e.failed;
+        outcome = e.outcome;
         stacks = ap (λ (c : Configuration). length c.stacks) is ∙ e.stacks;
         thread_count = ap length e.guests ∙ length-set x.threads i guest_after ∙ stands.thread_count;
         thread = λ j l at. subst (λ c. ShowsThread t c (h ++ call ∷ []) j l) (sym is) (each j l (sym (ap (λ ls. slice_get ls j) e.guests) ∙ at));

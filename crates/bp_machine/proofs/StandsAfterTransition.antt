@@ -21,6 +21,8 @@ use Rattle.bp_machine.specs.Histories.{configuration_after, granted_threads, is_
 use Rattle.bp_machine.specs.States.{State, activations, StandsAfter}
 use Rattle.bp_machine.specs.GuestThreads.{GuestThreadOf}
 use Rattle.bp_machine.specs.Transitions.{IsTransition, reply_of_transition, thread_after, state_after, stack_after, IsEntering, IsCallTransition}
+use Rattle.bp_machine.specs.Reports.{is_failure}
+use Rattle.bp_machine.proofs.OutcomeWithCall.{same_outcome, stepped_outcome, failed_outcome}
 use Rattle.bp_machine.proofs.ContextCounts.{counts_more, fits_with}
 use Rattle.bp_machine.proofs.HistoryWithCall.{configuration_after-append, granted_threads-append}
 use Rattle.bp_machine.proofs.TransitionIsAnswer.{IsAnswer, answer_of}
@@ -46,11 +48,11 @@ module _ (c : Flat) (t : Program) (alike : StepsAlike c t) (s : SetupOf) (x : St
   one_more = counts_more x.contexts (granted_threads h) i stands.contexts
 
   module _ (v : Transition) (is : IsTransition c.instructions x s.contexts i guest bit v) where
-    answer : IsAnswer t now.globals x.failed (stack_of now i) fits bit x.globals guest.stack v
+    answer : IsAnswer t now.globals (is_failure x.outcome) (stack_of now i) fits bit x.globals guest.stack v
     answer =
-        answer_of c t alike bit x.globals now.globals stands.globals x.failed guest.stack (stack_of now i) fits v (stands.thread i guest has).stack is
+        answer_of c t alike bit x.globals now.globals stands.globals (is_failure x.outcome) guest.stack (stack_of now i) fits v (stands.thread i guest has).stack is
 
-    allowed : IsAllowed t s h (call_of (reply_of_transition v))
+    pub allowed : IsAllowed t s h (call_of (reply_of_transition v))
     allowed = record {
       thread = within;
       unfinished = unfinished;
@@ -113,6 +115,7 @@ module _ (c : Flat) (t : Program) (alike : StepsAlike c t) (s : SetupOf) (x : St
         after_is = same_after;
         globals = stands.globals;
         failed = stands.failed;
+        outcome = stands.outcome ∙ same_outcome h (call_of r) none;
         stacks = stands.stacks;
         stack = (stands.thread i guest has).stack;
         others = λ j n. refl;
@@ -135,6 +138,7 @@ module _ (c : Flat) (t : Program) (alike : StepsAlike c t) (s : SetupOf) (x : St
         after_is = configuration_after-append t s h (call_of Failed) ∙ moves_on;
         globals = stands.globals;
         failed = refl;
+        outcome = failed_outcome h (call_of Failed) refl (ap is_failure (sym stands.outcome) ∙ going);
         stacks = stands.stacks;
         stack = (stands.thread i guest has).stack;
         others = λ j n. refl;
@@ -159,6 +163,7 @@ module _ (c : Flat) (t : Program) (alike : StepsAlike c t) (s : SetupOf) (x : St
         after_is = configuration_after-append t s h (call_of Stepped) ∙ moves_on;
         globals = worth;
         failed = sym going;
+        outcome = stands.outcome ∙ stepped_outcome h (call_of Stepped) refl;
         stacks = length-set now.stacks i stack ∙ stands.stacks;
         stack = subst (λ S. ShowsStack t (activations (stack_after d guest.stack)) S) (sym (get_or-set_same now.stacks i stack [] inside)) shown;
         others = λ j n. get_or-set_other now.stacks i j stack [] n;

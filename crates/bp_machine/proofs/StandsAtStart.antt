@@ -19,6 +19,8 @@ use Rattle.bp_code.proofs.HeadingsOfProcedures.{SameHeading, heading_of_procedur
 use Rattle.bp_machine.specs.declared.setups.SetupFault.{SetupFault}
 use Rattle.bp_machine.specs.ContextCounts.{IsCountOf}
 use Rattle.bp_machine.specs.Setups.{SetupOf, start, entry_fault, entries_fault, Fits}
+use Rattle.bp_machine.specs.declared.reports.Outcome.TheVariants.{Clean}
+use Rattle.bp_machine.specs.Reports.{is_failure}
 use Rattle.bp_machine.specs.States.{State, activations, ShowsThread, StandsAfter}
 use Rattle.bp_machine.specs.GuestThreads.{GuestThreadOf, first_thread}
 use Rattle.bp_machine.proofs.ContextCounts.{count_of_none}
@@ -91,12 +93,13 @@ module _ (c : Flat) (t : Program) (s : SetupOf) (is : StandsFor c t) where
         ended = refl;
       })
 
-  pub starts : (x : State) → Fits t s → bits_of x.globals ≡ bits_from s.init → x.threads ≡ map (first_thread c) s.entries → x.contexts ≡ record { used = 0; last = None } → x.failed ≡ false
+  pub starts : (x : State) → Fits t s → bits_of x.globals ≡ bits_from s.init → x.threads ≡ map (first_thread c) s.entries → x.contexts ≡ record { used = 0; last = None } → x.outcome ≡ Clean
       → StandsAfter t s x []
-  starts x fits word threads contexts failed = record {
+  starts x fits word threads contexts clean = record {
     legal = tt;
     globals = bound_is t.globals s.init ∙ ap (valuation_of t.globals) (sym word);
-    failed = sym failed;
+    failed = sym (ap is_failure clean);
+    outcome = clean;
     stacks = length-map s.entries (λ e. first_stack (procedure_named t.procedures e));
     thread_count = ap length threads ∙ length-map s.entries (first_thread c);
     thread = guest_here x fits threads;

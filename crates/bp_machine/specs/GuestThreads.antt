@@ -1,5 +1,5 @@
 -- A guest thread as a session keeps it.
-use Rattle.std.specs.Prelude.{ℕ, Bool, false, List, [], ◌∷◌, option_map, unwrap_or}
+use Rattle.std.specs.Prelude.{ℕ, Bool, false, List, [], ◌∷◌, map, option_map, unwrap_or}
 use Rattle.bp_code.specs.Flat.{Flat}
 use Rattle.bp_code.specs.Compiled.{heading_named}
 use Rattle.bp_machine.specs.declared.stacks.ActivationRecord.{ActivationRecord}
@@ -10,6 +10,17 @@ pub record GuestThreadOf : Type 0 where
   pub stack : List ActivationRecord
   pub calls : ℕ
   pub ended : Bool
+
+-- the same, and for how many more frames its stack has room
+pub record KeptThread : Type 0 where
+  pub guest : GuestThreadOf
+  pub room : ℕ
+
+abbrev pub guests : List KeptThread → List GuestThreadOf
+guests ks = map (λ k. k.guest) ks
+
+abbrev pub rooms : List KeptThread → List ℕ
+rooms ks = map (λ k. k.room) ks
 
 -- a thread that begins with the procedure of this name
 abbrev pub first_thread : Flat → List ℕ → GuestThreadOf

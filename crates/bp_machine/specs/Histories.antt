@@ -41,6 +41,10 @@ abbrev pub is_finished : SetupOf → List Call → ℕ → Bool
 is_finished s h i =
     ends_with_last (calls_of_thread i h) || nat_le s.calls (length (calls_of_thread i h))
 
+-- how many lines the call x finishes after h
+abbrev pub finished_by : SetupOf → List Call → Call → ℕ
+finished_by s h x = if is_finished s (h ++ x ∷ []) x.thread then 1 else 0
+
 -- how many of the lines below n are open
 abbrev pub open_below : ℕ → SetupOf → List Call → ℕ
 open_below zero s h = 0

@@ -40,8 +40,8 @@ HistoriesAreShort =
     → IsLegal t s h
     → length h ≤ threads s * s.calls
 
--- programs for which one code stands have the same legal histories, which print the same rows; their
--- reports are the same as well, since a report is of the setup and the calls alone
+-- programs for which one code stands have the same legal histories, which print the same rows;
+-- their reports are the same as well, since a report is of the setup and the calls alone
 abbrev pub OneCodeOneMeaning : Type 0
 OneCodeOneMeaning =
     (c : Flat) (t u : Program) (s : SetupOf) (h : List Call)

@@ -1,12 +1,15 @@
 pub mod Answers
+pub mod ChoiceBits
 pub mod ContextCounts
 pub mod Contexts
 pub mod GuestThreads
 pub mod Histories
+pub mod KeptSessions
 pub mod Laws
 pub mod PrintedRows
 pub mod Replies
 pub mod Reports
+pub mod SeededHistories
 pub mod SessionCodes
 pub mod Sessions
 pub mod Setups

@@ -1,5 +1,5 @@
 -- What a history comes to.
-use Rattle.std.specs.Prelude.{◌≡◌, ℕ, Bool, List, [], ◌∷◌, ◌++◌, Option, length}
+use Rattle.std.specs.Prelude.{◌≡◌, ℕ, Bool, true, false, List, [], ◌∷◌, ◌++◌, Option, length}
 use Rattle.bp_tree.specs.Ast.{Name, Block, Then, Asserts, Decision, Program}
 use Rattle.bp_code.specs.Values.{decision_value}
 use Rattle.bp_code.specs.Configurations.{Frame, Configuration}
@@ -23,6 +23,11 @@ outcome_or x r o = o
 abbrev pub outcome_of : List Call → Outcome
 outcome_of [] = outcome.Clean
 outcome_of (x ∷ xs) = outcome_or x x.reply (outcome_of xs)
+
+-- an assertion failed
+abbrev pub is_failure : Outcome → Bool
+is_failure (outcome.Failed i) = true
+is_failure o = false
 
 pub record IsReport (s : SetupOf) (h : List Call) (r : Report) : Type 0 where
   pub outcome : r.outcome ≡ outcome_of h

@@ -1,14 +1,21 @@
 -- Encodings of the values of sessions, each record as the tuple of its fields. No public clause
 -- names one.
-use Rattle.std.specs.Prelude.{ℕ, Bool, List, Option, refl}
+use Rattle.std.specs.Prelude.{◌≡◌, ℕ, zero, suc, Bool, List, Option, None, Some, refl}
 use Rattle.std.specs.Coded.{Coded, code_by, coded×, coded_ℕ, coded_bool, coded_list, coded_option}
 use Rattle.bp_code.specs.Flat.{Flat}
 use Rattle.bp_code.specs.Codes.{coded_flat}
 use Rattle.bp_machine.specs.declared.contexts.ContextCount.{ContextCount}
+use Rattle.bp_machine.specs.declared.calls.Call.{Call}
+use Rattle.bp_machine.specs.declared.calls.Reply.{Reply}
+use Rattle.bp_machine.specs.declared.calls.Reply.TheVariants.{Stopped, Ended, NoContexts, Full, Blocked, Stepped}
+use Rattle.bp_machine.specs.declared.calls.Reply.TheVariants as replies
+use Rattle.bp_machine.specs.declared.reports.Outcome.{Outcome}
+use Rattle.bp_machine.specs.declared.reports.Outcome.TheVariants.{Clean, Failed}
 use Rattle.bp_machine.specs.declared.stacks.ActivationRecord.{ActivationRecord}
 use Rattle.bp_machine.specs.Setups.{SetupOf, setup_of}
 use Rattle.bp_machine.specs.GuestThreads.{GuestThreadOf}
-use Rattle.bp_machine.specs.States.{State}
+use Rattle.bp_machine.specs.States.{State, MachineOf}
+use Rattle.bp_machine.specs.ChoiceBits.{ChoicesOf}
 use Rattle.bp_machine.specs.Sessions.{SessionOf}
 
 abbrev pub coded_setup : Coded SetupOf
@@ -43,17 +50,94 @@ coded_count =
     (λ p. record { used = p.0; last = p.1 })
     (λ _. refl)
 
+abbrev failed_thread : Outcome → Option ℕ
+failed_thread Clean = None
+failed_thread (Failed i) = Some i
+
+abbrev outcome_from : Option ℕ → Outcome
+outcome_from None = Clean
+outcome_from (Some i) = Failed i
+
+abbrev outcome_again : (o : Outcome) → outcome_from (failed_thread o) ≡ o
+outcome_again Clean = refl
+outcome_again (Failed i) = refl
+
+abbrev pub coded_outcome : Coded Outcome
+coded_outcome =
+    code_by (Option ℕ) (coded_option coded_ℕ) failed_thread outcome_from outcome_again
+
 abbrev pub coded_state : Coded State
 coded_state =
-    code_by ((ℕ × List GuestThreadOf) × (ContextCount × Bool))
-    (coded× (coded× coded_ℕ (coded_list coded_thread)) (coded× coded_count coded_bool))
-    (λ x. ((x.globals, x.threads), (x.contexts, x.failed)))
-    (λ p. record { globals = p.0.0; threads = p.0.1; contexts = p.1.0; failed = p.1.1 })
+    code_by ((ℕ × List GuestThreadOf) × (ContextCount × Outcome))
+    (coded× (coded× coded_ℕ (coded_list coded_thread)) (coded× coded_count coded_outcome))
+    (λ x. ((x.globals, x.threads), (x.contexts, x.outcome)))
+    (λ p. record { globals = p.0.0; threads = p.0.1; contexts = p.1.0; outcome = p.1.1 })
     (λ _. refl)
+
+abbrev pub coded_machine : Coded MachineOf
+coded_machine =
+    code_by (State × List ℕ) (coded× coded_state (coded_list coded_ℕ))
+    (λ m. (m.state, m.rooms))
+    (λ p. record { state = p.0; rooms = p.1 })
+    (λ _. refl)
+
+abbrev pub coded_choices : Coded ChoicesOf
+coded_choices =
+    code_by ((ℕ × ℕ) × (ℕ × ℕ)) (coded× (coded× coded_ℕ coded_ℕ) (coded× coded_ℕ coded_ℕ))
+    (λ c. ((c.word, c.place), (c.generator.state, c.generator.increment)))
+    (λ p. record {
+      word = p.0.0;
+      place = p.0.1;
+      generator = record { state = p.1.0; increment = p.1.1 };
+    })
+    (λ _. refl)
+
+abbrev reply_number : Reply → ℕ
+reply_number Stopped = 0
+reply_number Ended = 1
+reply_number NoContexts = 2
+reply_number Full = 3
+reply_number Blocked = 4
+reply_number replies.Failed = 5
+reply_number Stepped = 6
+
+abbrev reply_from : ℕ → Reply
+reply_from zero = Stopped
+reply_from (suc zero) = Ended
+reply_from (suc (suc zero)) = NoContexts
+reply_from (suc (suc (suc zero))) = Full
+reply_from (suc (suc (suc (suc zero)))) = Blocked
+reply_from (suc (suc (suc (suc (suc zero))))) = replies.Failed
+reply_from (suc (suc (suc (suc (suc (suc n)))))) = Stepped
+
+abbrev reply_again : (r : Reply) → reply_from (reply_number r) ≡ r
+reply_again Stopped = refl
+reply_again Ended = refl
+reply_again NoContexts = refl
+reply_again Full = refl
+reply_again Blocked = refl
+reply_again replies.Failed = refl
+reply_again Stepped = refl
+
+abbrev pub coded_call : Coded Call
+coded_call =
+    code_by (ℕ × (Bool × ℕ)) (coded× coded_ℕ (coded× coded_bool coded_ℕ))
+    (λ x. (x.thread, (x.bit, reply_number x.reply)))
+    (λ p. record { thread = p.0; bit = p.1.0; reply = reply_from p.1.1 })
+    (λ x i. record { thread = x.thread; bit = x.bit; reply = reply_again x.reply i })
 
 abbrev pub coded_session : Coded SessionOf
 coded_session =
-    code_by (Flat × (SetupOf × State)) (coded× coded_flat (coded× coded_setup coded_state))
-    (λ x. (x.code, (x.setup, x.state)))
-    (λ p. record { code = p.0; setup = p.1.0; state = p.1.1 })
+    code_by ((Flat × SetupOf) × (MachineOf × (List ChoicesOf × Option Call)))
+    (coded×
+    (coded× coded_flat coded_setup)
+    (coded× coded_machine (coded× (coded_list coded_choices) (coded_option coded_call))))
+    (λ x. ((x.code, x.setup), (x.machine, (x.choices, x.ready))))
+    (λ p. record {
+      code = p.0.0;
+      setup = p.0.1;
+      machine = p.1.0;
+      choices = p.1.1.0;
+      ready = p.1.1.1;
+    })
     (λ _. refl)

@@ -1,5 +1,5 @@
 -- What a session starts from, and when a setup is refused.
-use Rattle.std.specs.Prelude.{if◌then◌else◌, ◌≡◌, ℕ, ◌+◌, ◌<◌, ◌≤◌, ◌==◌, Bool, not, ◌||◌, nat_lt, List, [], ◌∷◌, Option, None, Some, is_some, length}
+use Rattle.std.specs.Prelude.{if◌then◌else◌, ◌≡◌, ℕ, ◌+◌, ◌<◌, ◌≤◌, ◌==◌, Bool, not, ◌||◌, nat_lt, List, [], ◌∷◌, Option, None, Some, length}
 use Rattle.std.specs.Option.{option_or}
 use Rattle.bp_tree.specs.Ast.{Procedure, Program}
 use Rattle.bp_check.specs.declared.limits.TheConstants.{MAX_GLOBALS}
@@ -50,10 +50,9 @@ entries_fault t k (e ∷ es) =
 abbrev pub has_bad_threads : SetupOf → Bool
 has_bad_threads s = threads s == 0 || nat_lt MAX_THREADS (threads s)
 
--- no setup has a seed yet
 abbrev pub is_out_of_range : SetupOf → Bool
 is_out_of_range s =
-    nat_lt MAX_CONTEXTS s.contexts || (s.calls == 0 || (nat_lt MAX_CALLS s.calls || is_some s.seed))
+    nat_lt MAX_CONTEXTS s.contexts || (s.calls == 0 || nat_lt MAX_CALLS s.calls)
 
 abbrev pub fault_if : Bool → SetupFault → Option SetupFault
 fault_if b f = if b then Some f else None
@@ -94,7 +93,6 @@ pub record IsInRange (s : SetupOf) : Type 0 where
   pub contexts : s.contexts ≤ MAX_CONTEXTS
   pub one : 0 < s.calls
   pub calls : s.calls ≤ MAX_CALLS
-  pub unseeded : s.seed ≡ None
 
 -- the number of a fault
 abbrev pub setup_fault_number : SetupFault → ℕ

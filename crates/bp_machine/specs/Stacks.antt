@@ -2,6 +2,11 @@
 use Rattle.std.specs.Prelude.{ℕ, List, [], ◌∷◌, Option, None, Some}
 use Rattle.bp_machine.specs.declared.stacks.ActivationRecord.{ActivationRecord}
 
+-- a stack, and for how many more frames it has room
+pub record StackOf : Type 0 where
+  pub frames : List ActivationRecord
+  pub room : ℕ
+
 abbrev pub top_of : List ActivationRecord → Option ActivationRecord
 top_of [] = None
 top_of (f ∷ fs) = Some f

@@ -1,5 +1,5 @@
 -- What a session keeps of its threads, and when that stands for the configuration after a history.
-use Rattle.std.specs.Prelude.{◌≡◌, ℕ, Bool, List, Some, length, map, slice_get}
+use Rattle.std.specs.Prelude.{◌≡◌, ℕ, List, Some, length, map, slice_get}
 use Rattle.bp_tree.specs.Ast.{Program}
 use Rattle.bp_code.specs.Configurations.{Configuration}
 use Rattle.bp_code.specs.Bits.{bits_of}
@@ -8,19 +8,26 @@ use Rattle.bp_code.specs.StandsFor.{valuation_of}
 use Rattle.bp_code.specs.Alike.{ShowsStack}
 use Rattle.bp_machine.specs.declared.calls.Call.{Call}
 use Rattle.bp_machine.specs.declared.contexts.ContextCount.{ContextCount}
+use Rattle.bp_machine.specs.declared.reports.Outcome.{Outcome}
 use Rattle.bp_machine.specs.declared.stacks.ActivationRecord.{ActivationRecord}
 use Rattle.bp_machine.specs.ContextCounts.{IsCountOf}
 use Rattle.bp_machine.specs.GuestThreads.{GuestThreadOf}
 use Rattle.bp_machine.specs.Setups.{SetupOf, threads}
 use Rattle.bp_machine.specs.Answers.{stack_of}
 use Rattle.bp_machine.specs.Histories.{configuration_after, granted_threads, calls_of_thread, ends_with_last, IsLegal}
+use Rattle.bp_machine.specs.Reports.{outcome_of, is_failure}
 
 -- the globals are a word, a bit for each slot
 pub record State : Type 0 where
   pub globals : ℕ
   pub threads : List GuestThreadOf
   pub contexts : ContextCount
-  pub failed : Bool
+  pub outcome : Outcome
+
+-- a machine: its state, and for how many more frames the stack of each thread has room
+pub record MachineOf : Type 0 where
+  pub state : State
+  pub rooms : List ℕ
 
 abbrev pub activation_of : ActivationRecord → Activation
 activation_of f = record { number = f.number; locals = bits_of f.locals }
@@ -39,7 +46,8 @@ pub record ShowsThread
 pub record StandsAfter (t : Program) (s : SetupOf) (x : State) (h : List Call) : Type 0 where
   pub legal : IsLegal t s h
   pub globals : (configuration_after t s h).globals ≡ valuation_of t.globals (bits_of x.globals)
-  pub failed : (configuration_after t s h).failed ≡ x.failed
+  pub failed : (configuration_after t s h).failed ≡ is_failure x.outcome
+  pub outcome : x.outcome ≡ outcome_of h
   pub stacks : length (configuration_after t s h).stacks ≡ threads s
   pub thread_count : length x.threads ≡ threads s
   pub thread : (i : ℕ) (guest : GuestThreadOf)

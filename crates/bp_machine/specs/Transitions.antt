@@ -10,7 +10,9 @@ use Rattle.bp_code.specs.declared.effects.Effect.TheVariants as instr
 use Rattle.bp_code.specs.InstrEffects.{effect_of}
 use Rattle.bp_code.specs.Steps.{Activation, instruction_effect}
 use Rattle.bp_machine.specs.declared.calls.Reply.{Reply}
-use Rattle.bp_machine.specs.declared.calls.Reply.TheVariants.{Stopped, Ended, NoContexts, Full, Blocked, Failed, Stepped}
+use Rattle.bp_machine.specs.declared.calls.Reply.TheVariants.{Stopped, Ended, NoContexts, Full, Blocked, Stepped}
+use Rattle.bp_machine.specs.declared.calls.Reply.TheVariants as reply
+use Rattle.bp_machine.specs.declared.reports.Outcome.TheVariants.{Failed}
 use Rattle.bp_machine.specs.declared.stacks.ActivationRecord.{ActivationRecord}
 use Rattle.bp_machine.specs.declared.threads.Transition.{Transition}
 use Rattle.bp_machine.specs.declared.threads.Transition.TheVariants.{Stays, Fails, Steps}
@@ -20,8 +22,7 @@ use Rattle.bp_machine.specs.ContextCounts.{used_with, count_with}
 use Rattle.bp_machine.specs.GuestThreads.{GuestThreadOf}
 use Rattle.bp_machine.specs.Setups.{SetupOf}
 use Rattle.bp_machine.specs.States.{State}
-use Rattle.bp_machine.specs.declared.sessions.AskFault.{AskFault}
-use Rattle.bp_machine.specs.declared.sessions.AskFault.TheVariants.{NoThread, Finished, Memory}
+use Rattle.bp_machine.specs.Reports.{is_failure}
 
 -- what the topmost record sees: the globals, and its locals
 abbrev pub store_at : ℕ → ActivationRecord → Store
@@ -63,11 +64,11 @@ abbrev pub IsTransition :
     List Instruction → State → ℕ → ℕ → GuestThreadOf → Bool → Transition → Type 0
 IsTransition code x most i guest bit v =
     let fits = nat_le (used_with x.contexts i) most in
-    IsTransitionUnless code x.globals bit x.failed fits guest.stack v
+    IsTransitionUnless code x.globals bit (is_failure x.outcome) fits guest.stack v
 
 abbrev pub reply_of_transition : Transition → Reply
 reply_of_transition (Stays r) = r
-reply_of_transition Fails = Failed
+reply_of_transition Fails = reply.Failed
 reply_of_transition (Steps d) = Stepped
 
 -- the stack after a step
@@ -103,13 +104,13 @@ state_after x i guest Fails = record {
   globals = x.globals;
   threads = slice_set x.threads i (thread_after guest Fails);
   contexts = count_with x.contexts i;
-  failed = true;
+  outcome = Failed i;
 }
 state_after x i guest (Steps d) = record {
   globals = globals_after x.globals (Steps d);
   threads = slice_set x.threads i (thread_after guest (Steps d));
   contexts = count_with x.contexts i;
-  failed = x.failed;
+  outcome = x.outcome;
 }
 
 -- one more context is a number
@@ -130,12 +131,32 @@ pub record IsNextTransition
   pub goes_on : is_over s guest ≡ false
   pub is : IsTransition code x s.contexts i guest bit v
 
--- why a call of thread i is refused before memory is taken
-abbrev pub IsKeptRefusal : SetupOf → State → ℕ → AskFault → Type 0
-IsKeptRefusal s x i NoThread = slice_get x.threads i ≡ None
-IsKeptRefusal s x i Finished =
-    (guest : GuestThreadOf) × (slice_get x.threads i ≡ Some guest) × (is_over s guest ≡ true)
-IsKeptRefusal s x i Memory = ⊥
+-- the thread is there, and may make a further call
+pub record GoesOn (s : SetupOf) (x : State) (i : ℕ) : Type 0 where
+  pub guest : GuestThreadOf
+  pub has : slice_get x.threads i ≡ Some guest
+  pub goes_on : is_over s guest ≡ false
+
+-- the thread is there, and makes no further call
+pub record IsOver (s : SetupOf) (x : State) (i : ℕ) : Type 0 where
+  pub guest : GuestThreadOf
+  pub has : slice_get x.threads i ≡ Some guest
+  pub over : is_over s guest ≡ true
+
+-- the frame that the effect puts on a stack fits where there is room for so many
+abbrev pub FitsIn : ℕ → Effect → Type 0
+FitsIn room (Enters c locals m) = 0 < room
+FitsIn room d = Unit {0}
+
+-- the same of a transition
+abbrev pub TransitionFitsIn : ℕ → Transition → Type 0
+TransitionFitsIn room (Steps d) = FitsIn room d
+TransitionFitsIn room v = Unit {0}
+
+-- thread i has room for the transition, where the stacks have so much room
+abbrev pub HasRoom : List ℕ → ℕ → Transition → Type 0
+HasRoom rooms i v =
+    (room : ℕ) → slice_get rooms i ≡ Some room → TransitionFitsIn room v
 
 -- the effect is that of a call
 abbrev pub IsEntering : Effect → Type 0

@@ -1,10 +1,8 @@
-//! What a history comes to: which threads it finishes, how many it leaves open, and its outcome.
+//! What a history comes to: which threads it finishes, and how many it leaves open.
 ghost use Rattle.std.specs.Prelude.{◌≡◌};
 ghost use Rattle.bp_machine.specs.Histories.{is_finished, open_lines};
-ghost use Rattle.bp_machine.specs.Reports.{outcome_of};
 
-use crate::calls::{Call, Reply};
-use crate::reports::Outcome;
+use crate::calls::Call;
 use crate::setups::Setup;
 
 /// Whether the thread makes no further call after the history.
@@ -33,18 +31,4 @@ pub fn open_lines(setup: &Setup, history: &[Call]) -> u32
         }
     }
     count
-}
-
-/// The outcome of the history: the thread of the first failed assertion, or clean.
-pub fn outcome_of(history: &[Call]) -> Outcome
-    ensures { result ≡ outcome_of history.now }
-{
-    for call in history {
-        if call.reply == Reply::Failed {
-            return Outcome::Failed {
-                thread: call.thread,
-            };
-        }
-    }
-    Outcome::Clean
 }

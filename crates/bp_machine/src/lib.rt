@@ -2,6 +2,7 @@
 #![tactic(auto)]
 
 mod calls;
+mod choices;
 mod contexts;
 mod histories;
 mod laws;
@@ -16,11 +17,12 @@ mod tests;
 mod threads;
 
 pub use calls::{Call, Reply};
-pub use histories::{open_lines, outcome_of};
+pub use choices::Choices;
+pub use histories::open_lines;
 pub use laws::{
     failures_are_real, histories_are_short, one_code_has_one_meaning, steps_are_a_run,
     steps_are_within,
 };
-pub use reports::{Outcome, Report, report_of};
+pub use reports::{Outcome, Report};
 pub use sessions::{AskFault, Session};
 pub use setups::{Setup, SetupFault};

@@ -5,13 +5,15 @@ ghost use Rattle.bp_code.specs.Bits.{bits_of};
 ghost use Rattle.bp_machine.specs.declared.calls.Call.{Call as Answered};
 ghost use Rattle.bp_machine.specs.Setups.{SetupOf};
 ghost use Rattle.bp_machine.specs.Histories.{open_lines};
-ghost use Rattle.bp_machine.specs.GuestThreads.{GuestThreadOf};
+ghost use Rattle.bp_machine.specs.GuestThreads.{GuestThreadOf, guests};
 ghost use Rattle.bp_machine.specs.States.{StandsAfter};
-ghost use Rattle.bp_machine.specs.Transitions.{transition_of, IsTransitionOn, IsTransition, MayGrow, globals_after, state_after, IsCallTransition};
+ghost use Rattle.bp_machine.specs.Reports.{is_failure};
+ghost use Rattle.bp_machine.specs.Transitions.{transition_of, IsTransitionOn, IsTransition, MayGrow, HasRoom, globals_after, state_after, IsCallTransition};
 
 use crate::calls::Reply;
 use crate::contexts::ContextCount;
 use crate::limits::{MAX_FRAMES, MAX_THREADS};
+use crate::reports::Outcome;
 use crate::stacks::Stack;
 use crate::threads::{GuestThread, Transition};
 use bp_code::stores::bit_at;
@@ -25,19 +27,23 @@ pub(crate) struct Machine {
     globals: u128,
     threads: Vec<GuestThread>,
     contexts: ContextCount,
-    failed: bool,
+    outcome: Outcome,
 }
 
 impl Model for Machine {
-    ghost use Rattle.bp_machine.specs.States.{State};
+    ghost use Rattle.bp_machine.specs.GuestThreads.{guests, rooms};
+    ghost use Rattle.bp_machine.specs.States.{MachineOf};
 
-    ghost Value = { State };
+    ghost Value = { MachineOf };
 
     ghost view = { λ m. record {
-      globals = m.globals;
-      threads = m.threads.items;
-      contexts = m.contexts;
-      failed = m.failed;
+      state = record {
+        globals = m.globals;
+        threads = guests m.threads.items;
+        contexts = m.contexts;
+        outcome = m.outcome;
+      };
+      rooms = rooms m.threads.items;
     } };
 }
 
@@ -61,7 +67,7 @@ fn transition_of(effect: Effect, is_full: bool) -> Transition
 
 /// What a call of a thread with this stack comes to.
 fn transition_on(code: &Code, globals: u128, fits: bool, stack: &Stack, bit: bool) -> Transition
-    ensures { IsTransitionOn code.now.instructions globals bit fits stack.now result }
+    ensures { IsTransitionOn code.now.instructions globals bit fits stack.now.frames result }
 {
     let Some(top) = stack.top() else {
         return Transition::Stays(Reply::Ended);
@@ -90,61 +96,75 @@ fn globals_after(globals: u128, effect: Effect) -> u128
 }
 
 impl Machine {
-    ghost use Rattle.std.specs.Prelude.{false, None};
+    ghost use Rattle.std.specs.Prelude.{None};
     ghost use Rattle.bp_machine.specs.declared.limits.TheConstants.{MAX_THREADS};
 
     /// The machine before any call.
     pub(crate) fn start(globals: u128, threads: Vec<GuestThread>) -> Machine
-        ensures { result ≡ record {
+        ensures { result.state ≡ record {
           globals = globals;
-          threads = threads.items;
+          threads = guests threads.items;
           contexts = record { used = 0; last = None };
-          failed = false;
+          outcome = Outcome.Clean;
         } }
     {
         Machine {
             globals,
             threads,
             contexts: ContextCount::start(),
-            failed: false,
+            outcome: Outcome::Clean,
         }
+    }
+
+    /// The word of the globals.
+    pub(crate) fn globals(&self) -> u128
+        ensures { result ≡ self.now.state.globals }
+    {
+        self.globals
     }
 
     /// The bit of a global.
     pub(crate) fn global(&self, slot: u8) -> bool
         requires { slot < 128 }
-        ensures { result ≡ bits_of self.now.globals slot }
+        ensures { result ≡ bits_of self.now.state.globals slot }
     {
         bit_at(self.globals, slot)
     }
 
     /// How many contexts the steps so far are within.
     pub(crate) fn contexts_used(&self) -> u32
-        ensures { result ≡ self.now.contexts.used }
+        ensures { result ≡ self.now.state.contexts.used }
     {
         self.contexts.used
     }
 
+    /// Whether an assertion failed, and in which thread.
+    pub(crate) fn outcome(&self) -> Outcome
+        ensures { result ≡ self.now.state.outcome }
+    {
+        self.outcome
+    }
+
     /// Whether an assertion failed.
     pub(crate) fn is_failed(&self) -> bool
-        ensures { result ≡ self.now.failed }
+        ensures { result ≡ is_failure self.now.state.outcome }
     {
-        self.failed
+        matches!(self.outcome, Outcome::Failed { .. })
     }
 
     /// A guest thread by its number.
     pub(crate) fn thread(&self, thread: u32) -> Option<&GuestThread>
-        ensures { option_map (λ g. g.now) result ≡ slice_get self.now.threads thread }
+        ensures { option_map (λ g. g.now.guest) result ≡ slice_get self.now.state.threads thread }
     {
         self.threads.get(thread as usize)
     }
 
     /// How many threads may go on, where so many calls of each are allowed.
     pub(crate) fn open_lines(&self, calls: u32) -> u32
-        requires { length self.now.threads ≤ MAX_THREADS }
+        requires { length self.now.state.threads ≤ MAX_THREADS }
         ensures { (t : Program) (s : SetupOf) (h : List Answered)
             → s.calls ≡ calls
-            → StandsAfter t s self.now h
+            → StandsAfter t s self.now.state h
             → result ≡ open_lines s h }
     {
         let mut count = 0;
@@ -156,6 +176,20 @@ impl Machine {
         count
     }
 
+    /// How many calls were made.
+    pub(crate) fn calls(&self) -> u64
+        requires { length self.now.state.threads ≤ MAX_THREADS }
+        ensures { (t : Program) (s : SetupOf) (h : List Answered)
+            → StandsAfter t s self.now.state h
+            → result ≡ length h }
+    {
+        let mut sum = 0;
+        for thread in self.threads.as_slice() {
+            sum += u64::from(thread.calls());
+        }
+        sum
+    }
+
     /// What a call of the thread comes to, where so many contexts are allowed.
     pub(crate) fn judge(
         &self,
@@ -165,42 +199,50 @@ impl Machine {
         guest: &GuestThread,
         bit: bool,
     ) -> Transition
-        ensures { IsTransition code.now.instructions self.now contexts thread guest.now bit result }
+        ensures { let code = code.now.instructions in
+            IsTransition code self.now.state contexts thread guest.now.guest bit result }
     {
-        if self.failed {
+        if self.is_failed() {
             return Transition::Stays(Reply::Stopped);
         }
         let fits = self.contexts.allows(contexts, thread);
         transition_on(code, self.globals, fits, guest.stack(), bit)
     }
 
-    /// Makes a call of the thread. Only the step of a call takes memory; without it the machine
-    /// stays.
-    pub(crate) fn make(&mut self, thread: u32, transition: Transition) -> Result<(), AllocError>
-        requires within { thread < length self.old.threads }
-        requires calls { (guest : GuestThreadOf)
-            → slice_get self.old.threads thread ≡ Some guest
-            → guest.calls + 1 < 2 ^ 32 }
-        requires contexts { MayGrow self.old thread transition }
-        ensures ok { OnOk result ((guest : GuestThreadOf)
-            → slice_get self.old.threads thread ≡ Some guest
-            → self.new ≡ state_after self.old thread guest transition) }
+    /// Makes room for the frame of a call's step; without memory the machine stays.
+    pub(crate) fn reserve(&mut self, thread: u32, transition: Transition) -> Result<(), AllocError>
+        requires { thread < length self.old.state.threads }
+        ensures state { self.new.state ≡ self.old.state }
+        ensures ok { OnOk result (HasRoom self.new.rooms thread transition) }
         ensures err { OnErr result (self.new ≡ self.old) }
         ensures entering { OnErr result (IsCallTransition transition) }
     {
-        let guest = &mut self.threads[thread as usize];
-        guest.make(transition)?;
+        self.threads[thread as usize].reserve(transition)?;
+        Ok(())
+    }
+
+    /// Makes a call of the thread, for whose frame there is room.
+    pub(crate) fn make(&mut self, thread: u32, transition: Transition)
+        requires within { thread < length self.old.state.threads }
+        requires calls { (guest : GuestThreadOf)
+            → slice_get self.old.state.threads thread ≡ Some guest
+            → guest.calls + 1 < 2 ^ 32 }
+        requires contexts { MayGrow self.old.state thread transition }
+        requires room { HasRoom self.old.rooms thread transition }
+        ensures { (guest : GuestThreadOf)
+            → slice_get self.old.state.threads thread ≡ Some guest
+            → self.new.state ≡ state_after self.old.state thread guest transition }
+    {
+        self.threads[thread as usize].make(transition);
         match transition {
-            Transition::Stays(_) => Ok(()),
+            Transition::Stays(_) => {}
             Transition::Fails => {
                 self.contexts = self.contexts.with(thread);
-                self.failed = true;
-                Ok(())
+                self.outcome = Outcome::Failed { thread };
             }
             Transition::Steps(effect) => {
                 self.contexts = self.contexts.with(thread);
                 self.globals = globals_after(self.globals, effect);
-                Ok(())
             }
         }
     }

@@ -1,26 +1,31 @@
 //! Sessions: the sequential machine, one call at a time.
-ghost use Rattle.std.specs.Prelude.{◌≡◌, ◌++◌, ◌∷◌, [], ℕ, List, Some, slice_get, option_map, IfOk, IfErr, OnErr};
+ghost use Rattle.std.specs.Prelude.{◌≡◌, ◌++◌, ◌∷◌, ◌<◌, [], ℕ, List, Option, None, Some, slice_get, option_map, IfOk, OnOk, OnErr, MatchResult};
 ghost use Rattle.bp_tree.specs.Ast.{Program};
 ghost use Rattle.bp_code.specs.StandsFor.{StandsFor};
 ghost use Rattle.bp_machine.specs.declared.calls.Call.{Call as Answered};
 ghost use Rattle.bp_machine.specs.Contexts.{IsLeastWithin};
-ghost use Rattle.bp_machine.specs.GuestThreads.{GuestThreadOf};
-ghost use Rattle.bp_machine.specs.Setups.{FitsCode};
+ghost use Rattle.bp_machine.specs.Answers.{stack_of};
+ghost use Rattle.bp_machine.specs.PrintedRows.{values_printed};
+ghost use Rattle.bp_machine.specs.Setups.{FitsCode, threads};
 ghost use Rattle.bp_machine.specs.Histories.{granted_threads, configuration_after, open_lines};
-ghost use Rattle.bp_machine.specs.Sessions.{Stands, IsAskRefusal};
-ghost use Rattle.bp_machine.specs.Transitions.{IsNextTransition, IsKeptRefusal};
+ghost use Rattle.bp_machine.specs.Reports.{IsReport};
+ghost use Rattle.bp_machine.specs.Sessions.{Stands, IsNextCall, IsAskRefusal, IsPrintRefusal};
+ghost use Rattle.bp_machine.specs.KeptSessions.{AreFirstChoices, AreDrawn, IsKeptBit, IsBitRefusal, IsGiven, IsJudged, IsKeptRefusal};
 
 use crate::calls::Call;
+use crate::choices::Choices;
 use crate::machine::Machine;
+use crate::reports::Report;
 use crate::setups::Setup;
 use crate::threads::{Transition, first_threads};
 use bp_code::stores::word_of;
-use bp_code::{Code, steps_alike};
+use bp_code::{Code, Store, steps_alike};
 use std::alloc::{AllocError, Global};
 use std::marker::Model;
 use thiserror::Error;
 
-/// Why a call is refused: the first of these that applies. The session is then as it was.
+/// Why a call is refused: the first of these that applies. The session is then as it was, and no
+/// choice bit is used.
 #[derive(Clone, Copy, Debug, PartialEq, Eq, Error)]
 pub enum AskFault {
     /// There is no such thread.
@@ -29,6 +34,12 @@ pub enum AskFault {
     /// The thread makes no further call.
     #[error("the thread has made its last call")]
     Finished,
+    /// A choice bit was handed in, although the setup has a seed.
+    #[error("the choice bits are those of the seed")]
+    Seeded,
+    /// No choice bit was handed in, and the setup has no seed.
+    #[error("there is no seed for the choice bits")]
+    Unseeded,
     /// There was not enough memory for a frame.
     #[error("out of memory")]
     Memory,
@@ -44,17 +55,29 @@ impl AskFault {
         match self {
             AskFault::NoThread => 36,
             AskFault::Finished => 37,
+            AskFault::Seeded => 38,
+            AskFault::Unseeded => 39,
             AskFault::Memory => 7,
         }
     }
 }
 
+/// A call that was judged, and what it comes to.
+#[derive(Clone, Copy, Debug, PartialEq, Eq)]
+pub(crate) struct Prepared {
+    call: Call,
+    transition: Transition,
+}
+
 /// A session of guest threads: a code, a setup, and the machine after the calls that were answered.
+/// Where the setup has a seed, it has the choices of each thread.
 #[derive(Drop)]
 pub struct Session {
     code: Code,
     setup: Setup,
     machine: Machine,
+    choices: Vec<Choices>,
+    prepared: Option<Prepared>,
 }
 
 impl Model for Session {
@@ -66,14 +89,37 @@ impl Model for Session {
     ghost coded = { coded_session };
 
     ghost use Rattle.bp_machine.specs.Sessions.{IsInOrder};
+    ghost use Rattle.bp_machine.specs.KeptSessions.{session_of, IsReadyFor};
 
-    ghost view = { λ s. record { code = s.code; setup = s.setup; state = s.machine } };
+    ghost view = { λ s. session_of s.code s.setup s.machine s.choices.items s.prepared };
 
-    ghost invariant = { λ s. IsInOrder (record {
-      code = s.code;
-      setup = s.setup;
-      state = s.machine;
-    }) };
+    ghost invariant = { λ s.
+        let x = session_of s.code s.setup s.machine s.choices.items s.prepared in
+        IsInOrder x × IsReadyFor x s.prepared };
+}
+
+/// The choices of each thread of a setup, none of which is drawn; without a seed there are none.
+fn first_choices(alloc: Global, setup: &Setup) -> Result<Vec<Choices>, AllocError>
+    ensures { IfOk result (λ v. AreFirstChoices setup.now v.items) }
+{
+    setup.is_in_range();
+    let mut choices = Vec::new(alloc);
+    let Some(seed) = setup.seed() else {
+        return Ok(choices);
+    };
+    for thread in 0..setup.threads() {
+        choices.push(Choices::new(seed, thread))?;
+    }
+    Ok(choices)
+}
+
+/// Draws the next bit of a thread, where there are choices.
+fn draw(choices: &mut Vec<Choices>, thread: usize)
+    ensures { AreDrawn thread choices.old.items choices.new.items }
+{
+    if thread < choices.len() {
+        let _bit = choices[thread].next();
+    }
 }
 
 impl Session {
@@ -83,43 +129,108 @@ impl Session {
     pub fn new(alloc: Global, code: &Code, setup: &Setup) -> Result<Session, AllocError>
         requires { FitsCode code.now setup.now }
         ensures stands { IfOk result (λ x. (t : Program) → StandsFor code.now t → Stands t x []) }
-        ensures kept { IfOk result (λ x. (x.code ≡ code.now) × (x.setup ≡ setup.now)) }
+        ensures kept { IfOk result (λ x.
+            (x.code ≡ code.now) × (x.setup ≡ setup.now) × (x.ready ≡ None)) }
     {
         code.is_of_a_program();
         setup.is_in_range();
         let threads = first_threads(alloc, code, setup.entries())?;
         let machine = Machine::start(word_of(setup.bits()), threads);
+        let choices = first_choices(alloc, setup)?;
         let code = code.try_copy()?;
         let setup = setup.try_copy()?;
         Ok(Session {
             code,
             setup,
             machine,
+            choices,
+            prepared: None,
         })
     }
 
-    /// Makes a call of a thread with this choice bit. Only a step that is a call takes memory.
-    pub fn ask_with(&mut self, thread: u32, bit: bool) -> Result<Call, AskFault>
+    /// Makes a call of a thread with the choice bit of the setup's seed. Only a step that is a call
+    /// takes memory.
+    pub fn ask(&mut self, thread: u32) -> Result<Call, AskFault>
+        ensures answer { (t : Program) (h : List Answered)
+            → StandsFor self.old.code t
+            → Stands t self.old h
+            → MatchResult result
+            (IsNextCall t self.old.setup h thread None)
+            (IsAskRefusal t self.old.setup h thread None) }
+        ensures asked { IfOk result (λ c. c.thread ≡ thread) }
         ensures stands { (t : Program) (h : List Answered)
             → StandsFor self.old.code t
             → Stands t self.old h
             → IfOk result (λ c. Stands t self.new (h ++ c ∷ [])) }
-        ensures asked { IfOk result (λ c. (c.thread ≡ thread) × (c.bit ≡ bit)) }
+        ensures unready { OnOk result (self.new.ready ≡ None) }
         ensures kept { (self.new.code ≡ self.old.code) × (self.new.setup ≡ self.old.setup) }
-        ensures refused { (t : Program) (h : List Answered)
-            → StandsFor self.old.code t
-            → Stands t self.old h
-            → IfErr result (IsAskRefusal t self.old.setup h thread bit) }
         ensures same { OnErr result (self.new ≡ self.old) }
     {
+        let call = self.prepare(thread)?;
+        self.commit(&call);
+        Ok(call)
+    }
+
+    /// Makes a call of a thread with this choice bit, where the setup has no seed. Only a step that
+    /// is a call takes memory.
+    pub fn ask_with(&mut self, thread: u32, bit: bool) -> Result<Call, AskFault>
+        ensures answer { (t : Program) (h : List Answered)
+            → StandsFor self.old.code t
+            → Stands t self.old h
+            → MatchResult result
+            (IsNextCall t self.old.setup h thread (Some bit))
+            (IsAskRefusal t self.old.setup h thread (Some bit)) }
+        ensures asked { IfOk result (λ c. (c.thread ≡ thread) × (c.bit ≡ bit)) }
+        ensures stands { (t : Program) (h : List Answered)
+            → StandsFor self.old.code t
+            → Stands t self.old h
+            → IfOk result (λ c. Stands t self.new (h ++ c ∷ [])) }
+        ensures unready { OnOk result (self.new.ready ≡ None) }
+        ensures kept { (self.new.code ≡ self.old.code) × (self.new.setup ≡ self.old.setup) }
+        ensures same { OnErr result (self.new ≡ self.old) }
+    {
+        let call = self.prepare_with(thread, Some(bit))?;
+        self.commit(&call);
+        Ok(call)
+    }
+
+    /// Takes the memory for the next call of a thread, and answers the call that `ask` would
+    /// answer. The session is then prepared for that call, and no choice bit is used.
+    pub fn prepare(&mut self, thread: u32) -> Result<Call, AskFault>
+        ensures answer { (t : Program) (h : List Answered)
+            → StandsFor self.old.code t
+            → Stands t self.old h
+            → MatchResult result
+            (IsNextCall t self.old.setup h thread None)
+            (IsAskRefusal t self.old.setup h thread None) }
+        ensures asked { IfOk result (λ c. c.thread ≡ thread) }
+        ensures stands { (t : Program) (h : List Answered)
+            → Stands t self.old h
+            → Stands t self.new h }
+        ensures ready { IfOk result (λ c. self.new.ready ≡ Some c) }
+        ensures kept { (self.new.code ≡ self.old.code) × (self.new.setup ≡ self.old.setup) }
+        ensures same { OnErr result (self.new ≡ self.old) }
+    {
+        self.prepare_with(thread, None)
+    }
+
+    /// Makes the call that the session is prepared for.
+    pub fn commit(&mut self, call: &Call)
+        requires { self.old.ready ≡ Some call.now }
+        ensures stands { (t : Program) (h : List Answered)
+            → StandsFor self.old.code t
+            → Stands t self.old h
+            → Stands t self.new (h ++ call.now ∷ []) }
+        ensures unready { self.new.ready ≡ None }
+        ensures kept { (self.new.code ≡ self.old.code) × (self.new.setup ≡ self.old.setup) }
+    {
         steps_alike(&self.code);
-        let transition = self.transition(thread, bit)?;
-        self.machine.make(thread, transition)?;
-        Ok(Call {
-            thread,
-            bit,
-            reply: transition.reply(),
-        })
+        let Some(prepared) = self.prepared else {
+            return;
+        };
+        self.prepared = None;
+        self.machine.make(call.thread, prepared.transition);
+        draw(&mut self.choices, call.thread as usize);
     }
 
     /// The bit of a global, by its place in the declarations from 0.
@@ -164,11 +275,68 @@ impl Session {
         self.machine.open_lines(self.setup.calls())
     }
 
-    /// What a call of the thread comes to.
-    fn transition(&self, thread: u32, bit: bool) -> Result<Transition, AskFault>
-        ensures found { let code = self.now.code.instructions in
-            IfOk result (IsNextTransition code self.now.setup self.now.state thread bit) }
-        ensures refused { IfErr result (λ e. IsKeptRefusal self.now.setup self.now.state thread e) }
+    /// The report of the calls so far.
+    pub fn report(&self) -> Report
+        ensures { (t : Program) (h : List Answered)
+            → Stands t self.now h
+            → IsReport self.now.setup h result }
+    {
+        Report {
+            outcome: self.machine.outcome(),
+            calls: self.machine.calls(),
+            left_open: self.open_lines(),
+            contexts: self.contexts_used(),
+        }
+    }
+
+    /// The values that the next statement of a thread prints, where it is a `print`.
+    pub fn next_print(&self, thread: u32) -> Result<Option<Vec<bool>>, AskFault>
+        ensures { (t : Program) (h : List Answered)
+            → StandsFor self.now.code t
+            → Stands t self.now h
+            → let now = configuration_after t self.now.setup h in
+            let printed = values_printed now.globals (stack_of now thread) in
+            MatchResult result
+            (λ values.
+            (thread < threads self.now.setup) × (option_map (λ v. v.items) values ≡ printed))
+            (IsPrintRefusal self.now.setup thread printed) }
+    {
+        let Some(guest) = self.machine.thread(thread) else {
+            return Err(AskFault::NoThread);
+        };
+        let Some(top) = guest.stack().top() else {
+            return Ok(None);
+        };
+        let Some(instr) = self.code.get(top.number) else {
+            return Ok(None);
+        };
+        let store = Store {
+            globals: self.machine.globals(),
+            locals: top.locals,
+        };
+        let printed = instr.printed(*self.choices.allocator(), store)?;
+        Ok(printed)
+    }
+
+    /// The choice bit of the next call of a thread, where this bit or none is handed in.
+    fn bit_of_call(&self, thread: u32, given: Option<bool>) -> Result<bool, AskFault>
+        ensures { MatchResult result
+            (IsKeptBit self.now.choices thread given)
+            (IsBitRefusal self.now.choices thread given) }
+    {
+        match (self.choices.get(thread as usize), given) {
+            (Some(choices), None) => Ok(choices.peek()),
+            (None, Some(bit)) => Ok(bit),
+            (Some(_), Some(_)) => Err(AskFault::Seeded),
+            (None, None) => Err(AskFault::Unseeded),
+        }
+    }
+
+    /// What a call of the thread comes to, where this bit or none is handed in.
+    fn judged(&self, thread: u32, given: Option<bool>) -> Result<Prepared, AskFault>
+        ensures { MatchResult result
+            (IsJudged self.now thread given)
+            (IsKeptRefusal self.now thread given) }
     {
         let Some(guest) = self.machine.thread(thread) else {
             return Err(AskFault::NoThread);
@@ -176,8 +344,37 @@ impl Session {
         if guest.is_finished(self.setup.calls()) {
             return Err(AskFault::Finished);
         }
+        let bit = self.bit_of_call(thread, given)?;
         let contexts = self.setup.contexts();
-        Ok(self.machine.judge(&self.code, contexts, thread, guest, bit))
+        let transition = self.machine.judge(&self.code, contexts, thread, guest, bit);
+        let reply = transition.reply();
+        Ok(Prepared {
+            call: Call { thread, bit, reply },
+            transition,
+        })
+    }
+
+    /// Prepares a call of the thread, where this bit or none is handed in.
+    fn prepare_with(&mut self, thread: u32, given: Option<bool>) -> Result<Call, AskFault>
+        ensures answer { (t : Program) (h : List Answered)
+            → StandsFor self.old.code t
+            → Stands t self.old h
+            → MatchResult result
+            (IsNextCall t self.old.setup h thread given)
+            (IsAskRefusal t self.old.setup h thread given) }
+        ensures asked { IfOk result (λ c. (c.thread ≡ thread) × IsGiven given c.bit) }
+        ensures stands { (t : Program) (h : List Answered)
+            → Stands t self.old h
+            → Stands t self.new h }
+        ensures ready { IfOk result (λ c. self.new.ready ≡ Some c) }
+        ensures kept { (self.new.code ≡ self.old.code) × (self.new.setup ≡ self.old.setup) }
+        ensures same { OnErr result (self.new ≡ self.old) }
+    {
+        steps_alike(&self.code);
+        let prepared = self.judged(thread, given)?;
+        self.machine.reserve(thread, prepared.transition)?;
+        self.prepared = Some(prepared);
+        Ok(prepared.call)
     }
 }
 

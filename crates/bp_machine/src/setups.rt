@@ -1,10 +1,10 @@
 //! What a session starts from.
-ghost use Rattle.std.specs.Prelude.{◌≡◌, ◌⊎◌, ◌≤◌, ℕ, List, None, Some, map, length, slice_get, string_bytes, MatchResult, IfOk, option_map};
+ghost use Rattle.std.specs.Prelude.{◌≡◌, ◌⊎◌, ◌≤◌, ◌↔◌, IsTrue, ℕ, List, None, Some, map, length, slice_get, string_bytes, MatchResult, IfOk, option_map};
 ghost use Rattle.std.specs.Option.{option_copied};
 ghost use Rattle.bp_tree.specs.Ast.{Program};
 ghost use Rattle.bp_code.specs.StandsFor.{StandsFor};
 ghost use Rattle.bp_machine.specs.declared.limits.TheConstants.{MAX_THREADS};
-ghost use Rattle.bp_machine.specs.Setups.{SetupOf, setup_of, threads, entries_fault, entry_fault, setup_fault, IsSetupRefusal, FitsCode, IsInRange, setup_fault_number, setup_fault_place};
+ghost use Rattle.bp_machine.specs.Setups.{SetupOf, setup_of, threads, entries_fault, entry_fault, setup_fault, IsSetupRefusal, Fits, FitsCode, IsInRange, setup_fault_number, setup_fault_place};
 
 use crate::limits::{MAX_CALLS, MAX_CONTEXTS, MAX_THREADS};
 use bp_code::Code;
@@ -27,8 +27,7 @@ pub enum SetupFault {
     /// There is not one initial bit for each global.
     #[error("there must be one initial bit for each global")]
     InitLength,
-    /// More than 1,000 contexts, no call, more than 100,000 calls, or a seed, which no setup takes
-    /// yet.
+    /// More than 1,000 contexts, no call, or more than 100,000 calls.
     #[error("a number is out of its range")]
     OutOfRange,
     /// There was not enough memory.
@@ -62,8 +61,8 @@ impl SetupFault {
     }
 }
 
-/// An entry procedure for each guest thread, a bit for each global, and how many contexts and how
-/// many calls of a thread are allowed.
+/// An entry procedure for each guest thread, a bit for each global, how many contexts and how many
+/// calls of a thread are allowed, and the seed of the choice bits, where they are not handed in.
 #[derive(Drop)]
 pub struct Setup {
     entries: Vec<String>,
@@ -111,9 +110,8 @@ fn fault_of_setup(
     init: &[bool],
     contexts: u32,
     calls: u32,
-    seed: Option<u64>,
 ) -> Option<SetupFault>
-    ensures { let given = setup_of (map string_bytes entries.now) init.now contexts calls seed in
+    ensures { let given = setup_of (map string_bytes entries.now) init.now contexts calls None in
         (t : Program)
         → StandsFor code.now t
         → result ≡ setup_fault t given }
@@ -127,7 +125,7 @@ fn fault_of_setup(
     if init.len() != code.globals() as usize {
         return Some(SetupFault::InitLength);
     }
-    if contexts > MAX_CONTEXTS || calls == 0 || calls > MAX_CALLS || seed.is_some() {
+    if contexts > MAX_CONTEXTS || calls == 0 || calls > MAX_CALLS {
         return Some(SetupFault::OutOfRange);
     }
     None
@@ -142,6 +140,35 @@ fn copies(alloc: Global, names: &[String]) -> Result<Vec<String>, AllocError>
         items.push(name.clone()?)?;
     }
     Ok(items)
+}
+
+/// Whether both seeds are there and equal, or neither is there.
+fn same_seeds(seed: Option<u64>, other: Option<u64>) -> bool
+    ensures { IsTrue result ↔ (seed ≡ other) }
+{
+    seed == other
+}
+
+/// Whether both lists have the same bits in order.
+fn same_bits(bits: &[bool], others: &[bool]) -> bool
+    ensures { IsTrue result ↔ (bits.now ≡ others.now) }
+{
+    bits == others
+}
+
+/// Whether both lists have the same names in order.
+fn same_names(names: &[String], others: &[String]) -> bool
+    ensures { IsTrue result ↔ (map string_bytes names.now ≡ map string_bytes others.now) }
+{
+    if names.len() != others.len() {
+        return false;
+    }
+    for (i, name) in names.iter().enumerate() {
+        if name.as_str() != others[i].as_str() {
+            return false;
+        }
+    }
+    true
 }
 
 /// A setup of copies of these parts.
@@ -182,6 +209,7 @@ impl From<AllocError> for SetupFault {
 impl Setup {
     /// The setup of guest threads that begin with these procedures, on globals with these bits in
     /// order of declaration, within so many contexts, with at most so many calls of each thread.
+    /// With a seed each call has the choice bit of that seed, else the one that is handed in.
     pub fn new(
         alloc: Global,
         code: &Code,
@@ -201,7 +229,7 @@ impl Setup {
         ensures taken { IfOk result (λ s. FitsCode code.now s × IsInRange s) }
     {
         code.is_of_a_program();
-        match fault_of_setup(code, entries, init, contexts, calls, seed) {
+        match fault_of_setup(code, entries, init, contexts, calls) {
             Some(fault) => Err(fault),
             None => Ok(kept(alloc, entries, init, contexts, calls, seed)?),
         }
@@ -267,15 +295,38 @@ impl Setup {
         self.calls
     }
 
-    /// The seed of the choice bits. No setup has one yet.
+    /// The seed of the choice bits, where they are not handed in.
     pub fn seed(&self) -> Option<u64>
         ensures { result ≡ self.now.seed }
     {
         self.seed
     }
 
+    /// Whether each entry is a procedure of this code without formals, and there is one bit for
+    /// each of its globals.
+    pub fn fits(&self, code: &Code) -> bool
+        ensures { (t : Program)
+            → StandsFor code.now t
+            → IsTrue result ↔ Fits t self.now }
+    {
+        fault_of_entries(code, self.entries.as_slice()).is_none()
+            && self.init.len() == code.globals() as usize
+    }
+
+    /// Whether both hold the same arguments.
+    fn is_same(&self, other: &Setup) -> bool
+        ensures { IsTrue result ↔ (self.now ≡ other.now) }
+    {
+        if self.contexts != other.contexts || self.calls != other.calls {
+            return false;
+        }
+        same_seeds(self.seed, other.seed)
+            && same_bits(self.init.as_slice(), other.init.as_slice())
+            && same_names(self.entries.as_slice(), other.entries.as_slice())
+    }
+
     /// A copy, which equals its source.
-    pub(crate) fn try_copy(&self) -> Result<Setup, AllocError>
+    pub fn try_copy(&self) -> Result<Setup, AllocError>
         ensures { IfOk result (λ s. s ≡ self.now) }
     {
         kept(
@@ -287,4 +338,30 @@ impl Setup {
             self.seed,
         )
     }
+}
+
+impl PartialEq for Setup {
+    ghost use Rattle.std.specs.Prelude.{◌≡◌, IsTrue, ◌↔◌};
+    ghost use Rattle.std.specs.Cmp.{partial_equiv_from_equiv};
+    ghost use Rattle.bp_code.specs.Same.{same, same-equiv};
+    ghost use Rattle.bp_machine.specs.SessionCodes.{coded_setup};
+
+    ghost eq = { same coded_setup };
+
+    ghost laws = { partial_equiv_from_equiv (same-equiv coded_setup) };
+
+    /// Whether both hold the same arguments.
+    fn eq(&self, other: &Setup) -> bool
+        ensures gives { result ≡ same coded_setup self.now other.now }
+        ensures equal { IsTrue result ↔ (self.now ≡ other.now) }
+    {
+        self.is_same(other)
+    }
+}
+
+impl Eq for Setup {
+    ghost use Rattle.bp_code.specs.Same.{same-equiv};
+    ghost use Rattle.bp_machine.specs.SessionCodes.{coded_setup};
+
+    ghost laws = { same-equiv coded_setup };
 }

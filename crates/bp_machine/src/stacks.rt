@@ -1,5 +1,5 @@
 //! Stacks of frames.
-ghost use Rattle.std.specs.Prelude.{◌≡◌, [], ◌∷◌, ◌<◌, ◌≤◌, length, reverse, IfOk, OnOk, OnErr};
+ghost use Rattle.std.specs.Prelude.{◌≡◌, [], ◌∷◌, ◌<◌, length, reverse, vec_len, vec_capacity, IfOk, OnOk, OnErr};
 ghost use Rattle.bp_machine.specs.Stacks.{top_of, with_top, entered_top};
 
 use bp_code::Effect;
@@ -21,12 +21,15 @@ pub(crate) struct Stack {
 }
 
 impl Model for Stack {
-    ghost use Rattle.std.specs.Prelude.{List, reverse};
-    ghost use Rattle.bp_machine.specs.declared.stacks.ActivationRecord.{ActivationRecord};
+    ghost use Rattle.std.specs.Prelude.{◌-◌, reverse, vec_len, vec_capacity};
+    ghost use Rattle.bp_machine.specs.Stacks.{StackOf};
 
-    ghost Value = { List ActivationRecord };
+    ghost Value = { StackOf };
 
-    ghost view = { λ s. reverse s.frames.items };
+    ghost view = { λ s. record {
+      frames = reverse s.frames.items;
+      room = vec_capacity s.frames - vec_len s.frames;
+    } };
 }
 
 /// Another frame at the top, where there is one.
@@ -39,20 +42,16 @@ fn replace_top(frames: &mut Vec<ActivationRecord>, frame: ActivationRecord)
     }
 }
 
-/// Leaves the topmost frame at the instruction `next`, and puts another one on it.
-fn enter(
-    frames: &mut Vec<ActivationRecord>,
-    frame: ActivationRecord,
-    next: u32,
-) -> Result<(), AllocError>
-    ensures ok { OnOk result
-        (reverse frames.new.items ≡ entered_top frame next (reverse frames.old.items)) }
-    ensures err { OnErr result (frames.new.items ≡ frames.old.items) }
+/// Leaves the topmost frame at the instruction `next`, and puts another one on it, for which there
+/// is room.
+fn enter(frames: &mut Vec<ActivationRecord>, frame: ActivationRecord, next: u32)
+    requires { vec_len frames.old < vec_capacity frames.old }
+    ensures { reverse frames.new.items ≡ entered_top frame next (reverse frames.old.items) }
 {
     let Some(caller) = frames.last().copied() else {
-        return Ok(());
+        return;
     };
-    frames.push(frame)?;
+    frames.push_reserved(frame);
     let count = frames.len();
     if count > 1 {
         frames[count - 2] = ActivationRecord {
@@ -60,15 +59,14 @@ fn enter(
             ..caller
         };
     }
-    Ok(())
 }
 
 impl Stack {
-    ghost use Rattle.bp_machine.specs.Transitions.{stack_after, IsEntering};
+    ghost use Rattle.bp_machine.specs.Transitions.{stack_after, FitsIn, IsEntering};
 
     /// The stack of a thread that begins at this instruction, with its locals 0.
     pub(crate) fn start(alloc: Global, number: u32) -> Result<Stack, AllocError>
-        ensures { IfOk result (λ s. s ≡ record { number = number; locals = 0 } ∷ []) }
+        ensures { IfOk result (λ s. s.frames ≡ record { number = number; locals = 0 } ∷ []) }
     {
         let mut frames = Vec::new(alloc);
         frames.push(ActivationRecord { number, locals: 0 })?;
@@ -76,22 +74,34 @@ impl Stack {
     }
 
     pub(crate) fn top(&self) -> Option<ActivationRecord>
-        ensures { result ≡ top_of self.now }
+        ensures { result ≡ top_of self.now.frames }
     {
         self.frames.last().copied()
     }
 
     pub(crate) fn len(&self) -> usize
-        ensures { result ≡ length self.now }
+        ensures { result ≡ length self.now.frames }
     {
         self.frames.len()
     }
 
-    /// Makes a step. Only a call takes memory; without it the stack stays.
-    pub(crate) fn make(&mut self, effect: Effect) -> Result<(), AllocError>
-        ensures ok { OnOk result (self.new ≡ stack_after effect self.old) }
+    /// Makes room for the frame of a step. Only a call has one; without memory the stack stays.
+    pub(crate) fn reserve(&mut self, effect: Effect) -> Result<(), AllocError>
+        ensures frames { self.new.frames ≡ self.old.frames }
+        ensures ok { OnOk result (FitsIn self.new.room effect) }
         ensures err { OnErr result (self.new ≡ self.old) }
         ensures entering { OnErr result (IsEntering effect) }
+    {
+        if let Effect::Enters { .. } = effect {
+            self.frames.reserve(1)?;
+        }
+        Ok(())
+    }
+
+    /// Makes a step, for whose frame there is room.
+    pub(crate) fn make(&mut self, effect: Effect)
+        requires { FitsIn self.old.room effect }
+        ensures { self.new.frames ≡ stack_after effect self.old.frames }
     {
         match effect {
             Effect::Continues { store, next } => replace_top(
@@ -115,9 +125,8 @@ impl Stack {
                     locals,
                 },
                 next,
-            )?,
+            ),
             Effect::Fails | Effect::Blocks => {}
         }
-        Ok(())
     }
 }

@@ -1,5 +1,6 @@
 //! Setups and sessions of small programs.
 mod examples;
+mod seeds;
 
 use crate::{AskFault, Session, Setup, SetupFault};
 use bp_check::check;
@@ -40,6 +41,38 @@ fn takes_setups_that_fit(rt: HostRuntime) -> Result<(), Fail> {
     Ok(())
 }
 
+/// Whether the setup equals a copy of it, and not the same with another seed.
+fn is_as_its_copy(setup: &Setup, other: &Setup) -> Result<bool, AllocError> {
+    Ok(setup.try_copy()? == *setup && setup != other)
+}
+
+#[test]
+fn copies_and_compares_setups(rt: HostRuntime) -> Result<(), Fail> {
+    let alloc = rt.alloc();
+    let code = code_of(alloc, ASSIGNMENT)?;
+    let entries = mains(alloc, 64)?;
+    let setup = Setup::new(alloc, &code, &entries, &[true], 1, 10, Some(42))?;
+    let other = Setup::new(alloc, &code, &entries, &[true], 1, 10, Some(43))?;
+    assert!(rt; is_as_its_copy(&setup, &other)?);
+    Ok(())
+}
+
+#[test]
+fn fits_its_code_alone(rt: HostRuntime) -> Result<(), Fail> {
+    let alloc = rt.alloc();
+    let code = code_of(alloc, ASSIGNMENT)?;
+    let setup = Setup::new(alloc, &code, &mains(alloc, 1)?, &[true], 1, 10, None)?;
+    assert!(rt; setup.fits(&code));
+    for text in [
+        b"main() begin skip; end".as_slice(),
+        b"decl x; other() begin skip; end".as_slice(),
+        b"decl x; main(a) begin skip; end".as_slice(),
+    ] {
+        assert!(rt; !setup.fits(&code_of(alloc, text)?));
+    }
+    Ok(())
+}
+
 /// The entries of so many threads that begin with `main`.
 fn mains(alloc: Global, count: u32) -> Result<Vec<String>, AllocError> {
     let mut entries = Vec::new(alloc);
@@ -74,7 +107,7 @@ fn refuses_setups_past_their_limits(rt: HostRuntime) -> Result<(), Fail> {
         (65, 10, None, Some(SetupFault::Threads)),
         (1, 0, None, Some(SetupFault::OutOfRange)),
         (1, 100_001, None, Some(SetupFault::OutOfRange)),
-        (1, 10, Some(42), Some(SetupFault::OutOfRange)),
+        (1, 10, Some(u64::MAX), None),
     ] {
         assert!(rt; refusal(alloc, &code, threads, calls, seed)? == fault);
     }
@@ -151,6 +184,8 @@ fn fails_at_a_false_choice(rt: HostRuntime) -> Result<(), Fail> {
 fn numbers_refused_calls(rt: HostRuntime) {
     assert_eq!(rt; AskFault::NoThread.number(), 36);
     assert_eq!(rt; AskFault::Finished.number(), 37);
+    assert_eq!(rt; AskFault::Seeded.number(), 38);
+    assert_eq!(rt; AskFault::Unseeded.number(), 39);
     assert_eq!(rt; AskFault::Memory.number(), 7);
 }
 
@@ -203,6 +238,8 @@ fn shows_refused_calls(rt: HostRuntime) -> Result<(), Fail> {
     for (fault, words) in [
         (AskFault::NoThread, "there is no such thread"),
         (AskFault::Finished, "the thread has made its last call"),
+        (AskFault::Seeded, "the choice bits are those of the seed"),
+        (AskFault::Unseeded, "there is no seed for the choice bits"),
         (AskFault::Memory, "out of memory"),
     ] {
         assert!(rt; is_call_shown(rt.alloc(), fault, words)?);

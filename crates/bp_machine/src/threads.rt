@@ -1,7 +1,7 @@
 //! The guest threads of a session, and what a call does to one.
 ghost use Rattle.std.specs.Prelude.{◌≡◌, ◌||◌, ◌+◌, ◌<◌, ◌^◌, map, nat_le, string_bytes, IfOk, OnOk, OnErr};
-ghost use Rattle.bp_machine.specs.GuestThreads.{first_thread};
-ghost use Rattle.bp_machine.specs.Transitions.{thread_after, reply_of_transition, IsCallTransition};
+ghost use Rattle.bp_machine.specs.GuestThreads.{first_thread, guests};
+ghost use Rattle.bp_machine.specs.Transitions.{thread_after, reply_of_transition, TransitionFitsIn, IsCallTransition};
 
 use crate::calls::Reply;
 use crate::stacks::Stack;
@@ -43,11 +43,14 @@ pub(crate) struct GuestThread {
 }
 
 impl Model for GuestThread {
-    ghost use Rattle.bp_machine.specs.GuestThreads.{GuestThreadOf};
+    ghost use Rattle.bp_machine.specs.GuestThreads.{KeptThread};
 
-    ghost Value = { GuestThreadOf };
+    ghost Value = { KeptThread };
 
-    ghost view = { λ g. record { stack = g.stack; calls = g.calls; ended = g.ended } };
+    ghost view = { λ g. record {
+      guest = record { stack = g.stack.frames; calls = g.calls; ended = g.ended };
+      room = g.stack.room;
+    } };
 }
 
 impl GuestThread {
@@ -55,7 +58,7 @@ impl GuestThread {
 
     /// A thread that has made no call.
     fn start(stack: Stack) -> GuestThread
-        ensures { result ≡ record { stack = stack; calls = 0; ended = false } }
+        ensures { result.guest ≡ record { stack = stack.frames; calls = 0; ended = false } }
     {
         GuestThread {
             stack,
@@ -65,31 +68,49 @@ impl GuestThread {
     }
 
     pub(crate) fn stack(&self) -> &Stack
-        ensures { result.now ≡ self.now.stack }
+        ensures { result.now.frames ≡ self.now.guest.stack }
     {
         &self.stack
     }
 
     /// Whether the thread makes no further call, where it may make so many.
     pub(crate) fn is_finished(&self, calls: u32) -> bool
-        ensures { result ≡ (self.now.ended || nat_le calls self.now.calls) }
+        ensures { result ≡ (self.now.guest.ended || nat_le calls self.now.guest.calls) }
     {
         self.ended || calls <= self.calls
     }
 
-    /// Makes a call. Only the step of a call takes memory; without it the thread stays.
-    pub(crate) fn make(&mut self, transition: Transition) -> Result<(), AllocError>
-        requires { self.old.calls + 1 < 2 ^ 32 }
-        ensures ok { OnOk result (self.new ≡ thread_after self.old transition) }
+    /// How many calls it made.
+    pub(crate) fn calls(&self) -> u32
+        ensures { result ≡ self.now.guest.calls }
+    {
+        self.calls
+    }
+
+    /// Makes room for the frame of a call's step; without memory the thread stays.
+    pub(crate) fn reserve(&mut self, transition: Transition) -> Result<(), AllocError>
+        ensures guest { self.new.guest ≡ self.old.guest }
+        ensures ok { OnOk result (TransitionFitsIn self.new.room transition) }
         ensures err { OnErr result (self.new ≡ self.old) }
         ensures entering { OnErr result (IsCallTransition transition) }
     {
         if let Transition::Steps(effect) = transition {
-            self.stack.make(effect)?;
+            self.stack.reserve(effect)?;
+        }
+        Ok(())
+    }
+
+    /// Makes a call, for whose frame there is room.
+    pub(crate) fn make(&mut self, transition: Transition)
+        requires calls { self.old.guest.calls + 1 < 2 ^ 32 }
+        requires room { TransitionFitsIn self.old.room transition }
+        ensures { self.new.guest ≡ thread_after self.old.guest transition }
+    {
+        if let Transition::Steps(effect) = transition {
+            self.stack.make(effect);
         }
         self.calls += 1;
         self.ended = transition.reply().is_last();
-        Ok(())
     }
 }
 
@@ -100,7 +121,7 @@ pub(crate) fn first_threads(
     entries: &[String],
 ) -> Result<Vec<GuestThread>, AllocError>
     ensures { IfOk result
-        (λ v. v.items ≡ map (first_thread code.now) (map string_bytes entries.now)) }
+        (λ v. guests v.items ≡ map (first_thread code.now) (map string_bytes entries.now)) }
 {
     let mut threads = Vec::new(alloc);
     for name in entries {

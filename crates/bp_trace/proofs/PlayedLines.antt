@@ -1,5 +1,5 @@
 -- What a session that stands after the calls of all lines says of them.
-use Rattle.std.proofs.Common.{◌≡◌, ℕ, ◌+◌, ◌<◌, ◌≤◌, List, [], ◌∷◌, ◌++◌, length, drop, refl, ap, sym, ◌∙◌, subst, arith, Option, append_assoc, length-append, length-drop}
+use Rattle.std.proofs.Common.{◌≡◌, ℕ, ◌+◌, ◌<◌, ◌≤◌, List, [], ◌∷◌, ◌++◌, length, drop, refl, ap, sym, ◌∙◌, subst, arith, Option, Some, None, is_some, true, append_assoc, length-append, length-drop}
 use Rattle.std.proofs.lemmas.List.{drop-drop}
 use Rattle.std.proofs.Math.Seq.{drop-append_seam}
 use Rattle.std.specs.Prelude.{decimal}
@@ -15,7 +15,7 @@ use Rattle.bp_machine.specs.Histories.{is_finished, IsLegal}
 use Rattle.bp_machine.specs.Sessions.{SessionOf, Stands, StandsForAll, IsAskRefusal}
 use Rattle.bp_machine.proofs.ForEveryProgram.{is_true, is_false}
 use Rattle.bp_machine.specs.declared.sessions.AskFault.{AskFault}
-use Rattle.bp_machine.specs.declared.sessions.AskFault.TheVariants.{NoThread, Finished, Memory}
+use Rattle.bp_machine.specs.declared.sessions.AskFault.TheVariants.{NoThread, Finished, Seeded, Unseeded, Memory}
 use Rattle.bp_trace.specs.declared.faults.DriveFault.{DriveFault}
 use Rattle.bp_trace.specs.declared.faults.DriveFault.TheVariants as fault
 use Rattle.bp_trace.specs.declared.schedules.ScheduleLine.{ScheduleLine}
@@ -26,14 +26,22 @@ use Rattle.bp_trace.specs.LinePlays.{drive_fault_of, IsAdded, IsLineRefusal}
 
 module _ (x : SessionOf) (h : List Call) (of_some : IsOfProgram x.code) (stands : StandsForAll x h) where
   -- the refusal of a call of a thread that is there
-  pub refused_line : (line : ScheduleLine) (n : ℕ) (f : AskFault) → line.thread < threads x.setup
-      → ((t : Program) (g : List Call) → StandsFor x.code t → Stands t x g → IsAskRefusal t x.setup g line.thread line.bit f) → IsLineRefusal x.setup h line n (drive_fault_of f n)
-  refused_line line n NoThread within refused = absurd (is_false x.code (line.thread < threads x.setup) of_some (λ t is. past (refused t h is (stands t is))) within)
+  pub refused_line : (line : ScheduleLine) (n : ℕ) (f : AskFault) → line.thread < threads x.setup → x.setup.seed ≡ None
+      → ((t : Program) (g : List Call) → StandsFor x.code t → Stands t x g → IsAskRefusal t x.setup g line.thread (Some line.bit) f) → IsLineRefusal x.setup h line n (drive_fault_of f n)
+  refused_line line n NoThread within unseeded refused = absurd (is_false x.code (line.thread < threads x.setup) of_some (λ t is. past (refused t h is (stands t is))) within)
     where
       past : threads x.setup ≤ line.thread → line.thread < threads x.setup → ⊥
       past beyond below = omega arith
-  refused_line line n Finished within refused = (refl, is_true x.code (is_finished x.setup h line.thread) of_some (λ t is. (refused t h is (stands t is)).1))
-  refused_line line n Memory within refused = tt
+  refused_line line n Finished within unseeded refused = (refl, is_true x.code (is_finished x.setup h line.thread) of_some (λ t is. (refused t h is (stands t is)).1))
+  refused_line line n Seeded within unseeded refused = absurd (is_false x.code (x.setup.seed ≡ None) of_some (λ t is. seeded (refused t h is (stands t is)).2) unseeded)
+    where
+      seeded : is_some x.setup.seed ≡ true → x.setup.seed ≡ None → ⊥
+      seeded some none = let a = ap is_some none in cc
+  refused_line line n Unseeded within unseeded refused = absurd (is_false x.code (x.setup.seed ≡ None) of_some (λ t is. ungiven (refused t h is (stands t is)).1) unseeded)
+    where
+      ungiven : Some line.bit ≡ None → x.setup.seed ≡ None → ⊥
+      ungiven e none = cc
+  refused_line line n Memory within unseeded refused = tt
 
 -- one more line of the schedule
 module _ (schedule : List ℕ) (old new : List Call) (line : ScheduleLine) (place many : ℕ) (within : place ≤ length schedule)
@@ -68,7 +76,7 @@ module _ (schedule : List ℕ) (old new : List Call) (line : ScheduleLine) (plac
 module _ (x : SessionOf) (t : Program) (is : StandsFor x.code t) (s : SetupOf) (h : List Call) (setup : x.setup ≡ s) (stands : StandsForAll x h)
     (schedule rest : List ℕ) (short : length schedule ≤ MAX_SCHEDULE) (whole : schedule ≡ schedule_text (lines_of_history h) ++ rest) where
   pub legal_of : IsLegal t s h
-  legal_of = subst (λ z. IsLegal t z h) setup (stands t is).legal
+  legal_of = subst (λ z. IsLegal t z h) setup (stands t is).state.legal
 
   module _ (line : ScheduleLine) (n many : ℕ) (number : n ≡ length h + 1) (all : many ≡ threads s) (begins : IsLineAt many rest line) where
     pub line_refused : (f : DriveFault) → IsLineRefusal x.setup h line n f → (bytes : Option (List ℕ)) → IsRefusal t s schedule bytes bytes f

@@ -14,9 +14,8 @@ use Rattle.bp_trace.specs.Schedules.{line_of_call}
 
 -- the refusal of a call on the line n, of a thread that is there
 abbrev pub drive_fault_of : AskFault → ℕ → DriveFault
-drive_fault_of NoThread n = AfterFinish n
-drive_fault_of Finished n = AfterFinish n
 drive_fault_of refused.Memory n = Memory
+drive_fault_of f n = AfterFinish n
 
 -- the call of this line was added
 pub record IsAdded (old new : List Call) (line : ScheduleLine) : Type 0 where

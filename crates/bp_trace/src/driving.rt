@@ -1,5 +1,5 @@
 //! Driving a program by a schedule.
-ghost use Rattle.std.specs.Prelude.{◌≡◌, ◌<◌, ◌≤◌, ℕ, List, Option, [], length, IfOk, IfErr, OnOk, MatchResult};
+ghost use Rattle.std.specs.Prelude.{◌≡◌, ◌<◌, ◌≤◌, ℕ, List, Option, None, [], length, IfOk, IfErr, OnOk, MatchResult};
 ghost use Rattle.bp_tree.specs.Ast.{Program};
 ghost use Rattle.bp_code.specs.StandsFor.{StandsFor};
 ghost use Rattle.bp_code.specs.Programs.{IsOfProgram};
@@ -16,7 +16,7 @@ use crate::limits::MAX_SCHEDULE;
 use crate::schedules::{ScheduleLine, line_at, text_from};
 use crate::traces::write_with_open_lines;
 use bp_code::Code;
-use bp_machine::{AskFault, Call, Report, Session, Setup, report_of};
+use bp_machine::{AskFault, Call, Report, Session, Setup};
 use std::alloc::Global;
 use std::io::Write;
 
@@ -26,7 +26,8 @@ fn drive_fault_of(fault: AskFault, n: u32) -> DriveFault
 {
     match fault {
         AskFault::Memory => DriveFault::Memory,
-        AskFault::NoThread | AskFault::Finished => DriveFault::AfterFinish(n),
+        // The setup has no seed, so that the thread makes no further call.
+        _ => DriveFault::AfterFinish(n),
     }
 }
 
@@ -40,6 +41,7 @@ fn play_line(
     requires program { IsOfProgram session.old.code }
     requires stands { StandsForAll session.old calls.old.items }
     requires thread { line.thread < length session.old.setup.entries }
+    requires unseeded { session.old.setup.seed ≡ None }
     ensures stands { OnOk result (StandsForAll session.new calls.new.items) }
     ensures added { OnOk result (IsAdded calls.old.items calls.new.items line) }
     ensures kept { (session.new.code ≡ session.old.code) × (session.new.setup ≡ session.old.setup) }
@@ -67,6 +69,7 @@ fn play(
     requires stands { StandsForAll session.old [] }
     requires threads { threads ≡ length session.old.setup.entries }
     requires few { threads ≤ MAX_THREADS }
+    requires unseeded { session.old.setup.seed ≡ None }
     requires short { length schedule.now ≤ MAX_SCHEDULE }
     ensures stands { IfOk result (λ h. StandsForAll session.new h.items) }
     ensures lines { IfOk result (λ h. schedule.now ≡ schedule_text (lines_of_history h.items)) }
@@ -98,7 +101,8 @@ pub fn drive<W: Write>(
     schedule: &[u8],
     out: &mut W,
 ) -> Result<Report, DriveFault>
-    requires { FitsCode code.now setup.now }
+    requires fits { FitsCode code.now setup.now }
+    requires unseeded { setup.now.seed ≡ None }
     ensures { (t : Program)
         → StandsFor code.now t
         → MatchResult result
@@ -112,7 +116,7 @@ pub fn drive<W: Write>(
     setup.is_in_range();
     let mut session = Session::new(alloc, code, setup)?;
     let calls = play(alloc, &mut session, setup.threads(), schedule)?;
-    let report = report_of(&session, calls.as_slice());
+    let report = session.report();
     write_with_open_lines(setup, calls.as_slice(), report.left_open, out)?;
     Ok(report)
 }

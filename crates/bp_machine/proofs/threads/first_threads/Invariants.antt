@@ -1,6 +1,6 @@
 use Rattle.std.proofs.Common.{◌≡◌, map, take, string_bytes}
-use Rattle.bp_machine.specs.GuestThreads.{first_thread}
+use Rattle.bp_machine.specs.GuestThreads.{first_thread, guests}
 use Rattle.bp_machine.proofs.threads.first_threads.Given as goal
 
 abbrev pub invariant-loop-name : goal.invariant-loop-name
-invariant-loop-name l = l.threads.items ≡ map (first_thread l.code) (map string_bytes (take l.name-index l.entries))
+invariant-loop-name l = guests l.threads.items ≡ map (first_thread l.code) (map string_bytes (take l.name-index l.entries))

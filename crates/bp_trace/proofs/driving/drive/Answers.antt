@@ -2,6 +2,7 @@ use Rattle.std.proofs.Common.{◌∙◌, sym, subst}
 use Rattle.std.proofs.lemmas.Result.{err_from_is_err_and}
 use Rattle.bp_code.specs.Programs.{IsOfProgram}
 use Rattle.bp_code.specs.StandsFor.{StandsFor}
+use Rattle.bp_machine.proofs.ForEveryProgram.{same_open}
 use Rattle.bp_trace.proofs.driving.drive.Goals as goal
 
 pub play-requires-clause-program : goal.play-requires-clause-program
@@ -10,9 +11,12 @@ play-requires-clause-program g c = subst IsOfProgram (sym c.in_ok-session.ensure
 pub play-requires-clause-stands : goal.play-requires-clause-stands
 play-requires-clause-stands g c = λ t is. c.in_ok-session.ensures.stands t (subst (λ x. StandsFor x t) c.in_ok-session.ensures.kept.0 is)
 
-pub report_of-report-requires-clause-program : goal.report_of-report-requires-clause-program
-report_of-report-requires-clause-program g c =
-    subst IsOfProgram (sym (c.play.ensures.kept.0 ∙ c.in_ok-session.ensures.kept.0)) c.is_of_a_program.ensures
+pub write_with_open_lines-requires : goal.write_with_open_lines-requires
+write_with_open_lines-requires g c =
+    let session = c.play.new.session in
+    let of_some = subst IsOfProgram (sym (c.play.ensures.kept.0 ∙ c.in_ok-session.ensures.kept.0)) c.is_of_a_program.ensures in
+    let open_of = same_open session c.in_ok-calls.calls.items of_some c.in_ok-calls.ensures.stands c.report-report.result.left_open (λ t h stands. (c.report-report.ensures t h stands).left_open) in
+    rw c.as_slice.ensures.value (rw (c.play.ensures.kept.1 ∙ c.in_ok-session.ensures.kept.1) at open_of)
 
 pub returns-in_err-calls : goal.returns-in_err-calls
 returns-in_err-calls g c = λ t is.

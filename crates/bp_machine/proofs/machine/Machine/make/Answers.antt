@@ -1,14 +1,29 @@
-use Rattle.bp_machine.proofs.StateAfterTransition.{stays_after, fails_after, steps_after}
+use Rattle.std.proofs.Common.{◌<◌, ◌∙◌, ap, sym, arith, length}
+use Rattle.std.specs.Prelude.{slice_get}
+use Rattle.bp_machine.proofs.StateAfterTransition.{counted, guest_here, room_here, stays_after, fails_after, steps_after}
 use Rattle.bp_machine.proofs.machine.Machine.make.Goals as goal
 
-pub returns-in-Stays-clause-ok : goal.returns-in-Stays-clause-ok
-returns-in-Stays-clause-ok c = λ guest has.
-    stays_after c.args.self.now c.self.inside.globals c.self.inside.threads.items c.self.inside.contexts c.self.inside.failed c.self.view_is c.args.thread guest c.index_mut-guest.result.now c.make.new.self c.args.transition has c.index_mut-guest.ensures.value c.in_ok-make.ensures.ok c.in-Stays.field-0 c.in-Stays.is
+within : (c : goal.After-index_mut) → c.args.thread < length c.self.inside.threads.items
+within c = omega (arith, counted c.args.self.now c.self.inside.threads.items (ap (λ m. m.state.threads) c.self.view_is), c.requires.within)
 
-pub returns-in-Fails-clause-ok : goal.returns-in-Fails-clause-ok
-returns-in-Fails-clause-ok c = λ guest has.
-    fails_after c.args.self.now c.self.inside.globals c.self.inside.threads.items c.self.inside.contexts c.self.inside.failed c.self.view_is c.args.thread guest c.index_mut-guest.result.now c.make.new.self c.args.transition has c.index_mut-guest.ensures.value c.in_ok-make.ensures.ok c.in-Fails.is c.with-self-inside.result c.with-self-inside.ensures.value
+pub make-requires-clause-calls : goal.make-requires-clause-calls
+make-requires-clause-calls c =
+    let found = guest_here c.self.inside.threads.items c.args.thread c.index_mut.result.now (within c) c.index_mut.ensures.value in
+    c.requires.calls c.index_mut.result.now.guest (sym (ap (λ m. slice_get m.state.threads c.args.thread) c.self.view_is) ∙ found)
 
-pub returns-in-Steps-clause-ok : goal.returns-in-Steps-clause-ok
-returns-in-Steps-clause-ok c = λ guest has.
-    steps_after c.args.self.now c.self.inside.globals c.self.inside.threads.items c.self.inside.contexts c.self.inside.failed c.self.view_is c.args.thread guest c.index_mut-guest.result.now c.make.new.self c.args.transition has c.index_mut-guest.ensures.value c.in_ok-make.ensures.ok c.in-Steps.effect c.in-Steps.is c.with-self-inside-in-Steps.result c.with-self-inside-in-Steps.ensures.value c.globals_after-self-inside.result c.globals_after-self-inside.ensures
+pub make-requires-clause-room : goal.make-requires-clause-room
+make-requires-clause-room c =
+    let found = room_here c.self.inside.threads.items c.args.thread c.index_mut.result.now (within c) c.index_mut.ensures.value in
+    c.requires.room c.index_mut.result.now.room (sym (ap (λ m. slice_get m.rooms c.args.thread) c.self.view_is) ∙ found)
+
+pub returns-in-Stays : goal.returns-in-Stays
+returns-in-Stays c = λ guest has.
+    stays_after c.args.self.now.state c.self.inside.globals c.self.inside.threads.items c.self.inside.contexts c.self.inside.outcome (ap (λ m. m.state) c.self.view_is) c.args.thread guest c.index_mut.result.now c.make.new.self c.args.transition has (omega (arith, counted c.args.self.now c.self.inside.threads.items (ap (λ m. m.state.threads) c.self.view_is), c.requires.within)) c.index_mut.ensures.value c.make.ensures c.in-Stays.field-0 c.in-Stays.is
+
+pub returns-in-Fails : goal.returns-in-Fails
+returns-in-Fails c = λ guest has.
+    fails_after c.args.self.now.state c.self.inside.globals c.self.inside.threads.items c.self.inside.contexts c.self.inside.outcome (ap (λ m. m.state) c.self.view_is) c.args.thread guest c.index_mut.result.now c.make.new.self c.args.transition has (omega (arith, counted c.args.self.now c.self.inside.threads.items (ap (λ m. m.state.threads) c.self.view_is), c.requires.within)) c.index_mut.ensures.value c.make.ensures c.in-Fails.is c.with-self-inside.result c.with-self-inside.ensures.value
+
+pub returns-in-Steps : goal.returns-in-Steps
+returns-in-Steps c = λ guest has.
+    steps_after c.args.self.now.state c.self.inside.globals c.self.inside.threads.items c.self.inside.contexts c.self.inside.outcome (ap (λ m. m.state) c.self.view_is) c.args.thread guest c.index_mut.result.now c.make.new.self c.args.transition has (omega (arith, counted c.args.self.now c.self.inside.threads.items (ap (λ m. m.state.threads) c.self.view_is), c.requires.within)) c.index_mut.ensures.value c.make.ensures c.in-Steps.effect c.in-Steps.is c.with-self-inside-in-Steps.result c.with-self-inside-in-Steps.ensures.value c.globals_after-self-inside.result c.globals_after-self-inside.ensures

@@ -1,28 +1,31 @@
 use Rattle.std.proofs.Common.{◌∙◌, ap, sym, arith, ◌||◌, nat_le}
 use Rattle.std.specs.Prelude.{slice_get}
+use Rattle.bp_machine.specs.GuestThreads.{guests}
 use Rattle.bp_machine.proofs.SessionAnswers.{count_more}
-use Rattle.bp_machine.proofs.StateAfterTransition.{found_here}
+use Rattle.bp_machine.proofs.StateAfterTransition.{guest_here}
 use Rattle.bp_machine.proofs.machine.Machine.open_lines.Goals as goal
 use Rattle.bp_machine.proofs.machine.Machine.open_lines.Goals.{then-not-is_finished, else-not-is_finished}
 
 pub loop-thread-preserved : goal.loop-thread-preserved
 loop-thread-preserved c =
-    let found = found_here c.as_slice-thread-items.result.now c.loop-thread.thread-index c.thread-item.result c.loop-thread-test.true c.thread-item.is in
-    let threads = c.as_slice-thread-items.ensures.value ∙ ap (λ x. x.threads) c.self.view_is in
-    let has = sym (ap (λ ls. slice_get ls c.loop-thread.thread-index) threads) ∙ found in
+    let i = c.loop-thread.thread-index in
+    let guest = c.thread-item.result.guest in
+    let found = guest_here c.as_slice-thread-items.result.now i c.thread-item.result c.loop-thread-test.true c.thread-item.is in
+    let threads = ap guests c.as_slice-thread-items.ensures.value ∙ ap (λ m. m.state.threads) c.self.view_is in
+    let has = sym (ap (λ ls. slice_get ls i) threads) ∙ found in
     elim c.if-not-is_finished.branch [
       | then-not-is_finished w ↦ record {
         few = omega arith;
         counted = λ t s h calls stands.
-            let over = c.is_finished.ensures ∙ ap (λ n. c.thread-item.result.ended || nat_le n c.thread-item.result.calls) (sym calls) in
-            let base = count_more t s c.args.self.now h stands c.loop-thread.thread-index c.thread-item.result has c.is_finished.result over c.loop-thread.count (c.loop-thread.invariant.counted t s h calls stands) in
+            let over = c.is_finished.ensures ∙ ap (λ n. guest.ended || nat_le n guest.calls) (sym calls) in
+            let base = count_more t s c.args.self.now.state h stands i guest has c.is_finished.result over c.loop-thread.count (c.loop-thread.invariant.counted t s h calls stands) in
             w.count-is ∙ (rw w.if-not-is_finished.true at base);
       }
       | else-not-is_finished w ↦ record {
         few = omega arith;
         counted = λ t s h calls stands.
-            let over = c.is_finished.ensures ∙ ap (λ n. c.thread-item.result.ended || nat_le n c.thread-item.result.calls) (sym calls) in
-            let base = count_more t s c.args.self.now h stands c.loop-thread.thread-index c.thread-item.result has c.is_finished.result over c.loop-thread.count (c.loop-thread.invariant.counted t s h calls stands) in
+            let over = c.is_finished.ensures ∙ ap (λ n. guest.ended || nat_le n guest.calls) (sym calls) in
+            let base = count_more t s c.args.self.now.state h stands i guest has c.is_finished.result over c.loop-thread.count (c.loop-thread.invariant.counted t s h calls stands) in
             w.count-is ∙ (rw w.if-not-is_finished.false at base);
       }
     ]

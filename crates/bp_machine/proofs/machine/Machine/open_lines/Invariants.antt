@@ -9,5 +9,5 @@ use Rattle.bp_machine.proofs.machine.Machine.open_lines.Given as goal
 abbrev pub invariant-loop-thread : goal.invariant-loop-thread
 invariant-loop-thread l = record {
   few : l.count ≤ l.thread-index;
-  counted : (t : Program) (s : SetupOf) (h : List Call) → s.calls ≡ l.calls → StandsAfter t s l.self h → l.count ≡ open_below l.thread-index s h;
+  counted : (t : Program) (s : SetupOf) (h : List Call) → s.calls ≡ l.calls → StandsAfter t s l.self.state h → l.count ≡ open_below l.thread-index s h;
 }

@@ -1,0 +1,88 @@
+-- Code and program print alike, and a session prints what its thread's code does.
+use Rattle.std.proofs.Common.{◌≡◌, ℕ, Bool, List, [], ◌∷◌, Option, None, Some, refl, ap, sym, ◌∙◌}
+use Rattle.std.specs.Prelude.{slice_get}
+use Rattle.bp_tree.specs.Ast.{Block, Done, Then, Skips, GoesTo, Returns, Assigns, Branches, Loops, Asserts, Assumes, Prints, Calls, Procedure, Program}
+use Rattle.bp_code.specs.Bits.{bits_of}
+use Rattle.bp_code.specs.Effects.{Store}
+use Rattle.bp_code.specs.Values.{Valuation}
+use Rattle.bp_code.specs.Configurations.{Frame}
+use Rattle.bp_code.specs.Flat.{Flat, Instruction}
+use Rattle.bp_code.specs.Steps.{Bits, Activation}
+use Rattle.bp_code.specs.Prints.{printed_values}
+use Rattle.bp_code.specs.StandsFor.{StandsFor, Place, Does, places_of, named_store, valuation_of}
+use Rattle.bp_code.specs.Alike.{ShowsStack}
+use Rattle.bp_machine.specs.declared.calls.Call.{Call}
+use Rattle.bp_machine.specs.declared.stacks.ActivationRecord.{ActivationRecord}
+use Rattle.bp_machine.specs.GuestThreads.{GuestThreadOf}
+use Rattle.bp_machine.specs.Answers.{stack_of}
+use Rattle.bp_machine.specs.Histories.{configuration_after}
+use Rattle.bp_machine.specs.PrintedRows.{values_at, values_printed}
+use Rattle.bp_machine.specs.Setups.{SetupOf}
+use Rattle.bp_machine.specs.Stacks.{top_of}
+use Rattle.bp_machine.specs.States.{State, StandsAfter, activations}
+
+-- what the instruction of a number prints
+abbrev pub printed_at : Option Instruction → Store Bits → Option (List Bool)
+printed_at (Some i) store = printed_values store i
+printed_at None store = None
+
+-- what the next instruction of a stack prints
+abbrev pub printed_here : List Instruction → Bits → List Activation → Option (List Bool)
+printed_here code g [] = None
+printed_here code g (a ∷ below) = printed_at (slice_get code a.number) (record { globals = g; locals = a.locals })
+
+module _ (t : Program) (table : List Place) (p : Procedure) where
+  print_alike : (left : Block) (i : Instruction) (w : Store Bits) → Does t table p left i → values_at (named_store t.globals p w) left ≡ printed_values w i
+  print_alike Done i w is = rw is refl
+  print_alike (Then label at Skips r) i w c = rw c.is refl
+  print_alike (Then label at (GoesTo x) r) i w c = rw c.is refl
+  print_alike (Then label at Returns r) i w is = rw is refl
+  print_alike (Then label at (Assigns xs es) r) i w c = rw c.is refl
+  print_alike (Then label at (Branches d a b) r) i w c = rw c.is refl
+  print_alike (Then label at (Loops d a) r) i w c = rw c.is refl
+  print_alike (Then label at (Asserts d) r) i w c = rw c.is refl
+  print_alike (Then label at (Assumes d) r) i w c = rw c.is refl
+  print_alike (Then label at (Prints es) r) i w c = rw c.is (ap Some (sym (c.values_are.equal w)))
+  print_alike (Then label at (Calls x es) r) i w c = rw c.is refl
+
+module _ (c : Flat) (t : Program) (st : StandsFor c t) where
+  pub printed_alike : (g : Valuation) (bits : Bits) → g ≡ valuation_of t.globals bits → (acts : List Activation) (frames : List Frame) → ShowsStack t acts frames
+      → values_printed g frames ≡ printed_here c.instructions bits acts
+  printed_alike g bits is [] [] shown = refl
+  printed_alike g bits is [] (f ∷ fs) shown = absurd shown
+  printed_alike g bits is (a ∷ below) [] shown = absurd shown
+  printed_alike g bits is (a ∷ below) (f ∷ fs) shown =
+      let found = st.each a.number f.procedure f.left shown.0.left in
+      rw (found.1, is, shown.0.locals) (print_alike t (places_of t.procedures) f.procedure f.left found.0 (record { globals = bits; locals = a.locals }) found.2)
+
+  module _ (s : SetupOf) (x : State) (h : List Call) (stands : StandsAfter t s x h) (i : ℕ) (guest : GuestThreadOf) (has : slice_get x.threads i ≡ Some guest) where
+    printed : values_printed (configuration_after t s h).globals (stack_of (configuration_after t s h) i) ≡ printed_here c.instructions (bits_of x.globals) (activations guest.stack)
+    printed =
+        printed_alike (configuration_after t s h).globals (bits_of x.globals) stands.globals (activations guest.stack) (stack_of (configuration_after t s h) i) (stands.thread i guest has).stack
+
+    without_top : (fs : List ActivationRecord) → top_of fs ≡ None → printed_here c.instructions (bits_of x.globals) (activations fs) ≡ None
+    without_top [] e = refl
+    without_top (f ∷ fs) e = absurd cc
+
+    with_top : (fs : List ActivationRecord) (f : ActivationRecord) → top_of fs ≡ Some f
+        → printed_here c.instructions (bits_of x.globals) (activations fs) ≡ printed_at (slice_get c.instructions f.number) (record { globals = bits_of x.globals; locals = bits_of f.locals })
+    with_top [] f e = absurd cc
+    with_top (g ∷ fs) f e =
+        let same : g ≡ f = cc in
+        ap (λ (k : ActivationRecord). printed_at (slice_get c.instructions k.number) (record { globals = bits_of x.globals; locals = bits_of k.locals })) same
+
+    -- a thread without a frame prints nothing
+    pub nothing_printed : None ≡ top_of guest.stack → None ≡ values_printed (configuration_after t s h).globals (stack_of (configuration_after t s h) i)
+    nothing_printed e = sym (printed ∙ without_top guest.stack (sym e))
+
+    -- neither does one behind its code
+    pub none_printed : (f : ActivationRecord) → Some f ≡ top_of guest.stack → None ≡ slice_get c.instructions f.number
+        → None ≡ values_printed (configuration_after t s h).globals (stack_of (configuration_after t s h) i)
+    none_printed f e past =
+        sym (printed ∙ with_top guest.stack f (sym e) ∙ ap (λ o. printed_at o (record { globals = bits_of x.globals; locals = bits_of f.locals })) (sym past))
+
+    -- else its next instruction prints
+    pub instruction_printed : (f : ActivationRecord) → Some f ≡ top_of guest.stack → (instr : Instruction) → Some instr ≡ slice_get c.instructions f.number
+        → printed_values (record { globals = bits_of x.globals; locals = bits_of f.locals }) instr ≡ values_printed (configuration_after t s h).globals (stack_of (configuration_after t s h) i)
+    instruction_printed f e instr found =
+        sym (printed ∙ with_top guest.stack f (sym e) ∙ ap (λ o. printed_at o (record { globals = bits_of x.globals; locals = bits_of f.locals })) (sym found))

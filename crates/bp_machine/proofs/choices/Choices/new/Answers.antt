@@ -1,0 +1,10 @@
+use Rattle.std.proofs.Common.{◌+◌, ap, ◌∙◌}
+use Rattle.rand_pcg.specs.Lcg.{started, increment_of}
+use Rattle.rand_pcg.specs.Pcg.{multiplier_64, pcg32}
+use Rattle.bp_machine.proofs.WordsOfChoices.{at_first_word}
+use Rattle.bp_machine.proofs.choices.Choices.new.Goals as goal
+
+pub returns : goal.returns
+returns c =
+    let begun = c.new-generator.ensures ∙ ap (λ thread. started 64 multiplier_64 c.args.seed (increment_of 64 (54 + thread))) c.from.ensures in
+    at_first_word c.args.seed c.args.thread c.next_word.result c.next_word.new.self (c.next_word.ensures ∙ ap pcg32 begun)

@@ -1,0 +1,38 @@
+use Rattle.std.proofs.Common.{◌≡◌, ◌+◌, ◌∙◌, ap, sym, arith, length}
+use Rattle.std.specs.Prelude.{slice_get}
+use Rattle.std.proofs.lemmas.List.{length-map}
+use Rattle.bp_machine.specs.GuestThreads.{guests}
+use Rattle.bp_machine.specs.Histories.{calls_of_thread}
+use Rattle.bp_machine.proofs.LegalLength.{total, total_zero, total_next, all_calls}
+use Rattle.bp_machine.proofs.StateAfterTransition.{guest_here}
+use Rattle.bp_machine.proofs.machine.Machine.calls.Goals as goal
+
+pub loop-thread-init : goal.loop-thread-init
+loop-thread-init c = record {
+  few = omega arith;
+  counted = λ t s h stands. total_zero h;
+}
+
+pub overflow_add-sum : goal.overflow_add-sum
+overflow_add-sum c =
+    let count = ap length c.as_slice-thread-items.ensures.value ∙ sym (length-map c.self.inside.threads.items (λ k. k.guest)) ∙ ap (λ m. length m.state.threads) c.self.view_is in
+    omega (arith, c.loop-thread.invariant.few, c.loop-thread-test.true, count, c.requires, c.from-sum.ensures, c.calls.type_inv)
+
+pub loop-thread-preserved : goal.loop-thread-preserved
+loop-thread-preserved c =
+    let i = c.loop-thread.thread-index in
+    let found = guest_here c.as_slice-thread-items.result.now i c.thread-item.result c.loop-thread-test.true c.thread-item.is in
+    let threads = ap guests c.as_slice-thread-items.ensures.value ∙ ap (λ m. m.state.threads) c.self.view_is in
+    let has = sym (ap (λ ls. slice_get ls i) threads) ∙ found in
+    record {
+      few = omega (arith, c.loop-thread.invariant.few, c.from-sum.ensures, c.calls.type_inv);
+      counted = λ t s h stands.
+          let own = c.from-sum.ensures ∙ c.calls.ensures ∙ (stands.thread i c.thread-item.result.guest has).calls in
+          ap (λ n. c.loop-thread.sum + n) own ∙ ap (λ n. n + length (calls_of_thread i h)) (c.loop-thread.invariant.counted t s h stands) ∙ total_next i h;
+    }
+
+pub returns : goal.returns
+returns c = λ t s h stands.
+    let count = ap length c.as_slice-thread-items.ensures.value ∙ sym (length-map c.self.inside.threads.items (λ k. k.guest)) ∙ ap (λ m. length m.state.threads) c.self.view_is ∙ stands.thread_count in
+    let ended : c.loop-thread.thread-index ≡ length c.as_slice-thread-items.result.now = omega (arith, c.loop-thread.auto.thread-index-end, c.loop-thread-test.false) in
+    c.loop-thread.invariant.counted t s h stands ∙ ap (λ n. total n h) (ended ∙ count) ∙ all_calls t s h stands.legal

@@ -1,0 +1,13 @@
+use Rattle.std.proofs.Common.{◌≡◌, ◌≤◌, ◌*◌, List}
+use Rattle.bp_tree.specs.Ast.{Program}
+use Rattle.bp_machine.specs.declared.calls.Call.{Call}
+use Rattle.bp_machine.specs.Setups.{SetupOf}
+use Rattle.bp_machine.specs.States.{StandsAfter}
+use Rattle.bp_machine.proofs.LegalLength.{total}
+use Rattle.bp_machine.proofs.machine.Machine.calls.Given as goal
+
+abbrev pub invariant-loop-thread : goal.invariant-loop-thread
+invariant-loop-thread l = record {
+  few : l.sum ≤ l.thread-index * 4294967296;
+  counted : (t : Program) (s : SetupOf) (h : List Call) → StandsAfter t s l.self.state h → l.sum ≡ total l.thread-index h;
+}

@@ -1,0 +1,10 @@
+use Rattle.std.proofs.Common.{◌≡◌, ℕ, Some, length}
+use Rattle.std.specs.Prelude.{slice_get}
+use Rattle.bp_machine.specs.ChoiceBits.{ChoicesOf, IsAt}
+use Rattle.bp_machine.proofs.sessions.first_choices.Given as goal
+
+abbrev pub invariant-loop-thread : goal.invariant-loop-thread
+invariant-loop-thread l = record {
+  count : length l.choices.items ≡ l.thread;
+  each : (i : ℕ) (c : ChoicesOf) → slice_get l.choices.items i ≡ Some c → IsAt c l.seed i 0;
+}

@@ -1,0 +1,9 @@
+use Rattle.bp_code.specs.Same.{same, same-Decides}
+use Rattle.bp_code.proofs.SameAnswer.{same_answer}
+use Rattle.bp_machine.specs.SessionCodes.{coded_setup}
+use Rattle.bp_machine.proofs.setups.SetupPartialEq.eq.Goals as goal
+
+pub returns-clause-gives : goal.returns-clause-gives
+returns-clause-gives c =
+    let tested = same-Decides coded_setup c.args.self.now c.args.other.now in
+    same_answer c.is_same.result (same coded_setup c.args.self.now c.args.other.now) c.is_same.ensures tested
