@@ -47,7 +47,8 @@ const CODE_ABOUT: &str = "Prints the listing of a program's code";
 /// What `code --help` says behind the arguments.
 const CODE_NOTES: &str = "\
     A procedure has a line 'proc NAME FORMALS LOCALS', and behind it a line for each instruction,\n\
-    with its number and those of its successors. The first fault is one line on standard error, with\n\
+    with its number and those of its successors. The first fault is one line on \
+    standard error, with\n\
     the offset of its byte.\n\nExample:\n  btrun code lock.bp\n\n\
     Exit status:\n  0  the listing is printed\n  2  the program is refused, or the words were\n  \
     3  memory, a device or the output failed";

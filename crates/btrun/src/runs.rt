@@ -14,7 +14,7 @@ fn run_words(rt: &HostRuntime, words: &[String]) -> u8 {
         Ok(Task::Bundle) => bundle::drive_input(rt),
         Ok(Task::Check(path)) => files::check_file(rt, path),
         Ok(Task::Code(path)) => files::list_file(rt, path),
-        Err(error) => usage::explain(rt, &error),
+        Err(error) => usage::explain(rt, &error, &mut rt.stderr()),
     }
 }
 
@@ -27,6 +27,6 @@ fn words(rt: &HostRuntime) -> io::Result<Vec<String>> {
 pub fn run(rt: &HostRuntime) -> u8 {
     match words(rt) {
         Ok(words) => run_words(rt, &words),
-        Err(error) => usage::refuse_words(rt, words_fault(&error)),
+        Err(error) => usage::refuse_words(rt, words_fault(&error), &mut rt.stderr()),
     }
 }
