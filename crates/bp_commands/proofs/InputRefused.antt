@@ -5,7 +5,7 @@ use Rattle.bp_commands.specs.declared.limits.TheConstants.{MAX_BUNDLE}
 use Rattle.bp_commands.specs.declared.inputs.InputFault.{InputFault}
 use Rattle.bp_commands.specs.declared.inputs.InputFault.TheVariants.{Device, TooLong, Memory}
 use Rattle.bp_commands.specs.Inputs.{Streams, IsInput, TookAtMost, IsInputRefusal}
-use Rattle.bp_commands.specs.Faults.{bundle_fault_of, file_fault_of}
+use Rattle.bp_commands.specs.Faults.{drive_refusal_of, file_fault_of}
 use Rattle.bp_commands.specs.Bundles.{IsBundleRefusal}
 use Rattle.bp_tree.specs.Ast.{Program as Tree}
 use Rattle.bp_commands.specs.ProgramInputs.{IsFileRefusal}
@@ -14,7 +14,7 @@ module _ (had left old : Option (List ℕ)) where
   abbrev io : Streams
   io = record { input_before = had; input_after = left; output_before = old; output_after = old }
 
-  pub bundle_refused : (f : InputFault) → IsInputRefusal MAX_BUNDLE had left f → IsBundleRefusal io (bundle_fault_of f)
+  pub bundle_refused : (f : InputFault) → IsInputRefusal MAX_BUNDLE had left f → IsBundleRefusal io (drive_refusal_of f)
   bundle_refused Device h = refl
   bundle_refused TooLong h = (refl, h)
   bundle_refused Memory h = (refl, h)

@@ -1,7 +1,9 @@
 mod BufferRefused
+mod DriveRefused
 mod FirstSeparator
 mod InputRefused
 mod MappedErrors
-mod PartsDriven
 mod Reportable
+mod SetupsOfOptions
+mod TextDriven
 mod TextRefused

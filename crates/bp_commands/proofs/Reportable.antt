@@ -8,17 +8,17 @@ use Rattle.bp_machine.specs.declared.setups.SetupFault.{SetupFault}
 use Rattle.bp_machine.specs.declared.setups.SetupFault.TheVariants as setup
 use Rattle.bp_trace.specs.declared.faults.DriveFault.{DriveFault}
 use Rattle.bp_trace.specs.declared.faults.DriveFault.TheVariants as drive
-use Rattle.bp_commands.specs.declared.bundle_faults.BundleFault.{BundleFault}
-use Rattle.bp_commands.specs.declared.bundle_faults.BundleFault.TheVariants.{Device, TooLong, Program, Setup, Drive, Memory}
+use Rattle.bp_commands.specs.declared.drive_refusals.DriveRefusal.{DriveRefusal}
+use Rattle.bp_commands.specs.declared.drive_refusals.DriveRefusal.TheVariants.{Device, TooLong, Program, Setup, Drive, Memory}
 use Rattle.bp_commands.specs.declared.file_faults.FileFault.{FileFault}
 use Rattle.bp_commands.specs.declared.file_faults.FileFault.TheVariants as file
 use Rattle.bp_commands.specs.declared.programs.ProgramFault.{ProgramFault}
 use Rattle.bp_commands.specs.declared.programs.ProgramFault.TheVariants.{Read, Check}
-use Rattle.bp_commands.specs.Faults.{bundle_fault_number, file_fault_number, program_fault_number, bundle_fault_place, file_fault_place, program_fault_place}
+use Rattle.bp_commands.specs.Faults.{drive_refusal_number, file_fault_number, program_fault_number, drive_refusal_place, file_fault_place, program_fault_place}
 use Rattle.bp_commands.specs.FaultLines.{IsReportable}
 
-abbrev IsBundleReportable : BundleFault → Type 0
-IsBundleReportable f = IsReportable (bundle_fault_number f) (bundle_fault_place f) None
+abbrev IsDriveReportable : DriveRefusal → Type 0
+IsDriveReportable f = IsReportable (drive_refusal_number f) (drive_refusal_place f) None
 
 abbrev IsProgramReportable : ProgramFault → Type 0
 IsProgramReportable f = IsReportable (program_fault_number f) (program_fault_place f) None
@@ -50,7 +50,7 @@ program_reportable : (f : ProgramFault) → IsProgramReportable f
 program_reportable (Read f) = read_reportable f
 program_reportable (Check f at) = check_reportable f at
 
-setup_reportable : (f : SetupFault) → IsBundleReportable (Setup f)
+setup_reportable : (f : SetupFault) → IsDriveReportable (Setup f)
 setup_reportable setup.Threads = record { listed = refl; values = tt }
 setup_reportable (setup.UnknownEntry k) = record { listed = refl; values = refl }
 setup_reportable (setup.EntryHasFormals k) = record { listed = refl; values = refl }
@@ -58,14 +58,14 @@ setup_reportable setup.InitLength = record { listed = refl; values = tt }
 setup_reportable setup.OutOfRange = record { listed = refl; values = tt }
 setup_reportable setup.Memory = record { listed = refl; values = tt }
 
-drive_reportable : (f : DriveFault) → IsBundleReportable (Drive f)
+drive_reportable : (f : DriveFault) → IsDriveReportable (Drive f)
 drive_reportable drive.TooLong = record { listed = refl; values = tt }
 drive_reportable (drive.Line n) = record { listed = refl; values = refl }
 drive_reportable (drive.AfterFinish n) = record { listed = refl; values = refl }
 drive_reportable drive.Memory = record { listed = refl; values = tt }
 drive_reportable drive.Write = record { listed = refl; values = tt }
 
-pub reportable : (f : BundleFault) → IsBundleReportable f
+pub reportable : (f : DriveRefusal) → IsDriveReportable f
 reportable Device = record { listed = refl; values = tt }
 reportable TooLong = record { listed = refl; values = tt }
 reportable (Program f) = program_reportable f

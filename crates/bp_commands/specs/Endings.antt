@@ -5,13 +5,12 @@ use Rattle.std.specs.declared.io.ErrorKind.TheVariants.{OutOfMemory}
 use Rattle.bp_code.specs.Writing.{AppendsAll, AppendsPart}
 use Rattle.bp_machine.specs.declared.reports.Outcome.{Outcome}
 use Rattle.bp_machine.specs.declared.reports.Outcome.TheVariants as outcome
-use Rattle.bp_commands.specs.Faults.{bundle_fault_number, bundle_fault_place, file_fault_number, file_fault_place}
+use Rattle.bp_commands.specs.Faults.{drive_refusal_number, drive_refusal_place, file_fault_number, file_fault_place}
 use Rattle.bp_commands.specs.FaultLines.{fault_line}
 use Rattle.bp_commands.specs.declared.endings.WordsFault.{WordsFault}
 use Rattle.bp_commands.specs.declared.endings.WordsFault.TheVariants as words
-use Rattle.bp_commands.specs.declared.bundle_faults.BundleFault.{BundleFault}
+use Rattle.bp_commands.specs.declared.drive_refusals.DriveRefusal.{DriveRefusal}
 use Rattle.bp_commands.specs.declared.file_faults.FileFault.{FileFault}
-use Rattle.bp_commands.specs.declared.file_faults.FileFault.TheVariants as file
 
 -- the status of a run with this outcome
 abbrev pub outcome_status : Outcome → ℕ
@@ -22,16 +21,11 @@ outcome_status (outcome.Failed thread) = 1
 abbrev pub HasLine : List ℕ → Option (List ℕ) → Option (List ℕ) → Type 0
 HasLine line old new = AppendsAll old new line ⊎ AppendsPart old new line
 
-abbrev pub bundle_fault_line : BundleFault → List ℕ
-bundle_fault_line f = fault_line (bundle_fault_number f) (bundle_fault_place f) None
+abbrev pub drive_refusal_line : DriveRefusal → List ℕ
+drive_refusal_line f = fault_line (drive_refusal_number f) (drive_refusal_place f) None
 
 abbrev pub file_fault_line : FileFault → List ℕ
 file_fault_line f = fault_line (file_fault_number f) (file_fault_place f) None
-
--- why a file is not opened, by the kind of the system's error
-abbrev pub opening_fault_of : ErrorKind → FileFault
-opening_fault_of OutOfMemory = file.Memory
-opening_fault_of _ = file.Device
 
 -- why the words are not read
 abbrev pub words_fault_of : ErrorKind → WordsFault

@@ -2,6 +2,8 @@
 -- before and after it.
 use Rattle.std.specs.Prelude.{◌≡◌, ℕ, ◌+◌, ◌≤◌, List, Option, length, ⊤}
 use Rattle.std.specs.Io.KnownBytes.{Consumes, IsAtEnd}
+use Rattle.std.specs.declared.io.ErrorKind.{ErrorKind}
+use Rattle.std.specs.declared.io.ErrorKind.TheVariants.{OutOfMemory}
 use Rattle.bp_commands.specs.declared.inputs.InputFault.{InputFault}
 use Rattle.bp_commands.specs.declared.inputs.InputFault.TheVariants.{Device, TooLong, Memory}
 
@@ -12,6 +14,11 @@ pub record Streams : Type 0 where
   pub input_after : Option (List ℕ)
   pub output_before : Option (List ℕ)
   pub output_after : Option (List ℕ)
+
+-- why an input is not opened or read, by the kind of the system's error
+abbrev pub reading_fault_of : ErrorKind → InputFault
+reading_fault_of OutOfMemory = Memory
+reading_fault_of _ = Device
 
 -- all bytes that the reader had, within the limit
 pub record IsInput (limit : ℕ) (old new : Option (List ℕ)) (bytes : List ℕ) : Type 0 where

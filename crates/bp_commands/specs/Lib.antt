@@ -2,7 +2,8 @@ pub mod Buffered
 pub mod BundleParts
 pub mod Bundles
 pub mod Checks
-pub mod DefaultSetups
+pub mod DriveInputs
+pub mod Drives
 pub mod Endings
 pub mod FaultLines
 pub mod Faults
@@ -10,4 +11,5 @@ pub mod Inputs
 pub mod Listings
 pub mod ProgramInputs
 pub mod Programs
+pub mod SetupsUnderOptions
 pub mod Statuses

@@ -1,18 +1,22 @@
 //! The commands through a buffer in front of their output.
-ghost use Rattle.std.specs.Prelude.{◌+◌, IfOk, MatchResult};
+ghost use Rattle.std.specs.Prelude.{◌≡◌, ◌+◌, IfOk, MatchResult};
 ghost use Rattle.std.specs.Io.Buffered.{writer_contents};
 ghost use Rattle.std.specs.Io.KnownBytes.{Keeps};
 ghost use Rattle.bp_syntax.specs.declared.limits.TheConstants.{TEXT_LIMIT};
+ghost use Rattle.bp_trace.specs.declared.faults.DriveFault.{DriveFault};
+ghost use Rattle.bp_trace.specs.declared.limits.TheConstants.{MAX_SCHEDULE};
 ghost use Rattle.bp_commands.specs.declared.limits.TheConstants.{MAX_BUNDLE};
 ghost use Rattle.bp_commands.specs.Inputs.{Streams, TookAtMost};
 ghost use Rattle.bp_commands.specs.Checks.{check_line};
 ghost use Rattle.bp_commands.specs.Listings.{listing_of};
-ghost use Rattle.bp_commands.specs.Buffered.{Ends, IsWrittenTo, IsNotWritten, IsDrivenTo, IsNotDriven};
+ghost use Rattle.bp_commands.specs.Buffered.{Ends, DriveEnds, IsWrittenTo, IsNotWritten, IsBundleDrivenTo, IsBundleNotDriven, IsProgramDrivenTo, IsProgramNotDriven};
 
 use crate::bundle::drive_bundle;
-use crate::bundle_faults::BundleFault;
 use crate::check::check_text;
 use crate::code::list_program;
+use crate::drive::drive_program;
+use crate::drive_options::DriveOptions;
+use crate::drive_refusals::DriveRefusal;
 use crate::file_faults::FileFault;
 use bp_code::WriteFault;
 use bp_machine::Report;
@@ -78,28 +82,71 @@ pub fn list_buffered<R: Read, W: Write + Drop>(
     Ok(hand_on(out)?)
 }
 
+/// What driving answers, with the output behind a buffer to which it wrote.
+fn hand_on_driven<W: Write + Drop>(
+    report: Report,
+    out: BufWriter<W>,
+) -> Result<(Report, W), DriveRefusal>
+    ensures { MatchResult result
+        (λ r. (r.0 ≡ report) × Keeps (writer_contents W.contents out) (W.contents r.1))
+        (λ f. f ≡ DriveRefusal.Drive DriveFault.Write) }
+{
+    match hand_on(out) {
+        Ok(output) => Ok((report, output)),
+        Err(_) => Err(DriveRefusal::Drive(DriveFault::Write)),
+    }
+}
+
 /// Drives a bundle as `drive_bundle` does, and gives back the output, which has the trace.
 pub fn drive_buffered<R: Read, W: Write + Drop>(
     alloc: Global,
     input: &mut R,
     output: W,
-) -> Result<(Report, W), BundleFault>
+) -> Result<(Report, W), DriveRefusal>
     ensures answer { let ends : Ends = record {
       input_before = R.remaining input.old;
       input_after = R.remaining input.new;
       output_before = W.contents output;
     } in
         MatchResult result
-        (λ r. IsDrivenTo ends (W.contents r.1) r.0)
-        (IsNotDriven ends) }
+        (λ r. IsBundleDrivenTo ends (W.contents r.1) r.0)
+        (IsBundleNotDriven ends) }
     ensures bound { TookAtMost (R.remaining input.old) (R.remaining input.new) (MAX_BUNDLE + 1) }
 {
     let Ok(mut out) = BufWriter::new(alloc, output) else {
-        return Err(BundleFault::Memory);
+        return Err(DriveRefusal::Memory);
     };
     let report = drive_bundle(alloc, input, &mut out)?;
-    match hand_on(out) {
-        Ok(output) => Ok((report, output)),
-        Err(_) => Err(BundleFault::Drive(DriveFault::Write)),
-    }
+    hand_on_driven(report, out)
+}
+
+/// Drives a program by a schedule as `drive_program` does, and gives back the output, which has the
+/// trace.
+pub fn drive_program_buffered<R: Read, S: Read, W: Write + Drop>(
+    alloc: Global,
+    options: &DriveOptions,
+    program: &mut R,
+    schedule: &mut S,
+    output: W,
+) -> Result<(Report, W), DriveRefusal>
+    ensures answer { let ends : DriveEnds = record {
+      program_before = R.remaining program.old;
+      program_after = R.remaining program.new;
+      schedule_before = S.remaining schedule.old;
+      schedule_after = S.remaining schedule.new;
+      output_before = W.contents output;
+    } in
+        MatchResult result
+        (λ r. IsProgramDrivenTo ends options.now (W.contents r.1) r.0)
+        (IsProgramNotDriven ends options.now) }
+    ensures text { let most = TEXT_LIMIT + 1 in
+        TookAtMost (R.remaining program.old) (R.remaining program.new) most }
+    ensures lines { let most = MAX_SCHEDULE + 1 in
+        TookAtMost (S.remaining schedule.old) (S.remaining schedule.new) most }
+{
+    let Ok(mut out) = BufWriter::new(alloc, output) else {
+        return Err(DriveRefusal::Memory);
+    };
+    let report = drive_program(alloc, options, program, schedule, &mut out)?;
+    hand_on_driven(report, out)
 }

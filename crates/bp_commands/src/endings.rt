@@ -3,10 +3,10 @@ ghost use Rattle.std.specs.Prelude.{◌≡◌, None, Some, false, MatchResult};
 ghost use Rattle.std.specs.IoError.{error_kind};
 ghost use Rattle.bp_commands.specs.FaultLines.{fault_line, IsReportable};
 ghost use Rattle.bp_commands.specs.Statuses.{status_of};
-ghost use Rattle.bp_commands.specs.Faults.{bundle_fault_number, file_fault_number};
-ghost use Rattle.bp_commands.specs.Endings.{outcome_status, bundle_fault_line, file_fault_line, opening_fault_of, words_fault_of, HasLine};
+ghost use Rattle.bp_commands.specs.Faults.{drive_refusal_number, file_fault_number};
+ghost use Rattle.bp_commands.specs.Endings.{outcome_status, drive_refusal_line, file_fault_line, words_fault_of, HasLine};
 
-use crate::bundle_faults::BundleFault;
+use crate::drive_refusals::DriveRefusal;
 use crate::fault_lines::show_fault;
 use crate::file_faults::FileFault;
 use crate::statuses::exit_status;
@@ -21,16 +21,6 @@ pub enum WordsFault {
     NotText,
     /// There was not enough memory.
     Memory,
-}
-
-/// Why a file is not opened.
-pub fn opening_fault(error: &io::Error) -> FileFault
-    ensures { result ≡ opening_fault_of (error_kind error.now) }
-{
-    match error.kind() {
-        ErrorKind::OutOfMemory => FileFault::Memory,
-        _ => FileFault::Device,
-    }
 }
 
 /// Why the words of the command line are not read.
@@ -65,13 +55,13 @@ pub fn refuse_memory<E: Write>(errors: &mut E) -> u8
 }
 
 /// Ends a run that drove a bundle, by what `drive_buffered` answered.
-pub fn end_bundle<W, E: Write>(done: &Result<(Report, W), BundleFault>, errors: &mut E) -> u8
+pub fn end_drive<W, E: Write>(done: &Result<(Report, W), DriveRefusal>, errors: &mut E) -> u8
     ensures status { MatchResult done.now
         (λ r. result ≡ outcome_status r.0.outcome)
-        (λ f. result ≡ status_of false (Some (bundle_fault_number f))) }
+        (λ f. result ≡ status_of false (Some (drive_refusal_number f))) }
     ensures line { MatchResult done.now
         (λ _. E.contents errors.new ≡ E.contents errors.old)
-        (λ f. HasLine (bundle_fault_line f) (E.contents errors.old) (E.contents errors.new)) }
+        (λ f. HasLine (drive_refusal_line f) (E.contents errors.old) (E.contents errors.new)) }
 {
     match done {
         Ok((report, _)) => exit_status(matches!(report.outcome, Outcome::Failed { .. }), None),

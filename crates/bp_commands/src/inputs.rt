@@ -1,9 +1,10 @@
 //! Reading an input within its limit.
 ghost use Rattle.std.specs.Prelude.{◌≡◌, ◌+◌, MatchResult};
-ghost use Rattle.bp_commands.specs.Inputs.{IsInput, IsInputRefusal, TookAtMost};
+ghost use Rattle.std.specs.IoError.{error_kind};
+ghost use Rattle.bp_commands.specs.Inputs.{reading_fault_of, IsInput, IsInputRefusal, TookAtMost};
 
 use std::alloc::{AllocError, Global};
-use std::io::Read;
+use std::io::{self, ErrorKind, Read};
 use thiserror::Error;
 
 /// How many bytes are asked for at a time.
@@ -12,7 +13,7 @@ const CHUNK: usize = 4096;
 /// Why an input is not read.
 #[derive(Clone, Copy, Debug, PartialEq, Eq, Error)]
 pub enum InputFault {
-    /// A read failed.
+    /// It could not be opened, or a read failed.
     #[error("the input could not be read")]
     Device,
     /// The input is longer than its limit.
@@ -33,6 +34,16 @@ impl From<AllocError> for InputFault {
     }
 }
 
+/// Why an input is not opened or read.
+pub fn reading_fault(error: &io::Error) -> InputFault
+    ensures { result ≡ reading_fault_of (error_kind error.now) }
+{
+    match error.kind() {
+        ErrorKind::OutOfMemory => InputFault::Memory,
+        _ => InputFault::Device,
+    }
+}
+
 /// Reads to the end of an input of at most so many bytes. It takes at most one byte more than the
 /// limit.
 pub fn read_whole<R: Read>(
@@ -49,8 +60,9 @@ pub fn read_whole<R: Read>(
     let mut chunk = [0; CHUNK];
     loop {
         let room = CHUNK.min((limit - bytes.len()).saturating_add(1));
-        let Ok(count) = input.read(&mut chunk[..room]) else {
-            return Err(InputFault::Device);
+        let count = match input.read(&mut chunk[..room]) {
+            Ok(count) => count,
+            Err(error) => return Err(reading_fault(&error)),
         };
         if count == 0 {
             return Ok(bytes);

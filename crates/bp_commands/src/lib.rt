@@ -3,10 +3,12 @@
 
 mod buffered;
 mod bundle;
-mod bundle_faults;
 mod bundle_parts;
 mod check;
 mod code;
+mod drive;
+mod drive_options;
+mod drive_refusals;
 mod endings;
 mod fault_lines;
 mod file_faults;
@@ -17,16 +19,16 @@ mod statuses;
 #[cfg(test)]
 mod tests;
 
-pub use buffered::{check_buffered, drive_buffered, list_buffered};
+pub use buffered::{check_buffered, drive_buffered, drive_program_buffered, list_buffered};
 pub use bundle::drive_bundle;
-pub use bundle_faults::BundleFault;
 pub use check::{check_text, show_check};
 pub use code::list_program;
-pub use endings::{
-    WordsFault, end_bundle, end_file, end_printed, opening_fault, refuse_memory, words_fault,
-};
+pub use drive::{drive_program, drive_text};
+pub use drive_options::DriveOptions;
+pub use drive_refusals::{BundleFault, DriveRefusal};
+pub use endings::{WordsFault, end_drive, end_file, end_printed, refuse_memory, words_fault};
 pub use fault_lines::{Detail, show_fault};
 pub use file_faults::FileFault;
-pub use inputs::{InputFault, read_whole};
+pub use inputs::{InputFault, read_whole, reading_fault};
 pub use programs::{ProgramFault, lawful_program};
 pub use statuses::exit_status;

@@ -3,6 +3,9 @@
 /// Bytes of a bundle.
 pub const MAX_BUNDLE: usize = 1_048_576;
 
+/// The procedure with which a thread begins where none is given.
+pub const DEFAULT_ENTRY: &str = "main";
+
 /// Contexts that a run may use where no number is given.
 pub const DEFAULT_CONTEXTS: u32 = 2;
 

@@ -2,6 +2,7 @@
 mod bundles;
 mod check;
 mod code;
+mod drive;
 mod endings;
 mod fault_lines;
 mod messages;

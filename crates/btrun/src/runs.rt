@@ -2,6 +2,7 @@
 
 mod bundle;
 mod files;
+mod inputs;
 mod usage;
 
 use crate::commands::{Task, read_words};

@@ -1,8 +1,8 @@
 //! How runs end: outputs through a buffer, lines on standard error, exit statuses.
 use super::{Broken, RECURSIVE, Short};
 use crate::{
-    FileFault, WordsFault, check_buffered, drive_buffered, end_bundle, end_file, end_printed,
-    list_buffered, opening_fault, refuse_memory, words_fault,
+    InputFault, WordsFault, check_buffered, drive_buffered, end_drive, end_file, end_printed,
+    list_buffered, reading_fault, refuse_memory, words_fault,
 };
 use std::alloc::Global;
 use std::io::{self, ErrorKind};
@@ -19,7 +19,7 @@ fn bundle_ends(alloc: Global, bundle: &[u8], status: u8, line: &[u8]) -> Result<
     let mut input = bundle;
     let driven = drive_buffered(alloc, &mut input, Vec::new(alloc));
     let mut errors = Vec::new(alloc);
-    let ended = end_bundle(&driven, &mut errors);
+    let ended = end_drive(&driven, &mut errors);
     Ok(ended == status && errors.as_slice() == line)
 }
 
@@ -93,7 +93,7 @@ fn reports_what_was_not_handed_on(rt: HostRuntime) -> Result<(), Fail> {
     let taken = Vec::new(alloc);
     let driven = drive_buffered(alloc, &mut bundle, Short { taken, room: 20 });
     let mut errors = Vec::new(alloc);
-    assert_eq!(rt; end_bundle(&driven, &mut errors), 3);
+    assert_eq!(rt; end_drive(&driven, &mut errors), 3);
     for listed in [false, true] {
         let mut text = RECURSIVE;
         let taken = Vec::new(alloc);
@@ -114,8 +114,8 @@ fn reports_what_was_not_handed_on(rt: HostRuntime) -> Result<(), Fail> {
 fn reports_what_the_system_refused(rt: HostRuntime) -> Result<(), Fail> {
     let memory = io::Error::from(ErrorKind::OutOfMemory);
     let missing = io::Error::from(ErrorKind::NotFound);
-    assert_eq!(rt; opening_fault(&memory), FileFault::Memory);
-    assert_eq!(rt; opening_fault(&missing), FileFault::Device);
+    assert_eq!(rt; reading_fault(&memory), InputFault::Memory);
+    assert_eq!(rt; reading_fault(&missing), InputFault::Device);
     let bad = io::Error::from(ErrorKind::InvalidData);
     assert_eq!(rt; words_fault(&memory), WordsFault::Memory);
     assert_eq!(rt; words_fault(&bad), WordsFault::NotText);

@@ -1,5 +1,5 @@
 //! What the faults say of themselves.
-use crate::{BundleFault, FileFault, InputFault, ProgramFault};
+use crate::{DriveRefusal, FileFault, InputFault, ProgramFault};
 use bp_check::CheckFault;
 use bp_code::WriteFault;
 use bp_machine::{AskFault, SetupFault};
@@ -99,7 +99,7 @@ fn says_why_setups_are_refused(rt: HostRuntime) -> Result<(), Fail> {
     ];
     for (fault, words) in faults {
         assert!(rt; says(alloc, &fault, words)?);
-        assert!(rt; says(alloc, &BundleFault::Setup(fault), words)?);
+        assert!(rt; says(alloc, &DriveRefusal::Setup(fault), words)?);
     }
     Ok(())
 }
@@ -120,7 +120,7 @@ fn says_why_schedules_and_calls_are_refused(rt: HostRuntime) -> Result<(), Fail>
     ];
     for (fault, words) in faults {
         assert!(rt; says(alloc, &fault, words)?);
-        assert!(rt; says(alloc, &BundleFault::Drive(fault), words)?);
+        assert!(rt; says(alloc, &DriveRefusal::Drive(fault), words)?);
     }
     assert!(rt; says(alloc, &AskFault::NoThread, "there is no such thread")?);
     assert!(rt;
@@ -140,11 +140,11 @@ fn says_what_failed(rt: HostRuntime) -> Result<(), Fail> {
     assert!(rt; says(alloc, &InputFault::Device, "the input could not be read")?);
     assert!(rt; says(alloc, &InputFault::TooLong, "the input is too long")?);
     assert!(rt; says(alloc, &InputFault::Memory, "out of memory")?);
-    assert!(rt; says(alloc, &BundleFault::Device, "the bundle could not be read")?);
-    assert!(rt; says(alloc, &BundleFault::TooLong, "the bundle is too long")?);
-    let text = BundleFault::Program(ProgramFault::Read(ReadFault::Syntax(13)));
+    assert!(rt; says(alloc, &DriveRefusal::Device, "the input could not be read")?);
+    assert!(rt; says(alloc, &DriveRefusal::TooLong, "the input is too long")?);
+    let text = DriveRefusal::Program(ProgramFault::Read(ReadFault::Syntax(13)));
     assert!(rt; says(alloc, &text, "syntax at 13")?);
-    assert!(rt; says(alloc, &BundleFault::Memory, "out of memory")?);
+    assert!(rt; says(alloc, &DriveRefusal::Memory, "out of memory")?);
     assert!(rt; says(alloc, &FileFault::Device, "the file could not be read")?);
     assert!(rt; says(alloc, &FileFault::Write, "the output could not be written")?);
     assert!(rt; says(alloc, &FileFault::Memory, "out of memory")?);

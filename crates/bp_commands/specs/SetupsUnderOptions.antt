@@ -1,12 +1,12 @@
--- The code of a bundle's program and its default setup, as the command has them. No public clause
--- names these.
-use Rattle.std.specs.Prelude.{◌≡◌, ℕ, List, None, length}
+-- The code of a text's program and its setup under options, as the commands have them. No public
+-- clause names these.
+use Rattle.std.specs.Prelude.{◌≡◌, ℕ, List, None}
 use Rattle.bp_tree.specs.Ast.{Program}
 use Rattle.bp_code.specs.Flat.{Flat}
 use Rattle.bp_code.specs.StandsFor.{StandsFor}
 use Rattle.bp_machine.specs.Setups.{SetupOf, setup_fault, FitsCode}
 use Rattle.bp_commands.specs.Programs.{IsLawfulText}
-use Rattle.bp_commands.specs.Bundles.{defaults}
+use Rattle.bp_commands.specs.Drives.{OptionsOf, setup_under}
 
 -- the code stands for the lawful program of the text
 pub record IsProgramCode (text : List ℕ) (c : Flat) : Type 0 where
@@ -14,8 +14,8 @@ pub record IsProgramCode (text : List ℕ) (c : Flat) : Type 0 where
   pub of : IsLawfulText text program
   pub stands : StandsFor c program
 
--- the default setup of a program, which has no fault
-pub record IsDefaultSetup (t : Program) (c : Flat) (s : SetupOf) : Type 0 where
-  pub is : s ≡ defaults (length t.globals)
+-- the setup of a program under options, which has no fault
+pub record IsSetupUnder (o : OptionsOf) (t : Program) (c : Flat) (s : SetupOf) : Type 0 where
+  pub is : s ≡ setup_under o t
   pub fine : setup_fault t s ≡ None
   pub fits : FitsCode c s

@@ -1,0 +1,18 @@
+use Rattle.std.proofs.Common.{◌∙◌, ap}
+use Rattle.std.proofs.lemmas.Result.{err_from_is_err_and}
+use Rattle.bp_commands.proofs.BufferRefused.{held_alone, program_not_driven, program_handed_on, program_unbuffered}
+use Rattle.bp_commands.proofs.buffered.drive_program_buffered.Goals as goal
+
+pub returns-in_default-clause-answer : goal.returns-in_default-clause-answer
+returns-in_default-clause-answer g c = program_unbuffered _ _ _ c.args.options.now
+
+pub returns-in_err-report-clause-answer : goal.returns-in_err-report-clause-answer
+returns-in_err-report-clause-answer g c =
+    let p = err_from_is_err_and c.from_residual.result c.from_residual.ensures.1 in
+    let held = held_alone _ _ c.in-Ok.ensures.empty ∙ ap g.W.Write.contents c.in-Ok.ensures.inner in
+    rw (p.1, p.2) (program_not_driven _ _ _ _ _ c.args.options.now _ _ held c.in_err-report.field-0.0 c.in_err-report.ensures.answer)
+
+pub returns-clause-answer : goal.returns-clause-answer
+returns-clause-answer g c =
+    let held = held_alone _ _ c.in-Ok.ensures.empty ∙ ap g.W.Write.contents c.in-Ok.ensures.inner in
+    program_handed_on _ _ _ _ _ c.args.options.now g.W.Write.contents c.hand_on_driven.result _ _ held c.in_ok-report.report c.in_ok-report.ensures.answer c.hand_on_driven.ensures
