@@ -1,2 +1,6 @@
+mod CommandShapes
+mod GivenArguments
 mod NoHelpEntered
+mod NumberGiven
 mod PlainWords
+mod WordsFaults

@@ -1,4 +1,4 @@
--- Where words have no fault, the command that they name is `check` or `code`: at `help` a parse ends.
+-- Where words have no fault, the command that they name is one of ours: at `help` a parse ends.
 use Rattle.std.proofs.Common.{refl, codes, not, ◌&&◌, ◌||◌, cond, option_map, inl, inr, ◌⊎◌, ℕ, Bool, true, false, List, Option, Some, None, is_some, [], ◌∷◌, ◌≡◌, arith}
 use Rattle.std.specs.List.{fold}
 use Rattle.std.specs.Prelude.{find}
@@ -102,14 +102,17 @@ module _ (p : Text × List Text) where
   abbrev enter : Option Shape → Option (Text × List Row)
   enter = option_map (λ s. rows_at s p.1)
 
+  abbrev IsNamed : Shape → Type 0
+  IsNamed s = (s.name ≡ codes "check") ⊎ ((s.name ≡ codes "code") ⊎ (s.name ≡ codes "drive"))
+
   abbrev IsOursOrNone : Shape → Type 0
-  IsOursOrNone s = (answers_to p.0 (label_of s) ≡ false) ⊎ ((s.name ≡ codes "check") ⊎ (s.name ≡ codes "code"))
+  IsOursOrNone s = (answers_to p.0 (label_of s) ≡ false) ⊎ IsNamed s
 
   abbrev AllOurs : List Shape → Type 0
   AllOurs [] = Unit {0}
   AllOurs (s ∷ ss) = IsOursOrNone s × AllOurs ss
 
-  pick : (b : Bool) (s : Shape) (o : Option Shape) → (b ≡ false) ⊎ ((s.name ≡ codes "check") ⊎ (s.name ≡ codes "code")) → IsOurs (enter o) → IsOurs (enter (cond b (Some s) o))
+  pick : (b : Bool) (s : Shape) (o : Option Shape) → (b ≡ false) ⊎ IsNamed s → IsOurs (enter o) → IsOurs (enter (cond b (Some s) o))
   pick true s o (inl e) rest = absurd cc
   pick true s o (inr ours) rest = ours
   pick false s o either rest = rest
@@ -124,13 +127,13 @@ other_way a b e = grind (arith, bytes_eq-Decides a b, bytes_eq-Decides b a, e)
 entered_ours : (stop : Option (Text × List Text)) → NoHelp stop → IsOurs (entered (built btrun_app) stop)
 unfolding clap_on_literals
 entered_ours None fine = tt
-entered_ours (Some p) fine = found_ours p (built btrun_app).subs (inr (inl refl), (inr (inr refl), (inl (other_way p.0 (codes "help") fine), tt)))
+entered_ours (Some p) fine = found_ours p (built btrun_app).subs (inr (inl refl), (inr (inr (inl refl)), (inr (inr (inr refl)), (inl (other_way p.0 (codes "help") fine), tt))))
 
 enabled : (built btrun_app).top.disable_help_subcommand ≡ false
 unfolding clap_on_literals
 enabled = refl
 
--- words without a fault name `check`, `code` or nothing
+-- words without a fault name a command of ours, or nothing
 pub named_ours : (words : List Text) → fault_of btrun_app words ≡ [] → IsOurs (subcommand_of btrun_app words)
 named_ours words clean =
     entered_ours (stop_after (built btrun_app).top.rules (names_of (built btrun_app)) (argument_words btrun_app words))

@@ -1,18 +1,35 @@
--- What plain words ask for: they have no fault, and name the command and its file.
-use Rattle.std.proofs.Common.{refl, sym, codes, option_map, not, rules, inl, inr, Bool, true, false, List, Option, Some, None, [], ◌∷◌, ◌≡◌, ◌==◌, ◌∙◌}
+-- What plain words ask for: they have no fault, and name the command and its files.
+use Rattle.std.proofs.Common.{arith, get_or, refl, sym, subst, ap, ap₂, codes, not, rules, inl, inr, Bool, true, false, List, Option, Some, None, [], ◌∷◌, ◌≡◌, ◌==◌, ◌∙◌}
 use Rattle.std.specs.Str.{bytes_eq}
+use Rattle.clap.specs.Kinds.{or_else}
 use Rattle.clap.specs.Lexer.{long_of, short_of}
 use Rattle.clap.specs.Words.{HasKind, Kinds, Row, Text, fault_of, kind_of, subcommand_of}
+use Rattle.clap.specs.declared.builder.value_parser.Reading.TheVariants.{AsWritten}
+use Rattle.clap.specs.declared.parser.matches.ValueSource.TheVariants.{CommandLine}
 use Rattle.clap.specs.declared.error.Error.{Error}
 use Rattle.clap.specs.declared.error.kind.ErrorKind.TheVariants.{OutOfMemory}
 use Rattle.clap.proofs.OnLiterals.{clap_on_literals}
-use Rattle.btrun.specs.Commands.{btrun_app, is_plain, value_of, IsCheckOf, IsCodeOf, IsTaskOf}
+use Rattle.bp_commands.specs.Drives.{OptionsOf, options_of, defaults}
+use Rattle.bp_commands.specs.declared.limits.TheConstants.{DEFAULT_CONTEXTS, DEFAULT_CALLS}
+use Rattle.btrun.specs.Commands.{btrun_app, is_plain, words_fault, IsCheckOf, IsCodeOf, IsPlainDriveOf, IsTaskOf}
+use Rattle.btrun.specs.DriveWords.{init_fault}
 use Rattle.btrun.specs.declared.commands.Task.{Task}
-use Rattle.btrun.specs.declared.commands.Task.TheVariants.{Bundle, Check, Code}
+use Rattle.btrun.specs.declared.commands.Task.TheVariants.{Bundle, Check, Code, Drive}
 
-pub none_faulty : (program : Text) → fault_of btrun_app (program ∷ []) ≡ []
+-- words that `clap` takes have no fault where the command's initial bits have none
+no_fault : (words : List Text) (command : Option (Text × List Row)) → fault_of btrun_app words ≡ [] → subcommand_of btrun_app words ≡ command → init_fault command ≡ [] → words_fault words ≡ []
+no_fault words command clean named fine = ap₂ (λ f c. or_else f (init_fault c)) clean named ∙ fine
+
+none_clean : (program : Text) → fault_of btrun_app (program ∷ []) ≡ []
 unfolding clap_on_literals
-none_faulty program = refl
+none_clean program = refl
+
+none_named : (program : Text) → subcommand_of btrun_app (program ∷ []) ≡ None
+unfolding clap_on_literals
+none_named program = refl
+
+pub none_faulty : (program : Text) → words_fault (program ∷ []) ≡ []
+none_faulty program = no_fault (program ∷ []) None (none_clean program) (none_named program) refl
 
 not_dash : (b : Bool) → not b ≡ true → b ≡ false
 not_dash false plain = refl
@@ -30,66 +47,111 @@ is_not_short : (file : Text) → is_plain file ≡ true → short_of file ≡ No
 is_not_short [] plain = refl
 is_not_short (b ∷ bs) plain = rw (not_dash (b == 45) plain) refl
 
--- a command's name, and its file
-abbrev command_and_file : Option (Text × List Row) → Option (Text × Text)
-command_and_file = option_map (λ command. (command.0, value_of (codes "FILE") command.1))
+check≢code : codes "check" ≡ codes "code" → ⊥
+check≢code same = cc
 
-check_named : (program file : Text) → bytes_eq file (45 ∷ 45 ∷ []) ≡ false → long_of file ≡ None → short_of file ≡ None
-    → command_and_file (subcommand_of btrun_app (program ∷ codes "check" ∷ file ∷ [])) ≡ Some (codes "check", file)
+check≢drive : codes "check" ≡ codes "drive" → ⊥
+check≢drive same = let heads = ap (λ t. get_or t 0 0) same in absurd (omega (arith, heads))
+
+code≢drive : codes "code" ≡ codes "drive" → ⊥
+code≢drive same = let heads = ap (λ t. get_or t 0 0) same in absurd (omega (arith, heads))
+
+-- the row of an argument that has one value
+abbrev given : Text → Text → Row
+given id text = record { id = id; values = text ∷ []; count = None; source = Some CommandLine; reading = AsWritten }
+
+abbrev file_row : Text → List Row
+file_row file = given (codes "FILE") file ∷ []
+
+abbrev IsWord : Text → Type 0
+IsWord file = (bytes_eq file (45 ∷ 45 ∷ []) ≡ false) × (long_of file ≡ None) × (short_of file ≡ None)
+
+is_word : (file : Text) → is_plain file ≡ true → IsWord file
+is_word file plain = (ends_nothing file plain, is_not_long file plain, is_not_short file plain)
+
+abbrev check_words : Text → Text → List Text
+check_words program file = program ∷ codes "check" ∷ file ∷ []
+
+check_named : (program file : Text) → IsWord file → subcommand_of btrun_app (check_words program file) ≡ Some (codes "check", file_row file)
 unfolding clap_on_literals
-check_named program file no_end no_long no_short = rw (no_end, no_long, no_short) refl
+check_named program file (no_end, no_long, no_short) = rw (no_end, no_long, no_short) refl
 
-code_named : (program file : Text) → bytes_eq file (45 ∷ 45 ∷ []) ≡ false → long_of file ≡ None → short_of file ≡ None
-    → command_and_file (subcommand_of btrun_app (program ∷ codes "code" ∷ file ∷ [])) ≡ Some (codes "code", file)
+check_clean : (program file : Text) → IsWord file → fault_of btrun_app (check_words program file) ≡ []
 unfolding clap_on_literals
-code_named program file no_end no_long no_short = rw (no_end, no_long, no_short) refl
+check_clean program file (no_end, no_long, no_short) = rw (no_end, no_long, no_short) refl
 
-check_clean : (program file : Text) → bytes_eq file (45 ∷ 45 ∷ []) ≡ false → long_of file ≡ None → short_of file ≡ None
-    → fault_of btrun_app (program ∷ codes "check" ∷ file ∷ []) ≡ []
+pub check_faulty : (program file : Text) → is_plain file ≡ true → words_fault (check_words program file) ≡ []
+check_faulty program file plain =
+    let word = is_word file plain in
+    no_fault (check_words program file) (Some (codes "check", file_row file)) (check_clean program file word) (check_named program file word) refl
+
+check_of : (file : Text) (task : Task) → IsTaskOf (Some (codes "check", file_row file)) task → IsCheckOf file task
+check_of file Bundle asks = absurd asks
+check_of file (Check path) asks = asks.1
+check_of file (Code path) asks = absurd (check≢code asks.0)
+check_of file (Drive words) asks = absurd (check≢drive asks.0)
+
+pub check_asked : (program file : Text) (task : Task) → is_plain file ≡ true → IsTaskOf (subcommand_of btrun_app (check_words program file)) task → IsCheckOf file task
+check_asked program file task plain asks = check_of file task (subst (λ c. IsTaskOf c task) (check_named program file (is_word file plain)) asks)
+
+abbrev code_words : Text → Text → List Text
+code_words program file = program ∷ codes "code" ∷ file ∷ []
+
+code_named : (program file : Text) → IsWord file → subcommand_of btrun_app (code_words program file) ≡ Some (codes "code", file_row file)
 unfolding clap_on_literals
-check_clean program file no_end no_long no_short = rw (no_end, no_long, no_short) refl
+code_named program file (no_end, no_long, no_short) = rw (no_end, no_long, no_short) refl
 
-code_clean : (program file : Text) → bytes_eq file (45 ∷ 45 ∷ []) ≡ false → long_of file ≡ None → short_of file ≡ None
-    → fault_of btrun_app (program ∷ codes "code" ∷ file ∷ []) ≡ []
+code_clean : (program file : Text) → IsWord file → fault_of btrun_app (code_words program file) ≡ []
 unfolding clap_on_literals
-code_clean program file no_end no_long no_short = rw (no_end, no_long, no_short) refl
+code_clean program file (no_end, no_long, no_short) = rw (no_end, no_long, no_short) refl
 
-pub check_faulty : (program file : Text) → is_plain file ≡ true → fault_of btrun_app (program ∷ codes "check" ∷ file ∷ []) ≡ []
-check_faulty program file plain = check_clean program file (ends_nothing file plain) (is_not_long file plain) (is_not_short file plain)
+pub code_faulty : (program file : Text) → is_plain file ≡ true → words_fault (code_words program file) ≡ []
+code_faulty program file plain =
+    let word = is_word file plain in
+    no_fault (code_words program file) (Some (codes "code", file_row file)) (code_clean program file word) (code_named program file word) refl
 
-pub code_faulty : (program file : Text) → is_plain file ≡ true → fault_of btrun_app (program ∷ codes "code" ∷ file ∷ []) ≡ []
-code_faulty program file plain = code_clean program file (ends_nothing file plain) (is_not_long file plain) (is_not_short file plain)
+code_of : (file : Text) (task : Task) → IsTaskOf (Some (codes "code", file_row file)) task → IsCodeOf file task
+code_of file Bundle asks = absurd asks
+code_of file (Code path) asks = asks.1
+code_of file (Check path) asks = absurd (check≢code (sym asks.0))
+code_of file (Drive words) asks = absurd (code≢drive asks.0)
 
-is_not_code : codes "check" ≡ codes "code" → ⊥
-is_not_code same = cc
+pub code_asked : (program file : Text) (task : Task) → is_plain file ≡ true → IsTaskOf (subcommand_of btrun_app (code_words program file)) task → IsCodeOf file task
+code_asked program file task plain asks = code_of file task (subst (λ c. IsTaskOf c task) (code_named program file (is_word file plain)) asks)
 
-check_of : (command : Option (Text × List Row)) (file : Text) (task : Task) → command_and_file command ≡ Some (codes "check", file) → IsTaskOf command task → IsCheckOf file task
-check_of None file task name asks = search rules
-check_of (Some command) file Bundle name asks = absurd asks
-check_of (Some command) file (Check path) name asks =
-    let value : value_of (codes "FILE") command.1 ≡ file = search rules in
-    asks.1 ∙ value
-check_of (Some command) file (Code path) name asks =
-    let check : command.0 ≡ codes "check" = search rules in
-    absurd (is_not_code (sym check ∙ asks.0))
+abbrev drive_words : Text → Text → Text → List Text
+drive_words program file schedule = program ∷ codes "drive" ∷ file ∷ schedule ∷ []
 
-code_of : (command : Option (Text × List Row)) (file : Text) (task : Task) → command_and_file command ≡ Some (codes "code", file) → IsTaskOf command task → IsCodeOf file task
-code_of None file task name asks = search rules
-code_of (Some command) file Bundle name asks = absurd asks
-code_of (Some command) file (Code path) name asks =
-    let value : value_of (codes "FILE") command.1 ≡ file = search rules in
-    asks.1 ∙ value
-code_of (Some command) file (Check path) name asks =
-    let code : command.0 ≡ codes "code" = search rules in
-    absurd (is_not_code (sym asks.0 ∙ code))
+abbrev both_rows : Text → Text → List Row
+both_rows file schedule = given (codes "FILE") file ∷ given (codes "SCHEDULE") schedule ∷ []
 
-pub check_asked : (program file : Text) (task : Task) → is_plain file ≡ true → IsTaskOf (subcommand_of btrun_app (program ∷ codes "check" ∷ file ∷ [])) task → IsCheckOf file task
-check_asked program file task plain =
-    check_of _ file task (check_named program file (ends_nothing file plain) (is_not_long file plain) (is_not_short file plain))
+drive_named : (program file schedule : Text) → IsWord file → IsWord schedule → subcommand_of btrun_app (drive_words program file schedule) ≡ Some (codes "drive", both_rows file schedule)
+unfolding clap_on_literals
+drive_named program file schedule (no_end, no_long, no_short) (none_ends, none_long, none_short) = rw (no_end, no_long, no_short, none_ends, none_long, none_short) refl
 
-pub code_asked : (program file : Text) (task : Task) → is_plain file ≡ true → IsTaskOf (subcommand_of btrun_app (program ∷ codes "code" ∷ file ∷ [])) task → IsCodeOf file task
-code_asked program file task plain =
-    code_of _ file task (code_named program file (ends_nothing file plain) (is_not_long file plain) (is_not_short file plain))
+drive_clean : (program file schedule : Text) → IsWord file → IsWord schedule → fault_of btrun_app (drive_words program file schedule) ≡ []
+unfolding clap_on_literals
+drive_clean program file schedule (no_end, no_long, no_short) (none_ends, none_long, none_short) = rw (no_end, no_long, no_short, none_ends, none_long, none_short) refl
+
+pub drive_faulty : (program file schedule : Text) → is_plain file ≡ true → is_plain schedule ≡ true → words_fault (drive_words program file schedule) ≡ []
+drive_faulty program file schedule plain even =
+    let word = is_word file plain in
+    let other = is_word schedule even in
+    no_fault (drive_words program file schedule) (Some (codes "drive", both_rows file schedule)) (drive_clean program file schedule word other) (drive_named program file schedule word other) refl
+
+options_are : (o : OptionsOf) → o.entries ≡ codes "main" ∷ [] → o.init ≡ None → o.contexts ≡ DEFAULT_CONTEXTS → o.calls ≡ DEFAULT_CALLS → o ≡ defaults
+options_are o entries init contexts calls =
+    ap₂ (λ e i. options_of e i o.contexts o.calls) entries init ∙ ap₂ (λ k n. options_of (codes "main" ∷ []) None k n) contexts calls
+
+drive_of : (file schedule : Text) (task : Task) → IsTaskOf (Some (codes "drive", both_rows file schedule)) task → IsPlainDriveOf file schedule task
+drive_of file schedule Bundle asks = absurd asks
+drive_of file schedule (Check path) asks = absurd (check≢drive (sym asks.0))
+drive_of file schedule (Code path) asks = absurd (code≢drive (sym asks.0))
+drive_of file schedule (Drive words) (named, of) = (of.program, of.schedule, options_are words.options of.entries of.init of.contexts of.calls)
+
+pub drive_asked : (program file schedule : Text) (task : Task) → is_plain file ≡ true → is_plain schedule ≡ true → IsTaskOf (subcommand_of btrun_app (drive_words program file schedule)) task → IsPlainDriveOf file schedule task
+drive_asked program file schedule task plain even asks =
+    drive_of file schedule task (subst (λ c. IsTaskOf c task) (drive_named program file schedule (is_word file plain) (is_word schedule even)) asks)
 
 -- where there is no fault, only memory was refused
 pub only_memory : (kinds : Kinds) (e : Error) → kinds ≡ [] → HasKind kinds e → kind_of e ≡ OutOfMemory

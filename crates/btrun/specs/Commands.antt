@@ -1,14 +1,24 @@
 -- What the words of the command line ask for. How words are told apart as commands, options and
 -- values is said by the rules of `clap`.
-use Rattle.std.specs.Prelude.{◌≡◌, ◌⊎◌, ◌==◌, Bool, true, not, List, [], ◌∷◌, Option, Some, None, codes, unwrap_or}
-use Rattle.clap.specs.Walk.{Row, Text, first_of}
-use Rattle.clap.specs.Simple.{App, new_app, new_rule, on_top, with_rule, with_subcommand}
+use Rattle.std.specs.Prelude.{◌≡◌, ◌⊎◌, ◌==◌, Bool, true, not, List, [], ◌∷◌, Option, Some, None, codes, pos}
+use Rattle.clap.specs.Faults.{fault_of}
+use Rattle.clap.specs.Kinds.{Kinds, or_else}
+use Rattle.clap.specs.Lexer.{usize_max}
+use Rattle.clap.specs.Walk.{Row, Rule, Text}
+use Rattle.clap.specs.Simple.{App, new_app, new_rule, on_top, subcommand_of, with_rule, with_subcommand}
+use Rattle.clap.specs.declared.builder.value_parser.ValueParser.TheVariants as parser
+use Rattle.bp_commands.specs.Drives.{defaults}
+use Rattle.btrun.specs.DriveWords.{value_of, init_fault, IsDriveOf}
 use Rattle.btrun.specs.declared.commands.Task.{Task}
-use Rattle.btrun.specs.declared.commands.Task.TheVariants.{Bundle, Check, Code}
+use Rattle.btrun.specs.declared.commands.Task.TheVariants.{Bundle, Check, Code, Drive}
+
+-- an argument that has to be there
+abbrev pub required_rule : Text → Rule
+required_rule name = record (new_rule name) { required = true }
 
 -- a command of this name and a file
 abbrev pub file_app : Text → App
-file_app name = with_rule (new_app name) (record (new_rule (codes "FILE")) { required = true })
+file_app name = with_rule (new_app name) (required_rule (codes "FILE"))
 
 -- `check FILE`
 abbrev pub check_app : App
@@ -18,18 +28,48 @@ check_app = file_app (codes "check")
 abbrev pub code_app : App
 code_app = file_app (codes "code")
 
+-- an option that has a value
+abbrev pub option_rule : Text → Rule
+option_rule name = record (new_rule name) { long = Some name; value_names = 1 }
+
+-- an option whose value is a number of 32 bits
+abbrev pub number_rule : Text → Rule
+number_rule name =
+    record (option_rule name) { parser = Some (parser.Signed (pos 0) (pos 4294967295)) }
+
+-- an argument with any number of values
+abbrev pub values_rule : Text → Rule
+values_rule name =
+    record (new_rule name) {
+      range = Some (record { start_inclusive = 0; end_inclusive = usize_max });
+    }
+
+-- the arguments in turn
+abbrev pub with_rules : App → List Rule → App
+with_rules a [] = a
+with_rules a (r ∷ rs) = with_rules (with_rule a r) rs
+
+-- `drive FILE SCHEDULE [ENTRY].. [--contexts N] [--calls N] [--init BITS]`
+abbrev pub drive_app : App
+drive_app =
+    with_rules (file_app (codes "drive")) (
+    required_rule (codes "SCHEDULE")
+    ∷ values_rule (codes "ENTRY")
+    ∷ number_rule (codes "contexts")
+    ∷ number_rule (codes "calls")
+    ∷ option_rule (codes "init")
+    ∷ [])
+
+-- the program without a command
+abbrev pub program_app : App
+program_app = on_top (λ s. record s { has_version = true }) (new_app (codes "btrun"))
+
 -- all commands
 abbrev pub btrun_app : App
 btrun_app =
     with_subcommand
-    (with_subcommand
-    (on_top (λ s. record s { has_version = true }) (new_app (codes "btrun")))
-    check_app.top)
-    code_app.top
-
--- the value of an argument, empty where it has none
-abbrev pub value_of : Text → List Row → Text
-value_of id rows = unwrap_or (first_of id rows) []
+    (with_subcommand (with_subcommand program_app check_app.top) code_app.top)
+    drive_app.top
 
 -- the command has this name, and its file is the path
 abbrev pub IsOfFile : Text → Text → List Row → Text → Type 0
@@ -38,18 +78,24 @@ IsOfFile command name rows path = (name ≡ command) × (path ≡ value_of (code
 -- the words name no command, or one of those that there are
 abbrev pub IsOurs : Option (Text × List Row) → Type 0
 IsOurs None = Unit {0}
-IsOurs (Some command) = (command.0 ≡ codes "check") ⊎ (command.0 ≡ codes "code")
+IsOurs (Some command) =
+    (command.0 ≡ codes "check") ⊎ ((command.0 ≡ codes "code") ⊎ (command.0 ≡ codes "drive"))
 
 -- what the command of this name asks for, with its arguments; a bundle is asked for without one
 abbrev pub IsAsked : Text → List Row → Task → Type 0
 IsAsked name rows Bundle = ⊥
 IsAsked name rows (Check path) = IsOfFile (codes "check") name rows path.now
 IsAsked name rows (Code path) = IsOfFile (codes "code") name rows path.now
+IsAsked name rows (Drive words) = (name ≡ codes "drive") × IsDriveOf rows words
 
 -- what the words ask for, by the command that they name
 abbrev pub IsTaskOf : Option (Text × List Row) → Task → Type 0
 IsTaskOf None task = task ≡ Bundle
 IsTaskOf (Some command) task = IsAsked command.0 command.1 task
+
+-- why words are refused: as `clap` says, or else for their initial bits
+abbrev pub words_fault : List Text → Kinds
+words_fault words = or_else (fault_of btrun_app words) (init_fault (subcommand_of btrun_app words))
 
 -- the word is no option, and does not end the options
 abbrev pub is_plain : Text → Bool
@@ -65,3 +111,9 @@ IsCheckOf file task = ⊥
 abbrev pub IsCodeOf : Text → Task → Type 0
 IsCodeOf file (Code path) = path.now ≡ file
 IsCodeOf file task = ⊥
+
+-- the task is to drive the program of this file by the schedule of that one, under the defaults
+abbrev pub IsPlainDriveOf : Text → Text → Task → Type 0
+IsPlainDriveOf file schedule (Drive words) =
+    (words.program.now ≡ file) × (words.schedule.now ≡ schedule) × (words.options ≡ defaults)
+IsPlainDriveOf file schedule task = ⊥

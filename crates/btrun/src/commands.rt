@@ -1,18 +1,24 @@
 //! The words of the command line.
 ghost use Rattle.std.specs.Prelude.{◌≡◌, true, false, ℕ, List, [], ◌∷◌, map, codes, string_bytes, IfOk, MatchResult};
-ghost use Rattle.clap.specs.Words.{FailsBy, app_of, fault_of, kind_of, subcommand_of, subcommand_rows_of};
+ghost use Rattle.clap.specs.Words.{FailsBy, app_of, kind_of, subcommand_of, subcommand_rows_of};
 ghost use Rattle.clap.specs.declared.builder.command.Command.TheViews.{out-Command};
-ghost use Rattle.btrun.specs.Commands.{btrun_app, file_app, is_plain, IsOurs, IsCheckOf, IsCodeOf, IsTaskOf};
+ghost use Rattle.btrun.specs.Commands.{btrun_app, file_app, is_plain, program_app, words_fault, IsOurs, IsCheckOf, IsCodeOf, IsPlainDriveOf, IsTaskOf};
 
+mod arguments;
+mod drive;
+
+use arguments::required;
 use clap::error::ErrorKind;
-use clap::{Arg, ArgMatches, Command, Error};
+use clap::{ArgMatches, Command, Error};
+pub use drive::DriveWords;
+use drive::{drive_command, drive_words, has_bad_init};
 use std::alloc::{AllocError, Global};
 
 /// The version of the program.
 const VERSION: &str = "0.1.0";
 
 /// What the user wants done.
-#[derive(Clone, Copy)]
+#[derive(Drop)]
 pub enum Task<'a> {
     /// Drive the bundle that standard input has.
     Bundle,
@@ -20,6 +26,8 @@ pub enum Task<'a> {
     Check(&'a str),
     /// List the code of the program of this file.
     Code(&'a str),
+    /// Drive the program of a file by a schedule.
+    Drive(DriveWords<'a>),
 }
 
 /// What `--help` says behind the commands.
@@ -27,7 +35,7 @@ const NOTES: &str = "\
     Without a command standard input is a bundle: a program, a line '%', and a schedule of lines\n\
     'THREAD BIT'. One thread begins with 'main', all globals are 0, and at most 2 contexts and\n\
     1000 calls are allowed. The trace of the run is printed.\n\n\
-    Examples:\n  btrun < FILE\n  btrun check FILE\n  btrun code FILE\n\n\
+    Examples:\n  btrun < FILE\n  btrun check FILE\n  btrun code FILE\n  btrun drive FILE SCHEDULE\n\n\
     Exit status:\n  0  done, and no assertion failed\n  1  an assertion failed\n  \
     2  the input or the words were refused\n  3  memory, a device or the output failed";
 
@@ -53,6 +61,9 @@ const CODE_NOTES: &str = "\
     Exit status:\n  0  the listing is printed\n  2  the program is refused, or the words were\n  \
     3  memory, a device or the output failed";
 
+/// What is wrong with the value of `--init`.
+const BAD_INIT: &str = "the value of '--init' has a character other than 0 and 1";
+
 /// A command of this name and a file.
 fn file_command<'a>(
     alloc: Global,
@@ -63,18 +74,16 @@ fn file_command<'a>(
     ensures { IfOk result
         (λ c. (app_of c ≡ file_app name.now) × ((out-Command c).has_globals ≡ false)) }
 {
-    let file = Arg::new(alloc, "FILE")
-        .required(true)
-        .help("The file of the program");
+    let file = required(alloc, "FILE", "The file of the program");
     Command::new(alloc, name)
         .about(about)
         .after_help(notes)
         .arg(file)
 }
 
-/// All commands.
-fn command<'a>(alloc: Global) -> Result<Command<'a>, AllocError>
-    ensures { IfOk result (λ c. app_of c ≡ btrun_app) }
+/// What stands before the commands.
+fn program<'a>(alloc: Global) -> Command<'a>
+    ensures { app_of result ≡ program_app }
 {
     Command::new(alloc, "btrun")
         .version(VERSION)
@@ -83,20 +92,29 @@ fn command<'a>(alloc: Global) -> Result<Command<'a>, AllocError>
             Without a command it reads a bundle from standard input and prints its trace",
         )
         .after_help(NOTES)
+}
+
+/// All commands.
+fn command<'a>(alloc: Global) -> Result<Command<'a>, AllocError>
+    ensures { IfOk result (λ c. app_of c ≡ btrun_app) }
+{
+    program(alloc)
         .subcommand(file_command(alloc, "check", CHECK_ABOUT, CHECK_NOTES)?)?
-        .subcommand(file_command(alloc, "code", CODE_ABOUT, CODE_NOTES)?)
+        .subcommand(file_command(alloc, "code", CODE_ABOUT, CODE_NOTES)?)?
+        .subcommand(drive_command(alloc)?)
 }
 
 /// The task that the matched words name.
-fn task_of<'a>(matches: &ArgMatches<'a>) -> Task<'a>
+fn task_of<'a>(alloc: Global, matches: &ArgMatches<'a>) -> Result<Task<'a>, AllocError>
     requires { IsOurs (subcommand_rows_of matches.now) }
-    ensures { IsTaskOf (subcommand_rows_of matches.now) result }
+    ensures { IfOk result (IsTaskOf (subcommand_rows_of matches.now)) }
 {
     match matches.subcommand() {
         // FILE is required, so it is there.
-        Some(("check", words)) => Task::Check(words.get_str("FILE").unwrap_or("")),
-        Some(("code", words)) => Task::Code(words.get_str("FILE").unwrap_or("")),
-        _ => Task::Bundle,
+        Some(("check", words)) => Ok(Task::Check(words.get_str("FILE").unwrap_or(""))),
+        Some(("code", words)) => Ok(Task::Code(words.get_str("FILE").unwrap_or(""))),
+        Some(("drive", words)) => Ok(Task::Drive(drive_words(alloc, words)?)),
+        _ => Ok(Task::Bundle),
     }
 }
 
@@ -105,7 +123,7 @@ fn task_of<'a>(matches: &ArgMatches<'a>) -> Task<'a>
 pub fn read_words<'a>(alloc: Global, words: &'a [String]) -> Result<Task<'a>, Error>
     ensures task { IfOk result
         (λ t. IsTaskOf (subcommand_of btrun_app (map string_bytes words.now)) t) }
-    ensures refusal { FailsBy (fault_of btrun_app (map string_bytes words.now)) result }
+    ensures refusal { FailsBy (words_fault (map string_bytes words.now)) result }
     ensures bundle { (program : List ℕ)
         → map string_bytes words.now ≡ program ∷ []
         → MatchResult result (λ t. t ≡ Task.Bundle) (λ e. kind_of e ≡ ErrorKind.OutOfMemory) }
@@ -117,15 +135,32 @@ pub fn read_words<'a>(alloc: Global, words: &'a [String]) -> Result<Task<'a>, Er
         → is_plain file ≡ true
         → map string_bytes words.now ≡ program ∷ codes "code" ∷ file ∷ []
         → MatchResult result (IsCodeOf file) (λ e. kind_of e ≡ ErrorKind.OutOfMemory) }
+    ensures drive { (program file schedule : List ℕ)
+        → is_plain file ≡ true
+        → is_plain schedule ≡ true
+        → map string_bytes words.now ≡ program ∷ codes "drive" ∷ file ∷ schedule ∷ []
+        → MatchResult result
+        (IsPlainDriveOf file schedule)
+        (λ e. kind_of e ≡ ErrorKind.OutOfMemory) }
 {
     let command = command(alloc)?;
     let matches = command.try_get_matches_from(words)?;
-    Ok(task_of(&matches))
+    if has_bad_init(&matches) {
+        return Err(invalid_value(alloc, BAD_INIT)?);
+    }
+    Ok(task_of(alloc, &matches)?)
+}
+
+/// The error of a value that `clap` takes.
+fn invalid_value(alloc: Global, message: &str) -> Result<Error, AllocError>
+    ensures { IfOk result (λ e. kind_of e ≡ ErrorKind.InvalidValue) }
+{
+    command(alloc)?.error(ErrorKind::InvalidValue, message)
 }
 
 /// The error of words that are not UTF-8.
 pub fn not_text(alloc: Global) -> Result<Error, AllocError>
     ensures { IfOk result (λ e. kind_of e ≡ ErrorKind.InvalidValue) }
 {
-    command(alloc)?.error(ErrorKind::InvalidValue, "a word is not UTF-8")
+    invalid_value(alloc, "a word is not UTF-8")
 }

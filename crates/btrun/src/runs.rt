@@ -1,6 +1,7 @@
 //! A run of the program, from its words to its exit status.
 
 mod bundle;
+mod drive;
 mod files;
 mod inputs;
 mod usage;
@@ -15,6 +16,7 @@ fn run_words(rt: &HostRuntime, words: &[String]) -> u8 {
         Ok(Task::Bundle) => bundle::drive_input(rt),
         Ok(Task::Check(path)) => files::check_file(rt, path),
         Ok(Task::Code(path)) => files::list_file(rt, path),
+        Ok(Task::Drive(words)) => drive::drive_files(rt, &words),
         Err(error) => usage::explain(rt, &error, &mut rt.stderr()),
     }
 }

@@ -4,6 +4,15 @@ use clap::error::ErrorKind;
 use std::alloc::Global;
 use std::test::Fail;
 
+/// What `drive` is to start from.
+#[derive(Clone, Copy)]
+struct Wanted<'a> {
+    entries: &'a [&'a str],
+    init: Option<&'a [bool]>,
+    /// The contexts and the calls.
+    limits: (u32, u32),
+}
+
 /// The words behind the name of the program.
 fn words(alloc: Global, given: &[&str]) -> Result<Vec<String>, Fail> {
     let mut words = vec![in alloc; String::from_str(alloc, "btrun")?]?;
@@ -31,6 +40,109 @@ fn reads_words(rt: HostRuntime) -> Result<(), Fail> {
     assert!(rt; matches!(read_words(alloc, &code), Ok(Task::Code(path)) if path == "p.bp"));
     let dashed = words(alloc, &["check", "--", "-p"])?;
     assert!(rt; matches!(read_words(alloc, &dashed), Ok(Task::Check(path)) if path == "-p"));
+    Ok(())
+}
+
+/// Whether the words behind `drive` are read as these files and options.
+fn drives(alloc: Global, given: &[&str], wanted: &Wanted) -> Result<bool, Fail> {
+    let words = words(alloc, given)?;
+    let Ok(Task::Drive(drive)) = read_words(alloc, &words) else {
+        return Ok(false);
+    };
+    let options = &drive.options;
+    let mut entries = options.entries.iter().map(|entry| entry.as_str());
+    let named = wanted
+        .entries
+        .iter()
+        .all(|entry| entries.next() == Some(*entry));
+    let bits = match &options.init {
+        Some(bits) => Some(bits.as_slice()),
+        None => None,
+    };
+    Ok(
+        drive.program == "p.bp"
+            && drive.schedule == "s.txt"
+            && named
+            && entries.next().is_none()
+            && bits == wanted.init
+            && (options.contexts, options.calls) == wanted.limits,
+    )
+}
+
+#[test]
+fn reads_drive(rt: HostRuntime) -> Result<(), Fail> {
+    let alloc = rt.alloc();
+    let defaults = Wanted {
+        entries: &["main"],
+        init: None,
+        limits: (2, 1000),
+    };
+    assert!(rt; drives(alloc, &["drive", "p.bp", "s.txt"], &defaults)?);
+    let all = [
+        "drive",
+        "p.bp",
+        "--contexts",
+        "3",
+        "s.txt",
+        "a",
+        "b",
+        "--calls=7",
+        "--init",
+        "011",
+    ];
+    let given = Wanted {
+        entries: &["a", "b"],
+        init: Some(&[false, true, true]),
+        limits: (3, 7),
+    };
+    assert!(rt; drives(alloc, &all, &given)?);
+    let none = Wanted {
+        init: Some(&[]),
+        ..defaults
+    };
+    assert!(rt; drives(alloc, &["drive", "p.bp", "s.txt", "--init="], &none)?);
+    let most = Wanted {
+        limits: (4_294_967_295, 0),
+        ..none
+    };
+    let numbers = [
+        "drive",
+        "--init",
+        "",
+        "--contexts",
+        "4294967295",
+        "--calls",
+        "0",
+        "p.bp",
+        "s.txt",
+    ];
+    assert!(rt; drives(alloc, &numbers, &most)?);
+    Ok(())
+}
+
+#[test]
+fn refuses_words_of_drive(rt: HostRuntime) -> Result<(), Fail> {
+    let alloc = rt.alloc();
+    let missing = refusal(alloc, &["drive", "p.bp"])?;
+    assert!(rt; missing == Some(ErrorKind::MissingRequiredArgument));
+    for number in ["x", "", "2x", "-1", "4294967296"] {
+        let value = ["drive", "p.bp", "s.txt", "--contexts", number];
+        let kind = refusal(alloc, &value)?;
+        let unknown = number == "-1";
+        assert!(rt; unknown || kind == Some(ErrorKind::ValueValidation));
+        assert!(rt; !unknown || kind == Some(ErrorKind::UnknownArgument));
+    }
+    for bits in ["2", "01x", "0 1", "0\n"] {
+        let value = ["drive", "p.bp", "s.txt", "--init", bits];
+        assert!(rt; refusal(alloc, &value)? == Some(ErrorKind::InvalidValue));
+    }
+    let twice = refusal(
+        alloc,
+        &["drive", "p.bp", "s.txt", "--calls", "1", "--calls", "1"],
+    )?;
+    assert!(rt; twice == Some(ErrorKind::ArgumentConflict));
+    let other = refusal(alloc, &["check", "p.bp", "--init", "0"])?;
+    assert!(rt; other == Some(ErrorKind::UnknownArgument));
     Ok(())
 }
 

@@ -1,54 +1,102 @@
-use Rattle.std.proofs.Common.{ap, ap₂, refl, rules, subst, sym, true, map, string_bytes, [], ◌≡◌, ◌∙◌}
-use Rattle.clap.specs.Words.{fault_of, kind_of, subcommand_of, is_simple_and_free}
+use Rattle.std.proofs.Common.{◌≡◌, ◌∙◌, ap, subst, sym, rules, map, string_bytes, []}
+use Rattle.clap.specs.Words.{kind_of, subcommand_of}
 use Rattle.clap.specs.declared.error.kind.ErrorKind.TheVariants.{OutOfMemory}
-use Rattle.clap.specs.Simple.{is_simple}
-use Rattle.btrun.specs.Commands.{btrun_app, IsOurs, IsTaskOf}
+use Rattle.btrun.specs.Commands.{btrun_app, words_fault, IsOurs, IsTaskOf}
 use Rattle.btrun.proofs.NoHelpEntered.{named_ours}
-use Rattle.btrun.proofs.PlainWords.{none_faulty, check_faulty, check_asked, code_faulty, code_asked, only_memory}
+use Rattle.btrun.proofs.PlainWords.{none_faulty, check_faulty, check_asked, code_faulty, code_asked, drive_faulty, drive_asked}
+use Rattle.btrun.proofs.WordsFaults.{cleared, named, refused, refused_for_memory, bad_refused, fine_faulty, not_bad}
 use Rattle.btrun.proofs.commands.read_words.Goals as goal
 
-is_exact : is_simple_and_free btrun_app ≡ true
-is_exact = refl
+refused_kind : (c : goal.After-from_residual-in_err-matches) → words_fault (map string_bytes c.args.words.now) ≡ [] → kind_of c.in_err-matches.field-0.0 ≡ OutOfMemory
+refused_kind c none = refused_for_memory _ (map string_bytes c.args.words.now) c.in_ok-command.ensures c.in_err-matches.field-0.0 c.in_err-matches.ensures.kinds none
 
-pub returns-clause-refusal : goal.returns-clause-refusal
-returns-clause-refusal c =
-    let kinds = c.in_ok-matches.ensures.kinds (ap is_simple_and_free c.in_ok-command.ensures ∙ is_exact) in
-    subst (λ a. fault_of a (map string_bytes c.args.words.now) ≡ []) c.in_ok-command.ensures kinds
-
--- words without a fault are refused for want of memory alone
-refused : (c : goal.After-from_residual-in_err-matches) → fault_of btrun_app (map string_bytes c.args.words.now) ≡ [] → kind_of c.in_err-matches.field-0.0 ≡ OutOfMemory
-refused c none =
-    let kinds = c.in_err-matches.ensures.kinds (ap is_simple_and_free c.in_ok-command.ensures ∙ is_exact) in
-    only_memory _ c.in_err-matches.field-0.0 (ap (λ a. fault_of a (map string_bytes c.args.words.now)) c.in_ok-command.ensures ∙ none) kinds
+pub returns-in_err-matches-clause-refusal : goal.returns-in_err-matches-clause-refusal
+returns-in_err-matches-clause-refusal c =
+    let kind = refused _ (map string_bytes c.args.words.now) c.in_ok-command.ensures c.in_err-matches.field-0.0 c.in_err-matches.ensures.kinds in
+    search rules
 
 pub returns-in_err-matches-clause-bundle : goal.returns-in_err-matches-clause-bundle
 returns-in_err-matches-clause-bundle c program is =
-    let memory = refused c (ap (fault_of btrun_app) is ∙ none_faulty program) in
+    let memory = refused_kind c (ap words_fault is ∙ none_faulty program) in
     search rules
 
 pub returns-in_err-matches-clause-check : goal.returns-in_err-matches-clause-check
 returns-in_err-matches-clause-check c program file plain is =
-    let memory = refused c (ap (fault_of btrun_app) is ∙ check_faulty program file plain) in
+    let memory = refused_kind c (ap words_fault is ∙ check_faulty program file plain) in
     search rules
-
-pub returns-clause-check : goal.returns-clause-check
-returns-clause-check c program file plain is =
-    let named = (c.in_ok-matches.ensures.matches (ap is_simple c.in_ok-command.ensures ∙ refl)).1 ∙ ap₂ subcommand_of c.in_ok-command.ensures is in
-    check_asked program file c.task_of.result plain (subst (λ command. IsTaskOf command c.task_of.result) named c.task_of.ensures)
 
 pub returns-in_err-matches-clause-code : goal.returns-in_err-matches-clause-code
 returns-in_err-matches-clause-code c program file plain is =
-    let memory = refused c (ap (fault_of btrun_app) is ∙ code_faulty program file plain) in
+    let memory = refused_kind c (ap words_fault is ∙ code_faulty program file plain) in
     search rules
 
-pub returns-clause-code : goal.returns-clause-code
-returns-clause-code c program file plain is =
-    let named = (c.in_ok-matches.ensures.matches (ap is_simple c.in_ok-command.ensures ∙ refl)).1 ∙ ap₂ subcommand_of c.in_ok-command.ensures is in
-    code_asked program file c.task_of.result plain (subst (λ command. IsTaskOf command c.task_of.result) named c.task_of.ensures)
+pub returns-in_err-matches-clause-drive : goal.returns-in_err-matches-clause-drive
+returns-in_err-matches-clause-drive c program file schedule plain even is =
+    let memory = refused_kind c (ap words_fault is ∙ drive_faulty program file schedule plain even) in
+    search rules
+
+pub returns-then-has_bad_init-clause-refusal : goal.returns-then-has_bad_init-clause-refusal
+returns-then-has_bad_init-clause-refusal c =
+    let words = map string_bytes c.args.words.now in
+    let clean = cleared _ words c.in_ok-command.ensures c.in_ok-matches.ensures.kinds in
+    let name = named _ words c.in_ok-command.ensures c.in_ok-matches.matches c.in_ok-matches.ensures.matches in
+    bad_refused words _ clean name c.in_ok-invalid_value.field-0 (sym c.has_bad_init.ensures ∙ c.if-has_bad_init.true) c.in_ok-invalid_value.ensures
+
+pub returns-then-has_bad_init-clause-check : goal.returns-then-has_bad_init-clause-check
+returns-then-has_bad_init-clause-check c program file plain is =
+    let words = map string_bytes c.args.words.now in
+    let clean = cleared _ words c.in_ok-command.ensures c.in_ok-matches.ensures.kinds in
+    let name = named _ words c.in_ok-command.ensures c.in_ok-matches.matches c.in_ok-matches.ensures.matches in
+    absurd (not_bad words _ clean name (sym c.has_bad_init.ensures ∙ c.if-has_bad_init.true) (ap words_fault is ∙ check_faulty program file plain))
+
+pub returns-then-has_bad_init-clause-code : goal.returns-then-has_bad_init-clause-code
+returns-then-has_bad_init-clause-code c program file plain is =
+    let words = map string_bytes c.args.words.now in
+    let clean = cleared _ words c.in_ok-command.ensures c.in_ok-matches.ensures.kinds in
+    let name = named _ words c.in_ok-command.ensures c.in_ok-matches.matches c.in_ok-matches.ensures.matches in
+    absurd (not_bad words _ clean name (sym c.has_bad_init.ensures ∙ c.if-has_bad_init.true) (ap words_fault is ∙ code_faulty program file plain))
+
+pub returns-then-has_bad_init-clause-drive : goal.returns-then-has_bad_init-clause-drive
+returns-then-has_bad_init-clause-drive c program file schedule plain even is =
+    let words = map string_bytes c.args.words.now in
+    let clean = cleared _ words c.in_ok-command.ensures c.in_ok-matches.ensures.kinds in
+    let name = named _ words c.in_ok-command.ensures c.in_ok-matches.matches c.in_ok-matches.ensures.matches in
+    absurd (not_bad words _ clean name (sym c.has_bad_init.ensures ∙ c.if-has_bad_init.true) (ap words_fault is ∙ drive_faulty program file schedule plain even))
 
 pub task_of-requires : goal.task_of-requires
 task_of-requires c =
-    let kinds = c.in_ok-matches.ensures.kinds (ap is_simple_and_free c.in_ok-command.ensures ∙ is_exact) in
-    let clean = subst (λ a. fault_of a (map string_bytes c.args.words.now) ≡ []) c.in_ok-command.ensures kinds in
-    let named = (c.in_ok-matches.ensures.matches (ap is_simple c.in_ok-command.ensures ∙ refl)).1 ∙ ap (λ a. subcommand_of a (map string_bytes c.args.words.now)) c.in_ok-command.ensures in
-    subst IsOurs (sym named) (named_ours (map string_bytes c.args.words.now) clean)
+    let words = map string_bytes c.args.words.now in
+    let clean = cleared _ words c.in_ok-command.ensures c.in_ok-matches.ensures.kinds in
+    let name = named _ words c.in_ok-command.ensures c.in_ok-matches.matches c.in_ok-matches.ensures.matches in
+    subst IsOurs (sym name) (named_ours words clean)
+
+pub returns-clause-task : goal.returns-clause-task
+returns-clause-task c =
+    let words = map string_bytes c.args.words.now in
+    let name = named _ words c.in_ok-command.ensures c.in_ok-matches.matches c.in_ok-matches.ensures.matches in
+    subst (λ command. IsTaskOf command c.in_ok-task_of.field-0) name c.in_ok-task_of.ensures
+
+pub returns-clause-refusal : goal.returns-clause-refusal
+returns-clause-refusal c =
+    let words = map string_bytes c.args.words.now in
+    let clean = cleared _ words c.in_ok-command.ensures c.in_ok-matches.ensures.kinds in
+    let name = named _ words c.in_ok-command.ensures c.in_ok-matches.matches c.in_ok-matches.ensures.matches in
+    fine_faulty words _ clean name (sym c.has_bad_init.ensures ∙ c.if-has_bad_init.false)
+
+pub returns-clause-check : goal.returns-clause-check
+returns-clause-check c program file plain is =
+    let words = map string_bytes c.args.words.now in
+    let name = named _ words c.in_ok-command.ensures c.in_ok-matches.matches c.in_ok-matches.ensures.matches ∙ ap (subcommand_of btrun_app) is in
+    check_asked program file c.in_ok-task_of.field-0 plain (subst (λ command. IsTaskOf command c.in_ok-task_of.field-0) name c.in_ok-task_of.ensures)
+
+pub returns-clause-code : goal.returns-clause-code
+returns-clause-code c program file plain is =
+    let words = map string_bytes c.args.words.now in
+    let name = named _ words c.in_ok-command.ensures c.in_ok-matches.matches c.in_ok-matches.ensures.matches ∙ ap (subcommand_of btrun_app) is in
+    code_asked program file c.in_ok-task_of.field-0 plain (subst (λ command. IsTaskOf command c.in_ok-task_of.field-0) name c.in_ok-task_of.ensures)
+
+pub returns-clause-drive : goal.returns-clause-drive
+returns-clause-drive c program file schedule plain even is =
+    let words = map string_bytes c.args.words.now in
+    let name = named _ words c.in_ok-command.ensures c.in_ok-matches.matches c.in_ok-matches.ensures.matches ∙ ap (subcommand_of btrun_app) is in
+    drive_asked program file schedule c.in_ok-task_of.field-0 plain even (subst (λ command. IsTaskOf command c.in_ok-task_of.field-0) name c.in_ok-task_of.ensures)

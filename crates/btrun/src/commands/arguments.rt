@@ -1,0 +1,38 @@
+//! The arguments of commands.
+ghost use Rattle.std.specs.Prelude.{◌≡◌, false};
+ghost use Rattle.clap.specs.Words.{rule_of};
+ghost use Rattle.btrun.specs.Commands.{number_rule, option_rule, required_rule, values_rule};
+
+use clap::{Arg, value_parser};
+use std::alloc::Global;
+
+/// An argument that has to be there.
+pub fn required<'a>(alloc: Global, name: &'a str, help: &'a str) -> Arg<'a>
+    ensures { (rule_of result ≡ required_rule name.now) × (result.global ≡ false) }
+{
+    Arg::new(alloc, name).required(true).help(help)
+}
+
+/// An argument with any number of values.
+pub fn values<'a>(alloc: Global, name: &'a str, help: &'a str) -> Arg<'a>
+    ensures { (rule_of result ≡ values_rule name.now) × (result.global ≡ false) }
+{
+    Arg::new(alloc, name).num_args(0..).help(help)
+}
+
+/// An option that has a value.
+pub fn option<'a>(alloc: Global, name: &'a str, value: &'a str, help: &'a str) -> Arg<'a>
+    ensures { (rule_of result ≡ option_rule name.now) × (result.global ≡ false) }
+{
+    Arg::new(alloc, name)
+        .long(name)
+        .value_name(value)
+        .help(help)
+}
+
+/// An option whose value is a number of 32 bits.
+pub fn number_option<'a>(alloc: Global, name: &'a str, help: &'a str) -> Arg<'a>
+    ensures { (rule_of result ≡ number_rule name.now) × (result.global ≡ false) }
+{
+    option(alloc, name, "N", help).value_parser(value_parser!(u32))
+}
