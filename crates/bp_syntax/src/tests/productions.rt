@@ -367,6 +367,11 @@ const PRODUCTIONS: &[Production] = &[
     },
 ];
 
+// The table by a call, so that no test holds all of it in its own proof.
+fn productions() -> &'static [Production] {
+    PRODUCTIONS
+}
+
 // Adds tokens to a text, each with a space before it but for the first of the production.
 fn add(text: &mut Vec<u8>, first: &mut bool, tokens: &[&str]) -> Result<(), Fail> {
     for token in tokens {
@@ -415,7 +420,7 @@ fn is_answer(alloc: Global, text: &[u8], wanted: Option<u32>) -> bool {
 #[test]
 fn reads_each_production(rt: HostRuntime) -> Result<(), Fail> {
     let alloc = rt.alloc();
-    for row in PRODUCTIONS {
+    for row in productions() {
         let text = program_with(alloc, row, row.tokens.len(), &[])?;
         assert!(rt; is_answer(alloc, text.as_slice(), None));
     }
@@ -425,7 +430,7 @@ fn reads_each_production(rt: HostRuntime) -> Result<(), Fail> {
 #[test]
 fn refuses_a_production_without_a_token(rt: HostRuntime) -> Result<(), Fail> {
     let alloc = rt.alloc();
-    for row in PRODUCTIONS {
+    for row in productions() {
         assert_eq!(rt; row.left_out.len(), row.tokens.len());
         for (i, wanted) in row.left_out.iter().enumerate() {
             let text = program_with(alloc, row, i, &[])?;
@@ -438,7 +443,7 @@ fn refuses_a_production_without_a_token(rt: HostRuntime) -> Result<(), Fail> {
 #[test]
 fn refuses_a_token_twice(rt: HostRuntime) -> Result<(), Fail> {
     let alloc = rt.alloc();
-    for row in PRODUCTIONS {
+    for row in productions() {
         for (i, token) in row.tokens.iter().enumerate() {
             let text = program_with(alloc, row, i, &[*token, *token])?;
             assert!(rt; i < row.doubled.len());
@@ -451,7 +456,7 @@ fn refuses_a_token_twice(rt: HostRuntime) -> Result<(), Fail> {
 #[test]
 fn refuses_a_token_in_place_of_another(rt: HostRuntime) -> Result<(), Fail> {
     let alloc = rt.alloc();
-    for row in PRODUCTIONS {
+    for row in productions() {
         for (i, token) in row.tokens.iter().enumerate() {
             let other = if *token == "od" { "fi" } else { "od" };
             let text = program_with(alloc, row, i, &[other])?;

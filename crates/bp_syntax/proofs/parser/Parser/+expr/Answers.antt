@@ -1,4 +1,4 @@
-use Rattle.std.proofs.Common.{◌≡◌, ◌∙◌, Some, refl, sym, ap, subst}
+use Rattle.std.proofs.Common.{◌≡◌, ◌∙◌, Some, refl, sym, ap, subst, rules}
 use Rattle.bp_tree.specs.Ast.{Variable, Operation}
 use Rattle.bp_tree.specs.declared.exprs.Op.TheVariants as op
 use Rattle.bp_tree.specs.Views.{expression_of}
@@ -57,3 +57,9 @@ pub unary-returns-in_ok-name-in-Some-Name-clause-reads : goal.unary-returns-in_o
 unary-returns-in_ok-name-in-Some-Name-clause-reads t c next =
     let h : kind_ahead c.args.self.now ≡ Some kind.Name = cc in
     ahead_name next c.args.self.now h ∙ c.in_ok-name-in-Some-Name.ensures.reads (λ n. next (Variable n))
+
+pub binary-returns-in_err-right-clause-reads : goal.binary-returns-in_err-right-clause-reads
+binary-returns-in_err-right-clause-reads t c = search rules
+
+pub binary-loop-op-preserved : goal.binary-loop-op-preserved
+binary-loop-op-preserved t c = search rules

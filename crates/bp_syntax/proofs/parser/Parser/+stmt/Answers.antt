@@ -1,4 +1,4 @@
-use Rattle.std.proofs.Common.{◌≡◌, ◌∙◌, ap, sym, refl, Some, arith}
+use Rattle.std.proofs.Common.{◌≡◌, ◌∙◌, ap, sym, refl, Some, arith, rules}
 use Rattle.bp_tree.specs.Ast.{Block, Then, Skips, Returns}
 use Rattle.bp_tree.specs.Blocks.{statement_of}
 use Rattle.bp_syntax.specs.ParserState.{WordThen, FormThen, GotoThen, IfThen, WhileThen, AssertThen, AssumeThen, PrintThen, StmtsThen, MoreStmts, parse_result, kind_ahead, place_ahead}
@@ -96,3 +96,9 @@ stmts-returns-clause-reads t c next =
     c.loop-alloc.invariant.reads next
     ∙ no_stmt then ts (sym c.loop-alloc-test.ensures)
     ∙ ap (λ b. parse_result (next b) ts) (block_is c.loop-alloc.stmts.items ∙ sym c.new.ensures)
+
+pub stmt-returns-clause-reads : goal.stmt-returns-clause-reads
+stmt-returns-clause-reads t c = search rules
+
+pub branch-returns-clause-reads : goal.branch-returns-clause-reads
+branch-returns-clause-reads t c = search rules
