@@ -1,4 +1,4 @@
-use Rattle.std.proofs.Common.{◌≡◌, ◌+◌, ◌-◌, ap, ◌∙◌, arith, length, [], ◌∷◌, ◌++◌, append_assoc, length-append}
+use Rattle.std.proofs.Common.{◌≡◌, ◌+◌, ◌-◌, ap, ◌∙◌, arith, length, [], ◌∷◌, ◌++◌, append_assoc, length-append, rules}
 use Rattle.std.proofs.lemmas.List.{set_at}
 use Rattle.std.proofs.lemmas.Result.{on_ok_weaker}
 use Rattle.bp_tree.specs.Views.{decision_of}
@@ -114,3 +114,6 @@ note_inside-returns-in_ok-note_block-in-If-clause-labels t c =
     rw c.in-If.is
     (labels_of_both (decision_of c.in-If.field-0) c.in-If.a c.in-If.b x number _ _ (index_in c.args.labels.now x) (index_in c.note_block.new.labels x) (index_in c.note_block-in-If.new.labels x)
     e second (noted.labels x) (labels x))) others
+
+pub note-returns-clause-labels : goal.note-returns-clause-labels
+note-returns-clause-labels t c = search rules
