@@ -29,7 +29,7 @@ const ABOUT: &str = "Drives a program by a schedule and prints the trace of the 
 const NOTES: &str = "\
     A line of the schedule is 'THREAD BIT': the number of a thread, and the choice bit of its call.\n\
     The first fault is one line on standard error.\n\n\
-    Example:\n  btrun drive race.bp race.txt a b --contexts 3 --init 0\n\n\
+    Example:\n  btrun drive race.bp race.txt writer reader --init 00\n\n\
     Exit status:\n  0  done, and no assertion failed\n  1  an assertion failed\n  \
     2  an input was refused, or the words were\n  3  memory, a device or the output failed";
 
