@@ -1,6 +1,6 @@
 //! The words of `drive`.
 ghost use Rattle.std.specs.Prelude.{◌≡◌, false, codes, map, string_bytes, option_map, IfOk};
-ghost use Rattle.clap.specs.Words.{all_of, app_of, first_of, found_of, one_of, rows_of, subcommand_rows_of};
+ghost use Rattle.clap.specs.Words.{app_of, first_of, found_of, one_of, rows_of, subcommand_rows_of};
 ghost use Rattle.clap.specs.declared.builder.command.Command.TheViews.{out-Command};
 ghost use Rattle.btrun.specs.Commands.{drive_app};
 ghost use Rattle.btrun.specs.DriveWords.{bits_in, entries_in, has_bad_bits, has_bad_init, is_bits, IsDriveOf, IsNumberOf};
@@ -19,6 +19,7 @@ pub struct DriveWords<'a> {
     pub program: &'a str,
     /// The file of the schedule.
     pub schedule: &'a str,
+    /// What the run starts from.
     pub options: DriveOptions,
 }
 
