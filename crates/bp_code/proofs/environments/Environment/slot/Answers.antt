@@ -1,4 +1,4 @@
-use Rattle.std.proofs.Common.{sym, ◌∙◌, arith}
+use Rattle.std.proofs.Common.{sym, ◌∙◌, arith, rules}
 use Rattle.bp_code.proofs.FirstNames.{first_within}
 use Rattle.bp_code.proofs.environments.Environment.slot.Goals as goal
 
@@ -27,3 +27,6 @@ new-requires-in-None c =
     let within = first_within c.text-in-None.result.now c.unwrap-index.result c.args.self.now.globals.now found in
     let few = c.args.self.now.few_globals in
     omega arith
+
+pub returns-in-Some : goal.returns-in-Some
+returns-in-Some c = search rules
