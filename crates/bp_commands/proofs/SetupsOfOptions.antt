@@ -19,7 +19,7 @@ module _ (given : Option (Vec Bool Global)) (now : Option (List Bool)) (r : List
 
 -- what is known of the setup of these parts is known of the setup under the options
 pub setup_answered : (o : OptionsOf) (t : Program) (c : Flat) (given : SetupOf) (r : Result SetupOf SetupFault) → given ≡ setup_under o t
-    → MatchResult r (λ s. (s ≡ given) × (setup_fault t given ≡ None)) (IsSetupRefusal t given) → IfOk r (λ s. FitsCode c s × IsInRange s)
+    → MatchResult r (λ s. (s ≡ given) × (setup_fault t given ≡ None)) (IsSetupRefusal t given) → IfOk r (λ s. FitsCode c s × IsInRange s × (s.seed ≡ None))
     → MatchResult r (IsSetupUnder o t c) (IsSetupRefusal t (setup_under o t))
 setup_answered o t c given (Ok s) same answer taken = record {
   is = answer.0 ∙ same;

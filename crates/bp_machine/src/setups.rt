@@ -226,7 +226,7 @@ impl Setup {
             → MatchResult result
             (λ s. (s ≡ given) × (setup_fault t given ≡ None))
             (IsSetupRefusal t given) }
-        ensures taken { IfOk result (λ s. FitsCode code.now s × IsInRange s) }
+        ensures taken { IfOk result (λ s. FitsCode code.now s × IsInRange s × (s.seed ≡ seed)) }
     {
         code.is_of_a_program();
         match fault_of_setup(code, entries, init, contexts, calls) {

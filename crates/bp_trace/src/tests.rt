@@ -1,7 +1,7 @@
 //! Schedules of a small program, and their traces.
 mod examples;
 
-ghost use Rattle.std.specs.Prelude.{IfOk};
+ghost use Rattle.std.specs.Prelude.{◌≡◌, None, IfOk};
 ghost use Rattle.bp_machine.specs.Setups.{FitsCode};
 
 use crate::schedules::line_at;
@@ -29,7 +29,7 @@ fn code_of(alloc: Global, text: &[u8]) -> Result<Code, Fail> {
 }
 
 fn setup_of(alloc: Global, code: &Code) -> Result<Setup, Fail>
-    ensures { IfOk result (FitsCode code.now) }
+    ensures { IfOk result (λ s. FitsCode code.now s × (s.seed ≡ None)) }
 {
     let entries = vec![in alloc; String::from_str(alloc, "main")?]?;
     Ok(Setup::new(alloc, code, &entries, &[false], 2, 1000, None)?)

@@ -1,5 +1,5 @@
 //! Worked examples, each with the end of its trace or its refusal.
-ghost use Rattle.std.specs.Prelude.{IfOk};
+ghost use Rattle.std.specs.Prelude.{◌≡◌, None, IfOk};
 ghost use Rattle.bp_machine.specs.Setups.{FitsCode};
 
 use super::{code_of, repeated};
@@ -20,7 +20,7 @@ struct Example {
 }
 
 fn setup_of(alloc: Global, code: &Code, example: Example) -> Result<Setup, Fail>
-    ensures { IfOk result (FitsCode code.now) }
+    ensures { IfOk result (λ s. FitsCode code.now s × (s.seed ≡ None)) }
 {
     let mut entries = Vec::new(alloc);
     for entry in example.entries {
