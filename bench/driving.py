@@ -6,10 +6,13 @@ Usage: bench/driving.py [PROGRAM [RUNS]]
 PROGRAM is the built program, crates/btrun/out/btrun if left out. 64 threads make 50,000 calls each, in ten rounds
 of 5,000 calls a thread. Three runs tell the parts apart: over a program that is refused once both files are read;
 over a schedule whose last line is refused, so that all calls are played and nothing is printed; and the whole run,
-printed to /dev/null. Each time is the least of RUNS runs, each memory the most of them.
+printed to /dev/null. The yardstick is bench/plain/drive.rs, a plain Rust program without proofs, where rustc is there
+to build it; its trace has to be the same. Each time is the least of RUNS runs, each memory the most of them.
 """
+import filecmp
 import itertools
 import os
+import shutil
 import subprocess
 import sys
 import tempfile
@@ -52,9 +55,23 @@ def worst(command, wanted, runs):
     return min(spent for _, spent, _ in results), max(memory for _, _, memory in results)
 
 
+def yardstick(source, command, runs):
+    """Seconds and megabytes of the plain program, which prints the same trace; nothing without rustc."""
+    if not shutil.which("rustc"):
+        return None
+    subprocess.run(["rustc", "--edition", "2021", "-O", "-o", "plain", source], check=True)
+    plain = ["./plain", "s.txt", str(THREADS), "1000", "100000"]
+    with open("a.txt", "wb") as first, open("b.txt", "wb") as second:
+        subprocess.run(command, check=True, stdout=first)
+        subprocess.run(plain, check=True, stdout=second)
+    assert filecmp.cmp("a.txt", "b.txt", shallow=False)
+    return worst(plain, 0, runs)
+
+
 def main():
     program = os.path.abspath(sys.argv[1] if len(sys.argv) > 1 else "crates/btrun/out/btrun")
     runs = int(sys.argv[2]) if len(sys.argv) > 2 else 5
+    source = os.path.join(os.path.dirname(os.path.abspath(__file__)), "plain", "drive.rs")
     with tempfile.TemporaryDirectory() as folder:
         os.chdir(folder)
         write("p.bp", [PROGRAM])
@@ -65,6 +82,7 @@ def main():
         read = worst([program, "drive", "bad.bp", "s.txt", *words], 2, runs)
         played = worst([program, "drive", "p.bp", "bad.txt", *words], 2, runs)
         whole = worst([program, "drive", "p.bp", "s.txt", *words], 0, runs)
+        plain = yardstick(source, [program, "drive", "p.bp", "s.txt", *words], runs)
     count = THREADS * ROUNDS * CALLS
     print("%d lines, %d bytes" % (count, size))
     print("%-22s %7s %7s %17s" % ("", "seconds", "MB", "nanoseconds/line"))
@@ -73,6 +91,8 @@ def main():
         "read and played": played,
         "read, played, printed": whole,
     }
+    if plain:
+        kinds["plain Rust"] = plain
     for kind, (spent, memory) in kinds.items():
         print("%-22s %7.2f %7.0f %17.1f" % (kind, spent, memory, spent * 1e9 / count))
 
