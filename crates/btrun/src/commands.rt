@@ -35,7 +35,8 @@ const NOTES: &str = "\
     Without a command standard input is a bundle: a program, a line '%', and a schedule of lines\n\
     'THREAD BIT'. One thread begins with 'main', all globals are 0, and at most 2 contexts and\n\
     1000 calls are allowed. The trace of the run is printed.\n\n\
-    Examples:\n  btrun < FILE\n  btrun check FILE\n  btrun code FILE\n  btrun drive FILE SCHEDULE\n\n\
+    Examples:\n  btrun < FILE\n  btrun check FILE\n  btrun code FILE\n  \
+    btrun drive FILE SCHEDULE\n\n\
     Exit status:\n  0  done, and no assertion failed\n  1  an assertion failed\n  \
     2  the input or the words were refused\n  3  memory, a device or the output failed";
 

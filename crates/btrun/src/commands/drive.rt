@@ -28,7 +28,8 @@ const ABOUT: &str = "Drives a program by a schedule and prints the trace of the 
 
 /// What `drive --help` says behind the arguments.
 const NOTES: &str = "\
-    A line of the schedule is 'THREAD BIT': the number of a thread, and the choice bit of its call.\n\
+    A line of the schedule is 'THREAD BIT': the number of a thread, and the choice bit \
+    of its call.\n\
     The first fault is one line on standard error.\n\n\
     Example:\n  btrun drive race.bp race.txt writer reader --init 00\n\n\
     Exit status:\n  0  done, and no assertion failed\n  1  an assertion failed\n  \
