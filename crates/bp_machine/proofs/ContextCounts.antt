@@ -11,6 +11,14 @@ pub opened : Option ℕ → List ℕ → ℕ
 opened l [] = 0
 opened l (t ∷ ts) = contexts_opened l t + opened (Some t) ts
 
+pub opened_none : (l : Option ℕ) → opened l [] ≡ 0
+unfolding opened
+opened_none l = refl
+
+pub opened_more : (l : Option ℕ) (t : ℕ) (ts : List ℕ) → opened l (t ∷ ts) ≡ contexts_opened l t + opened (Some t) ts
+unfolding opened
+opened_more l t ts = refl
+
 opened_same : (i : ℕ) → contexts_opened (Some i) i ≡ 0
 opened_same i = grind (arith, nat_tests)
 

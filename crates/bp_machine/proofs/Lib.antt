@@ -7,6 +7,7 @@ pub mod GrantedSteps
 pub mod HistoryWithCall
 pub mod LegalLength
 pub mod OneCodeOneMeaning
+pub mod NamesOfEntries
 pub mod OpenLines
 pub mod OutcomeWithCall
 pub mod PreparedSessions

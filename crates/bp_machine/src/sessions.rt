@@ -189,7 +189,7 @@ impl Session {
         ensures kept { (self.new.code ≡ self.old.code) × (self.new.setup ≡ self.old.setup) }
         ensures same { OnErr result (self.new ≡ self.old) }
     {
-        let call = self.prepare_with(thread, Some(bit))?;
+        let call = self.prepare_with(thread, bit)?;
         self.commit(&call);
         Ok(call)
     }
@@ -211,7 +211,26 @@ impl Session {
         ensures kept { (self.new.code ≡ self.old.code) × (self.new.setup ≡ self.old.setup) }
         ensures same { OnErr result (self.new ≡ self.old) }
     {
-        self.prepare_with(thread, None)
+        self.prepare_given(thread, None)
+    }
+
+    /// The same where the setup has no seed: answers the call that `ask_with` would answer.
+    pub fn prepare_with(&mut self, thread: u32, bit: bool) -> Result<Call, AskFault>
+        ensures answer { (t : Program) (h : List Answered)
+            → StandsFor self.old.code t
+            → Stands t self.old h
+            → MatchResult result
+            (IsNextCall t self.old.setup h thread (Some bit))
+            (IsAskRefusal t self.old.setup h thread (Some bit)) }
+        ensures asked { IfOk result (λ c. (c.thread ≡ thread) × (c.bit ≡ bit)) }
+        ensures stands { (t : Program) (h : List Answered)
+            → Stands t self.old h
+            → Stands t self.new h }
+        ensures ready { IfOk result (λ c. self.new.ready ≡ Some c) }
+        ensures kept { (self.new.code ≡ self.old.code) × (self.new.setup ≡ self.old.setup) }
+        ensures same { OnErr result (self.new ≡ self.old) }
+    {
+        self.prepare_given(thread, Some(bit))
     }
 
     /// Makes the call that the session is prepared for.
@@ -355,7 +374,7 @@ impl Session {
     }
 
     /// Prepares a call of the thread, where this bit or none is handed in.
-    fn prepare_with(&mut self, thread: u32, given: Option<bool>) -> Result<Call, AskFault>
+    fn prepare_given(&mut self, thread: u32, given: Option<bool>) -> Result<Call, AskFault>
         ensures answer { (t : Program) (h : List Answered)
             → StandsFor self.old.code t
             → Stands t self.old h

@@ -8,7 +8,7 @@ use Rattle.bp_machine.specs.Sessions.{SessionOf, IsInOrder}
 use Rattle.bp_machine.specs.KeptSessions.{IsPrepared, session_of}
 use Rattle.bp_machine.proofs.SessionAnswers.{given_bit, judged_next, refused_after, refused_for_memory}
 use Rattle.bp_machine.proofs.PreparedSessions.{still_stands, still_ready, is_prepared}
-use Rattle.bp_machine.proofs.sessions.Session.prepare_with.Goals as goal
+use Rattle.bp_machine.proofs.sessions.Session.prepare_given.Goals as goal
 
 abbrev AllAlike : SessionOf → Type 0
 AllAlike x = (t : Program) → StandsFor x.code t → StepsAlike x.code t
