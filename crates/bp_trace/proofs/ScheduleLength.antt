@@ -13,7 +13,7 @@ use Rattle.bp_trace.specs.declared.limits.TheConstants.{MAX_SCHEDULE}
 use Rattle.bp_trace.specs.Schedules.{bit_digit, line_text, schedule_text, line_of_call, lines_of_history}
 use Rattle.bp_trace.proofs.ScheduleLineAt.{one_digit, both_digits}
 
-few_digits : (n : ℕ) → n < 100 → length (decimal n) ≤ 2
+pub few_digits : (n : ℕ) → n < 100 → length (decimal n) ≤ 2
 few_digits n h = elim (cases_lt n 10) [
   | inl less ↦ omega (arith, one_digit n less)
   | inr more ↦ omega (arith, both_digits n more h)

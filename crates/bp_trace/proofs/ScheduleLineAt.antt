@@ -101,7 +101,7 @@ reads (a ∷ b ∷ bs) t e = cases (digit_of a) refl (digit_of b) refl e
     cases (Some n) ea None eb e = let same : n ≡ t = cc in subst (λ x. IsRead (a ∷ b ∷ bs) x) same (read_one a n (b ∷ bs) ea)
     cases (Some n) ea (Some m) eb e = let same : cond (n == 0) n (10 * n + m) ≡ t = cc in zero_or n m ea eb (n == 0) refl same
 
-drop_front : (xs ys : List ℕ) → drop (length xs) (xs ++ ys) ≡ ys
+pub drop_front : (xs ys : List ℕ) → drop (length xs) (xs ++ ys) ≡ ys
 drop_front [] ys = refl
 drop_front (x ∷ xs) ys = drop_front xs ys
 

@@ -1,10 +1,15 @@
--- Laws of schedules.
-use Rattle.std.specs.Prelude.{◌≡◌, ℕ, List}
+-- Laws of schedules and traces.
+use Rattle.std.specs.Prelude.{◌≡◌, ℕ, List, length, map}
 use Rattle.bp_tree.specs.Ast.{Program}
 use Rattle.bp_machine.specs.declared.calls.Call.{Call}
+use Rattle.bp_machine.specs.Contexts.{IsLeastWithin}
 use Rattle.bp_machine.specs.Setups.{SetupOf, IsInRange}
 use Rattle.bp_machine.specs.Histories.{IsLegal}
+use Rattle.bp_trace.specs.Pieces.{calls_of_pieces, pieces_of}
 use Rattle.bp_trace.specs.Schedules.{schedule_text, lines_of_history}
+use Rattle.bp_trace.specs.declared.versions.Version.{Version}
+use Rattle.bp_trace.specs.TraceText.{text_of}
+use Rattle.bp_trace.specs.Writable.{IsWritable}
 use Rattle.bp_trace.specs.Drives.{IsDriven, IsBadLine, IsAfterFinish}
 
 -- the schedule drives to this history, to no other, and no line of it is refused
@@ -21,3 +26,20 @@ LinesDriveAgain =
     → IsInRange s
     → IsLegal t s h
     → DrivesTo t s (schedule_text (lines_of_history h)) h
+
+-- the pieces of a history are its calls, cut into the fewest lists of one thread each
+pub record AreItsPieces (h : List Call) : Type 0 where
+  pub whole : calls_of_pieces (pieces_of h) ≡ h
+  pub fewest : IsLeastWithin (length (pieces_of h)) (map (λ x. x.thread) h)
+
+abbrev pub PiecesAreFewest : Type 0
+PiecesAreFewest = (h : List Call) → AreItsPieces h
+
+-- no two triples of version, setup and history have one text
+abbrev pub NoTwoHaveOneText : Type 0
+NoTwoHaveOneText =
+    (v w : Version) (s r : SetupOf) (h g : List Call)
+    → IsWritable s h
+    → IsWritable r g
+    → text_of v s h ≡ text_of w r g
+    → (v ≡ w) × (s ≡ r) × (h ≡ g)

@@ -1,6 +1,15 @@
 pub mod Drives
+pub mod EndReading
+pub mod Heads
+pub mod Judging
 pub mod Laws
 pub mod LinePlays
+pub mod Pieces
+pub mod ReplayFaults
+pub mod Replays
 pub mod ScheduleReading
 pub mod Schedules
+pub mod TraceReading
 pub mod TraceText
+pub mod TurnTexts
+pub mod Writable

@@ -1,11 +1,14 @@
--- The text of a trace: a setup and a history.
+-- The texts of a trace: a setup and a history, in either version.
 use Rattle.std.specs.Prelude.{ℕ, Bool, List, [], ◌∷◌, ◌++◌, Option, None, Some, length, map, flat_map, codes, decimal}
 use Rattle.std.specs.List.{concat}
 use Rattle.bp_machine.specs.declared.calls.Call.{Call}
 use Rattle.bp_machine.specs.Setups.{SetupOf}
 use Rattle.bp_machine.specs.Histories.{open_lines}
 use Rattle.bp_machine.specs.Replies.{letter_of}
+use Rattle.bp_trace.specs.declared.versions.Version.{Version}
+use Rattle.bp_trace.specs.declared.versions.Version.TheVariants.{One, Two}
 use Rattle.bp_trace.specs.Schedules.{bit_digit}
+use Rattle.bp_trace.specs.Pieces.{Turn, Piece, pieces_of}
 
 abbrev pub entry_line : List ℕ → List ℕ
 entry_line name = codes "entry " ++ (name ++ codes "\n")
@@ -29,10 +32,15 @@ limit_lines s = concat (
     ∷ codes "\nseed " ∷ seed_word s.seed
     ∷ codes "\n" ∷ [])
 
-abbrev pub head_text : SetupOf → List ℕ
-head_text s =
-    codes "btrace 1\n"
-    ++ (flat_map entry_line s.entries ++ (init_line s.init ++ limit_lines s))
+abbrev pub version_line : Version → List ℕ
+version_line One = codes "btrace 1\n"
+version_line Two = codes "btrace 2\n"
+
+abbrev pub setup_lines : SetupOf → List ℕ
+setup_lines s = flat_map entry_line s.entries ++ (init_line s.init ++ limit_lines s)
+
+abbrev pub head_text : Version → SetupOf → List ℕ
+head_text v s = version_line v ++ setup_lines s
 
 -- the thread, the choice bit and the letter of the reply
 abbrev pub call_line : Call → List ℕ
@@ -45,5 +53,25 @@ end_line calls left_open = concat (
     ∷ codes " " ∷ decimal left_open
     ∷ codes "\n" ∷ [])
 
+-- the choice bit and the letter of the reply
+abbrev pub turn_text : Turn → List ℕ
+turn_text x = bit_digit x.bit ∷ letter_of x.reply ∷ []
+
+-- the thread, and its turns with nothing between them
+abbrev pub piece_line : Piece → List ℕ
+piece_line p =
+    decimal p.thread ++ 32 ∷ (flat_map turn_text (p.first ∷ p.others) ++ codes "\n")
+
+-- a line for each call, or one for each piece
+abbrev pub calls_text : Version → List Call → List ℕ
+calls_text One h = flat_map call_line h
+calls_text Two h = flat_map piece_line (pieces_of h)
+
+abbrev pub text_of : Version → SetupOf → List Call → List ℕ
+text_of v s h = head_text v s ++ (calls_text v h ++ end_line (length h) (open_lines s h))
+
 abbrev pub trace_text : SetupOf → List Call → List ℕ
-trace_text s h = head_text s ++ (flat_map call_line h ++ end_line (length h) (open_lines s h))
+trace_text s h = text_of One s h
+
+abbrev pub trace_text_2 : SetupOf → List Call → List ℕ
+trace_text_2 s h = text_of Two s h

@@ -15,6 +15,7 @@ use crate::faults::DriveFault;
 use crate::limits::MAX_SCHEDULE;
 use crate::schedules::{ScheduleLine, line_at, text_from};
 use crate::traces::write_with_open_lines;
+use crate::versions::Version;
 use bp_code::Code;
 use bp_machine::{AskFault, Call, Report, Session, Setup};
 use std::alloc::Global;
@@ -117,6 +118,6 @@ pub fn drive<W: Write>(
     let mut session = Session::new(alloc, code, setup)?;
     let calls = play(alloc, &mut session, setup.threads(), schedule)?;
     let report = session.report();
-    write_with_open_lines(setup, calls.as_slice(), report.left_open, out)?;
+    write_with_open_lines(Version::One, setup, calls.as_slice(), report.left_open, out)?;
     Ok(report)
 }

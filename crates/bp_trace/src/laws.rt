@@ -1,8 +1,20 @@
-//! Laws of schedules. These functions do nothing: their contracts are the laws.
-ghost use Rattle.bp_trace.specs.Laws.{LinesDriveAgain};
+//! Laws of schedules and traces. These functions do nothing: their contracts are the laws.
+ghost use Rattle.bp_trace.specs.Laws.{LinesDriveAgain, NoTwoHaveOneText, PiecesAreFewest};
 
 /// The lines of the calls of a legal history, each a thread and a choice bit, drive its program to
 /// that history: no other history is legal along them, and no line of them is refused.
 pub fn lines_drive_again()
     ensures { LinesDriveAgain }
+{}
+
+/// The pieces of a history, which are the lines of its trace in version 2, are its calls, cut into
+/// the fewest lists of one thread each.
+pub fn pieces_are_fewest()
+    ensures { PiecesAreFewest }
+{}
+
+/// No two triples of version, setup and history have one text, where names have no line feed and
+/// numbers have 64 bits.
+pub fn no_two_have_one_text()
+    ensures { NoTwoHaveOneText }
 {}

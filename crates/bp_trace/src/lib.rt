@@ -3,16 +3,25 @@
 #![tactic(auto)]
 
 mod driving;
+mod end_lines;
 mod faults;
+mod judging;
 mod laws;
 pub mod limits;
+mod pieces;
+mod replay_faults;
 mod schedules;
 #[cfg(test)]
 mod tests;
+mod trace_lines;
 mod traces;
+mod versions;
 
 pub use driving::drive;
 pub use faults::DriveFault;
-pub use laws::lines_drive_again;
+pub use judging::Printed;
+pub use laws::{lines_drive_again, no_two_have_one_text, pieces_are_fewest};
+pub use replay_faults::ReplayFault;
 pub use schedules::ScheduleLine;
-pub use traces::{write_call, write_end, write_head, write_trace};
+pub use traces::{write_call, write_end, write_head, write_trace, write_trace2};
+pub use versions::Version;

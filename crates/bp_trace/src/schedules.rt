@@ -13,7 +13,7 @@ pub struct ScheduleLine {
 }
 
 /// How many digits the number of a thread has.
-fn digit_count(thread: u32) -> usize
+pub(crate) fn digit_count(thread: u32) -> usize
     requires { thread < 100 }
     ensures value { result ≡ length (decimal thread) }
     ensures small { result ≤ 2 }
@@ -43,7 +43,7 @@ fn digit(byte: u8) -> Option<u32>
 }
 
 /// The number at the front of the text, of two digits where it can be.
-fn number_at(text: &[u8]) -> Option<u32>
+pub(crate) fn number_at(text: &[u8]) -> Option<u32>
     ensures { result ≡ number_at text.now }
 {
     let first = digit(*text.first()?)?;

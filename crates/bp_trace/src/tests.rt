@@ -1,5 +1,6 @@
 //! Schedules of a small program, and their traces.
 mod examples;
+mod versions;
 
 ghost use Rattle.std.specs.Prelude.{◌≡◌, None, IfOk};
 ghost use Rattle.bp_machine.specs.Setups.{FitsCode};

@@ -4,8 +4,10 @@ ghost use Rattle.bp_check.specs.declared.limits.TheConstants.{MAX_GLOBALS};
 ghost use Rattle.bp_code.specs.Writing.{Writes};
 ghost use Rattle.bp_machine.specs.Histories.{open_lines};
 ghost use Rattle.bp_trace.specs.Schedules.{bit_digit};
-ghost use Rattle.bp_trace.specs.TraceText.{entry_line, init_digits, init_line, limit_lines, head_text, call_line, end_line, trace_text};
+ghost use Rattle.bp_trace.specs.TraceText.{entry_line, init_digits, init_line, limit_lines, version_line, head_text, call_line, end_line, calls_text, text_of, trace_text, trace_text_2};
 
+use crate::pieces::write_pieces;
+use crate::versions::Version;
 use bp_code::{WriteFault, put, put_each};
 use bp_machine::{Call, Setup, open_lines};
 use itoa::Buffer;
@@ -94,15 +96,34 @@ fn write_limits<W: Write>(setup: &Setup, out: &mut W) -> Result<(), WriteFault>
     )
 }
 
-/// Writes the head of a trace: the setup.
-pub fn write_head<W: Write>(setup: &Setup, out: &mut W) -> Result<(), WriteFault>
-    ensures { Writes (W.contents out.old) (W.contents out.new) (head_text setup.now) result }
+/// The line of a version.
+fn version_line(version: Version) -> &'static [u8]
+    ensures { result.now ≡ version_line version }
+{
+    match version {
+        Version::One => b"btrace 1\n",
+        Version::Two => b"btrace 2\n",
+    }
+}
+
+/// Writes the head of a trace of this version: the setup.
+fn write_head_of<W: Write>(version: Version, setup: &Setup, out: &mut W) -> Result<(), WriteFault>
+    ensures { Writes (W.contents out.old) (W.contents out.new)
+        (head_text version setup.now) result }
 {
     setup.is_in_range();
-    put(out, b"btrace 1\n")?;
+    put(out, version_line(version))?;
     write_entries(setup, out)?;
     write_init(setup, out)?;
     write_limits(setup, out)
+}
+
+/// Writes the head of a trace: the setup.
+pub fn write_head<W: Write>(setup: &Setup, out: &mut W) -> Result<(), WriteFault>
+    ensures { Writes (W.contents out.old) (W.contents out.new)
+        (head_text Version.One setup.now) result }
+{
+    write_head_of(Version::One, setup, out)
 }
 
 /// Writes the line of a call.
@@ -137,8 +158,24 @@ fn write_calls<W: Write>(history: &[Call], out: &mut W) -> Result<(), WriteFault
     Ok(())
 }
 
-/// Writes the trace of a history with so many open lines.
+/// Writes the calls of a history in this version.
+fn write_history<W: Write>(
+    version: Version,
+    history: &[Call],
+    out: &mut W,
+) -> Result<(), WriteFault>
+    ensures { Writes (W.contents out.old) (W.contents out.new)
+        (calls_text version history.now) result }
+{
+    match version {
+        Version::One => write_calls(history, out),
+        Version::Two => write_pieces(history, out),
+    }
+}
+
+/// Writes the trace of a history with so many open lines, in this version.
 pub(crate) fn write_with_open_lines<W: Write>(
+    version: Version,
     setup: &Setup,
     history: &[Call],
     left_open: u32,
@@ -146,10 +183,10 @@ pub(crate) fn write_with_open_lines<W: Write>(
 ) -> Result<(), WriteFault>
     requires { left_open ≡ open_lines setup.now history.now }
     ensures { Writes (W.contents out.old) (W.contents out.new)
-        (trace_text setup.now history.now) result }
+        (text_of version setup.now history.now) result }
 {
-    write_head(setup, out)?;
-    write_calls(history, out)?;
+    write_head_of(version, setup, out)?;
+    write_history(version, history, out)?;
     write_end(history.len() as u64, left_open, out)
 }
 
@@ -159,5 +196,18 @@ pub fn write_trace<W: Write>(setup: &Setup, history: &[Call], out: &mut W) -> Re
         (trace_text setup.now history.now) result }
 {
     let left_open = open_lines(setup, history);
-    write_with_open_lines(setup, history, left_open, out)
+    write_with_open_lines(Version::One, setup, history, left_open, out)
+}
+
+/// Writes the trace of a setup and a history in version 2.
+pub fn write_trace2<W: Write>(
+    setup: &Setup,
+    history: &[Call],
+    out: &mut W,
+) -> Result<(), WriteFault>
+    ensures { Writes (W.contents out.old) (W.contents out.new)
+        (trace_text_2 setup.now history.now) result }
+{
+    let left_open = open_lines(setup, history);
+    write_with_open_lines(Version::Two, setup, history, left_open, out)
 }

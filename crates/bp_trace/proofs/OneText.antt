@@ -1,0 +1,281 @@
+-- No two triples of version, setup and history have one text.
+use Rattle.std.proofs.Common.{◌≡◌, ℕ, ◌<◌, ◌≤◌, ◌^◌, ◌==◌, Bool, true, false, cond, List, [], ◌∷◌, ◌++◌, length, map, flat_map, Option, None, Some, refl, sym, ap, ◌∙◌, arith, append_assoc, codes, decimal}
+use Rattle.std.specs.Prelude.{if◌then◌else◌}
+use Rattle.std.specs.List.{AllByRecursion}
+use Rattle.std.proofs.lemmas.List.{append-nil}
+use Rattle.std.proofs.lemmas.Fmt.{decimal_injective}
+use Rattle.bp_machine.specs.declared.calls.Call.{Call}
+use Rattle.bp_machine.specs.declared.calls.Reply.{Reply}
+use Rattle.bp_machine.specs.declared.calls.Reply.TheVariants.{Stopped, Ended, NoContexts, Full, Blocked, Failed, Stepped}
+use Rattle.bp_machine.specs.Setups.{SetupOf, setup_of}
+use Rattle.bp_machine.specs.Replies.{letter_of}
+use Rattle.bp_trace.specs.Schedules.{bit_digit}
+use Rattle.bp_machine.specs.Histories.{open_lines}
+use Rattle.bp_trace.specs.declared.versions.Version.{Version}
+use Rattle.bp_trace.specs.declared.versions.Version.TheVariants.{One, Two}
+use Rattle.bp_trace.specs.Pieces.{Turn, Piece, piece_of, with_call, pieces_of, calls_of_pieces}
+use Rattle.bp_trace.specs.TraceText.{version_line, entry_line, init_digits, init_line, seed_word, limit_lines, setup_lines, call_line, turn_text, piece_line, calls_text, end_line, text_of}
+use Rattle.bp_trace.proofs.PiecesAreFewest.{pieces_whole}
+use Rattle.bp_trace.specs.Writable.{Without, IsWritable}
+use Rattle.bp_trace.proofs.Cuts.{same_head, one_cut, decimal_without, one_number, number_begins}
+
+one_digit : (a b : Bool) → bit_digit a ≡ bit_digit b → a ≡ b
+one_digit true true e = refl
+one_digit false false e = refl
+one_digit true false e = absurd (omega arith)
+one_digit false true e = absurd (omega arith)
+
+-- the reply of a letter
+reply_of_letter : ℕ → Reply
+reply_of_letter n =
+    if n == 120 then Stopped
+    else if n == 101 then Ended
+    else if n == 110 then NoContexts
+    else if n == 117 then Full
+    else if n == 98 then Blocked
+    else if n == 102 then Failed
+    else Stepped
+
+letter_again : (r : Reply) → reply_of_letter (letter_of r) ≡ r
+unfolding reply_of_letter
+letter_again Stopped = refl
+letter_again Ended = refl
+letter_again NoContexts = refl
+letter_again Full = refl
+letter_again Blocked = refl
+letter_again Failed = refl
+letter_again Stepped = refl
+
+one_letter : (a b : Reply) → letter_of a ≡ letter_of b → a ≡ b
+one_letter a b e = sym (letter_again a) ∙ ap reply_of_letter e ∙ letter_again b
+
+front_cut : (front a b : List ℕ) → front ++ a ≡ front ++ b → a ≡ b
+front_cut [] a b e = e
+front_cut (c ∷ front) a b e = front_cut front a b (same_head c c (front ++ a) (front ++ b) e).1
+
+-- ---- the head
+
+entry_then : (name rest : List ℕ) → entry_line name ++ rest ≡ codes "entry " ++ (name ++ 10 ∷ rest)
+entry_then name rest = ap (λ t. codes "entry " ++ t) (append_assoc name (codes "\n") rest)
+
+entries_alike : (es fs : List (List ℕ)) (x y : List ℕ) → AllByRecursion (Without 10) es → AllByRecursion (Without 10) fs
+    → flat_map entry_line es ++ (105 ∷ x) ≡ flat_map entry_line fs ++ (105 ∷ y) → (es ≡ fs) × (x ≡ y)
+entries_alike [] [] x y p q e = (refl, (same_head _ _ _ _ e).1)
+entries_alike [] (f ∷ fs) x y p q e = absurd (omega (arith, (same_head _ _ _ _ e).0))
+entries_alike (n ∷ es) [] x y p q e = absurd (omega (arith, (same_head _ _ _ _ e).0))
+entries_alike (n ∷ es) (f ∷ fs) x y p q e =
+    let left = append_assoc (entry_line n) (flat_map entry_line es) (105 ∷ x) ∙ entry_then n (flat_map entry_line es ++ (105 ∷ x)) in
+    let right = append_assoc (entry_line f) (flat_map entry_line fs) (105 ∷ y) ∙ entry_then f (flat_map entry_line fs ++ (105 ∷ y)) in
+    let cut = one_cut 10 n f (flat_map entry_line es ++ (105 ∷ x)) (flat_map entry_line fs ++ (105 ∷ y)) p.0 q.0 (front_cut (codes "entry ") _ _ (sym left ∙ e ∙ right)) in
+    let rest = entries_alike es fs x y p.1 q.1 cut.1 in
+    (cc (cut.0, rest.0), rest.1)
+
+digit_high : (b : Bool) → 48 ≤ bit_digit b
+digit_high true = omega arith
+digit_high false = omega arith
+
+bits_without : (bs : List Bool) → Without 10 (map bit_digit bs)
+bits_without [] = tt
+bits_without (b ∷ bs) = (λ e. absurd (omega (arith, digit_high b, e)), bits_without bs)
+
+init_without : (bs : List Bool) → Without 10 (init_digits bs)
+init_without [] = (λ e. absurd (omega (arith, e)), tt)
+init_without (b ∷ bs) = bits_without (b ∷ bs)
+
+one_bits : (cs bs : List Bool) → map bit_digit cs ≡ map bit_digit bs → cs ≡ bs
+one_bits [] [] e = refl
+one_bits [] (b ∷ bs) e = absurd cc
+one_bits (a ∷ cs) [] e = absurd cc
+one_bits (a ∷ cs) (b ∷ bs) e =
+    let heads = same_head (bit_digit a) (bit_digit b) (map bit_digit cs) (map bit_digit bs) e in
+    cc (one_digit a b heads.0, one_bits cs bs heads.1)
+
+one_init : (cs bs : List Bool) → init_digits cs ≡ init_digits bs → cs ≡ bs
+one_init [] [] e = refl
+one_init [] (b ∷ bs) e = absurd (omega (arith, digit_high b, (same_head _ _ _ _ e).0))
+one_init (a ∷ cs) [] e = absurd (omega (arith, digit_high a, (same_head _ _ _ _ e).0))
+one_init (a ∷ cs) (b ∷ bs) e = one_bits (a ∷ cs) (b ∷ bs) e
+
+init_then : (bs : List Bool) (rest : List ℕ) → init_line bs ++ rest ≡ codes "init " ++ (init_digits bs ++ 10 ∷ rest)
+init_then bs rest = ap (λ t. codes "init " ++ t) (append_assoc (init_digits bs) (codes "\n") rest)
+
+init_alike : (cs bs : List Bool) (x y : List ℕ) → init_line cs ++ x ≡ init_line bs ++ y → (cs ≡ bs) × (x ≡ y)
+init_alike cs bs x y e =
+    let cut = one_cut 10 (init_digits cs) (init_digits bs) x y (init_without cs) (init_without bs) (front_cut (codes "init ") _ _ (sym (init_then cs x) ∙ e ∙ init_then bs y)) in
+    (one_init cs bs cut.0, cut.1)
+
+abbrev Fits64 : Option ℕ → Type 0
+Fits64 o = (n : ℕ) → o ≡ Some n → n < 2 ^ 64
+
+seed_without : (o : Option ℕ) → Fits64 o → Without 10 (seed_word o)
+seed_without None fits = (λ e. absurd (omega (arith, e)), (λ e. absurd (omega (arith, e)), (λ e. absurd (omega (arith, e)), (λ e. absurd (omega (arith, e)), tt))))
+seed_without (Some n) fits = decimal_without 10 (omega arith) n (fits n refl)
+
+no_word : (n : ℕ) → n < 2 ^ 64 → decimal n ≡ codes "none" → ⊥
+no_word n fits e = number_begins n [] 110 (111 ∷ 110 ∷ 101 ∷ []) fits (omega arith) (append-nil (decimal n) ∙ e)
+
+one_seed : (o r : Option ℕ) → Fits64 o → Fits64 r → seed_word o ≡ seed_word r → o ≡ r
+one_seed None None p q e = refl
+one_seed None (Some n) p q e = absurd (no_word n (q n refl) (sym e))
+one_seed (Some m) None p q e = absurd (no_word m (p m refl) e)
+one_seed (Some m) (Some n) p q e = ap Some (decimal_injective m n (p m refl) (q n refl) e)
+
+limits_then : (s : SetupOf) (rest : List ℕ)
+    → limit_lines s ++ rest ≡ codes "contexts " ++ (decimal s.contexts ++ 10 ∷ (codes "calls " ++ (decimal s.calls ++ 10 ∷ (codes "seed " ++ (seed_word s.seed ++ 10 ∷ rest)))))
+limits_then s rest =
+    ap (λ t. codes "contexts " ++ t)
+    (
+    append_assoc (decimal s.contexts) _ rest
+    ∙ ap (λ t. decimal s.contexts ++ 10 ∷ (codes "calls " ++ t))
+    (append_assoc (decimal s.calls) _ rest ∙ ap (λ t. decimal s.calls ++ 10 ∷ (codes "seed " ++ t)) (append_assoc (seed_word s.seed) (codes "\n") rest))
+    )
+
+-- the numbers of two setups
+record SameLimits (s r : SetupOf) (x y : List ℕ) : Type 0 where
+  contexts : s.contexts ≡ r.contexts
+  calls : s.calls ≡ r.calls
+  seed : s.seed ≡ r.seed
+  rest : x ≡ y
+
+module _ (s r : SetupOf) (h g : List Call) (p : IsWritable s h) (q : IsWritable r g) where
+  limits_alike : (x y : List ℕ) → limit_lines s ++ x ≡ limit_lines r ++ y → SameLimits s r x y
+  limits_alike x y e =
+      let contexts = one_number 10 (omega arith) s.contexts r.contexts _ _ p.contexts q.contexts (front_cut (codes "contexts ") _ _ (sym (limits_then s x) ∙ e ∙ limits_then r y)) in
+      let calls = one_number 10 (omega arith) s.calls r.calls _ _ p.calls q.calls (front_cut (codes "calls ") _ _ contexts.1) in
+      let seed = one_cut 10 (seed_word s.seed) (seed_word r.seed) x y (seed_without s.seed p.seed) (seed_without r.seed q.seed) (front_cut (codes "seed ") _ _ calls.1) in
+      record {
+        contexts = contexts.0;
+        calls = calls.0;
+        seed = one_seed s.seed r.seed p.seed q.seed seed.0;
+        rest = seed.1;
+      }
+
+  same_setup : s.entries ≡ r.entries → s.init ≡ r.init → (x y : List ℕ) → SameLimits s r x y → s ≡ r
+  same_setup entries init x y same =
+      ap (λ e. setup_of e s.init s.contexts s.calls s.seed) entries
+      ∙ ap (λ b. setup_of r.entries b s.contexts s.calls s.seed) init
+      ∙ ap (λ n. setup_of r.entries r.init n s.calls s.seed) same.contexts
+      ∙ ap (λ n. setup_of r.entries r.init r.contexts n s.seed) same.calls
+      ∙ ap (λ o. setup_of r.entries r.init r.contexts r.calls o) same.seed
+
+  setups_alike : (x y : List ℕ) → setup_lines s ++ x ≡ setup_lines r ++ y → (s ≡ r) × (x ≡ y)
+  setups_alike x y e =
+      let left = append_assoc (flat_map entry_line s.entries) (init_line s.init ++ limit_lines s) x in
+      let right = append_assoc (flat_map entry_line r.entries) (init_line r.init ++ limit_lines r) y in
+      let entries = entries_alike s.entries r.entries _ _ p.names q.names (sym left ∙ e ∙ right) in
+      let inits = ap (λ t. 105 ∷ t) entries.1 in
+      let init = init_alike s.init r.init (limit_lines s ++ x) (limit_lines r ++ y) (sym (append_assoc (init_line s.init) (limit_lines s) x) ∙ inits ∙ append_assoc (init_line r.init) (limit_lines r) y) in
+      let limits = limits_alike x y init.1 in
+      (same_setup entries.0 init.0 x y limits, limits.rest)
+
+-- ---- the calls
+
+call_then : (c : Call) (rest : List ℕ) → call_line c ++ rest ≡ decimal c.thread ++ 32 ∷ bit_digit c.bit ∷ 32 ∷ letter_of c.reply ∷ 10 ∷ rest
+call_then c rest = append_assoc (decimal c.thread) _ rest
+
+same_call : (c d : Call) → c.thread ≡ d.thread → c.bit ≡ d.bit → c.reply ≡ d.reply → c ≡ d
+same_call c d thread bit reply = λ i. record { thread = thread i; bit = bit i; reply = reply i }
+
+calls_alike : (h g : List Call) (x y : List ℕ) → AllByRecursion (λ (c : Call). c.thread < 2 ^ 64) h → AllByRecursion (λ (c : Call). c.thread < 2 ^ 64) g
+    → flat_map call_line h ++ (101 ∷ x) ≡ flat_map call_line g ++ (101 ∷ y) → (h ≡ g) × (x ≡ y)
+calls_alike [] [] x y p q e = (refl, (same_head _ _ _ _ e).1)
+calls_alike [] (d ∷ g) x y p q e =
+    absurd (number_begins d.thread _ 101 x q.0 (omega arith) (sym (append_assoc (call_line d) (flat_map call_line g) (101 ∷ y) ∙ call_then d (flat_map call_line g ++ (101 ∷ y))) ∙ sym e))
+calls_alike (c ∷ h) [] x y p q e =
+    absurd (number_begins c.thread _ 101 y p.0 (omega arith) (sym (append_assoc (call_line c) (flat_map call_line h) (101 ∷ x) ∙ call_then c (flat_map call_line h ++ (101 ∷ x))) ∙ e))
+calls_alike (c ∷ h) (d ∷ g) x y p q e =
+    let left = append_assoc (call_line c) (flat_map call_line h) (101 ∷ x) ∙ call_then c (flat_map call_line h ++ (101 ∷ x)) in
+    let right = append_assoc (call_line d) (flat_map call_line g) (101 ∷ y) ∙ call_then d (flat_map call_line g ++ (101 ∷ y)) in
+    let thread = one_number 32 (omega arith) c.thread d.thread _ _ p.0 q.0 (sym left ∙ e ∙ right) in
+    let bit = same_head _ _ _ _ thread.1 in
+    let space = same_head _ _ _ _ bit.1 in
+    let letter = same_head _ _ _ _ space.1 in
+    let line = same_head _ _ _ _ letter.1 in
+    let rest = calls_alike h g x y p.1 q.1 line.1 in
+    (cc (same_call c d thread.0 (one_digit c.bit d.bit bit.0) (one_letter c.reply d.reply letter.0), rest.0), rest.1)
+
+-- ---- the pieces
+
+turns_alike : (ts us : List Turn) (x y : List ℕ) → flat_map turn_text ts ++ 10 ∷ x ≡ flat_map turn_text us ++ 10 ∷ y → (ts ≡ us) × (x ≡ y)
+turns_alike [] [] x y e = (refl, (same_head _ _ _ _ e).1)
+turns_alike [] (u ∷ us) x y e = absurd (omega (arith, digit_high u.bit, (same_head _ _ _ _ e).0))
+turns_alike (t ∷ ts) [] x y e = absurd (omega (arith, digit_high t.bit, (same_head _ _ _ _ e).0))
+turns_alike (t ∷ ts) (u ∷ us) x y e =
+    let bit = same_head _ _ _ _ e in
+    let letter = same_head _ _ _ _ bit.1 in
+    let rest = turns_alike ts us x y letter.1 in
+    let bits = one_digit t.bit u.bit bit.0 in
+    let replies = one_letter t.reply u.reply letter.0 in
+    let same : t ≡ u = λ i. record { bit = bits i; reply = replies i } in
+    (cc (same, rest.0), rest.1)
+
+piece_then : (p : Piece) (rest : List ℕ) → piece_line p ++ rest ≡ decimal p.thread ++ 32 ∷ (flat_map turn_text (p.first ∷ p.others) ++ 10 ∷ rest)
+piece_then p rest =
+    append_assoc (decimal p.thread) _ rest ∙ ap (λ t. decimal p.thread ++ 32 ∷ t) (append_assoc (flat_map turn_text (p.first ∷ p.others)) (codes "\n") rest)
+
+same_piece : (p q : Piece) → p.thread ≡ q.thread → p.first ∷ p.others ≡ q.first ∷ q.others → p ≡ q
+same_piece p q thread turns =
+    let heads = same_head p.first q.first p.others q.others turns in
+    λ i. record { thread = thread i; first = heads.0 i; others = heads.1 i }
+
+pieces_alike : (ps qs : List Piece) (x y : List ℕ) → AllByRecursion (λ (p : Piece). p.thread < 2 ^ 64) ps → AllByRecursion (λ (p : Piece). p.thread < 2 ^ 64) qs
+    → flat_map piece_line ps ++ (101 ∷ x) ≡ flat_map piece_line qs ++ (101 ∷ y) → (ps ≡ qs) × (x ≡ y)
+pieces_alike [] [] x y p q e = (refl, (same_head _ _ _ _ e).1)
+pieces_alike [] (d ∷ qs) x y p q e =
+    absurd (number_begins d.thread _ 101 x q.0 (omega arith) (sym (append_assoc (piece_line d) (flat_map piece_line qs) (101 ∷ y) ∙ piece_then d (flat_map piece_line qs ++ (101 ∷ y))) ∙ sym e))
+pieces_alike (c ∷ ps) [] x y p q e =
+    absurd (number_begins c.thread _ 101 y p.0 (omega arith) (sym (append_assoc (piece_line c) (flat_map piece_line ps) (101 ∷ x) ∙ piece_then c (flat_map piece_line ps ++ (101 ∷ x))) ∙ e))
+pieces_alike (c ∷ ps) (d ∷ qs) x y p q e =
+    let left = append_assoc (piece_line c) (flat_map piece_line ps) (101 ∷ x) ∙ piece_then c (flat_map piece_line ps ++ (101 ∷ x)) in
+    let right = append_assoc (piece_line d) (flat_map piece_line qs) (101 ∷ y) ∙ piece_then d (flat_map piece_line qs ++ (101 ∷ y)) in
+    let thread = one_number 32 (omega arith) c.thread d.thread _ _ p.0 q.0 (sym left ∙ e ∙ right) in
+    let turns = turns_alike (c.first ∷ c.others) (d.first ∷ d.others) _ _ thread.1 in
+    let rest = pieces_alike ps qs x y p.1 q.1 turns.1 in
+    (cc (same_piece c d thread.0 turns.0, rest.0), rest.1)
+
+with_call_threads : (c : Call) (ps : List Piece) → c.thread < 2 ^ 64 → AllByRecursion (λ (p : Piece). p.thread < 2 ^ 64) ps → AllByRecursion (λ (p : Piece). p.thread < 2 ^ 64) (with_call c ps)
+with_call_threads c [] p q = (p, tt)
+with_call_threads c (d ∷ ps) p q = go (c.thread == d.thread)
+  where
+    go : (b : Bool) → AllByRecursion (λ (p : Piece). p.thread < 2 ^ 64) (cond b (piece_of c (d.first ∷ d.others) ∷ ps) (piece_of c [] ∷ d ∷ ps))
+    go true = (p, q.1)
+    go false = (p, q)
+
+pieces_threads : (h : List Call) → AllByRecursion (λ (c : Call). c.thread < 2 ^ 64) h → AllByRecursion (λ (p : Piece). p.thread < 2 ^ 64) (pieces_of h)
+pieces_threads [] p = tt
+pieces_threads (c ∷ h) p = with_call_threads c (pieces_of h) p.0 (pieces_threads h p.1)
+
+-- ---- the whole text
+
+histories_alike : (v : Version) (h g : List Call) (x y : List ℕ) → AllByRecursion (λ (c : Call). c.thread < 2 ^ 64) h → AllByRecursion (λ (c : Call). c.thread < 2 ^ 64) g
+    → calls_text v h ++ (101 ∷ x) ≡ calls_text v g ++ (101 ∷ y) → h ≡ g
+histories_alike One h g x y p q e = (calls_alike h g x y p q e).0
+histories_alike Two h g x y p q e =
+    sym (pieces_whole h) ∙ ap calls_of_pieces (pieces_alike (pieces_of h) (pieces_of g) x y (pieces_threads h p) (pieces_threads g q) e).0 ∙ pieces_whole g
+
+version_first : (v w : Version) (x y : List ℕ) → version_line v ++ x ≡ version_line w ++ y → v ≡ w
+version_first One One x y e = refl
+version_first Two Two x y e = refl
+version_first One Two x y e = absurd (omega (arith, (same_head 49 50 _ _ (front_cut (codes "btrace ") _ _ e)).0))
+version_first Two One x y e = absurd (omega (arith, (same_head 50 49 _ _ (front_cut (codes "btrace ") _ _ e)).0))
+
+module _ (v w : Version) (s r : SetupOf) (h g : List Call) (p : IsWritable s h) (q : IsWritable r g) (e : text_of v s h ≡ text_of w r g) where
+  abbrev end : SetupOf → List Call → List ℕ
+  end z k = end_line (length k) (open_lines z k)
+
+  text_is : (u : Version) (z : SetupOf) (k : List Call) → text_of u z k ≡ version_line u ++ (setup_lines z ++ (calls_text u k ++ end z k))
+  text_is u z k = append_assoc (version_line u) (setup_lines z) (calls_text u k ++ end z k)
+
+  both : version_line v ++ (setup_lines s ++ (calls_text v h ++ end s h)) ≡ version_line w ++ (setup_lines r ++ (calls_text w g ++ end r g))
+  both = sym (text_is v s h) ∙ e ∙ text_is w r g
+
+  version : v ≡ w
+  version = version_first v w _ _ both
+
+  behind : setup_lines s ++ (calls_text v h ++ end s h) ≡ setup_lines r ++ (calls_text v g ++ end r g)
+  behind = front_cut (version_line v) _ _ (both ∙ ap (λ u. version_line u ++ (setup_lines r ++ (calls_text u g ++ end r g))) (sym version))
+
+  pub one_text : (v ≡ w) × (s ≡ r) × (h ≡ g)
+  one_text =
+      let setups = setups_alike s r h g p q _ _ behind in
+      (version, setups.0, histories_alike v h g _ _ p.threads q.threads setups.1)

@@ -1,0 +1,138 @@
+-- The trace of a legal history is short enough to be replayed.
+use Rattle.std.proofs.Common.{◌≡◌, ℕ, zero, suc, ◌+◌, ◌*◌, ◌<◌, ◌≤◌, ◌^◌, ◌==◌, Bool, true, false, cond, List, [], ◌∷◌, ◌++◌, length, map, flat_map, Option, None, Some, refl, ap, arith, length-append, codes, decimal}
+use Rattle.std.specs.List.{AllByRecursion}
+use Rattle.std.proofs.Math.Nat.{mul-le-mul_left, mul-le-mul_right}
+use Rattle.std.proofs.lemmas.List.{length-map}
+use Rattle.std.proofs.lemmas.Fmt.{length-decimal-le}
+use Rattle.bp_tree.specs.Ast.{Program}
+use Rattle.bp_syntax.specs.declared.limits.TheConstants.{TEXT_LIMIT}
+use Rattle.bp_machine.specs.declared.limits.TheConstants.{MAX_THREADS}
+use Rattle.bp_machine.specs.declared.calls.Call.{Call}
+use Rattle.bp_machine.specs.Setups.{SetupOf, threads, IsInRange}
+use Rattle.bp_machine.specs.Histories.{is_finished, open_below, open_lines, IsLegal}
+use Rattle.bp_machine.specs.Replies.{letter_of}
+use Rattle.bp_machine.proofs.LegalLength.{AllBelow, all_below, legal_length}
+use Rattle.bp_trace.specs.declared.limits.TheConstants.{MAX_TRACE}
+use Rattle.bp_trace.specs.declared.versions.Version.{Version}
+use Rattle.bp_trace.specs.declared.versions.Version.TheVariants.{One, Two}
+use Rattle.bp_trace.specs.Schedules.{bit_digit}
+use Rattle.bp_trace.specs.Pieces.{Turn, Piece, calls_of_piece, calls_of_pieces, piece_of, with_call, pieces_of, call_of}
+use Rattle.bp_trace.specs.TraceText.{version_line, entry_line, init_digits, init_line, seed_word, limit_lines, setup_lines, head_text, call_line, turn_text, piece_line, calls_text, end_line, text_of}
+use Rattle.bp_trace.proofs.PiecesAreFewest.{pieces_whole}
+use Rattle.bp_trace.proofs.ScheduleLength.{few_digits}
+
+number_short : (n : ℕ) → n < 2 ^ 64 → length (decimal n) ≤ 20
+number_short n fits = length-decimal-le 20 n (omega arith) (omega (arith, fits)) fits
+
+entries_short : (es : List (List ℕ)) → AllByRecursion (λ e. length e ≤ TEXT_LIMIT) es → length (flat_map entry_line es) ≤ length es * 65543
+entries_short [] each = omega arith
+entries_short (e ∷ es) each =
+    let line = length-append e (codes "\n") in
+    let whole = length-append (entry_line e) (flat_map entry_line es) in
+    omega (arith, line, whole, each.0, entries_short es each.1)
+
+init_short : (bs : List Bool) → length (init_digits bs) ≤ length bs + 1
+init_short [] = omega arith
+init_short (b ∷ bs) = omega (arith, length-map (b ∷ bs) bit_digit)
+
+seed_short : (o : Option ℕ) → ((n : ℕ) → o ≡ Some n → n < 2 ^ 64) → length (seed_word o) ≤ 20
+seed_short None fits = omega arith
+seed_short (Some n) fits = number_short n (fits n refl)
+
+calls_short : (n : ℕ) (h : List Call) → n ≤ MAX_THREADS → AllBelow n h → length (flat_map call_line h) ≤ 7 * length h
+calls_short n [] few all = omega arith
+calls_short n (x ∷ xs) few (below, all) =
+    let digits = few_digits x.thread (omega (arith, few, below)) in
+    let line = length-append (decimal x.thread) (32 ∷ bit_digit x.bit ∷ 32 ∷ letter_of x.reply ∷ 10 ∷ []) in
+    let whole = length-append (call_line x) (flat_map call_line xs) in
+    omega (arith, digits, line, whole, calls_short n xs few all)
+
+turns_length : (ts : List Turn) → length (flat_map turn_text ts) ≡ 2 * length ts
+turns_length [] = refl
+turns_length (t ∷ ts) = omega (arith, turns_length ts)
+
+pieces_short : (ps : List Piece) → AllByRecursion (λ (p : Piece). p.thread < 100) ps → length (flat_map piece_line ps) ≤ 7 * length (calls_of_pieces ps)
+pieces_short [] each = omega arith
+pieces_short (p ∷ ps) each =
+    let turns = p.first ∷ p.others in
+    let digits = few_digits p.thread each.0 in
+    let ended = length-append (flat_map turn_text turns) (codes "\n") in
+    let line = length-append (decimal p.thread) (32 ∷ (flat_map turn_text turns ++ codes "\n")) in
+    let whole = length-append (piece_line p) (flat_map piece_line ps) in
+    let calls = length-append (calls_of_piece p) (calls_of_pieces ps) in
+    let count = length-map turns (call_of p.thread) in
+    omega (arith, digits, ended, line, whole, calls, count, turns_length turns, pieces_short ps each.1)
+
+with_call_small : (c : Call) (ps : List Piece) → c.thread < 100 → AllByRecursion (λ (p : Piece). p.thread < 100) ps → AllByRecursion (λ (p : Piece). p.thread < 100) (with_call c ps)
+with_call_small c [] small each = (small, tt)
+with_call_small c (d ∷ ps) small each = go (c.thread == d.thread)
+  where
+    go : (b : Bool) → AllByRecursion (λ (p : Piece). p.thread < 100) (cond b (piece_of c (d.first ∷ d.others) ∷ ps) (piece_of c [] ∷ d ∷ ps))
+    go true = (small, each.1)
+    go false = (small, each)
+
+pieces_small : (n : ℕ) (h : List Call) → n ≤ MAX_THREADS → AllBelow n h → AllByRecursion (λ (p : Piece). p.thread < 100) (pieces_of h)
+pieces_small n [] few all = tt
+pieces_small n (x ∷ xs) few (below, all) = with_call_small x (pieces_of xs) (omega (arith, few, below)) (pieces_small n xs few all)
+
+history_short : (v : Version) (n : ℕ) (h : List Call) → n ≤ MAX_THREADS → AllBelow n h → length (calls_text v h) ≤ 7 * length h
+history_short One n h few all = calls_short n h few all
+history_short Two n h few all =
+    let pieces = pieces_short (pieces_of h) (pieces_small n h few all) in
+    omega (arith, pieces, ap length (pieces_whole h))
+
+version_short : (v : Version) → length (version_line v) ≤ 9
+version_short One = omega arith
+version_short Two = omega arith
+
+open_few : (n : ℕ) (s : SetupOf) (h : List Call) → open_below n s h ≤ n
+open_few zero s h = omega arith
+open_few (suc n) s h = go (is_finished s h n) (open_few n s h)
+  where
+    go : (b : Bool) → open_below n s h ≤ n → cond b (open_below n s h) (open_below n s h + 1) ≤ suc n
+    go true few = omega (arith, few)
+    go false few = omega (arith, few)
+
+module _ (t : Program) (v : Version) (s : SetupOf) (h : List Call) (range : IsInRange s) (legal : IsLegal t s h)
+    (names : AllByRecursion (λ e. length e ≤ TEXT_LIMIT) s.entries) (seed : (n : ℕ) → s.seed ≡ Some n → n < 2 ^ 64) where
+  few_calls : length h ≤ 6400000
+  few_calls =
+      let calls = legal_length t s h legal in
+      let one = mul-le-mul_right s.calls range.few in
+      let other = mul-le-mul_left MAX_THREADS range.calls in
+      omega (arith, calls, one, other)
+
+  limits_short : length (limit_lines s) ≤ 100
+  limits_short =
+      let contexts = number_short s.contexts (omega (arith, range.contexts)) in
+      let calls = number_short s.calls (omega (arith, range.calls)) in
+      let word = seed_short s.seed seed in
+      let last = length-append (seed_word s.seed) (codes "\n") in
+      let middle = length-append (decimal s.calls) (codes "\nseed " ++ (seed_word s.seed ++ codes "\n")) in
+      let first = length-append (decimal s.contexts) (codes "\ncalls " ++ (decimal s.calls ++ (codes "\nseed " ++ (seed_word s.seed ++ codes "\n")))) in
+      omega (arith, contexts, calls, word, last, middle, first)
+
+  setup_short : length (setup_lines s) ≤ 4200000
+  setup_short =
+      let entries = entries_short s.entries names in
+      let many = mul-le-mul_right 65543 range.few in
+      let digits = init_short s.init in
+      let init = length-append (init_digits s.init) (codes "\n") in
+      let both = length-append (init_line s.init) (limit_lines s) in
+      let whole = length-append (flat_map entry_line s.entries) (init_line s.init ++ limit_lines s) in
+      omega (arith, entries, many, digits, init, both, whole, range.bits, limits_short)
+
+  end_short : length (end_line (length h) (open_lines s h)) ≤ 50
+  end_short =
+      let calls = number_short (length h) (omega (arith, few_calls)) in
+      let lines = number_short (open_lines s h) (omega (arith, open_few (threads s) s h, range.few)) in
+      let last = length-append (decimal (open_lines s h)) (codes "\n") in
+      let first = length-append (decimal (length h)) (codes " " ++ (decimal (open_lines s h) ++ codes "\n")) in
+      omega (arith, calls, lines, last, first)
+
+  pub trace_short : length (text_of v s h) < MAX_TRACE
+  trace_short =
+      let head = length-append (version_line v) (setup_lines s) in
+      let body = length-append (calls_text v h) (end_line (length h) (open_lines s h)) in
+      let whole = length-append (head_text v s) (calls_text v h ++ end_line (length h) (open_lines s h)) in
+      omega (arith, version_short v, head, body, whole, setup_short, end_short, history_short v (threads s) h range.few (all_below t s h legal), few_calls)

@@ -1,0 +1,187 @@
+-- What a text is to a replay: the trace of a legal history, or what refuses it.
+use Rattle.std.specs.Prelude.{◌≡◌, ◌≢◌, ◌⊎◌, ◌<◌, ◌≤◌, ℕ, ◌+◌, true, false, List, [], ◌∷◌, ◌++◌, None, Some, length, map, codes, slice_index}
+use Rattle.std.specs.Str.Parse.{AllDigits}
+use Rattle.bp_tree.specs.Ast.{Program}
+use Rattle.bp_machine.specs.declared.calls.Call.{Call}
+use Rattle.bp_machine.specs.declared.calls.Reply.{Reply}
+use Rattle.bp_machine.specs.declared.reports.Report.{Report}
+use Rattle.bp_machine.specs.declared.setups.SetupFault.{SetupFault}
+use Rattle.bp_machine.specs.Setups.{SetupOf, threads, setup_fault}
+use Rattle.bp_machine.specs.ChoiceBits.{choice_bit}
+use Rattle.bp_machine.specs.ContextCounts.{last_thread}
+use Rattle.bp_machine.specs.Histories.{calls_of_thread, is_finished, open_lines, IsAllowed, IsLegal}
+use Rattle.bp_machine.specs.PrintedRows.{PrintedRow, printed_rows}
+use Rattle.bp_machine.specs.Reports.{IsReport}
+use Rattle.bp_machine.specs.SeededHistories.{HasSeededBits}
+use Rattle.bp_trace.specs.declared.limits.TheConstants.{MAX_TRACE}
+use Rattle.bp_trace.specs.declared.replay_faults.ReplayFault.{ReplayFault}
+use Rattle.bp_trace.specs.declared.replay_faults.ReplayFault.TheVariants as fault
+use Rattle.bp_trace.specs.declared.versions.Version.{Version}
+use Rattle.bp_trace.specs.declared.versions.Version.TheVariants.{One, Two}
+use Rattle.bp_trace.specs.Heads.{head_lines, HasHead, HeadStops}
+use Rattle.bp_trace.specs.Pieces.{Piece, pieces_of, calls_of_piece}
+use Rattle.bp_trace.specs.TraceText.{head_text, call_line, piece_line, calls_text, end_line, text_of}
+
+-- the history is legal, and has the bits of the seed where there is one
+pub record IsPlayable (t : Program) (s : SetupOf) (h : List Call) : Type 0 where
+  pub legal : IsLegal t s h
+  pub seeded : HasSeededBits s h
+
+-- the text is the trace of such a history, of a setup that the program takes
+pub record IsTrace
+    (t : Program) (v : Version) (s : SetupOf) (h : List Call) (text : List ℕ) : Type 0 where
+  pub head : HasHead s
+  pub fine : setup_fault t s ≡ None
+  pub playable : IsPlayable t s h
+  pub is : text ≡ text_of v s h
+
+-- how many lines the calls of a history have
+abbrev pub line_count : Version → List Call → ℕ
+line_count One h = length h
+line_count Two h = length (pieces_of h)
+
+-- a line that may follow the calls of h, and the calls that it holds
+module _ (s : SetupOf) (h : List Call) (line : List ℕ) (calls : List Call) where
+  -- one call
+  pub record IsCallLine : Type 0 where
+    pub call : Call
+    pub thread : call.thread < threads s
+    pub is : line ≡ call_line call
+    pub holds : calls ≡ call ∷ []
+
+  -- a piece, which is of another thread than the line before
+  pub record IsPieceLine : Type 0 where
+    pub piece : Piece
+    pub thread : piece.thread < threads s
+    pub other : Some piece.thread ≢ last_thread (map (λ x. x.thread) h)
+    pub is : line ≡ piece_line piece
+    pub holds : calls ≡ calls_of_piece piece
+
+  abbrev pub IsBodyLine : Version → Type 0
+  IsBodyLine One = IsCallLine
+  IsBodyLine Two = IsPieceLine
+
+-- a decimal of any length, without leading zeros
+pub record IsDecimal (digits : List ℕ) : Type 0 where
+  pub some : 0 < length digits
+  pub each : AllDigits 10 digits
+  pub first : slice_index digits 0 ≡ 48 → length digits ≡ 1
+
+-- an end line, whatever its numbers
+pub record IsEndLine (line : List ℕ) : Type 0 where
+  pub calls : List ℕ
+  pub left_open : List ℕ
+  pub first : IsDecimal calls
+  pub second : IsDecimal left_open
+  pub is : line ≡ codes "end " ++ (calls ++ (codes " " ++ (left_open ++ codes "\n")))
+
+-- Why a call is refused on line n after the history h: its thread has made its last call; else its
+-- bit is not that of the seed; else the machine's reply is another one, which was wanted.
+module _ (t : Program) (s : SetupOf) (h : List Call) (n : ℕ) (x : Call) where
+  -- the bit is not that of the seed
+  pub record HasOtherBit : Type 0 where
+    pub seed : ℕ
+    pub has : s.seed ≡ Some seed
+    pub other : x.bit ≢ choice_bit seed x.thread (length (calls_of_thread x.thread h))
+
+  pub record IsOtherReply (wanted : Reply) : Type 0 where
+    pub allowed : IsAllowed t s h (record { thread = x.thread; bit = x.bit; reply = wanted })
+    pub seeded : HasOtherBit → ⊥
+    pub other : wanted ≢ x.reply
+
+  abbrev pub IsCallFault : ReplayFault → Type 0
+  IsCallFault (fault.AfterFinish m) = (m ≡ n) × (is_finished s h x.thread ≡ true)
+  IsCallFault (fault.Bit m) = (m ≡ n) × (is_finished s h x.thread ≡ false) × HasOtherBit
+  IsCallFault (fault.Reply m wanted) = (m ≡ n) × IsOtherReply wanted
+  IsCallFault f = ⊥
+
+-- The text begins with the head of a setup that the program takes, and the whole lines of a history
+-- that is legal; then comes the rest, whose first line has this number.
+pub record Reaches
+    (t : Program) (text : List ℕ) (v : Version) (s : SetupOf) (h : List Call) (n : ℕ)
+    (rest : List ℕ)
+    : Type 0 where
+  pub head : HasHead s
+  pub fine : setup_fault t s ≡ None
+  pub playable : IsPlayable t s h
+  pub parts : text ≡ head_text v s ++ (calls_text v h ++ rest)
+  pub number : n ≡ length (head_lines v s) + line_count v h + 1
+
+-- Why the rest is refused: it is empty; it begins with no line that is due; with one whose calls are
+-- refused; with the end of another history; or with the end, and something behind it.
+module _
+    (t : Program) (v : Version) (s : SetupOf) (h : List Call) (n : ℕ) (rest : List ℕ) where
+  -- no line that may follow begins the rest
+  pub record HasNoLine : Type 0 where
+    pub some : rest ≢ []
+    pub calls : (line : List ℕ) (calls : List Call) (more : List ℕ)
+        → IsBodyLine s h line calls v
+        → rest ≢ line ++ more
+    pub ends : (line more : List ℕ) → IsEndLine line → rest ≢ line ++ more
+
+  -- a line begins it, of whose calls one is refused after those before it
+  pub record HasRefusedCall (f : ReplayFault) : Type 0 where
+    pub line : List ℕ
+    pub calls : List Call
+    pub more : List ℕ
+    pub is_line : IsBodyLine s h line calls v
+    pub begins : rest ≡ line ++ more
+    pub good : List Call
+    pub call : Call
+    pub others : List Call
+    pub parts : calls ≡ good ++ call ∷ others
+    pub playable : IsPlayable t s (h ++ good)
+    pub refused : IsCallFault t s (h ++ good) n call f
+
+  abbrev own_end : List ℕ
+  own_end = end_line (length h) (open_lines s h)
+
+  pub record HasOtherEnd : Type 0 where
+    pub line : List ℕ
+    pub more : List ℕ
+    pub is_end : IsEndLine line
+    pub begins : rest ≡ line ++ more
+    pub other : line ≢ own_end
+
+  pub record HasMoreBehind : Type 0 where
+    pub more : List ℕ
+    pub begins : rest ≡ own_end ++ more
+    pub some : more ≢ []
+
+  abbrev pub IsRestRefused : ReplayFault → Type 0
+  IsRestRefused fault.NoEnd = rest ≡ []
+  IsRestRefused fault.EndCount = HasOtherEnd
+  IsRestRefused (fault.Line m) =
+      ((m ≡ n) × HasNoLine) ⊎ ((m ≡ n + 1) × HasMoreBehind)
+  IsRestRefused f = HasRefusedCall f
+
+-- Each refusal, the first that applies. Nothing is said of when memory is refused, but that nothing
+-- before it is.
+module _ (t : Program) (text : List ℕ) where
+  abbrev IsShort : Type 0
+  IsShort = length text ≤ MAX_TRACE
+
+  -- the head is one, of a setup that is refused
+  pub record HasRefusedSetup (f : SetupFault) : Type 0 where
+    pub version : Version
+    pub setup : SetupOf
+    pub rest : List ℕ
+    pub head : HasHead setup
+    pub parts : text ≡ head_text version setup ++ rest
+    pub fault : setup_fault t setup ≡ Some f
+
+  pub record HasRefusedRest (f : ReplayFault) : Type 0 where
+    pub version : Version
+    pub setup : SetupOf
+    pub history : List Call
+    pub number : ℕ
+    pub rest : List ℕ
+    pub reached : Reaches t text version setup history number rest
+    pub refused : IsRestRefused t version setup history number rest f
+
+  abbrev pub IsReplayRefusal : ReplayFault → Type 0
+  IsReplayRefusal fault.TooLong = MAX_TRACE < length text
+  IsReplayRefusal (fault.Head k) = IsShort × HeadStops text k
+  IsReplayRefusal (fault.Setup f) = IsShort × HasRefusedSetup f
+  IsReplayRefusal fault.Memory = IsShort
+  IsReplayRefusal f = IsShort × HasRefusedRest f

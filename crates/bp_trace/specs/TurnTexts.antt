@@ -1,0 +1,29 @@
+-- The text of the pieces of a history, call by call: a device of the writer, which no public clause
+-- names.
+use Rattle.std.specs.Prelude.{if◌then◌else◌, ◌==◌, ℕ, Bool, true, false, List, [], ◌∷◌, ◌++◌, Option, None, Some, codes, decimal}
+use Rattle.bp_machine.specs.declared.calls.Call.{Call}
+use Rattle.bp_trace.specs.Pieces.{turn_of}
+use Rattle.bp_trace.specs.TraceText.{turn_text}
+
+-- the thread of a line, behind the end of the line before it
+abbrev pub line_start : Bool → ℕ → List ℕ
+line_start is_first i =
+    (if is_first then [] else codes "\n") ++ (decimal i ++ codes " ")
+
+-- what begins a call behind one of this thread, or behind none
+abbrev pub opening : Option ℕ → ℕ → List ℕ
+opening None i = line_start true i
+opening (Some l) i = if l == i then [] else line_start false i
+
+abbrev pub turn_behind : Option ℕ → Call → List ℕ
+turn_behind last x = opening last x.thread ++ turn_text (turn_of x)
+
+-- the calls behind one of this thread, without the end of the last line
+abbrev pub turns_behind : Option ℕ → List Call → List ℕ
+turns_behind last [] = []
+turns_behind last (x ∷ xs) = turn_behind last x ++ turns_behind (Some x.thread) xs
+
+-- the thread of the last call, or this one where there is none
+abbrev pub last_of : Option ℕ → List Call → Option ℕ
+last_of last [] = last
+last_of last (x ∷ xs) = last_of (Some x.thread) xs

@@ -1,0 +1,158 @@
+//! Judging the calls of a trace, one after the other.
+ghost use Rattle.std.specs.Prelude.{◌≡◌, ◌⊎◌, ◌<◌, ◌++◌, ◌∷◌, [], List, Some, IfOk, IfErr, OnOk, MatchResult, map, is_some};
+ghost use Rattle.bp_tree.specs.Ast.{Program};
+ghost use Rattle.bp_code.specs.StandsFor.{StandsFor};
+ghost use Rattle.bp_machine.specs.declared.calls.Call.{Call as Answered};
+ghost use Rattle.bp_machine.specs.Histories.{configuration_after};
+ghost use Rattle.bp_machine.specs.Replies.{is_granted};
+ghost use Rattle.bp_machine.specs.PrintedRows.{rows_of_call};
+ghost use Rattle.bp_machine.specs.Setups.{threads};
+ghost use Rattle.bp_machine.specs.Sessions.{Stands, IsNextCall, IsAskRefusal};
+ghost use Rattle.bp_trace.specs.Judging.{row_of, rows_of, given_bit, replay_fault_of, IsOwnAs, IsMismatch, IsCallRefusal};
+
+use crate::replay_faults::ReplayFault;
+use bp_machine::{AskFault, Call, Reply, Session};
+use std::alloc::AllocError;
+
+/// What a granted step at a `print` printed: its thread, and the values before the step.
+#[derive(Debug, Drop)]
+pub struct Printed {
+    pub thread: u32,
+    pub values: Vec<bool>,
+}
+
+/// The calls of a trace so far, and what they printed.
+#[derive(Drop)]
+pub(crate) struct Played {
+    pub(crate) history: Vec<Call>,
+    pub(crate) printed: Vec<Printed>,
+}
+
+/// Keeps a call and what it printed.
+fn keep(played: &mut Played, call: Call, row: Option<Printed>) -> Result<(), AllocError>
+    ensures history { OnOk result
+        (played.new.history.items ≡ played.old.history.items ++ call ∷ []) }
+    ensures printed { OnOk result
+        (map row_of played.new.printed.items
+        ≡ map row_of played.old.printed.items ++ rows_of row) }
+{
+    played.history.push(call)?;
+    if let Some(row) = row {
+        played.printed.push(row)?;
+    }
+    Ok(())
+}
+
+/// The refusal of a call on the `n`-th line, of a thread that is there.
+fn replay_fault_of(fault: AskFault, n: u32) -> ReplayFault
+    ensures { result ≡ replay_fault_of fault n }
+{
+    match fault {
+        AskFault::Memory => ReplayFault::Memory,
+        _ => ReplayFault::AfterFinish(n),
+    }
+}
+
+/// Prepares the machine's call of the thread, with the bit of the seed where there is one, else
+/// with that of the trace.
+fn own_call(session: &mut Session, seeded: bool, call: &Call) -> Result<Call, AskFault>
+    ensures answer { (t : Program) (h : List Answered)
+        → StandsFor session.old.code t
+        → Stands t session.old h
+        → let given = given_bit seeded call.now in
+        MatchResult result
+        (IsNextCall t session.old.setup h call.now.thread given)
+        (IsAskRefusal t session.old.setup h call.now.thread given) }
+    ensures stands { (t : Program) (h : List Answered)
+        → Stands t session.old h
+        → Stands t session.new h }
+    ensures ready { IfOk result (λ c. session.new.ready ≡ Some c) }
+    ensures kept { (session.new.code ≡ session.old.code) × (session.new.setup ≡ session.old.setup) }
+{
+    if seeded {
+        session.prepare(call.thread)
+    } else {
+        session.prepare_with(call.thread, call.bit)
+    }
+}
+
+/// Whether the call is the machine's own.
+fn matched(own: &Call, call: &Call, n: u32) -> Result<(), ReplayFault>
+    ensures { MatchResult result
+        (λ _. IsOwnAs own.now call.now)
+        (IsMismatch own.now call.now n) }
+{
+    if own.bit != call.bit {
+        return Err(ReplayFault::Bit(n));
+    }
+    if own.reply != call.reply {
+        return Err(ReplayFault::Reply(n, own.reply));
+    }
+    Ok(())
+}
+
+/// What a call prints, where its step is granted and at a `print`.
+fn row_of_call(session: &Session, call: &Call) -> Result<Option<Printed>, AskFault>
+    ensures row { (t : Program) (h : List Answered)
+        → StandsFor session.now.code t
+        → Stands t session.now h
+        → IfOk result (λ row.
+        rows_of row ≡ rows_of_call (configuration_after t session.now.setup h) call.now) }
+    ensures memory { (t : Program) (h : List Answered)
+        → StandsFor session.now.code t
+        → Stands t session.now h
+        → call.now.thread < threads session.now.setup
+        → IfErr result (λ f. f ≡ AskFault.Memory) }
+{
+    if !matches!(call.reply, Reply::Stepped | Reply::Failed) {
+        return Ok(None);
+    }
+    let Some(values) = session.next_print(call.thread)? else {
+        return Ok(None);
+    };
+    Ok(Some(Printed {
+        thread: call.thread,
+        values,
+    }))
+}
+
+/// Judges a call on the `n`-th line of a trace, of a thread that is there, and keeps it.
+pub(crate) fn judge(
+    session: &mut Session,
+    seeded: bool,
+    call: &Call,
+    n: u32,
+    played: &mut Played,
+) -> Result<(), ReplayFault>
+    requires thread { call.now.thread < threads session.old.setup }
+    requires seeded { seeded ≡ is_some session.old.setup.seed }
+    ensures stands { (t : Program) (h : List Answered)
+        → StandsFor session.old.code t
+        → Stands t session.old h
+        → OnOk result (Stands t session.new (h ++ call.now ∷ [])) }
+    ensures history { OnOk result
+        (played.new.history.items ≡ played.old.history.items ++ call.now ∷ []) }
+    ensures printed { (t : Program) (h : List Answered)
+        → StandsFor session.old.code t
+        → Stands t session.old h
+        → let rows = rows_of_call (configuration_after t session.old.setup h) call.now in
+        OnOk result
+        (map row_of played.new.printed.items ≡ map row_of played.old.printed.items ++ rows) }
+    ensures kept { (session.new.code ≡ session.old.code) × (session.new.setup ≡ session.old.setup) }
+    ensures refused { (t : Program) (h : List Answered)
+        → StandsFor session.old.code t
+        → Stands t session.old h
+        → IfErr result (IsCallRefusal t session.old.setup h n call.now) }
+{
+    let own = match own_call(session, seeded, call) {
+        Ok(own) => own,
+        Err(fault) => return Err(replay_fault_of(fault, n)),
+    };
+    matched(&own, call, n)?;
+    let Ok(row) = row_of_call(session, call) else {
+        return Err(ReplayFault::Memory);
+    };
+    keep(played, *call, row)?;
+    session.commit(&own);
+    Ok(())
+}

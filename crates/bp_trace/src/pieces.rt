@@ -1,0 +1,71 @@
+//! Writing the calls of a history by its pieces.
+ghost use Rattle.std.specs.Prelude.{None, flat_map};
+ghost use Rattle.bp_code.specs.Writing.{Writes};
+ghost use Rattle.bp_trace.specs.Pieces.{pieces_of, turn_of};
+ghost use Rattle.bp_trace.specs.TraceText.{piece_line, turn_text};
+ghost use Rattle.bp_trace.specs.TurnTexts.{line_start, opening, turn_behind, turns_behind};
+
+use crate::traces::bit_digit;
+use bp_code::{WriteFault, put, put_each};
+use bp_machine::Call;
+use itoa::Buffer;
+use std::io::Write;
+
+/// Begins the line of a thread, behind the end of the line before it, where there is one.
+fn begin_line<W: Write>(is_first: bool, thread: u32, out: &mut W) -> Result<(), WriteFault>
+    ensures { Writes (W.contents out.old) (W.contents out.new)
+        (line_start is_first thread) result }
+{
+    let mut buffer = Buffer::new();
+    let thread = buffer.format(thread).as_bytes();
+    let end = if is_first {
+        b"".as_slice()
+    } else {
+        b"\n".as_slice()
+    };
+    put_each(out, &[end, thread, b" "])
+}
+
+/// Writes what begins a call behind one of this thread, or behind none.
+fn write_opening<W: Write>(last: Option<u32>, thread: u32, out: &mut W) -> Result<(), WriteFault>
+    ensures { Writes (W.contents out.old) (W.contents out.new) (opening last thread) result }
+{
+    match last {
+        Some(last) if last == thread => Ok(()),
+        Some(_) => begin_line(false, thread, out),
+        None => begin_line(true, thread, out),
+    }
+}
+
+/// Writes a call behind one of this thread, or behind none.
+fn write_turn<W: Write>(last: Option<u32>, call: &Call, out: &mut W) -> Result<(), WriteFault>
+    ensures { Writes (W.contents out.old) (W.contents out.new) (turn_behind last call.now) result }
+{
+    write_opening(last, call.thread, out)?;
+    put(out, &[bit_digit(call.bit), call.reply.letter()])
+}
+
+/// Writes the calls of a history without the end of the last line.
+fn write_turns<W: Write>(history: &[Call], out: &mut W) -> Result<(), WriteFault>
+    ensures { Writes (W.contents out.old) (W.contents out.new)
+        (turns_behind None history.now) result }
+{
+    let mut last = None;
+    for call in history {
+        write_turn(last, call, out)?;
+        last = Some(call.thread);
+    }
+    Ok(())
+}
+
+/// Writes a line for each piece of a history.
+pub(crate) fn write_pieces<W: Write>(history: &[Call], out: &mut W) -> Result<(), WriteFault>
+    ensures { Writes (W.contents out.old) (W.contents out.new)
+        (flat_map piece_line (pieces_of history.now)) result }
+{
+    if history.is_empty() {
+        return Ok(());
+    }
+    write_turns(history, out)?;
+    put(out, b"\n")
+}

@@ -1,0 +1,100 @@
+//! Why a text is no trace.
+
+use bp_machine::{Reply, SetupFault};
+use std::alloc::AllocError;
+use thiserror::Error;
+
+/// Why a text is no trace of a program: the first of these that applies. Lines are counted from 1.
+#[derive(Clone, Copy, Debug, PartialEq, Eq, Error)]
+pub enum ReplayFault {
+    /// The text has more than 67,108,864 bytes.
+    #[error("the trace is too long")]
+    TooLong,
+    /// This line of the head is not as it is due, or is not there.
+    #[error("line {0} of the trace is not the line of the head that is due")]
+    Head(u32),
+    /// The program does not take the setup that the head says.
+    #[error("{0}")]
+    Setup(SetupFault),
+    /// This line is neither one of calls of a thread of the setup nor an end, or it is behind the
+    /// end.
+    #[error("line {0} of the trace is not a line of calls or the end")]
+    Line(u32),
+    /// The thread of this line has made its last call.
+    #[error("line {0} of the trace is of a thread that has made its last call")]
+    AfterFinish(u32),
+    /// The choice bit of a call on this line is not that of the seed.
+    #[error("line {0} of the trace has another choice bit than the seed")]
+    Bit(u32),
+    /// The machine's reply to a call on this line is another one, which was wanted.
+    #[error("line {0} of the trace has another reply than the machine")]
+    Reply(u32, Reply),
+    /// There is no end line.
+    #[error("the trace has no end")]
+    NoEnd,
+    /// The end line has other numbers than the history.
+    #[error("the end of the trace counts other calls or open lines")]
+    EndCount,
+    /// There was not enough memory.
+    #[error("out of memory")]
+    Memory,
+}
+
+impl ReplayFault {
+    ghost use Rattle.std.specs.Prelude.{◌≡◌};
+    ghost use Rattle.bp_trace.specs.ReplayFaults.{replay_fault_number, replay_fault_place, wanted_reply};
+
+    /// The number by which users know the fault.
+    pub fn number(&self) -> u32
+        ensures { result ≡ replay_fault_number self.now }
+    {
+        match self {
+            ReplayFault::TooLong => 48,
+            ReplayFault::Head(_) => 41,
+            ReplayFault::Setup(fault) => fault.number(),
+            ReplayFault::Line(_) => 42,
+            ReplayFault::AfterFinish(_) => 47,
+            ReplayFault::Bit(_) => 43,
+            ReplayFault::Reply(_, _) => 44,
+            ReplayFault::NoEnd => 45,
+            ReplayFault::EndCount => 46,
+            ReplayFault::Memory => 7,
+        }
+    }
+
+    /// The line of the trace, or the thread of the setup, that the fault names, where it names one.
+    pub fn place(&self) -> Option<u32>
+        ensures { result ≡ replay_fault_place self.now }
+    {
+        match self {
+            ReplayFault::Head(line)
+            | ReplayFault::Line(line)
+            | ReplayFault::AfterFinish(line)
+            | ReplayFault::Bit(line)
+            | ReplayFault::Reply(line, _) => Some(*line),
+            ReplayFault::Setup(fault) => fault.place(),
+            _ => None,
+        }
+    }
+
+    /// The reply that was wanted, where the fault is that of a reply.
+    pub fn wanted(&self) -> Option<Reply>
+        ensures { result ≡ wanted_reply self.now }
+    {
+        match self {
+            ReplayFault::Reply(_, wanted) => Some(*wanted),
+            _ => None,
+        }
+    }
+}
+
+impl From<AllocError> for ReplayFault {
+    ghost use Rattle.std.specs.Prelude.{◌≡◌};
+    ghost use Rattle.bp_trace.specs.declared.replay_faults.ReplayFault.{ReplayFault};
+
+    ghost from_gives = { λ _ e. e ≡ ReplayFault.Memory };
+
+    fn from(_: AllocError) -> ReplayFault {
+        ReplayFault::Memory
+    }
+}
