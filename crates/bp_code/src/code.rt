@@ -65,6 +65,17 @@ impl Code {
         self.instrs.get(number as usize)
     }
 
+    /// The heading of the first procedure of this name, which may be any bytes.
+    pub fn heading_of(&self, name: &[u8]) -> Option<&Heading>
+        ensures heading { option_copied result ≡ heading_named self.now.headings name.now }
+        ensures program { (t : Program)
+            → StandsFor self.now t
+            → let found = procedure_named t.procedures name.now in
+            option_map (λ h. h.now.formals) result ≡ option_map (λ p. length p.formals) found }
+    {
+        find_heading(self.headings.as_slice(), name)
+    }
+
     /// The number of the first instruction of the first procedure of this name.
     pub fn entry(&self, name: &str) -> Option<u32>
         ensures heading { result
@@ -74,7 +85,7 @@ impl Code {
             → let found = procedure_named t.procedures name.now in
             MatchOption result (found ≡ None) (IsEntryOf t found) }
     {
-        match find_heading(self.headings.as_slice(), name) {
+        match find_heading(self.headings.as_slice(), name.as_bytes()) {
             Some(heading) => Some(heading.entry()),
             None => None,
         }
@@ -89,7 +100,7 @@ impl Code {
             → let found = procedure_named t.procedures name.now in
             result ≡ option_map (λ p. length p.formals) found }
     {
-        match find_heading(self.headings.as_slice(), name) {
+        match find_heading(self.headings.as_slice(), name.as_bytes()) {
             Some(heading) => Some(heading.formals()),
             None => None,
         }

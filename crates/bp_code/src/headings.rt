@@ -94,8 +94,8 @@ impl Heading {
 }
 
 /// The first heading of a name.
-pub(crate) fn find_heading<'a>(headings: &'a [Heading], name: &str) -> Option<&'a Heading>
+pub(crate) fn find_heading<'a>(headings: &'a [Heading], name: &[u8]) -> Option<&'a Heading>
     ensures { option_copied result ≡ heading_named headings.now name.now }
 {
-    headings.iter().find(|h| h.name() == name)
+    headings.iter().find(|h| h.name().as_bytes() == name)
 }

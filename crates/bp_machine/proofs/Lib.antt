@@ -6,10 +6,11 @@ pub mod ForEveryProgram
 pub mod GrantedSteps
 pub mod HistoryWithCall
 pub mod LegalLength
-pub mod OneCodeOneMeaning
 pub mod NamesOfEntries
+pub mod OneCodeOneMeaning
 pub mod OpenLines
 pub mod OutcomeWithCall
+pub mod OwnNames
 pub mod PreparedSessions
 pub mod PrintsAlike
 pub mod RealFailures

@@ -1,12 +1,12 @@
 -- The entries of a setup without a fault are names of the program, and have what each of its names has.
 use Rattle.std.proofs.Common.{◌≡◌, ℕ, ◌+◌, Bool, true, false, cond, List, [], ◌∷◌, Option, None, Some, refl, sym, ◌∙◌, subst, bytes_eq}
 use Rattle.std.specs.List.{AllByRecursion}
-use Rattle.std.specs.Option.{option_or}
 use Rattle.std.proofs.lemmas.Slice.Eq.{bytes_eq-Decides}
-use Rattle.bp_tree.specs.Ast.{Name, Procedure, Program}
+use Rattle.bp_tree.specs.Ast.{Procedure, Program}
 use Rattle.bp_syntax.specs.NamesIn.{NamesInProcedures}
 use Rattle.bp_code.specs.Configurations.{procedure_named}
 use Rattle.bp_machine.specs.Setups.{entry_fault, entries_fault}
+use Rattle.bp_machine.proofs.SetupInRange.{neither}
 
 module _ (P : List ℕ → Type 0) where
   -- the name of the procedure that was found
@@ -18,10 +18,6 @@ module _ (P : List ℕ → Type 0) where
       go true is later = subst P ((bytes_eq-Decides q.name.text e).0 is) each.0.0
       go false is later = later (sym (λ i. cond (is i) (Some q) (procedure_named qs e)) ∙ found)
 
-  both : {X : Type 0} (a b : Option X) → option_or a b ≡ None → (a ≡ None) × (b ≡ None)
-  both None b e = (refl, e)
-  both (Some x) b e = absurd cc
-
   fine_name : (t : Program) (k : ℕ) (e : List ℕ) (o : Option Procedure) → NamesInProcedures (λ n. P n.text) t.procedures → procedure_named t.procedures e ≡ o → entry_fault k o ≡ None → P e
   fine_name t k e None each is none = absurd cc
   fine_name t k e (Some p) each is none = found_name t.procedures e p each is
@@ -29,5 +25,5 @@ module _ (P : List ℕ → Type 0) where
   pub entries_are_names : (t : Program) (k : ℕ) (es : List (List ℕ)) → NamesInProcedures (λ n. P n.text) t.procedures → entries_fault t k es ≡ None → AllByRecursion P es
   entries_are_names t k [] each none = tt
   entries_are_names t k (e ∷ es) each none =
-      let parts = both (entry_fault k (procedure_named t.procedures e)) (entries_fault t (k + 1) es) none in
+      let parts = neither (entry_fault k (procedure_named t.procedures e)) (entries_fault t (k + 1) es) none in
       (fine_name t k e (procedure_named t.procedures e) each refl parts.0, entries_are_names t (k + 1) es each parts.1)

@@ -24,7 +24,7 @@ few_globals c of_some = ∥∥₁_elim of_some le_prop few
     few : (t : Program) × IsLawful t × HasText t × StandsFor c t → c.globals ≤ MAX_GLOBALS
     few (t, is_lawful, of_text, is) = omega (arith, (few_names t is_lawful).globals, is.globals)
 
-neither : {X : Type 0} (a b : Option X) → option_or a b ≡ None → (a ≡ None) × (b ≡ None)
+pub neither : {X : Type 0} (a b : Option X) → option_or a b ≡ None → (a ≡ None) × (b ≡ None)
 neither None b e = (refl, e)
 neither (Some x) b e = absurd cc
 

@@ -61,14 +61,19 @@ abbrev pub first_of : List (Option SetupFault) → Option SetupFault
 first_of [] = None
 first_of (o ∷ os) = option_or o (first_of os)
 
+-- the faults of the initial bits and of the numbers
+abbrev pub number_faults : Program → SetupOf → List (Option SetupFault)
+number_faults t s =
+    fault_if (not (length s.init == length t.globals)) InitLength
+    ∷ fault_if (is_out_of_range s) OutOfRange
+    ∷ []
+
 -- the first fault of a setup for a program
 abbrev pub setup_fault : Program → SetupOf → Option SetupFault
 setup_fault t s = first_of (
     fault_if (has_bad_threads s) Threads
     ∷ entries_fault t 0 s.entries
-    ∷ fault_if (not (length s.init == length t.globals)) InitLength
-    ∷ fault_if (is_out_of_range s) OutOfRange
-    ∷ [])
+    ∷ number_faults t s)
 
 -- why a setup is refused for a program: its first fault, or, where it has none, for memory
 abbrev pub IsSetupRefusal : Program → SetupOf → SetupFault → Type 0

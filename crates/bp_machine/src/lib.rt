@@ -10,6 +10,7 @@ pub mod limits;
 mod machine;
 mod reports;
 mod sessions;
+mod setup_words;
 mod setups;
 mod stacks;
 #[cfg(test)]

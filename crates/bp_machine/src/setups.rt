@@ -1,10 +1,11 @@
 //! What a session starts from.
-ghost use Rattle.std.specs.Prelude.{◌≡◌, ◌⊎◌, ◌≤◌, ◌↔◌, IsTrue, ℕ, List, None, Some, map, length, slice_get, string_bytes, MatchResult, IfOk, option_map};
+ghost use Rattle.std.specs.Prelude.{◌≡◌, ◌⊎◌, ◌≤◌, ◌↔◌, IsTrue, ℕ, List, [], None, Some, map, length, slice_get, string_bytes, MatchResult, IfOk, option_map};
 ghost use Rattle.std.specs.Option.{option_copied};
 ghost use Rattle.bp_tree.specs.Ast.{Program};
+ghost use Rattle.bp_code.specs.Configurations.{procedure_named};
 ghost use Rattle.bp_code.specs.StandsFor.{StandsFor};
 ghost use Rattle.bp_machine.specs.declared.limits.TheConstants.{MAX_THREADS};
-ghost use Rattle.bp_machine.specs.Setups.{SetupOf, setup_of, threads, entries_fault, entry_fault, setup_fault, IsSetupRefusal, Fits, FitsCode, IsInRange, setup_fault_number, setup_fault_place};
+ghost use Rattle.bp_machine.specs.Setups.{SetupOf, setup_of, threads, entries_fault, entry_fault, first_of, number_faults, setup_fault, IsSetupRefusal, Fits, FitsCode, IsInRange, setup_fault_number, setup_fault_place};
 
 use crate::limits::{MAX_CALLS, MAX_CONTEXTS, MAX_THREADS};
 use bp_code::Code;
@@ -86,6 +87,19 @@ impl Model for Setup {
         (setup_of (map string_bytes s.entries.items) s.init.items s.contexts s.calls s.seed) };
 }
 
+/// The fault of the entry of a thread.
+pub(crate) fn fault_of_entry(code: &Code, thread: u32, name: &[u8]) -> Option<SetupFault>
+    ensures { (t : Program)
+        → StandsFor code.now t
+        → result ≡ entry_fault thread (procedure_named t.procedures name.now) }
+{
+    match code.heading_of(name) {
+        None => Some(SetupFault::UnknownEntry(thread)),
+        Some(heading) if heading.formals() == 0 => None,
+        Some(_) => Some(SetupFault::EntryHasFormals(thread)),
+    }
+}
+
 /// The first fault of the entries.
 fn fault_of_entries(code: &Code, entries: &[String]) -> Option<SetupFault>
     requires { length entries.now ≤ MAX_THREADS }
@@ -94,11 +108,31 @@ fn fault_of_entries(code: &Code, entries: &[String]) -> Option<SetupFault>
         → result ≡ entries_fault t 0 (map string_bytes entries.now) }
 {
     for (thread, name) in entries.iter().enumerate() {
-        match code.formals(name.as_str()) {
-            None => return Some(SetupFault::UnknownEntry(thread as u32)),
-            Some(0) => {}
-            Some(_) => return Some(SetupFault::EntryHasFormals(thread as u32)),
+        let fault = fault_of_entry(code, thread as u32, name.as_bytes());
+        if fault.is_some() {
+            return fault;
         }
+    }
+    None
+}
+
+/// The first fault of the initial bits and the numbers.
+pub(crate) fn fault_of_numbers(
+    code: &Code,
+    init: &[bool],
+    contexts: u64,
+    calls: u64,
+) -> Option<SetupFault>
+    ensures { let given = setup_of [] init.now contexts calls None in
+        (t : Program)
+        → StandsFor code.now t
+        → result ≡ first_of (number_faults t given) }
+{
+    if init.len() != code.globals() as usize {
+        return Some(SetupFault::InitLength);
+    }
+    if contexts > u64::from(MAX_CONTEXTS) || calls == 0 || calls > u64::from(MAX_CALLS) {
+        return Some(SetupFault::OutOfRange);
     }
     None
 }
@@ -122,13 +156,7 @@ fn fault_of_setup(
     if let Some(fault) = fault_of_entries(code, entries) {
         return Some(fault);
     }
-    if init.len() != code.globals() as usize {
-        return Some(SetupFault::InitLength);
-    }
-    if contexts > MAX_CONTEXTS || calls == 0 || calls > MAX_CALLS {
-        return Some(SetupFault::OutOfRange);
-    }
-    None
+    fault_of_numbers(code, init, u64::from(contexts), u64::from(calls))
 }
 
 /// Copies of names.
@@ -186,13 +214,7 @@ fn kept(
 {
     let entries = copies(alloc, entries)?;
     let init = Vec::from_slice(alloc, init)?;
-    Ok(Setup {
-        entries,
-        init,
-        contexts,
-        calls,
-        seed,
-    })
+    Ok(Setup::of_parts(entries, init, contexts, calls, seed))
 }
 
 impl From<AllocError> for SetupFault {
@@ -207,6 +229,28 @@ impl From<AllocError> for SetupFault {
 }
 
 impl Setup {
+    /// The setup that has these parts.
+    pub(crate) fn of_parts(
+        entries: Vec<String>,
+        init: Vec<bool>,
+        contexts: u32,
+        calls: u32,
+        seed: Option<u64>,
+    ) -> Setup
+        requires { let names = map string_bytes entries.items in
+            IsInRange (setup_of names init.items contexts calls seed) }
+        ensures { let names = map string_bytes entries.items in
+            result ≡ setup_of names init.items contexts calls seed }
+    {
+        Setup {
+            entries,
+            init,
+            contexts,
+            calls,
+            seed,
+        }
+    }
+
     /// The setup of guest threads that begin with these procedures, on globals with these bits in
     /// order of declaration, within so many contexts, with at most so many calls of each thread.
     /// With a seed each call has the choice bit of that seed, else the one that is handed in.

@@ -258,3 +258,37 @@ fn setup_refusals(rt: HostRuntime) -> Result<(), Fail> {
     }
     Ok(())
 }
+
+/// The setup of the recursive program that a text says so.
+fn said(
+    alloc: Global,
+    code: &Code,
+    entries: &[&[u8]],
+    contexts: u64,
+    calls: u64,
+) -> Result<Setup, SetupFault> {
+    Setup::from_words(alloc, code, entries, &[true], contexts, calls, Some(42))
+}
+
+#[test]
+fn setups_of_words(rt: HostRuntime) -> Result<(), Fail> {
+    let alloc = rt.alloc();
+    let code = code_of(alloc, RECURSION)?;
+    let main = b"main".as_slice();
+    let odd = b"ma\xff".as_slice();
+    let cases: [(&[&[u8]], u64, u64, SetupFault); 6] = [
+        (&[], 1, 10, SetupFault::Threads),
+        (&[main, odd], 1, 10, SetupFault::UnknownEntry(1)),
+        (&[main, b""], 1, 10, SetupFault::UnknownEntry(1)),
+        (&[b"A"], 1, 10, SetupFault::EntryHasFormals(0)),
+        (&[main], 1, u64::MAX, SetupFault::OutOfRange),
+        (&[main], 4_294_967_297, 10, SetupFault::OutOfRange),
+    ];
+    for (entries, contexts, calls, fault) in cases {
+        assert!(rt; said(alloc, &code, entries, contexts, calls).err() == Some(fault));
+    }
+    let names = vec![in alloc; String::from_str(alloc, "main")?]?;
+    let setup = Setup::new(alloc, &code, &names, &[true], 1, 10, Some(42))?;
+    assert!(rt; said(alloc, &code, &[main], 1, 10).is_ok_and(|own| own == setup));
+    Ok(())
+}
