@@ -20,7 +20,7 @@ one_cut byte (c ∷ a) (d ∷ b) x y p q e =
 pub numerals : IsNumeralModel (AllDigits 10) (digits_value 10)
 numerals = numerals_by_value (AllDigits 10) tells_digits
 
-digits_without : (byte : ℕ) → byte < 48 → (ds : List ℕ) → AllDigits 10 ds → Without byte ds
+pub digits_without : (byte : ℕ) → byte < 48 → (ds : List ℕ) → AllDigits 10 ds → Without byte ds
 digits_without byte low [] p = tt
 digits_without byte low (d ∷ ds) p = (λ e. absurd (omega (arith, digit_from_value d p.0, e)), digits_without byte low ds p.1)
 

@@ -16,6 +16,7 @@ use Rattle.bp_trace.specs.declared.versions.Version.TheVariants.{One, Two}
 use Rattle.bp_trace.specs.Pieces.{Turn, Piece, piece_of, with_call, pieces_of, calls_of_pieces}
 use Rattle.bp_trace.specs.TraceText.{version_line, entry_line, init_digits, init_line, seed_word, limit_lines, setup_lines, call_line, turn_text, piece_line, calls_text, end_line, text_of}
 use Rattle.bp_trace.proofs.PiecesAreFewest.{pieces_whole}
+use Rattle.bp_trace.specs.BodyReading.{HasNoPair}
 use Rattle.bp_trace.specs.Writable.{Without, IsWritable}
 use Rattle.bp_trace.proofs.Cuts.{same_head, one_cut, decimal_without, one_number, number_begins}
 
@@ -49,7 +50,7 @@ letter_again Stepped = refl
 one_letter : (a b : Reply) → letter_of a ≡ letter_of b → a ≡ b
 one_letter a b e = sym (letter_again a) ∙ ap reply_of_letter e ∙ letter_again b
 
-front_cut : (front a b : List ℕ) → front ++ a ≡ front ++ b → a ≡ b
+pub front_cut : (front a b : List ℕ) → front ++ a ≡ front ++ b → a ≡ b
 front_cut [] a b e = e
 front_cut (c ∷ front) a b e = front_cut front a b (same_head c c (front ++ a) (front ++ b) e).1
 
@@ -170,11 +171,21 @@ module _ (s r : SetupOf) (h g : List Call) (p : IsWritable s h) (q : IsWritable 
 
 -- ---- the calls
 
-call_then : (c : Call) (rest : List ℕ) → call_line c ++ rest ≡ decimal c.thread ++ 32 ∷ bit_digit c.bit ∷ 32 ∷ letter_of c.reply ∷ 10 ∷ rest
+pub call_then : (c : Call) (rest : List ℕ) → call_line c ++ rest ≡ decimal c.thread ++ 32 ∷ bit_digit c.bit ∷ 32 ∷ letter_of c.reply ∷ 10 ∷ rest
 call_then c rest = append_assoc (decimal c.thread) _ rest
 
 same_call : (c d : Call) → c.thread ≡ d.thread → c.bit ≡ d.bit → c.reply ≡ d.reply → c ≡ d
 same_call c d thread bit reply = λ i. record { thread = thread i; bit = bit i; reply = reply i }
+
+-- one line of a call begins a text
+pub one_call_line : (c d : Call) (x y : List ℕ) → c.thread < 2 ^ 64 → d.thread < 2 ^ 64 → call_line c ++ x ≡ call_line d ++ y → (c ≡ d) × (x ≡ y)
+one_call_line c d x y p q e =
+    let thread = one_number 32 (omega arith) c.thread d.thread _ _ p q (sym (call_then c x) ∙ e ∙ call_then d y) in
+    let bit = same_head _ _ _ _ thread.1 in
+    let space = same_head _ _ _ _ bit.1 in
+    let letter = same_head _ _ _ _ space.1 in
+    let line = same_head _ _ _ _ letter.1 in
+    (same_call c d thread.0 (one_digit c.bit d.bit bit.0) (one_letter c.reply d.reply letter.0), line.1)
 
 calls_alike : (h g : List Call) (x y : List ℕ) → AllByRecursion (λ (c : Call). c.thread < 2 ^ 64) h → AllByRecursion (λ (c : Call). c.thread < 2 ^ 64) g
     → flat_map call_line h ++ (101 ∷ x) ≡ flat_map call_line g ++ (101 ∷ y) → (h ≡ g) × (x ≡ y)
@@ -184,32 +195,31 @@ calls_alike [] (d ∷ g) x y p q e =
 calls_alike (c ∷ h) [] x y p q e =
     absurd (number_begins c.thread _ 101 y p.0 (omega arith) (sym (append_assoc (call_line c) (flat_map call_line h) (101 ∷ x) ∙ call_then c (flat_map call_line h ++ (101 ∷ x))) ∙ e))
 calls_alike (c ∷ h) (d ∷ g) x y p q e =
-    let left = append_assoc (call_line c) (flat_map call_line h) (101 ∷ x) ∙ call_then c (flat_map call_line h ++ (101 ∷ x)) in
-    let right = append_assoc (call_line d) (flat_map call_line g) (101 ∷ y) ∙ call_then d (flat_map call_line g ++ (101 ∷ y)) in
-    let thread = one_number 32 (omega arith) c.thread d.thread _ _ p.0 q.0 (sym left ∙ e ∙ right) in
-    let bit = same_head _ _ _ _ thread.1 in
-    let space = same_head _ _ _ _ bit.1 in
-    let letter = same_head _ _ _ _ space.1 in
-    let line = same_head _ _ _ _ letter.1 in
+    let lines = sym (append_assoc (call_line c) (flat_map call_line h) (101 ∷ x)) ∙ e ∙ append_assoc (call_line d) (flat_map call_line g) (101 ∷ y) in
+    let line = one_call_line c d (flat_map call_line h ++ (101 ∷ x)) (flat_map call_line g ++ (101 ∷ y)) p.0 q.0 lines in
     let rest = calls_alike h g x y p.1 q.1 line.1 in
-    (cc (same_call c d thread.0 (one_digit c.bit d.bit bit.0) (one_letter c.reply d.reply letter.0), rest.0), rest.1)
+    (cc (line.0, rest.0), rest.1)
 
 -- ---- the pieces
 
-turns_alike : (ts us : List Turn) (x y : List ℕ) → flat_map turn_text ts ++ 10 ∷ x ≡ flat_map turn_text us ++ 10 ∷ y → (ts ≡ us) × (x ≡ y)
-turns_alike [] [] x y e = (refl, (same_head _ _ _ _ e).1)
-turns_alike [] (u ∷ us) x y e = absurd (omega (arith, digit_high u.bit, (same_head _ _ _ _ e).0))
-turns_alike (t ∷ ts) [] x y e = absurd (omega (arith, digit_high t.bit, (same_head _ _ _ _ e).0))
-turns_alike (t ∷ ts) (u ∷ us) x y e =
+-- turns that no other turn is behind
+pub turns_alike : (ts us : List Turn) (x y : List ℕ) → HasNoPair x → HasNoPair y → flat_map turn_text ts ++ x ≡ flat_map turn_text us ++ y → (ts ≡ us) × (x ≡ y)
+turns_alike [] [] x y p q e = (refl, e)
+turns_alike [] (u ∷ us) x y p q e = absurd (p u.bit u.reply (flat_map turn_text us ++ y) e)
+turns_alike (t ∷ ts) [] x y p q e = absurd (q t.bit t.reply (flat_map turn_text ts ++ x) (sym e))
+turns_alike (t ∷ ts) (u ∷ us) x y p q e =
     let bit = same_head _ _ _ _ e in
     let letter = same_head _ _ _ _ bit.1 in
-    let rest = turns_alike ts us x y letter.1 in
+    let rest = turns_alike ts us x y p q letter.1 in
     let bits = one_digit t.bit u.bit bit.0 in
     let replies = one_letter t.reply u.reply letter.0 in
     let same : t ≡ u = λ i. record { bit = bits i; reply = replies i } in
     (cc (same, rest.0), rest.1)
 
-piece_then : (p : Piece) (rest : List ℕ) → piece_line p ++ rest ≡ decimal p.thread ++ 32 ∷ (flat_map turn_text (p.first ∷ p.others) ++ 10 ∷ rest)
+pub no_pair_at_end : (rest : List ℕ) → HasNoPair (10 ∷ rest)
+no_pair_at_end rest b r more e = omega (arith, digit_high b, (same_head 10 (bit_digit b) rest (letter_of r ∷ more) e).0)
+
+pub piece_then : (p : Piece) (rest : List ℕ) → piece_line p ++ rest ≡ decimal p.thread ++ 32 ∷ (flat_map turn_text (p.first ∷ p.others) ++ 10 ∷ rest)
 piece_then p rest =
     append_assoc (decimal p.thread) _ rest ∙ ap (λ t. decimal p.thread ++ 32 ∷ t) (append_assoc (flat_map turn_text (p.first ∷ p.others)) (codes "\n") rest)
 
@@ -217,6 +227,13 @@ same_piece : (p q : Piece) → p.thread ≡ q.thread → p.first ∷ p.others �
 same_piece p q thread turns =
     let heads = same_head p.first q.first p.others q.others turns in
     λ i. record { thread = thread i; first = heads.0 i; others = heads.1 i }
+
+-- one line of a piece begins a text
+pub one_piece_line : (c d : Piece) (x y : List ℕ) → c.thread < 2 ^ 64 → d.thread < 2 ^ 64 → piece_line c ++ x ≡ piece_line d ++ y → (c ≡ d) × (x ≡ y)
+one_piece_line c d x y p q e =
+    let thread = one_number 32 (omega arith) c.thread d.thread _ _ p q (sym (piece_then c x) ∙ e ∙ piece_then d y) in
+    let turns = turns_alike (c.first ∷ c.others) (d.first ∷ d.others) (10 ∷ x) (10 ∷ y) (no_pair_at_end x) (no_pair_at_end y) thread.1 in
+    (same_piece c d thread.0 turns.0, (same_head 10 10 x y turns.1).1)
 
 pieces_alike : (ps qs : List Piece) (x y : List ℕ) → AllByRecursion (λ (p : Piece). p.thread < 2 ^ 64) ps → AllByRecursion (λ (p : Piece). p.thread < 2 ^ 64) qs
     → flat_map piece_line ps ++ (101 ∷ x) ≡ flat_map piece_line qs ++ (101 ∷ y) → (ps ≡ qs) × (x ≡ y)
@@ -226,12 +243,10 @@ pieces_alike [] (d ∷ qs) x y p q e =
 pieces_alike (c ∷ ps) [] x y p q e =
     absurd (number_begins c.thread _ 101 y p.0 (omega arith) (sym (append_assoc (piece_line c) (flat_map piece_line ps) (101 ∷ x) ∙ piece_then c (flat_map piece_line ps ++ (101 ∷ x))) ∙ e))
 pieces_alike (c ∷ ps) (d ∷ qs) x y p q e =
-    let left = append_assoc (piece_line c) (flat_map piece_line ps) (101 ∷ x) ∙ piece_then c (flat_map piece_line ps ++ (101 ∷ x)) in
-    let right = append_assoc (piece_line d) (flat_map piece_line qs) (101 ∷ y) ∙ piece_then d (flat_map piece_line qs ++ (101 ∷ y)) in
-    let thread = one_number 32 (omega arith) c.thread d.thread _ _ p.0 q.0 (sym left ∙ e ∙ right) in
-    let turns = turns_alike (c.first ∷ c.others) (d.first ∷ d.others) _ _ thread.1 in
-    let rest = pieces_alike ps qs x y p.1 q.1 turns.1 in
-    (cc (same_piece c d thread.0 turns.0, rest.0), rest.1)
+    let lines = sym (append_assoc (piece_line c) (flat_map piece_line ps) (101 ∷ x)) ∙ e ∙ append_assoc (piece_line d) (flat_map piece_line qs) (101 ∷ y) in
+    let line = one_piece_line c d (flat_map piece_line ps ++ (101 ∷ x)) (flat_map piece_line qs ++ (101 ∷ y)) p.0 q.0 lines in
+    let rest = pieces_alike ps qs x y p.1 q.1 line.1 in
+    (cc (line.0, rest.0), rest.1)
 
 with_call_threads : (c : Call) (ps : List Piece) → c.thread < 2 ^ 64 → AllByRecursion (λ (p : Piece). p.thread < 2 ^ 64) ps → AllByRecursion (λ (p : Piece). p.thread < 2 ^ 64) (with_call c ps)
 with_call_threads c [] p q = (p, tt)

@@ -7,14 +7,14 @@ use Rattle.bp_machine.specs.ContextCounts.{contexts_opened}
 use Rattle.bp_machine.proofs.ContextCounts.{opened, opened_none, opened_more, opened_least}
 use Rattle.bp_trace.specs.Pieces.{Piece, turn_of, call_of, piece_of, calls_of_piece, calls_of_pieces, with_call, pieces_of}
 
-abbrev thread_of : Call → ℕ
+abbrev pub thread_of : Call → ℕ
 thread_of x = x.thread
 
 -- the pieces of calls of which y is the first
-record Cut (y : Call) (ys : List Call) : Type 0 where
-  piece : Piece
-  rest : List Piece
-  is : pieces_of (y ∷ ys) ≡ piece ∷ rest
+pub record Cut (y : Call) (ys : List Call) : Type 0 where
+  pub piece : Piece
+  pub rest : List Piece
+  pub is : pieces_of (y ∷ ys) ≡ piece ∷ rest
   thread : piece.thread ≡ y.thread
   calls : calls_of_piece piece ++ calls_of_pieces rest ≡ y ∷ ys
   count : length rest ≡ opened (Some y.thread) (map thread_of ys)
@@ -23,7 +23,7 @@ record Cut (y : Call) (ys : List Call) : Type 0 where
 opens : (i j : ℕ) (b : Bool) → (i == j) ≡ b → contexts_opened (Some i) j ≡ cond b 0 1
 opens i j b e = ap (λ c. cond c 0 1) e
 
-cut : (y : Call) (ys : List Call) → Cut y ys
+pub cut : (y : Call) (ys : List Call) → Cut y ys
 cut y [] = record { piece = piece_of y []; rest = []; is = refl; thread = refl; calls = refl; count = sym (opened_none (Some y.thread)) }
 cut x (y ∷ ys) = go (cut y ys) (x.thread == (cut y ys).piece.thread) refl
   where

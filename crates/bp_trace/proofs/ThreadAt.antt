@@ -1,5 +1,5 @@
 -- The thread that begins a text, with a space behind it.
-use Rattle.std.proofs.Common.{◌≡◌, ◌≢◌, ℕ, ◌+◌, ◌<◌, ◌≤◌, Bool, List, [], ◌∷◌, ◌++◌, length, drop, Option, None, Some, refl, ap, sym, ◌∙◌, arith, append_assoc, length-append, add-one, decimal}
+use Rattle.std.proofs.Common.{◌≡◌, ◌≢◌, ℕ, ◌+◌, ◌<◌, ◌≤◌, Bool, List, [], ◌∷◌, ◌++◌, length, drop, None, Some, ap, sym, ◌∙◌, arith, append_assoc, length-append, decimal}
 use Rattle.bp_machine.specs.declared.calls.Call.{Call}
 use Rattle.bp_machine.specs.declared.calls.Reply.{Reply}
 use Rattle.bp_machine.specs.Replies.{letter_of}
@@ -11,7 +11,7 @@ use Rattle.bp_trace.specs.ScheduleReading.{number_at}
 use Rattle.bp_trace.specs.TraceReading.{IsThreadAt, HasNoThread, IsTurnAt, HasNoTurn, IsCallAt, HasNoCall}
 use Rattle.bp_trace.proofs.ScheduleLineAt.{reads_back, front, drop_front}
 
-drop_more : (xs : List ℕ) (byte : ℕ) (ys : List ℕ) → drop (length xs + 1) (xs ++ byte ∷ ys) ≡ ys
+pub drop_more : (xs : List ℕ) (byte : ℕ) (ys : List ℕ) → drop (length xs + 1) (xs ++ byte ∷ ys) ≡ ys
 drop_more xs byte ys =
     ap (λ k. drop k (xs ++ byte ∷ ys)) (sym (length-append xs (byte ∷ [])))
     ∙ ap (drop (length (xs ++ byte ∷ []))) (sym (append_assoc xs (byte ∷ []) ys))
@@ -49,10 +49,10 @@ module _ (n : ℕ) (text : List ℕ) where
   no_thread_no_call none = λ x more below e. none x.thread _ below (e ∙ call_then x more)
 
   module _ (few : n ≤ MAX_THREADS) (t : ℕ) (at : IsThreadAt n text t) where
-    behind : drop (length (decimal t) + 1) text ≡ at.0
+    pub behind : drop (length (decimal t) + 1) text ≡ at.0
     behind = ap (drop (length (decimal t) + 1)) at.2 ∙ drop_more (decimal t) 32 at.0
 
-    one_thread : (i : ℕ) (more : List ℕ) → i < n → text ≡ decimal i ++ 32 ∷ more → (t ≡ i) × (at.0 ≡ more)
+    pub one_thread : (i : ℕ) (more : List ℕ) → i < n → text ≡ decimal i ++ 32 ∷ more → (t ≡ i) × (at.0 ≡ more)
     one_thread i more below e = one_number 32 (omega arith) t i at.0 more (omega (arith, at.1, few)) (omega (arith, below, few)) (sym at.2 ∙ e)
 
     pub within_text : length (decimal t) + 1 ≤ length text

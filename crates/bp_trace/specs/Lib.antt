@@ -1,3 +1,4 @@
+pub mod BodyReading
 pub mod Drives
 pub mod EndReading
 pub mod Heads

@@ -1,5 +1,5 @@
 -- What a text is to a replay: the trace of a legal history, or what refuses it.
-use Rattle.std.specs.Prelude.{◌≡◌, ◌≢◌, ◌⊎◌, ◌<◌, ◌≤◌, ℕ, ◌+◌, true, false, List, [], ◌∷◌, ◌++◌, None, Some, length, map, codes, slice_index}
+use Rattle.std.specs.Prelude.{◌≡◌, ◌≢◌, ◌⊎◌, ◌<◌, ◌≤◌, ℕ, ◌+◌, true, false, List, [], ◌∷◌, ◌++◌, Option, None, Some, length, map, codes, slice_index}
 use Rattle.std.specs.Str.Parse.{AllDigits}
 use Rattle.bp_tree.specs.Ast.{Program}
 use Rattle.bp_machine.specs.declared.calls.Call.{Call}
@@ -40,20 +40,21 @@ abbrev pub line_count : Version → List Call → ℕ
 line_count One h = length h
 line_count Two h = length (pieces_of h)
 
--- a line that may follow the calls of h, and the calls that it holds
-module _ (s : SetupOf) (h : List Call) (line : List ℕ) (calls : List Call) where
+-- a line of calls of one of n threads that may follow a call of the last thread, or the head where
+-- there is none; and the calls that it holds
+module _ (n : ℕ) (last : Option ℕ) (line : List ℕ) (calls : List Call) where
   -- one call
   pub record IsCallLine : Type 0 where
     pub call : Call
-    pub thread : call.thread < threads s
+    pub thread : call.thread < n
     pub is : line ≡ call_line call
     pub holds : calls ≡ call ∷ []
 
   -- a piece, which is of another thread than the line before
   pub record IsPieceLine : Type 0 where
     pub piece : Piece
-    pub thread : piece.thread < threads s
-    pub other : Some piece.thread ≢ last_thread (map (λ x. x.thread) h)
+    pub thread : piece.thread < n
+    pub other : Some piece.thread ≢ last
     pub is : line ≡ piece_line piece
     pub holds : calls ≡ calls_of_piece piece
 
@@ -74,6 +75,22 @@ pub record IsEndLine (line : List ℕ) : Type 0 where
   pub first : IsDecimal calls
   pub second : IsDecimal left_open
   pub is : line ≡ codes "end " ++ (calls ++ (codes " " ++ (left_open ++ codes "\n")))
+
+-- What may be behind the calls of a history, but its own end alone.
+module _ (own rest : List ℕ) where
+  -- another end
+  pub record HasOtherEnd : Type 0 where
+    pub line : List ℕ
+    pub more : List ℕ
+    pub is_end : IsEndLine line
+    pub begins : rest ≡ line ++ more
+    pub other : line ≢ own
+
+  -- its own end, and something behind it
+  pub record HasMoreBehind : Type 0 where
+    pub more : List ℕ
+    pub begins : rest ≡ own ++ more
+    pub some : more ≢ []
 
 -- Why a call is refused on line n after the history h: its thread has made its last call; else its
 -- bit is not that of the seed; else the machine's reply is another one, which was wanted.
@@ -111,11 +128,16 @@ pub record Reaches
 -- refused; with the end of another history; or with the end, and something behind it.
 module _
     (t : Program) (v : Version) (s : SetupOf) (h : List Call) (n : ℕ) (rest : List ℕ) where
+  -- a line of calls that may follow those of h
+  abbrev pub IsNextLine : List ℕ → List Call → Type 0
+  IsNextLine line calls =
+      IsBodyLine (threads s) (last_thread (map (λ x. x.thread) h)) line calls v
+
   -- no line that may follow begins the rest
   pub record HasNoLine : Type 0 where
     pub some : rest ≢ []
     pub calls : (line : List ℕ) (calls : List Call) (more : List ℕ)
-        → IsBodyLine s h line calls v
+        → IsNextLine line calls
         → rest ≢ line ++ more
     pub ends : (line more : List ℕ) → IsEndLine line → rest ≢ line ++ more
 
@@ -124,7 +146,7 @@ module _
     pub line : List ℕ
     pub calls : List Call
     pub more : List ℕ
-    pub is_line : IsBodyLine s h line calls v
+    pub is_line : IsNextLine line calls
     pub begins : rest ≡ line ++ more
     pub good : List Call
     pub call : Call
@@ -136,23 +158,11 @@ module _
   abbrev own_end : List ℕ
   own_end = end_line (length h) (open_lines s h)
 
-  pub record HasOtherEnd : Type 0 where
-    pub line : List ℕ
-    pub more : List ℕ
-    pub is_end : IsEndLine line
-    pub begins : rest ≡ line ++ more
-    pub other : line ≢ own_end
-
-  pub record HasMoreBehind : Type 0 where
-    pub more : List ℕ
-    pub begins : rest ≡ own_end ++ more
-    pub some : more ≢ []
-
   abbrev pub IsRestRefused : ReplayFault → Type 0
   IsRestRefused fault.NoEnd = rest ≡ []
-  IsRestRefused fault.EndCount = HasOtherEnd
+  IsRestRefused fault.EndCount = HasOtherEnd own_end rest
   IsRestRefused (fault.Line m) =
-      ((m ≡ n) × HasNoLine) ⊎ ((m ≡ n + 1) × HasMoreBehind)
+      ((m ≡ n) × HasNoLine) ⊎ ((m ≡ n + 1) × HasMoreBehind own_end rest)
   IsRestRefused f = HasRefusedCall f
 
 -- Each refusal, the first that applies. Nothing is said of when memory is refused, but that nothing

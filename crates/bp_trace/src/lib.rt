@@ -2,6 +2,7 @@
 //! as a text.
 #![tactic(auto)]
 
+mod body_lines;
 mod driving;
 mod end_lines;
 mod faults;

@@ -1,5 +1,5 @@
 //! The lines of calls in a trace.
-ghost use Rattle.std.specs.Prelude.{◌≡◌, ◌≢◌, ◌≤◌, Bool, MatchBool, MatchOption};
+ghost use Rattle.std.specs.Prelude.{◌≡◌, ◌≢◌, ◌↔◌, ◌≤◌, Bool, Some, IsTrue, slice_get, MatchBool, MatchOption};
 ghost use Rattle.bp_machine.specs.declared.limits.TheConstants.{MAX_THREADS};
 ghost use Rattle.bp_machine.specs.declared.calls.Reply.{Reply as Answer};
 ghost use Rattle.bp_machine.specs.Replies.{letter_of};
@@ -10,7 +10,7 @@ use crate::schedules::{digit_count, number_at, text_from};
 use bp_machine::{Call, Reply};
 
 /// The bit of a digit.
-fn bit_of(byte: u8) -> Option<bool>
+pub(crate) fn bit_of(byte: u8) -> Option<bool>
     ensures { MatchOption result
         ((b : Bool) → byte ≢ bit_digit b)
         (λ b. byte ≡ bit_digit b) }
@@ -23,7 +23,7 @@ fn bit_of(byte: u8) -> Option<bool>
 }
 
 /// The reply of a letter.
-fn reply_of(byte: u8) -> Option<Reply>
+pub(crate) fn reply_of(byte: u8) -> Option<Reply>
     ensures { MatchOption result
         ((r : Answer) → byte ≢ letter_of r)
         (λ r. byte ≡ letter_of r) }
@@ -38,6 +38,13 @@ fn reply_of(byte: u8) -> Option<Reply>
         b's' => Some(Reply::Stepped),
         _ => None,
     }
+}
+
+/// Whether this byte is at this place of the text.
+pub(crate) fn has_byte(byte: u8, text: &[u8], place: usize) -> bool
+    ensures { IsTrue result ↔ (slice_get text.now place ≡ Some byte) }
+{
+    text.get(place) == Some(&byte)
 }
 
 /// Whether a space begins the text.

@@ -1,0 +1,19 @@
+-- A text that is the texts of a list's elements, read one after the other.
+use Rattle.std.proofs.Common.{◌≡◌, ◌≢◌, ℕ, ◌+◌, ◌<◌, List, [], ◌∷◌, ◌++◌, length, take, drop, flat_map, get_or, ap, sym, ◌∙◌, append_assoc}
+use Rattle.std.proofs.lemmas.List.{append-nil, take_more}
+use Rattle.std.proofs.lemmas.List.Concat.{flat_map-append}
+use Rattle.bp_code.proofs.AppendsPieces.{flat_map_at}
+use Rattle.bp_trace.proofs.OneText.{front_cut}
+
+module _ {X : Type 0} (f : X → List ℕ) (xs : List X) (i : ℕ) (x : X) (within : i < length xs) (text rest : List ℕ) (before : text ≡ flat_map f (take i xs) ++ rest) where
+  -- the i-th begins the rest
+  pub one_more : (behind : List ℕ) → rest ≡ f (get_or xs i x) ++ behind → text ≡ flat_map f (take (i + 1) xs) ++ behind
+  one_more behind e =
+      let next : flat_map f (take (i + 1) xs) ≡ flat_map f (take i xs) ++ f (get_or xs i x) =
+      ap (flat_map f) (take_more xs i x within) ∙ flat_map-append f (take i xs) (get_or xs i x ∷ []) ∙ ap (λ t. flat_map f (take i xs) ++ t) (append-nil (f (get_or xs i x))) in
+      before ∙ ap (λ t. flat_map f (take i xs) ++ t) e ∙ sym (append_assoc (flat_map f (take i xs)) (f (get_or xs i x)) behind) ∙ ap (λ t. t ++ behind) (sym next)
+
+  -- it does not
+  pub one_missing : ((behind : List ℕ) → rest ≢ f (get_or xs i x) ++ behind) → text ≢ flat_map f xs
+  one_missing none = λ whole.
+      none (flat_map f (drop (i + 1) xs)) (front_cut (flat_map f (take i xs)) rest _ (sym before ∙ whole ∙ flat_map_at f xs i x within))
