@@ -10,6 +10,7 @@ mod OneLine
 mod OneText
 mod PieceTexts
 mod PiecesAreFewest
+mod PlayedCalls
 mod PlayedLines
 mod ScheduleLength
 mod ScheduleLineAt

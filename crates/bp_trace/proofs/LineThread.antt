@@ -3,7 +3,6 @@ use Rattle.std.proofs.Common.{◌≡◌, ◌≢◌, ℕ, ◌<◌, List, [], ◌�
 use Rattle.std.specs.List.{AllByRecursion}
 use Rattle.bp_machine.specs.declared.calls.Call.{Call}
 use Rattle.bp_machine.specs.ContextCounts.{last_thread}
-use Rattle.bp_machine.proofs.LegalLength.{AllBelow}
 use Rattle.bp_trace.specs.declared.versions.Version.{Version}
 use Rattle.bp_trace.specs.declared.versions.Version.TheVariants.{One, Two}
 use Rattle.bp_trace.specs.Pieces.{Turn, call_of}
@@ -37,11 +36,11 @@ line_thread Two n last line calls b = record {
       (record { some = λ e. absurd (cc); each = (refl, turns_of b.piece.thread b.piece.others) });
 }
 
-all_below : (n i : ℕ) (calls : List Call) → i < n → AllByRecursion (λ (x : Call). x.thread ≡ i) calls → AllBelow n calls
+all_below : (n i : ℕ) (calls : List Call) → i < n → AllByRecursion (λ (x : Call). x.thread ≡ i) calls → AllByRecursion (λ (x : Call). x.thread < n) calls
 all_below n i [] below each = tt
 all_below n i (x ∷ xs) below each = (omega (arith, below, each.0), all_below n i xs below each.1)
 
-pub line_below : (v : Version) (n : ℕ) (last : Option ℕ) (line : List ℕ) (calls : List Call) → IsBodyLine n last line calls v → AllBelow n calls
+pub line_below : (v : Version) (n : ℕ) (last : Option ℕ) (line : List ℕ) (calls : List Call) → IsBodyLine n last line calls v → AllByRecursion (λ (x : Call). x.thread < n) calls
 line_below v n last line calls b =
     let one = line_thread v n last line calls b in
     all_below n one.thread calls one.below one.are.each

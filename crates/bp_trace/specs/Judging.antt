@@ -1,19 +1,27 @@
 -- How a replay judges a call: a device, which no public clause names.
-use Rattle.std.specs.Prelude.{if◌then◌else◌, ◌≡◌, ◌≢◌, ◌⊎◌, ℕ, Bool, List, Option, None, Some}
+use Rattle.std.specs.Prelude.{if◌then◌else◌, ◌≡◌, ◌≢◌, ◌⊎◌, ◌≤◌, ◌+◌, ◌++◌, ℕ, Bool, List, Option, None, Some, length, map, drop}
 use Rattle.std.specs.Option.{option_map, option_to_list}
 use Rattle.bp_tree.specs.Ast.{Program}
 use Rattle.bp_machine.specs.declared.calls.Call.{Call}
 use Rattle.bp_machine.specs.declared.sessions.AskFault.{AskFault}
 use Rattle.bp_machine.specs.declared.sessions.AskFault.TheVariants as refused
-use Rattle.bp_machine.specs.PrintedRows.{PrintedRow}
-use Rattle.bp_machine.specs.Setups.{SetupOf}
+use Rattle.bp_code.specs.StandsFor.{StandsFor}
+use Rattle.bp_machine.specs.declared.setups.SetupFault.{SetupFault}
+use Rattle.bp_machine.specs.declared.setups.SetupFault.TheVariants as refused_setup
+use Rattle.bp_machine.specs.ContextCounts.{last_thread}
+use Rattle.bp_machine.specs.PrintedRows.{PrintedRow, printed_rows}
+use Rattle.bp_machine.specs.Sessions.{SessionOf, Stands}
+use Rattle.bp_machine.specs.Setups.{SetupOf, threads}
 use Rattle.bp_trace.specs.declared.judging.Printed.{Printed}
+use Rattle.bp_trace.specs.declared.judging.Played.{Played}
+use Rattle.bp_trace.specs.declared.playing.Body.{Body}
+use Rattle.bp_trace.specs.declared.versions.Version.{Version}
+use Rattle.bp_trace.specs.TraceText.{calls_text}
+use Rattle.bp_trace.specs.BodyReading.{HasNoBodyLine}
+use Rattle.bp_trace.specs.Replayed.{row_of}
 use Rattle.bp_trace.specs.declared.replay_faults.ReplayFault.{ReplayFault}
 use Rattle.bp_trace.specs.declared.replay_faults.ReplayFault.TheVariants as fault
-use Rattle.bp_trace.specs.Replays.{IsCallFault}
-
-abbrev pub row_of : Printed → PrintedRow
-row_of p = record { thread = p.thread; values = p.values.items }
+use Rattle.bp_trace.specs.Replays.{IsPlayable, line_count, IsCallFault, IsRefusedAmong, HasRefusedCall}
 
 -- the rows of a call, which prints one or none
 abbrev pub rows_of : Option Printed → List PrintedRow
@@ -43,3 +51,44 @@ IsMismatch own x n f = ⊥
 -- why a call on the line n is refused after h
 abbrev pub IsCallRefusal : Program → SetupOf → List Call → ℕ → Call → ReplayFault → Type 0
 IsCallRefusal t s h n x f = (f ≡ fault.Memory) ⊎ IsCallFault t s h n x f
+
+-- the session stands after the calls that were played, and these are the rows that they print
+abbrev pub ArePlayed : SessionOf → Played → Type 0
+ArePlayed x p =
+    (t : Program)
+    → StandsFor x.code t
+    → Stands t x p.history.items
+    × (map row_of p.printed.items ≡ printed_rows t x.setup p.history.items)
+
+-- why the calls of the line n are refused after h
+abbrev pub IsLineRefused :
+    Program → SetupOf → List Call → ℕ → List Call → ReplayFault → Type 0
+IsLineRefused t s h n calls f = (f ≡ fault.Memory) ⊎ IsRefusedAmong t s h n calls f
+
+-- the lines of the calls that were played begin the text, and no line of calls is behind them
+pub record IsBody (v : Version) (s : SetupOf) (text : List ℕ) (first : ℕ) (b : Body) : Type 0 where
+  pub within : b.size ≤ length text
+  pub parts : text ≡ calls_text v b.played.history.items ++ drop b.size text
+  pub number : b.line ≡ first + line_count v b.played.history.items
+  pub ends : HasNoBodyLine v (threads s) (last_thread (map (λ x. x.thread) b.played.history.items))
+      (drop b.size text)
+
+-- the lines of calls that may be played begin the text, and a line is behind them of whose calls
+-- one is refused
+pub record HasRefusedBody
+    (t : Program) (v : Version) (s : SetupOf) (text : List ℕ) (first : ℕ) (f : ReplayFault)
+    : Type 0 where
+  pub history : List Call
+  pub rest : List ℕ
+  pub playable : IsPlayable t s history
+  pub parts : text ≡ calls_text v history ++ rest
+  pub refused : HasRefusedCall t v s history (first + line_count v history) rest f
+
+abbrev pub IsBodyRefusal :
+    Program → Version → SetupOf → List ℕ → ℕ → ReplayFault → Type 0
+IsBodyRefusal t v s text first f = (f ≡ fault.Memory) ⊎ HasRefusedBody t v s text first f
+
+-- the refusal of a head whose setup is refused
+abbrev pub replay_fault_of_setup : SetupFault → ReplayFault
+replay_fault_of_setup refused_setup.Memory = fault.Memory
+replay_fault_of_setup f = fault.Setup f

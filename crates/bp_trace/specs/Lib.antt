@@ -7,6 +7,7 @@ pub mod Laws
 pub mod LinePlays
 pub mod Pieces
 pub mod ReplayFaults
+pub mod Replayed
 pub mod Replays
 pub mod ScheduleReading
 pub mod Schedules

@@ -112,6 +112,17 @@ module _ (t : Program) (s : SetupOf) (h : List Call) (n : ℕ) (x : Call) where
   IsCallFault (fault.Reply m wanted) = (m ≡ n) × IsOtherReply wanted
   IsCallFault f = ⊥
 
+-- one of the calls of line n is refused, after h and those before it
+pub record IsRefusedAmong
+    (t : Program) (s : SetupOf) (h : List Call) (n : ℕ) (calls : List Call) (f : ReplayFault)
+    : Type 0 where
+  pub good : List Call
+  pub call : Call
+  pub others : List Call
+  pub parts : calls ≡ good ++ call ∷ others
+  pub playable : IsPlayable t s (h ++ good)
+  pub refused : IsCallFault t s (h ++ good) n call f
+
 -- The text begins with the head of a setup that the program takes, and the whole lines of a history
 -- that is legal; then comes the rest, whose first line has this number.
 pub record Reaches
@@ -148,12 +159,7 @@ module _
     pub more : List ℕ
     pub is_line : IsNextLine line calls
     pub begins : rest ≡ line ++ more
-    pub good : List Call
-    pub call : Call
-    pub others : List Call
-    pub parts : calls ≡ good ++ call ∷ others
-    pub playable : IsPlayable t s (h ++ good)
-    pub refused : IsCallFault t s (h ++ good) n call f
+    pub among : IsRefusedAmong t s h n calls f
 
   abbrev own_end : List ℕ
   own_end = end_line (length h) (open_lines s h)

@@ -8,7 +8,8 @@ ghost use Rattle.bp_machine.specs.Replies.{is_granted};
 ghost use Rattle.bp_machine.specs.PrintedRows.{rows_of_call};
 ghost use Rattle.bp_machine.specs.Setups.{threads};
 ghost use Rattle.bp_machine.specs.Sessions.{Stands, IsNextCall, IsAskRefusal};
-ghost use Rattle.bp_trace.specs.Judging.{row_of, rows_of, given_bit, replay_fault_of, IsOwnAs, IsMismatch, IsCallRefusal};
+ghost use Rattle.bp_trace.specs.Replayed.{row_of};
+ghost use Rattle.bp_trace.specs.Judging.{rows_of, given_bit, replay_fault_of, IsOwnAs, IsMismatch, IsCallRefusal};
 
 use crate::replay_faults::ReplayFault;
 use bp_machine::{AskFault, Call, Reply, Session};

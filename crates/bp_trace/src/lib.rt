@@ -10,7 +10,9 @@ mod judging;
 mod laws;
 pub mod limits;
 mod pieces;
+mod playing;
 mod replay_faults;
+mod replaying;
 mod schedules;
 #[cfg(test)]
 mod tests;
@@ -23,6 +25,7 @@ pub use faults::DriveFault;
 pub use judging::Printed;
 pub use laws::{lines_drive_again, no_two_have_one_text, pieces_are_fewest};
 pub use replay_faults::ReplayFault;
+pub use replaying::Replayed;
 pub use schedules::ScheduleLine;
 pub use traces::{write_call, write_end, write_head, write_trace, write_trace2};
 pub use versions::Version;

@@ -1,0 +1,33 @@
+use Rattle.std.proofs.Common.{◌∙◌, sym, subst}
+use Rattle.std.proofs.lemmas.Result.{err_from_is_err_and}
+use Rattle.bp_code.specs.StandsFor.{StandsFor}
+use Rattle.bp_trace.proofs.PlayedCalls.{line_refused, playable_of, played_more, history_more}
+use Rattle.bp_trace.proofs.playing.judge_line.Goals as goal
+
+pub returns-in_err-judge-clause-refused : goal.returns-in_err-judge-clause-refused
+returns-in_err-judge-clause-refused c = λ t is.
+    let p = err_from_is_err_and c.from_residual.result c.from_residual.ensures.1 in
+    let before = c.loop-call.invariant in
+    let is_kept = subst (λ k. StandsFor k t) (sym before.code) is in
+    let stands = (before.played t is_kept).0 in
+    let playable = playable_of t c.loop-call.session c.args.session.now.setup c.loop-call.played.history.items before.setup stands in
+    let refused = rw before.setup at (c.in_err-judge.ensures.refused t c.loop-call.played.history.items is_kept stands) in
+    rw (p.1, p.2) (line_refused t c.args.session.now.setup c.args.played.now.history.items c.loop-call.played.history.items c.args.calls.now c.loop-call.call-index _ c.loop-call-test.true before.history c.args.n c.in_err-judge.field-0.0 playable refused)
+
+pub loop-call-preserved : goal.loop-call-preserved
+loop-call-preserved c =
+    let before = c.loop-call.invariant in
+    let after = c.in_ok-judge.ensures in
+    record {
+      played = λ t is.
+          let is_kept = subst (λ k. StandsFor k t) c.judge.ensures.kept.0 is in
+          let old = before.played t is_kept in
+          let rows = after.printed t c.loop-call.played.history.items is_kept old.0 in
+          (
+          rw (sym after.history) at (after.stands t c.loop-call.played.history.items is_kept old.0),
+          rw (sym c.judge.ensures.kept.1) at (played_more t c.loop-call.session.setup c.loop-call.played.history.items c.judge.new.played.history.items _ _ _ after.history old.1 rows),
+          );
+      history = history_more c.args.played.now.history.items c.loop-call.played.history.items c.judge.new.played.history.items c.args.calls.now c.loop-call.call-index _ c.loop-call-test.true before.history after.history;
+      code = c.judge.ensures.kept.0 ∙ before.code;
+      setup = c.judge.ensures.kept.1 ∙ before.setup;
+    }

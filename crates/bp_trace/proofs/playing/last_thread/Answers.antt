@@ -1,0 +1,6 @@
+use Rattle.std.proofs.Common.{sym, ◌∙◌}
+use Rattle.bp_trace.proofs.PlayedCalls.{last_is}
+use Rattle.bp_trace.proofs.playing.last_thread.Goals as goal
+
+pub returns-in-Some : goal.returns-in-Some
+returns-in-Some c = last_is c.args.history.now c.in-Some.call.now (sym c.in-Some.ensures.value)

@@ -1,0 +1,54 @@
+use Rattle.std.proofs.Common.{◌≡◌, ◌∙◌, ap, sym, subst, refl}
+use Rattle.std.proofs.lemmas.Result.{err_from_is_err_and}
+use Rattle.bp_code.specs.StandsFor.{StandsFor}
+use Rattle.bp_machine.specs.ContextCounts.{last_thread}
+use Rattle.bp_trace.proofs.LineThread.{line_below}
+use Rattle.bp_trace.proofs.PlayedCalls.{playable_of, next_within, next_parts, next_number, next_few, body_refused}
+use Rattle.bp_trace.proofs.playing.play.Goals as goal
+
+pub returns-in_default-clause-body : goal.returns-in_default-clause-body
+returns-in_default-clause-body c =
+    let before = c.loop-calls.invariant in
+    let none = rw (c.in_default.is, c.threads.ensures, c.last_thread-last.ensures, c.as_slice.ensures.value, c.text_from-rest.ensures) at c.in_ok-found.ensures in
+    record {
+      within = before.within;
+      parts = before.parts;
+      number = before.number;
+      ends = none;
+    }
+
+pub judge_line-requires-clause-threads : goal.judge_line-requires-clause-threads
+judge_line-requires-clause-threads c =
+    let at = rw (c.in-Some.is, c.threads.ensures, c.last_thread-last.ensures, c.as_slice.ensures.value, c.text_from-rest.ensures) at c.in_ok-found.ensures in
+    let below = line_below c.args.version _ _ at.line c.body_line_at.new.calls.items at.is_line in
+    rw (sym (c.loop-calls.invariant.setup ∙ c.requires.setup), sym c.as_slice-in-loop-calls.ensures.value) at below
+
+pub returns-in_err-judge_line-clause-refused : goal.returns-in_err-judge_line-clause-refused
+returns-in_err-judge_line-clause-refused c = λ t is.
+    let before = c.loop-calls.invariant in
+    let p = err_from_is_err_and c.from_residual-in_err-judge_line.result c.from_residual-in_err-judge_line.ensures.1 in
+    let at = rw (c.in-Some.is, c.threads.ensures, c.last_thread-last.ensures, c.as_slice.ensures.value, c.text_from-rest.ensures) at c.in_ok-found.ensures in
+    let is_kept = subst (λ k. StandsFor k t) (sym before.code) is in
+    let same = before.setup ∙ c.requires.setup in
+    let playable = playable_of t c.loop-calls.session c.args.setup.now c.loop-calls.played.history.items same (before.played t is_kept).0 in
+    let refused = rw (same, c.as_slice-in-loop-calls.ensures.value) at (c.in_err-judge_line.ensures.refused t is_kept) in
+    rw (p.1, p.2) (body_refused c.args.version _ c.args.first c.args.text.now c.loop-calls.played.history.items c.loop-calls.size c.loop-calls.line before.within before.parts before.number
+    t c.args.setup.now refl playable c.body_line_at.new.calls.items c.in-Some.more at c.in_err-judge_line.field-0.0 refused)
+
+pub loop-calls-preserved : goal.loop-calls-preserved
+loop-calls-preserved c =
+    let before = c.loop-calls.invariant in
+    let at = rw (c.in-Some.is, c.threads.ensures, c.last_thread-last.ensures, c.as_slice.ensures.value, c.text_from-rest.ensures) at c.in_ok-found.ensures in
+    let after = rw c.as_slice-in-loop-calls.ensures.value at c.in_ok-judge_line.ensures.history in
+    let new = c.judge_line.new.played.history.items in
+    let old = c.loop-calls.played.history.items in
+    let calls = c.body_line_at.new.calls.items in
+    record {
+      played = c.in_ok-judge_line.ensures.played;
+      within = next_within c.args.version _ c.args.first c.args.text.now old c.loop-calls.size c.loop-calls.line before.within before.parts before.number calls new c.in-Some.more at after;
+      parts = next_parts c.args.version _ c.args.first c.args.text.now old c.loop-calls.size c.loop-calls.line before.within before.parts before.number calls new c.in-Some.more at after;
+      number = next_number c.args.version _ c.args.first c.args.text.now old c.loop-calls.size c.loop-calls.line before.within before.parts before.number calls new c.in-Some.more at after;
+      few = next_few c.args.version _ c.args.first c.args.text.now old c.loop-calls.size c.loop-calls.line before.within before.parts before.number calls new c.in-Some.more at after before.few;
+      code = c.judge_line.ensures.kept.0 ∙ before.code;
+      setup = c.judge_line.ensures.kept.1 ∙ before.setup;
+    }

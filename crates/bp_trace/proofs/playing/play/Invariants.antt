@@ -1,0 +1,19 @@
+use Rattle.std.proofs.Common.{◌≡◌, ◌≤◌, ◌-◌, ◌+◌, ◌++◌, length, drop}
+use Rattle.bp_trace.specs.Judging.{ArePlayed}
+use Rattle.bp_trace.specs.Replays.{line_count}
+use Rattle.bp_trace.specs.TraceText.{calls_text}
+use Rattle.bp_trace.proofs.playing.play.Given as goal
+
+abbrev pub invariant-loop-calls : goal.invariant-loop-calls
+invariant-loop-calls l = record {
+  played : ArePlayed l.session l.played;
+  within : l.size ≤ length l.text;
+  parts : l.text ≡ calls_text l.version l.played.history.items ++ drop l.size l.text;
+  number : l.line ≡ l.first + line_count l.version l.played.history.items;
+  few : l.line ≤ l.first + l.size;
+  code : l.session.code ≡ l.fn.session.code;
+  setup : l.session.setup ≡ l.fn.session.setup;
+}
+
+abbrev pub decreases-loop-calls : goal.decreases-loop-calls
+decreases-loop-calls l = length l.text - l.size

@@ -1,0 +1,102 @@
+//! Playing the lines of calls of a trace.
+ghost use Rattle.std.specs.Prelude.{◌≡◌, ◌<◌, ◌+◌, ◌^◌, ◌++◌, [], length, map, is_some, drop, IfOk, IfErr, OnOk};
+ghost use Rattle.std.specs.List.{AllByRecursion};
+ghost use Rattle.bp_tree.specs.Ast.{Program};
+ghost use Rattle.bp_code.specs.StandsFor.{StandsFor};
+ghost use Rattle.bp_machine.specs.ContextCounts.{last_thread};
+ghost use Rattle.bp_machine.specs.Setups.{threads};
+ghost use Rattle.bp_machine.specs.Sessions.{StandsForAll};
+ghost use Rattle.bp_trace.specs.Judging.{ArePlayed, IsBody, IsBodyRefusal, IsLineRefused};
+
+use crate::body_lines::body_line_at;
+use crate::judging::{Played, judge};
+use crate::replay_faults::ReplayFault;
+use crate::schedules::text_from;
+use crate::versions::Version;
+use bp_machine::{Call, Session, Setup};
+use std::alloc::Global;
+
+/// The calls of a trace, how many bytes their lines have, and the number of the line behind them.
+#[derive(Drop)]
+pub(crate) struct Body {
+    pub(crate) played: Played,
+    pub(crate) size: usize,
+    pub(crate) line: u32,
+}
+
+/// The thread of the last call.
+fn last_thread(history: &[Call]) -> Option<u32>
+    ensures { result ≡ last_thread (map (λ x. x.thread) history.now) }
+{
+    match history.last() {
+        None => None,
+        Some(call) => Some(call.thread),
+    }
+}
+
+/// Judges the calls of the `n`-th line of a trace, one after the other.
+fn judge_line(
+    session: &mut Session,
+    seeded: bool,
+    calls: &[Call],
+    n: u32,
+    played: &mut Played,
+) -> Result<(), ReplayFault>
+    requires threads { AllByRecursion (λ x. x.thread < threads session.old.setup) calls.now }
+    requires seeded { seeded ≡ is_some session.old.setup.seed }
+    requires played { ArePlayed session.old played.old }
+    ensures played { OnOk result (ArePlayed session.new played.new) }
+    ensures history { OnOk result
+        (played.new.history.items ≡ played.old.history.items ++ calls.now) }
+    ensures kept { (session.new.code ≡ session.old.code) × (session.new.setup ≡ session.old.setup) }
+    ensures refused { (t : Program)
+        → StandsFor session.old.code t
+        → IfErr result
+        (IsLineRefused t session.old.setup played.old.history.items n calls.now) }
+{
+    for call in calls {
+        judge(session, seeded, call, n, played)?;
+    }
+    Ok(())
+}
+
+/// Plays the lines of calls that begin the text, the first of which has this number.
+pub(crate) fn play(
+    alloc: Global,
+    session: &mut Session,
+    setup: &Setup,
+    version: Version,
+    text: &[u8],
+    first: u32,
+) -> Result<Body, ReplayFault>
+    requires stands { StandsForAll session.old [] }
+    requires setup { session.old.setup ≡ setup.now }
+    requires lines { first + length text.now < 2 ^ 32 }
+    ensures played { IfOk result (λ b. ArePlayed session.new b.played) }
+    ensures body { IfOk result (IsBody version setup.now text.now first) }
+    ensures kept { (session.new.code ≡ session.old.code) × (session.new.setup ≡ setup.now) }
+    ensures refused { (t : Program)
+        → StandsFor session.old.code t
+        → IfErr result (IsBodyRefusal t version setup.now text.now first) }
+{
+    setup.is_in_range();
+    let seeded = setup.seed().is_some();
+    let mut played = Played {
+        history: Vec::new(alloc),
+        printed: Vec::new(alloc),
+    };
+    let mut calls = Vec::new(alloc);
+    let mut size = 0;
+    let mut line = first;
+    loop {
+        let last = last_thread(played.history.as_slice());
+        let rest = text_from(text, size);
+        let found = body_line_at(version, setup.threads(), last, rest, &mut calls)?;
+        let Some(more) = found else {
+            return Ok(Body { played, size, line });
+        };
+        judge_line(session, seeded, calls.as_slice(), line, &mut played)?;
+        size += more;
+        line += 1;
+    }
+}
