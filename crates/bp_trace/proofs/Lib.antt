@@ -3,10 +3,16 @@ mod BodyLineAt
 mod Cuts
 mod EndLineAt
 mod GrowsByLine
+mod HeadStopsAt
+mod InitBits
 mod Joined
 mod LineThread
 mod LinesDriveAgain
+mod NumberOfDigits
+mod OneField
+mod OneHead
 mod OneLine
+mod OneMoreEntry
 mod OneText
 mod PieceTexts
 mod PiecesAreFewest
@@ -16,3 +22,4 @@ mod ScheduleLength
 mod ScheduleLineAt
 mod ThreadAt
 mod TraceLength
+mod WholeHead

@@ -14,7 +14,7 @@ use Rattle.bp_machine.specs.Histories.{open_lines}
 use Rattle.bp_trace.specs.declared.versions.Version.{Version}
 use Rattle.bp_trace.specs.declared.versions.Version.TheVariants.{One, Two}
 use Rattle.bp_trace.specs.Pieces.{Turn, Piece, piece_of, with_call, pieces_of, calls_of_pieces}
-use Rattle.bp_trace.specs.TraceText.{version_line, entry_line, init_digits, init_line, seed_word, limit_lines, setup_lines, call_line, turn_text, piece_line, calls_text, end_line, text_of}
+use Rattle.bp_trace.specs.TraceText.{version_line, entry_line, init_digits, init_line, seed_word, limit_lines, setup_lines, head_text, call_line, turn_text, piece_line, calls_text, end_line, text_of}
 use Rattle.bp_trace.proofs.PiecesAreFewest.{pieces_whole}
 use Rattle.bp_trace.specs.BodyReading.{HasNoPair}
 use Rattle.bp_trace.specs.Writable.{Without, IsWritable}
@@ -79,7 +79,7 @@ bits_without : (bs : List Bool) → Without 10 (map bit_digit bs)
 bits_without [] = tt
 bits_without (b ∷ bs) = (λ e. absurd (omega (arith, digit_high b, e)), bits_without bs)
 
-init_without : (bs : List Bool) → Without 10 (init_digits bs)
+pub init_without : (bs : List Bool) → Without 10 (init_digits bs)
 init_without [] = (λ e. absurd (omega (arith, e)), tt)
 init_without (b ∷ bs) = bits_without (b ∷ bs)
 
@@ -108,7 +108,7 @@ init_alike cs bs x y e =
 abbrev Fits64 : Option ℕ → Type 0
 Fits64 o = (n : ℕ) → o ≡ Some n → n < 2 ^ 64
 
-seed_without : (o : Option ℕ) → Fits64 o → Without 10 (seed_word o)
+pub seed_without : (o : Option ℕ) → Fits64 o → Without 10 (seed_word o)
 seed_without None fits = (λ e. absurd (omega (arith, e)), (λ e. absurd (omega (arith, e)), (λ e. absurd (omega (arith, e)), (λ e. absurd (omega (arith, e)), tt))))
 seed_without (Some n) fits = decimal_without 10 (omega arith) n (fits n refl)
 
@@ -131,6 +131,22 @@ limits_then s rest =
     (append_assoc (decimal s.calls) _ rest ∙ ap (λ t. decimal s.calls ++ 10 ∷ (codes "seed " ++ t)) (append_assoc (seed_word s.seed) (codes "\n") rest))
     )
 
+version_first : (v w : Version) (x y : List ℕ) → version_line v ++ x ≡ version_line w ++ y → v ≡ w
+version_first One One x y e = refl
+version_first Two Two x y e = refl
+version_first One Two x y e = absurd (omega (arith, (same_head 49 50 _ _ (front_cut (codes "btrace ") _ _ e)).0))
+version_first Two One x y e = absurd (omega (arith, (same_head 50 49 _ _ (front_cut (codes "btrace ") _ _ e)).0))
+
+-- the setup's names have no line feed, and its numbers have 64 bits
+pub record HasLines (s : SetupOf) : Type 0 where
+  pub names : AllByRecursion (Without 10) s.entries
+  pub contexts : s.contexts < 2 ^ 64
+  pub calls : s.calls < 2 ^ 64
+  pub seed : Fits64 s.seed
+
+written_has_lines : (s : SetupOf) (h : List Call) → IsWritable s h → HasLines s
+written_has_lines s h p = record { names = p.names; contexts = p.contexts; calls = p.calls; seed = p.seed }
+
 -- the numbers of two setups
 record SameLimits (s r : SetupOf) (x y : List ℕ) : Type 0 where
   contexts : s.contexts ≡ r.contexts
@@ -138,7 +154,7 @@ record SameLimits (s r : SetupOf) (x y : List ℕ) : Type 0 where
   seed : s.seed ≡ r.seed
   rest : x ≡ y
 
-module _ (s r : SetupOf) (h g : List Call) (p : IsWritable s h) (q : IsWritable r g) where
+module _ (s r : SetupOf) (p : HasLines s) (q : HasLines r) where
   limits_alike : (x y : List ℕ) → limit_lines s ++ x ≡ limit_lines r ++ y → SameLimits s r x y
   limits_alike x y e =
       let contexts = one_number 10 (omega arith) s.contexts r.contexts _ _ p.contexts q.contexts (front_cut (codes "contexts ") _ _ (sym (limits_then s x) ∙ e ∙ limits_then r y)) in
@@ -168,6 +184,16 @@ module _ (s r : SetupOf) (h g : List Call) (p : IsWritable s h) (q : IsWritable 
       let init = init_alike s.init r.init (limit_lines s ++ x) (limit_lines r ++ y) (sym (append_assoc (init_line s.init) (limit_lines s) x) ∙ inits ∙ append_assoc (init_line r.init) (limit_lines r) y) in
       let limits = limits_alike x y init.1 in
       (same_setup entries.0 init.0 x y limits, limits.rest)
+
+  behind_version : (v w : Version) (x y : List ℕ) → head_text v s ++ x ≡ head_text w r ++ y → version_line v ++ (setup_lines s ++ x) ≡ version_line w ++ (setup_lines r ++ y)
+  behind_version v w x y e = sym (append_assoc (version_line v) (setup_lines s) x) ∙ e ∙ append_assoc (version_line w) (setup_lines r) y
+
+  pub heads_alike : (v w : Version) (x y : List ℕ) → head_text v s ++ x ≡ head_text w r ++ y → (v ≡ w) × (s ≡ r) × (x ≡ y)
+  heads_alike v w x y e =
+      let both = behind_version v w x y e in
+      let version = version_first v w _ _ both in
+      let setups = setups_alike x y (front_cut (version_line v) _ _ (both ∙ ap (λ u. version_line u ++ (setup_lines r ++ y)) (sym version))) in
+      (version, setups.0, setups.1)
 
 -- ---- the calls
 
@@ -268,29 +294,14 @@ histories_alike One h g x y p q e = (calls_alike h g x y p q e).0
 histories_alike Two h g x y p q e =
     sym (pieces_whole h) ∙ ap calls_of_pieces (pieces_alike (pieces_of h) (pieces_of g) x y (pieces_threads h p) (pieces_threads g q) e).0 ∙ pieces_whole g
 
-version_first : (v w : Version) (x y : List ℕ) → version_line v ++ x ≡ version_line w ++ y → v ≡ w
-version_first One One x y e = refl
-version_first Two Two x y e = refl
-version_first One Two x y e = absurd (omega (arith, (same_head 49 50 _ _ (front_cut (codes "btrace ") _ _ e)).0))
-version_first Two One x y e = absurd (omega (arith, (same_head 50 49 _ _ (front_cut (codes "btrace ") _ _ e)).0))
-
 module _ (v w : Version) (s r : SetupOf) (h g : List Call) (p : IsWritable s h) (q : IsWritable r g) (e : text_of v s h ≡ text_of w r g) where
   abbrev end : SetupOf → List Call → List ℕ
   end z k = end_line (length k) (open_lines z k)
 
-  text_is : (u : Version) (z : SetupOf) (k : List Call) → text_of u z k ≡ version_line u ++ (setup_lines z ++ (calls_text u k ++ end z k))
-  text_is u z k = append_assoc (version_line u) (setup_lines z) (calls_text u k ++ end z k)
-
-  both : version_line v ++ (setup_lines s ++ (calls_text v h ++ end s h)) ≡ version_line w ++ (setup_lines r ++ (calls_text w g ++ end r g))
-  both = sym (text_is v s h) ∙ e ∙ text_is w r g
-
-  version : v ≡ w
-  version = version_first v w _ _ both
-
-  behind : setup_lines s ++ (calls_text v h ++ end s h) ≡ setup_lines r ++ (calls_text v g ++ end r g)
-  behind = front_cut (version_line v) _ _ (both ∙ ap (λ u. version_line u ++ (setup_lines r ++ (calls_text u g ++ end r g))) (sym version))
+  heads : (v ≡ w) × (s ≡ r) × (calls_text v h ++ end s h ≡ calls_text w g ++ end r g)
+  heads = heads_alike s r (written_has_lines s h p) (written_has_lines r g q) v w (calls_text v h ++ end s h) (calls_text w g ++ end r g) e
 
   pub one_text : (v ≡ w) × (s ≡ r) × (h ≡ g)
   one_text =
-      let setups = setups_alike s r h g p q _ _ behind in
-      (version, setups.0, histories_alike v h g _ _ p.threads q.threads setups.1)
+      let behind = heads.2 ∙ ap (λ u. calls_text u g ++ end r g) (sym heads.0) in
+      (heads.0, heads.1, histories_alike v h g _ _ p.threads q.threads behind)

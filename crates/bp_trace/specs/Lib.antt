@@ -1,6 +1,7 @@
 pub mod BodyReading
 pub mod Drives
 pub mod EndReading
+pub mod HeadReading
 pub mod Heads
 pub mod Judging
 pub mod Laws

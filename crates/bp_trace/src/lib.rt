@@ -6,6 +6,7 @@ mod body_lines;
 mod driving;
 mod end_lines;
 mod faults;
+mod heads;
 mod judging;
 mod laws;
 pub mod limits;

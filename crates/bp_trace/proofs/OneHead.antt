@@ -1,0 +1,192 @@
+-- A text has one head, or stops to be one at one line.
+use Rattle.std.proofs.Common.{rules, ◌≡◌, ◌≢◌, ℕ, ◌+◌, ◌<◌, List, [], ◌∷◌, ◌++◌, length, map, flat_map, refl, sym, ap, subst, ◌∙◌, arith, append_assoc, codes, decimal}
+use Rattle.std.specs.List.{AllByRecursion, concat}
+use Rattle.std.proofs.lemmas.List.{append-nil, length-append}
+use Rattle.std.proofs.lemmas.List.Folds.{concat-append}
+use Rattle.bp_machine.specs.Setups.{SetupOf}
+use Rattle.bp_trace.specs.declared.versions.Version.{Version}
+use Rattle.bp_trace.specs.declared.versions.Version.TheVariants.{One, Two}
+use Rattle.bp_trace.specs.Heads.{field_line, setting_lines, head_lines, IsEntryName, HasHead, BeginsHead, HeadStops}
+use Rattle.bp_trace.specs.TraceText.{version_line, entry_line, init_digits, init_line, seed_word, limit_lines, head_text}
+use Rattle.bp_trace.specs.Writable.{Without}
+use Rattle.bp_trace.proofs.Cuts.{one_cut, decimal_without}
+use Rattle.bp_trace.proofs.OneText.{HasLines, heads_alike, init_without, seed_without}
+
+-- ---- the text of a head is that of its lines
+
+entries_joined : (es : List (List ℕ)) → concat (map entry_line es) ≡ flat_map entry_line es
+entries_joined [] = refl
+entries_joined (n ∷ es) = ap (λ t. entry_line n ++ t) (entries_joined es)
+
+settings_joined : (s : SetupOf) → concat (setting_lines s) ≡ init_line s.init ++ limit_lines s
+settings_joined s = ap (λ t. init_line s.init ++ t) (simp append_assoc)
+
+pub head_joined : (v : Version) (s : SetupOf) → concat (head_lines v s) ≡ head_text v s
+head_joined v s =
+    ap (λ t. version_line v ++ t)
+    (concat-append (map entry_line s.entries) (setting_lines s) ∙ ap (λ t. t ++ concat (setting_lines s)) (entries_joined s.entries) ∙ ap (λ t. flat_map entry_line s.entries ++ t) (settings_joined s))
+
+names_without : (es : List (List ℕ)) → AllByRecursion IsEntryName es → AllByRecursion (Without 10) es
+names_without [] p = tt
+names_without (n ∷ es) p = ((p.0).line, names_without es p.1)
+
+has_lines : (s : SetupOf) → HasHead s → HasLines s
+has_lines s p = record { names = names_without s.entries p.names; contexts = p.contexts; calls = p.calls; seed = p.seed }
+
+pub one_head : (v w : Version) (s r : SetupOf) (x y : List ℕ) → HasHead s → HasHead r → head_text v s ++ x ≡ head_text w r ++ y → (v ≡ w) × (s ≡ r) × (x ≡ y)
+one_head v w s r x y p q e = heads_alike s r (has_lines s p) (has_lines r q) v w x y e
+
+-- ---- a text has one list of lines
+
+-- bytes that a line feed ends, and no other
+record IsLine (line : List ℕ) : Type 0 where
+  body : List ℕ
+  without : Without 10 body
+  is : line ≡ body ++ 10 ∷ []
+
+abbrev AreLines : List (List ℕ) → Type 0
+AreLines ls = AllByRecursion IsLine ls
+
+without_both : (a b : List ℕ) → Without 10 a → Without 10 b → Without 10 (a ++ b)
+without_both [] b p q = q
+without_both (c ∷ a) b p q = (p.0, without_both a b p.1 q)
+
+value_is_line : (word value : List ℕ) → Without 10 word → Without 10 value → IsLine (field_line word value)
+value_is_line word value p q = record { body = word ++ value; without = without_both word value p q; is = sym (append_assoc word value (codes "\n")) }
+
+-- no byte of the word is a line feed
+low_free : (word : List ℕ) → AllByRecursion (λ b. 10 < b) word → Without 10 word
+low_free [] p = tt
+low_free (c ∷ word) p = ((λ e. let high = p.0 in absurd (omega (arith, high, e))), low_free word p.1)
+
+version_is_line : (v : Version) → IsLine (version_line v)
+version_is_line One = record { body = codes "btrace 1"; without = low_free (codes "btrace 1") (search rules); is = refl }
+version_is_line Two = record { body = codes "btrace 2"; without = low_free (codes "btrace 2") (search rules); is = refl }
+
+entries_are_lines : (es : List (List ℕ)) → AllByRecursion IsEntryName es → AreLines (map entry_line es)
+entries_are_lines [] p = tt
+entries_are_lines (n ∷ es) p = (value_is_line (codes "entry ") n (low_free (codes "entry ") (search rules)) (p.0).line, entries_are_lines es p.1)
+
+lines_both : (a b : List (List ℕ)) → AreLines a → AreLines b → AreLines (a ++ b)
+lines_both [] b p q = q
+lines_both (l ∷ a) b p q = (p.0, lines_both a b p.1 q)
+
+first_lines : (a b : List (List ℕ)) → AreLines (a ++ b) → AreLines a
+first_lines [] b p = tt
+first_lines (l ∷ a) b p = (p.0, first_lines a b p.1)
+
+settings_are_lines : (s : SetupOf) → HasHead s → AreLines (setting_lines s)
+settings_are_lines s p = (
+  value_is_line (codes "init ") (init_digits s.init) (low_free (codes "init ") (search rules)) (init_without s.init),
+  (
+    value_is_line (codes "contexts ") (decimal s.contexts) (low_free (codes "contexts ") (search rules)) (decimal_without 10 (omega arith) s.contexts p.contexts),
+    (
+      value_is_line (codes "calls ") (decimal s.calls) (low_free (codes "calls ") (search rules)) (decimal_without 10 (omega arith) s.calls p.calls),
+      (value_is_line (codes "seed ") (seed_word s.seed) (low_free (codes "seed ") (search rules)) (seed_without s.seed p.seed), tt),
+    ),
+  ),
+)
+
+head_is_lines : (v : Version) (s : SetupOf) → HasHead s → AreLines (head_lines v s)
+head_is_lines v s p = (version_is_line v, lines_both (map entry_line s.entries) (setting_lines s) (entries_are_lines s.entries p.names) (settings_are_lines s p))
+
+begun_are_lines : (ls : List (List ℕ)) → BeginsHead ls → AreLines ls
+begun_are_lines ls b = first_lines ls b.more (subst AreLines b.is (head_is_lines b.version b.setup b.has))
+
+one_line : (k l x y : List ℕ) → IsLine k → IsLine l → k ++ x ≡ l ++ y → (k ≡ l) × (x ≡ y)
+one_line k l x y p q e =
+    let left = ap (λ t. t ++ x) p.is ∙ append_assoc p.body (10 ∷ []) x in
+    let right = ap (λ t. t ++ y) q.is ∙ append_assoc q.body (10 ∷ []) y in
+    let cut = one_cut 10 p.body q.body x y p.without q.without (sym left ∙ e ∙ right) in
+    (p.is ∙ ap (λ t. t ++ 10 ∷ []) cut.0 ∙ sym q.is, cut.1)
+
+-- of two lists of lines that begin a text one begins the other
+data Fork (a b : List (List ℕ)) (x y : List ℕ) : Type 0 where
+  second : (more : List (List ℕ)) → b ≡ a ++ more → x ≡ concat more ++ y → Fork a b x y
+  first : (more : List (List ℕ)) → a ≡ b ++ more → y ≡ concat more ++ x → Fork a b x y
+
+fork_behind : (k l : List ℕ) (a b : List (List ℕ)) (x y : List ℕ) → k ≡ l → Fork a b x y → Fork (k ∷ a) (l ∷ b) x y
+fork_behind k l a b x y same (second more e f) = second more (cc (same, e)) f
+fork_behind k l a b x y same (first more e f) = first more (cc (same, e)) f
+
+fork : (a b : List (List ℕ)) (x y : List ℕ) → AreLines a → AreLines b → concat a ++ x ≡ concat b ++ y → Fork a b x y
+fork [] b x y p q e = second b refl e
+fork (k ∷ a) [] x y p q e = first (k ∷ a) refl (sym e)
+fork (k ∷ a) (l ∷ b) x y p q e =
+    let same = one_line k l (concat a ++ x) (concat b ++ y) p.0 q.0 (sym (append_assoc k (concat a) x) ∙ e ∙ append_assoc l (concat b) y) in
+    fork_behind k l a b x y same.0 (fork a b x y p.1 q.1 same.1)
+
+-- ---- a head stops at one line
+
+fewer : (ls more : List (List ℕ)) → BeginsHead (ls ++ more) → BeginsHead ls
+fewer ls more b = record { version = b.version; setup = b.setup; has = b.has; more = more ++ b.more; is = b.is ∙ append_assoc ls more b.more }
+
+front_lines : (text : List ℕ) (k : ℕ) (p : HeadStops text k) → AreLines p.front
+front_lines text k p = first_lines p.front (p.due ∷ []) (begun_are_lines (p.front ++ p.due ∷ []) p.begins)
+
+-- a line that goes on with the front of a head that stops does not follow it
+stays : (text : List ℕ) (k : ℕ) (p : HeadStops text k) (line : List ℕ) (more others : List (List ℕ)) (rest : List ℕ)
+    → BeginsHead ((p.front ++ line ∷ more) ++ others) → p.rest ≢ concat (line ∷ more) ++ rest
+stays text k p line more others rest b e =
+    let whole = append_assoc p.front (line ∷ more) others ∙ sym (append_assoc p.front (line ∷ []) (more ++ others)) in
+    p.stops line (concat more ++ rest) (fewer (p.front ++ line ∷ []) (more ++ others) (subst BeginsHead whole b)) (e ∙ append_assoc line (concat more) rest)
+
+none_more : (text : List ℕ) (j k : ℕ) (p : HeadStops text j) (q : HeadStops text k) (more : List (List ℕ)) → q.front ≡ p.front ++ more → p.rest ≡ concat more ++ q.rest → j ≡ k
+none_more text j k p q [] e f = p.place ∙ ap (λ ls. length ls + 1) (sym (append-nil p.front) ∙ sym e) ∙ sym q.place
+none_more text j k p q (line ∷ more) e f =
+    absurd (stays text j p line more (q.due ∷ []) q.rest (subst (λ (ls : List (List ℕ)). BeginsHead (ls ++ q.due ∷ [])) e q.begins) f)
+
+pub one_head_stop : (text : List ℕ) (j k : ℕ) → HeadStops text j → HeadStops text k → j ≡ k
+one_head_stop text j k p q = go (fork p.front q.front p.rest q.rest (front_lines text j p) (front_lines text k q) (sym p.parts ∙ q.parts))
+  where
+    go : Fork p.front q.front p.rest q.rest → j ≡ k
+    go (second more e f) = none_more text j k p q more e f
+    go (first more e f) = sym (none_more text k j q p more e f)
+
+-- ---- a whole head stops nowhere
+
+line_some : (line x : List ℕ) → IsLine line → [] ≢ line ++ x
+line_some line x p e = omega (arith, ap length e, length-append line x, ap length p.is, length-append p.body (10 ∷ []))
+
+last_line : (a : List (List ℕ)) (line : List ℕ) (b : List (List ℕ)) → AreLines (a ++ line ∷ b) → IsLine line
+last_line [] line b p = p.0
+last_line (l ∷ a) line b p = last_line a line b p.1
+
+module _ (v : Version) (s : SetupOf) (has : HasHead s) where
+  -- no line follows a whole head
+  none_follows : (more : List (List ℕ)) (line : List ℕ) → BeginsHead ((head_lines v s ++ more) ++ line ∷ []) → ⊥
+  none_follows more line b = line_some line (concat b.more) (last_line (head_lines v s ++ more) line [] (begun_are_lines _ b)) (concat_nil more nothing)
+    where
+      lines : head_lines b.version b.setup ≡ head_lines v s ++ (more ++ line ∷ b.more)
+      lines = b.is ∙ append_assoc (head_lines v s ++ more) (line ∷ []) b.more ∙ append_assoc (head_lines v s) more (line ∷ b.more)
+
+      texts : head_text b.version b.setup ++ [] ≡ head_text v s ++ concat (more ++ line ∷ b.more)
+      texts =
+          append-nil (head_text b.version b.setup) ∙ sym (head_joined b.version b.setup) ∙ ap concat lines ∙ concat-append (head_lines v s) (more ++ line ∷ b.more)
+          ∙ ap (λ t. t ++ concat (more ++ line ∷ b.more)) (head_joined v s)
+
+      nothing : [] ≡ concat more ++ concat (line ∷ b.more)
+      nothing = (one_head b.version v b.setup s [] (concat (more ++ line ∷ b.more)) b.has has texts).2 ∙ concat-append more (line ∷ b.more)
+
+      concat_nil : (ls : List (List ℕ)) → [] ≡ concat ls ++ concat (line ∷ b.more) → [] ≡ line ++ concat b.more
+      concat_nil ls e = nil_back (concat ls) (concat (line ∷ b.more)) e
+        where
+          nil_back : (a c : List ℕ) → [] ≡ a ++ c → [] ≡ c
+          nil_back [] c e = e
+          nil_back (d ∷ a) c e = absurd (cc)
+
+  goes_on : (rest : List ℕ) (k : ℕ) (p : HeadStops (head_text v s ++ rest) k) (more : List (List ℕ)) → head_lines v s ≡ p.front ++ more → p.rest ≡ concat more ++ rest → ⊥
+  goes_on rest k p [] e f =
+      let whole : p.front ≡ head_lines v s ++ [] = sym (append-nil p.front) ∙ sym e ∙ sym (append-nil (head_lines v s)) in
+      none_follows [] p.due (subst (λ (ls : List (List ℕ)). BeginsHead (ls ++ p.due ∷ [])) whole p.begins)
+  goes_on rest k p (line ∷ more) e f =
+      let b : BeginsHead ((p.front ++ line ∷ more) ++ []) = record { version = v; setup = s; has = has; more = []; is = e ∙ sym (append-nil (p.front ++ line ∷ more)) ∙ sym (append-nil _) } in
+      stays (head_text v s ++ rest) k p line more [] rest b f
+
+  pub whole_head_stops_nowhere : (rest : List ℕ) (k : ℕ) → HeadStops (head_text v s ++ rest) k → ⊥
+  whole_head_stops_nowhere rest k p =
+      go (fork (head_lines v s) p.front rest p.rest (head_is_lines v s has) (front_lines _ k p) (ap (λ t. t ++ rest) (head_joined v s) ∙ p.parts))
+    where
+      go : Fork (head_lines v s) p.front rest p.rest → ⊥
+      go (second more e f) = none_follows more p.due (subst (λ (ls : List (List ℕ)). BeginsHead (ls ++ p.due ∷ [])) e p.begins)
+      go (first more e f) = goes_on rest k p more e f
