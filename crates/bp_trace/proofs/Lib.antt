@@ -18,6 +18,7 @@ mod PieceTexts
 mod PiecesAreFewest
 mod PlayedCalls
 mod PlayedLines
+mod ReplayedTexts
 mod ScheduleLength
 mod ScheduleLineAt
 mod ThreadAt

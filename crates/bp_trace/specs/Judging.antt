@@ -70,6 +70,7 @@ pub record IsBody (v : Version) (s : SetupOf) (text : List ℕ) (first : ℕ) (b
   pub within : b.size ≤ length text
   pub parts : text ≡ calls_text v b.played.history.items ++ drop b.size text
   pub number : b.line ≡ first + line_count v b.played.history.items
+  pub few : b.line ≤ first + b.size
   pub ends : HasNoBodyLine v (threads s) (last_thread (map (λ x. x.thread) b.played.history.items))
       (drop b.size text)
 

@@ -26,7 +26,7 @@ pub use faults::DriveFault;
 pub use judging::Printed;
 pub use laws::{lines_drive_again, no_two_have_one_text, pieces_are_fewest};
 pub use replay_faults::ReplayFault;
-pub use replaying::Replayed;
+pub use replaying::{Replayed, replay};
 pub use schedules::ScheduleLine;
 pub use traces::{write_call, write_end, write_head, write_trace, write_trace2};
 pub use versions::Version;

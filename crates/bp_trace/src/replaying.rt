@@ -1,7 +1,22 @@
-//! Replaying a trace: a text that is one of a legal history, or the first thing that refuses it.
+//! Replaying a trace: a text that is one of a legal history, or is refused by the first thing in it
+//! that is not as it is due.
+ghost use Rattle.std.specs.Prelude.{◌≡◌, MatchResult};
+ghost use Rattle.bp_tree.specs.Ast.{Program};
+ghost use Rattle.bp_code.specs.StandsFor.{StandsFor};
+ghost use Rattle.bp_trace.specs.Judging.{replay_fault_of_setup};
+ghost use Rattle.bp_trace.specs.Replayed.{IsReplayed};
+ghost use Rattle.bp_trace.specs.Replays.{IsReplayRefusal};
 
+use crate::end_lines::judge_end;
+use crate::heads::read_head;
 use crate::judging::Printed;
-use bp_machine::{Call, Report, Setup};
+use crate::limits::MAX_TRACE;
+use crate::playing::play;
+use crate::replay_faults::ReplayFault;
+use crate::schedules::text_from;
+use bp_code::Code;
+use bp_machine::{Call, Report, Session, Setup, SetupFault};
+use std::alloc::Global;
 
 /// A trace that was replayed: its setup and history, what the steps of the history printed, and
 /// what the history comes to.
@@ -13,4 +28,55 @@ pub struct Replayed {
     /// A row for each granted step at a `print`, oldest first.
     pub printed: Vec<Printed>,
     pub report: Report,
+}
+
+/// The refusal of a trace whose head says a setup that is refused.
+fn replay_fault_of_setup(fault: SetupFault) -> ReplayFault
+    ensures { result ≡ replay_fault_of_setup fault }
+{
+    match fault {
+        SetupFault::Memory => ReplayFault::Memory,
+        _ => ReplayFault::Setup(fault),
+    }
+}
+
+/// Replays a text without threads: it is the trace of a legal history of the program, in either
+/// version, or it is refused by the first thing that is not as it is due.
+pub fn replay(alloc: Global, code: &Code, text: &[u8]) -> Result<Replayed, ReplayFault>
+    ensures { (t : Program)
+        → StandsFor code.now t
+        → MatchResult result (IsReplayed t text.now) (IsReplayRefusal t text.now) }
+{
+    if text.len() > MAX_TRACE {
+        return Err(ReplayFault::TooLong);
+    }
+    code.is_of_a_program();
+    let head = read_head(alloc, text)?;
+    let names = head.entries.as_slice();
+    let bits = head.init.as_slice();
+    let made = Setup::from_words(
+        alloc,
+        code,
+        names,
+        bits,
+        head.contexts,
+        head.calls,
+        head.seed,
+    );
+    let setup = match made {
+        Ok(setup) => setup,
+        Err(fault) => return Err(replay_fault_of_setup(fault)),
+    };
+    let mut session = Session::new(alloc, code, &setup)?;
+    let rest = text_from(text, head.size);
+    let body = play(alloc, &mut session, &setup, head.version, rest, head.lines + 1)?;
+    let report = session.report();
+    let end = text_from(rest, body.size);
+    judge_end(end, report.calls, report.left_open, body.line)?;
+    Ok(Replayed {
+        setup,
+        history: body.played.history,
+        printed: body.played.printed,
+        report,
+    })
 }

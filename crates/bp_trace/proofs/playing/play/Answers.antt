@@ -14,6 +14,7 @@ returns-in_default-clause-body c =
       within = before.within;
       parts = before.parts;
       number = before.number;
+      few = before.few;
       ends = none;
     }
 

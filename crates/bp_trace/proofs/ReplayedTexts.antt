@@ -1,0 +1,138 @@
+-- A text whose head and lines of calls were read is a trace, or is refused.
+use Rattle.std.proofs.Common.{◌≡◌, ◌≢◌, ℕ, ◌+◌, ◌≤◌, List, [], ◌∷◌, ◌++◌, length, map, flat_map, drop, None, refl, ap, sym, ◌∙◌, subst, arith, append_assoc, inl, inr, length-append}
+use Rattle.std.proofs.lemmas.List.{drop_at}
+use Rattle.bp_tree.specs.Ast.{Program}
+use Rattle.bp_machine.specs.declared.calls.Call.{Call}
+use Rattle.bp_machine.specs.declared.reports.Report.{Report}
+use Rattle.bp_machine.specs.declared.setups.SetupFault.{SetupFault}
+use Rattle.bp_machine.specs.declared.setups.SetupFault.TheVariants as setup
+use Rattle.bp_machine.specs.Histories.{open_lines}
+use Rattle.bp_machine.specs.Reports.{IsReport}
+use Rattle.bp_machine.specs.Setups.{SetupOf, setup_fault, IsSetupRefusal}
+use Rattle.bp_trace.specs.declared.limits.TheConstants.{MAX_TRACE}
+use Rattle.bp_trace.specs.declared.playing.Body.{Body}
+use Rattle.bp_trace.specs.declared.replay_faults.ReplayFault.{ReplayFault}
+use Rattle.bp_trace.specs.declared.replay_faults.ReplayFault.TheVariants as fault
+use Rattle.bp_trace.specs.declared.versions.Version.{Version}
+use Rattle.bp_trace.specs.declared.versions.Version.TheVariants.{One, Two}
+use Rattle.bp_trace.specs.EndReading.{IsEndRefusal}
+use Rattle.bp_trace.specs.declared.heads.Head.{Head}
+use Rattle.bp_trace.specs.HeadReading.{setup_of_head, IsHeadOf}
+use Rattle.bp_trace.specs.Heads.{head_lines, HasHead}
+use Rattle.bp_trace.specs.Judging.{IsBody, IsBodyRefusal, HasRefusedBody, replay_fault_of_setup}
+use Rattle.bp_trace.specs.Replays.{IsPlayable, IsTrace, line_count, HasOtherEnd, HasMoreBehind, Reaches, HasRefusedCall, IsRestRefused, HasRefusedRest, IsReplayRefusal}
+use Rattle.bp_trace.specs.TraceText.{version_line, entry_line, init_line, limit_lines, setup_lines, head_text, calls_text, end_line}
+use Rattle.bp_trace.proofs.WholeHead.{line_total}
+
+-- ---- each line of a head has a byte
+
+entries_long : (es : List (List ℕ)) → length es ≤ length (flat_map entry_line es)
+entries_long [] = omega arith
+entries_long (e ∷ es) = omega (arith, entries_long es, length-append (entry_line e) (flat_map entry_line es))
+
+version_long : (v : Version) → length (version_line v) ≡ 9
+version_long One = refl
+version_long Two = refl
+
+pub lines_within : (v : Version) (s : SetupOf) → length (head_lines v s) ≤ length (head_text v s)
+lines_within v s =
+    let whole = length-append (version_line v) (setup_lines s) in
+    let setup = length-append (flat_map entry_line s.entries) (init_line s.init ++ limit_lines s) in
+    omega (arith, line_total v s, whole, setup, version_long v, entries_long s.entries)
+
+-- a head that begins the text, for the setup that it says
+pub record HeadRead (text : List ℕ) (v : Version) (s : SetupOf) (size lines : ℕ) : Type 0 where
+  pub has : HasHead s
+  pub parts : text ≡ head_text v s ++ drop size text
+  pub first : lines + 1 ≡ length (head_lines v s) + 1
+  pub few : lines + length (drop size text) ≤ length text
+
+pub head_read : (text : List ℕ) (head : Head) (s : SetupOf) → IsHeadOf text head → s ≡ setup_of_head head → HeadRead text head.version s head.size head.lines
+head_read text head s at same =
+    let rest = ap (drop head.size) at.parts ∙ drop_at (head_text head.version (setup_of_head head)) at.rest head.size (sym at.size) in
+    let whole = ap length at.parts ∙ length-append (head_text head.version (setup_of_head head)) at.rest in
+    record {
+      has = subst HasHead (sym same) at.has;
+      parts = at.parts ∙ ap (λ z. head_text head.version z ++ at.rest) (sym same) ∙ ap (λ r. head_text head.version s ++ r) (sym rest);
+      first = ap (λ n. n + 1) (at.lines ∙ ap (λ z. length (head_lines head.version z)) (sym same));
+      few = omega (arith, whole, at.lines, ap length rest, lines_within head.version (setup_of_head head));
+    }
+
+module _ (t : Program) (text : List ℕ) (short : length text ≤ MAX_TRACE) (v : Version) (s : SetupOf) (rest : List ℕ) (has : HasHead s) (parts : text ≡ head_text v s ++ rest) where
+  -- the program does not take the setup
+  pub setup_refused : (f : SetupFault) → IsSetupRefusal t s f → IsReplayRefusal t text (replay_fault_of_setup f)
+  setup_refused setup.Threads r = (short, record { version = v; setup = s; rest = rest; head = has; parts = parts; fault = r })
+  setup_refused (setup.UnknownEntry k) r = (short, record { version = v; setup = s; rest = rest; head = has; parts = parts; fault = r })
+  setup_refused (setup.EntryHasFormals k) r = (short, record { version = v; setup = s; rest = rest; head = has; parts = parts; fault = r })
+  setup_refused setup.InitLength r = (short, record { version = v; setup = s; rest = rest; head = has; parts = parts; fault = r })
+  setup_refused setup.OutOfRange r = (short, record { version = v; setup = s; rest = rest; head = has; parts = parts; fault = r })
+  setup_refused setup.Memory r = short
+
+  module _ (fine : setup_fault t s ≡ None) (first : ℕ) (first_is : first ≡ length (head_lines v s) + 1) where
+    module _ (h : List Call) (behind : List ℕ) (playable : IsPlayable t s h) (body : rest ≡ calls_text v h ++ behind) where
+      reaches : Reaches t text v s h (first + line_count v h) behind
+      reaches = record {
+        head = has;
+        fine = fine;
+        playable = playable;
+        parts = parts ∙ ap (λ r. head_text v s ++ r) body;
+        number = omega (arith, first_is);
+      }
+
+      refused_rest : (f : ReplayFault) → IsRestRefused t v s h (first + line_count v h) behind f → HasRefusedRest t text f
+      refused_rest f r = record { version = v; setup = s; history = h; number = first + line_count v h; rest = behind; reached = reaches; refused = r }
+
+    -- a call is refused
+    call_refused : (f : ReplayFault) (r : HasRefusedBody t v s rest first f) → IsReplayRefusal t text f
+    call_refused (fault.AfterFinish m) r = (short, refused_rest r.history r.rest r.playable r.parts (fault.AfterFinish m) r.refused)
+    call_refused (fault.Bit m) r = (short, refused_rest r.history r.rest r.playable r.parts (fault.Bit m) r.refused)
+    call_refused (fault.Reply m w) r = (short, refused_rest r.history r.rest r.playable r.parts (fault.Reply m w) r.refused)
+    call_refused fault.TooLong r = absurd r.refused.among.refused
+    call_refused (fault.Head k) r = absurd r.refused.among.refused
+    call_refused (fault.Setup g) r = absurd r.refused.among.refused
+    call_refused (fault.Line m) r = absurd r.refused.among.refused
+    call_refused fault.NoEnd r = absurd r.refused.among.refused
+    call_refused fault.EndCount r = absurd r.refused.among.refused
+    call_refused fault.Memory r = absurd r.refused.among.refused
+
+    pub body_refuses : (f : ReplayFault) → IsBodyRefusal t v s rest first f → IsReplayRefusal t text f
+    body_refuses f (inl memory) = subst (IsReplayRefusal t text) (sym memory) short
+    body_refuses f (inr r) = call_refused f r
+
+    module _ (b : Body) (body : IsBody v s rest first b) (playable : IsPlayable t s b.played.history.items) (r : Report) (report : IsReport s b.played.history.items r) where
+      abbrev h : List Call
+      h = b.played.history.items
+
+      abbrev behind : List ℕ
+      behind = drop b.size rest
+
+      own_is : end_line r.calls r.left_open ≡ end_line (length h) (open_lines s h)
+      own_is = ap (λ n. end_line n r.left_open) report.calls ∙ ap (end_line (length h)) report.left_open
+
+      at_end : (f : ReplayFault) → IsRestRefused t v s h (first + line_count v h) behind f → HasRefusedRest t text f
+      at_end f q = refused_rest h behind playable body.parts f q
+
+      -- what is behind the calls is refused
+      pub end_refuses : (f : ReplayFault) → IsEndRefusal behind r.calls r.left_open b.line f → IsReplayRefusal t text f
+      end_refuses fault.NoEnd q = (short, at_end fault.NoEnd q)
+      end_refuses fault.EndCount q = (short, at_end fault.EndCount (subst (λ own. HasOtherEnd own behind) own_is q))
+      end_refuses (fault.Line m) (inl q) =
+          (short, at_end (fault.Line m) (inl (q.0 ∙ body.number, record { some = q.1.some; calls = body.ends; ends = q.1.ends })))
+      end_refuses (fault.Line m) (inr q) =
+          (short, at_end (fault.Line m) (inr (q.0 ∙ ap (λ n. n + 1) body.number, subst (λ own. HasMoreBehind own behind) own_is q.1)))
+      end_refuses fault.TooLong q = absurd q
+      end_refuses (fault.Head k) q = absurd q
+      end_refuses (fault.Setup g) q = absurd q
+      end_refuses (fault.AfterFinish m) q = absurd q
+      end_refuses (fault.Bit m) q = absurd q
+      end_refuses (fault.Reply m w) q = absurd q
+      end_refuses fault.Memory q = absurd q
+
+      -- the end is behind the calls, alone
+      pub is_trace : behind ≡ end_line r.calls r.left_open → IsTrace t v s h text
+      is_trace end = record {
+        head = has;
+        fine = fine;
+        playable = playable;
+        is = parts ∙ ap (λ x. head_text v s ++ x) (body.parts ∙ ap (λ x. calls_text v h ++ x) (end ∙ own_is));
+      }
