@@ -1,14 +1,16 @@
 -- The text of a history grows by one line, with the calls of that line.
-use Rattle.std.proofs.Common.{◌≡◌, ◌≢◌, ℕ, ◌+◌, ◌==◌, Bool, true, false, cond, List, [], ◌∷◌, ◌++◌, length, map, flat_map, Some, refl, ap, sym, ◌∙◌, arith, length-append}
+use Rattle.std.proofs.Common.{◌≡◌, ◌≢◌, ℕ, ◌+◌, ◌==◌, Bool, true, false, cond, List, [], ◌∷◌, ◌++◌, length, map, flat_map, append_assoc, codes, decimal, Option, ◌<◌, Some, refl, ap, sym, ◌∙◌, arith, length-append}
 use Rattle.std.proofs.lemmas.Bool.Decides.{nat_tests}
 use Rattle.std.proofs.lemmas.List.{append-nil}
 use Rattle.std.proofs.lemmas.List.Concat.{flat_map-append}
 use Rattle.bp_machine.specs.declared.calls.Call.{Call}
+use Rattle.bp_machine.specs.Replies.{letter_of}
 use Rattle.bp_machine.specs.ContextCounts.{last_thread}
 use Rattle.bp_trace.specs.declared.versions.Version.{Version}
 use Rattle.bp_trace.specs.declared.versions.Version.TheVariants.{One, Two}
 use Rattle.bp_trace.specs.Pieces.{Turn, Piece, call_of, piece_of, calls_of_piece, with_call, pieces_of}
-use Rattle.bp_trace.specs.TraceText.{call_line, piece_line, calls_text}
+use Rattle.bp_trace.specs.Schedules.{bit_digit}
+use Rattle.bp_trace.specs.TraceText.{call_line, turn_text, piece_line, calls_text}
 use Rattle.bp_trace.specs.Replays.{line_count, IsBodyLine}
 use Rattle.bp_trace.proofs.PiecesAreFewest.{thread_of, cut}
 
@@ -64,3 +66,16 @@ count_grows Two n h line calls is_line =
     ap (λ cs. length (pieces_of (h ++ cs))) is_line.holds
     ∙ ap length (one_piece_more h is_line.piece is_line.other)
     ∙ length-append (pieces_of h) (is_line.piece ∷ [])
+
+-- the line is not empty
+pub some_line : (v : Version) (n : ℕ) (last : Option ℕ) (line : List ℕ) (calls : List Call) → IsBodyLine n last line calls v → 0 < length line
+some_line One n last line calls is_line =
+    omega (arith, ap length is_line.is, length-append (decimal is_line.call.thread) (32 ∷ bit_digit is_line.call.bit ∷ 32 ∷ letter_of is_line.call.reply ∷ 10 ∷ []))
+some_line Two n last line calls is_line =
+    omega (arith, ap length is_line.is, length-append (decimal is_line.piece.thread) (32 ∷ (flat_map turn_text (is_line.piece.first ∷ is_line.piece.others) ++ codes "\n")))
+
+-- what is behind the line is behind the calls with those of the line
+pub behind_line : (v : Version) (n : ℕ) (h : List Call) (line : List ℕ) (calls : List Call) (more : List ℕ)
+    → IsBodyLine n (last_thread (map thread_of h)) line calls v → calls_text v h ++ (line ++ more) ≡ calls_text v (h ++ calls) ++ more
+behind_line v n h line calls more is_line =
+    sym (append_assoc (calls_text v h) line more) ∙ ap (λ t. t ++ more) (sym (text_grows v n h line calls is_line))

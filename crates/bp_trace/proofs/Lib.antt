@@ -1,3 +1,4 @@
+mod AllOfBoth
 pub mod Appends
 mod BodyLineAt
 mod Cuts

@@ -1,10 +1,10 @@
 -- A line of a word has one value.
-use Rattle.std.proofs.Common.{◌≡◌, ◌≢◌, ◌==◌, true, false, ℕ, List, [], ◌∷◌, ◌++◌, Option, None, Some, Bool, length, refl, sym, ap, ◌∙◌, arith, append_assoc, codes, decimal}
+use Rattle.std.proofs.Common.{◌≡◌, ◌≢◌, ◌==◌, true, false, ℕ, List, [], ◌∷◌, ◌++◌, Option, None, Some, length, refl, sym, ap, ◌∙◌, arith, append_assoc, codes, decimal}
 use Rattle.std.proofs.lemmas.Bool.{false≢true}
 use Rattle.std.proofs.lemmas.Bool.Decides.{Decides-eqb}
 use Rattle.std.proofs.lemmas.List.{append_cancel_left, nil_from_length}
 use Rattle.bp_trace.specs.Heads.{field_line}
-use Rattle.bp_trace.specs.HeadReading.{IsCut, IsFieldAt, HasNoField, HasNoEntry, HasNoInit, IsNoNumber, HasNoNumber, IsSeed, HasNoSeed}
+use Rattle.bp_trace.specs.HeadReading.{IsCut, IsFieldAt, HasNoField, HasNoEntry, IsNoInit, HasNoInit, IsNoNumber, HasNoNumber, IsSeed, HasNoSeed}
 use Rattle.bp_trace.specs.TraceText.{init_digits, seed_word}
 use Rattle.bp_trace.specs.Writable.{Without}
 use Rattle.bp_trace.proofs.Cuts.{one_cut, decimal_without}
@@ -62,7 +62,7 @@ module _ (text : List ℕ) where
     pub no_name : IsFieldAt (codes "entry ") text value rest → value ≡ [] → HasNoEntry text
     no_name p none = λ name more q e. q.some (sym (one_value (codes "entry ") text value rest p name more q.line e) ∙ none)
 
-    pub no_bits : IsFieldAt (codes "init ") text value rest → ((bits : List Bool) → value ≢ init_digits bits) → HasNoInit text
+    pub no_bits : IsFieldAt (codes "init ") text value rest → IsNoInit value → HasNoInit text
     no_bits p none = λ bits more e. none bits (one_value (codes "init ") text value rest p (init_digits bits) more (init_without bits) e)
 
     module _ (p : IsFieldAt (codes "seed ") text value rest) where

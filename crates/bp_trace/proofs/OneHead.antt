@@ -9,6 +9,7 @@ use Rattle.bp_trace.specs.declared.versions.Version.TheVariants.{One, Two}
 use Rattle.bp_trace.specs.Heads.{field_line, setting_lines, head_lines, IsEntryName, HasHead, BeginsHead, HeadStops}
 use Rattle.bp_trace.specs.TraceText.{version_line, entry_line, init_digits, init_line, seed_word, limit_lines, head_text}
 use Rattle.bp_trace.specs.Writable.{Without}
+use Rattle.bp_trace.proofs.AllOfBoth.{all_of_both, all_of_first, one_between}
 use Rattle.bp_trace.proofs.Cuts.{one_cut, decimal_without}
 use Rattle.bp_trace.proofs.OneText.{HasLines, heads_alike, init_without, seed_without}
 
@@ -47,12 +48,8 @@ record IsLine (line : List ℕ) : Type 0 where
 abbrev AreLines : List (List ℕ) → Type 0
 AreLines ls = AllByRecursion IsLine ls
 
-without_both : (a b : List ℕ) → Without 10 a → Without 10 b → Without 10 (a ++ b)
-without_both [] b p q = q
-without_both (c ∷ a) b p q = (p.0, without_both a b p.1 q)
-
 value_is_line : (word value : List ℕ) → Without 10 word → Without 10 value → IsLine (field_line word value)
-value_is_line word value p q = record { body = word ++ value; without = without_both word value p q; is = sym (append_assoc word value (codes "\n")) }
+value_is_line word value p q = record { body = word ++ value; without = all_of_both (λ b. b ≢ 10) word value p q; is = sym (append_assoc word value (codes "\n")) }
 
 -- no byte of the word is a line feed
 low_free : (word : List ℕ) → AllByRecursion (λ b. 10 < b) word → Without 10 word
@@ -67,14 +64,6 @@ entries_are_lines : (es : List (List ℕ)) → AllByRecursion IsEntryName es →
 entries_are_lines [] p = tt
 entries_are_lines (n ∷ es) p = (value_is_line (codes "entry ") n (low_free (codes "entry ") (search rules)) (p.0).line, entries_are_lines es p.1)
 
-lines_both : (a b : List (List ℕ)) → AreLines a → AreLines b → AreLines (a ++ b)
-lines_both [] b p q = q
-lines_both (l ∷ a) b p q = (p.0, lines_both a b p.1 q)
-
-first_lines : (a b : List (List ℕ)) → AreLines (a ++ b) → AreLines a
-first_lines [] b p = tt
-first_lines (l ∷ a) b p = (p.0, first_lines a b p.1)
-
 settings_are_lines : (s : SetupOf) → HasHead s → AreLines (setting_lines s)
 settings_are_lines s p = (
   value_is_line (codes "init ") (init_digits s.init) (low_free (codes "init ") (search rules)) (init_without s.init),
@@ -88,10 +77,10 @@ settings_are_lines s p = (
 )
 
 head_is_lines : (v : Version) (s : SetupOf) → HasHead s → AreLines (head_lines v s)
-head_is_lines v s p = (version_is_line v, lines_both (map entry_line s.entries) (setting_lines s) (entries_are_lines s.entries p.names) (settings_are_lines s p))
+head_is_lines v s p = (version_is_line v, all_of_both IsLine (map entry_line s.entries) (setting_lines s) (entries_are_lines s.entries p.names) (settings_are_lines s p))
 
 begun_are_lines : (ls : List (List ℕ)) → BeginsHead ls → AreLines ls
-begun_are_lines ls b = first_lines ls b.more (subst AreLines b.is (head_is_lines b.version b.setup b.has))
+begun_are_lines ls b = all_of_first IsLine ls b.more (subst AreLines b.is (head_is_lines b.version b.setup b.has))
 
 one_line : (k l x y : List ℕ) → IsLine k → IsLine l → k ++ x ≡ l ++ y → (k ≡ l) × (x ≡ y)
 one_line k l x y p q e =
@@ -122,7 +111,7 @@ fewer : (ls more : List (List ℕ)) → BeginsHead (ls ++ more) → BeginsHead l
 fewer ls more b = record { version = b.version; setup = b.setup; has = b.has; more = more ++ b.more; is = b.is ∙ append_assoc ls more b.more }
 
 front_lines : (text : List ℕ) (k : ℕ) (p : HeadStops text k) → AreLines p.front
-front_lines text k p = first_lines p.front (p.due ∷ []) (begun_are_lines (p.front ++ p.due ∷ []) p.begins)
+front_lines text k p = all_of_first IsLine p.front (p.due ∷ []) (begun_are_lines (p.front ++ p.due ∷ []) p.begins)
 
 -- a line that goes on with the front of a head that stops does not follow it
 stays : (text : List ℕ) (k : ℕ) (p : HeadStops text k) (line : List ℕ) (more others : List (List ℕ)) (rest : List ℕ)
@@ -148,14 +137,10 @@ one_head_stop text j k p q = go (fork p.front q.front p.rest q.rest (front_lines
 line_some : (line x : List ℕ) → IsLine line → [] ≢ line ++ x
 line_some line x p e = omega (arith, ap length e, length-append line x, ap length p.is, length-append p.body (10 ∷ []))
 
-last_line : (a : List (List ℕ)) (line : List ℕ) (b : List (List ℕ)) → AreLines (a ++ line ∷ b) → IsLine line
-last_line [] line b p = p.0
-last_line (l ∷ a) line b p = last_line a line b p.1
-
 module _ (v : Version) (s : SetupOf) (has : HasHead s) where
   -- no line follows a whole head
   none_follows : (more : List (List ℕ)) (line : List ℕ) → BeginsHead ((head_lines v s ++ more) ++ line ∷ []) → ⊥
-  none_follows more line b = line_some line (concat b.more) (last_line (head_lines v s ++ more) line [] (begun_are_lines _ b)) (concat_nil more nothing)
+  none_follows more line b = line_some line (concat b.more) (one_between IsLine (head_lines v s ++ more) line [] (begun_are_lines _ b)) (concat_nil more nothing)
     where
       lines : head_lines b.version b.setup ≡ head_lines v s ++ (more ++ line ∷ b.more)
       lines = b.is ∙ append_assoc (head_lines v s ++ more) (line ∷ []) b.more ∙ append_assoc (head_lines v s) more (line ∷ b.more)

@@ -1,22 +1,19 @@
 -- One more entry line.
 use Rattle.std.proofs.Common.{ℕ, ◌+◌, ◌≤◌, List, [], ◌∷◌, ◌++◌, length, map, sym, ap, ◌∙◌, arith, append_assoc}
-use Rattle.std.specs.List.{AllByRecursion, concat}
+use Rattle.std.specs.List.{concat}
 use Rattle.std.proofs.lemmas.List.{append-nil, length-append, map_push}
 use Rattle.std.proofs.lemmas.List.Folds.{concat-append}
 use Rattle.bp_trace.specs.Heads.{IsEntryName}
 use Rattle.bp_trace.specs.HeadReading.{IsEntryAt, AreEntriesAt}
 use Rattle.bp_trace.specs.TraceText.{entry_line}
-
-names_more : (names : List (List ℕ)) (name : List ℕ) → AllByRecursion IsEntryName names → IsEntryName name → AllByRecursion IsEntryName (names ++ name ∷ [])
-names_more [] name p q = (q, tt)
-names_more (n ∷ names) name p q = (p.0, names_more names name p.1 q)
+use Rattle.bp_trace.proofs.AllOfBoth.{all_of_both}
 
 module _ (rest name behind : List ℕ) (q : IsEntryAt rest name behind) where
   pub entries_more : (text : List ℕ) (names : List (List ℕ)) → AreEntriesAt text names rest → AreEntriesAt text (names ++ name ∷ []) behind
   entries_more text names p =
       let lines = ap concat (map_push entry_line names name) ∙ concat-append (map entry_line names) (entry_line name ∷ []) ∙ ap (λ t. concat (map entry_line names) ++ t) (append-nil (entry_line name)) in
       record {
-        names_are = names_more names name p.names_are q.name_is;
+        names_are = all_of_both IsEntryName names (name ∷ []) p.names_are (q.name_is, tt);
         parts =
             p.parts ∙ ap (λ t. concat (map entry_line names) ++ t) q.parts ∙ sym (append_assoc (concat (map entry_line names)) (entry_line name) behind)
             ∙ ap (λ t. t ++ behind) (sym lines);

@@ -3,9 +3,9 @@ use Rattle.std.proofs.Common.{◌≡◌, ℕ, ◌+◌, ◌<◌, ◌==◌, Bool, 
 use Rattle.std.proofs.lemmas.Bool.Decides.{nat_tests}
 use Rattle.std.proofs.lemmas.List.{append-nil, take_more}
 use Rattle.bp_machine.specs.declared.calls.Call.{Call}
-use Rattle.bp_trace.specs.Pieces.{Turn, Piece, turn_of, piece_of, with_call, pieces_of}
+use Rattle.bp_trace.specs.Pieces.{Piece, turn_of, piece_of, with_call, pieces_of}
 use Rattle.bp_trace.specs.TraceText.{turn_text, piece_line}
-use Rattle.bp_trace.specs.TurnTexts.{opening, turn_behind, turns_behind, last_of}
+use Rattle.bp_trace.specs.TurnTexts.{turn_behind, turns_behind, last_of}
 
 abbrev turns_text : Piece → List ℕ
 turns_text p = flat_map turn_text (p.first ∷ p.others)

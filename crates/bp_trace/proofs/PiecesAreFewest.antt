@@ -1,11 +1,11 @@
 -- The pieces of a history are its calls, cut into the fewest lists of one thread each.
-use Rattle.std.proofs.Common.{◌≡◌, ℕ, ◌+◌, ◌==◌, Bool, true, false, cond, List, [], ◌∷◌, ◌++◌, length, map, flat_map, None, Some, refl, ap, sym, ◌∙◌, subst, arith}
+use Rattle.std.proofs.Common.{◌≡◌, ℕ, ◌==◌, Bool, true, false, cond, List, [], ◌∷◌, ◌++◌, length, map, None, Some, refl, ap, sym, ◌∙◌, subst, arith}
 use Rattle.std.proofs.lemmas.Bool.Decides.{nat_tests}
 use Rattle.bp_machine.specs.declared.calls.Call.{Call}
 use Rattle.bp_machine.specs.Contexts.{IsLeastWithin}
 use Rattle.bp_machine.specs.ContextCounts.{contexts_opened}
 use Rattle.bp_machine.proofs.ContextCounts.{opened, opened_none, opened_more, opened_least}
-use Rattle.bp_trace.specs.Pieces.{Piece, turn_of, call_of, piece_of, calls_of_piece, calls_of_pieces, with_call, pieces_of}
+use Rattle.bp_trace.specs.Pieces.{Piece, call_of, piece_of, calls_of_piece, calls_of_pieces, with_call, pieces_of}
 
 abbrev pub thread_of : Call → ℕ
 thread_of x = x.thread

@@ -1,10 +1,9 @@
 -- What a session that stands after the calls of some lines of a trace says of them.
-use Rattle.std.proofs.Common.{◌≡◌, ℕ, zero, suc, ◌+◌, ◌-◌, ◌<◌, ◌≤◌, List, [], ◌∷◌, ◌++◌, length, take, drop, map, flat_map, codes, decimal, get_or, Option, Some, None, refl, ap, sym, ◌∙◌, subst, arith, append_assoc, inl, inr, length-append, length-drop}
+use Rattle.std.proofs.Common.{◌≡◌, ℕ, zero, suc, ◌+◌, ◌-◌, ◌<◌, ◌≤◌, List, [], ◌∷◌, ◌++◌, length, take, drop, map, flat_map, codes, decimal, get_or, Option, Some, ap, sym, ◌∙◌, subst, arith, append_assoc, inl, inr, length-append, length-drop}
 use Rattle.std.specs.Prelude.{slice_get}
 use Rattle.std.proofs.lemmas.List.{append-nil, take_more, take-append-drop, drop-drop, drop_at}
 use Rattle.std.proofs.Math.Seq.{drop-cons}
 use Rattle.bp_tree.specs.Ast.{Program}
-use Rattle.bp_code.specs.StandsFor.{StandsFor}
 use Rattle.bp_code.specs.Configurations.{Configuration}
 use Rattle.bp_machine.specs.declared.calls.Call.{Call}
 use Rattle.bp_machine.specs.Answers.{configuration_after_call}
@@ -14,16 +13,13 @@ use Rattle.bp_machine.specs.PrintedRows.{PrintedRow, rows_of_call, rows_after, p
 use Rattle.bp_machine.specs.Sessions.{SessionOf, Stands}
 use Rattle.bp_machine.specs.Setups.{SetupOf, threads, start}
 use Rattle.bp_machine.specs.Replies.{letter_of}
-use Rattle.bp_trace.specs.declared.judging.Played.{Played}
 use Rattle.bp_trace.specs.declared.replay_faults.ReplayFault.{ReplayFault}
-use Rattle.bp_trace.specs.declared.replay_faults.ReplayFault.TheVariants as fault
 use Rattle.bp_trace.specs.declared.versions.Version.{Version}
 use Rattle.bp_trace.specs.declared.versions.Version.TheVariants.{One, Two}
 use Rattle.bp_trace.specs.BodyReading.{IsBodyLineAt}
-use Rattle.bp_trace.specs.Judging.{ArePlayed, IsCallRefusal, IsLineRefused, IsBodyRefusal}
+use Rattle.bp_trace.specs.Judging.{IsCallRefusal, IsLineRefused, IsBodyRefusal}
 use Rattle.bp_trace.specs.Schedules.{bit_digit}
 use Rattle.bp_trace.specs.TraceText.{turn_text, calls_text}
-use Rattle.bp_trace.specs.Replayed.{row_of}
 use Rattle.bp_trace.specs.Replays.{IsPlayable, IsBodyLine, IsCallFault, IsRefusedAmong, line_count}
 use Rattle.bp_trace.proofs.GrowsByLine.{text_grows, count_grows}
 

@@ -1,5 +1,5 @@
 -- A text whose head and lines of calls were read is a trace, or is refused.
-use Rattle.std.proofs.Common.{◌≡◌, ◌≢◌, ℕ, ◌+◌, ◌≤◌, List, [], ◌∷◌, ◌++◌, length, map, flat_map, drop, None, refl, ap, sym, ◌∙◌, subst, arith, append_assoc, inl, inr, length-append}
+use Rattle.std.proofs.Common.{◌≡◌, ℕ, ◌+◌, ◌≤◌, List, [], ◌∷◌, ◌++◌, length, flat_map, drop, None, refl, ap, sym, ◌∙◌, subst, arith, inl, inr, length-append}
 use Rattle.std.proofs.lemmas.List.{drop_at}
 use Rattle.bp_tree.specs.Ast.{Program}
 use Rattle.bp_machine.specs.declared.calls.Call.{Call}
@@ -20,7 +20,7 @@ use Rattle.bp_trace.specs.declared.heads.Head.{Head}
 use Rattle.bp_trace.specs.HeadReading.{setup_of_head, IsHeadOf}
 use Rattle.bp_trace.specs.Heads.{head_lines, HasHead}
 use Rattle.bp_trace.specs.Judging.{IsBody, IsBodyRefusal, HasRefusedBody, replay_fault_of_setup}
-use Rattle.bp_trace.specs.Replays.{IsPlayable, IsTrace, line_count, HasOtherEnd, HasMoreBehind, Reaches, HasRefusedCall, IsRestRefused, HasRefusedRest, IsReplayRefusal}
+use Rattle.bp_trace.specs.Replays.{IsPlayable, IsTrace, line_count, HasOtherEnd, HasMoreBehind, Reaches, IsRestRefused, HasRefusedRest, IsReplayRefusal}
 use Rattle.bp_trace.specs.TraceText.{version_line, entry_line, init_line, limit_lines, setup_lines, head_text, calls_text, end_line}
 use Rattle.bp_trace.proofs.WholeHead.{line_total}
 

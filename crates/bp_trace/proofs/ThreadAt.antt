@@ -1,11 +1,8 @@
 -- The thread that begins a text, with a space behind it.
 use Rattle.std.proofs.Common.{◌≡◌, ◌≢◌, ℕ, ◌+◌, ◌<◌, ◌≤◌, Bool, List, [], ◌∷◌, ◌++◌, length, drop, None, Some, ap, sym, ◌∙◌, arith, append_assoc, length-append, decimal}
-use Rattle.bp_machine.specs.declared.calls.Call.{Call}
 use Rattle.bp_machine.specs.declared.calls.Reply.{Reply}
-use Rattle.bp_machine.specs.Replies.{letter_of}
-use Rattle.bp_trace.specs.Schedules.{bit_digit}
-use Rattle.bp_trace.specs.TraceText.{call_line}
 use Rattle.bp_trace.proofs.Cuts.{one_number}
+use Rattle.bp_trace.proofs.OneText.{call_then}
 use Rattle.bp_machine.specs.declared.limits.TheConstants.{MAX_THREADS}
 use Rattle.bp_trace.specs.ScheduleReading.{number_at}
 use Rattle.bp_trace.specs.TraceReading.{IsThreadAt, HasNoThread, IsTurnAt, HasNoTurn, IsCallAt, HasNoCall}
@@ -42,9 +39,6 @@ module _ (n : ℕ) (text : List ℕ) (few : n ≤ MAX_THREADS) where
 
 -- the call that begins a text, where its thread does
 module _ (n : ℕ) (text : List ℕ) where
-  call_then : (x : Call) (more : List ℕ) → call_line x ++ more ≡ decimal x.thread ++ 32 ∷ bit_digit x.bit ∷ 32 ∷ letter_of x.reply ∷ 10 ∷ more
-  call_then x more = append_assoc (decimal x.thread) _ more
-
   pub no_thread_no_call : HasNoThread n text → HasNoCall n text
   no_thread_no_call none = λ x more below e. none x.thread _ below (e ∙ call_then x more)
 

@@ -8,7 +8,7 @@ use Rattle.bp_trace.specs.declared.replay_faults.ReplayFault.TheVariants as faul
 use Rattle.bp_trace.specs.declared.versions.Version.{Version}
 use Rattle.bp_trace.specs.Heads.{field_line, head_lines, IsEntryName, HasHead, HeadStops}
 use Rattle.bp_trace.specs.Schedules.{bit_digit}
-use Rattle.bp_trace.specs.TraceText.{version_line, entry_line, init_line, seed_word, head_text}
+use Rattle.bp_trace.specs.TraceText.{version_line, entry_line, init_digits, init_line, seed_word, head_text}
 use Rattle.bp_trace.specs.Writable.{Without}
 
 -- the text is this line, a line feed and the rest
@@ -30,6 +30,7 @@ abbrev pub HasNoField : List ℕ → List ℕ → Type 0
 HasNoField word text =
     (value rest : List ℕ) → Without 10 value → text ≢ field_line word value ++ rest
 
+-- no line of a version begins the text
 abbrev pub HasNoVersion : List ℕ → Type 0
 HasNoVersion text = (v : Version) (rest : List ℕ) → text ≢ version_line v ++ rest
 
@@ -38,17 +39,24 @@ pub record IsEntryAt (text name rest : List ℕ) : Type 0 where
   pub name_is : IsEntryName name
   pub parts : text ≡ entry_line name ++ rest
 
+-- no line of an entry begins the text
 abbrev pub HasNoEntry : List ℕ → Type 0
 HasNoEntry text = (name rest : List ℕ) → IsEntryName name → text ≢ entry_line name ++ rest
 
--- the lines of these entries begin the text, and then comes the rest, whose first line is no entry
+-- the lines of these entries begin the text, and then comes the rest
 pub record AreEntriesAt (text : List ℕ) (names : List (List ℕ)) (rest : List ℕ) : Type 0 where
   pub names_are : AllByRecursion IsEntryName names
   pub parts : text ≡ concat (map entry_line names) ++ rest
 
+-- the digits are not those of bits
 abbrev pub AreNoBits : List ℕ → Type 0
 AreNoBits digits = (bits : List Bool) → digits ≢ map bit_digit bits
 
+-- the value of an init line is that of no bits
+abbrev pub IsNoInit : List ℕ → Type 0
+IsNoInit value = (bits : List Bool) → value ≢ init_digits bits
+
+-- no init line begins the text
 abbrev pub HasNoInit : List ℕ → Type 0
 HasNoInit text = (bits : List Bool) (rest : List ℕ) → text ≢ init_line bits ++ rest
 
@@ -61,6 +69,7 @@ pub record IsNumber (digits : List ℕ) (n : ℕ) : Type 0 where
   pub fits : n < 2 ^ 64
   pub digits_are : digits ≡ decimal n
 
+-- the digits are the decimal of no number of 64 bits
 abbrev pub IsNoNumber : List ℕ → Type 0
 IsNoNumber digits = (n : ℕ) → n < 2 ^ 64 → digits ≢ decimal n
 
@@ -69,6 +78,7 @@ pub record IsNumberAt (word text : List ℕ) (n : ℕ) (rest : List ℕ) : Type 
   pub fits : n < 2 ^ 64
   pub parts : text ≡ field_line word (decimal n) ++ rest
 
+-- no line of the word and a number begins the text
 abbrev pub HasNoNumber : List ℕ → List ℕ → Type 0
 HasNoNumber word text =
     (n : ℕ) (rest : List ℕ) → n < 2 ^ 64 → text ≢ field_line word (decimal n) ++ rest
@@ -82,6 +92,7 @@ pub record IsSeedAt (text : List ℕ) (seed : Option ℕ) (rest : List ℕ) : Ty
   pub fits : IsSeed seed
   pub parts : text ≡ field_line (codes "seed ") (seed_word seed) ++ rest
 
+-- no seed line begins the text
 abbrev pub HasNoSeed : List ℕ → Type 0
 HasNoSeed text =
     (seed : Option ℕ) (rest : List ℕ)

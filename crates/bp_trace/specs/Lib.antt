@@ -6,6 +6,7 @@ pub mod Heads
 pub mod Judging
 pub mod Laws
 pub mod LinePlays
+pub mod Migrations
 pub mod Pieces
 pub mod ReplayFaults
 pub mod Replayed

@@ -4,14 +4,11 @@ use Rattle.std.specs.Str.Parse.{AllDigits}
 use Rattle.bp_tree.specs.Ast.{Program}
 use Rattle.bp_machine.specs.declared.calls.Call.{Call}
 use Rattle.bp_machine.specs.declared.calls.Reply.{Reply}
-use Rattle.bp_machine.specs.declared.reports.Report.{Report}
 use Rattle.bp_machine.specs.declared.setups.SetupFault.{SetupFault}
 use Rattle.bp_machine.specs.Setups.{SetupOf, threads, setup_fault}
 use Rattle.bp_machine.specs.ChoiceBits.{choice_bit}
 use Rattle.bp_machine.specs.ContextCounts.{last_thread}
 use Rattle.bp_machine.specs.Histories.{calls_of_thread, is_finished, open_lines, IsAllowed, IsLegal}
-use Rattle.bp_machine.specs.PrintedRows.{PrintedRow, printed_rows}
-use Rattle.bp_machine.specs.Reports.{IsReport}
 use Rattle.bp_machine.specs.SeededHistories.{HasSeededBits}
 use Rattle.bp_trace.specs.declared.limits.TheConstants.{MAX_TRACE}
 use Rattle.bp_trace.specs.declared.replay_faults.ReplayFault.{ReplayFault}
@@ -58,6 +55,7 @@ module _ (n : ℕ) (last : Option ℕ) (line : List ℕ) (calls : List Call) whe
     pub is : line ≡ piece_line piece
     pub holds : calls ≡ calls_of_piece piece
 
+  -- either, by the version of the trace
   abbrev pub IsBodyLine : Version → Type 0
   IsBodyLine One = IsCallLine
   IsBodyLine Two = IsPieceLine
@@ -135,8 +133,8 @@ pub record Reaches
   pub parts : text ≡ head_text v s ++ (calls_text v h ++ rest)
   pub number : n ≡ length (head_lines v s) + line_count v h + 1
 
--- Why the rest is refused: it is empty; it begins with no line that is due; with one whose calls are
--- refused; with the end of another history; or with the end, and something behind it.
+-- Why the rest is refused: it is empty; it begins with no line that is due; with one whose calls
+-- are refused; with the end of another history; or with the end, and something behind it.
 module _
     (t : Program) (v : Version) (s : SetupOf) (h : List Call) (n : ℕ) (rest : List ℕ) where
   -- a line of calls that may follow those of h

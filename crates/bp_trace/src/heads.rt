@@ -1,10 +1,10 @@
 //! Heads of traces, read line by line.
-ghost use Rattle.std.specs.Prelude.{◌≡◌, ◌≢◌, ◌⊎◌, ◌<◌, ◌≤◌, ◌^◌, ◌+◌, ◌-◌, ◌*◌, ◌++◌, ◌↔◌, IsTrue, Bool, List, IfOk, MatchOption, MatchResult, SomeIff, length, map};
+ghost use Rattle.std.specs.Prelude.{◌≡◌, ◌<◌, ◌≤◌, ◌^◌, ◌+◌, ◌-◌, ◌*◌, ◌++◌, ◌↔◌, IsTrue, IfOk, MatchOption, MatchResult, SomeIff, length, map};
 ghost use Rattle.bp_trace.specs.declared.limits.TheConstants.{MAX_TRACE};
 ghost use Rattle.bp_trace.specs.Schedules.{bit_digit};
 ghost use Rattle.bp_trace.specs.TraceText.{version_line, init_digits, init_line};
 ghost use Rattle.bp_trace.specs.Writable.{Without};
-ghost use Rattle.bp_trace.specs.HeadReading.{IsCut, HasNoFront, IsFieldAt, HasNoField, HasNoVersion, IsEntryAt, HasNoEntry, AreEntriesAt, AreNoBits, HasNoInit, IsPadded, IsNumber, IsNoNumber, IsNumberAt, HasNoNumber, IsSeedAt, HasNoSeed, IsHeadOf, IsHeadRefusal};
+ghost use Rattle.bp_trace.specs.HeadReading.{IsCut, HasNoFront, IsFieldAt, HasNoField, HasNoVersion, IsEntryAt, HasNoEntry, AreEntriesAt, AreNoBits, IsNoInit, HasNoInit, IsPadded, IsNumber, IsNoNumber, IsNumberAt, HasNoNumber, IsSeedAt, HasNoSeed, IsHeadOf, IsHeadRefusal};
 
 use crate::replay_faults::ReplayFault;
 use crate::trace_lines::bit_of;
@@ -131,7 +131,7 @@ fn bits_of(alloc: Global, digits: &[u8]) -> Result<Option<Vec<bool>>, AllocError
 /// The bits that the value of an init line says, which has a dash where there are none.
 fn init_of(alloc: Global, value: &[u8]) -> Result<Option<Vec<bool>>, AllocError>
     ensures { IfOk result (λ bits. MatchOption bits
-        ((bs : List Bool) → value.now ≢ init_digits bs)
+        (IsNoInit value.now)
         (λ bs. value.now ≡ init_digits bs.items)) }
 {
     if value.is_empty() {

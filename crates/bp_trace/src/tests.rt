@@ -1,5 +1,7 @@
 //! Schedules of a small program, and their traces.
 mod examples;
+mod heads;
+mod lines;
 mod versions;
 
 ghost use Rattle.std.specs.Prelude.{◌≡◌, None, IfOk};

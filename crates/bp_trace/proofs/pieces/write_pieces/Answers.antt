@@ -1,4 +1,4 @@
-use Rattle.std.proofs.Common.{◌<◌, sym, subst, None, codes, flat_map, length, arith}
+use Rattle.std.proofs.Common.{◌<◌, sym, subst, None, codes, length, arith}
 use Rattle.std.proofs.lemmas.Bool.Decides.{nat_tests}
 use Rattle.std.proofs.lemmas.Result.{err_from_is_err_and}
 use Rattle.bp_code.specs.Writing.{AppendsPart}

@@ -1,7 +1,6 @@
-use Rattle.std.proofs.Common.{◌≡◌, ◌∙◌, ap, sym, subst, refl}
+use Rattle.std.proofs.Common.{◌∙◌, sym, subst, refl}
 use Rattle.std.proofs.lemmas.Result.{err_from_is_err_and}
 use Rattle.bp_code.specs.StandsFor.{StandsFor}
-use Rattle.bp_machine.specs.ContextCounts.{last_thread}
 use Rattle.bp_trace.proofs.LineThread.{line_below}
 use Rattle.bp_trace.proofs.PlayedCalls.{playable_of, next_within, next_parts, next_number, next_few, body_refused}
 use Rattle.bp_trace.proofs.playing.play.Goals as goal

@@ -1,0 +1,54 @@
+-- What a text is migrated to.
+use Rattle.std.specs.Prelude.{◌≡◌, ℕ, List, Option, None}
+use Rattle.bp_code.specs.Writing.{AppendsAll, AppendsPart}
+use Rattle.bp_tree.specs.Ast.{Program}
+use Rattle.bp_machine.specs.declared.calls.Call.{Call}
+use Rattle.bp_machine.specs.declared.calls.Reply.{Reply}
+use Rattle.bp_machine.specs.declared.reports.Report.{Report}
+use Rattle.bp_machine.specs.Reports.{IsReport}
+use Rattle.bp_machine.specs.Setups.{SetupOf}
+use Rattle.bp_trace.specs.declared.migrate_faults.MigrateFault.{MigrateFault}
+use Rattle.bp_trace.specs.declared.migrate_faults.MigrateFault.TheVariants as fault
+use Rattle.bp_trace.specs.declared.versions.Version.{Version}
+use Rattle.bp_trace.specs.ReplayFaults.{replay_fault_number, replay_fault_place, wanted_reply}
+use Rattle.bp_trace.specs.Replays.{IsTrace, IsReplayRefusal}
+use Rattle.bp_trace.specs.TraceText.{trace_text_2}
+
+-- the number of a fault
+abbrev pub migrate_fault_number : MigrateFault → ℕ
+migrate_fault_number (fault.Replay f) = replay_fault_number f
+migrate_fault_number fault.Write = 51
+
+-- the line of the trace, or the thread of the setup, that a fault names
+abbrev pub migrate_fault_place : MigrateFault → Option ℕ
+migrate_fault_place (fault.Replay f) = replay_fault_place f
+migrate_fault_place fault.Write = None
+
+-- the reply that was wanted
+abbrev pub migrate_wanted : MigrateFault → Option Reply
+migrate_wanted (fault.Replay f) = wanted_reply f
+migrate_wanted fault.Write = None
+
+-- the bytes of the writer before and after a call
+module _ (t : Program) (text : List ℕ) (old new : Option (List ℕ)) where
+  -- the text is a trace, and that of version 2 of its setup and history was written
+  pub record IsMigrated (r : Report) : Type 0 where
+    pub version : Version
+    pub setup : SetupOf
+    pub history : List Call
+    pub trace : IsTrace t version setup history text
+    pub written : AppendsAll old new (trace_text_2 setup history)
+    pub report : IsReport setup history r
+
+  -- the text is a trace, and a proper prefix of the new one was written
+  pub record IsPartlyWritten : Type 0 where
+    pub version : Version
+    pub setup : SetupOf
+    pub history : List Call
+    pub trace : IsTrace t version setup history text
+    pub written : AppendsPart old new (trace_text_2 setup history)
+
+  -- each refusal, the first that applies
+  abbrev pub IsMigrateRefusal : MigrateFault → Type 0
+  IsMigrateRefusal (fault.Replay f) = (new ≡ old) × IsReplayRefusal t text f
+  IsMigrateRefusal fault.Write = IsPartlyWritten
