@@ -45,6 +45,20 @@ above a b e = grind (arith, nat_tests)
 some_of : (a : ℕ) → (a == 0) ≡ false → 0 < a
 some_of a e = grind (arith, nat_tests)
 
+range_by : (s : SetupOf) → has_bad_threads s ≡ false → is_out_of_range s ≡ false → length s.init ≤ MAX_GLOBALS → IsInRange s
+range_by s good_threads numbers bits =
+    let counted = no_other (threads s == 0) (nat_lt MAX_THREADS (threads s)) good_threads in
+    let a = no_other (nat_lt MAX_CONTEXTS s.contexts) _ numbers in
+    let b = no_other (s.calls == 0) _ a.1 in
+    record {
+      some = some_of (threads s) counted.0;
+      few = above MAX_THREADS (threads s) counted.1;
+      bits = bits;
+      contexts = above MAX_CONTEXTS s.contexts a.0;
+      one = some_of s.calls b.0;
+      calls = above MAX_CALLS s.calls b.1;
+    }
+
 module _ (t : Program) (s : SetupOf) (none : setup_fault t s ≡ None) where
   -- no fault of the four, the first first
   rest : (entries_fault t 0 s.entries ≡ None) × (first_of (fault_if (not (length s.init == length t.globals)) InitLength ∷ fault_if (is_out_of_range s) OutOfRange ∷ []) ≡ None)
@@ -64,6 +78,17 @@ module _ (t : Program) (s : SetupOf) (none : setup_fault t s ≡ None) where
   pub fits : Fits t s
   fits = record { entries = rest.0; init = equal (length s.init) (length t.globals) bits }
 
+  pub few_threads : threads s ≤ MAX_THREADS
+  few_threads = above MAX_THREADS (threads s) (no_other (threads s == 0) (nat_lt MAX_THREADS (threads s)) threads_fine).1
+
+  pub few_calls : s.calls ≤ MAX_CALLS
+  few_calls =
+      let counts = (no_other (nat_lt MAX_CONTEXTS s.contexts) _ numbers_fine).1 in
+      above MAX_CALLS s.calls (no_other (s.calls == 0) _ counts).1
+
+  pub range_of : IsLawful t → IsInRange s
+  range_of is_lawful = range_by s threads_fine numbers_fine (omega (arith, (few_names t is_lawful).globals, fits.init))
+
 -- a setup without a fault for the programs that a code stands for
 module _ (c : Flat) (s : SetupOf) (of_some : IsOfProgram c) (none : (t : Program) → StandsFor c t → setup_fault t s ≡ None) where
   few_bits : length s.init ≤ MAX_GLOBALS
@@ -76,14 +101,4 @@ module _ (c : Flat) (s : SetupOf) (of_some : IsOfProgram c) (none : (t : Program
   in_range =
       let good_threads = is_untrue c (has_bad_threads s) of_some (λ t is. threads_fine t s (none t is)) in
       let numbers = is_untrue c (is_out_of_range s) of_some (λ t is. numbers_fine t s (none t is)) in
-      let counted = no_other (threads s == 0) (nat_lt MAX_THREADS (threads s)) good_threads in
-      let a = no_other (nat_lt MAX_CONTEXTS s.contexts) _ numbers in
-      let b = no_other (s.calls == 0) _ a.1 in
-      record {
-        some = some_of (threads s) counted.0;
-        few = above MAX_THREADS (threads s) counted.1;
-        bits = few_bits;
-        contexts = above MAX_CONTEXTS s.contexts a.0;
-        one = some_of s.calls b.0;
-        calls = above MAX_CALLS s.calls b.1;
-      }
+      range_by s good_threads numbers few_bits

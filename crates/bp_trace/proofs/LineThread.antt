@@ -5,7 +5,7 @@ use Rattle.bp_machine.specs.declared.calls.Call.{Call}
 use Rattle.bp_machine.specs.ContextCounts.{last_thread}
 use Rattle.bp_trace.specs.declared.versions.Version.{Version}
 use Rattle.bp_trace.specs.declared.versions.Version.TheVariants.{One, Two}
-use Rattle.bp_trace.specs.Pieces.{Turn, call_of}
+use Rattle.bp_trace.specs.Pieces.{Turn, call_of, Piece, calls_of_piece}
 use Rattle.bp_trace.specs.Replays.{IsBodyLine}
 use Rattle.bp_trace.proofs.PiecesAreFewest.{thread_of}
 
@@ -23,6 +23,9 @@ turns_of : (i : ℕ) (ts : List Turn) → AllByRecursion (λ (x : Call). x.threa
 turns_of i [] = tt
 turns_of i (t ∷ ts) = (refl, turns_of i ts)
 
+pub piece_thread : (p : Piece) → AreOfThread p.thread (calls_of_piece p)
+piece_thread p = record { some = λ e. absurd (cc); each = (refl, turns_of p.thread p.others) }
+
 pub line_thread : (v : Version) (n : ℕ) (last : Option ℕ) (line : List ℕ) (calls : List Call) → IsBodyLine n last line calls v → HasThread n calls
 line_thread One n last line calls b = record {
   thread = b.call.thread;
@@ -32,8 +35,7 @@ line_thread One n last line calls b = record {
 line_thread Two n last line calls b = record {
   thread = b.piece.thread;
   below = b.thread;
-  are = subst (AreOfThread b.piece.thread) (sym b.holds)
-      (record { some = λ e. absurd (cc); each = (refl, turns_of b.piece.thread b.piece.others) });
+  are = subst (AreOfThread b.piece.thread) (sym b.holds) (piece_thread b.piece);
 }
 
 all_below : (n i : ℕ) (calls : List Call) → i < n → AllByRecursion (λ (x : Call). x.thread ≡ i) calls → AllByRecursion (λ (x : Call). x.thread < n) calls

@@ -64,7 +64,7 @@ same_fits W false true f g = f.1 (g.0 refl)
 same_fits W true false f g = sym (g.1 (f.0 refl))
 same_fits W true true f g = refl
 
-same_answer : (t : Program) (k : ℕ) (c : Configuration) (before : List ℕ) (i : ℕ) (bit : Bool) (r q : Reply)
+pub same_answer : (t : Program) (k : ℕ) (c : Configuration) (before : List ℕ) (i : ℕ) (bit : Bool) (r q : Reply)
     → Answers t k c before i bit r → Answers t k c before i bit q → r ≡ q
 same_answer t k c before i bit r q a b =
     let both : Some r ≡ Some q = sym a.is ∙ ap (λ f. reply_of t f c i bit) (same_fits _ a.fits b.fits a.decides b.decides) ∙ b.is in

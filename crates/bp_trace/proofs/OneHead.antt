@@ -168,10 +168,13 @@ module _ (v : Version) (s : SetupOf) (has : HasHead s) where
       let b : BeginsHead ((p.front ++ line ∷ more) ++ []) = record { version = v; setup = s; has = has; more = []; is = e ∙ sym (append-nil (p.front ++ line ∷ more)) ∙ sym (append-nil _) } in
       stays (head_text v s ++ rest) k p line more [] rest b f
 
-  pub whole_head_stops_nowhere : (rest : List ℕ) (k : ℕ) → HeadStops (head_text v s ++ rest) k → ⊥
-  whole_head_stops_nowhere rest k p =
+  stops_nowhere : (rest : List ℕ) (k : ℕ) → HeadStops (head_text v s ++ rest) k → ⊥
+  stops_nowhere rest k p =
       go (fork (head_lines v s) p.front rest p.rest (head_is_lines v s has) (front_lines _ k p) (ap (λ t. t ++ rest) (head_joined v s) ∙ p.parts))
     where
       go : Fork (head_lines v s) p.front rest p.rest → ⊥
       go (second more e f) = none_follows more p.due (subst (λ (ls : List (List ℕ)). BeginsHead (ls ++ p.due ∷ [])) e p.begins)
       go (first more e f) = goes_on rest k p more e f
+
+pub whole_head_stops_nowhere : (v : Version) (s : SetupOf) (rest : List ℕ) (k : ℕ) → HasHead s → HeadStops (head_text v s ++ rest) k → ⊥
+whole_head_stops_nowhere v s rest k has p = stops_nowhere v s has rest k p

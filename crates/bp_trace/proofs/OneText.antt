@@ -1,5 +1,5 @@
 -- No two triples of version, setup and history have one text.
-use Rattle.std.proofs.Common.{◌≡◌, ℕ, ◌<◌, ◌≤◌, ◌^◌, ◌==◌, Bool, true, false, cond, List, [], ◌∷◌, ◌++◌, length, map, flat_map, Option, None, Some, refl, sym, ap, ◌∙◌, arith, append_assoc, codes, decimal}
+use Rattle.std.proofs.Common.{◌≡◌, ℕ, ◌<◌, ◌≤◌, ◌^◌, ◌==◌, Bool, true, false, List, [], ◌∷◌, ◌++◌, length, map, flat_map, Option, None, Some, refl, sym, ap, ◌∙◌, arith, append_assoc, codes, decimal}
 use Rattle.std.specs.Prelude.{if◌then◌else◌}
 use Rattle.std.specs.List.{AllByRecursion}
 use Rattle.std.proofs.lemmas.List.{append-nil}
@@ -13,8 +13,9 @@ use Rattle.bp_trace.specs.Schedules.{bit_digit}
 use Rattle.bp_machine.specs.Histories.{open_lines}
 use Rattle.bp_trace.specs.declared.versions.Version.{Version}
 use Rattle.bp_trace.specs.declared.versions.Version.TheVariants.{One, Two}
-use Rattle.bp_trace.specs.Pieces.{Turn, Piece, piece_of, with_call, pieces_of, calls_of_pieces}
+use Rattle.bp_trace.specs.Pieces.{Turn, Piece, pieces_of, calls_of_pieces}
 use Rattle.bp_trace.specs.TraceText.{version_line, entry_line, init_digits, init_line, seed_word, limit_lines, setup_lines, head_text, call_line, turn_text, piece_line, calls_text, end_line, text_of}
+use Rattle.bp_trace.proofs.PieceThreads.{pieces_threads}
 use Rattle.bp_trace.proofs.PiecesAreFewest.{pieces_whole}
 use Rattle.bp_trace.specs.BodyReading.{HasNoPair}
 use Rattle.bp_trace.specs.Writable.{Without, IsWritable}
@@ -274,25 +275,13 @@ pieces_alike (c ∷ ps) (d ∷ qs) x y p q e =
     let rest = pieces_alike ps qs x y p.1 q.1 line.1 in
     (cc (line.0, rest.0), rest.1)
 
-with_call_threads : (c : Call) (ps : List Piece) → c.thread < 2 ^ 64 → AllByRecursion (λ (p : Piece). p.thread < 2 ^ 64) ps → AllByRecursion (λ (p : Piece). p.thread < 2 ^ 64) (with_call c ps)
-with_call_threads c [] p q = (p, tt)
-with_call_threads c (d ∷ ps) p q = go (c.thread == d.thread)
-  where
-    go : (b : Bool) → AllByRecursion (λ (p : Piece). p.thread < 2 ^ 64) (cond b (piece_of c (d.first ∷ d.others) ∷ ps) (piece_of c [] ∷ d ∷ ps))
-    go true = (p, q.1)
-    go false = (p, q)
-
-pieces_threads : (h : List Call) → AllByRecursion (λ (c : Call). c.thread < 2 ^ 64) h → AllByRecursion (λ (p : Piece). p.thread < 2 ^ 64) (pieces_of h)
-pieces_threads [] p = tt
-pieces_threads (c ∷ h) p = with_call_threads c (pieces_of h) p.0 (pieces_threads h p.1)
-
 -- ---- the whole text
 
 histories_alike : (v : Version) (h g : List Call) (x y : List ℕ) → AllByRecursion (λ (c : Call). c.thread < 2 ^ 64) h → AllByRecursion (λ (c : Call). c.thread < 2 ^ 64) g
     → calls_text v h ++ (101 ∷ x) ≡ calls_text v g ++ (101 ∷ y) → h ≡ g
 histories_alike One h g x y p q e = (calls_alike h g x y p q e).0
 histories_alike Two h g x y p q e =
-    sym (pieces_whole h) ∙ ap calls_of_pieces (pieces_alike (pieces_of h) (pieces_of g) x y (pieces_threads h p) (pieces_threads g q) e).0 ∙ pieces_whole g
+    sym (pieces_whole h) ∙ ap calls_of_pieces (pieces_alike (pieces_of h) (pieces_of g) x y (pieces_threads (λ i. i < 2 ^ 64) h p) (pieces_threads (λ i. i < 2 ^ 64) g q) e).0 ∙ pieces_whole g
 
 module _ (v w : Version) (s r : SetupOf) (h g : List Call) (p : IsWritable s h) (q : IsWritable r g) (e : text_of v s h ≡ text_of w r g) where
   abbrev end : SetupOf → List Call → List ℕ

@@ -1,5 +1,5 @@
 -- What a session that stands after the calls of some lines of a trace says of them.
-use Rattle.std.proofs.Common.{◌≡◌, ℕ, zero, suc, ◌+◌, ◌-◌, ◌<◌, ◌≤◌, List, [], ◌∷◌, ◌++◌, length, take, drop, map, flat_map, codes, decimal, get_or, Option, Some, ap, sym, ◌∙◌, subst, arith, append_assoc, inl, inr, length-append, length-drop}
+use Rattle.std.proofs.Common.{◌≡◌, ℕ, zero, suc, ◌+◌, ◌-◌, ◌<◌, ◌≤◌, List, [], ◌∷◌, ◌++◌, length, take, drop, map, get_or, Some, ap, sym, ◌∙◌, subst, arith, append_assoc, inl, inr, length-append, length-drop}
 use Rattle.std.specs.Prelude.{slice_get}
 use Rattle.std.proofs.lemmas.List.{append-nil, take_more, take-append-drop, drop-drop, drop_at}
 use Rattle.std.proofs.Math.Seq.{drop-cons}
@@ -12,16 +12,13 @@ use Rattle.bp_machine.specs.Histories.{configuration_after, configuration_after_
 use Rattle.bp_machine.specs.PrintedRows.{PrintedRow, rows_of_call, rows_after, printed_rows}
 use Rattle.bp_machine.specs.Sessions.{SessionOf, Stands}
 use Rattle.bp_machine.specs.Setups.{SetupOf, threads, start}
-use Rattle.bp_machine.specs.Replies.{letter_of}
 use Rattle.bp_trace.specs.declared.replay_faults.ReplayFault.{ReplayFault}
 use Rattle.bp_trace.specs.declared.versions.Version.{Version}
-use Rattle.bp_trace.specs.declared.versions.Version.TheVariants.{One, Two}
 use Rattle.bp_trace.specs.BodyReading.{IsBodyLineAt}
 use Rattle.bp_trace.specs.Judging.{IsCallRefusal, IsLineRefused, IsBodyRefusal}
-use Rattle.bp_trace.specs.Schedules.{bit_digit}
-use Rattle.bp_trace.specs.TraceText.{turn_text, calls_text}
+use Rattle.bp_trace.specs.TraceText.{calls_text}
 use Rattle.bp_trace.specs.Replays.{IsPlayable, IsBodyLine, IsCallFault, IsRefusedAmong, line_count}
-use Rattle.bp_trace.proofs.GrowsByLine.{text_grows, count_grows}
+use Rattle.bp_trace.proofs.GrowsByLine.{text_grows, count_grows, some_line}
 
 last_at : (h : List Call) (n : ℕ) (x : Call) → length h ≡ suc n → slice_get h n ≡ Some x → Some x.thread ≡ last_thread (map (λ (y : Call). y.thread) h)
 last_at [] n x long e = absurd cc
@@ -33,12 +30,6 @@ last_at (a ∷ b ∷ h) (suc n) x long e = last_at (b ∷ h) n x (omega (arith, 
 pub last_is : (h : List Call) (x : Call) → slice_get h (length h - 1) ≡ Some x → Some x.thread ≡ last_thread (map (λ (y : Call). y.thread) h)
 last_is [] x e = absurd cc
 last_is (a ∷ h) x e = last_at (a ∷ h) (length (a ∷ h) - 1) x (omega arith) e
-
-line_some : (v : Version) (n : ℕ) (last : Option ℕ) (line : List ℕ) (calls : List Call) → IsBodyLine n last line calls v → 0 < length line
-line_some One n last line calls b =
-    omega (arith, ap length b.is, length-append (decimal b.call.thread) (32 ∷ bit_digit b.call.bit ∷ 32 ∷ letter_of b.call.reply ∷ 10 ∷ []))
-line_some Two n last line calls b =
-    omega (arith, ap length b.is, length-append (decimal b.piece.thread) (32 ∷ (flat_map turn_text (b.piece.first ∷ b.piece.others) ++ codes "\n")))
 
 rows_more : (t : Program) (c : Configuration) (h : List Call) (x : Call) → rows_after t c (h ++ x ∷ []) ≡ rows_after t c h ++ rows_of_call (configuration_after_calls t c h) x
 rows_more t c [] x = append-nil (rows_of_call c x)
@@ -95,7 +86,7 @@ module _ (v : Version) (n first : ℕ) (text : List ℕ) (h : List Call) (size l
     next_number = omega (arith, number, ap (line_count v) is, count_grows v n h at.line calls at.is_line)
 
     pub next_few : line ≤ first + size → line + 1 ≤ first + (size + more)
-    next_few few = omega (arith, few, at.size_is, line_some v n (last_thread (map (λ (x : Call). x.thread) h)) at.line calls at.is_line)
+    next_few few = omega (arith, few, at.size_is, some_line v n (last_thread (map (λ (x : Call). x.thread) h)) at.line calls at.is_line)
 
   module _ (t : Program) (s : SetupOf) (many : n ≡ threads s) (playable : IsPlayable t s h) (calls : List Call) (more : ℕ)
       (at : IsBodyLineAt v n (last_thread (map (λ (x : Call). x.thread) h)) (drop size text) calls more) where

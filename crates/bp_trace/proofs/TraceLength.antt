@@ -1,5 +1,5 @@
 -- The trace of a legal history is short enough to be replayed.
-use Rattle.std.proofs.Common.{◌≡◌, ℕ, zero, suc, ◌+◌, ◌*◌, ◌<◌, ◌≤◌, ◌^◌, ◌==◌, Bool, true, false, cond, List, [], ◌∷◌, ◌++◌, length, flat_map, Option, None, Some, refl, ap, arith, length-append, codes, decimal}
+use Rattle.std.proofs.Common.{◌≡◌, ℕ, zero, suc, ◌+◌, ◌*◌, ◌<◌, ◌≤◌, ◌^◌, Bool, true, false, cond, List, [], ◌∷◌, ◌++◌, length, flat_map, Option, None, Some, refl, ap, arith, length-append, codes, decimal}
 use Rattle.std.specs.List.{AllByRecursion}
 use Rattle.std.proofs.Math.Nat.{mul-le-mul_left, mul-le-mul_right}
 use Rattle.std.proofs.lemmas.List.{length-map}
@@ -16,8 +16,9 @@ use Rattle.bp_trace.specs.declared.limits.TheConstants.{MAX_TRACE}
 use Rattle.bp_trace.specs.declared.versions.Version.{Version}
 use Rattle.bp_trace.specs.declared.versions.Version.TheVariants.{One, Two}
 use Rattle.bp_trace.specs.Schedules.{bit_digit}
-use Rattle.bp_trace.specs.Pieces.{Turn, Piece, calls_of_piece, calls_of_pieces, piece_of, with_call, pieces_of, call_of}
+use Rattle.bp_trace.specs.Pieces.{Turn, Piece, calls_of_piece, calls_of_pieces, pieces_of, call_of}
 use Rattle.bp_trace.specs.TraceText.{version_line, entry_line, init_digits, init_line, seed_word, limit_lines, setup_lines, head_text, call_line, turn_text, piece_line, calls_text, end_line, text_of}
+use Rattle.bp_trace.proofs.PieceThreads.{pieces_threads}
 use Rattle.bp_trace.proofs.PiecesAreFewest.{pieces_whole}
 use Rattle.bp_trace.proofs.ScheduleLength.{few_digits}
 
@@ -63,29 +64,21 @@ pieces_short (p ∷ ps) each =
     let count = length-map turns (call_of p.thread) in
     omega (arith, digits, ended, line, whole, calls, count, turns_length turns, pieces_short ps each.1)
 
-with_call_small : (c : Call) (ps : List Piece) → c.thread < 100 → AllByRecursion (λ (p : Piece). p.thread < 100) ps → AllByRecursion (λ (p : Piece). p.thread < 100) (with_call c ps)
-with_call_small c [] small each = (small, tt)
-with_call_small c (d ∷ ps) small each = go (c.thread == d.thread)
-  where
-    go : (b : Bool) → AllByRecursion (λ (p : Piece). p.thread < 100) (cond b (piece_of c (d.first ∷ d.others) ∷ ps) (piece_of c [] ∷ d ∷ ps))
-    go true = (small, each.1)
-    go false = (small, each)
-
-pieces_small : (n : ℕ) (h : List Call) → n ≤ MAX_THREADS → AllBelow n h → AllByRecursion (λ (p : Piece). p.thread < 100) (pieces_of h)
-pieces_small n [] few all = tt
-pieces_small n (x ∷ xs) few (below, all) = with_call_small x (pieces_of xs) (omega (arith, few, below)) (pieces_small n xs few all)
+few_threads : (n : ℕ) (h : List Call) → n ≤ MAX_THREADS → AllBelow n h → AllByRecursion (λ (x : Call). x.thread < 100) h
+few_threads n [] few all = tt
+few_threads n (x ∷ xs) few (below, all) = (omega (arith, few, below), few_threads n xs few all)
 
 history_short : (v : Version) (n : ℕ) (h : List Call) → n ≤ MAX_THREADS → AllBelow n h → length (calls_text v h) ≤ 7 * length h
 history_short One n h few all = calls_short n h few all
 history_short Two n h few all =
-    let pieces = pieces_short (pieces_of h) (pieces_small n h few all) in
+    let pieces = pieces_short (pieces_of h) (pieces_threads (λ i. i < 100) h (few_threads n h few all)) in
     omega (arith, pieces, ap length (pieces_whole h))
 
 version_short : (v : Version) → length (version_line v) ≤ 9
 version_short One = omega arith
 version_short Two = omega arith
 
-open_few : (n : ℕ) (s : SetupOf) (h : List Call) → open_below n s h ≤ n
+pub open_few : (n : ℕ) (s : SetupOf) (h : List Call) → open_below n s h ≤ n
 open_few zero s h = omega arith
 open_few (suc n) s h = go (is_finished s h n) (open_few n s h)
   where

@@ -1,13 +1,18 @@
 -- Laws of schedules and traces.
-use Rattle.std.specs.Prelude.{◌≡◌, ℕ, List, length, map}
+use Rattle.std.specs.Prelude.{◌≡◌, ◌≢◌, ℕ, List, length, map}
 use Rattle.bp_tree.specs.Ast.{Program}
+use Rattle.bp_syntax.specs.Texts.{HasText}
+use Rattle.bp_check.specs.Faults.{IsLawful}
 use Rattle.bp_machine.specs.declared.calls.Call.{Call}
 use Rattle.bp_machine.specs.Contexts.{IsLeastWithin}
 use Rattle.bp_machine.specs.Setups.{SetupOf, IsInRange}
 use Rattle.bp_machine.specs.Histories.{IsLegal}
 use Rattle.bp_trace.specs.Pieces.{calls_of_pieces, pieces_of}
 use Rattle.bp_trace.specs.Schedules.{schedule_text, lines_of_history}
+use Rattle.bp_trace.specs.declared.replay_faults.ReplayFault.{ReplayFault}
+use Rattle.bp_trace.specs.declared.replay_faults.ReplayFault.TheVariants.{Memory}
 use Rattle.bp_trace.specs.declared.versions.Version.{Version}
+use Rattle.bp_trace.specs.Replays.{IsTrace, IsReplayRefusal}
 use Rattle.bp_trace.specs.TraceText.{text_of}
 use Rattle.bp_trace.specs.Writable.{IsWritable}
 use Rattle.bp_trace.specs.Drives.{IsDriven, IsBadLine, IsAfterFinish}
@@ -43,3 +48,24 @@ NoTwoHaveOneText =
     → IsWritable r g
     → text_of v s h ≡ text_of w r g
     → (v ≡ w) × (s ≡ r) × (h ≡ g)
+
+-- a text has at most one refusal beside memory
+abbrev pub OneRefusal : Type 0
+OneRefusal =
+    (t : Program) (text : List ℕ) (f g : ReplayFault)
+    → f ≢ Memory
+    → g ≢ Memory
+    → IsReplayRefusal t text f
+    → IsReplayRefusal t text g
+    → f ≡ g
+
+-- a text that is refused for anything but memory is no trace of the lawful program of a text
+abbrev pub RefusedIsNoTrace : Type 0
+RefusedIsNoTrace =
+    (t : Program) (v : Version) (s : SetupOf) (h : List Call) (text : List ℕ) (f : ReplayFault)
+    → IsLawful t
+    → HasText t
+    → f ≢ Memory
+    → IsReplayRefusal t text f
+    → IsTrace t v s h text
+    → ⊥

@@ -104,11 +104,11 @@ fn entries_at(alloc: Global, text: &[u8]) -> Result<(Vec<&[u8]>, &[u8]), AllocEr
     let mut names = Vec::new(alloc);
     let mut rest = text;
     'lines: loop {
-        let Some((name, behind)) = entry_at(rest) else {
+        let Some((name, more)) = entry_at(rest) else {
             return Ok((names, rest));
         };
         names.push(name)?;
-        rest = behind;
+        rest = more;
     }
 }
 

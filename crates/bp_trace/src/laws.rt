@@ -1,5 +1,5 @@
 //! Laws of schedules and traces. These functions do nothing: their contracts are the laws.
-ghost use Rattle.bp_trace.specs.Laws.{LinesDriveAgain, NoTwoHaveOneText, PiecesAreFewest};
+ghost use Rattle.bp_trace.specs.Laws.{LinesDriveAgain, NoTwoHaveOneText, OneRefusal, PiecesAreFewest, RefusedIsNoTrace};
 
 /// The lines of the calls of a legal history, each a thread and a choice bit, drive its program to
 /// that history: no other history is legal along them, and no line of them is refused.
@@ -17,4 +17,11 @@ pub fn pieces_are_fewest()
 /// numbers have 64 bits.
 pub fn no_two_have_one_text()
     ensures { NoTwoHaveOneText }
+{}
+
+/// A text has at most one refusal beside memory: the lines, heads and ends that refuse a text refuse
+/// it alone. And a text that is refused so is no trace of the program.
+pub fn refusals_are_single()
+    ensures one { OneRefusal }
+    ensures none { RefusedIsNoTrace }
 {}

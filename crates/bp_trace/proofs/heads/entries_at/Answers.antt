@@ -8,9 +8,9 @@ pub lines-preserved : goal.lines-preserved
 lines-preserved c =
     let names = ap (map (λ n. n.now)) c.in_ok-push.ensures.items ∙ map_push (λ n. n.now) c.lines.names.items c.in-Some.name in
     record {
-      entries = subst (λ ns. AreEntriesAt c.args.text.now ns c.in-Some.behind.now) (sym names)
-          (entries_more c.lines.rest.now c.in-Some.name.now c.in-Some.behind.now c.in-Some.ensures c.args.text.now (map (λ n. n.now) c.lines.names.items) c.lines.invariant.entries);
+      entries = subst (λ ns. AreEntriesAt c.args.text.now ns c.in-Some.more.now) (sym names)
+          (entries_more c.lines.rest.now c.in-Some.name.now c.in-Some.more.now c.in-Some.ensures c.args.text.now (map (λ n. n.now) c.lines.names.items) c.lines.invariant.entries);
       few =
-          let one = rest_shorter c.lines.rest.now c.in-Some.name.now c.in-Some.behind.now c.in-Some.ensures in
+          let one = rest_shorter c.lines.rest.now c.in-Some.name.now c.in-Some.more.now c.in-Some.ensures in
           omega (arith, one, ap length c.in_ok-push.ensures.items, length-append c.lines.names.items (c.in-Some.name ∷ []), c.lines.invariant.few);
     }
