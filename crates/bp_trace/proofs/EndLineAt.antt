@@ -7,7 +7,7 @@ use Rattle.std.proofs.lemmas.List.{get_or-take, get_or_at, get_or_append_left, l
 use Rattle.std.proofs.lemmas.Option.{slice_get-get_or, slice_get_within, get_or_from_slice_get}
 use Rattle.std.proofs.lemmas.Str.Parse.{digit_at}
 use Rattle.bp_trace.specs.Replays.{IsDecimal, IsEndLine}
-use Rattle.bp_trace.specs.EndReading.{IsNoDigit, IsFieldAt, HasNoField, IsEndAt, HasNoEnd}
+use Rattle.bp_trace.specs.EndReading.{IsNoDigit, IsDecimalAt, HasNoDecimal, IsEndAt, HasNoEnd}
 use Rattle.bp_trace.proofs.Cuts.{one_cut, digits_without}
 use Rattle.bp_trace.proofs.OneText.{front_cut}
 
@@ -48,20 +48,20 @@ module _ (byte : ℕ) (low : byte < 48) (text : List ℕ) (count : ℕ) (within 
       ]
     ]
 
-  pub no_field_here : (0 < count → slice_get text count ≡ Some byte → ⊥) → HasNoField byte text
+  pub no_field_here : (0 < count → slice_get text count ≡ Some byte → ⊥) → HasNoDecimal byte text
   no_field_here none = λ ds more decimal begins.
       let counted = all_counted ds more decimal begins in
       let has = slice_get-get_or text count 0 (omega (arith, counted, long ds more decimal begins)) in
       none (omega (arith, counted, decimal.some))
       (has ∙ ap Some (ap (λ n. get_or text n 0) counted ∙ byte_at ds more decimal begins))
 
-  pub no_field_of_zero : 1 < count → slice_get text 0 ≡ Some 48 → HasNoField byte text
+  pub no_field_of_zero : 1 < count → slice_get text 0 ≡ Some 48 → HasNoDecimal byte text
   no_field_of_zero many zero = λ ds more decimal begins.
       let counted = all_counted ds more decimal begins in
       let first : get_or ds 0 0 ≡ 48 = sym (get_or_append_left ds (byte ∷ more) 0 0 decimal.some) ∙ ap (λ t. get_or t 0 0) (sym begins) ∙ get_or_from_slice_get text 0 48 0 zero in
       omega (arith, many, counted, decimal.first first)
 
-  pub has_field : 0 < count → slice_get text count ≡ Some byte → (1 < count → slice_get text 0 ≡ Some 48 → ⊥) → IsFieldAt byte text (count + 1)
+  pub has_field : 0 < count → slice_get text count ≡ Some byte → (1 < count → slice_get text 0 ≡ Some 48 → ⊥) → IsDecimalAt byte text (count + 1)
   has_field some here none =
       let inside = slice_get_within text count byte here in
       let counted : length (take count text) ≡ count = length-take-le count text within in
@@ -95,20 +95,20 @@ module _ (text : List ℕ) where
     both_then : (line more : List ℕ) (e : IsEndLine line) → text ≡ line ++ more → drop 4 text ≡ e.calls ++ 32 ∷ (e.left_open ++ 10 ∷ more)
     both_then line more e begins = front_cut (codes "end ") _ _ (sym word ∙ begins ∙ end_then line more e)
 
-    module _ (calls : ℕ) (first : IsFieldAt 32 (drop 4 text) calls) where
+    module _ (calls : ℕ) (first : IsDecimalAt 32 (drop 4 text) calls) where
       second_is : drop (4 + calls) text ≡ first.more
       second_is =
           let long : length (codes "end " ++ (first.digits ++ codes " ")) ≡ 4 + calls = omega (arith, first.size_is, length-append first.digits (codes " ")) in
           let whole : text ≡ (codes "end " ++ (first.digits ++ codes " ")) ++ first.more = word ∙ ap (λ t. codes "end " ++ t) (first.begins ∙ sym (append_assoc first.digits (codes " ") first.more)) in
           ap (drop (4 + calls)) whole ∙ drop_at (codes "end " ++ (first.digits ++ codes " ")) first.more (4 + calls) long
 
-      pub no_second : HasNoField 10 (drop (4 + calls) text) → HasNoEnd text
+      pub no_second : HasNoDecimal 10 (drop (4 + calls) text) → HasNoEnd text
       no_second none = λ line more e begins.
           let cut = one_cut 32 first.digits e.calls first.more (e.left_open ++ 10 ∷ more) (digits_without 32 (omega arith) first.digits first.decimal.each) (digits_without 32 (omega arith) e.calls e.first.each)
           (sym first.begins ∙ both_then line more e begins) in
           none e.left_open more e.second (second_is ∙ cut.1)
 
-      pub has_end : (left_open : ℕ) → IsFieldAt 10 (drop (4 + calls) text) left_open → IsEndAt text (4 + calls + left_open)
+      pub has_end : (left_open : ℕ) → IsDecimalAt 10 (drop (4 + calls) text) left_open → IsEndAt text (4 + calls + left_open)
       has_end left_open second =
           let line = codes "end " ++ (first.digits ++ (codes " " ++ (second.digits ++ codes "\n"))) in
           let e : IsEndLine line = record { calls = first.digits; left_open = second.digits; first = first.decimal; second = second.decimal; is = refl } in

@@ -31,5 +31,5 @@ mod ReplayedTexts
 mod ScheduleLength
 mod ScheduleLineAt
 mod ThreadAt
-mod TraceLength
+pub mod TraceLength
 mod WholeHead

@@ -10,7 +10,7 @@ abbrev pub IsNoDigit : ℕ → Type 0
 IsNoDigit byte = (byte < 48) ⊎ (57 < byte)
 
 -- a decimal and this byte behind it begin the text, and have this size
-pub record IsFieldAt (byte : ℕ) (text : List ℕ) (size : ℕ) : Type 0 where
+pub record IsDecimalAt (byte : ℕ) (text : List ℕ) (size : ℕ) : Type 0 where
   pub digits : List ℕ
   pub more : List ℕ
   pub decimal : IsDecimal digits
@@ -18,8 +18,8 @@ pub record IsFieldAt (byte : ℕ) (text : List ℕ) (size : ℕ) : Type 0 where
   pub size_is : size ≡ length digits + 1
 
 -- no decimal with this byte behind it begins the text
-abbrev pub HasNoField : ℕ → List ℕ → Type 0
-HasNoField byte text =
+abbrev pub HasNoDecimal : ℕ → List ℕ → Type 0
+HasNoDecimal byte text =
     (digits more : List ℕ) → IsDecimal digits → text ≢ digits ++ byte ∷ more
 
 -- an end line of this size begins the text

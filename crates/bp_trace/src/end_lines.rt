@@ -1,7 +1,7 @@
 //! The line that ends a trace.
 ghost use Rattle.std.specs.Prelude.{◌≡◌, ◌↔◌, ◌<◌, ◌≤◌, ◌-◌, ◌^◌, ℕ, Some, IsTrue, take, length, flat_map, slice_get, MatchOption, MatchResult};
 ghost use Rattle.std.specs.Str.Parse.{AllDigits};
-ghost use Rattle.bp_trace.specs.EndReading.{IsNoDigit, IsFieldAt, HasNoField, IsEndAt, HasNoEnd, IsEndRefusal};
+ghost use Rattle.bp_trace.specs.EndReading.{IsNoDigit, IsDecimalAt, HasNoDecimal, IsEndAt, HasNoEnd, IsEndRefusal};
 ghost use Rattle.bp_trace.specs.TraceText.{end_line};
 
 use crate::replay_faults::ReplayFault;
@@ -26,9 +26,9 @@ fn digit_run(text: &[u8]) -> usize
 }
 
 /// How many bytes a decimal of any length and this byte behind it have, where they begin the text.
-fn field_at(byte: u8, text: &[u8]) -> Option<usize>
+fn decimal_at(byte: u8, text: &[u8]) -> Option<usize>
     requires { byte < 48 }
-    ensures { MatchOption result (HasNoField byte text.now) (IsFieldAt byte text.now) }
+    ensures { MatchOption result (HasNoDecimal byte text.now) (IsDecimalAt byte text.now) }
 {
     let count = digit_run(text);
     if count == 0 || !has_byte(byte, text, count) {
@@ -47,10 +47,10 @@ fn end_at(text: &[u8]) -> Option<usize>
     if !text.starts_with(b"end ") {
         return None;
     }
-    let Some(calls) = field_at(b' ', text_from(text, 4)) else {
+    let Some(calls) = decimal_at(b' ', text_from(text, 4)) else {
         return None;
     };
-    match field_at(b'\n', text_from(text, 4 + calls)) {
+    match decimal_at(b'\n', text_from(text, 4 + calls)) {
         None => None,
         Some(left_open) => Some(4 + calls + left_open),
     }

@@ -1,8 +1,8 @@
 use Rattle.std.proofs.Common.{◌<◌, ◌∙◌, sym, arith}
 use Rattle.std.proofs.lemmas.Bool.{false≢true}
 use Rattle.bp_trace.proofs.EndLineAt.{no_field_here, no_field_of_zero, has_field}
-use Rattle.bp_trace.proofs.end_lines.field_at.Goals as goal
-use Rattle.bp_trace.proofs.end_lines.field_at.Goals.{then-count-eq0-via-then-count-eq0, then-count-eq0-via-else-count-eq0+then-not-has_byte, else-count-gt1-via-then-count-gt1+else-has_byte, else-count-gt1-via-else-count-gt1}
+use Rattle.bp_trace.proofs.end_lines.decimal_at.Goals as goal
+use Rattle.bp_trace.proofs.end_lines.decimal_at.Goals.{then-count-eq0-via-then-count-eq0, then-count-eq0-via-else-count-eq0+then-not-has_byte, else-count-gt1-via-then-count-gt1+else-has_byte, else-count-gt1-via-else-count-gt1}
 
 pub returns-then-count-eq0 : goal.returns-then-count-eq0
 returns-then-count-eq0 c =
