@@ -103,7 +103,7 @@ fn entries_at(alloc: Global, text: &[u8]) -> Result<(Vec<&[u8]>, &[u8]), AllocEr
 {
     let mut names = Vec::new(alloc);
     let mut rest = text;
-    'lines: loop {
+    loop {
         let Some((name, more)) = entry_at(rest) else {
             return Ok((names, rest));
         };
@@ -119,7 +119,7 @@ fn bits_of(alloc: Global, digits: &[u8]) -> Result<Option<Vec<bool>>, AllocError
         (λ bs. digits.now ≡ map bit_digit bs.items)) }
 {
     let mut bits = Vec::new(alloc);
-    'each: for digit in digits {
+    for digit in digits {
         let Some(bit) = bit_of(*digit) else {
             return Ok(None);
         };
@@ -193,7 +193,7 @@ fn number_of(digits: &[u8]) -> Option<u64>
         return None;
     }
     let mut number = 0;
-    'each: for digit in digits {
+    for digit in digits {
         if !digit.is_ascii_digit() {
             return None;
         }

@@ -3,4 +3,4 @@ use Rattle.bp_trace.proofs.InitBits.{no_bit_at}
 use Rattle.bp_trace.proofs.heads.bits_of.Goals as goal
 
 pub returns-in_default : goal.returns-in_default
-returns-in_default c = no_bit_at c.args.digits.now c.each.digit-index (omega arith) c.in_default.ensures
+returns-in_default c = no_bit_at c.args.digits.now c.loop-digit.digit-index (omega arith) c.in_default.ensures
