@@ -1,8 +1,12 @@
 //! Schedules of a small program, and their traces.
+mod damages;
 mod examples;
 mod heads;
 mod lines;
+mod migrations;
+mod replays;
 mod versions;
+mod whole_heads;
 
 ghost use Rattle.std.specs.Prelude.{◌≡◌, None, IfOk};
 ghost use Rattle.bp_machine.specs.Setups.{FitsCode};

@@ -3,23 +3,23 @@ ghost use Rattle.std.specs.Prelude.{◌≡◌, None, IfOk};
 ghost use Rattle.bp_machine.specs.Setups.{FitsCode};
 
 use super::{code_of, repeated};
-use crate::{DriveFault, drive};
+use crate::{DriveFault, drive, migrate, replay};
 use bp_code::Code;
-use bp_machine::Setup;
+use bp_machine::{Report, Setup};
 use std::alloc::Global;
 use std::test::Fail;
 
 /// A program in a setup.
 #[derive(Clone, Copy)]
-struct Example {
-    text: &'static [u8],
-    entries: &'static [&'static str],
-    init: &'static [bool],
-    contexts: u32,
-    calls: u32,
+pub(super) struct Example {
+    pub(super) text: &'static [u8],
+    pub(super) entries: &'static [&'static str],
+    pub(super) init: &'static [bool],
+    pub(super) contexts: u32,
+    pub(super) calls: u32,
 }
 
-fn setup_of(alloc: Global, code: &Code, example: Example) -> Result<Setup, Fail>
+pub(super) fn setup_of(alloc: Global, code: &Code, example: Example) -> Result<Setup, Fail>
     ensures { IfOk result (λ s. FitsCode code.now s × (s.seed ≡ None)) }
 {
     let mut entries = Vec::new(alloc);
@@ -35,13 +35,28 @@ fn setup_of(alloc: Global, code: &Code, example: Example) -> Result<Setup, Fail>
     Ok(Setup::new(alloc, code, &entries, init, contexts, calls, None)?)
 }
 
-/// Whether the schedule drives the example to a trace that ends so.
-fn ends_in(alloc: Global, example: Example, schedule: &[u8], end: &[u8]) -> Result<bool, Fail> {
+/// Whether the trace, and what migrating gives of it, are replayed to that report.
+fn comes_to(alloc: Global, code: &Code, trace: &[u8], report: Report) -> Result<bool, Fail> {
+    let first = replay(alloc, code, trace)?.report;
+    let mut out = Vec::new(alloc);
+    let migrated = migrate(alloc, code, trace, &mut out)?;
+    let second = replay(alloc, code, out.as_slice())?.report;
+    Ok(first == report && migrated == report && second == report)
+}
+
+/// Whether the schedule drives the example to a trace that ends so, and that is replayed to the
+/// same report.
+pub(super) fn ends_in(
+    alloc: Global,
+    example: Example,
+    schedule: &[u8],
+    end: &[u8],
+) -> Result<bool, Fail> {
     let code = code_of(alloc, example.text)?;
     let setup = setup_of(alloc, &code, example)?;
     let mut out = Vec::new(alloc);
-    drive(alloc, &code, &setup, schedule, &mut out)?;
-    Ok(out.ends_with(end))
+    let report = drive(alloc, &code, &setup, schedule, &mut out)?;
+    Ok(out.ends_with(end) && comes_to(alloc, &code, out.as_slice(), report)?)
 }
 
 /// Whether the schedule is refused for the fault, and nothing is written.
@@ -58,7 +73,7 @@ fn is_refused(
     Ok(answer == Err(fault) && out.is_empty())
 }
 
-const RACE: Example = Example {
+pub(super) const RACE: Example = Example {
     text: b"decl x; a() begin x := 1; assert (x); end b() begin x := 0; end",
     entries: &["a", "b"],
     init: &[false],
@@ -199,7 +214,7 @@ fn recursion_fills_the_stack(rt: HostRuntime) -> Result<(), Fail> {
     Ok(())
 }
 
-const WAITING: Example = Example {
+pub(super) const WAITING: Example = Example {
     text: b"decl x; a() begin assume (x); end b() begin x := 1; end",
     entries: &["a", "b"],
     init: &[false],
