@@ -1,6 +1,5 @@
 -- What a command refuses over an empty buffer is refused through it.
-use Rattle.std.proofs.Common.{◌≡◌, ◌∙◌, ap, arith, refl, sym, subst, inl, inr, ℕ, List, Option, None, Some, [], Result, Ok, Err}
-use Rattle.std.specs.Prelude.{MatchResult}
+use Rattle.std.proofs.Common.{◌≡◌, ◌∙◌, ap, arith, refl, subst, inl, inr, ℕ, List, Option, None, Some, []}
 use Rattle.std.proofs.lemmas.List.{append-nil}
 use Rattle.std.specs.Io.KnownBytes.{append_known, Appends, Consumes, Keeps}
 use Rattle.bp_tree.specs.Ast.{Program as Tree}
@@ -11,9 +10,17 @@ use Rattle.bp_trace.specs.declared.faults.DriveFault.TheVariants as drive
 use Rattle.bp_commands.specs.Inputs.{Streams, TookAtMost}
 use Rattle.bp_commands.specs.ProgramInputs.{IsProgramInput, IsProgramWritten, IsFileRefusal}
 use Rattle.bp_commands.specs.Bundles.{IsBundleDriven, IsBundleRefusal}
-use Rattle.bp_commands.specs.Buffered.{Ends, DriveEnds, IsWrittenTo, IsNotWritten, IsNotDriven, IsBundleDrivenTo, IsBundleNotDriven, IsProgramDrivenTo, IsProgramNotDriven}
+use Rattle.bp_commands.specs.Buffered.{Ends, IsWrittenTo, IsNotWritten, IsBundleDrivenTo, IsBundleNotDriven, IsProgramNotDriven, IsTraceNotWritten}
 use Rattle.bp_commands.specs.Drives.{OptionsOf, defaults, IsTextDriven}
-use Rattle.bp_commands.specs.DriveInputs.{DriveStreams, IsProgramDriven, IsDriveRefusal}
+use Rattle.bp_trace.specs.declared.limits.TheConstants.{MAX_SCHEDULE, MAX_TRACE}
+use Rattle.bp_commands.specs.Pairs.{PairInputs, IsPairRefusal}
+use Rattle.bp_commands.specs.DriveInputs.{IsProgramDriven, IsDriveRefusal}
+use Rattle.bp_commands.specs.declared.pairs.PairFault.TheVariants as pair
+use Rattle.bp_machine.specs.declared.calls.Call.{Call}
+use Rattle.bp_machine.specs.Setups.{SetupOf}
+use Rattle.bp_commands.specs.TraceInputs.{IsTraceWritten, IsTraceRefusal}
+use Rattle.bp_commands.specs.declared.trace_refusals.TraceRefusal.{TraceRefusal}
+use Rattle.bp_commands.specs.declared.trace_refusals.TraceRefusal.TheVariants as trace
 use Rattle.bp_commands.specs.declared.file_faults.FileFault.{FileFault}
 use Rattle.bp_commands.specs.declared.file_faults.FileFault.TheVariants as file
 use Rattle.bp_commands.specs.declared.drive_refusals.DriveRefusal.{DriveRefusal}
@@ -52,20 +59,6 @@ text_kept o text schedule old after taken r kept driven =
       };
     }
 
--- the report and the output that were given back, where these bytes were written to its buffer
-module _ {W : Type 0} (contents : W → Option (List ℕ)) (r : Result (Report × W) DriveRefusal) where
-  abbrev pub IsHandedOn : Option (List ℕ) → Report → Type 0
-  IsHandedOn after report = MatchResult r (λ p. (p.0 ≡ report) × Keeps after (contents p.1)) (λ f. f ≡ refusal.Drive drive.Write)
-
-  abbrev pub IsDone : (Option (List ℕ) → Report → Type 0) → (DriveRefusal → Type 0) → Type 0
-  IsDone IsDriven IsNot = MatchResult r (λ p. IsDriven (contents p.1) p.0) IsNot
-
-handed_on : {W : Type 0} (contents : W → Option (List ℕ)) (r : Result (Report × W) DriveRefusal) (after : Option (List ℕ)) (report : Report) (IsDriven : Option (List ℕ) → Report → Type 0)
-    (IsRefused : Option (List ℕ) → DriveRefusal → Type 0) → IsDriven after report → ((taken : Option (List ℕ)) → Keeps after taken → IsDriven taken report)
-    → IsHandedOn contents r after report → IsDone contents r IsDriven (IsNotDriven IsDriven IsRefused)
-handed_on contents (Ok p) after report IsDriven IsRefused driven moves (same, kept) = subst (IsDriven (contents p.1)) (sym same) (moves (contents p.1) kept)
-handed_on contents (Err f) after report IsDriven IsRefused driven moves is = record { bytes = after; why = inr (is, (report, driven)) }
-
 module _ (had left old : Option (List ℕ)) where
   abbrev ends : Ends
   ends = record { input_before = had; input_after = left; output_before = old }
@@ -78,20 +71,23 @@ module _ (had left old : Option (List ℕ)) where
       let moved = subst (λ o. IsBundleRefusal (from o after) f) same refused in
       record { bytes = after; why = inl moved }
 
-  -- what was driven into the buffer is handed on, or is not
-  pub bundle_handed_on : {W : Type 0} (contents : W → Option (List ℕ)) (r : Result (Report × W) DriveRefusal) (held after : Option (List ℕ)) → held ≡ old → (report : Report)
-      → IsBundleDriven (from held after) report → IsHandedOn contents r after report → IsDone contents r (IsBundleDrivenTo ends) (IsBundleNotDriven ends)
-  bundle_handed_on contents r held after same report driven done =
+  pub bundle_not_taken : (held after : Option (List ℕ)) → held ≡ old → (report : Report) → IsBundleDriven (from held after) report → IsBundleNotDriven ends (refusal.Drive drive.Write)
+  bundle_not_taken held after same report driven =
       let moved = subst (λ o. IsBundleDriven (from o after) report) same driven in
-      let moves : (taken : Option (List ℕ)) → Keeps after taken → IsBundleDrivenTo ends taken report = λ taken kept. record {
+      record { bytes = after; why = inr (refl, (report, moved)) }
+
+  -- what was handed on is what the buffer was given
+  pub bundle_handed_on : (held after taken : Option (List ℕ)) → held ≡ old → (report : Report) → Keeps after taken → IsBundleDriven (from held after) report → IsBundleDrivenTo ends taken report
+  bundle_handed_on held after taken same report kept driven =
+      let moved = subst (λ o. IsBundleDriven (from o after) report) same driven in
+      record {
         bytes = moved.bytes;
         whole = moved.whole;
         text = moved.text;
         schedule = moved.schedule;
         parted = moved.parted;
         driven = text_kept defaults moved.text moved.schedule old after taken report kept moved.driven;
-      } in
-      handed_on contents r after report (IsBundleDrivenTo ends) (λ bytes. IsBundleRefusal (from old bytes)) moved moves done
+      }
 
   module _ (text_of : Tree → List ℕ) where
     pub file_not_written : (held after : Option (List ℕ)) → held ≡ old → (f : FileFault) → IsFileRefusal (from held after) text_of f → IsNotWritten ends text_of f
@@ -119,31 +115,66 @@ pub file_unbuffered : (text_of : Tree → List ℕ) (had old : Option (List ℕ)
 file_unbuffered text_of had old = record { bytes = old; why = inl (refl, took_nothing had TEXT_LIMIT) }
 
 -- the same of a program and a schedule
-module _ (had left has rest old : Option (List ℕ)) (o : OptionsOf) where
-  abbrev drive_ends : DriveEnds
-  drive_ends = record { program_before = had; program_after = left; schedule_before = has; schedule_after = rest; output_before = old }
-
-  abbrev both : Option (List ℕ) → Option (List ℕ) → DriveStreams
-  both held after = record { program_before = had; program_after = left; schedule_before = has; schedule_after = rest; output_before = held; output_after = after }
-
-  pub program_not_driven : (held after : Option (List ℕ)) → held ≡ old → (f : DriveRefusal) → IsDriveRefusal (both held after) o f → IsProgramNotDriven drive_ends o f
+module _ (io : PairInputs) (old : Option (List ℕ)) (o : OptionsOf) where
+  pub program_not_driven : (held after : Option (List ℕ)) → held ≡ old → (f : DriveRefusal) → IsDriveRefusal io held after o f → IsProgramNotDriven io old o f
   program_not_driven held after same f refused =
-      let moved = subst (λ x. IsDriveRefusal (both x after) o f) same refused in
+      let moved = subst (λ x. IsDriveRefusal io x after o f) same refused in
       record { bytes = after; why = inl moved }
 
-  pub program_handed_on : {W : Type 0} (contents : W → Option (List ℕ)) (r : Result (Report × W) DriveRefusal) (held after : Option (List ℕ)) → held ≡ old → (report : Report)
-      → IsProgramDriven (both held after) o report → IsHandedOn contents r after report → IsDone contents r (IsProgramDrivenTo drive_ends o) (IsProgramNotDriven drive_ends o)
-  program_handed_on contents r held after same report driven done =
-      let moved = subst (λ x. IsProgramDriven (both x after) o report) same driven in
-      let moves : (taken : Option (List ℕ)) → Keeps after taken → IsProgramDrivenTo drive_ends o taken report = λ taken kept. record {
-        text = moved.text;
-        whole = moved.whole;
-        schedule = moved.schedule;
-        lines = moved.lines;
-        driven = text_kept o moved.text moved.schedule old after taken report kept moved.driven;
-      } in
-      handed_on contents r after report (IsProgramDrivenTo drive_ends o) (λ bytes. IsDriveRefusal (both old bytes) o) moved moves done
+  pub program_not_taken : (held after : Option (List ℕ)) → held ≡ old → (report : Report) → IsProgramDriven io held after o report → IsProgramNotDriven io old o (refusal.Drive drive.Write)
+  program_not_taken held after same report driven =
+      let moved = subst (λ x. IsProgramDriven io x after o report) same driven in
+      record { bytes = after; why = inr (refl, (report, moved)) }
 
-pub program_unbuffered : (had has old : Option (List ℕ)) (o : OptionsOf)
-    → IsProgramNotDriven (record { program_before = had; program_after = had; schedule_before = has; schedule_after = has; output_before = old }) o refusal.Memory
-program_unbuffered had has old o = record { bytes = old; why = inl (refl, inl (refl, took_nothing had TEXT_LIMIT)) }
+  pub program_handed_on : (held after taken : Option (List ℕ)) → held ≡ old → (report : Report) → Keeps after taken → IsProgramDriven io held after o report → IsProgramDriven io old taken o report
+  program_handed_on held after taken same report kept driven =
+      let moved = subst (λ x. IsProgramDriven io x after o report) same driven in
+      record {
+        text = moved.text;
+        input = moved.input;
+        read = moved.read;
+        holds = text_kept o moved.text moved.input old after taken report kept moved.holds;
+      }
+
+abbrev pub untouched : Option (List ℕ) → Option (List ℕ) → PairInputs
+untouched had has = record { program_before = had; program_after = had; input_before = has; input_after = has }
+
+-- without memory for the buffer nothing is read of a pair
+pub pair_unbuffered : (had has : Option (List ℕ)) (limit : ℕ) → IsPairRefusal (untouched had has) limit pair.Memory
+pair_unbuffered had has limit = inl (refl, took_nothing had TEXT_LIMIT)
+
+pub program_unbuffered : (had has old : Option (List ℕ)) (o : OptionsOf) → IsProgramNotDriven (untouched had has) old o refusal.Memory
+program_unbuffered had has old o = record { bytes = old; why = inl (refl, pair_unbuffered had has MAX_SCHEDULE) }
+
+-- the same of a program and a trace
+module _ (io : PairInputs) (old : Option (List ℕ)) (text_of : Tree → SetupOf → List Call → List ℕ) where
+  pub trace_not_written : (held after : Option (List ℕ)) → held ≡ old → (f : TraceRefusal) → IsTraceRefusal io held after text_of f → IsTraceNotWritten io old text_of f
+  trace_not_written held after same f refused =
+      let moved = subst (λ x. IsTraceRefusal io x after text_of f) same refused in
+      record { bytes = after; why = inl moved }
+
+  pub trace_not_taken : (held after : Option (List ℕ)) → held ≡ old → (report : Report) → IsTraceWritten io held after text_of report → IsTraceNotWritten io old text_of trace.Write
+  trace_not_taken held after same report written =
+      let moved = subst (λ x. IsTraceWritten io x after text_of report) same written in
+      record { bytes = after; why = inr (refl, (report, moved)) }
+
+  pub trace_handed_on : (held after taken : Option (List ℕ)) → held ≡ old → (report : Report) → Keeps after taken → IsTraceWritten io held after text_of report → IsTraceWritten io old taken text_of report
+  trace_handed_on held after taken same report kept written =
+      let moved = subst (λ x. IsTraceWritten io x after text_of report) same written in
+      let found = moved.holds in
+      record {
+        text = moved.text;
+        input = moved.input;
+        read = moved.read;
+        holds = record {
+          program = found.program;
+          setup = found.setup;
+          history = found.history;
+          legal = found.legal;
+          written = record { grown = appends_kept old after taken _ kept found.written.grown };
+          report = found.report;
+        };
+      }
+
+pub trace_unbuffered : (had has old : Option (List ℕ)) (text_of : Tree → SetupOf → List Call → List ℕ) → IsTraceNotWritten (untouched had has) old text_of trace.Memory
+trace_unbuffered had has old text_of = record { bytes = old; why = inl (refl, pair_unbuffered had has MAX_TRACE) }

@@ -3,7 +3,10 @@ mod DriveRefused
 mod FirstSeparator
 mod InputRefused
 mod MappedErrors
+mod PairRefused
 mod Reportable
 mod SetupsOfOptions
 mod TextDriven
 mod TextRefused
+mod TraceInputsRefused
+mod TraceWritten

@@ -6,15 +6,19 @@ use Rattle.bp_check.specs.declared.faults.CheckFault.{CheckFault}
 use Rattle.bp_check.specs.declared.faults.CheckFault.TheVariants as check
 use Rattle.bp_machine.specs.declared.setups.SetupFault.{SetupFault}
 use Rattle.bp_machine.specs.declared.setups.SetupFault.TheVariants as setup
+use Rattle.bp_trace.specs.declared.replay_faults.ReplayFault.{ReplayFault}
+use Rattle.bp_trace.specs.declared.replay_faults.ReplayFault.TheVariants as replay
 use Rattle.bp_trace.specs.declared.faults.DriveFault.{DriveFault}
 use Rattle.bp_trace.specs.declared.faults.DriveFault.TheVariants as drive
 use Rattle.bp_commands.specs.declared.drive_refusals.DriveRefusal.{DriveRefusal}
 use Rattle.bp_commands.specs.declared.drive_refusals.DriveRefusal.TheVariants.{Device, TooLong, Program, Setup, Drive, Memory}
+use Rattle.bp_commands.specs.declared.trace_refusals.TraceRefusal.{TraceRefusal}
+use Rattle.bp_commands.specs.declared.trace_refusals.TraceRefusal.TheVariants as trace
 use Rattle.bp_commands.specs.declared.file_faults.FileFault.{FileFault}
 use Rattle.bp_commands.specs.declared.file_faults.FileFault.TheVariants as file
 use Rattle.bp_commands.specs.declared.programs.ProgramFault.{ProgramFault}
 use Rattle.bp_commands.specs.declared.programs.ProgramFault.TheVariants.{Read, Check}
-use Rattle.bp_commands.specs.Faults.{drive_refusal_number, file_fault_number, program_fault_number, drive_refusal_place, file_fault_place, program_fault_place}
+use Rattle.bp_commands.specs.Faults.{drive_refusal_number, file_fault_number, program_fault_number, trace_refusal_number, drive_refusal_place, file_fault_place, program_fault_place, trace_refusal_place, trace_refusal_wanted}
 use Rattle.bp_commands.specs.FaultLines.{IsReportable}
 
 abbrev IsDriveReportable : DriveRefusal → Type 0
@@ -72,6 +76,28 @@ reportable (Program f) = program_reportable f
 reportable (Setup f) = setup_reportable f
 reportable (Drive f) = drive_reportable f
 reportable Memory = record { listed = refl; values = tt }
+
+abbrev IsTraceReportable : TraceRefusal → Type 0
+IsTraceReportable f = IsReportable (trace_refusal_number f) (trace_refusal_place f) (trace_refusal_wanted f)
+
+replay_reportable : (f : ReplayFault) → IsTraceReportable (trace.Trace f)
+replay_reportable replay.TooLong = record { listed = refl; values = tt }
+replay_reportable (replay.Head n) = record { listed = refl; values = refl }
+replay_reportable (replay.Setup f) = setup_reportable f
+replay_reportable (replay.Line n) = record { listed = refl; values = refl }
+replay_reportable (replay.AfterFinish n) = record { listed = refl; values = refl }
+replay_reportable (replay.Bit n) = record { listed = refl; values = refl }
+replay_reportable (replay.Reply n wanted) = record { listed = refl; values = (refl, refl) }
+replay_reportable replay.NoEnd = record { listed = refl; values = tt }
+replay_reportable replay.EndCount = record { listed = refl; values = tt }
+replay_reportable replay.Memory = record { listed = refl; values = tt }
+
+pub trace_reportable : (f : TraceRefusal) → IsTraceReportable f
+trace_reportable trace.Device = record { listed = refl; values = tt }
+trace_reportable (trace.Program f) = program_reportable f
+trace_reportable (trace.Trace f) = replay_reportable f
+trace_reportable trace.Write = record { listed = refl; values = tt }
+trace_reportable trace.Memory = record { listed = refl; values = tt }
 
 pub file_reportable : (f : FileFault) → IsReportable (file_fault_number f) (file_fault_place f) None
 file_reportable file.Device = record { listed = refl; values = tt }

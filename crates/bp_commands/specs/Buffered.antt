@@ -1,17 +1,23 @@
 -- What a command answers that writes through a buffer and gives its output back.
 use Rattle.std.specs.Prelude.{◌≡◌, ◌⊎◌, ℕ, List, Option}
 use Rattle.bp_tree.specs.Ast.{Program}
+use Rattle.bp_machine.specs.declared.calls.Call.{Call}
 use Rattle.bp_machine.specs.declared.reports.Report.{Report}
+use Rattle.bp_machine.specs.Setups.{SetupOf}
 use Rattle.bp_trace.specs.declared.faults.DriveFault.TheVariants as drive
 use Rattle.bp_commands.specs.Inputs.{Streams}
 use Rattle.bp_commands.specs.ProgramInputs.{IsProgramWritten, IsFileRefusal}
 use Rattle.bp_commands.specs.Bundles.{IsBundleDriven, IsBundleRefusal}
 use Rattle.bp_commands.specs.Drives.{OptionsOf}
-use Rattle.bp_commands.specs.DriveInputs.{DriveStreams, IsProgramDriven, IsDriveRefusal}
+use Rattle.bp_commands.specs.Pairs.{PairInputs}
+use Rattle.bp_commands.specs.DriveInputs.{IsProgramDriven, IsDriveRefusal}
+use Rattle.bp_commands.specs.TraceInputs.{IsTraceWritten, IsTraceRefusal}
 use Rattle.bp_commands.specs.declared.file_faults.FileFault.{FileFault}
 use Rattle.bp_commands.specs.declared.file_faults.FileFault.TheVariants as file
 use Rattle.bp_commands.specs.declared.drive_refusals.DriveRefusal.{DriveRefusal}
 use Rattle.bp_commands.specs.declared.drive_refusals.DriveRefusal.TheVariants as refusal
+use Rattle.bp_commands.specs.declared.trace_refusals.TraceRefusal.{TraceRefusal}
+use Rattle.bp_commands.specs.declared.trace_refusals.TraceRefusal.TheVariants as trace
 
 -- the bytes that a command's reader had left before and after it, and those that its output had
 pub record Ends : Type 0 where
@@ -42,16 +48,15 @@ module _ (ends : Ends) where
           IsFileRefusal (streams_to bytes) text_of f
           ⊎ ((f ≡ file.Write) × IsProgramWritten (streams_to bytes) text_of)
 
--- The command wrote these bytes to the buffer, and refused; or it drove the program and wrote all,
--- and they were not handed on.
+-- The command wrote these bytes to the buffer, and refused; or it was done and wrote all, and they
+-- were not handed on, which is the fault `lost`.
 module _
-    (IsDriven : Option (List ℕ) → Report → Type 0)
-    (IsRefused : Option (List ℕ) → DriveRefusal → Type 0) where
-  pub record IsNotDriven (f : DriveRefusal) : Type 0 where
+    {F : Type 0} (lost : F)
+    (IsDone : Option (List ℕ) → Report → Type 0)
+    (IsRefused : Option (List ℕ) → F → Type 0) where
+  pub record IsNotDone (f : F) : Type 0 where
     pub bytes : Option (List ℕ)
-    pub why :
-        IsRefused bytes f
-        ⊎ ((f ≡ refusal.Drive drive.Write) × ((r : Report) × IsDriven bytes r))
+    pub why : IsRefused bytes f ⊎ ((f ≡ lost) × ((r : Report) × IsDone bytes r))
 
 -- a bundle was driven, and the output that was given back has the trace
 abbrev pub IsBundleDrivenTo : Ends → Option (List ℕ) → Report → Type 0
@@ -59,34 +64,23 @@ IsBundleDrivenTo ends after = IsBundleDriven (streams_to ends after)
 
 abbrev pub IsBundleNotDriven : Ends → DriveRefusal → Type 0
 IsBundleNotDriven ends =
-    IsNotDriven (IsBundleDrivenTo ends) (λ bytes. IsBundleRefusal (streams_to ends bytes))
+    IsNotDone (refusal.Drive drive.Write)
+    (IsBundleDrivenTo ends)
+    (λ bytes. IsBundleRefusal (streams_to ends bytes))
 
--- the bytes that the readers of a program and a schedule had left before and after a command, and
--- those that its output had
-pub record DriveEnds : Type 0 where
-  pub program_before : Option (List ℕ)
-  pub program_after : Option (List ℕ)
-  pub schedule_before : Option (List ℕ)
-  pub schedule_after : Option (List ℕ)
-  pub output_before : Option (List ℕ)
+-- a program was not driven through a buffer, before which the output had these bytes
+abbrev pub IsProgramNotDriven
+    : PairInputs → Option (List ℕ) → OptionsOf → DriveRefusal → Type 0
+IsProgramNotDriven io old o =
+    IsNotDone (refusal.Drive drive.Write)
+    (λ bytes. IsProgramDriven io old bytes o)
+    (λ bytes. IsDriveRefusal io old bytes o)
 
--- with these bytes written
-abbrev pub drive_streams_to : DriveEnds → Option (List ℕ) → DriveStreams
-drive_streams_to ends bytes = record {
-  program_before = ends.program_before;
-  program_after = ends.program_after;
-  schedule_before = ends.schedule_before;
-  schedule_after = ends.schedule_after;
-  output_before = ends.output_before;
-  output_after = bytes;
-}
-
--- a program was driven, and the output that was given back has the trace
-abbrev pub IsProgramDrivenTo : DriveEnds → OptionsOf → Option (List ℕ) → Report → Type 0
-IsProgramDrivenTo ends o after = IsProgramDriven (drive_streams_to ends after) o
-
-abbrev pub IsProgramNotDriven : DriveEnds → OptionsOf → DriveRefusal → Type 0
-IsProgramNotDriven ends o =
-    IsNotDriven
-    (IsProgramDrivenTo ends o)
-    (λ bytes. IsDriveRefusal (drive_streams_to ends bytes) o)
+-- a trace was not replayed or migrated through a buffer, as the text of a history is
+abbrev pub IsTraceNotWritten
+    : PairInputs → Option (List ℕ) → (Program → SetupOf → List Call → List ℕ) → TraceRefusal
+    → Type 0
+IsTraceNotWritten io old text_of =
+    IsNotDone trace.Write
+    (λ bytes. IsTraceWritten io old bytes text_of)
+    (λ bytes. IsTraceRefusal io old bytes text_of)

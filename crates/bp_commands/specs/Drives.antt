@@ -6,8 +6,9 @@ use Rattle.bp_machine.specs.declared.setups.SetupFault.{SetupFault}
 use Rattle.bp_machine.specs.Setups.{SetupOf, setup_of, setup_fault, IsSetupRefusal}
 use Rattle.bp_trace.specs.declared.faults.DriveFault.{DriveFault}
 use Rattle.bp_trace.specs.Drives as drives
-use Rattle.bp_commands.specs.Programs.{IsLawfulText, IsProgramRefusal}
+use Rattle.bp_commands.specs.Programs.{IsCodeRefusal, IsLawfulText}
 use Rattle.bp_commands.specs.declared.limits.TheConstants.{DEFAULT_CONTEXTS, DEFAULT_CALLS}
+use Rattle.bp_commands.specs.declared.programs.CodeFault.TheVariants as code
 use Rattle.bp_commands.specs.declared.drive_refusals.DriveRefusal.{DriveRefusal}
 use Rattle.bp_commands.specs.declared.drive_refusals.DriveRefusal.TheVariants as refusal
 
@@ -41,12 +42,6 @@ abbrev pub setup_under : OptionsOf → Program → SetupOf
 setup_under o t =
     setup_of o.entries (initial_bits o.init (length t.globals)) o.contexts o.calls None
 
--- why there is no code of the text
-abbrev pub IsCodeRefusal : List ℕ → DriveRefusal → Type 0
-IsCodeRefusal text (refusal.Program f) = IsProgramRefusal text f
-IsCodeRefusal text refusal.Memory = (t : Program) × IsLawfulText text t
-IsCodeRefusal text f = ⊥
-
 -- The bytes of the writer are those before and after a program was driven.
 module _ (o : OptionsOf) (text schedule : List ℕ) (old new : Option (List ℕ)) where
   -- the text has a lawful program, which the schedule drives to the history of which the trace was
@@ -72,6 +67,8 @@ module _ (o : OptionsOf) (text schedule : List ℕ) (old new : Option (List ℕ)
 
   -- why a text and a schedule are refused, and what was written: the first of these that applies
   abbrev pub IsTextRefusal : DriveRefusal → Type 0
+  IsTextRefusal (refusal.Program f) = (new ≡ old) × IsCodeRefusal text (code.Program f)
+  IsTextRefusal refusal.Memory = (new ≡ old) × IsCodeRefusal text code.Memory
   IsTextRefusal (refusal.Setup f) = IsSetupRefused f
   IsTextRefusal (refusal.Drive f) = IsScheduleRefused f
-  IsTextRefusal f = (new ≡ old) × IsCodeRefusal text f
+  IsTextRefusal f = ⊥

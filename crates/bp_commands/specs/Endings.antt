@@ -5,11 +5,12 @@ use Rattle.std.specs.declared.io.ErrorKind.TheVariants.{OutOfMemory}
 use Rattle.bp_code.specs.Writing.{AppendsAll, AppendsPart}
 use Rattle.bp_machine.specs.declared.reports.Outcome.{Outcome}
 use Rattle.bp_machine.specs.declared.reports.Outcome.TheVariants as outcome
-use Rattle.bp_commands.specs.Faults.{drive_refusal_number, drive_refusal_place, file_fault_number, file_fault_place}
+use Rattle.bp_commands.specs.Faults.{drive_refusal_number, drive_refusal_place, file_fault_number, file_fault_place, trace_refusal_number, trace_refusal_place, trace_refusal_wanted}
 use Rattle.bp_commands.specs.FaultLines.{fault_line}
 use Rattle.bp_commands.specs.declared.endings.WordsFault.{WordsFault}
 use Rattle.bp_commands.specs.declared.endings.WordsFault.TheVariants as words
 use Rattle.bp_commands.specs.declared.drive_refusals.DriveRefusal.{DriveRefusal}
+use Rattle.bp_commands.specs.declared.trace_refusals.TraceRefusal.{TraceRefusal}
 use Rattle.bp_commands.specs.declared.file_faults.FileFault.{FileFault}
 
 -- the status of a run with this outcome
@@ -23,6 +24,10 @@ HasLine line old new = AppendsAll old new line ⊎ AppendsPart old new line
 
 abbrev pub drive_refusal_line : DriveRefusal → List ℕ
 drive_refusal_line f = fault_line (drive_refusal_number f) (drive_refusal_place f) None
+
+abbrev pub trace_refusal_line : TraceRefusal → List ℕ
+trace_refusal_line f =
+    fault_line (trace_refusal_number f) (trace_refusal_place f) (trace_refusal_wanted f)
 
 abbrev pub file_fault_line : FileFault → List ℕ
 file_fault_line f = fault_line (file_fault_number f) (file_fault_place f) None

@@ -9,7 +9,11 @@ pub mod FaultLines
 pub mod Faults
 pub mod Inputs
 pub mod Listings
+pub mod Pairs
 pub mod ProgramInputs
 pub mod Programs
+pub mod ReplayLines
 pub mod SetupsUnderOptions
 pub mod Statuses
+pub mod TraceInputs
+pub mod TraceTexts

@@ -1,11 +1,15 @@
--- The lawful program of a text, and why a text has none.
+-- The lawful program of a text and its code, and why a text has none.
 use Rattle.std.specs.Prelude.{ℕ, List}
 use Rattle.bp_tree.specs.Ast.{Program}
+use Rattle.bp_code.specs.Flat.{Flat}
+use Rattle.bp_code.specs.StandsFor.{StandsFor}
 use Rattle.bp_syntax.specs.Texts.{IsTextOf, IsRefusal as IsReadRefusal}
 use Rattle.bp_check.specs.Faults.{IsLawful}
 use Rattle.bp_check.specs.Refusals.{IsRefusal}
 use Rattle.bp_commands.specs.declared.programs.ProgramFault.{ProgramFault}
 use Rattle.bp_commands.specs.declared.programs.ProgramFault.TheVariants.{Read, Check}
+use Rattle.bp_commands.specs.declared.programs.CodeFault.{CodeFault}
+use Rattle.bp_commands.specs.declared.programs.CodeFault.TheVariants as code
 
 -- the text is that of a lawful program
 pub record IsLawfulText (text : List ℕ) (t : Program) : Type 0 where
@@ -16,3 +20,14 @@ pub record IsLawfulText (text : List ℕ) (t : Program) : Type 0 where
 abbrev pub IsProgramRefusal : List ℕ → ProgramFault → Type 0
 IsProgramRefusal text (Read f) = IsReadRefusal text f
 IsProgramRefusal text (Check f at) = (t : Program) × IsTextOf text t × IsRefusal t f at
+
+-- the code stands for the lawful program of the text
+pub record IsProgramCode (text : List ℕ) (c : Flat) : Type 0 where
+  pub program : Program
+  pub of : IsLawfulText text program
+  pub stands : StandsFor c program
+
+-- why there is no code of the text
+abbrev pub IsCodeRefusal : List ℕ → CodeFault → Type 0
+IsCodeRefusal text (code.Program f) = IsProgramRefusal text f
+IsCodeRefusal text code.Memory = (t : Program) × IsLawfulText text t

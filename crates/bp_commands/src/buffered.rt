@@ -1,15 +1,18 @@
 //! The commands through a buffer in front of their output.
-ghost use Rattle.std.specs.Prelude.{◌≡◌, ◌+◌, IfOk, MatchResult};
+ghost use Rattle.std.specs.Prelude.{◌+◌, IfOk, MatchResult};
 ghost use Rattle.std.specs.Io.Buffered.{writer_contents};
 ghost use Rattle.std.specs.Io.KnownBytes.{Keeps};
 ghost use Rattle.bp_syntax.specs.declared.limits.TheConstants.{TEXT_LIMIT};
-ghost use Rattle.bp_trace.specs.declared.faults.DriveFault.{DriveFault};
-ghost use Rattle.bp_trace.specs.declared.limits.TheConstants.{MAX_SCHEDULE};
+ghost use Rattle.bp_trace.specs.declared.limits.TheConstants.{MAX_SCHEDULE, MAX_TRACE};
 ghost use Rattle.bp_commands.specs.declared.limits.TheConstants.{MAX_BUNDLE};
 ghost use Rattle.bp_commands.specs.Inputs.{Streams, TookAtMost};
 ghost use Rattle.bp_commands.specs.Checks.{check_line};
 ghost use Rattle.bp_commands.specs.Listings.{listing_of};
-ghost use Rattle.bp_commands.specs.Buffered.{Ends, DriveEnds, IsWrittenTo, IsNotWritten, IsBundleDrivenTo, IsBundleNotDriven, IsProgramDrivenTo, IsProgramNotDriven};
+ghost use Rattle.bp_commands.specs.Pairs.{PairInputs};
+ghost use Rattle.bp_commands.specs.DriveInputs.{IsProgramDriven};
+ghost use Rattle.bp_commands.specs.TraceTexts.{migration_of, replay_of};
+ghost use Rattle.bp_commands.specs.TraceInputs.{IsTraceWritten};
+ghost use Rattle.bp_commands.specs.Buffered.{Ends, IsWrittenTo, IsNotWritten, IsBundleDrivenTo, IsBundleNotDriven, IsProgramNotDriven, IsTraceNotWritten};
 
 use crate::bundle::drive_bundle;
 use crate::check::check_text;
@@ -18,9 +21,11 @@ use crate::drive::drive_program;
 use crate::drive_options::DriveOptions;
 use crate::drive_refusals::DriveRefusal;
 use crate::file_faults::FileFault;
+use crate::migrate::migrate_program;
+use crate::replay::replay_program;
+use crate::trace_refusals::TraceRefusal;
 use bp_code::WriteFault;
 use bp_machine::Report;
-use bp_trace::DriveFault;
 use std::alloc::Global;
 use std::io::{BufWriter, Read, Write};
 
@@ -82,21 +87,6 @@ pub fn list_buffered<R: Read, W: Write + Drop>(
     Ok(hand_on(out)?)
 }
 
-/// What driving answers, with the output behind a buffer to which it wrote.
-fn hand_on_driven<W: Write + Drop>(
-    report: Report,
-    out: BufWriter<W>,
-) -> Result<(Report, W), DriveRefusal>
-    ensures { MatchResult result
-        (λ r. (r.0 ≡ report) × Keeps (writer_contents W.contents out) (W.contents r.1))
-        (λ f. f ≡ DriveRefusal.Drive DriveFault.Write) }
-{
-    match hand_on(out) {
-        Ok(output) => Ok((report, output)),
-        Err(_) => Err(DriveRefusal::Drive(DriveFault::Write)),
-    }
-}
-
 /// Drives a bundle as `drive_bundle` does, and gives back the output, which has the trace.
 pub fn drive_buffered<R: Read, W: Write + Drop>(
     alloc: Global,
@@ -117,7 +107,7 @@ pub fn drive_buffered<R: Read, W: Write + Drop>(
         return Err(DriveRefusal::Memory);
     };
     let report = drive_bundle(alloc, input, &mut out)?;
-    hand_on_driven(report, out)
+    Ok((report, hand_on(out)?))
 }
 
 /// Drives a program by a schedule as `drive_program` does, and gives back the output, which has the
@@ -129,16 +119,16 @@ pub fn drive_program_buffered<R: Read, S: Read, W: Write + Drop>(
     schedule: &mut S,
     output: W,
 ) -> Result<(Report, W), DriveRefusal>
-    ensures answer { let ends : DriveEnds = record {
+    ensures answer { let io : PairInputs = record {
       program_before = R.remaining program.old;
       program_after = R.remaining program.new;
-      schedule_before = S.remaining schedule.old;
-      schedule_after = S.remaining schedule.new;
-      output_before = W.contents output;
+      input_before = S.remaining schedule.old;
+      input_after = S.remaining schedule.new;
     } in
+        let old = W.contents output in
         MatchResult result
-        (λ r. IsProgramDrivenTo ends options.now (W.contents r.1) r.0)
-        (IsProgramNotDriven ends options.now) }
+        (λ r. IsProgramDriven io old (W.contents r.1) options.now r.0)
+        (IsProgramNotDriven io old options.now) }
     ensures text { let most = TEXT_LIMIT + 1 in
         TookAtMost (R.remaining program.old) (R.remaining program.new) most }
     ensures lines { let most = MAX_SCHEDULE + 1 in
@@ -148,5 +138,65 @@ pub fn drive_program_buffered<R: Read, S: Read, W: Write + Drop>(
         return Err(DriveRefusal::Memory);
     };
     let report = drive_program(alloc, options, program, schedule, &mut out)?;
-    hand_on_driven(report, out)
+    Ok((report, hand_on(out)?))
+}
+
+/// Replays a trace as `replay_program` does, and gives back the output, which has
+/// the lines of the replay.
+pub fn replay_buffered<R: Read, S: Read, W: Write + Drop>(
+    alloc: Global,
+    program: &mut R,
+    trace: &mut S,
+    output: W,
+) -> Result<(Report, W), TraceRefusal>
+    ensures answer { let io : PairInputs = record {
+      program_before = R.remaining program.old;
+      program_after = R.remaining program.new;
+      input_before = S.remaining trace.old;
+      input_after = S.remaining trace.new;
+    } in
+        let old = W.contents output in
+        MatchResult result
+        (λ r. IsTraceWritten io old (W.contents r.1) replay_of r.0)
+        (IsTraceNotWritten io old replay_of) }
+    ensures text { let most = TEXT_LIMIT + 1 in
+        TookAtMost (R.remaining program.old) (R.remaining program.new) most }
+    ensures lines { let most = MAX_TRACE + 1 in
+        TookAtMost (S.remaining trace.old) (S.remaining trace.new) most }
+{
+    let Ok(mut out) = BufWriter::new(alloc, output) else {
+        return Err(TraceRefusal::Memory);
+    };
+    let report = replay_program(alloc, program, trace, &mut out)?;
+    Ok((report, hand_on(out)?))
+}
+
+/// Migrates a trace as `migrate_program` does, and gives back the output, which has
+/// the new trace.
+pub fn migrate_buffered<R: Read, S: Read, W: Write + Drop>(
+    alloc: Global,
+    program: &mut R,
+    trace: &mut S,
+    output: W,
+) -> Result<(Report, W), TraceRefusal>
+    ensures answer { let io : PairInputs = record {
+      program_before = R.remaining program.old;
+      program_after = R.remaining program.new;
+      input_before = S.remaining trace.old;
+      input_after = S.remaining trace.new;
+    } in
+        let old = W.contents output in
+        MatchResult result
+        (λ r. IsTraceWritten io old (W.contents r.1) migration_of r.0)
+        (IsTraceNotWritten io old migration_of) }
+    ensures text { let most = TEXT_LIMIT + 1 in
+        TookAtMost (R.remaining program.old) (R.remaining program.new) most }
+    ensures lines { let most = MAX_TRACE + 1 in
+        TookAtMost (S.remaining trace.old) (S.remaining trace.new) most }
+{
+    let Ok(mut out) = BufWriter::new(alloc, output) else {
+        return Err(TraceRefusal::Memory);
+    };
+    let report = migrate_program(alloc, program, trace, &mut out)?;
+    Ok((report, hand_on(out)?))
 }

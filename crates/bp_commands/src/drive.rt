@@ -7,30 +7,22 @@ ghost use Rattle.bp_code.specs.StandsFor.{StandsFor};
 ghost use Rattle.bp_machine.specs.Setups.{IsSetupRefusal};
 ghost use Rattle.bp_trace.specs.declared.limits.TheConstants.{MAX_SCHEDULE};
 ghost use Rattle.bp_commands.specs.Inputs.{TookAtMost};
-ghost use Rattle.bp_commands.specs.Drives.{setup_under, IsCodeRefusal, IsTextDriven, IsTextRefusal};
-ghost use Rattle.bp_commands.specs.DriveInputs.{DriveStreams, IsProgramDriven, IsDriveRefusal};
-ghost use Rattle.bp_commands.specs.SetupsUnderOptions.{IsProgramCode, IsSetupUnder};
+ghost use Rattle.bp_commands.specs.Pairs.{PairInputs};
+ghost use Rattle.bp_commands.specs.Drives.{setup_under, IsTextDriven, IsTextRefusal};
+ghost use Rattle.bp_commands.specs.DriveInputs.{IsProgramDriven, IsDriveRefusal};
+ghost use Rattle.bp_commands.specs.SetupsUnderOptions.{IsSetupUnder};
 
 use crate::drive_options::DriveOptions;
 use crate::drive_refusals::DriveRefusal;
-use crate::inputs::read_whole;
-use crate::programs::lawful_program;
+use crate::pairs::read_pair;
+use crate::programs::code_of;
 use bp_check::limits::MAX_GLOBALS;
-use bp_code::{Code, compile};
+use bp_code::Code;
 use bp_machine::{Report, Setup, SetupFault};
-use bp_syntax::limits::TEXT_LIMIT;
 use bp_trace::drive;
 use bp_trace::limits::MAX_SCHEDULE;
 use std::alloc::Global;
 use std::io::{Read, Write};
-
-/// The code of the lawful program of a text.
-fn code_of(alloc: Global, text: &[u8]) -> Result<Code, DriveRefusal>
-    ensures { MatchResult result (IsProgramCode text.now) (IsCodeRefusal text.now) }
-{
-    let checked = lawful_program(alloc, text)?;
-    Ok(compile(alloc, &checked)?)
-}
 
 /// The law that a code has at most 128 globals.
 fn has_few_globals(code: &Code)
@@ -97,24 +89,22 @@ pub fn drive_program<R: Read, S: Read, W: Write>(
     schedule: &mut S,
     out: &mut W,
 ) -> Result<Report, DriveRefusal>
-    ensures answer { let io : DriveStreams = record {
+    ensures answer { let io : PairInputs = record {
       program_before = R.remaining program.old;
       program_after = R.remaining program.new;
-      schedule_before = S.remaining schedule.old;
-      schedule_after = S.remaining schedule.new;
-      output_before = W.contents out.old;
-      output_after = W.contents out.new;
+      input_before = S.remaining schedule.old;
+      input_after = S.remaining schedule.new;
     } in
-        MatchResult result (IsProgramDriven io options.now) (IsDriveRefusal io options.now) }
+        let old = W.contents out.old in
+        let new = W.contents out.new in
+        MatchResult result
+        (IsProgramDriven io old new options.now)
+        (IsDriveRefusal io old new options.now) }
     ensures text { let most = TEXT_LIMIT + 1 in
         TookAtMost (R.remaining program.old) (R.remaining program.new) most }
     ensures lines { let most = MAX_SCHEDULE + 1 in
         TookAtMost (S.remaining schedule.old) (S.remaining schedule.new) most }
 {
-    let text = match read_whole(alloc, TEXT_LIMIT, program) {
-        Ok(text) => text,
-        Err(fault) => return Err(DriveRefusal::of_program(fault)),
-    };
-    let lines = read_whole(alloc, MAX_SCHEDULE, schedule)?;
+    let (text, lines) = read_pair(alloc, MAX_SCHEDULE, program, schedule)?;
     drive_text(alloc, options, &text, &lines, out)
 }

@@ -1,6 +1,8 @@
 //! Why a program is not driven.
 use crate::inputs::InputFault;
-use crate::programs::ProgramFault;
+use crate::pairs::PairFault;
+use crate::programs::{CodeFault, ProgramFault};
+use bp_code::WriteFault;
 use bp_machine::SetupFault;
 use bp_syntax::ReadFault;
 use bp_trace::DriveFault;
@@ -36,18 +38,8 @@ pub type BundleFault = DriveRefusal;
 impl DriveRefusal {
     ghost use Rattle.std.specs.Prelude.{◌≡◌};
     ghost use Rattle.std.specs.Prelude.{None};
-    ghost use Rattle.bp_commands.specs.Faults.{drive_refusal_number, drive_refusal_place, program_refusal_of};
+    ghost use Rattle.bp_commands.specs.Faults.{drive_refusal_number, drive_refusal_place};
     ghost use Rattle.bp_commands.specs.FaultLines.{IsReportable};
-
-    /// What a fault of the input is where it holds a program alone.
-    pub(crate) fn of_program(fault: InputFault) -> DriveRefusal
-        ensures { result ≡ program_refusal_of fault }
-    {
-        match fault {
-            InputFault::TooLong => DriveRefusal::Program(ProgramFault::Read(ReadFault::TooLong)),
-            other => DriveRefusal::from(other),
-        }
-    }
 
     /// The number by which users know the fault.
     pub fn number(&self) -> u32
@@ -109,13 +101,44 @@ impl From<InputFault> for DriveRefusal {
     }
 }
 
-impl From<ProgramFault> for DriveRefusal {
+impl From<PairFault> for DriveRefusal {
+    ghost use Rattle.std.specs.Prelude.{◌≡◌};
+    ghost use Rattle.bp_commands.specs.Faults.{drive_refusal_of_pair};
+
+    ghost from_gives = { λ f e. e ≡ drive_refusal_of_pair f };
+
+    fn from(fault: PairFault) -> DriveRefusal {
+        match fault {
+            PairFault::Device => DriveRefusal::Device,
+            PairFault::LongProgram => DriveRefusal::Program(ProgramFault::Read(ReadFault::TooLong)),
+            PairFault::LongInput => DriveRefusal::TooLong,
+            PairFault::Memory => DriveRefusal::Memory,
+        }
+    }
+}
+
+impl From<CodeFault> for DriveRefusal {
+    ghost use Rattle.std.specs.Prelude.{◌≡◌};
+    ghost use Rattle.bp_commands.specs.Faults.{drive_refusal_of_code};
+
+    ghost from_gives = { λ f e. e ≡ drive_refusal_of_code f };
+
+    fn from(fault: CodeFault) -> DriveRefusal {
+        match fault {
+            CodeFault::Program(fault) => DriveRefusal::Program(fault),
+            CodeFault::Memory => DriveRefusal::Memory,
+        }
+    }
+}
+
+impl From<WriteFault> for DriveRefusal {
+    ghost use Rattle.bp_trace.specs.declared.faults.DriveFault.{DriveFault};
     ghost use Rattle.bp_commands.specs.declared.drive_refusals.DriveRefusal.{DriveRefusal};
     ghost use Rattle.std.specs.Prelude.{◌≡◌};
 
-    ghost from_gives = { λ f e. e ≡ DriveRefusal.Program f };
+    ghost from_gives = { λ _ e. e ≡ DriveRefusal.Drive DriveFault.Write };
 
-    fn from(fault: ProgramFault) -> DriveRefusal {
-        DriveRefusal::Program(fault)
+    fn from(_: WriteFault) -> DriveRefusal {
+        DriveRefusal::Drive(DriveFault::Write)
     }
 }

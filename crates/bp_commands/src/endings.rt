@@ -3,15 +3,16 @@ ghost use Rattle.std.specs.Prelude.{◌≡◌, None, Some, false, MatchResult};
 ghost use Rattle.std.specs.IoError.{error_kind};
 ghost use Rattle.bp_commands.specs.FaultLines.{fault_line, IsReportable};
 ghost use Rattle.bp_commands.specs.Statuses.{status_of};
-ghost use Rattle.bp_commands.specs.Faults.{drive_refusal_number, file_fault_number};
-ghost use Rattle.bp_commands.specs.Endings.{outcome_status, drive_refusal_line, file_fault_line, words_fault_of, HasLine};
+ghost use Rattle.bp_commands.specs.Faults.{drive_refusal_number, file_fault_number, trace_refusal_number};
+ghost use Rattle.bp_commands.specs.Endings.{outcome_status, drive_refusal_line, file_fault_line, trace_refusal_line, words_fault_of, HasLine};
 
 use crate::drive_refusals::DriveRefusal;
 use crate::fault_lines::show_fault;
 use crate::file_faults::FileFault;
 use crate::statuses::exit_status;
+use crate::trace_refusals::TraceRefusal;
 use bp_code::WriteFault;
-use bp_machine::{Outcome, Report};
+use bp_machine::{Outcome, Reply, Report};
 use std::io::{self, ErrorKind, Write};
 
 /// Why the words of the command line are not read.
@@ -34,14 +35,14 @@ pub fn words_fault(error: &io::Error) -> WordsFault
 }
 
 /// Writes the line of a fault, and answers the status of a run that it ended.
-fn refuse<E: Write>(number: u32, place: Option<u32>, errors: &mut E) -> u8
-    requires { IsReportable number place None }
+fn refuse<E: Write>(number: u32, place: Option<u32>, wanted: Option<Reply>, errors: &mut E) -> u8
+    requires { IsReportable number place wanted }
     ensures status { result ≡ status_of false (Some number) }
-    ensures line { let text = fault_line number place None in
+    ensures line { let text = fault_line number place wanted in
         HasLine text (E.contents errors.old) (E.contents errors.new) }
 {
     // Where standard error fails, the status still reports the fault.
-    let _ = show_fault(number, place, None, errors);
+    let _ = show_fault(number, place, wanted, errors);
     exit_status(false, Some(number))
 }
 
@@ -51,7 +52,14 @@ pub fn refuse_memory<E: Write>(errors: &mut E) -> u8
     ensures line { let text = fault_line 7 None None in
         HasLine text (E.contents errors.old) (E.contents errors.new) }
 {
-    refuse(7, None, errors)
+    refuse(7, None, None, errors)
+}
+
+/// The status of a run with this outcome.
+fn outcome_status(outcome: Outcome) -> u8
+    ensures { result ≡ outcome_status outcome }
+{
+    exit_status(matches!(outcome, Outcome::Failed { .. }), None)
 }
 
 /// Ends a run that drove a bundle, by what `drive_buffered` answered.
@@ -64,10 +72,29 @@ pub fn end_drive<W, E: Write>(done: &Result<(Report, W), DriveRefusal>, errors: 
         (λ f. HasLine (drive_refusal_line f) (E.contents errors.old) (E.contents errors.new)) }
 {
     match done {
-        Ok((report, _)) => exit_status(matches!(report.outcome, Outcome::Failed { .. }), None),
+        Ok((report, _)) => outcome_status(report.outcome),
         Err(fault) => {
             fault.is_reportable();
-            refuse(fault.number(), fault.place(), errors)
+            refuse(fault.number(), fault.place(), None, errors)
+        }
+    }
+}
+
+/// Ends a run that replayed or migrated a trace, by what `replay_buffered` or `migrate_buffered`
+/// answered.
+pub fn end_trace<W, E: Write>(done: &Result<(Report, W), TraceRefusal>, errors: &mut E) -> u8
+    ensures status { MatchResult done.now
+        (λ r. result ≡ outcome_status r.0.outcome)
+        (λ f. result ≡ status_of false (Some (trace_refusal_number f))) }
+    ensures line { MatchResult done.now
+        (λ _. E.contents errors.new ≡ E.contents errors.old)
+        (λ f. HasLine (trace_refusal_line f) (E.contents errors.old) (E.contents errors.new)) }
+{
+    match done {
+        Ok((report, _)) => outcome_status(report.outcome),
+        Err(fault) => {
+            fault.is_reportable();
+            refuse(fault.number(), fault.place(), fault.wanted(), errors)
         }
     }
 }
@@ -85,7 +112,7 @@ pub fn end_file<W, E: Write>(done: &Result<W, FileFault>, errors: &mut E) -> u8
         Ok(_) => exit_status(false, None),
         Err(fault) => {
             fault.is_reportable();
-            refuse(fault.number(), fault.place(), errors)
+            refuse(fault.number(), fault.place(), None, errors)
         }
     }
 }
@@ -99,6 +126,6 @@ pub fn end_printed<E: Write>(printed: &io::Result<()>, errors: &mut E) -> u8
 {
     match printed {
         Ok(()) => exit_status(false, None),
-        Err(_) => refuse(WriteFault::Write.number(), None, errors),
+        Err(_) => refuse(WriteFault::Write.number(), None, None, errors),
     }
 }

@@ -14,21 +14,35 @@ mod fault_lines;
 mod file_faults;
 mod inputs;
 pub mod limits;
+mod migrate;
+mod pairs;
 mod programs;
+mod replay;
+mod replay_lines;
 mod statuses;
 #[cfg(test)]
 mod tests;
+mod trace_refusals;
 
-pub use buffered::{check_buffered, drive_buffered, drive_program_buffered, list_buffered};
+pub use buffered::{
+    check_buffered, drive_buffered, drive_program_buffered, list_buffered, migrate_buffered,
+    replay_buffered,
+};
 pub use bundle::drive_bundle;
 pub use check::{check_text, show_check};
 pub use code::list_program;
 pub use drive::{drive_program, drive_text};
 pub use drive_options::DriveOptions;
 pub use drive_refusals::{BundleFault, DriveRefusal};
-pub use endings::{WordsFault, end_drive, end_file, end_printed, refuse_memory, words_fault};
+pub use endings::{
+    WordsFault, end_drive, end_file, end_printed, end_trace, refuse_memory, words_fault,
+};
 pub use fault_lines::{Detail, show_fault};
 pub use file_faults::FileFault;
 pub use inputs::{InputFault, read_whole, reading_fault};
+pub use migrate::{migrate_program, migrate_text};
 pub use programs::{ProgramFault, lawful_program};
+pub use replay::{replay_program, replay_text};
+pub use replay_lines::show_replay;
 pub use statuses::exit_status;
+pub use trace_refusals::TraceRefusal;

@@ -1,10 +1,11 @@
-//! The lawful program of a text.
+//! The lawful program of a text, and its code.
 ghost use Rattle.std.specs.Prelude.{MatchResult};
-ghost use Rattle.bp_commands.specs.Programs.{IsLawfulText, IsProgramRefusal};
+ghost use Rattle.bp_commands.specs.Programs.{IsCodeRefusal, IsLawfulText, IsProgramCode, IsProgramRefusal};
 
 use bp_check::{CheckFault, Checked, check};
+use bp_code::{Code, compile};
 use bp_syntax::{ReadFault, read};
-use std::alloc::Global;
+use std::alloc::{AllocError, Global};
 use thiserror::Error;
 
 /// Why a text is not that of a lawful program: the first of these that applies, `Memory` aside.
@@ -52,4 +53,43 @@ pub fn lawful_program(alloc: Global, text: &[u8]) -> Result<Checked, ProgramFaul
         Ok(checked) => Ok(checked),
         Err(refusal) => Err(ProgramFault::Check(refusal.fault, refusal.at)),
     }
+}
+
+/// Why a text has no code.
+#[derive(Drop)]
+pub(crate) enum CodeFault {
+    /// It is not that of a lawful program.
+    Program(ProgramFault),
+    /// There was not enough memory for the code.
+    Memory,
+}
+
+impl From<ProgramFault> for CodeFault {
+    ghost use Rattle.bp_commands.specs.declared.programs.CodeFault.{CodeFault};
+    ghost use Rattle.std.specs.Prelude.{◌≡◌};
+
+    ghost from_gives = { λ f e. e ≡ CodeFault.Program f };
+
+    fn from(fault: ProgramFault) -> CodeFault {
+        CodeFault::Program(fault)
+    }
+}
+
+impl From<AllocError> for CodeFault {
+    ghost use Rattle.bp_commands.specs.declared.programs.CodeFault.{CodeFault};
+    ghost use Rattle.std.specs.Prelude.{◌≡◌};
+
+    ghost from_gives = { λ _ e. e ≡ CodeFault.Memory };
+
+    fn from(_: AllocError) -> CodeFault {
+        CodeFault::Memory
+    }
+}
+
+/// The code of the lawful program of a text.
+pub(crate) fn code_of(alloc: Global, text: &[u8]) -> Result<Code, CodeFault>
+    ensures { MatchResult result (IsProgramCode text.now) (IsCodeRefusal text.now) }
+{
+    let checked = lawful_program(alloc, text)?;
+    Ok(compile(alloc, &checked)?)
 }

@@ -6,6 +6,7 @@ mod drive;
 mod endings;
 mod fault_lines;
 mod messages;
+mod replay;
 
 use std::io;
 use std::io::{ErrorKind, Read, Write};
@@ -60,5 +61,15 @@ impl Read for Broken {
         self.reads -= 1;
         buf[0] = b' ';
         Ok(1)
+    }
+}
+
+/// A reader that has no memory.
+#[derive(Drop)]
+struct Starved;
+
+impl Read for Starved {
+    fn read(&mut self, _: &mut [u8]) -> io::Result<usize> {
+        Err(io::Error::from(ErrorKind::OutOfMemory))
     }
 }

@@ -10,7 +10,7 @@ use Rattle.clap.specs.Lexer.{long_of, short_of}
 use Rattle.clap.specs.Simple.{Shape, built, entered, names_of, label_of, rows_at, subcommand_of, argument_words}
 use Rattle.clap.specs.Walk.{Held, Names, Rule, Row, Step, next, trailing, subcommand, value, Text, Waiting, idle, option, positional, Walk, Outcome, done, waits, plain, refused, arg_by_long, arg_by_index, answers_to, plain_word, after_flag, long_met, bundle, short_or_plain, long_or_other, subcommand_met, subcommand_or_other, word_met, to_positional, after_step, walked, walked_from, walk_from, nothing_held, stop_after}
 use Rattle.clap.proofs.OnLiterals.{clap_on_literals}
-use Rattle.btrun.specs.Commands.{btrun_app, IsOurs}
+use Rattle.btrun.specs.Commands.{btrun_app, IsOurs, IsNamed}
 
 -- the step enters no `help`, and the walk did not stop there
 abbrev NoHelpStep : Step → Type 0
@@ -102,17 +102,14 @@ module _ (p : Text × List Text) where
   abbrev enter : Option Shape → Option (Text × List Row)
   enter = option_map (λ s. rows_at s p.1)
 
-  abbrev IsNamed : Shape → Type 0
-  IsNamed s = (s.name ≡ codes "check") ⊎ ((s.name ≡ codes "code") ⊎ (s.name ≡ codes "drive"))
-
   abbrev IsOursOrNone : Shape → Type 0
-  IsOursOrNone s = (answers_to p.0 (label_of s) ≡ false) ⊎ IsNamed s
+  IsOursOrNone s = (answers_to p.0 (label_of s) ≡ false) ⊎ IsNamed s.name
 
   abbrev AllOurs : List Shape → Type 0
   AllOurs [] = Unit {0}
   AllOurs (s ∷ ss) = IsOursOrNone s × AllOurs ss
 
-  pick : (b : Bool) (s : Shape) (o : Option Shape) → (b ≡ false) ⊎ IsNamed s → IsOurs (enter o) → IsOurs (enter (cond b (Some s) o))
+  pick : (b : Bool) (s : Shape) (o : Option Shape) → (b ≡ false) ⊎ IsNamed s.name → IsOurs (enter o) → IsOurs (enter (cond b (Some s) o))
   pick true s o (inl e) rest = absurd cc
   pick true s o (inr ours) rest = ours
   pick false s o either rest = rest
@@ -127,7 +124,7 @@ other_way a b e = grind (arith, bytes_eq-Decides a b, bytes_eq-Decides b a, e)
 entered_ours : (stop : Option (Text × List Text)) → NoHelp stop → IsOurs (entered (built btrun_app) stop)
 unfolding clap_on_literals
 entered_ours None fine = tt
-entered_ours (Some p) fine = found_ours p (built btrun_app).subs (inr (inl refl), (inr (inr (inl refl)), (inr (inr (inr refl)), (inl (other_way p.0 (codes "help") fine), tt))))
+entered_ours (Some p) fine = found_ours p (built btrun_app).subs (inr (inl refl), (inr (inr (inl refl)), (inr (inr (inr (inl refl))), (inr (inr (inr (inr (inl refl)))), (inr (inr (inr (inr (inr refl)))), (inl (other_way p.0 (codes "help") fine), tt))))))
 
 enabled : (built btrun_app).top.disable_help_subcommand ≡ false
 unfolding clap_on_literals

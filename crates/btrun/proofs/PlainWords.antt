@@ -11,10 +11,10 @@ use Rattle.clap.specs.declared.error.kind.ErrorKind.TheVariants.{OutOfMemory}
 use Rattle.clap.proofs.OnLiterals.{clap_on_literals}
 use Rattle.bp_commands.specs.Drives.{OptionsOf, options_of, defaults}
 use Rattle.bp_commands.specs.declared.limits.TheConstants.{DEFAULT_CONTEXTS, DEFAULT_CALLS}
-use Rattle.btrun.specs.Commands.{btrun_app, is_plain, words_fault, IsCheckOf, IsCodeOf, IsPlainDriveOf, IsTaskOf}
+use Rattle.btrun.specs.Commands.{btrun_app, is_plain, words_fault, IsCheckOf, IsCodeOf, IsMigrateOf, IsPlainDriveOf, IsReplayOf, IsTaskOf}
 use Rattle.btrun.specs.DriveWords.{init_fault}
 use Rattle.btrun.specs.declared.commands.Task.{Task}
-use Rattle.btrun.specs.declared.commands.Task.TheVariants.{Bundle, Check, Code, Drive}
+use Rattle.btrun.specs.declared.commands.Task.TheVariants.{Bundle, Check, Code, Drive, Replay, Migrate}
 
 -- words that `clap` takes have no fault where the command's initial bits have none
 no_fault : (words : List Text) (command : Option (Text × List Row)) → fault_of btrun_app words ≡ [] → subcommand_of btrun_app words ≡ command → init_fault command ≡ [] → words_fault words ≡ []
@@ -56,6 +56,27 @@ check≢drive same = let heads = ap (λ t. get_or t 0 0) same in absurd (omega (
 code≢drive : codes "code" ≡ codes "drive" → ⊥
 code≢drive same = let heads = ap (λ t. get_or t 0 0) same in absurd (omega (arith, heads))
 
+check≢replay : codes "check" ≡ codes "replay" → ⊥
+check≢replay same = let heads = ap (λ t. get_or t 0 0) same in absurd (omega (arith, heads))
+
+check≢migrate : codes "check" ≡ codes "migrate" → ⊥
+check≢migrate same = let heads = ap (λ t. get_or t 0 0) same in absurd (omega (arith, heads))
+
+code≢replay : codes "code" ≡ codes "replay" → ⊥
+code≢replay same = let heads = ap (λ t. get_or t 0 0) same in absurd (omega (arith, heads))
+
+code≢migrate : codes "code" ≡ codes "migrate" → ⊥
+code≢migrate same = let heads = ap (λ t. get_or t 0 0) same in absurd (omega (arith, heads))
+
+drive≢replay : codes "drive" ≡ codes "replay" → ⊥
+drive≢replay same = let heads = ap (λ t. get_or t 0 0) same in absurd (omega (arith, heads))
+
+drive≢migrate : codes "drive" ≡ codes "migrate" → ⊥
+drive≢migrate same = let heads = ap (λ t. get_or t 0 0) same in absurd (omega (arith, heads))
+
+replay≢migrate : codes "replay" ≡ codes "migrate" → ⊥
+replay≢migrate same = let heads = ap (λ t. get_or t 0 0) same in absurd (omega (arith, heads))
+
 -- the row of an argument that has one value
 abbrev given : Text → Text → Row
 given id text = record { id = id; values = text ∷ []; count = None; source = Some CommandLine; reading = AsWritten }
@@ -90,6 +111,8 @@ check_of file Bundle asks = absurd asks
 check_of file (Check path) asks = asks.1
 check_of file (Code path) asks = absurd (check≢code asks.0)
 check_of file (Drive words) asks = absurd (check≢drive asks.0)
+check_of file (Replay words) asks = absurd (check≢replay asks.0)
+check_of file (Migrate words) asks = absurd (check≢migrate asks.0)
 
 pub check_asked : (program file : Text) (task : Task) → is_plain file ≡ true → IsTaskOf (subcommand_of btrun_app (check_words program file)) task → IsCheckOf file task
 check_asked program file task plain asks = check_of file task (subst (λ c. IsTaskOf c task) (check_named program file (is_word file plain)) asks)
@@ -115,6 +138,8 @@ code_of file Bundle asks = absurd asks
 code_of file (Code path) asks = asks.1
 code_of file (Check path) asks = absurd (check≢code (sym asks.0))
 code_of file (Drive words) asks = absurd (code≢drive asks.0)
+code_of file (Replay words) asks = absurd (code≢replay asks.0)
+code_of file (Migrate words) asks = absurd (code≢migrate asks.0)
 
 pub code_asked : (program file : Text) (task : Task) → is_plain file ≡ true → IsTaskOf (subcommand_of btrun_app (code_words program file)) task → IsCodeOf file task
 code_asked program file task plain asks = code_of file task (subst (λ c. IsTaskOf c task) (code_named program file (is_word file plain)) asks)
@@ -148,10 +173,73 @@ drive_of file schedule Bundle asks = absurd asks
 drive_of file schedule (Check path) asks = absurd (check≢drive (sym asks.0))
 drive_of file schedule (Code path) asks = absurd (code≢drive (sym asks.0))
 drive_of file schedule (Drive words) (named, of) = (of.program, of.schedule, options_are words.options of.entries of.init of.contexts of.calls)
+drive_of file schedule (Replay words) asks = absurd (drive≢replay asks.0)
+drive_of file schedule (Migrate words) asks = absurd (drive≢migrate asks.0)
 
 pub drive_asked : (program file schedule : Text) (task : Task) → is_plain file ≡ true → is_plain schedule ≡ true → IsTaskOf (subcommand_of btrun_app (drive_words program file schedule)) task → IsPlainDriveOf file schedule task
 drive_asked program file schedule task plain even asks =
     drive_of file schedule task (subst (λ c. IsTaskOf c task) (drive_named program file schedule (is_word file plain) (is_word schedule even)) asks)
+
+abbrev trace_rows : Text → Text → List Row
+trace_rows file trace = given (codes "FILE") file ∷ given (codes "TRACE") trace ∷ []
+
+abbrev replay_words : Text → Text → Text → List Text
+replay_words program file trace = program ∷ codes "replay" ∷ file ∷ trace ∷ []
+
+replay_named : (program file trace : Text) → IsWord file → IsWord trace → subcommand_of btrun_app (replay_words program file trace) ≡ Some (codes "replay", trace_rows file trace)
+unfolding clap_on_literals
+replay_named program file trace (no_end, no_long, no_short) (none_ends, none_long, none_short) = rw (no_end, no_long, no_short, none_ends, none_long, none_short) refl
+
+replay_clean : (program file trace : Text) → IsWord file → IsWord trace → fault_of btrun_app (replay_words program file trace) ≡ []
+unfolding clap_on_literals
+replay_clean program file trace (no_end, no_long, no_short) (none_ends, none_long, none_short) = rw (no_end, no_long, no_short, none_ends, none_long, none_short) refl
+
+pub replay_faulty : (program file trace : Text) → is_plain file ≡ true → is_plain trace ≡ true → words_fault (replay_words program file trace) ≡ []
+replay_faulty program file trace plain even =
+    let word = is_word file plain in
+    let other = is_word trace even in
+    no_fault (replay_words program file trace) (Some (codes "replay", trace_rows file trace)) (replay_clean program file trace word other) (replay_named program file trace word other) refl
+
+replay_of : (file trace : Text) (task : Task) → IsTaskOf (Some (codes "replay", trace_rows file trace)) task → IsReplayOf file trace task
+replay_of file trace Bundle asks = absurd asks
+replay_of file trace (Check path) asks = absurd (check≢replay (sym asks.0))
+replay_of file trace (Code path) asks = absurd (code≢replay (sym asks.0))
+replay_of file trace (Drive words) asks = absurd (drive≢replay (sym asks.0))
+replay_of file trace (Replay words) (named, of) = (of.program, of.trace)
+replay_of file trace (Migrate words) asks = absurd (replay≢migrate asks.0)
+
+pub replay_asked : (program file trace : Text) (task : Task) → is_plain file ≡ true → is_plain trace ≡ true → IsTaskOf (subcommand_of btrun_app (replay_words program file trace)) task → IsReplayOf file trace task
+replay_asked program file trace task plain even asks =
+    replay_of file trace task (subst (λ c. IsTaskOf c task) (replay_named program file trace (is_word file plain) (is_word trace even)) asks)
+
+abbrev migrate_words : Text → Text → Text → List Text
+migrate_words program file trace = program ∷ codes "migrate" ∷ file ∷ trace ∷ []
+
+migrate_named : (program file trace : Text) → IsWord file → IsWord trace → subcommand_of btrun_app (migrate_words program file trace) ≡ Some (codes "migrate", trace_rows file trace)
+unfolding clap_on_literals
+migrate_named program file trace (no_end, no_long, no_short) (none_ends, none_long, none_short) = rw (no_end, no_long, no_short, none_ends, none_long, none_short) refl
+
+migrate_clean : (program file trace : Text) → IsWord file → IsWord trace → fault_of btrun_app (migrate_words program file trace) ≡ []
+unfolding clap_on_literals
+migrate_clean program file trace (no_end, no_long, no_short) (none_ends, none_long, none_short) = rw (no_end, no_long, no_short, none_ends, none_long, none_short) refl
+
+pub migrate_faulty : (program file trace : Text) → is_plain file ≡ true → is_plain trace ≡ true → words_fault (migrate_words program file trace) ≡ []
+migrate_faulty program file trace plain even =
+    let word = is_word file plain in
+    let other = is_word trace even in
+    no_fault (migrate_words program file trace) (Some (codes "migrate", trace_rows file trace)) (migrate_clean program file trace word other) (migrate_named program file trace word other) refl
+
+migrate_of : (file trace : Text) (task : Task) → IsTaskOf (Some (codes "migrate", trace_rows file trace)) task → IsMigrateOf file trace task
+migrate_of file trace Bundle asks = absurd asks
+migrate_of file trace (Check path) asks = absurd (check≢migrate (sym asks.0))
+migrate_of file trace (Code path) asks = absurd (code≢migrate (sym asks.0))
+migrate_of file trace (Drive words) asks = absurd (drive≢migrate (sym asks.0))
+migrate_of file trace (Migrate words) (named, of) = (of.program, of.trace)
+migrate_of file trace (Replay words) asks = absurd (replay≢migrate (sym asks.0))
+
+pub migrate_asked : (program file trace : Text) (task : Task) → is_plain file ≡ true → is_plain trace ≡ true → IsTaskOf (subcommand_of btrun_app (migrate_words program file trace)) task → IsMigrateOf file trace task
+migrate_asked program file trace task plain even asks =
+    migrate_of file trace task (subst (λ c. IsTaskOf c task) (migrate_named program file trace (is_word file plain) (is_word trace even)) asks)
 
 -- where there is no fault, only memory was refused
 pub only_memory : (kinds : Kinds) (e : Error) → kinds ≡ [] → HasKind kinds e → kind_of e ≡ OutOfMemory

@@ -9,8 +9,10 @@ use Rattle.clap.specs.Simple.{App, new_app, new_rule, on_top, subcommand_of, wit
 use Rattle.clap.specs.declared.builder.value_parser.ValueParser.TheVariants as parser
 use Rattle.bp_commands.specs.Drives.{defaults}
 use Rattle.btrun.specs.DriveWords.{value_of, init_fault, IsDriveOf}
+use Rattle.btrun.specs.TraceWords.{IsTraceWordsOf}
+use Rattle.btrun.specs.declared.commands.trace.TraceWords.{TraceWords}
 use Rattle.btrun.specs.declared.commands.Task.{Task}
-use Rattle.btrun.specs.declared.commands.Task.TheVariants.{Bundle, Check, Code, Drive}
+use Rattle.btrun.specs.declared.commands.Task.TheVariants.{Bundle, Check, Code, Drive, Replay, Migrate}
 
 -- an argument that has to be there
 abbrev pub required_rule : Text → Rule
@@ -60,26 +62,50 @@ drive_app =
     ∷ option_rule (codes "init")
     ∷ [])
 
+-- a command of this name, a file and a trace
+abbrev pub trace_app : Text → App
+trace_app name = with_rule (file_app name) (required_rule (codes "TRACE"))
+
+-- `replay FILE TRACE`
+abbrev pub replay_app : App
+replay_app = trace_app (codes "replay")
+
+-- `migrate FILE TRACE`
+abbrev pub migrate_app : App
+migrate_app = trace_app (codes "migrate")
+
 -- the program without a command
 abbrev pub program_app : App
 program_app = on_top (λ s. record s { has_version = true }) (new_app (codes "btrun"))
 
+-- the commands in turn
+abbrev pub with_commands : App → List App → App
+with_commands a [] = a
+with_commands a (c ∷ cs) = with_commands (with_subcommand a c.top) cs
+
 -- all commands
 abbrev pub btrun_app : App
 btrun_app =
-    with_subcommand
-    (with_subcommand (with_subcommand program_app check_app.top) code_app.top)
-    drive_app.top
+    with_commands program_app
+    (check_app ∷ code_app ∷ drive_app ∷ replay_app ∷ migrate_app ∷ [])
 
 -- the command has this name, and its file is the path
 abbrev pub IsOfFile : Text → Text → List Row → Text → Type 0
 IsOfFile command name rows path = (name ≡ command) × (path ≡ value_of (codes "FILE") rows)
 
+-- the name of a command
+abbrev pub IsNamed : Text → Type 0
+IsNamed name =
+    (name ≡ codes "check")
+    ⊎ ((name ≡ codes "code")
+    ⊎ ((name ≡ codes "drive")
+    ⊎ ((name ≡ codes "replay")
+    ⊎ (name ≡ codes "migrate"))))
+
 -- the words name no command, or one of those that there are
 abbrev pub IsOurs : Option (Text × List Row) → Type 0
 IsOurs None = Unit {0}
-IsOurs (Some command) =
-    (command.0 ≡ codes "check") ⊎ ((command.0 ≡ codes "code") ⊎ (command.0 ≡ codes "drive"))
+IsOurs (Some command) = IsNamed command.0
 
 -- what the command of this name asks for, with its arguments; a bundle is asked for without one
 abbrev pub IsAsked : Text → List Row → Task → Type 0
@@ -87,6 +113,8 @@ IsAsked name rows Bundle = ⊥
 IsAsked name rows (Check path) = IsOfFile (codes "check") name rows path.now
 IsAsked name rows (Code path) = IsOfFile (codes "code") name rows path.now
 IsAsked name rows (Drive words) = (name ≡ codes "drive") × IsDriveOf rows words
+IsAsked name rows (Replay words) = (name ≡ codes "replay") × IsTraceWordsOf rows words
+IsAsked name rows (Migrate words) = (name ≡ codes "migrate") × IsTraceWordsOf rows words
 
 -- what the words ask for, by the command that they name
 abbrev pub IsTaskOf : Option (Text × List Row) → Task → Type 0
@@ -117,3 +145,17 @@ abbrev pub IsPlainDriveOf : Text → Text → Task → Type 0
 IsPlainDriveOf file schedule (Drive words) =
     (words.program.now ≡ file) × (words.schedule.now ≡ schedule) × (words.options ≡ defaults)
 IsPlainDriveOf file schedule task = ⊥
+
+-- the files are these
+abbrev pub HasFiles : Text → Text → TraceWords → Type 0
+HasFiles file trace words = (words.program.now ≡ file) × (words.trace.now ≡ trace)
+
+-- the task is to replay this trace of the program of this file
+abbrev pub IsReplayOf : Text → Text → Task → Type 0
+IsReplayOf file trace (Replay words) = HasFiles file trace words
+IsReplayOf file trace task = ⊥
+
+-- the task is to migrate this trace of the program of this file
+abbrev pub IsMigrateOf : Text → Text → Task → Type 0
+IsMigrateOf file trace (Migrate words) = HasFiles file trace words
+IsMigrateOf file trace task = ⊥

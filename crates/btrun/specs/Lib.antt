@@ -1,3 +1,4 @@
 pub mod Commands
 pub mod DriveWords
 pub mod Statuses
+pub mod TraceWords

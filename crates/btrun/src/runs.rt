@@ -4,6 +4,7 @@ mod bundle;
 mod drive;
 mod files;
 mod inputs;
+mod trace;
 mod usage;
 
 use crate::commands::{Task, read_words};
@@ -17,6 +18,8 @@ fn run_words(rt: &HostRuntime, words: &[String]) -> u8 {
         Ok(Task::Check(path)) => files::check_file(rt, path),
         Ok(Task::Code(path)) => files::list_file(rt, path),
         Ok(Task::Drive(words)) => drive::drive_files(rt, &words),
+        Ok(Task::Replay(words)) => trace::replay_files(rt, &words),
+        Ok(Task::Migrate(words)) => trace::migrate_files(rt, &words),
         Err(error) => usage::explain(rt, &error, &mut rt.stderr()),
     }
 }

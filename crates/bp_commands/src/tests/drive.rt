@@ -1,11 +1,10 @@
 //! Programs driven by schedules, under options.
-use super::{Broken, Short};
+use super::{Broken, Short, Starved};
 use crate::{
     DriveOptions, DriveRefusal, drive_program, drive_program_buffered, drive_text, end_drive,
 };
 use bp_machine::Outcome;
 use std::alloc::Global;
-use std::io::{self, ErrorKind, Read};
 use std::test::Fail;
 
 const RACE: &[u8] = b"decl x; a() begin x := 1; assert (x); end b() begin x := 0; end";
@@ -15,16 +14,6 @@ const RACE_LINES: &[u8] = b"0 0\n1 0\n0 0\n";
 const RACE_TRACE: &[u8] = b"\
     btrace 1\nentry a\nentry b\ninit 0\ncontexts 3\ncalls 1000\nseed none\n\
     0 0 s\n1 0 s\n0 0 f\nend 3 1\n";
-
-/// A reader that has no memory.
-#[derive(Drop)]
-struct Starved;
-
-impl Read for Starved {
-    fn read(&mut self, _: &mut [u8]) -> io::Result<usize> {
-        Err(io::Error::from(ErrorKind::OutOfMemory))
-    }
-}
 
 /// Options with these threads, and else the defaults.
 fn options(alloc: Global, entries: &[&str]) -> Result<DriveOptions, Fail> {

@@ -1,6 +1,6 @@
 use Rattle.std.proofs.Common.{◌∙◌, ap}
 use Rattle.std.proofs.lemmas.Result.{err_from_is_err_and}
-use Rattle.bp_commands.proofs.BufferRefused.{held_alone, bundle_not_driven, bundle_handed_on, bundle_unbuffered}
+use Rattle.bp_commands.proofs.BufferRefused.{held_alone, bundle_not_driven, bundle_not_taken, bundle_handed_on, bundle_unbuffered}
 use Rattle.bp_commands.proofs.buffered.drive_buffered.Goals as goal
 
 pub returns-in_default-clause-answer : goal.returns-in_default-clause-answer
@@ -12,7 +12,13 @@ returns-in_err-report-clause-answer g c =
     let held = held_alone _ _ c.in-Ok.ensures.empty ∙ ap g.W.Write.contents c.in-Ok.ensures.inner in
     rw (p.1, p.2) (bundle_not_driven _ _ _ _ _ held c.in_err-report.field-0.0 c.in_err-report.ensures.answer)
 
+pub returns-in_err-hand_on-clause-answer : goal.returns-in_err-hand_on-clause-answer
+returns-in_err-hand_on-clause-answer g c =
+    let p = err_from_is_err_and c.from_residual-in_err-hand_on.result c.from_residual-in_err-hand_on.ensures.1 in
+    let held = held_alone _ _ c.in-Ok.ensures.empty ∙ ap g.W.Write.contents c.in-Ok.ensures.inner in
+    rw (p.1, p.2) (bundle_not_taken _ _ _ _ _ held c.in_ok-report.report c.in_ok-report.ensures.answer)
+
 pub returns-clause-answer : goal.returns-clause-answer
 returns-clause-answer g c =
     let held = held_alone _ _ c.in-Ok.ensures.empty ∙ ap g.W.Write.contents c.in-Ok.ensures.inner in
-    bundle_handed_on _ _ _ g.W.Write.contents c.hand_on_driven.result _ _ held c.in_ok-report.report c.in_ok-report.ensures.answer c.hand_on_driven.ensures
+    bundle_handed_on _ _ _ _ _ _ held c.in_ok-report.report c.in_ok-hand_on.ensures c.in_ok-report.ensures.answer

@@ -2,8 +2,13 @@ use Rattle.std.proofs.Common.{◌≡◌}
 use Rattle.std.proofs.lemmas.Result.{err_from_is_err_and}
 use Rattle.bp_commands.specs.declared.drive_refusals.DriveRefusal.TheVariants as refusal
 use Rattle.bp_commands.proofs.MappedErrors.{ok_of, err_of}
-use Rattle.bp_commands.proofs.TextDriven.{text_driven, schedule_refused}
+use Rattle.bp_commands.proofs.TextDriven.{code_refused, text_driven, schedule_refused}
 use Rattle.bp_commands.proofs.drive.drive_text.Goals as goal
+
+pub returns-in_err-code : goal.returns-in_err-code
+returns-in_err-code g c =
+    let p = err_from_is_err_and c.from_residual.result c.from_residual.ensures.1 in
+    rw (p.1, p.2) (code_refused _ _ _ _ c.in_err-code.field-0.0 c.in_err-code.ensures)
 
 pub returns-in_err-report : goal.returns-in_err-report
 returns-in_err-report g c =

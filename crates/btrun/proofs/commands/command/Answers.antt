@@ -1,11 +1,13 @@
 use Rattle.std.proofs.Common.{◌≡◌}
 use Rattle.clap.specs.Simple.{app_of}
 use Rattle.btrun.proofs.CommandShapes.{with_command, if_ok}
-use Rattle.btrun.specs.Commands.{btrun_app, check_app, code_app, drive_app}
+use Rattle.btrun.specs.Commands.{btrun_app, check_app, code_app, drive_app, migrate_app, replay_app}
 use Rattle.btrun.proofs.commands.command.Goals as goal
 
 pub returns : goal.returns
 returns c =
     let check = with_command _ _ _ _ check_app c.program.ensures c.in_ok-file_command.ensures c.in_ok-subcommand.ensures in
     let code = with_command _ _ _ _ code_app check c.in_ok-file_command-2.ensures c.in_ok-subcommand-2.ensures in
-    if_ok c.subcommand-3.result _ (λ new. app_of new ≡ btrun_app) (λ new adds. with_command _ new _ _ drive_app code c.in_ok-drive_command.ensures adds) c.subcommand-3.ensures
+    let drive = with_command _ _ _ _ drive_app code c.in_ok-drive_command.ensures c.in_ok-subcommand-3.ensures in
+    let replay = with_command _ _ _ _ replay_app drive c.in_ok-trace_command.ensures c.in_ok-subcommand-4.ensures in
+    if_ok c.subcommand-5.result _ (λ new. app_of new ≡ btrun_app) (λ new adds. with_command _ new _ _ migrate_app replay c.in_ok-trace_command-2.ensures adds) c.subcommand-5.ensures

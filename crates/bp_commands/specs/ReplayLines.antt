@@ -1,0 +1,34 @@
+-- The lines that show a replay.
+use Rattle.std.specs.Prelude.{ℕ, Bool, true, false, List, [], ◌∷◌, ◌++◌, codes, decimal, flat_map}
+use Rattle.std.specs.List.{concat}
+use Rattle.bp_machine.specs.PrintedRows.{PrintedRow}
+use Rattle.bp_machine.specs.declared.reports.Outcome.{Outcome}
+use Rattle.bp_machine.specs.declared.reports.Outcome.TheVariants.{Clean, Failed}
+use Rattle.bp_trace.specs.declared.judging.Printed.{Printed}
+use Rattle.bp_trace.specs.Replayed.{row_of}
+
+-- the digit of a value
+abbrev pub bit_text : Bool → List ℕ
+bit_text false = codes "0"
+bit_text true = codes "1"
+
+-- `print`, the thread, and a digit for each value
+abbrev pub row_head : ℕ → List ℕ
+row_head thread = concat (codes "print " ∷ decimal thread ∷ codes " " ∷ [])
+
+abbrev pub row_line : PrintedRow → List ℕ
+row_line r = row_head r.thread ++ (flat_map bit_text r.values ++ codes "\n")
+
+-- the line of a row of an answer
+abbrev pub printed_line : Printed → List ℕ
+printed_line p = row_line (row_of p)
+
+-- whether an assertion failed, and of which thread
+abbrev pub outcome_line : Outcome → List ℕ
+outcome_line Clean = codes "outcome clean\n"
+outcome_line (Failed thread) =
+    concat (codes "outcome failed " ∷ decimal thread ∷ codes "\n" ∷ [])
+
+-- a line for each row, and the outcome
+abbrev pub shown_text : List PrintedRow → Outcome → List ℕ
+shown_text rows outcome = flat_map row_line rows ++ outcome_line outcome

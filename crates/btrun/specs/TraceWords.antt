@@ -1,0 +1,10 @@
+-- What the words behind `replay` and `migrate` ask for.
+use Rattle.std.specs.Prelude.{◌≡◌, List, codes}
+use Rattle.clap.specs.Walk.{Row}
+use Rattle.btrun.specs.DriveWords.{value_of}
+use Rattle.btrun.specs.declared.commands.trace.TraceWords.{TraceWords}
+
+-- the files are those of the arguments
+pub record IsTraceWordsOf (rows : List Row) (words : TraceWords) : Type 0 where
+  pub program : words.program.now ≡ value_of (codes "FILE") rows
+  pub trace : words.trace.now ≡ value_of (codes "TRACE") rows
