@@ -57,5 +57,5 @@ module _ (t : Program) (v : Version) (s : SetupOf) (few : threads s ≤ MAX_THRE
       let lg = lines_of v (threads s) g (below [] g pg.legal) in
       let joined = ap (λ z. z ++ x) lh.text ∙ e ∙ ap (λ z. z ++ y) (sym lg.text) in
       let (calls, behind) = one_list [] lh.lines lg.lines x y lh.are lg.are (subst (IsPlayable t s) (sym lh.calls) ph) (subst (IsPlayable t s) (sym lg.calls) pg)
-          (subst (λ z. Stops z x) (sym lh.calls) sx) (subst (λ z. Stops z y) (sym lg.calls) sy) joined in
+      (subst (λ z. Stops z x) (sym lh.calls) sx) (subst (λ z. Stops z y) (sym lg.calls) sy) joined in
       (sym lh.calls ∙ calls ∙ lg.calls, behind)

@@ -69,7 +69,14 @@ pub fn replay(alloc: Global, code: &Code, text: &[u8]) -> Result<Replayed, Repla
     };
     let mut session = Session::new(alloc, code, &setup)?;
     let rest = text_from(text, head.size);
-    let body = play(alloc, &mut session, &setup, head.version, rest, head.lines + 1)?;
+    let body = play(
+        alloc,
+        &mut session,
+        &setup,
+        head.version,
+        rest,
+        head.lines + 1,
+    )?;
     let report = session.report();
     let end = text_from(rest, body.size);
     judge_end(end, report.calls, report.left_open, body.line)?;

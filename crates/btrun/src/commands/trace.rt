@@ -25,7 +25,8 @@ pub const REPLAY_ABOUT: &str = "Replays a trace and prints what its steps printe
 /// What `replay --help` says behind the arguments.
 pub const REPLAY_NOTES: &str = "\
     A step at a 'print' has a line 'print THREAD BITS'. The last line is 'outcome clean', or\n\
-    'outcome failed THREAD' with the thread whose assertion failed. The first fault is one line on\n\
+    'outcome failed THREAD' with the thread whose assertion failed. The first fault is one \
+    line on\n\
     standard error.\n\n\
     Example:\n  btrun replay race.bp race.trace\n\n\
     Exit status:\n  0  done, and no assertion failed\n  1  an assertion failed\n  \

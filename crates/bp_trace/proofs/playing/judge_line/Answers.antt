@@ -22,10 +22,9 @@ loop-call-preserved c =
       played = λ t is.
           let is_kept = subst (λ k. StandsFor k t) c.judge.ensures.kept.0 is in
           let old = before.played t is_kept in
-          let rows = after.printed t c.loop-call.played.history.items is_kept old.0 in
-          (
-          rw (sym after.history) at (after.stands t c.loop-call.played.history.items is_kept old.0),
-          rw (sym c.judge.ensures.kept.1) at (played_more t c.loop-call.session.setup c.loop-call.played.history.items c.judge.new.played.history.items _ _ _ after.history old.1 rows),
+          let rows = after.printed t c.loop-call.played.history.items is_kept old.0 in (
+            rw (sym after.history) at (after.stands t c.loop-call.played.history.items is_kept old.0),
+            rw (sym c.judge.ensures.kept.1) at (played_more t c.loop-call.session.setup c.loop-call.played.history.items c.judge.new.played.history.items _ _ _ after.history old.1 rows),
           );
       history = history_more c.args.played.now.history.items c.loop-call.played.history.items c.judge.new.played.history.items c.args.calls.now c.loop-call.call-index _ c.loop-call-test.true before.history after.history;
       code = c.judge.ensures.kept.0 ∙ before.code;
