@@ -1,6 +1,6 @@
 //! The yardstick of bench/replaying.py: a plain Rust program, without proofs, that replays a trace of either version
-//! on the flat code of that bench's program, and prints its rows and its outcome. The code is written down here; the
-//! program that is read has to be that one.
+//! on the flat code of that bench's program, keeps its history, and prints its rows and its outcome. The code is
+//! written down here; the program that is read has to be that one.
 //!
 //! Usage: replay PROGRAM TRACE
 use std::io::{self, BufWriter, Write};
@@ -32,6 +32,14 @@ enum Reply {
     Stepped,
 }
 
+/// A call, as the history keeps it. Nothing reads it here.
+#[allow(dead_code)]
+struct Call {
+    thread: u32,
+    bit: bool,
+    reply: Reply,
+}
+
 struct Thread {
     frames: Vec<(u32, u128)>,
     calls: u32,
@@ -44,6 +52,7 @@ struct Machine {
     used: u32,
     last: Option<u32>,
     rows: Vec<(u32, Vec<bool>)>,
+    history: Vec<Call>,
 }
 
 struct Head {
@@ -211,7 +220,7 @@ fn thread(text: &[u8], threads: usize) -> Option<(u32, usize)> {
     is_there.then_some((thread as u32, count + 1))
 }
 
-/// Plays a call, which has to be the machine's.
+/// Plays a call, which has to be the machine's, and keeps it.
 fn play(
     machine: &mut Machine,
     code: &[Instr],
@@ -224,7 +233,11 @@ fn play(
     if guest.ended || guest.calls >= head.calls {
         return None;
     }
-    (machine.ask(code, head.contexts, thread, bit) == reply).then_some(())
+    if machine.ask(code, head.contexts, thread, bit) != reply {
+        return None;
+    }
+    machine.history.push(Call { thread, bit, reply });
+    Some(())
 }
 
 /// Plays the line of a call, and answers how many bytes it has.
@@ -288,9 +301,10 @@ fn replay(text: &[u8]) -> Option<Machine> {
         used: 0,
         last: None,
         rows: Vec::new(),
+        history: Vec::new(),
     };
     let end = play_lines(&mut machine, &code, &head, rest)?;
-    let calls: u32 = machine.threads.iter().map(|guest| guest.calls).sum();
+    let calls = machine.history.len();
     let open = machine.threads.iter().filter(|t| !t.ended && t.calls < head.calls).count();
     (end == format!("end {calls} {open}\n").as_bytes()).then_some(machine)
 }

@@ -19,8 +19,8 @@ pub fn no_two_have_one_text()
     ensures { NoTwoHaveOneText }
 {}
 
-/// A text has at most one refusal beside memory: the lines, heads and ends that refuse a text refuse
-/// it alone. And a text that is refused so is no trace of the program.
+/// A text has at most one refusal beside memory: the line, head or end that refuses a text does so
+/// alone. And a text that is refused so is no trace of the program.
 pub fn refusals_are_single()
     ensures one { OneRefusal }
     ensures none { RefusedIsNoTrace }
