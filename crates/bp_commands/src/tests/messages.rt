@@ -1,10 +1,10 @@
 //! What the faults say of themselves.
-use crate::{DriveRefusal, FileFault, InputFault, ProgramFault};
+use crate::{DriveRefusal, FileFault, InputFault, ProgramFault, TraceRefusal};
 use bp_check::CheckFault;
 use bp_code::WriteFault;
 use bp_machine::{AskFault, SetupFault};
 use bp_syntax::ReadFault;
-use bp_trace::DriveFault;
+use bp_trace::{DriveFault, ReplayFault};
 use std::alloc::Global;
 use std::fmt::Display;
 use std::test::Fail;
@@ -149,5 +149,26 @@ fn says_what_failed(rt: HostRuntime) -> Result<(), Fail> {
     assert!(rt; says(alloc, &FileFault::Write, "the output could not be written")?);
     assert!(rt; says(alloc, &FileFault::Memory, "out of memory")?);
     assert!(rt; says(alloc, &WriteFault::Write, "the output could not be written")?);
+    Ok(())
+}
+
+#[test]
+fn says_why_traces_are_refused(rt: HostRuntime) -> Result<(), Fail> {
+    let alloc = rt.alloc();
+    let trace = TraceRefusal::Trace(ReplayFault::NoEnd);
+    assert!(rt; says(alloc, &trace, "the trace has no end")?);
+    let setup = TraceRefusal::Trace(ReplayFault::Setup(SetupFault::Threads));
+    assert!(rt; says(alloc, &setup, "there must be 1 to 64 guest threads")?);
+    let text = TraceRefusal::Program(ProgramFault::Read(ReadFault::Syntax(13)));
+    assert!(rt; says(alloc, &text, "syntax at 13")?);
+    assert!(rt; says(alloc, &TraceRefusal::Device, "the input could not be read")?);
+    assert!(rt;
+        says(
+            alloc,
+            &TraceRefusal::Write,
+            "the output could not be written"
+        )?
+    );
+    assert!(rt; says(alloc, &TraceRefusal::Memory, "out of memory")?);
     Ok(())
 }

@@ -1,5 +1,6 @@
 use Rattle.std.proofs.Common.{◌∙◌, ap}
 use Rattle.std.proofs.lemmas.Result.{err_from_is_err_and}
+use Rattle.bp_commands.specs.Pairs.{PairInputs}
 use Rattle.bp_commands.proofs.BufferRefused.{held_alone, program_not_driven, program_not_taken, program_handed_on, program_unbuffered}
 use Rattle.bp_commands.proofs.buffered.drive_program_buffered.Goals as goal
 
@@ -8,17 +9,35 @@ returns-in_default-clause-answer g c = program_unbuffered _ _ _ c.args.options.n
 
 pub returns-in_err-report-clause-answer : goal.returns-in_err-report-clause-answer
 returns-in_err-report-clause-answer g c =
+    let io : PairInputs = record {
+      program_before = g.R.Read.remaining c.args.program.now;
+      program_after = g.R.Read.remaining c.drive_program.new.program;
+      input_before = g.S.Read.remaining c.args.schedule.now;
+      input_after = g.S.Read.remaining c.drive_program.new.schedule;
+    } in
     let p = err_from_is_err_and c.from_residual.result c.from_residual.ensures.1 in
     let held = held_alone _ _ c.in-Ok.ensures.empty ∙ ap g.W.Write.contents c.in-Ok.ensures.inner in
-    rw (p.1, p.2) (program_not_driven _ _ c.args.options.now _ _ held c.in_err-report.field-0.0 c.in_err-report.ensures.answer)
+    rw (p.1, p.2) (program_not_driven io _ c.args.options.now _ _ held c.in_err-report.field-0.0 c.in_err-report.ensures.answer)
 
 pub returns-in_err-hand_on-clause-answer : goal.returns-in_err-hand_on-clause-answer
 returns-in_err-hand_on-clause-answer g c =
+    let io : PairInputs = record {
+      program_before = g.R.Read.remaining c.args.program.now;
+      program_after = g.R.Read.remaining c.drive_program.new.program;
+      input_before = g.S.Read.remaining c.args.schedule.now;
+      input_after = g.S.Read.remaining c.drive_program.new.schedule;
+    } in
     let p = err_from_is_err_and c.from_residual-in_err-hand_on.result c.from_residual-in_err-hand_on.ensures.1 in
     let held = held_alone _ _ c.in-Ok.ensures.empty ∙ ap g.W.Write.contents c.in-Ok.ensures.inner in
-    rw (p.1, p.2) (program_not_taken _ _ c.args.options.now _ _ held c.in_ok-report.report c.in_ok-report.ensures.answer)
+    rw (p.1, p.2) (program_not_taken io _ c.args.options.now _ _ held c.in_ok-report.report c.in_ok-report.ensures.answer)
 
 pub returns-clause-answer : goal.returns-clause-answer
 returns-clause-answer g c =
+    let io : PairInputs = record {
+      program_before = g.R.Read.remaining c.args.program.now;
+      program_after = g.R.Read.remaining c.drive_program.new.program;
+      input_before = g.S.Read.remaining c.args.schedule.now;
+      input_after = g.S.Read.remaining c.drive_program.new.schedule;
+    } in
     let held = held_alone _ _ c.in-Ok.ensures.empty ∙ ap g.W.Write.contents c.in-Ok.ensures.inner in
-    program_handed_on _ _ c.args.options.now _ _ _ held c.in_ok-report.report c.in_ok-hand_on.ensures c.in_ok-report.ensures.answer
+    program_handed_on io _ c.args.options.now _ _ _ held c.in_ok-report.report c.in_ok-hand_on.ensures c.in_ok-report.ensures.answer
