@@ -11,7 +11,7 @@ use Rattle.bp_machine.specs.declared.calls.Call.{Call}
 use Rattle.bp_machine.specs.Histories.{open_lines}
 use Rattle.bp_machine.specs.Sessions.{SessionOf, Stands, StandsForAll}
 
-for_one : (c : Flat) (P : Type 0) → IsOfProgram c → ((t : Program) → StandsFor c t → P) → ∥ P ∥₁
+pub for_one : (c : Flat) (P : Type 0) → IsOfProgram c → ((t : Program) → StandsFor c t → P) → ∥ P ∥₁
 for_one c P of_some each = ∥∥₁_map of_some (λ p. each p.0 p.3)
 
 pub same_number : (c : Flat) (m n : ℕ) → IsOfProgram c → ((t : Program) → StandsFor c t → m ≡ n) → m ≡ n

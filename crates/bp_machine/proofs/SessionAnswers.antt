@@ -15,7 +15,7 @@ use Rattle.bp_machine.specs.declared.calls.Call.{Call}
 use Rattle.bp_machine.specs.declared.threads.Transition.{Transition}
 use Rattle.bp_machine.specs.declared.threads.Transition.TheVariants.{Stays, Fails, Steps}
 use Rattle.bp_machine.specs.declared.sessions.AskFault.{AskFault}
-use Rattle.bp_machine.specs.declared.sessions.AskFault.TheVariants.{NoThread, Finished, Seeded, Unseeded, Memory}
+use Rattle.bp_machine.specs.declared.sessions.AskFault.TheVariants.{NoThread, Finished, Seeded, Unseeded, Memory, Busy}
 use Rattle.bp_machine.specs.declared.sessions.Prepared.{Prepared}
 use Rattle.bp_machine.specs.ChoiceBits.{ChoicesOf, choice_bit, choice_word}
 use Rattle.bp_machine.specs.SeededHistories.{IsBitOfCall}
@@ -94,6 +94,7 @@ module _ (t : Program) (x : SessionOf) (h : List Call) (stands : Stands t x h) (
       let line = has_open_line goes_on.guest goes_on.has goes_on.goes_on in
       (line, is, no_seed s x.choices count i line.0 none)
   refused_after Memory never = absurd never
+  refused_after Busy never = absurd never
 
   -- the bit that a session gives a call is the one that it has to have
   bit_of : (given : Option Bool) (bit : Bool) → i < threads s → IsKeptBit x.choices i given bit → IsBitOfCall s h i given bit

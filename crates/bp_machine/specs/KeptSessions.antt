@@ -4,7 +4,7 @@ use Rattle.std.specs.Prelude.{◌≡◌, ◌≢◌, ℕ, ◌+◌, Bool, List, Op
 use Rattle.std.specs.Option.{option_map}
 use Rattle.bp_code.specs.Flat.{Flat}
 use Rattle.bp_machine.specs.declared.sessions.AskFault.{AskFault}
-use Rattle.bp_machine.specs.declared.sessions.AskFault.TheVariants.{NoThread, Finished, Seeded, Unseeded, Memory}
+use Rattle.bp_machine.specs.declared.sessions.AskFault.TheVariants.{NoThread, Finished, Seeded, Unseeded, Memory, Busy}
 use Rattle.bp_machine.specs.declared.sessions.Prepared.{Prepared}
 use Rattle.bp_machine.specs.ChoiceBits.{ChoicesOf, IsAt, next_bit}
 use Rattle.bp_machine.specs.Setups.{SetupOf}
@@ -71,6 +71,7 @@ abbrev pub IsKeptRefusal : SessionOf → ℕ → Option Bool → AskFault → Ty
 IsKeptRefusal x i given NoThread = slice_get x.machine.state.threads i ≡ None
 IsKeptRefusal x i given Finished = IsOver x.setup x.machine.state i
 IsKeptRefusal x i given Memory = ⊥
+IsKeptRefusal x i given Busy = ⊥
 IsKeptRefusal x i given f =
     GoesOn x.setup x.machine.state i × IsBitRefusal x.choices i given f
 

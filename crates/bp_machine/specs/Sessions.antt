@@ -7,7 +7,7 @@ use Rattle.bp_code.specs.StandsFor.{StandsFor}
 use Rattle.bp_machine.specs.declared.calls.Call.{Call}
 use Rattle.bp_machine.specs.declared.calls.Reply.TheVariants.{Stepped}
 use Rattle.bp_machine.specs.declared.sessions.AskFault.{AskFault}
-use Rattle.bp_machine.specs.declared.sessions.AskFault.TheVariants.{NoThread, Finished, Seeded, Unseeded, Memory}
+use Rattle.bp_machine.specs.declared.sessions.AskFault.TheVariants.{NoThread, Finished, Seeded, Unseeded, Memory, Busy}
 use Rattle.bp_machine.specs.ChoiceBits.{ChoicesOf, IsAt}
 use Rattle.bp_machine.specs.SeededHistories.{HasSeededBits, IsBitOfCall}
 use Rattle.bp_machine.specs.Setups.{SetupOf, threads, IsInRange}
@@ -22,6 +22,7 @@ ask_fault_number Finished = 37
 ask_fault_number Seeded = 38
 ask_fault_number Unseeded = 39
 ask_fault_number Memory = 7
+ask_fault_number Busy = 40
 
 -- a session without memory: its machine, the choices of each thread where the setup has a seed, and
 -- the call that it is ready for, where it is prepared for one
@@ -93,6 +94,7 @@ module _ (t : Program) (s : SetupOf) (h : List Call) (i : ℕ) (given : Option B
   IsAskRefusal Memory =
       HasOpenLine s h i
       × ((bit : Bool) × IsBitOfCall s h i given bit × IsCallStep t s h i bit)
+  IsAskRefusal Busy = ⊥
 
 -- When a look at what thread i prints next is refused: where there is no such thread; and memory
 -- may be refused only where there is something that it prints.

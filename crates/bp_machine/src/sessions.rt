@@ -7,7 +7,7 @@ ghost use Rattle.bp_machine.specs.Contexts.{IsLeastWithin};
 ghost use Rattle.bp_machine.specs.Answers.{stack_of};
 ghost use Rattle.bp_machine.specs.PrintedRows.{values_printed};
 ghost use Rattle.bp_machine.specs.Setups.{FitsCode, threads};
-ghost use Rattle.bp_machine.specs.Histories.{granted_threads, configuration_after, open_lines};
+ghost use Rattle.bp_machine.specs.Histories.{granted_threads, configuration_after, is_finished, open_lines};
 ghost use Rattle.bp_machine.specs.Reports.{IsReport};
 ghost use Rattle.bp_machine.specs.Sessions.{Stands, IsNextCall, IsAskRefusal, IsPrintRefusal};
 ghost use Rattle.bp_machine.specs.KeptSessions.{AreFirstChoices, AreDrawn, IsKeptBit, IsBitRefusal, IsGiven, IsJudged, IsKeptRefusal};
@@ -43,6 +43,9 @@ pub enum AskFault {
     /// There was not enough memory for a frame.
     #[error("out of memory")]
     Memory,
+    /// The ring to which calls are sent is full. No session answers this; a desk does.
+    #[error("the ring is full")]
+    Busy,
 }
 
 impl AskFault {
@@ -58,6 +61,7 @@ impl AskFault {
             AskFault::Seeded => 38,
             AskFault::Unseeded => 39,
             AskFault::Memory => 7,
+            AskFault::Busy => 40,
         }
     }
 }
@@ -250,6 +254,33 @@ impl Session {
         self.prepared = None;
         self.machine.make(call.thread, prepared.transition);
         draw(&mut self.choices, call.thread as usize);
+    }
+
+    /// The code of the program.
+    pub fn code(&self) -> &Code
+        ensures { result.now ≡ self.now.code }
+    {
+        &self.code
+    }
+
+    /// The setup from which the session started.
+    pub fn setup(&self) -> &Setup
+        ensures { result.now ≡ self.now.setup }
+    {
+        &self.setup
+    }
+
+    /// Whether a thread makes no further call.
+    pub fn is_finished(&self, thread: u32) -> bool
+        requires { thread < threads self.now.setup }
+        ensures { (t : Program) (h : List Answered)
+            → Stands t self.now h
+            → result ≡ is_finished self.now.setup h thread }
+    {
+        match self.machine.thread(thread) {
+            None => true,
+            Some(guest) => guest.is_finished(self.setup.calls()),
+        }
     }
 
     /// The bit of a global, by its place in the declarations from 0.

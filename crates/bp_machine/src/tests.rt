@@ -137,6 +137,24 @@ fn session_of(alloc: Global, text: &[u8], init: &[bool]) -> Result<Session, Fail
     session_with(alloc, text, &["main"], init, 2, 1000)
 }
 
+/// Whether the session is of this code and setup, and its first thread may go on.
+fn is_new(session: &Session, code: &Code, setup: &Setup) -> bool {
+    session.setup().is_in_range();
+    session.code() == code && session.setup() == setup && !session.is_finished(0)
+}
+
+#[test]
+fn is_of_its_code_and_setup(rt: HostRuntime) -> Result<(), Fail> {
+    let alloc = rt.alloc();
+    let code = code_of(alloc, ASSIGNMENT)?;
+    let setup = Setup::new(alloc, &code, &mains(alloc, 1)?, &[true], 1, 1, None)?;
+    let mut session = Session::new(alloc, &code, &setup)?;
+    assert!(rt; is_new(&session, &code, &setup));
+    assert!(rt; session.ask_with(0, false).is_ok());
+    assert!(rt; !is_new(&session, &code, &setup));
+    Ok(())
+}
+
 /// What a session comes to: how many threads may go on, and how many contexts are used.
 type End = (u32, u32);
 
@@ -186,6 +204,7 @@ fn numbers_refused_calls(rt: HostRuntime) {
     assert_eq!(rt; AskFault::Finished.number(), 37);
     assert_eq!(rt; AskFault::Seeded.number(), 38);
     assert_eq!(rt; AskFault::Unseeded.number(), 39);
+    assert_eq!(rt; AskFault::Busy.number(), 40);
     assert_eq!(rt; AskFault::Memory.number(), 7);
 }
 
@@ -240,6 +259,7 @@ fn shows_refused_calls(rt: HostRuntime) -> Result<(), Fail> {
         (AskFault::Finished, "the thread has made its last call"),
         (AskFault::Seeded, "the choice bits are those of the seed"),
         (AskFault::Unseeded, "there is no seed for the choice bits"),
+        (AskFault::Busy, "the ring is full"),
         (AskFault::Memory, "out of memory"),
     ] {
         assert!(rt; is_call_shown(rt.alloc(), fault, words)?);

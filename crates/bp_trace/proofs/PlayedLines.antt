@@ -15,7 +15,7 @@ use Rattle.bp_machine.specs.Histories.{is_finished, IsLegal}
 use Rattle.bp_machine.specs.Sessions.{SessionOf, Stands, StandsForAll, IsAskRefusal}
 use Rattle.bp_machine.proofs.ForEveryProgram.{is_true, is_false}
 use Rattle.bp_machine.specs.declared.sessions.AskFault.{AskFault}
-use Rattle.bp_machine.specs.declared.sessions.AskFault.TheVariants.{NoThread, Finished, Seeded, Unseeded, Memory}
+use Rattle.bp_machine.specs.declared.sessions.AskFault.TheVariants.{NoThread, Finished, Seeded, Unseeded, Memory, Busy}
 use Rattle.bp_trace.specs.declared.faults.DriveFault.{DriveFault}
 use Rattle.bp_trace.specs.declared.faults.DriveFault.TheVariants as fault
 use Rattle.bp_trace.specs.declared.schedules.ScheduleLine.{ScheduleLine}
@@ -42,6 +42,7 @@ module _ (x : SessionOf) (h : List Call) (of_some : IsOfProgram x.code) (stands 
       ungiven : Some line.bit ≡ None → x.setup.seed ≡ None → ⊥
       ungiven e none = cc
   refused_line line n Memory within unseeded refused = tt
+  refused_line line n Busy within unseeded refused = absurd (is_false x.code (Unit {0}) of_some (λ t is u. refused t h is (stands t is)) tt)
 
 -- one more line of the schedule
 module _ (schedule : List ℕ) (old new : List Call) (line : ScheduleLine) (place many : ℕ) (within : place ≤ length schedule)
