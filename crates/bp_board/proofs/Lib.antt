@@ -1,0 +1,6 @@
+pub mod BooksWithCall
+pub mod Equal
+pub mod GatheredBooks
+pub mod SeatsOfTurns
+pub mod ShutSeats
+pub mod TurnsWithCall

@@ -1,0 +1,60 @@
+-- Turns grow by one call, and are cut short before one.
+use Rattle.std.proofs.Common.{◌≡◌, ℕ, ◌+◌, ◌<◌, Bool, true, false, not, List, [], ◌∷◌, ◌++◌, length, refl, sym, ◌∙◌, ap, subst, arith, append_assoc, inl, inr}
+use Rattle.std.proofs.lemmas.List.{append-nil}
+use Rattle.std.proofs.lemmas.Bool.{false≢true}
+use Rattle.bp_machine.specs.declared.calls.Call.{Call}
+use Rattle.bp_machine.specs.declared.calls.Reply.TheVariants.{Stepped}
+use Rattle.bp_machine.specs.declared.sessions.AskFault.{AskFault}
+use Rattle.bp_machine.specs.Histories.{is_finished}
+use Rattle.bp_board.specs.Asks.{IsShut, IsDeskRefusal}
+use Rattle.bp_board.specs.Desks.{DeskOf}
+use Rattle.bp_board.specs.Seats.{SeatOf}
+use Rattle.bp_board.specs.Turns.{AreSteps, IsCutTurn}
+
+pub one_more_step : (i : ℕ) (cs : List Call) (x : Call) → AreSteps i cs → x.thread ≡ i → x.reply ≡ Stepped → AreSteps i (cs ++ x ∷ [])
+one_more_step i [] x steps thread reply = ((thread, reply), tt)
+one_more_step i (c ∷ cs) x (first, steps) thread reply = (first, one_more_step i cs x steps thread reply)
+
+-- what was sent with one more call
+pub sent_with : (h mid new cs : List Call) (x : Call) → mid ≡ h ++ cs → new ≡ mid ++ x ∷ [] → new ≡ h ++ (cs ++ x ∷ [])
+sent_with h mid new cs x before with_call = with_call ∙ ap (λ g. g ++ x ∷ []) before ∙ append_assoc h cs (x ∷ [])
+
+-- a first call that is refused
+pub cut_at_once : (d new : DeskOf) (seat after : SeatOf) (n : ℕ) (f : AskFault) → 0 < n → IsDeskRefusal d seat f → new ≡ d → after ≡ seat → IsCutTurn d new seat after n f
+cut_at_once d new seat after n f some refused same_desk same_seat = rw (same_desk, same_seat) (record {
+  steps = [];
+  sent = sym (append-nil d.history);
+  stepped = tt;
+  fewer = some;
+  none = λ e. refl;
+  refused = refused;
+  own = refl;
+  counted = omega arith;
+})
+
+-- a line that its seat and the history call open is not finished
+pub still_open : (d : DeskOf) (seat : SeatOf) → seat.is_open ≡ true → is_finished d.setup d.history seat.thread ≡ false → IsShut d seat → ⊥
+still_open d seat is_open unfinished shut = elim shut [
+  | inl a ↦ false≢true (sym a ∙ is_open)
+  | inr b ↦ false≢true (sym unfinished ∙ b)
+]
+
+-- a later call that is refused
+pub cut_later : (old mid new : DeskOf) (seat between after : SeatOf) (n : ℕ) (f : AskFault) (cs : List Call)
+    → mid.history ≡ old.history ++ cs → AreSteps seat.thread cs → length cs < n → between.is_open ≡ true → is_finished mid.setup mid.history between.thread ≡ false
+    → IsDeskRefusal mid between f → new ≡ mid → after ≡ between → between.thread ≡ seat.thread → between.calls ≡ seat.calls + length cs → IsCutTurn old new seat after n f
+cut_later old mid new seat between after n f cs sent stepped fewer is_open unfinished refused same_desk same_seat own counted = rw (same_desk, same_seat) (record {
+  steps = cs;
+  sent = sent;
+  stepped = stepped;
+  fewer = fewer;
+  none = λ e. absurd (still_open mid between is_open unfinished (subst (IsDeskRefusal mid between) e refused));
+  refused = refused;
+  own = own;
+  counted = counted;
+})
+
+-- a line is open where the seat says so
+pub unfinished_by : (b c : Bool) → b ≡ true → b ≡ not c → c ≡ false
+unfinished_by b true e line = absurd (false≢true (sym line ∙ e))
+unfinished_by b false e line = refl

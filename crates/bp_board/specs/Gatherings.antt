@@ -1,0 +1,46 @@
+-- What a board is gathered to.
+use Rattle.std.specs.Prelude.{◌≡◌, ◌<◌, ◌==◌, ℕ, List, ◌++◌, length, Some}
+use Rattle.std.specs.List.{sum_by, count_by}
+use Rattle.bp_tree.specs.Ast.{Program}
+use Rattle.bp_code.specs.Flat.{Flat}
+use Rattle.bp_machine.specs.declared.calls.Call.{Call}
+use Rattle.bp_machine.specs.declared.reports.Report.{Report}
+use Rattle.bp_machine.specs.Histories.{IsLegal}
+use Rattle.bp_machine.specs.Reports.{IsReport}
+use Rattle.bp_machine.specs.SeededHistories.{HasSeededBits}
+use Rattle.bp_machine.specs.Setups.{SetupOf, threads}
+use Rattle.bp_board.specs.Desks.{DeskOf}
+use Rattle.bp_board.specs.Seats.{SeatOf, open_amount}
+use Rattle.bp_board.specs.Taps.{TapOf}
+
+abbrev pub calls_of_seats : List SeatOf → ℕ
+calls_of_seats seats = sum_by (λ s. s.calls) seats
+
+abbrev pub open_seats : List SeatOf → ℕ
+open_seats seats = sum_by (λ s. open_amount s.is_open) seats
+
+-- as many seats as threads, and one of each thread
+pub record AreOnePerThread (n : ℕ) (seats : List SeatOf) : Type 0 where
+  pub many : length seats ≡ n
+  pub each : (i : ℕ) → i < n → count_by (λ s. s.thread == i) seats ≡ 1
+
+-- a desk of this code and setup, and the seats of its threads
+pub record AreOwn (d : DeskOf) (seats : List SeatOf) (code : Flat) (s : SetupOf) : Type 0 where
+  pub code_is : d.code ≡ code
+  pub setup_is : d.setup ≡ s
+  pub one_each : AreOnePerThread (threads s) seats
+
+-- What was taken and what is left are one legal history, with the bits of the seed, which the
+-- report and the seats are of; the tap gives what is left.
+pub record IsGathered
+    (t : Program) (s : SetupOf) (taken : List Call) (seats : List SeatOf) (tap : TapOf) (r : Report)
+    : Type 0 where
+  pub left : List Call
+  pub rest : tap.rest ≡ Some left
+  pub same : tap.taken ≡ taken
+  pub legal : IsLegal t s (taken ++ left)
+  pub seeded : HasSeededBits s (taken ++ left)
+  pub report : IsReport s (taken ++ left) r
+  pub one_each : AreOnePerThread (threads s) seats
+  pub calls : calls_of_seats seats ≡ length (taken ++ left)
+  pub open_are : open_seats seats ≡ r.left_open

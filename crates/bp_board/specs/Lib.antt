@@ -1,0 +1,10 @@
+pub mod Asks
+pub mod DeskCodes
+pub mod Desks
+pub mod Gatherings
+pub mod Kits
+pub mod Rings
+pub mod SeatTurns
+pub mod Seats
+pub mod Taps
+pub mod Turns

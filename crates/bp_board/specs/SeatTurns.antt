@@ -1,0 +1,24 @@
+-- What the seat says of a turn, whatever others do at the desk.
+use Rattle.std.specs.Prelude.{◌≡◌, ◌<◌, ◌≤◌, ℕ, ◌+◌, true, false}
+use Rattle.bp_machine.specs.declared.calls.Reply.{Reply}
+use Rattle.bp_machine.specs.declared.calls.Reply.TheVariants.{Stepped}
+use Rattle.bp_machine.specs.declared.sessions.AskFault.{AskFault}
+use Rattle.bp_machine.specs.declared.sessions.AskFault.TheVariants as fault
+use Rattle.bp_machine.specs.Replies.{is_last}
+use Rattle.bp_board.specs.Seats.{SeatOf}
+
+-- At least one and at most n calls were made. The seat is not open behind a last reply; it is open
+-- behind a step only where all n calls were made.
+pub record IsSeatTurn (seat after : SeatOf) (n : ℕ) (reply : Reply) : Type 0 where
+  pub own : after.thread ≡ seat.thread
+  pub more : seat.calls < after.calls
+  pub most : after.calls ≤ seat.calls + n
+  pub last : is_last reply ≡ true → after.is_open ≡ false
+  pub whole : reply ≡ Stepped → after.is_open ≡ true → after.calls ≡ seat.calls + n
+
+-- Fewer than n calls were made before the refusal, and none where the line was finished.
+pub record IsCutSeatTurn (seat after : SeatOf) (n : ℕ) (f : AskFault) : Type 0 where
+  pub own : after.thread ≡ seat.thread
+  pub some : seat.calls ≤ after.calls
+  pub fewer : after.calls < seat.calls + n
+  pub none : f ≡ fault.Finished → after ≡ seat

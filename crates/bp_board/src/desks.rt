@@ -1,0 +1,165 @@
+//! The desk: the machine, and the end of the ring to which its history is sent.
+ghost use Rattle.std.specs.Prelude.{◌≡◌, ◌≤◌, ◌<◌, ◌⊎◌, ◌↔◌, [], true, None, is_some, IfOk, OnErr, MatchResult};
+ghost use Rattle.bp_tree.specs.Ast.{Program};
+ghost use Rattle.bp_code.specs.StandsFor.{StandsFor};
+ghost use Rattle.bp_machine.specs.Setups.{threads, FitsCode};
+ghost use Rattle.bp_board.specs.declared.limits.TheConstants.{MAX_TURN};
+ghost use Rattle.bp_board.specs.Asks.{IsAsked, IsShut, IsDeskRefusal};
+ghost use Rattle.bp_board.specs.Desks.{IsLegalDesk, IsNewDesk};
+ghost use Rattle.bp_board.specs.Kits.{IsNamed};
+ghost use Rattle.bp_board.specs.Seats.{AreNewSeats};
+ghost use Rattle.bp_board.specs.Turns.{IsTurn, IsCutTurn};
+
+use crate::kits::Kit;
+use crate::ledgers::Calls;
+use crate::seats::Seat;
+use crate::taps::Tap;
+use bp_code::Code;
+use bp_machine::{AskFault, Call, Reply, Session, Setup};
+use rtrb::{Producer, PushError};
+use std::alloc::{AllocError, Global};
+use std::marker::Model;
+use std::sync::ledger::{Book, Ledger};
+
+/// A session of guest threads, whose calls are sent to a ring in the order in which they are made.
+/// Whenever nobody is at work on it, what was sent is a legal history of its program and setup, with
+/// the bits of the setup's seed, and its session stands after it.
+#[derive(Drop)]
+pub struct Desk<C: Calls, O: Ledger> {
+    pub(crate) session: Session,
+    pub(crate) to: Producer<Call>,
+    pub(crate) made: Book<C>,
+    pub(crate) lines: Book<O>,
+}
+
+impl<C: Calls, O: Ledger> Model for Desk<C, O> {
+    ghost use Rattle.std.specs.Prelude.{◌≡◌};
+    ghost use Rattle.rtrb.specs.Ring.{sent};
+    ghost use Rattle.bp_machine.specs.Setups.{threads};
+    ghost use Rattle.bp_board.specs.Desks.{DeskOf, desk_of, IsInBooks};
+    ghost use Rattle.bp_board.specs.Rings.{producer_ring};
+    ghost use Rattle.bp_board.specs.DeskCodes.{coded_desk};
+
+    ghost Value = { DeskOf };
+
+    ghost coded = { coded_desk };
+
+    ghost view = { λ d. desk_of d.session (sent d.to) };
+
+    ghost invariant = { λ d.
+        IsInBooks d.session (sent d.to) d.made.total d.lines.total
+        × (producer_ring d.to ≡ C.ring)
+        × (threads d.session.setup ≡ C.parts)
+        × (threads d.session.setup ≡ O.parts) };
+}
+
+impl<C: Calls, O: Ledger> Desk<C, O> {
+    /// A desk that has sent nothing, an open seat for each thread of the setup, in order, and the
+    /// tap.
+    pub fn open(
+        alloc: Global,
+        kit: Kit,
+        code: &Code,
+        setup: &Setup,
+    ) -> Result<(Desk<C, O>, Vec<Seat<C, O>>, Tap<C>), AllocError>
+        requires named { IsNamed kit C.name C.parts O.name O.parts C.ring }
+        requires threads { kit.threads ≡ threads setup.now }
+        requires fits { FitsCode code.now setup.now }
+        requires seeded { is_some setup.now.seed ≡ true }
+        ensures desk { IfOk result (λ r. IsNewDesk code.now setup.now r.0) }
+        ensures seats { IfOk result (λ r. AreNewSeats (threads setup.now) r.1.items) }
+        ensures tap { IfOk result (λ r. (r.2.taken ≡ []) × (r.2.rest ≡ None)) }
+    {
+        setup.is_in_range();
+        let session = Session::new(alloc, code, setup)?;
+        let Kit {
+            threads,
+            calls,
+            lines,
+            to,
+            from,
+        } = kit;
+        let (made, mut all_made) = calls.open::<C>();
+        let (mut lines, mut all_lines) = lines.open::<O>();
+        lines.add(&mut all_lines, u64::from(threads));
+        let mut seats = Vec::new(alloc);
+        for thread in 0..threads {
+            seats.push(Seat {
+                thread,
+                calls: 0,
+                is_open: true,
+                made: all_made.split_off(1, 0),
+                line: all_lines.split_off(1, 1),
+            })?;
+        }
+        let desk = Desk {
+            session,
+            to,
+            made,
+            lines,
+        };
+        Ok((desk, seats, Tap::new(from)))
+    }
+
+    /// States what a desk is at each moment: its history is a legal one, with the seed's bits.
+    pub fn is_legal(&self)
+        ensures { (t : Program)
+            → StandsFor self.now.code t
+            → IsLegalDesk t self.now }
+    {
+        let _ = &self.session;
+    }
+
+    /// Makes one call of the seat's thread, and sends it. At a refusal nothing is changed, and no
+    /// choice bit is used: where the thread's line is finished, where memory is refused, or where
+    /// the ring is full.
+    pub fn ask(&mut self, seat: &mut Seat<C, O>) -> Result<Reply, AskFault>
+        ensures answer { MatchResult result
+            (IsAsked self.old self.new seat.old seat.new)
+            (IsDeskRefusal self.old seat.old) }
+        ensures finished { (result ≡ Err AskFault.Finished) ↔ IsShut self.old seat.old }
+        ensures same { OnErr result ((self.new ≡ self.old) × (seat.new ≡ seat.old)) }
+        ensures kept { (self.new.code ≡ self.old.code) × (self.new.setup ≡ self.old.setup) }
+    {
+        self.session.code().is_of_a_program();
+        self.session.setup().is_in_range();
+        if !seat.is_open {
+            return Err(AskFault::Finished);
+        }
+        let call = self.session.prepare(seat.thread)?;
+        if let Err(PushError::Full(_)) = self.to.push(call) {
+            return Err(AskFault::Busy);
+        }
+        self.session.commit(&call);
+        self.made.add(&mut seat.made, 1);
+        self.made.audit(&mut seat.made);
+        seat.calls += 1;
+        if self.session.is_finished(seat.thread) {
+            self.lines.sub(&mut seat.line, 1);
+            seat.is_open = false;
+        }
+        Ok(call.reply)
+    }
+
+    /// Makes calls of the seat's thread until there were `n`, one had another reply than Stepped,
+    /// its line is finished, or one is refused. It answers the last reply, or the refusal; the calls
+    /// before a refusal stand.
+    pub fn turn(&mut self, seat: &mut Seat<C, O>, n: u32) -> Result<Reply, AskFault>
+        requires some { 0 < n }
+        requires few { n ≤ MAX_TURN }
+        ensures answer { MatchResult result
+            (IsTurn self.old self.new seat.old seat.new n)
+            (IsCutTurn self.old self.new seat.old seat.new n) }
+        ensures finished { (result ≡ Err AskFault.Finished) ↔ IsShut self.old seat.old }
+        ensures kept { (self.new.code ≡ self.old.code) × (self.new.setup ≡ self.old.setup) }
+    {
+        let mut last = self.ask(seat)?;
+        for _made in 1..n {
+            if last != Reply::Stepped || !seat.is_open() {
+                return Ok(last);
+            }
+            last = self.ask(seat)?;
+        }
+        Ok(last)
+    }
+}

@@ -1,0 +1,54 @@
+//! The seats of guest threads at a board.
+ghost use Rattle.std.specs.Prelude.{◌≡◌};
+
+use crate::ledgers::Calls;
+use std::marker::Model;
+use std::sync::ledger::{Ledger, Share};
+
+/// The seat of a guest thread: who holds it makes the calls of that thread. It has shares of the
+/// two ledgers of its board.
+#[derive(Drop)]
+pub struct Seat<C: Calls, O: Ledger> {
+    pub(crate) thread: u32,
+    pub(crate) calls: u64,
+    pub(crate) is_open: bool,
+    pub(crate) made: Share<C>,
+    pub(crate) line: Share<O>,
+}
+
+impl<C: Calls, O: Ledger> Model for Seat<C, O> {
+    ghost use Rattle.std.specs.Prelude.{◌≡◌, ◌<◌};
+    ghost use Rattle.bp_board.specs.Seats.{SeatOf, seat_of, open_amount, HasShares};
+
+    ghost Value = { SeatOf };
+
+    ghost view = { λ s. seat_of s.thread s.calls s.is_open };
+
+    ghost invariant = { λ s.
+        let seat = seat_of s.thread s.calls s.is_open in
+        (s.thread < C.parts)
+        × HasShares s.made.parts s.made.amount s.line.parts s.line.amount seat };
+}
+
+impl<C: Calls, O: Ledger> Seat<C, O> {
+    /// The number of the thread, from 0.
+    pub fn thread(&self) -> u32
+        ensures { result ≡ self.now.thread }
+    {
+        self.thread
+    }
+
+    /// How many calls were made from this seat.
+    pub fn calls(&self) -> u64
+        ensures { result ≡ self.now.calls }
+    {
+        self.calls
+    }
+
+    /// Whether the thread may go on, as far as the seat knows.
+    pub fn is_open(&self) -> bool
+        ensures { result ≡ self.now.is_open }
+    {
+        self.is_open
+    }
+}
