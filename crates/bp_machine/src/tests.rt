@@ -143,15 +143,20 @@ fn is_new(session: &Session, code: &Code, setup: &Setup) -> bool {
     session.code() == code && session.setup() == setup && !session.is_finished(0)
 }
 
-#[test]
-fn is_of_its_code_and_setup(rt: HostRuntime) -> Result<(), Fail> {
-    let alloc = rt.alloc();
+/// Whether a session of one call of one thread is of its code and setup, and its thread is finished
+/// by that call.
+fn is_finished_by_a_call(alloc: Global) -> Result<bool, Fail> {
     let code = code_of(alloc, ASSIGNMENT)?;
     let setup = Setup::new(alloc, &code, &mains(alloc, 1)?, &[true], 1, 1, None)?;
     let mut session = Session::new(alloc, &code, &setup)?;
-    assert!(rt; is_new(&session, &code, &setup));
-    assert!(rt; session.ask_with(0, false).is_ok());
-    assert!(rt; !is_new(&session, &code, &setup));
+    let before = is_new(&session, &code, &setup);
+    session.ask_with(0, false)?;
+    Ok(before && !is_new(&session, &code, &setup))
+}
+
+#[test]
+fn is_of_its_code_and_setup(rt: HostRuntime) -> Result<(), Fail> {
+    assert!(rt; is_finished_by_a_call(rt.alloc())?);
     Ok(())
 }
 
