@@ -42,8 +42,8 @@ MayLackMemory d seat =
     → StandsFor d.code t
     → IsAskRefusal t d.setup d.history seat.thread None fault.Memory
 
--- Why a call is refused: the line is finished, or the seat says so; else memory may be refused where
--- its step is a call; and the ring may be full. Nothing is said of when it is.
+-- Why a call is refused: the line is finished, or the seat says so; else memory may be refused
+-- where its step is a call; and the ring may be full. Nothing is said of when it is.
 abbrev pub IsDeskRefusal : DeskOf → SeatOf → AskFault → Type 0
 IsDeskRefusal d seat fault.Finished = IsShut d seat
 IsDeskRefusal d seat fault.Memory = IsOpen d seat × MayLackMemory d seat

@@ -24,8 +24,8 @@ pub struct Board<C: Calls, O: Ledger> {
 }
 
 impl<C: Calls, O: Ledger> Board<C, O> {
-    /// A board whose desk has sent nothing, an open seat for each thread of the setup, in order, and
-    /// the tap.
+    /// A board whose desk has sent nothing, an open seat for each thread of the setup, in order,
+    /// and the tap.
     pub fn open(
         alloc: Global,
         kit: Kit,

@@ -22,8 +22,8 @@ use std::marker::Model;
 use std::sync::ledger::{Book, Ledger};
 
 /// A session of guest threads, whose calls are sent to a ring in the order in which they are made.
-/// Whenever nobody is at work on it, what was sent is a legal history of its program and setup, with
-/// the bits of the setup's seed, and its session stands after it.
+/// Whenever nobody is at work on it, what was sent is a legal history of its program and setup,
+/// with the bits of the setup's seed, and its session stands after it.
 #[derive(Drop)]
 pub struct Desk<C: Calls, O: Ledger> {
     pub(crate) session: Session,
@@ -142,8 +142,8 @@ impl<C: Calls, O: Ledger> Desk<C, O> {
     }
 
     /// Makes calls of the seat's thread until there were `n`, one had another reply than Stepped,
-    /// its line is finished, or one is refused. It answers the last reply, or the refusal; the calls
-    /// before a refusal stand.
+    /// its line is finished, or one is refused. It answers the last reply, or the refusal; the
+    /// calls before a refusal stand.
     pub fn turn(&mut self, seat: &mut Seat<C, O>, n: u32) -> Result<Reply, AskFault>
         requires some { 0 < n }
         requires few { n ≤ MAX_TURN }

@@ -155,9 +155,10 @@ fn joined<C: Calls, O: Ledger>(
     Ok(Gathered { tap, report })
 }
 
-/// Gathers a board once its workers are done: what was taken from the tap is a front of the history,
-/// and the tap that is given back has the rest. It takes no memory and waits for nobody. Where the
-/// desk has another code or setup, or the seats are not one for each thread, all is dropped.
+/// Gathers a board once its workers are done: what was taken from the tap is a front of the
+/// history, and the tap that is given back has the rest. It takes no memory and waits for nobody.
+/// Where the desk has another code or setup, or the seats are not one for each thread, all is
+/// dropped.
 pub fn gather<C: Calls, O: Ledger>(
     board: Board<C, O>,
     seats: Vec<Seat<C, O>>,
