@@ -13,6 +13,7 @@ pub mod InstrEffects
 pub mod Instructions
 pub mod Kinds
 pub mod Known
+pub mod LawfulTexts
 pub mod Layouts
 pub mod Listing
 pub mod Moves

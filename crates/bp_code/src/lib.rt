@@ -21,6 +21,7 @@ mod programs;
 mod sizes;
 mod slots;
 pub mod stores;
+pub mod texts;
 mod translate;
 pub mod writing;
 
@@ -32,6 +33,7 @@ pub use laws::steps_alike;
 pub use listing::list;
 pub use programs::compile;
 pub use stores::Store;
+pub use texts::{CodeFault, ProgramFault, code_of, lawful_program};
 pub use writing::{WriteFault, put, put_each};
 
 #[cfg(test)]

@@ -11,7 +11,7 @@ use Rattle.bp_commands.specs.DriveInputs.{IsProgramDriven, IsDriveRefusal}
 use Rattle.bp_commands.specs.Faults.{drive_refusal_of_pair}
 use Rattle.bp_commands.specs.declared.pairs.PairFault.{PairFault}
 use Rattle.bp_commands.specs.declared.pairs.PairFault.TheVariants as pair
-use Rattle.bp_commands.specs.declared.programs.ProgramFault.TheVariants as program
+use Rattle.bp_code.specs.declared.texts.ProgramFault.TheVariants as program
 use Rattle.bp_commands.specs.declared.drive_refusals.DriveRefusal.{DriveRefusal}
 use Rattle.bp_commands.specs.declared.drive_refusals.DriveRefusal.TheVariants as refusal
 

@@ -16,9 +16,10 @@ use Rattle.bp_commands.specs.declared.trace_refusals.TraceRefusal.{TraceRefusal}
 use Rattle.bp_commands.specs.declared.trace_refusals.TraceRefusal.TheVariants as trace
 use Rattle.bp_commands.specs.declared.file_faults.FileFault.{FileFault}
 use Rattle.bp_commands.specs.declared.file_faults.FileFault.TheVariants as file
-use Rattle.bp_commands.specs.declared.programs.ProgramFault.{ProgramFault}
-use Rattle.bp_commands.specs.declared.programs.ProgramFault.TheVariants.{Read, Check}
-use Rattle.bp_commands.specs.Faults.{drive_refusal_number, file_fault_number, program_fault_number, trace_refusal_number, drive_refusal_place, file_fault_place, program_fault_place, trace_refusal_place, trace_refusal_wanted}
+use Rattle.bp_code.specs.declared.texts.ProgramFault.{ProgramFault}
+use Rattle.bp_code.specs.declared.texts.ProgramFault.TheVariants.{Read, Check}
+use Rattle.bp_code.specs.LawfulTexts.{program_fault_number, program_fault_place}
+use Rattle.bp_commands.specs.Faults.{drive_refusal_number, file_fault_number, trace_refusal_number, drive_refusal_place, file_fault_place, trace_refusal_place, trace_refusal_wanted}
 use Rattle.bp_commands.specs.FaultLines.{IsReportable}
 
 abbrev IsDriveReportable : DriveRefusal → Type 0

@@ -6,11 +6,11 @@ use Rattle.bp_machine.specs.Setups.{SetupOf, setup_fault}
 use Rattle.bp_trace.specs.Drives.{IsPlayed, IsRefusal}
 use Rattle.bp_trace.specs.declared.faults.DriveFault.{DriveFault}
 use Rattle.bp_commands.specs.Drives.{OptionsOf, IsTextDriven, IsTextRefusal, IsScheduleRefused}
-use Rattle.bp_commands.specs.Programs.{IsProgramCode, IsCodeRefusal}
+use Rattle.bp_code.specs.LawfulTexts.{IsProgramCode, IsCodeRefusal}
 use Rattle.bp_commands.specs.SetupsUnderOptions.{IsSetupUnder}
 use Rattle.bp_commands.specs.Faults.{drive_refusal_of_code}
-use Rattle.bp_commands.specs.declared.programs.CodeFault.{CodeFault}
-use Rattle.bp_commands.specs.declared.programs.CodeFault.TheVariants as code
+use Rattle.bp_code.specs.declared.texts.CodeFault.{CodeFault}
+use Rattle.bp_code.specs.declared.texts.CodeFault.TheVariants as code
 
 module _ (o : OptionsOf) (text schedule : List ℕ) (old new : Option (List ℕ)) (c : Flat) (s : SetupOf) (code : IsProgramCode text c) (setup : IsSetupUnder o code.program c s) where
   pub text_driven : (r : Report) → IsPlayed code.program s schedule old new r → IsTextDriven o text schedule old new r

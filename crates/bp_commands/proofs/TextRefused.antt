@@ -4,11 +4,11 @@ use Rattle.std.specs.Prelude.{IsErrAnd, MatchResult}
 use Rattle.bp_syntax.specs.declared.limits.TheConstants.{TEXT_LIMIT}
 use Rattle.bp_syntax.specs.declared.faults.ReadFault.TheVariants as read
 use Rattle.bp_commands.specs.Inputs.{Streams, IsInput}
-use Rattle.bp_commands.specs.Programs.{IsProgramRefusal}
+use Rattle.bp_code.specs.LawfulTexts.{IsProgramRefusal}
 use Rattle.bp_tree.specs.Ast.{Program as Tree}
 use Rattle.bp_commands.specs.ProgramInputs.{IsProgramWritten, IsTextRefused, IsFileRefusal}
-use Rattle.bp_commands.specs.declared.programs.ProgramFault.{ProgramFault}
-use Rattle.bp_commands.specs.declared.programs.ProgramFault.TheVariants.{Read, Check}
+use Rattle.bp_code.specs.declared.texts.ProgramFault.{ProgramFault}
+use Rattle.bp_code.specs.declared.texts.ProgramFault.TheVariants.{Read, Check}
 use Rattle.bp_commands.specs.declared.file_faults.FileFault.{FileFault}
 use Rattle.bp_commands.specs.declared.file_faults.FileFault.TheVariants.{Program}
 

@@ -16,7 +16,7 @@ use Rattle.bp_commands.specs.TraceInputs.{IsTraceWritten, IsTraceRefusal}
 use Rattle.bp_commands.specs.Faults.{trace_refusal_of_pair}
 use Rattle.bp_commands.specs.declared.pairs.PairFault.{PairFault}
 use Rattle.bp_commands.specs.declared.pairs.PairFault.TheVariants as pair
-use Rattle.bp_commands.specs.declared.programs.ProgramFault.TheVariants as program
+use Rattle.bp_code.specs.declared.texts.ProgramFault.TheVariants as program
 use Rattle.bp_commands.specs.declared.trace_refusals.TraceRefusal.{TraceRefusal}
 use Rattle.bp_commands.specs.declared.trace_refusals.TraceRefusal.TheVariants as refusal
 

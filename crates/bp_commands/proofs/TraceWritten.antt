@@ -14,11 +14,11 @@ use Rattle.bp_trace.specs.Replayed.{row_of, IsReplayed}
 use Rattle.bp_trace.specs.Replays.{IsReplayRefusal}
 use Rattle.bp_trace.specs.Migrations.{IsMigrated, IsMigrateRefusal}
 use Rattle.bp_commands.specs.ReplayLines.{shown_text}
-use Rattle.bp_commands.specs.Programs.{IsProgramCode, IsCodeRefusal}
+use Rattle.bp_code.specs.LawfulTexts.{IsProgramCode, IsCodeRefusal}
 use Rattle.bp_commands.specs.Faults.{trace_refusal_of_code, trace_refusal_of_migration}
 use Rattle.bp_commands.specs.TraceTexts.{replay_of, migration_of, IsTraceOf, IsTraceRefused, IsTextWritten, IsTextCutShort, IsTraceTextRefusal}
-use Rattle.bp_commands.specs.declared.programs.CodeFault.{CodeFault}
-use Rattle.bp_commands.specs.declared.programs.CodeFault.TheVariants as code
+use Rattle.bp_code.specs.declared.texts.CodeFault.{CodeFault}
+use Rattle.bp_code.specs.declared.texts.CodeFault.TheVariants as code
 
 -- a text without code has no trace
 pub trace_without_code : (text trace : List ℕ) (old : Option (List ℕ)) (text_of : Program → SetupOf → List Call → List ℕ) (f : CodeFault) → IsCodeRefusal text f

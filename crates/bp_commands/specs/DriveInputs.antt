@@ -7,7 +7,7 @@ use Rattle.bp_commands.specs.Pairs.{PairInputs, HasPair, IsPairRefusal}
 use Rattle.bp_commands.specs.Drives.{OptionsOf, IsTextDriven, IsTextRefusal}
 use Rattle.bp_commands.specs.declared.pairs.PairFault.{PairFault}
 use Rattle.bp_commands.specs.declared.pairs.PairFault.TheVariants as pair
-use Rattle.bp_commands.specs.declared.programs.ProgramFault.TheVariants as program
+use Rattle.bp_code.specs.declared.texts.ProgramFault.TheVariants as program
 use Rattle.bp_commands.specs.declared.drive_refusals.DriveRefusal.{DriveRefusal}
 use Rattle.bp_commands.specs.declared.drive_refusals.DriveRefusal.TheVariants as refusal
 

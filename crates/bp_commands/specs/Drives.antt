@@ -6,9 +6,9 @@ use Rattle.bp_machine.specs.declared.setups.SetupFault.{SetupFault}
 use Rattle.bp_machine.specs.Setups.{SetupOf, setup_of, setup_fault, IsSetupRefusal}
 use Rattle.bp_trace.specs.declared.faults.DriveFault.{DriveFault}
 use Rattle.bp_trace.specs.Drives as drives
-use Rattle.bp_commands.specs.Programs.{IsCodeRefusal, IsLawfulText}
+use Rattle.bp_code.specs.LawfulTexts.{IsCodeRefusal, IsLawfulText}
 use Rattle.bp_commands.specs.declared.limits.TheConstants.{DEFAULT_CONTEXTS, DEFAULT_CALLS}
-use Rattle.bp_commands.specs.declared.programs.CodeFault.TheVariants as code
+use Rattle.bp_code.specs.declared.texts.CodeFault.TheVariants as code
 use Rattle.bp_commands.specs.declared.drive_refusals.DriveRefusal.{DriveRefusal}
 use Rattle.bp_commands.specs.declared.drive_refusals.DriveRefusal.TheVariants as refusal
 

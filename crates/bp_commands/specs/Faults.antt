@@ -1,7 +1,6 @@
 -- The numbers of the commands' faults, and the places that they name.
 use Rattle.std.specs.Prelude.{ℕ, Option, None, Some}
-use Rattle.bp_syntax.specs.Faults as reads
-use Rattle.bp_check.specs.Faults as checks
+use Rattle.bp_code.specs.LawfulTexts.{program_fault_number, program_fault_place}
 use Rattle.bp_machine.specs.Setups as setups
 use Rattle.bp_machine.specs.declared.calls.Reply.{Reply}
 use Rattle.bp_trace.specs.Drives as drives
@@ -14,20 +13,15 @@ use Rattle.bp_commands.specs.declared.inputs.InputFault.{InputFault}
 use Rattle.bp_commands.specs.declared.inputs.InputFault.TheVariants as input
 use Rattle.bp_commands.specs.declared.pairs.PairFault.{PairFault}
 use Rattle.bp_commands.specs.declared.pairs.PairFault.TheVariants as pair
-use Rattle.bp_commands.specs.declared.programs.CodeFault.{CodeFault}
-use Rattle.bp_commands.specs.declared.programs.CodeFault.TheVariants as code
+use Rattle.bp_code.specs.declared.texts.CodeFault.{CodeFault}
+use Rattle.bp_code.specs.declared.texts.CodeFault.TheVariants as code
 use Rattle.bp_commands.specs.declared.drive_refusals.DriveRefusal.{DriveRefusal}
 use Rattle.bp_commands.specs.declared.drive_refusals.DriveRefusal.TheVariants.{Device, TooLong, Program, Setup, Drive, Memory}
 use Rattle.bp_commands.specs.declared.trace_refusals.TraceRefusal.{TraceRefusal}
 use Rattle.bp_commands.specs.declared.trace_refusals.TraceRefusal.TheVariants as trace
 use Rattle.bp_commands.specs.declared.file_faults.FileFault.{FileFault}
 use Rattle.bp_commands.specs.declared.file_faults.FileFault.TheVariants as file
-use Rattle.bp_commands.specs.declared.programs.ProgramFault.{ProgramFault}
-use Rattle.bp_commands.specs.declared.programs.ProgramFault.TheVariants.{Read, Check}
-
-abbrev pub program_fault_number : ProgramFault → ℕ
-program_fault_number (Read f) = reads.read_fault_number f
-program_fault_number (Check f at) = checks.check_fault_number f
+use Rattle.bp_code.specs.declared.texts.ProgramFault.TheVariants.{Read}
 
 abbrev pub drive_refusal_number : DriveRefusal → ℕ
 drive_refusal_number Device = 54
@@ -49,11 +43,6 @@ file_fault_number file.Device = 54
 file_fault_number (file.Program f) = program_fault_number f
 file_fault_number file.Write = 51
 file_fault_number file.Memory = 7
-
--- a byte of the text
-abbrev pub program_fault_place : ProgramFault → Option ℕ
-program_fault_place (Read f) = reads.read_fault_place f
-program_fault_place (Check f at) = Some at
 
 -- a byte of the text, a thread, or a line of the schedule
 abbrev pub drive_refusal_place : DriveRefusal → Option ℕ

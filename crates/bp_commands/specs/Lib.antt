@@ -11,7 +11,6 @@ pub mod Inputs
 pub mod Listings
 pub mod Pairs
 pub mod ProgramInputs
-pub mod Programs
 pub mod ReplayLines
 pub mod SetupsUnderOptions
 pub mod Statuses

@@ -5,9 +5,9 @@ use Rattle.bp_syntax.specs.declared.limits.TheConstants.{TEXT_LIMIT}
 use Rattle.bp_syntax.specs.declared.faults.ReadFault.TheVariants.{TooLong}
 use Rattle.bp_code.specs.Writing.{AppendsAll, AppendsPart}
 use Rattle.bp_commands.specs.Inputs.{Streams, IsInput, IsTooLong, TookAtMost}
-use Rattle.bp_commands.specs.Programs.{IsLawfulText, IsProgramRefusal}
-use Rattle.bp_commands.specs.declared.programs.ProgramFault.{ProgramFault}
-use Rattle.bp_commands.specs.declared.programs.ProgramFault.TheVariants.{Read}
+use Rattle.bp_code.specs.LawfulTexts.{IsLawfulText, IsProgramRefusal}
+use Rattle.bp_code.specs.declared.texts.ProgramFault.{ProgramFault}
+use Rattle.bp_code.specs.declared.texts.ProgramFault.TheVariants.{Read}
 use Rattle.bp_commands.specs.declared.file_faults.FileFault.{FileFault}
 use Rattle.bp_commands.specs.declared.file_faults.FileFault.TheVariants as fault
 

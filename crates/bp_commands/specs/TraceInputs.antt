@@ -12,7 +12,7 @@ use Rattle.bp_commands.specs.Pairs.{PairInputs, HasPair, IsPairRefusal}
 use Rattle.bp_commands.specs.TraceTexts.{IsTextWritten, IsTraceTextRefusal}
 use Rattle.bp_commands.specs.declared.pairs.PairFault.{PairFault}
 use Rattle.bp_commands.specs.declared.pairs.PairFault.TheVariants as pair
-use Rattle.bp_commands.specs.declared.programs.ProgramFault.TheVariants as program
+use Rattle.bp_code.specs.declared.texts.ProgramFault.TheVariants as program
 use Rattle.bp_commands.specs.declared.trace_refusals.TraceRefusal.{TraceRefusal}
 use Rattle.bp_commands.specs.declared.trace_refusals.TraceRefusal.TheVariants as refusal
 

@@ -11,9 +11,9 @@ use Rattle.bp_trace.specs.declared.replay_faults.ReplayFault.{ReplayFault}
 use Rattle.bp_trace.specs.declared.versions.Version.{Version}
 use Rattle.bp_trace.specs.Replays.{IsTrace, IsReplayRefusal}
 use Rattle.bp_trace.specs.TraceText.{trace_text_2}
-use Rattle.bp_commands.specs.Programs.{IsCodeRefusal, IsLawfulText}
+use Rattle.bp_code.specs.LawfulTexts.{IsCodeRefusal, IsLawfulText}
 use Rattle.bp_commands.specs.ReplayLines.{shown_text}
-use Rattle.bp_commands.specs.declared.programs.CodeFault.TheVariants as code
+use Rattle.bp_code.specs.declared.texts.CodeFault.TheVariants as code
 use Rattle.bp_commands.specs.declared.trace_refusals.TraceRefusal.{TraceRefusal}
 use Rattle.bp_commands.specs.declared.trace_refusals.TraceRefusal.TheVariants as refusal
 

@@ -5,7 +5,7 @@ ghost use Rattle.bp_commands.specs.Listings.{IsListingWritten, IsListingRefusal}
 
 use crate::file_faults::FileFault;
 use crate::inputs::read_whole;
-use crate::programs::lawful_program;
+use bp_code::lawful_program;
 use bp_code::{compile, list};
 use bp_syntax::limits::TEXT_LIMIT;
 use std::alloc::Global;

@@ -15,7 +15,7 @@ ghost use Rattle.bp_commands.specs.SetupsUnderOptions.{IsSetupUnder};
 use crate::drive_options::DriveOptions;
 use crate::drive_refusals::DriveRefusal;
 use crate::pairs::read_pair;
-use crate::programs::code_of;
+use bp_code::code_of;
 use bp_check::limits::MAX_GLOBALS;
 use bp_code::Code;
 use bp_machine::{Report, Setup, SetupFault};

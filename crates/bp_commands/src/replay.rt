@@ -8,7 +8,7 @@ ghost use Rattle.bp_commands.specs.TraceTexts.{replay_of, IsTextWritten, IsTrace
 ghost use Rattle.bp_commands.specs.TraceInputs.{IsTraceWritten, IsTraceRefusal};
 
 use crate::pairs::read_pair;
-use crate::programs::code_of;
+use bp_code::code_of;
 use crate::replay_lines::show_replay;
 use crate::trace_refusals::TraceRefusal;
 use bp_machine::Report;

@@ -1,6 +1,6 @@
 //! Why a trace is not replayed or migrated.
 use crate::pairs::PairFault;
-use crate::programs::{CodeFault, ProgramFault};
+use bp_code::{CodeFault, ProgramFault};
 use bp_code::WriteFault;
 use bp_machine::Reply;
 use bp_syntax::ReadFault;

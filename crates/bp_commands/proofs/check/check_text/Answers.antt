@@ -1,6 +1,6 @@
 use Rattle.std.proofs.Common.{subst}
 use Rattle.bp_commands.specs.Checks.{check_line}
-use Rattle.bp_commands.specs.Programs.{IsProgramRefusal}
+use Rattle.bp_code.specs.LawfulTexts.{IsProgramRefusal}
 use Rattle.std.proofs.lemmas.Result.{err_from_is_err_and}
 use Rattle.bp_commands.proofs.InputRefused.{file_refused}
 use Rattle.bp_commands.proofs.TextRefused.{program_refused}

@@ -1,9 +1,10 @@
 //! The lawful program of a text, and its code.
 ghost use Rattle.std.specs.Prelude.{MatchResult};
-ghost use Rattle.bp_commands.specs.Programs.{IsCodeRefusal, IsLawfulText, IsProgramCode, IsProgramRefusal};
+ghost use Rattle.bp_code.specs.LawfulTexts.{IsCodeRefusal, IsLawfulText, IsProgramCode, IsProgramRefusal};
 
+use crate::code::Code;
+use crate::programs::compile;
 use bp_check::{CheckFault, Checked, check};
-use bp_code::{Code, compile};
 use bp_syntax::{ReadFault, read};
 use std::alloc::{AllocError, Global};
 use thiserror::Error;
@@ -21,7 +22,7 @@ pub enum ProgramFault {
 
 impl ProgramFault {
     ghost use Rattle.std.specs.Prelude.{◌≡◌};
-    ghost use Rattle.bp_commands.specs.Faults.{program_fault_number, program_fault_place};
+    ghost use Rattle.bp_code.specs.LawfulTexts.{program_fault_number, program_fault_place};
 
     /// The number by which users know the fault.
     pub fn number(&self) -> u32
@@ -57,7 +58,7 @@ pub fn lawful_program(alloc: Global, text: &[u8]) -> Result<Checked, ProgramFaul
 
 /// Why a text has no code.
 #[derive(Drop)]
-pub(crate) enum CodeFault {
+pub enum CodeFault {
     /// It is not that of a lawful program.
     Program(ProgramFault),
     /// There was not enough memory for the code.
@@ -65,7 +66,7 @@ pub(crate) enum CodeFault {
 }
 
 impl From<ProgramFault> for CodeFault {
-    ghost use Rattle.bp_commands.specs.declared.programs.CodeFault.{CodeFault};
+    ghost use Rattle.bp_code.specs.declared.texts.CodeFault.{CodeFault};
     ghost use Rattle.std.specs.Prelude.{◌≡◌};
 
     ghost from_gives = { λ f e. e ≡ CodeFault.Program f };
@@ -76,7 +77,7 @@ impl From<ProgramFault> for CodeFault {
 }
 
 impl From<AllocError> for CodeFault {
-    ghost use Rattle.bp_commands.specs.declared.programs.CodeFault.{CodeFault};
+    ghost use Rattle.bp_code.specs.declared.texts.CodeFault.{CodeFault};
     ghost use Rattle.std.specs.Prelude.{◌≡◌};
 
     ghost from_gives = { λ _ e. e ≡ CodeFault.Memory };
@@ -87,7 +88,7 @@ impl From<AllocError> for CodeFault {
 }
 
 /// The code of the lawful program of a text.
-pub(crate) fn code_of(alloc: Global, text: &[u8]) -> Result<Code, CodeFault>
+pub fn code_of(alloc: Global, text: &[u8]) -> Result<Code, CodeFault>
     ensures { MatchResult result (IsProgramCode text.now) (IsCodeRefusal text.now) }
 {
     let checked = lawful_program(alloc, text)?;

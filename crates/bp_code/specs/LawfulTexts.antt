@@ -1,15 +1,16 @@
 -- The lawful program of a text and its code, and why a text has none.
-use Rattle.std.specs.Prelude.{ℕ, List}
+use Rattle.std.specs.Prelude.{ℕ, List, Option, Some}
 use Rattle.bp_tree.specs.Ast.{Program}
 use Rattle.bp_code.specs.Flat.{Flat}
 use Rattle.bp_code.specs.StandsFor.{StandsFor}
 use Rattle.bp_syntax.specs.Texts.{IsTextOf, IsRefusal as IsReadRefusal}
-use Rattle.bp_check.specs.Faults.{IsLawful}
+use Rattle.bp_syntax.specs.Faults.{read_fault_number, read_fault_place}
+use Rattle.bp_check.specs.Faults.{IsLawful, check_fault_number}
 use Rattle.bp_check.specs.Refusals.{IsRefusal}
-use Rattle.bp_commands.specs.declared.programs.ProgramFault.{ProgramFault}
-use Rattle.bp_commands.specs.declared.programs.ProgramFault.TheVariants.{Read, Check}
-use Rattle.bp_commands.specs.declared.programs.CodeFault.{CodeFault}
-use Rattle.bp_commands.specs.declared.programs.CodeFault.TheVariants as code
+use Rattle.bp_code.specs.declared.texts.ProgramFault.{ProgramFault}
+use Rattle.bp_code.specs.declared.texts.ProgramFault.TheVariants.{Read, Check}
+use Rattle.bp_code.specs.declared.texts.CodeFault.{CodeFault}
+use Rattle.bp_code.specs.declared.texts.CodeFault.TheVariants as code
 
 -- the text is that of a lawful program
 pub record IsLawfulText (text : List ℕ) (t : Program) : Type 0 where
@@ -31,3 +32,13 @@ pub record IsProgramCode (text : List ℕ) (c : Flat) : Type 0 where
 abbrev pub IsCodeRefusal : List ℕ → CodeFault → Type 0
 IsCodeRefusal text (code.Program f) = IsProgramRefusal text f
 IsCodeRefusal text code.Memory = (t : Program) × IsLawfulText text t
+
+-- the number by which users know the fault of a text
+abbrev pub program_fault_number : ProgramFault → ℕ
+program_fault_number (Read f) = read_fault_number f
+program_fault_number (Check f at) = check_fault_number f
+
+-- the byte of the text that the fault names
+abbrev pub program_fault_place : ProgramFault → Option ℕ
+program_fault_place (Read f) = read_fault_place f
+program_fault_place (Check f at) = Some at
