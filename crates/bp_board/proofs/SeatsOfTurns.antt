@@ -5,13 +5,23 @@ use Rattle.bp_machine.specs.declared.calls.Reply.{Reply}
 use Rattle.bp_machine.specs.declared.calls.Reply.TheVariants.{Stepped}
 use Rattle.bp_machine.specs.declared.sessions.AskFault.{AskFault}
 use Rattle.bp_machine.specs.declared.sessions.AskFault.TheVariants.{Finished}
+use Rattle.bp_machine.specs.declared.sessions.AskFault.TheVariants as fault
 use Rattle.bp_machine.specs.Histories.{is_finished}
 use Rattle.bp_machine.specs.Replies.{is_last}
 use Rattle.bp_machine.proofs.OpenLines.{last_finishes}
 use Rattle.bp_board.specs.Desks.{DeskOf}
 use Rattle.bp_board.specs.Seats.{SeatOf}
+use Rattle.bp_board.specs.Asks.{IsDeskRefusal}
 use Rattle.bp_board.specs.Turns.{IsTurn, IsCutTurn}
-use Rattle.bp_board.specs.SeatTurns.{IsSeatTurn, IsCutSeatTurn}
+use Rattle.bp_board.specs.SeatTurns.{IsSeatTurn, IsCutSeatTurn, IsDeskFault}
+
+desk_fault : (d : DeskOf) (seat : SeatOf) (f : AskFault) → IsDeskRefusal d seat f → IsDeskFault f
+desk_fault d seat fault.Finished refused = tt
+desk_fault d seat fault.Memory refused = tt
+desk_fault d seat fault.Busy refused = tt
+desk_fault d seat fault.NoThread refused = absurd refused
+desk_fault d seat fault.Seeded refused = absurd refused
+desk_fault d seat fault.Unseeded refused = absurd refused
 
 module _ (old new : DeskOf) (seat after : SeatOf) (n : ℕ) where
   pub seat_stays : (r : Result Reply AskFault) → MatchResult r (IsTurn old new seat after n) (IsCutTurn old new seat after n) → r ≡ Err Finished → after ≡ seat
@@ -52,4 +62,5 @@ module _ (old new : DeskOf) (seat after : SeatOf) (n : ℕ) where
         some = omega (arith, counted);
         fewer = omega (arith, counted, fewer);
         none = turn.none;
+        why = desk_fault new after f turn.refused;
       }

@@ -7,6 +7,13 @@ use Rattle.bp_machine.specs.declared.sessions.AskFault.TheVariants as fault
 use Rattle.bp_machine.specs.Replies.{is_last}
 use Rattle.bp_board.specs.Seats.{SeatOf}
 
+-- a desk refuses a call for these reasons alone
+abbrev pub IsDeskFault : AskFault → Type 0
+IsDeskFault fault.Finished = ⊤
+IsDeskFault fault.Memory = ⊤
+IsDeskFault fault.Busy = ⊤
+IsDeskFault f = ⊥
+
 -- At least one and at most n calls were made. The seat is not open behind a last reply; it is open
 -- behind a step only where all n calls were made.
 pub record IsSeatTurn (seat after : SeatOf) (n : ℕ) (reply : Reply) : Type 0 where
@@ -22,3 +29,4 @@ pub record IsCutSeatTurn (seat after : SeatOf) (n : ℕ) (f : AskFault) : Type 0
   pub some : seat.calls ≤ after.calls
   pub fewer : after.calls < seat.calls + n
   pub none : f ≡ fault.Finished → after ≡ seat
+  pub why : IsDeskFault f

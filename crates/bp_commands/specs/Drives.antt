@@ -1,9 +1,9 @@
 -- What a schedule drives the program of a text to under options, and why it is refused.
-use Rattle.std.specs.Prelude.{◌≡◌, ℕ, Bool, false, List, [], ◌∷◌, Option, None, Some, length, codes, replicate}
+use Rattle.std.specs.Prelude.{◌≡◌, ℕ, Bool, List, [], ◌∷◌, Option, None, codes}
 use Rattle.bp_tree.specs.Ast.{Program}
 use Rattle.bp_machine.specs.declared.reports.Report.{Report}
 use Rattle.bp_machine.specs.declared.setups.SetupFault.{SetupFault}
-use Rattle.bp_machine.specs.Setups.{SetupOf, setup_of, setup_fault, IsSetupRefusal}
+use Rattle.bp_machine.specs.Setups.{SetupOf, setup_or_zeros, setup_fault, IsSetupRefusal}
 use Rattle.bp_trace.specs.declared.faults.DriveFault.{DriveFault}
 use Rattle.bp_trace.specs.Drives as drives
 use Rattle.bp_code.specs.LawfulTexts.{IsCodeRefusal, IsLawfulText}
@@ -32,15 +32,9 @@ options_of entries init contexts calls = record {
 abbrev pub defaults : OptionsOf
 defaults = options_of (codes "main" ∷ []) None DEFAULT_CONTEXTS DEFAULT_CALLS
 
--- the bits of so many globals: where none are given all are 0
-abbrev pub initial_bits : Option (List Bool) → ℕ → List Bool
-initial_bits None globals = replicate globals false
-initial_bits (Some bits) globals = bits
-
 -- the setup of a program under the options
 abbrev pub setup_under : OptionsOf → Program → SetupOf
-setup_under o t =
-    setup_of o.entries (initial_bits o.init (length t.globals)) o.contexts o.calls None
+setup_under o t = setup_or_zeros o.entries o.init o.contexts o.calls None t
 
 -- The bytes of the writer are those before and after a program was driven.
 module _ (o : OptionsOf) (text schedule : List ℕ) (old new : Option (List ℕ)) where

@@ -2,7 +2,6 @@
 ghost use Rattle.std.specs.Prelude.{◌≡◌, ◌+◌, ◌≤◌, MatchResult};
 ghost use Rattle.bp_tree.specs.Ast.{Program};
 ghost use Rattle.bp_syntax.specs.declared.limits.TheConstants.{TEXT_LIMIT};
-ghost use Rattle.bp_check.specs.declared.limits.TheConstants.{MAX_GLOBALS};
 ghost use Rattle.bp_code.specs.StandsFor.{StandsFor};
 ghost use Rattle.bp_machine.specs.Setups.{IsSetupRefusal};
 ghost use Rattle.bp_trace.specs.declared.limits.TheConstants.{MAX_SCHEDULE};
@@ -16,20 +15,12 @@ use crate::drive_options::DriveOptions;
 use crate::drive_refusals::DriveRefusal;
 use crate::pairs::read_pair;
 use bp_code::code_of;
-use bp_check::limits::MAX_GLOBALS;
 use bp_code::Code;
 use bp_machine::{Report, Setup, SetupFault};
 use bp_trace::drive;
 use bp_trace::limits::MAX_SCHEDULE;
 use std::alloc::Global;
 use std::io::{Read, Write};
-
-/// The law that a code has at most 128 globals.
-fn has_few_globals(code: &Code)
-    ensures { code.now.globals ≤ MAX_GLOBALS }
-{
-    code.is_of_a_program();
-}
 
 /// The setup of a program under these options.
 fn setup_under(alloc: Global, code: &Code, options: &DriveOptions) -> Result<Setup, SetupFault>
@@ -39,13 +30,11 @@ fn setup_under(alloc: Global, code: &Code, options: &DriveOptions) -> Result<Set
         (IsSetupUnder options.now t code.now)
         (IsSetupRefusal t (setup_under options.now t)) }
 {
-    has_few_globals(code);
-    let zeros = [false; MAX_GLOBALS];
     let init = match &options.init {
-        Some(bits) => bits.as_slice(),
-        None => &zeros[..code.globals() as usize],
+        Some(bits) => Some(bits.as_slice()),
+        None => None,
     };
-    Setup::new(
+    Setup::or_zeros(
         alloc,
         code,
         &options.entries,

@@ -25,3 +25,4 @@ pub mod StandsAtStart
 pub mod StateAfterTransition
 pub mod TransitionIsAnswer
 pub mod WordsOfChoices
+pub mod ZerosNotGiven

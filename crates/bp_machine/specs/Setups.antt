@@ -1,5 +1,5 @@
 -- What a session starts from, and when a setup is refused.
-use Rattle.std.specs.Prelude.{if◌then◌else◌, ◌≡◌, ℕ, ◌+◌, ◌<◌, ◌≤◌, ◌==◌, Bool, not, ◌||◌, nat_lt, List, [], ◌∷◌, Option, None, Some, length}
+use Rattle.std.specs.Prelude.{if◌then◌else◌, ◌≡◌, ℕ, ◌+◌, ◌<◌, ◌≤◌, ◌==◌, Bool, false, not, ◌||◌, nat_lt, List, [], ◌∷◌, Option, None, Some, length, replicate}
 use Rattle.std.specs.Option.{option_or}
 use Rattle.bp_tree.specs.Ast.{Procedure, Program}
 use Rattle.bp_check.specs.declared.limits.TheConstants.{MAX_GLOBALS}
@@ -27,6 +27,17 @@ setup_of entries init contexts calls seed = record {
   calls = calls;
   seed = seed;
 }
+
+-- the bits of so many globals: where none are given all are 0
+abbrev pub initial_bits : Option (List Bool) → ℕ → List Bool
+initial_bits None globals = replicate globals false
+initial_bits (Some bits) globals = bits
+
+-- the setup of a program whose initial bits may be left out
+abbrev pub setup_or_zeros
+    : List (List ℕ) → Option (List Bool) → ℕ → ℕ → Option ℕ → Program → SetupOf
+setup_or_zeros entries init contexts calls seed t =
+    setup_of entries (initial_bits init (length t.globals)) contexts calls seed
 
 abbrev pub threads : SetupOf → ℕ
 threads s = length s.entries

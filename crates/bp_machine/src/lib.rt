@@ -16,6 +16,7 @@ mod stacks;
 #[cfg(test)]
 mod tests;
 mod threads;
+mod zeros;
 
 pub use calls::{Call, Reply};
 pub use choices::Choices;

@@ -41,6 +41,21 @@ fn takes_setups_that_fit(rt: HostRuntime) -> Result<(), Fail> {
     Ok(())
 }
 
+/// Whether a setup without initial bits equals the one with so many zeros.
+fn begins_with_zeros(alloc: Global, code: &Code, zeros: &[bool]) -> Result<bool, Fail> {
+    let entries = mains(alloc, 1)?;
+    let given = Setup::or_zeros(alloc, code, &entries, None, 1, 10, Some(42))?;
+    Ok(given == Setup::new(alloc, code, &entries, zeros, 1, 10, Some(42))?)
+}
+
+#[test]
+fn takes_setups_without_initial_bits(rt: HostRuntime) -> Result<(), Fail> {
+    let alloc = rt.alloc();
+    let code = code_of(alloc, b"decl x, y; main() begin skip; end")?;
+    assert!(rt; begins_with_zeros(alloc, &code, &[false, false])?);
+    Ok(())
+}
+
 /// Whether the setup equals a copy of it, and not the same with another seed.
 fn is_as_its_copy(setup: &Setup, other: &Setup) -> Result<bool, AllocError> {
     Ok(setup.try_copy()? == *setup && setup != other)
