@@ -1,5 +1,5 @@
 -- What the seat says of a turn, whatever others do at the desk.
-use Rattle.std.specs.Prelude.{◌≡◌, ◌<◌, ◌≤◌, ℕ, ◌+◌, true, false}
+use Rattle.std.specs.Prelude.{⊤, ◌≡◌, ◌<◌, ◌≤◌, ℕ, ◌+◌, true, false}
 use Rattle.bp_machine.specs.declared.calls.Reply.{Reply}
 use Rattle.bp_machine.specs.declared.calls.Reply.TheVariants.{Stepped}
 use Rattle.bp_machine.specs.declared.sessions.AskFault.{AskFault}

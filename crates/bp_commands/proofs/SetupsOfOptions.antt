@@ -1,21 +1,12 @@
 -- The setup of a program under options, from its parts.
-use Rattle.std.proofs.Common.{◌≡◌, ◌∙◌, ap, sym, subst, option_map, false, take, replicate, ℕ, ◌≤◌, Bool, List, Option, Some, None, Vec, Global, Result, Ok, Err}
+use Rattle.std.proofs.Common.{◌≡◌, ◌∙◌, ap, ap₂, sym, subst, option_map, ℕ, Bool, List, Option, Some, None, Bor, Vec, Global, Result, Ok, Err}
 use Rattle.std.specs.Prelude.{IfOk, MatchResult}
-use Rattle.std.proofs.lemmas.List.{take-replicate}
 use Rattle.bp_tree.specs.Ast.{Program}
 use Rattle.bp_code.specs.Flat.{Flat}
 use Rattle.bp_machine.specs.declared.setups.SetupFault.{SetupFault}
 use Rattle.bp_machine.specs.Setups.{SetupOf, setup_fault, FitsCode, IsInRange, IsSetupRefusal}
-use Rattle.bp_commands.specs.Drives.{OptionsOf, initial_bits, setup_under}
+use Rattle.bp_commands.specs.Drives.{OptionsOf, setup_under}
 use Rattle.bp_commands.specs.SetupsUnderOptions.{IsSetupUnder}
-
-module _ (given : Option (Vec Bool Global)) (now : Option (List Bool)) (r : List Bool) (n : ℕ) (view : option_map (λ v. v.items) given ≡ now) where
-  pub bits_given : (v : Vec Bool Global) → given ≡ Some v → r ≡ v.items → r ≡ initial_bits now n
-  bits_given v is value = rw (← view, is) value
-
-  pub bits_not_given : (m : ℕ) → given ≡ None → r ≡ take m (replicate 128 false) → m ≤ 128 → m ≡ n → r ≡ initial_bits now n
-  bits_not_given m is value few same =
-      rw (← view, is) (value ∙ (take-replicate m 128 false few ∙ ap (λ k. replicate k false) same))
 
 -- what is known of the setup of these parts is known of the setup under the options
 pub setup_answered : (o : OptionsOf) (t : Program) (c : Flat) (given : SetupOf) (r : Result SetupOf SetupFault) → given ≡ setup_under o t
