@@ -1,0 +1,44 @@
+-- How what a pen has written adds up.
+use Rattle.std.proofs.Common.{◌≡◌, ℕ, ◌<◌, Bool, false, true, List, [], ◌++◌, Option, Result, Ok, Err, length, take, sym, subst, append_assoc}
+use Rattle.std.proofs.lemmas.List.{append-nil}
+use Rattle.std.proofs.KnownBytes.{Appends-nil, Appends-kept}
+use Rattle.std.specs.Io.KnownBytes.{Keeps, Appends}
+use Rattle.std.specs.Result.{is_err}
+use Rattle.bp_code.specs.Writing.{Writes}
+use Rattle.bp_code.proofs.Appends.{all_then, part_first, part_then}
+use Rattle.bp_run.specs.Inks.{IsInked, Inks}
+
+-- a new pen
+pub not_begun : (a : Option (List ℕ)) → IsInked a a false []
+not_begun a = record { grown = Appends-nil a }
+
+-- what a call that writes a text leaves is inked
+pub inked_by : {T E : Type 0} (old now : Option (List ℕ)) (text : List ℕ) (r : Result T E) → Writes old now text r → IsInked old now (is_err r) text
+inked_by old now text (Ok x) w = w
+inked_by old now text (Err x) w = w
+
+-- the pen that had not failed writes one more text
+pub inks_more : (old now : Option (List ℕ)) (failed : Bool) (text : List ℕ) → IsInked old now failed text → Inks old false now failed text
+inks_more old now false text i first before b = all_then first old now before text b i
+inks_more old now true text i first before b = part_then first old now before text b i
+
+-- so does a call of a pen that had not failed, which notes whether the write fails
+pub inks_written : {T E : Type 0} (old now : Option (List ℕ)) (had failed : Bool) (text : List ℕ) (r : Result T E) → had ≡ false → failed ≡ is_err r → Writes old now text r → Inks old had now failed text
+inks_written old now had failed text r fresh is w =
+    subst (λ b. Inks old b now failed text) (sym fresh) (inks_more old now failed text (subst (λ b. IsInked old now b text) (sym is) (inked_by old now text r w)))
+
+-- the pen that has failed writes nothing
+pub inks_not : (old : Option (List ℕ)) (text : List ℕ) → Inks old true old true text
+inks_not old text first before b = part_first first old before text b
+
+pub inks_none : (old : Option (List ℕ)) (had : Bool) → Inks old had old had []
+inks_none old had first before b = subst (λ w. IsInked first old had w) (sym (append-nil before)) b
+
+-- known bytes that are kept are as good as those that were
+pub inks_kept : (old now : Option (List ℕ)) (had : Bool) → Keeps old now → Inks old had now had []
+inks_kept old now false k first before b = record { grown = subst (Appends first now) (sym (append-nil before)) (Appends-kept first old now before b.grown k) }
+inks_kept old now true k first before b = record { count = b.count; short = subst (λ w. b.count < length w) (sym (append-nil before)) b.short; grown = subst (λ w. Appends first now (take b.count w)) (sym (append-nil before)) (Appends-kept first old now _ b.grown k) }
+
+pub inks_then : (old mid now : Option (List ℕ)) (f g h : Bool) (xs ys : List ℕ) → Inks old f mid g xs → Inks mid g now h ys → Inks old f now h (xs ++ ys)
+inks_then old mid now f g h xs ys a b first before i =
+    subst (λ w. IsInked first now h w) (append_assoc before xs ys) (b first (before ++ xs) (a first before i))

@@ -1,0 +1,8 @@
+use Rattle.std.proofs.Common.{◌≡◌, ◌≤◌}
+use Rattle.bp_run.proofs.workers.work.Given as goal
+
+abbrev pub invariant-loop : goal.invariant-loop
+invariant-loop g l = record {
+  thread : l.seat.thread ≡ l.fn.seat.thread;
+  calls : l.fn.seat.calls ≤ l.seat.calls;
+}

@@ -1,0 +1,7 @@
+pub mod Faults
+pub mod Inks
+pub mod Options
+pub mod Played
+pub mod Runs
+pub mod Scribing
+pub mod Works

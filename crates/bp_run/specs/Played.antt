@@ -1,0 +1,53 @@
+-- What comes of playing a program on a setup by real threads.
+use Rattle.std.specs.Prelude.{◌≡◌, ℕ, List, Option, length}
+use Rattle.std.specs.Io.KnownBytes.{Appends}
+use Rattle.bp_tree.specs.Ast.{Program}
+use Rattle.bp_code.specs.Writing.{AppendsPart}
+use Rattle.bp_machine.specs.declared.calls.Call.{Call}
+use Rattle.bp_machine.specs.declared.reports.Report.{Report}
+use Rattle.bp_machine.specs.declared.reports.Outcome.TheVariants.{Failed}
+use Rattle.bp_machine.specs.Contexts.{IsWithin}
+use Rattle.bp_machine.specs.Histories.{IsLegal, configuration_after, granted_calls, granted_threads}
+use Rattle.bp_machine.specs.Reports.{IsRealFailure, IsReport, IsRun}
+use Rattle.bp_machine.specs.SeededHistories.{HasSeededBits}
+use Rattle.bp_machine.specs.Setups.{SetupOf, start, threads}
+use Rattle.bp_board.specs.Gatherings.{AreOnePerThread, calls_of_seats}
+use Rattle.bp_board.specs.Seats.{SeatOf}
+use Rattle.bp_trace.specs.TraceText.{trace_text}
+use Rattle.bp_run.specs.declared.run_faults.RunFault.{RunFault}
+use Rattle.bp_run.specs.declared.run_faults.RunFault.TheVariants.{Start, Foreign, Write, Memory}
+
+-- The bytes of the writer are those before and after the program t was played on the setup s.
+module _ (t : Program) (s : SetupOf) (old new : Option (List ℕ)) where
+  -- The trace of one history was written, and the report is of it. The history is legal, and its
+  -- choice bits are those of the seed. Its granted steps are a run of the program, within the
+  -- contexts that are allowed; a reported failure is a false assertion of that run. The workers
+  -- gave back one seat for each thread, and it has exactly the calls that they made.
+  pub record IsPlayed (r : Report) : Type 0 where
+    pub history : List Call
+    pub written : Appends old new (trace_text s history)
+    pub report : IsReport s history r
+    pub legal : IsLegal t s history
+    pub seeded : HasSeededBits s history
+    pub steps : IsRun t (start t s) (granted_calls history) (configuration_after t s history)
+    pub within : IsWithin s.contexts (granted_threads history)
+    pub failure : (i : ℕ) → r.outcome ≡ Failed i → IsRealFailure t s history i
+    pub seats : List SeatOf
+    pub one_each : AreOnePerThread (threads s) seats
+    pub made : calls_of_seats seats ≡ length history
+
+  -- a proper prefix of the trace of one legal history was written, with the bits of the seed
+  pub record IsCutTrace : Type 0 where
+    pub history : List Call
+    pub legal : IsLegal t s history
+    pub seeded : HasSeededBits s history
+    pub written : AppendsPart old new (trace_text s history)
+
+  -- why there is no report, and what was written; nothing is said of the bytes where the board is
+  -- another's
+  abbrev pub IsPlayRefusal : RunFault → Type 0
+  IsPlayRefusal Start = new ≡ old
+  IsPlayRefusal Foreign = Unit {0}
+  IsPlayRefusal Write = IsCutTrace
+  IsPlayRefusal Memory = new ≡ old
+  IsPlayRefusal f = ⊥

@@ -1,0 +1,20 @@
+//! Runs: one worker for each guest thread makes its calls at a board, and a scribe writes the trace
+//! while they run.
+#![tactic(auto)]
+
+mod gates;
+mod pens;
+mod run_faults;
+mod run_options;
+mod runner;
+mod scribes;
+mod stages;
+#[cfg(test)]
+mod tests;
+mod workers;
+
+pub use gates::{Gate, Open};
+pub use run_faults::RunFault;
+pub use run_options::RunOptions;
+pub use runner::run;
+pub use workers::work;

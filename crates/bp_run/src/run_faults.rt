@@ -1,0 +1,94 @@
+//! Why a run gives no report.
+use bp_code::{CodeFault, ProgramFault};
+use bp_machine::SetupFault;
+use std::alloc::AllocError;
+use thiserror::Error;
+
+/// Why a run gives no report: the first of these that applies, `Memory` aside.
+#[derive(Debug, Drop, PartialEq, Eq, Error)]
+pub enum RunFault {
+    /// The program text is refused. Nothing is written.
+    #[error("{0}")]
+    Program(ProgramFault),
+    /// The options are refused for the program. Nothing is written.
+    #[error("{0}")]
+    Setup(SetupFault),
+    /// A worker could not be started; those that were started have ended. Nothing is written.
+    #[error("a worker could not be started")]
+    Start,
+    /// The board gave up another code, setup or seats than those of this run.
+    #[error("the board is of another code or setup, or the seats are not its own")]
+    Foreign,
+    /// A write failed. A proper prefix of the trace of a history is written.
+    #[error("the output could not be written")]
+    Write,
+    /// There was not enough memory outside the workers. Nothing is written.
+    #[error("out of memory")]
+    Memory,
+}
+
+impl RunFault {
+    ghost use Rattle.std.specs.Prelude.{◌≡◌};
+    ghost use Rattle.bp_run.specs.Faults.{run_fault_number, run_fault_place};
+
+    /// The number by which users know the fault.
+    pub fn number(&self) -> u32
+        ensures { result ≡ run_fault_number self.now }
+    {
+        match self {
+            RunFault::Program(fault) => fault.number(),
+            RunFault::Setup(fault) => fault.number(),
+            RunFault::Start => 53,
+            RunFault::Foreign => 52,
+            RunFault::Write => 51,
+            RunFault::Memory => 7,
+        }
+    }
+
+    /// The byte of the text, or the thread, that the fault names, where it names one.
+    pub fn place(&self) -> Option<u32>
+        ensures { result ≡ run_fault_place self.now }
+    {
+        match self {
+            RunFault::Program(fault) => fault.place(),
+            RunFault::Setup(fault) => fault.place(),
+            RunFault::Start | RunFault::Foreign | RunFault::Write | RunFault::Memory => None,
+        }
+    }
+}
+
+impl From<AllocError> for RunFault {
+    ghost use Rattle.std.specs.Prelude.{◌≡◌};
+    ghost use Rattle.bp_run.specs.declared.run_faults.RunFault.{RunFault};
+
+    ghost from_gives = { λ _ e. e ≡ RunFault.Memory };
+
+    fn from(_: AllocError) -> RunFault {
+        RunFault::Memory
+    }
+}
+
+impl From<SetupFault> for RunFault {
+    ghost use Rattle.std.specs.Prelude.{◌≡◌};
+    ghost use Rattle.bp_run.specs.declared.run_faults.RunFault.{RunFault};
+
+    ghost from_gives = { λ f e. e ≡ RunFault.Setup f };
+
+    fn from(fault: SetupFault) -> RunFault {
+        RunFault::Setup(fault)
+    }
+}
+
+impl From<CodeFault> for RunFault {
+    ghost use Rattle.std.specs.Prelude.{◌≡◌};
+    ghost use Rattle.bp_run.specs.Faults.{run_fault_of_code};
+
+    ghost from_gives = { λ f e. e ≡ run_fault_of_code f };
+
+    fn from(fault: CodeFault) -> RunFault {
+        match fault {
+            CodeFault::Program(fault) => RunFault::Program(fault),
+            CodeFault::Memory => RunFault::Memory,
+        }
+    }
+}

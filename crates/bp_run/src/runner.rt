@@ -1,0 +1,166 @@
+//! Running a program by real threads, one for each guest thread.
+ghost use Rattle.std.specs.Prelude.{◌≡◌, ◌≤◌, ◌<◌, true, false, is_some, IfOk, MatchResult};
+ghost use Rattle.bp_tree.specs.Ast.{Program};
+ghost use Rattle.bp_code.specs.StandsFor.{StandsFor};
+ghost use Rattle.bp_machine.specs.Laws.{StepsAreARun, StepsAreWithin, FailuresAreReal};
+ghost use Rattle.bp_machine.specs.Setups.{threads, FitsCode};
+ghost use Rattle.bp_board.specs.declared.limits.TheConstants.{MAX_TURN, MAX_RING};
+ghost use Rattle.bp_board.specs.Kits.{IsNamed};
+ghost use Rattle.bp_run.specs.Played.{IsPlayed, IsPlayRefusal};
+ghost use Rattle.bp_run.specs.Runs.{IsTracedRun, IsRunRefusal};
+
+use crate::gates::Gate;
+use crate::pens::Pen;
+use crate::run_faults::RunFault;
+use crate::run_options::RunOptions;
+use crate::scribes::write_rest;
+use crate::stages::{Staged, stage};
+use bp_board::{Board, Calls, Kit, gather};
+use bp_code::{Code, code_of};
+use bp_machine::{Report, Setup, failures_are_real, steps_are_a_run, steps_are_within};
+use std::alloc::{AllocError, Global};
+use std::io::Write;
+use std::marker::Brand;
+use std::sync::Wait;
+use std::sync::ledger::Ledger;
+use std::thread::Threads;
+
+/// What a run answers, and the pen.
+#[derive(Drop)]
+struct Outcome<'a, W> {
+    answer: Result<Report, RunFault>,
+    pen: Pen<'a, W>,
+}
+
+/// The answer of a run that is refused, with the pen as it was.
+fn refused<'a, W>(pen: Pen<'a, W>, fault: RunFault) -> Outcome<'a, W>
+    ensures same_reference { result.pen.out.ghost_name ≡ pen.entry.out.ghost_name }
+    ensures answer { result.answer ≡ Err fault }
+    ensures same { result.pen.out.now ≡ pen.entry.out.now }
+{
+    Outcome {
+        answer: Err(fault),
+        pen,
+    }
+}
+
+/// A kit for the threads of a setup, with the ring of the options.
+fn kit_of(alloc: Global, setup: &Setup, options: &RunOptions) -> Result<Kit, AllocError>
+    requires some { 0 < options.now.ring }
+    requires within { options.now.ring ≤ MAX_RING }
+    ensures { IfOk result (λ k. k.threads ≡ threads setup.now) }
+{
+    setup.is_in_range();
+    Kit::new(alloc, setup.threads(), options.ring)
+}
+
+/// The laws of legal histories.
+fn histories_keep_their_laws()
+    ensures run { StepsAreARun }
+    ensures within { StepsAreWithin }
+    ensures real { FailuresAreReal }
+{
+    steps_are_a_run();
+    steps_are_within();
+    failures_are_real();
+}
+
+/// Plays a setup at a board that is made of this kit.
+fn play<
+    'a,
+    C: Calls + Send + Sync,
+    O: Ledger + Send + Sync,
+    G: Gate,
+    W: Write,
+    R: Threads + Wait + Sync,
+>(
+    rt: &R,
+    alloc: Global,
+    kit: Kit,
+    code: &Code,
+    setup: &Setup,
+    turn: u32,
+    gate: &G,
+    pen: Pen<'a, W>,
+) -> Outcome<'a, W>
+    requires named { IsNamed kit C.name C.parts O.name O.parts C.ring }
+    requires threads { kit.threads ≡ threads setup.now }
+    requires fits { FitsCode code.now setup.now }
+    requires seeded { is_some setup.now.seed ≡ true }
+    requires turn { (0 < turn) × (turn ≤ MAX_TURN) }
+    requires fresh { pen.failed ≡ false }
+    ensures same_reference { result.pen.out.ghost_name ≡ pen.entry.out.ghost_name }
+    ensures answer { let old = W.contents pen.entry.out.now in
+        let new = W.contents result.pen.out.now in
+        (t : Program)
+        → StandsFor code.now t
+        → MatchResult result.answer
+        (IsPlayed t setup.now old new)
+        (IsPlayRefusal t setup.now old new) }
+{
+    histories_keep_their_laws();
+    code.is_of_a_program();
+    setup.is_in_range();
+    let Ok((board, seats, tap)) = Board::<C, O>::open(alloc, kit, code, setup) else {
+        return refused(pen, RunFault::Memory);
+    };
+    let (Ok(back), Ok(handles)) = (
+        Vec::with_capacity(alloc, seats.len()),
+        Vec::with_capacity(alloc, seats.len()),
+    ) else {
+        return refused(pen, RunFault::Memory);
+    };
+    let Staged {
+        mut pen,
+        tap,
+        seats,
+        all_started,
+    } = stage(
+        rt, setup, &board, seats, back, handles, tap, pen, turn, gate,
+    );
+    if !all_started {
+        return refused(pen, RunFault::Start);
+    }
+    let Ok(mut gathered) = gather(board, seats, tap, code, setup) else {
+        return refused(pen, RunFault::Foreign);
+    };
+    write_rest(&mut pen, &mut gathered.tap);
+    pen.end(gathered.report.calls, gathered.report.left_open);
+    if pen.failed {
+        return refused(pen, RunFault::Write);
+    }
+    Outcome {
+        answer: Ok(gathered.report),
+        pen,
+    }
+}
+
+/// Runs the program of a text under these options, and writes the trace: one worker for each guest
+/// thread makes its calls, and the calling thread writes them while the workers run. It answers the
+/// report of the history that was written. Which legal history that is nobody says; each bit of it
+/// is that of the seed.
+///
+/// The refusals come in the order of `RunFault`. Nothing is written before all workers were
+/// started; at a write that fails a proper prefix of the trace of a history is written. A worker
+/// that is refused memory ends, and its line stays open: that is no refusal of the run.
+pub fn run<G: Gate, W: Write, R: Threads + Wait + Sync>(
+    rt: &R,
+    alloc: Global,
+    text: &[u8],
+    options: &RunOptions,
+    gate: &G,
+    out: &mut W,
+) -> Result<Report, RunFault>
+    ensures { let old = W.contents out.old in
+        let new = W.contents out.new in
+        MatchResult result
+        (IsTracedRun options.now text.now old new)
+        (IsRunRefusal options.now text.now old new) }
+{
+    let code = code_of(alloc, text)?;
+    let setup = options.setup(alloc, &code)?;
+    let kit = kit_of(alloc, &setup, options)?;
+    let pen = Pen::new(out);
+    let turn = options.turn;
+    play::<Brand, Brand, G, W, R>(rt, alloc, kit, &code, &setup, turn, gate, pen).answer
+}

@@ -1,0 +1,73 @@
+//! Workers: each makes the calls of one guest thread.
+ghost use Rattle.std.specs.Prelude.{◌≡◌, ◌≤◌, ◌<◌, ◌⊎◌, false, OnOk, IfErr};
+ghost use Rattle.bp_board.specs.declared.limits.TheConstants.{MAX_TURN};
+ghost use Rattle.bp_run.specs.Works.{EndsWork};
+
+use crate::gates::Gate;
+use bp_board::{Board, Calls, Seat};
+use bp_machine::AskFault;
+use std::sync::ledger::Ledger;
+use std::sync::{Mutex, Wait};
+use std::thread;
+
+/// Takes turns of at most `turn` calls from this seat, until its line is finished. Where the ring is
+/// full it gives way to other threads, and takes a turn again. It stops where memory is refused, and
+/// where the line was finished already behind the seat's back.
+pub fn work<C: Calls, O: Ledger, G: Gate, R: Wait>(
+    rt: &R,
+    board: &Board<C, O>,
+    seat: &mut Seat<C, O>,
+    turn: u32,
+    gate: &G,
+) -> Result<(), AskFault>
+    requires some { 0 < turn }
+    requires few { turn ≤ MAX_TURN }
+    ensures ok { OnOk result (seat.new.is_open ≡ false) }
+    ensures refused { IfErr result EndsWork }
+    ensures thread { seat.new.thread ≡ seat.old.thread }
+    ensures calls { seat.old.calls ≤ seat.new.calls }
+{
+    for _ in rt.forever() {
+        if !seat.is_open() {
+            return Ok(());
+        }
+        gate.before(seat.thread(), seat.calls());
+        match board.turn(rt, seat, turn) {
+            Ok(reply) => gate.after(seat.thread(), reply),
+            Err(AskFault::Busy) => thread::yield_now(),
+            Err(fault) => return Err(fault),
+        }
+    }
+    unreachable!()
+}
+
+/// Counts one more worker that has ended.
+fn note_end(rt: &impl Wait, ended: &Mutex<u32>) {
+    let mut count = ended.lock(rt);
+    *count = count.saturating_add(1);
+}
+
+/// Whether so many workers have ended.
+pub(crate) fn have_ended(rt: &impl Wait, ended: &Mutex<u32>, started: u32) -> bool {
+    *ended.lock(rt) >= started
+}
+
+/// What the thread of a worker does: all the work of its seat, and then it is counted as ended. It
+/// gives the seat back, which is still open where memory was refused.
+pub(crate) fn worker<C: Calls, O: Ledger, G: Gate, R: Wait>(
+    rt: &R,
+    board: &Board<C, O>,
+    ended: &Mutex<u32>,
+    mut seat: Seat<C, O>,
+    turn: u32,
+    gate: &G,
+) -> Seat<C, O>
+    requires some { 0 < turn }
+    requires few { turn ≤ MAX_TURN }
+    ensures { result.thread ≡ seat.thread }
+{
+    // A refusal leaves the line open, and the report tells of it.
+    let _ = work(rt, board, &mut seat, turn, gate);
+    note_end(rt, ended);
+    seat
+}
