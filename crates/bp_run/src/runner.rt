@@ -45,7 +45,7 @@ fn refused<'a, W>(pen: Pen<'a, W>, fault: RunFault) -> Outcome<'a, W>
 }
 
 /// A kit for the threads of a setup, with the ring of the options.
-fn kit_of(alloc: Global, setup: &Setup, options: &RunOptions) -> Result<Kit, AllocError>
+pub(crate) fn kit_of(alloc: Global, setup: &Setup, options: &RunOptions) -> Result<Kit, AllocError>
     requires some { 0 < options.now.ring }
     requires within { options.now.ring ≤ MAX_RING }
     ensures { IfOk result (λ k. k.threads ≡ threads setup.now) }

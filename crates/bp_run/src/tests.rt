@@ -1,4 +1,5 @@
 //! Runs of small programs by real threads, and what their traces replay to.
+mod meetings;
 mod refusals;
 mod runs;
 mod works;
@@ -28,6 +29,12 @@ const LOOP: &[u8] = b"main() begin while (?) do skip; od end";
 const LOOP_TRACE: &str = "\
     btrace 1\nentry main\ninit -\ncontexts 1\ncalls 10\nseed 42\n\
     0 1 s\n0 1 s\n0 1 s\n0 0 s\n0 1 s\n0 1 s\n0 0 s\n0 1 s\n0 0 e\nend 9 0\n";
+
+/// A loop without an end.
+const ENDLESS: &[u8] = b"main() begin while (1) do skip; od end";
+
+/// The least program: each thread makes three calls.
+const SKIP: &[u8] = b"main() begin skip; end";
 
 /// What a test runs with: so many threads that begin with `main`, and the numbers. The seed is 42.
 #[derive(Clone, Copy)]
@@ -111,25 +118,21 @@ fn replays(alloc: Global, text: &[u8], trace: &[u8], report: &Report) -> bool {
     }
 }
 
-/// Whether a run with these numbers ends clean after so many calls, with no line open, and its trace
-/// replays to its report.
-fn runs_to<G: Gate, R: Threads + Wait + Sync>(
+/// How many calls a run with these numbers makes, where it ends clean with no line open, and its
+/// trace replays to its report.
+fn clean_calls<G: Gate, R: Threads + Wait + Sync>(
     rt: &R,
     alloc: Global,
     text: &[u8],
     numbers: Numbers,
     gate: &G,
-    calls: u64,
-) -> Result<bool, AllocError> {
+) -> Result<Option<u64>, AllocError> {
     let options = options(alloc, numbers)?;
     let mut out = Vec::new(alloc);
-    match run(rt, alloc, text, &options, gate, &mut out) {
-        Ok(report) => Ok(
-            report.calls == calls
-                && report.left_open == 0
-                && report.outcome == Outcome::Clean
-                && replays(alloc, text, &out, &report),
-        ),
-        Err(_) => Ok(false),
-    }
+    let Ok(report) = run(rt, alloc, text, &options, gate, &mut out) else {
+        return Ok(None);
+    };
+    let is_clean = report.left_open == 0 && report.outcome == Outcome::Clean;
+    let is_told = is_clean && replays(alloc, text, &out, &report);
+    Ok(is_told.then_some(report.calls))
 }

@@ -31,6 +31,7 @@ fn refuses_numbers_out_of_range(rt: HostRuntime) -> Result<(), AllocError> {
             35,
         ),
         (Numbers { calls: 0, ..ONE }, 35),
+        (Numbers { threads: 65, ..ONE }, 31),
         (
             Numbers {
                 threads: 0,

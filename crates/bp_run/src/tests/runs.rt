@@ -1,11 +1,10 @@
-//! Whole runs: their traces, and that workers run at the same time.
-use super::{IF, IF_TRACE, LOOP, LOOP_TRACE, Numbers, ONE, runs_to, writes, written};
-use crate::{Gate, Open};
-use bp_machine::Reply;
+//! Whole runs: their traces, and what those replay to.
+use super::{
+    ENDLESS, IF, IF_TRACE, LOOP, LOOP_TRACE, Numbers, ONE, SKIP, clean_calls, writes, written,
+};
+use crate::Open;
 use std::alloc::{AllocError, Global};
 use std::sync::Wait;
-use std::sync::atomic::{AtomicU64, Ordering};
-use std::thread;
 use std::thread::Threads;
 
 /// Three guest threads that take turns and count.
@@ -51,7 +50,8 @@ fn lines_of(alloc: Global, text: &[u8], first: u8) -> Result<Vec<u8>, AllocError
     Ok(lines)
 }
 
-/// Whether thread 0 of a run with this ring has its lines.
+/// Whether thread 0 of a run with this ring has its lines. They are those of its own choice bits,
+/// whatever the other threads do between them.
 fn has_own_lines<R: Threads + Wait + Sync>(
     rt: &R,
     alloc: Global,
@@ -67,5 +67,52 @@ fn three_workers(rt: HostRuntime) -> Result<(), AllocError> {
     for ring in [1024, 1] {
         assert!(&rt; has_own_lines(&rt, rt.alloc(), ring)?);
     }
+    Ok(())
+}
+
+#[test]
+fn three_workers_replay(rt: HostRuntime) -> Result<(), AllocError> {
+    for ring in [1024, 1] {
+        assert!(&rt; clean_calls(&rt, rt.alloc(), TURNS, three(ring), &Open)?.is_some());
+    }
+    Ok(())
+}
+
+/// Whether two threads with 10,000 calls each end clean, by these turns and with this ring. A thread
+/// that is refused a context ends earlier; the other then has all its calls.
+fn has_many_calls<R: Threads + Wait + Sync>(
+    rt: &R,
+    alloc: Global,
+    turn: u32,
+    ring: u32,
+) -> Result<bool, AllocError> {
+    let numbers = Numbers {
+        threads: 2,
+        contexts: 1000,
+        calls: 10_000,
+        turn,
+        ring,
+    };
+    let calls = clean_calls(rt, alloc, ENDLESS, numbers, &Open)?;
+    Ok(calls.is_some_and(|calls| calls > 10_000))
+}
+
+#[test]
+fn many_calls(rt: HostRuntime) -> Result<(), AllocError> {
+    for (turn, ring) in [(1, 1), (1, 65_536), (64, 1), (64, 65_536)] {
+        assert!(&rt; has_many_calls(&rt, rt.alloc(), turn, ring)?);
+    }
+    Ok(())
+}
+
+#[test]
+fn many_workers(rt: HostRuntime) -> Result<(), AllocError> {
+    let numbers = Numbers {
+        threads: 64,
+        contexts: 1000,
+        turn: 1,
+        ..ONE
+    };
+    assert!(&rt; clean_calls(&rt, rt.alloc(), SKIP, numbers, &Open)? == Some(192));
     Ok(())
 }

@@ -1,1 +1,124 @@
-//! Workers at a board.
+//! Workers at a board: how many calls they make, and what they say to a gate.
+ghost use Rattle.std.specs.Prelude.{◌≡◌, ◌≤◌, ◌<◌, true, is_some};
+ghost use Rattle.bp_machine.specs.Setups.{threads, FitsCode};
+ghost use Rattle.bp_board.specs.declared.limits.TheConstants.{MAX_TURN};
+ghost use Rattle.bp_board.specs.Kits.{IsNamed};
+
+use super::{ENDLESS, LOOP, Numbers, ONE, options};
+use crate::runner::kit_of;
+use crate::{Gate, Open, work};
+use bp_board::{Board, Calls, Kit, gather};
+use bp_code::{Code, code_of};
+use bp_machine::{Reply, Setup};
+use std::alloc::Global;
+use std::marker::Brand;
+use std::sync::Wait;
+use std::sync::atomic::{AtomicU64, Ordering};
+use std::sync::ledger::Ledger;
+use std::test::Fail;
+
+/// A gate that notes a digit each time: ahead of a turn the number of calls, and behind it 1 for
+/// Stepped, 2 for Ended and 3 for another reply.
+#[derive(Drop)]
+struct Notes {
+    digits: AtomicU64,
+}
+
+impl Notes {
+    fn note(&self, digit: u64) {
+        let digits = self.digits.load(Ordering::SeqCst);
+        let more = digits.wrapping_mul(10).wrapping_add(digit);
+        self.digits.store(more, Ordering::SeqCst);
+    }
+}
+
+impl Gate for Notes {
+    fn before(&self, _thread: u32, call: u64) {
+        self.note(call);
+    }
+
+    fn after(&self, _thread: u32, reply: Reply) {
+        self.note(match reply {
+            Reply::Stepped => 1,
+            Reply::Ended => 2,
+            _ => 3,
+        });
+    }
+}
+
+/// The calls and the open lines that are reported once a worker has done the work of the first
+/// seat, at a board of this kit.
+fn work_at<C: Calls, O: Ledger, G: Gate, R: Wait>(
+    rt: &R,
+    alloc: Global,
+    kit: Kit,
+    code: &Code,
+    setup: &Setup,
+    turn: u32,
+    gate: &G,
+) -> Option<(u64, u32)>
+    requires named { IsNamed kit C.name C.parts O.name O.parts C.ring }
+    requires threads { kit.threads ≡ threads setup.now }
+    requires fits { FitsCode code.now setup.now }
+    requires seeded { is_some setup.now.seed ≡ true }
+    requires some { 0 < turn }
+    requires few { turn ≤ MAX_TURN }
+{
+    let Ok((board, mut seats, tap)) = Board::<C, O>::open(alloc, kit, code, setup) else {
+        return None;
+    };
+    let Some(seat) = seats.get_mut(0) else {
+        return None;
+    };
+    if work(rt, &board, seat, turn, gate).is_err() {
+        return None;
+    }
+    match gather(board, seats, tap, code, setup) {
+        Ok(gathered) => Some((gathered.report.calls, gathered.report.left_open)),
+        Err(_) => None,
+    }
+}
+
+/// The same at a board of a program with these numbers.
+fn work_of<G: Gate, R: Wait>(
+    rt: &R,
+    alloc: Global,
+    text: &[u8],
+    numbers: Numbers,
+    gate: &G,
+) -> Result<Option<(u64, u32)>, Fail> {
+    let code = match code_of(alloc, text) {
+        Ok(code) => code,
+        Err(_) => return Err(Fail::from("no code")),
+    };
+    let options = options(alloc, numbers)?;
+    let setup = options.setup(alloc, &code)?;
+    let kit = kit_of(alloc, &setup, &options)?;
+    let turn = options.turn;
+    Ok(work_at::<Brand, Brand, G, R>(rt, alloc, kit, &code, &setup, turn, gate))
+}
+
+/// Whether the work on the loop by turns of so many calls is noted with these digits.
+fn is_noted<R: Wait>(rt: &R, alloc: Global, turn: u32, digits: u64) -> Result<bool, Fail> {
+    let gate = Notes {
+        digits: AtomicU64::new(0),
+    };
+    let done = work_of(rt, alloc, LOOP, Numbers { turn, ..ONE }, &gate)?;
+    Ok(done == Some((9, 0)) && gate.digits.load(Ordering::SeqCst) == digits)
+}
+
+#[test]
+fn works_by_turns(rt: HostRuntime) -> Result<(), Fail> {
+    for (turn, digits) in [(1, 11_121_314_151_617_182), (3, 13_162), (64, 2)] {
+        assert!(&rt; is_noted(&rt, rt.alloc(), turn, digits)?);
+    }
+    Ok(())
+}
+
+#[test]
+fn works_until_no_call_is_left(rt: HostRuntime) -> Result<(), Fail> {
+    let numbers = Numbers { calls: 1000, ..ONE };
+    let done = work_of(&rt, rt.alloc(), ENDLESS, numbers, &Open)?;
+    assert!(&rt; done == Some((1000, 0)));
+    Ok(())
+}
