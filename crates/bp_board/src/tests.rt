@@ -8,10 +8,8 @@ ghost use Rattle.bp_machine.specs.Setups.{threads, FitsCode};
 
 use crate::Kit;
 use crate::limits::MAX_RING;
-use bp_check::check;
-use bp_code::{Code, compile};
+use bp_code::Code;
 use bp_machine::{AskFault, Call, Reply, Setup};
-use bp_syntax::read;
 use std::alloc::{AllocError, Global};
 use std::test::Fail;
 
@@ -69,10 +67,10 @@ fn loop_calls() -> [Call; 9] {
 }
 
 fn code_of(alloc: Global, text: &[u8]) -> Result<Code, Fail> {
-    let Ok(checked) = check(alloc, read(alloc, text)?) else {
-        return Err(Fail::from("not lawful"));
-    };
-    Ok(compile(alloc, &checked)?)
+    match bp_code::code_of(alloc, text) {
+        Ok(code) => Ok(code),
+        Err(_) => Err(Fail::from("no code")),
+    }
 }
 
 /// The entries of so many threads that begin with `main`.

@@ -73,10 +73,10 @@ fn lists_a_loop(rt: HostRuntime) -> Result<(), Fail> {
 }
 
 fn code_of(alloc: Global, text: &[u8]) -> Result<Code, Fail> {
-    let Ok(checked) = check(alloc, read(alloc, text)?) else {
-        return Err(Fail::from("not lawful"));
-    };
-    Ok(compile(alloc, &checked)?)
+    match crate::code_of(alloc, text) {
+        Ok(code) => Ok(code),
+        Err(_) => Err(Fail::from("no code")),
+    }
 }
 
 #[test]

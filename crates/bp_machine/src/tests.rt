@@ -3,17 +3,15 @@ mod examples;
 mod seeds;
 
 use crate::{AskFault, Session, Setup, SetupFault};
-use bp_check::check;
-use bp_code::{Code, compile};
-use bp_syntax::read;
+use bp_code::Code;
 use std::alloc::{AllocError, Global};
 use std::test::Fail;
 
 fn code_of(alloc: Global, text: &[u8]) -> Result<Code, Fail> {
-    let Ok(checked) = check(alloc, read(alloc, text)?) else {
-        return Err(Fail::from("not lawful"));
-    };
-    Ok(compile(alloc, &checked)?)
+    match bp_code::code_of(alloc, text) {
+        Ok(code) => Ok(code),
+        Err(_) => Err(Fail::from("no code")),
+    }
 }
 
 const ASSIGNMENT: &[u8] = b"decl x; main() begin x := 1; assert (x); end";

@@ -13,10 +13,8 @@ ghost use Rattle.bp_machine.specs.Setups.{FitsCode};
 
 use crate::schedules::line_at;
 use crate::{DriveFault, ScheduleLine, drive, write_call, write_end, write_head, write_trace};
-use bp_check::check;
-use bp_code::{Code, compile};
+use bp_code::Code;
 use bp_machine::{Call, Outcome, Reply, Report, Setup};
-use bp_syntax::read;
 use std::alloc::{AllocError, Global};
 use std::test::Fail;
 
@@ -29,10 +27,10 @@ const TRACE: &[u8] = b"\
     seed none\n0 0 s\n0 1 s\n0 0 s\n0 0 e\nend 4 0\n";
 
 fn code_of(alloc: Global, text: &[u8]) -> Result<Code, Fail> {
-    let Ok(checked) = check(alloc, read(alloc, text)?) else {
-        return Err(Fail::from("not lawful"));
-    };
-    Ok(compile(alloc, &checked)?)
+    match bp_code::code_of(alloc, text) {
+        Ok(code) => Ok(code),
+        Err(_) => Err(Fail::from("no code")),
+    }
 }
 
 fn setup_of(alloc: Global, code: &Code) -> Result<Setup, Fail>

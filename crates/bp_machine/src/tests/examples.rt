@@ -29,24 +29,24 @@ fn steps_then(
 #[test]
 fn recursion_ends(rt: HostRuntime) -> Result<(), Fail> {
     let mut session = session_with(rt.alloc(), RECURSION, &["main"], &[true], 1, 1000)?;
-    assert!(rt; steps_then(&mut session, false, 20, Reply::Ended)?);
-    assert!(rt; session.open_lines() == 0);
+    let done = steps_then(&mut session, false, 20, Reply::Ended)?;
+    assert!(rt; done && session.open_lines() == 0);
     Ok(())
 }
 
 #[test]
 fn recursion_leaves_room(rt: HostRuntime) -> Result<(), Fail> {
     let mut session = session_with(rt.alloc(), RECURSION, &["main"], &[false], 1, 1000)?;
-    assert!(rt; steps_then(&mut session, false, 516, Reply::Stepped)?);
-    assert!(rt; session.open_lines() == 1);
+    let done = steps_then(&mut session, false, 516, Reply::Stepped)?;
+    assert!(rt; done && session.open_lines() == 1);
     Ok(())
 }
 
 #[test]
 fn recursion_fills_the_stack(rt: HostRuntime) -> Result<(), Fail> {
     let mut session = session_with(rt.alloc(), RECURSION, &["main"], &[false], 1, 3000)?;
-    assert!(rt; steps_then(&mut session, false, 2052, Reply::Full)?);
-    assert!(rt; session.open_lines() == 0);
+    let done = steps_then(&mut session, false, 2052, Reply::Full)?;
+    assert!(rt; done && session.open_lines() == 0);
     Ok(())
 }
 
@@ -59,25 +59,29 @@ fn race(alloc: Global, contexts: u32) -> Result<Session, Fail> {
 #[test]
 fn race_fails(rt: HostRuntime) -> Result<(), Fail> {
     let mut session = race(rt.alloc(), 3)?;
-    assert!(rt; comes_to(&mut session, &[0, 1, 0], b"ssf", (1, 3))?);
-    assert!(rt; session.is_failed());
+    let done = comes_to(&mut session, &[0, 1, 0], b"ssf", (1, 3))?;
+    assert!(rt; done && session.is_failed());
     Ok(())
 }
 
 #[test]
 fn race_out_of_contexts(rt: HostRuntime) -> Result<(), Fail> {
     let mut session = race(rt.alloc(), 2)?;
-    assert!(rt; comes_to(&mut session, &[0, 1, 0, 1, 1], b"ssnse", (0, 2))?);
-    assert!(rt; !session.is_failed());
+    let done = comes_to(&mut session, &[0, 1, 0, 1, 1], b"ssnse", (0, 2))?;
+    assert!(rt; done && !session.is_failed());
     Ok(())
+}
+
+/// Whether the thread makes no further call.
+fn is_over(session: &mut Session, thread: u32) -> bool {
+    session.ask_with(thread, false) == Err(AskFault::Finished)
 }
 
 #[test]
 fn race_stopped(rt: HostRuntime) -> Result<(), Fail> {
     let mut session = race(rt.alloc(), 3)?;
-    assert!(rt; comes_to(&mut session, &[0, 1, 0, 1], b"ssfx", (0, 3))?);
-    assert!(rt; session.ask_with(1, false) == Err(AskFault::Finished));
-    assert!(rt; session.ask_with(0, false) == Err(AskFault::Finished));
+    let done = comes_to(&mut session, &[0, 1, 0, 1], b"ssfx", (0, 3))?;
+    assert!(rt; done && is_over(&mut session, 1) && is_over(&mut session, 0));
     Ok(())
 }
 
@@ -92,8 +96,8 @@ fn refused_thread_opens_no_context(rt: HostRuntime) -> Result<(), Fail> {
 fn no_contexts(rt: HostRuntime) -> Result<(), Fail> {
     let text = b"main() begin skip; end";
     let mut session = session_with(rt.alloc(), text, &["main"], &[], 0, 1000)?;
-    assert!(rt; session.open_lines() == 1);
-    assert!(rt; comes_to(&mut session, &[0], b"n", (0, 0))?);
+    let is_new = session.open_lines() == 1;
+    assert!(rt; is_new && comes_to(&mut session, &[0], b"n", (0, 0))?);
     Ok(())
 }
 
@@ -101,8 +105,8 @@ fn no_contexts(rt: HostRuntime) -> Result<(), Fail> {
 fn swap(rt: HostRuntime) -> Result<(), Fail> {
     let text = b"decl x, y; main() begin x, y := y, x; print (x, y); end";
     let mut session = session_of(rt.alloc(), text, &[true, false])?;
-    assert!(rt; comes_to(&mut session, &[0; 4], b"ssse", (0, 1))?);
-    assert!(rt; (session.global(0), session.global(1)) == (Some(false), Some(true)));
+    let done = comes_to(&mut session, &[0; 4], b"ssse", (0, 1))?;
+    assert!(rt; done && (session.global(0), session.global(1)) == (Some(false), Some(true)));
     Ok(())
 }
 
@@ -123,15 +127,18 @@ fn arguments_by_value(rt: HostRuntime) -> Result<(), Fail> {
     Ok(())
 }
 
+/// Whether two steps leave the line open, and the third finishes it.
+fn ends_with_its_third_call(session: &mut Session) -> Result<bool, AskFault> {
+    let early = steps_then(session, true, 1, Reply::Stepped)? && session.open_lines() == 1;
+    let last = steps_then(session, true, 0, Reply::Stepped)? && session.open_lines() == 0;
+    Ok(early && last && is_over(session, 0))
+}
+
 #[test]
 fn calls_limit(rt: HostRuntime) -> Result<(), Fail> {
     let text = b"main() begin while (?) do skip; od end";
     let mut session = session_with(rt.alloc(), text, &["main"], &[], 2, 3)?;
-    assert!(rt; steps_then(&mut session, true, 1, Reply::Stepped)?);
-    assert!(rt; session.open_lines() == 1);
-    assert!(rt; steps_then(&mut session, true, 0, Reply::Stepped)?);
-    assert!(rt; session.open_lines() == 0);
-    assert!(rt; session.ask_with(0, true) == Err(AskFault::Finished));
+    assert!(rt; ends_with_its_third_call(&mut session)?);
     Ok(())
 }
 
@@ -164,8 +171,8 @@ fn is_swapped(session: &Session) -> bool {
 fn all_globals(rt: HostRuntime) -> Result<(), Fail> {
     let text = program_of_globals(rt.alloc())?;
     let mut session = session_of(rt.alloc(), text.as_bytes(), &[false; 128])?;
-    assert!(rt; comes_to(&mut session, &[0; 6], b"ssssse", (0, 1))?);
-    assert!(rt; is_swapped(&session));
+    let done = comes_to(&mut session, &[0; 6], b"ssssse", (0, 1))?;
+    assert!(rt; done && is_swapped(&session));
     Ok(())
 }
 
@@ -201,18 +208,23 @@ fn assume_blocks(rt: HostRuntime) -> Result<(), Fail> {
 
 #[test]
 fn assume_blocks_within_few_contexts(rt: HostRuntime) -> Result<(), Fail> {
-    let mut one = waiting(rt.alloc(), 1, 1000)?;
-    assert!(rt; comes_to(&mut one, &[0, 0, 1, 0], b"bbsn", (1, 1))?);
-    let mut none = waiting(rt.alloc(), 0, 1000)?;
-    assert!(rt; comes_to(&mut none, &[0], b"n", (1, 0))?);
+    let mut session = waiting(rt.alloc(), 1, 1000)?;
+    assert!(rt; comes_to(&mut session, &[0, 0, 1, 0], b"bbsn", (1, 1))?);
+    Ok(())
+}
+
+#[test]
+fn assume_waits_for_no_context(rt: HostRuntime) -> Result<(), Fail> {
+    let mut session = waiting(rt.alloc(), 0, 1000)?;
+    assert!(rt; comes_to(&mut session, &[0], b"n", (1, 0))?);
     Ok(())
 }
 
 #[test]
 fn assume_blocks_to_the_last_call(rt: HostRuntime) -> Result<(), Fail> {
     let mut session = waiting(rt.alloc(), 2, 2)?;
-    assert!(rt; comes_to(&mut session, &[0, 0], b"bb", (1, 0))?);
-    assert!(rt; session.ask_with(0, false) == Err(AskFault::Finished));
+    let done = comes_to(&mut session, &[0, 0], b"bb", (1, 0))?;
+    assert!(rt; done && is_over(&mut session, 0));
     Ok(())
 }
 
