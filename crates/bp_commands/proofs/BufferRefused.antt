@@ -35,10 +35,10 @@ consumes_nothing : (had : Option (List ℕ)) → Consumes had had []
 consumes_nothing None = tt
 consumes_nothing (Some bytes) = refl
 
-took_nothing : (had : Option (List ℕ)) (n : ℕ) → TookAtMost had had n
+pub took_nothing : (had : Option (List ℕ)) (n : ℕ) → TookAtMost had had n
 took_nothing had n = record { bytes = []; taken = consumes_nothing had; short = omega arith }
 
-appends_kept : (a b c : Option (List ℕ)) (text : List ℕ) → Keeps b c → Appends a b text → Appends a c text
+pub appends_kept : (a b c : Option (List ℕ)) (text : List ℕ) → Keeps b c → Appends a b text → Appends a c text
 appends_kept None b c text kept grown = tt
 appends_kept (Some xs) None c text kept grown = absurd grown
 appends_kept (Some xs) (Some ys) None text kept grown = absurd kept

@@ -5,6 +5,7 @@ mod InputRefused
 mod MappedErrors
 mod PairRefused
 mod Reportable
+mod RunRefused
 mod SetupsOfOptions
 mod TextDriven
 mod TextRefused

@@ -14,12 +14,16 @@ use Rattle.bp_commands.specs.declared.drive_refusals.DriveRefusal.{DriveRefusal}
 use Rattle.bp_commands.specs.declared.drive_refusals.DriveRefusal.TheVariants.{Device, TooLong, Program, Setup, Drive, Memory}
 use Rattle.bp_commands.specs.declared.trace_refusals.TraceRefusal.{TraceRefusal}
 use Rattle.bp_commands.specs.declared.trace_refusals.TraceRefusal.TheVariants as trace
+use Rattle.bp_run.specs.declared.run_faults.RunFault.{RunFault}
+use Rattle.bp_run.specs.declared.run_faults.RunFault.TheVariants as run_fault
+use Rattle.bp_commands.specs.declared.run_refusals.RunRefusal.{RunRefusal}
+use Rattle.bp_commands.specs.declared.run_refusals.RunRefusal.TheVariants as run
 use Rattle.bp_commands.specs.declared.file_faults.FileFault.{FileFault}
 use Rattle.bp_commands.specs.declared.file_faults.FileFault.TheVariants as file
 use Rattle.bp_code.specs.declared.texts.ProgramFault.{ProgramFault}
 use Rattle.bp_code.specs.declared.texts.ProgramFault.TheVariants.{Read, Check}
 use Rattle.bp_code.specs.LawfulTexts.{program_fault_number, program_fault_place}
-use Rattle.bp_commands.specs.Faults.{drive_refusal_number, file_fault_number, trace_refusal_number, drive_refusal_place, file_fault_place, trace_refusal_place, trace_refusal_wanted}
+use Rattle.bp_commands.specs.Faults.{drive_refusal_number, file_fault_number, trace_refusal_number, drive_refusal_place, file_fault_place, trace_refusal_place, trace_refusal_wanted, run_refusal_number, run_refusal_place}
 use Rattle.bp_commands.specs.FaultLines.{IsReportable}
 
 abbrev IsDriveReportable : DriveRefusal → Type 0
@@ -105,3 +109,12 @@ file_reportable file.Device = record { listed = refl; values = tt }
 file_reportable (file.Program f) = program_reportable f
 file_reportable file.Write = record { listed = refl; values = tt }
 file_reportable file.Memory = record { listed = refl; values = tt }
+
+pub run_reportable : (f : RunRefusal) → IsReportable (run_refusal_number f) (run_refusal_place f) None
+run_reportable run.Device = record { listed = refl; values = tt }
+run_reportable (run.Run (run_fault.Program f)) = program_reportable f
+run_reportable (run.Run (run_fault.Setup f)) = setup_reportable f
+run_reportable (run.Run run_fault.Start) = record { listed = refl; values = tt }
+run_reportable (run.Run run_fault.Foreign) = record { listed = refl; values = tt }
+run_reportable (run.Run run_fault.Write) = record { listed = refl; values = tt }
+run_reportable (run.Run run_fault.Memory) = record { listed = refl; values = tt }

@@ -12,6 +12,11 @@ use Rattle.bp_commands.specs.Drives.{OptionsOf}
 use Rattle.bp_commands.specs.Pairs.{PairInputs}
 use Rattle.bp_commands.specs.DriveInputs.{IsProgramDriven, IsDriveRefusal}
 use Rattle.bp_commands.specs.TraceInputs.{IsTraceWritten, IsTraceRefusal}
+use Rattle.bp_run.specs.Options as run_options
+use Rattle.bp_run.specs.declared.run_faults.RunFault.TheVariants as run
+use Rattle.bp_commands.specs.RunInputs.{IsProgramRun, IsNotRun}
+use Rattle.bp_commands.specs.declared.run_refusals.RunRefusal.{RunRefusal}
+use Rattle.bp_commands.specs.declared.run_refusals.RunRefusal.TheVariants as run_refusal
 use Rattle.bp_commands.specs.declared.file_faults.FileFault.{FileFault}
 use Rattle.bp_commands.specs.declared.file_faults.FileFault.TheVariants as file
 use Rattle.bp_commands.specs.declared.drive_refusals.DriveRefusal.{DriveRefusal}
@@ -75,6 +80,17 @@ IsProgramNotDriven io old o =
     IsNotDone (refusal.Drive drive.Write)
     (λ bytes. IsProgramDriven io old bytes o)
     (λ bytes. IsDriveRefusal io old bytes o)
+
+-- the program of an input was run, and the output that was given back has the trace
+abbrev pub IsProgramRunTo
+    : Ends → run_options.OptionsOf → Option (List ℕ) → Report → Type 0
+IsProgramRunTo ends o after = IsProgramRun (streams_to ends after) o
+
+abbrev pub IsProgramNotRun : Ends → run_options.OptionsOf → RunRefusal → Type 0
+IsProgramNotRun ends o =
+    IsNotDone (run_refusal.Run run.Write)
+    (IsProgramRunTo ends o)
+    (λ bytes. IsNotRun (streams_to ends bytes) o)
 
 -- a trace was not replayed or migrated through a buffer, as the text of a history is
 abbrev pub IsTraceNotWritten

@@ -5,12 +5,13 @@ use Rattle.std.specs.declared.io.ErrorKind.TheVariants.{OutOfMemory}
 use Rattle.bp_code.specs.Writing.{AppendsAll, AppendsPart}
 use Rattle.bp_machine.specs.declared.reports.Outcome.{Outcome}
 use Rattle.bp_machine.specs.declared.reports.Outcome.TheVariants as outcome
-use Rattle.bp_commands.specs.Faults.{drive_refusal_number, drive_refusal_place, file_fault_number, file_fault_place, trace_refusal_number, trace_refusal_place, trace_refusal_wanted}
+use Rattle.bp_commands.specs.Faults.{drive_refusal_number, drive_refusal_place, file_fault_number, file_fault_place, trace_refusal_number, trace_refusal_place, trace_refusal_wanted, run_refusal_number, run_refusal_place}
 use Rattle.bp_commands.specs.FaultLines.{fault_line}
 use Rattle.bp_commands.specs.declared.endings.WordsFault.{WordsFault}
 use Rattle.bp_commands.specs.declared.endings.WordsFault.TheVariants as words
 use Rattle.bp_commands.specs.declared.drive_refusals.DriveRefusal.{DriveRefusal}
 use Rattle.bp_commands.specs.declared.trace_refusals.TraceRefusal.{TraceRefusal}
+use Rattle.bp_commands.specs.declared.run_refusals.RunRefusal.{RunRefusal}
 use Rattle.bp_commands.specs.declared.file_faults.FileFault.{FileFault}
 
 -- the status of a run with this outcome
@@ -28,6 +29,9 @@ drive_refusal_line f = fault_line (drive_refusal_number f) (drive_refusal_place 
 abbrev pub trace_refusal_line : TraceRefusal → List ℕ
 trace_refusal_line f =
     fault_line (trace_refusal_number f) (trace_refusal_place f) (trace_refusal_wanted f)
+
+abbrev pub run_refusal_line : RunRefusal → List ℕ
+run_refusal_line f = fault_line (run_refusal_number f) (run_refusal_place f) None
 
 abbrev pub file_fault_line : FileFault → List ℕ
 file_fault_line f = fault_line (file_fault_number f) (file_fault_place f) None

@@ -19,6 +19,10 @@ use Rattle.bp_commands.specs.declared.drive_refusals.DriveRefusal.{DriveRefusal}
 use Rattle.bp_commands.specs.declared.drive_refusals.DriveRefusal.TheVariants.{Device, TooLong, Program, Setup, Drive, Memory}
 use Rattle.bp_commands.specs.declared.trace_refusals.TraceRefusal.{TraceRefusal}
 use Rattle.bp_commands.specs.declared.trace_refusals.TraceRefusal.TheVariants as trace
+use Rattle.bp_run.specs.Faults.{run_fault_number, run_fault_place}
+use Rattle.bp_run.specs.declared.run_faults.RunFault.TheVariants as run_fault
+use Rattle.bp_commands.specs.declared.run_refusals.RunRefusal.{RunRefusal}
+use Rattle.bp_commands.specs.declared.run_refusals.RunRefusal.TheVariants as run
 use Rattle.bp_commands.specs.declared.file_faults.FileFault.{FileFault}
 use Rattle.bp_commands.specs.declared.file_faults.FileFault.TheVariants as file
 use Rattle.bp_code.specs.declared.texts.ProgramFault.TheVariants.{Read}
@@ -44,6 +48,10 @@ file_fault_number (file.Program f) = program_fault_number f
 file_fault_number file.Write = 51
 file_fault_number file.Memory = 7
 
+abbrev pub run_refusal_number : RunRefusal → ℕ
+run_refusal_number run.Device = 54
+run_refusal_number (run.Run f) = run_fault_number f
+
 -- a byte of the text, a thread, or a line of the schedule
 abbrev pub drive_refusal_place : DriveRefusal → Option ℕ
 drive_refusal_place (Program f) = program_fault_place f
@@ -61,6 +69,11 @@ trace_refusal_place _ = None
 abbrev pub trace_refusal_wanted : TraceRefusal → Option Reply
 trace_refusal_wanted (trace.Trace f) = replays.wanted_reply f
 trace_refusal_wanted _ = None
+
+-- a byte of the text, or a thread
+abbrev pub run_refusal_place : RunRefusal → Option ℕ
+run_refusal_place run.Device = None
+run_refusal_place (run.Run f) = run_fault_place f
 
 abbrev pub file_fault_place : FileFault → Option ℕ
 file_fault_place (file.Program f) = program_fault_place f
@@ -113,3 +126,9 @@ abbrev pub file_fault_of : InputFault → FileFault
 file_fault_of input.Device = file.Device
 file_fault_of input.TooLong = file.Program (Read read.TooLong)
 file_fault_of input.Memory = file.Memory
+
+-- what it is to a command that runs a program
+abbrev pub run_refusal_of : InputFault → RunRefusal
+run_refusal_of input.Device = run.Device
+run_refusal_of input.TooLong = run.Run (run_fault.Program (Read read.TooLong))
+run_refusal_of input.Memory = run.Run run_fault.Memory

@@ -12,6 +12,7 @@ pub mod Listings
 pub mod Pairs
 pub mod ProgramInputs
 pub mod ReplayLines
+pub mod RunInputs
 pub mod SetupsUnderOptions
 pub mod Statuses
 pub mod TraceInputs

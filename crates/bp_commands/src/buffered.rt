@@ -12,7 +12,7 @@ ghost use Rattle.bp_commands.specs.Pairs.{PairInputs};
 ghost use Rattle.bp_commands.specs.DriveInputs.{IsProgramDriven};
 ghost use Rattle.bp_commands.specs.TraceTexts.{migration_of, replay_of};
 ghost use Rattle.bp_commands.specs.TraceInputs.{IsTraceWritten};
-ghost use Rattle.bp_commands.specs.Buffered.{Ends, IsWrittenTo, IsNotWritten, IsBundleDrivenTo, IsBundleNotDriven, IsProgramNotDriven, IsTraceNotWritten};
+ghost use Rattle.bp_commands.specs.Buffered.{Ends, IsWrittenTo, IsNotWritten, IsBundleDrivenTo, IsBundleNotDriven, IsProgramNotDriven, IsTraceNotWritten, IsProgramRunTo, IsProgramNotRun};
 
 use crate::bundle::drive_bundle;
 use crate::check::check_text;
@@ -23,11 +23,16 @@ use crate::drive_refusals::DriveRefusal;
 use crate::file_faults::FileFault;
 use crate::migrate::migrate_program;
 use crate::replay::replay_program;
+use crate::run::run_program;
+use crate::run_refusals::RunRefusal;
 use crate::trace_refusals::TraceRefusal;
 use bp_code::WriteFault;
 use bp_machine::Report;
+use bp_run::{Gate, RunFault, RunOptions};
 use std::alloc::Global;
 use std::io::{BufWriter, Read, Write};
+use std::sync::Wait;
+use std::thread::Threads;
 
 /// Hands on what a buffer holds, and gives back the output behind it.
 fn hand_on<W: Write + Drop>(out: BufWriter<W>) -> Result<W, WriteFault>
@@ -198,5 +203,33 @@ pub fn migrate_buffered<R: Read, S: Read, W: Write + Drop>(
         return Err(TraceRefusal::Memory);
     };
     let report = migrate_program(alloc, program, trace, &mut out)?;
+    Ok((report, hand_on(out)?))
+}
+
+/// Runs the program of an input as `run_program` does, and gives back the output, which has the
+/// trace. What the workers have made so far is handed on whenever nothing is left to take.
+pub fn run_buffered<G: Gate, I: Read, W: Write + Drop, R: Threads + Wait + Sync>(
+    rt: &R,
+    alloc: Global,
+    options: &RunOptions,
+    gate: &G,
+    program: &mut I,
+    output: W,
+) -> Result<(Report, W), RunRefusal>
+    ensures answer { let ends : Ends = record {
+      input_before = I.remaining program.old;
+      input_after = I.remaining program.new;
+      output_before = W.contents output;
+    } in
+        MatchResult result
+        (λ r. IsProgramRunTo ends options.now (W.contents r.1) r.0)
+        (IsProgramNotRun ends options.now) }
+    ensures bound { let most = TEXT_LIMIT + 1 in
+        TookAtMost (I.remaining program.old) (I.remaining program.new) most }
+{
+    let Ok(mut out) = BufWriter::new(alloc, output) else {
+        return Err(RunRefusal::Run(RunFault::Memory));
+    };
+    let report = run_program(rt, alloc, options, gate, program, &mut out)?;
     Ok((report, hand_on(out)?))
 }

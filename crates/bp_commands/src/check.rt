@@ -6,9 +6,8 @@ ghost use Rattle.bp_commands.specs.Checks.{check_line, IsCheckWritten, IsCheckRe
 
 use crate::file_faults::FileFault;
 use crate::inputs::read_whole;
-use bp_code::lawful_program;
 use bp_check::Checked;
-use bp_code::{WriteFault, put_each};
+use bp_code::{WriteFault, lawful_program, put_each};
 use bp_syntax::limits::TEXT_LIMIT;
 use itoa::Buffer;
 use std::alloc::Global;

@@ -5,8 +5,7 @@ ghost use Rattle.bp_commands.specs.Listings.{IsListingWritten, IsListingRefusal}
 
 use crate::file_faults::FileFault;
 use crate::inputs::read_whole;
-use bp_code::lawful_program;
-use bp_code::{compile, list};
+use bp_code::{compile, lawful_program, list};
 use bp_syntax::limits::TEXT_LIMIT;
 use std::alloc::Global;
 use std::io::{Read, Write};

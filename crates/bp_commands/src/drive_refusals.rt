@@ -1,8 +1,7 @@
 //! Why a program is not driven.
 use crate::inputs::InputFault;
 use crate::pairs::PairFault;
-use bp_code::{CodeFault, ProgramFault};
-use bp_code::WriteFault;
+use bp_code::{CodeFault, ProgramFault, WriteFault};
 use bp_machine::SetupFault;
 use bp_syntax::ReadFault;
 use bp_trace::DriveFault;

@@ -3,12 +3,13 @@ ghost use Rattle.std.specs.Prelude.{◌≡◌, None, Some, false, MatchResult};
 ghost use Rattle.std.specs.IoError.{error_kind};
 ghost use Rattle.bp_commands.specs.FaultLines.{fault_line, IsReportable};
 ghost use Rattle.bp_commands.specs.Statuses.{status_of};
-ghost use Rattle.bp_commands.specs.Faults.{drive_refusal_number, file_fault_number, trace_refusal_number};
-ghost use Rattle.bp_commands.specs.Endings.{outcome_status, drive_refusal_line, file_fault_line, trace_refusal_line, words_fault_of, HasLine};
+ghost use Rattle.bp_commands.specs.Faults.{drive_refusal_number, file_fault_number, trace_refusal_number, run_refusal_number};
+ghost use Rattle.bp_commands.specs.Endings.{outcome_status, drive_refusal_line, file_fault_line, trace_refusal_line, run_refusal_line, words_fault_of, HasLine};
 
 use crate::drive_refusals::DriveRefusal;
 use crate::fault_lines::show_fault;
 use crate::file_faults::FileFault;
+use crate::run_refusals::RunRefusal;
 use crate::statuses::exit_status;
 use crate::trace_refusals::TraceRefusal;
 use bp_code::WriteFault;
@@ -95,6 +96,24 @@ pub fn end_trace<W, E: Write>(done: &Result<(Report, W), TraceRefusal>, errors: 
         Err(fault) => {
             fault.is_reportable();
             refuse(fault.number(), fault.place(), fault.wanted(), errors)
+        }
+    }
+}
+
+/// Ends a run of real workers, by what `run_buffered` answered.
+pub fn end_run<W, E: Write>(done: &Result<(Report, W), RunRefusal>, errors: &mut E) -> u8
+    ensures status { MatchResult done.now
+        (λ r. result ≡ outcome_status r.0.outcome)
+        (λ f. result ≡ status_of false (Some (run_refusal_number f))) }
+    ensures line { MatchResult done.now
+        (λ _. E.contents errors.new ≡ E.contents errors.old)
+        (λ f. HasLine (run_refusal_line f) (E.contents errors.old) (E.contents errors.new)) }
+{
+    match done {
+        Ok((report, _)) => outcome_status(report.outcome),
+        Err(fault) => {
+            fault.is_reportable();
+            refuse(fault.number(), fault.place(), None, errors)
         }
     }
 }

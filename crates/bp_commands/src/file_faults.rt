@@ -1,7 +1,6 @@
 //! Why a command that reads a file is refused.
 use crate::inputs::InputFault;
-use bp_code::ProgramFault;
-use bp_code::WriteFault;
+use bp_code::{ProgramFault, WriteFault};
 use bp_syntax::ReadFault;
 use thiserror::Error;
 

@@ -18,6 +18,8 @@ mod migrate;
 mod pairs;
 mod replay;
 mod replay_lines;
+mod run;
+mod run_refusals;
 mod statuses;
 #[cfg(test)]
 mod tests;
@@ -25,7 +27,7 @@ mod trace_refusals;
 
 pub use buffered::{
     check_buffered, drive_buffered, drive_program_buffered, list_buffered, migrate_buffered,
-    replay_buffered,
+    replay_buffered, run_buffered,
 };
 pub use bundle::drive_bundle;
 pub use check::{check_text, show_check};
@@ -34,7 +36,7 @@ pub use drive::{drive_program, drive_text};
 pub use drive_options::DriveOptions;
 pub use drive_refusals::{BundleFault, DriveRefusal};
 pub use endings::{
-    WordsFault, end_drive, end_file, end_printed, end_trace, refuse_memory, words_fault,
+    WordsFault, end_drive, end_file, end_printed, end_run, end_trace, refuse_memory, words_fault,
 };
 pub use fault_lines::{Detail, show_fault};
 pub use file_faults::FileFault;
@@ -42,5 +44,7 @@ pub use inputs::{InputFault, read_whole, reading_fault};
 pub use migrate::{migrate_program, migrate_text};
 pub use replay::{replay_program, replay_text};
 pub use replay_lines::show_replay;
+pub use run::run_program;
+pub use run_refusals::RunRefusal;
 pub use statuses::exit_status;
 pub use trace_refusals::TraceRefusal;

@@ -8,8 +8,8 @@ ghost use Rattle.bp_commands.specs.TraceTexts.{migration_of, IsTextWritten, IsTr
 ghost use Rattle.bp_commands.specs.TraceInputs.{IsTraceWritten, IsTraceRefusal};
 
 use crate::pairs::read_pair;
-use bp_code::code_of;
 use crate::trace_refusals::TraceRefusal;
+use bp_code::code_of;
 use bp_machine::Report;
 use bp_trace::limits::MAX_TRACE;
 use bp_trace::migrate;

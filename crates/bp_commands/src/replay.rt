@@ -8,9 +8,9 @@ ghost use Rattle.bp_commands.specs.TraceTexts.{replay_of, IsTextWritten, IsTrace
 ghost use Rattle.bp_commands.specs.TraceInputs.{IsTraceWritten, IsTraceRefusal};
 
 use crate::pairs::read_pair;
-use bp_code::code_of;
 use crate::replay_lines::show_replay;
 use crate::trace_refusals::TraceRefusal;
+use bp_code::code_of;
 use bp_machine::Report;
 use bp_trace::limits::MAX_TRACE;
 use bp_trace::replay;

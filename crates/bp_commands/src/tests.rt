@@ -7,6 +7,7 @@ mod endings;
 mod fault_lines;
 mod messages;
 mod replay;
+mod run;
 
 use std::io;
 use std::io::{ErrorKind, Read, Write};

@@ -1,7 +1,6 @@
 //! Why a trace is not replayed or migrated.
 use crate::pairs::PairFault;
-use bp_code::{CodeFault, ProgramFault};
-use bp_code::WriteFault;
+use bp_code::{CodeFault, ProgramFault, WriteFault};
 use bp_machine::Reply;
 use bp_syntax::ReadFault;
 use bp_trace::{MigrateFault, ReplayFault};

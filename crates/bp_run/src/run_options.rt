@@ -42,7 +42,7 @@ impl Model for RunOptions {
 }
 
 impl RunOptions {
-    /// Whether a turn has no call or more than 64, or the ring has no room or for more than 65,536.
+    /// Whether a turn has no call or more than 64, or the ring holds no call or more than 65,536.
     fn is_out_of_range(&self) -> bool
         ensures { result ≡ has_bad_turn_or_ring self.now }
     {

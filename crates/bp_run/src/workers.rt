@@ -10,9 +10,9 @@ use std::sync::ledger::Ledger;
 use std::sync::{Mutex, Wait};
 use std::thread;
 
-/// Takes turns of at most `turn` calls from this seat, until its line is finished. Where the ring is
-/// full it gives way to other threads, and takes a turn again. It stops where memory is refused, and
-/// where the line was finished already behind the seat's back.
+/// Takes turns of at most `turn` calls from this seat, until its line is finished. Where the ring
+/// is full it gives way to other threads, and takes a turn again. It stops where memory is refused,
+/// or where the line was finished already though the seat is open. The calls that were made stand.
 pub fn work<C: Calls, O: Ledger, G: Gate, R: Wait>(
     rt: &R,
     board: &Board<C, O>,
@@ -66,7 +66,7 @@ pub(crate) fn worker<C: Calls, O: Ledger, G: Gate, R: Wait>(
     requires few { turn ≤ MAX_TURN }
     ensures { result.thread ≡ seat.thread }
 {
-    // A refusal leaves the line open, and the report tells of it.
+    // A refusal leaves the line open, and the report counts it.
     let _ = work(rt, board, &mut seat, turn, gate);
     note_end(rt, ended);
     seat

@@ -2,7 +2,7 @@
 use Rattle.std.proofs.Common.{◌≡◌, ap, refl, false, not, codes, map, option_map, unwrap_or, Bool, List, [], ◌∷◌, Bor, Option, Some, None}
 use Rattle.std.specs.Option.{option_map_or}
 use Rattle.clap.specs.Walk.{Text}
-use Rattle.btrun.specs.DriveWords.{is_bits, bits_in}
+use Rattle.btrun.specs.Values.{is_bits, bits_in}
 
 read_or : (given : Option (Bor Text)) (first : Option Text) (r d : Bor Text) → option_map (λ s. s.now) given ≡ first → r ≡ unwrap_or given d → d.now ≡ [] → r.now ≡ unwrap_or first []
 read_or None first r d same is empty = rw (is, ← same) empty

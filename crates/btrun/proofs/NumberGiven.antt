@@ -3,14 +3,14 @@ use Rattle.std.proofs.Common.{◌≡◌, ◌∙◌, ap, refl, inl, inr, ℕ, Opt
 use Rattle.std.specs.Str.Parse.{ParsesUnsigned}
 use Rattle.clap.specs.Matches.{ReadsOne}
 use Rattle.clap.specs.Walk.{Text}
-use Rattle.btrun.specs.DriveWords.{IsNumberOf}
+use Rattle.btrun.specs.Values.{IsNumberOf}
 
-module _ {E : Type 0} (gives : Text → Result ℕ E → Type 0) (parses : (t : Text) (r : Result ℕ E) → gives t r → ParsesUnsigned 32 10 t r) (default : ℕ) where
-  read_of : (t : Text) (read : Option ℕ) → ReadsOne gives t read → IsNumberOf default (Some t) (unwrap_or read default)
+module _ {E : Type 0} (bits : ℕ) (gives : Text → Result ℕ E → Type 0) (parses : (t : Text) (r : Result ℕ E) → gives t r → ParsesUnsigned bits 10 t r) (default : ℕ) where
+  read_of : (t : Text) (read : Option ℕ) → ReadsOne gives t read → IsNumberOf bits default (Some t) (unwrap_or read default)
   read_of t (Some n) reads = let known = parses t (Ok n) reads in inl (known.0, known.1)
   read_of t None (e, reads) = let known = parses t (Err e) reads in inr (known, refl)
 
   pub number_given : (text : Option Text) (read : Option ℕ) (n : ℕ) → n ≡ unwrap_or read default → (text ≡ None → read ≡ None)
-      → ((t : Text) → text ≡ Some t → ReadsOne gives t read) → IsNumberOf default text n
+      → ((t : Text) → text ≡ Some t → ReadsOne gives t read) → IsNumberOf bits default text n
   number_given None read n is none some = is ∙ ap (λ r. unwrap_or r default) (none refl)
   number_given (Some t) read n is none some = rw is (read_of t read (some t refl))

@@ -10,11 +10,13 @@ use Rattle.clap.specs.declared.error.Error.{Error}
 use Rattle.clap.specs.declared.error.kind.ErrorKind.TheVariants.{OutOfMemory}
 use Rattle.clap.proofs.OnLiterals.{clap_on_literals}
 use Rattle.bp_commands.specs.Drives.{OptionsOf, options_of, defaults}
-use Rattle.bp_commands.specs.declared.limits.TheConstants.{DEFAULT_CONTEXTS, DEFAULT_CALLS}
-use Rattle.btrun.specs.Commands.{btrun_app, is_plain, words_fault, IsCheckOf, IsCodeOf, IsMigrateOf, IsPlainDriveOf, IsReplayOf, IsTaskOf}
-use Rattle.btrun.specs.DriveWords.{init_fault}
+use Rattle.bp_run.specs.Options as runs
+use Rattle.bp_commands.specs.RunInputs.{run_defaults}
+use Rattle.bp_commands.specs.declared.limits.TheConstants.{DEFAULT_CONTEXTS, DEFAULT_CALLS, DEFAULT_TURN, DEFAULT_SEED, DEFAULT_RING}
+use Rattle.btrun.specs.Commands.{btrun_app, is_plain, words_fault, IsCheckOf, IsCodeOf, IsMigrateOf, IsPlainDriveOf, IsPlainRunOf, IsReplayOf, IsTaskOf}
+use Rattle.btrun.specs.Values.{init_fault}
 use Rattle.btrun.specs.declared.commands.Task.{Task}
-use Rattle.btrun.specs.declared.commands.Task.TheVariants.{Bundle, Check, Code, Drive, Replay, Migrate}
+use Rattle.btrun.specs.declared.commands.Task.TheVariants.{Bundle, Check, Code, Drive, Run, Replay, Migrate}
 
 -- words that `clap` takes have no fault where the command's initial bits have none
 no_fault : (words : List Text) (command : Option (Text × List Row)) → fault_of btrun_app words ≡ [] → subcommand_of btrun_app words ≡ command → init_fault command ≡ [] → words_fault words ≡ []
@@ -77,6 +79,21 @@ drive≢migrate same = let heads = ap (λ t. get_or t 0 0) same in absurd (omega
 replay≢migrate : codes "replay" ≡ codes "migrate" → ⊥
 replay≢migrate same = let heads = ap (λ t. get_or t 0 0) same in absurd (omega (arith, heads))
 
+check≢run : codes "check" ≡ codes "run" → ⊥
+check≢run same = let heads = ap (λ t. get_or t 0 0) same in absurd (omega (arith, heads))
+
+code≢run : codes "code" ≡ codes "run" → ⊥
+code≢run same = let heads = ap (λ t. get_or t 0 0) same in absurd (omega (arith, heads))
+
+drive≢run : codes "drive" ≡ codes "run" → ⊥
+drive≢run same = let heads = ap (λ t. get_or t 0 0) same in absurd (omega (arith, heads))
+
+run≢replay : codes "run" ≡ codes "replay" → ⊥
+run≢replay same = let heads = ap (λ t. get_or t 1 0) same in absurd (omega (arith, heads))
+
+run≢migrate : codes "run" ≡ codes "migrate" → ⊥
+run≢migrate same = let heads = ap (λ t. get_or t 0 0) same in absurd (omega (arith, heads))
+
 -- the row of an argument that has one value
 abbrev given : Text → Text → Row
 given id text = record { id = id; values = text ∷ []; count = None; source = Some CommandLine; reading = AsWritten }
@@ -111,6 +128,7 @@ check_of file Bundle asks = absurd asks
 check_of file (Check path) asks = asks.1
 check_of file (Code path) asks = absurd (check≢code asks.0)
 check_of file (Drive words) asks = absurd (check≢drive asks.0)
+check_of file (Run words) asks = absurd (check≢run asks.0)
 check_of file (Replay words) asks = absurd (check≢replay asks.0)
 check_of file (Migrate words) asks = absurd (check≢migrate asks.0)
 
@@ -138,6 +156,7 @@ code_of file Bundle asks = absurd asks
 code_of file (Code path) asks = asks.1
 code_of file (Check path) asks = absurd (check≢code (sym asks.0))
 code_of file (Drive words) asks = absurd (code≢drive asks.0)
+code_of file (Run words) asks = absurd (code≢run asks.0)
 code_of file (Replay words) asks = absurd (code≢replay asks.0)
 code_of file (Migrate words) asks = absurd (code≢migrate asks.0)
 
@@ -173,12 +192,49 @@ drive_of file schedule Bundle asks = absurd asks
 drive_of file schedule (Check path) asks = absurd (check≢drive (sym asks.0))
 drive_of file schedule (Code path) asks = absurd (code≢drive (sym asks.0))
 drive_of file schedule (Drive words) (named, of) = (of.program, of.schedule, options_are words.options of.entries of.init of.contexts of.calls)
+drive_of file schedule (Run words) asks = absurd (drive≢run asks.0)
 drive_of file schedule (Replay words) asks = absurd (drive≢replay asks.0)
 drive_of file schedule (Migrate words) asks = absurd (drive≢migrate asks.0)
 
 pub drive_asked : (program file schedule : Text) (task : Task) → is_plain file ≡ true → is_plain schedule ≡ true → IsTaskOf (subcommand_of btrun_app (drive_words program file schedule)) task → IsPlainDriveOf file schedule task
 drive_asked program file schedule task plain even asks =
     drive_of file schedule task (subst (λ c. IsTaskOf c task) (drive_named program file schedule (is_word file plain) (is_word schedule even)) asks)
+
+abbrev run_words : Text → Text → List Text
+run_words program file = program ∷ codes "run" ∷ file ∷ []
+
+run_named : (program file : Text) → IsWord file → subcommand_of btrun_app (run_words program file) ≡ Some (codes "run", file_row file)
+unfolding clap_on_literals
+run_named program file (no_end, no_long, no_short) = rw (no_end, no_long, no_short) refl
+
+run_clean : (program file : Text) → IsWord file → fault_of btrun_app (run_words program file) ≡ []
+unfolding clap_on_literals
+run_clean program file (no_end, no_long, no_short) = rw (no_end, no_long, no_short) refl
+
+pub run_faulty : (program file : Text) → is_plain file ≡ true → words_fault (run_words program file) ≡ []
+run_faulty program file plain =
+    let word = is_word file plain in
+    no_fault (run_words program file) (Some (codes "run", file_row file)) (run_clean program file word) (run_named program file word) refl
+
+run_options_are : (o : runs.OptionsOf) → o.entries ≡ codes "main" ∷ [] → o.init ≡ None → o.contexts ≡ DEFAULT_CONTEXTS → o.calls ≡ DEFAULT_CALLS
+    → o.turn ≡ DEFAULT_TURN → o.seed ≡ DEFAULT_SEED → o.ring ≡ DEFAULT_RING → o ≡ run_defaults
+run_options_are o entries init contexts calls turn seed ring =
+    ap₂ (λ e i. runs.options_of e i o.contexts o.calls o.turn o.seed o.ring) entries init
+    ∙ (ap₂ (λ k n. runs.options_of (codes "main" ∷ []) None k n o.turn o.seed o.ring) contexts calls
+    ∙ (ap₂ (λ n x. runs.options_of (codes "main" ∷ []) None DEFAULT_CONTEXTS DEFAULT_CALLS n x o.ring) turn seed
+    ∙ ap (runs.options_of (codes "main" ∷ []) None DEFAULT_CONTEXTS DEFAULT_CALLS DEFAULT_TURN DEFAULT_SEED) ring))
+
+run_of : (file : Text) (task : Task) → IsTaskOf (Some (codes "run", file_row file)) task → IsPlainRunOf file task
+run_of file Bundle asks = absurd asks
+run_of file (Check path) asks = absurd (check≢run (sym asks.0))
+run_of file (Code path) asks = absurd (code≢run (sym asks.0))
+run_of file (Drive words) asks = absurd (drive≢run (sym asks.0))
+run_of file (Run words) (named, of) = (of.program, run_options_are words.options of.entries of.init of.contexts of.calls of.turn of.seed of.ring)
+run_of file (Replay words) asks = absurd (run≢replay asks.0)
+run_of file (Migrate words) asks = absurd (run≢migrate asks.0)
+
+pub run_asked : (program file : Text) (task : Task) → is_plain file ≡ true → IsTaskOf (subcommand_of btrun_app (run_words program file)) task → IsPlainRunOf file task
+run_asked program file task plain asks = run_of file task (subst (λ c. IsTaskOf c task) (run_named program file (is_word file plain)) asks)
 
 abbrev trace_rows : Text → Text → List Row
 trace_rows file trace = given (codes "FILE") file ∷ given (codes "TRACE") trace ∷ []
@@ -205,6 +261,7 @@ replay_of file trace Bundle asks = absurd asks
 replay_of file trace (Check path) asks = absurd (check≢replay (sym asks.0))
 replay_of file trace (Code path) asks = absurd (code≢replay (sym asks.0))
 replay_of file trace (Drive words) asks = absurd (drive≢replay (sym asks.0))
+replay_of file trace (Run words) asks = absurd (run≢replay (sym asks.0))
 replay_of file trace (Replay words) (named, of) = (of.program, of.trace)
 replay_of file trace (Migrate words) asks = absurd (replay≢migrate asks.0)
 
@@ -234,6 +291,7 @@ migrate_of file trace Bundle asks = absurd asks
 migrate_of file trace (Check path) asks = absurd (check≢migrate (sym asks.0))
 migrate_of file trace (Code path) asks = absurd (code≢migrate (sym asks.0))
 migrate_of file trace (Drive words) asks = absurd (drive≢migrate (sym asks.0))
+migrate_of file trace (Run words) asks = absurd (run≢migrate (sym asks.0))
 migrate_of file trace (Migrate words) (named, of) = (of.program, of.trace)
 migrate_of file trace (Replay words) asks = absurd (replay≢migrate (sym asks.0))
 

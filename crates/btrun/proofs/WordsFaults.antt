@@ -10,7 +10,7 @@ use Rattle.clap.specs.declared.error.Error.{Error}
 use Rattle.clap.specs.declared.error.kind.ErrorKind.TheVariants.{InvalidValue, OutOfMemory}
 use Rattle.clap.specs.declared.parser.matches.ArgMatches.{ArgMatches}
 use Rattle.btrun.specs.Commands.{btrun_app, words_fault}
-use Rattle.btrun.specs.DriveWords.{has_bad_init}
+use Rattle.btrun.specs.Values.{has_bad_init}
 use Rattle.btrun.proofs.PlainWords.{only_memory}
 
 is_exact : is_simple_and_free btrun_app ≡ true

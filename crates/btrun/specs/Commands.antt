@@ -8,11 +8,14 @@ use Rattle.clap.specs.Walk.{Row, Rule, Text}
 use Rattle.clap.specs.Simple.{App, new_app, new_rule, on_top, subcommand_of, with_rule, with_subcommand}
 use Rattle.clap.specs.declared.builder.value_parser.ValueParser.TheVariants as parser
 use Rattle.bp_commands.specs.Drives.{defaults}
-use Rattle.btrun.specs.DriveWords.{value_of, init_fault, IsDriveOf}
+use Rattle.bp_commands.specs.RunInputs.{run_defaults}
+use Rattle.btrun.specs.Values.{value_of, init_fault}
+use Rattle.btrun.specs.DriveWords.{IsDriveOf}
+use Rattle.btrun.specs.RunWords.{IsRunOf}
 use Rattle.btrun.specs.TraceWords.{IsTraceWordsOf}
 use Rattle.btrun.specs.declared.commands.trace.TraceWords.{TraceWords}
 use Rattle.btrun.specs.declared.commands.Task.{Task}
-use Rattle.btrun.specs.declared.commands.Task.TheVariants.{Bundle, Check, Code, Drive, Replay, Migrate}
+use Rattle.btrun.specs.declared.commands.Task.TheVariants.{Bundle, Check, Code, Drive, Run, Replay, Migrate}
 
 -- an argument that has to be there
 abbrev pub required_rule : Text → Rule
@@ -39,6 +42,11 @@ abbrev pub number_rule : Text → Rule
 number_rule name =
     record (option_rule name) { parser = Some (parser.Signed (pos 0) (pos 4294967295)) }
 
+-- an option whose value is a number of 64 bits
+abbrev pub long_number_rule : Text → Rule
+long_number_rule name =
+    record (option_rule name) { parser = Some (parser.Unsigned 0 18446744073709551615) }
+
 -- an argument with any number of values
 abbrev pub values_rule : Text → Rule
 values_rule name =
@@ -60,6 +68,19 @@ drive_app =
     ∷ number_rule (codes "contexts")
     ∷ number_rule (codes "calls")
     ∷ option_rule (codes "init")
+    ∷ [])
+
+-- `run FILE [ENTRY].. [--seed N] [--contexts N] [--calls N] [--turn N] [--init BITS] [--ring N]`
+abbrev pub run_app : App
+run_app =
+    with_rules (file_app (codes "run")) (
+    values_rule (codes "ENTRY")
+    ∷ long_number_rule (codes "seed")
+    ∷ number_rule (codes "contexts")
+    ∷ number_rule (codes "calls")
+    ∷ number_rule (codes "turn")
+    ∷ option_rule (codes "init")
+    ∷ number_rule (codes "ring")
     ∷ [])
 
 -- a command of this name, a file and a trace
@@ -87,7 +108,7 @@ with_commands a (c ∷ cs) = with_commands (with_subcommand a c.top) cs
 abbrev pub btrun_app : App
 btrun_app =
     with_commands program_app
-    (check_app ∷ code_app ∷ drive_app ∷ replay_app ∷ migrate_app ∷ [])
+    (check_app ∷ code_app ∷ drive_app ∷ run_app ∷ replay_app ∷ migrate_app ∷ [])
 
 -- the command has this name, and its file is the path
 abbrev pub IsOfFile : Text → Text → List Row → Text → Type 0
@@ -99,8 +120,9 @@ IsNamed name =
     (name ≡ codes "check")
     ⊎ ((name ≡ codes "code")
     ⊎ ((name ≡ codes "drive")
+    ⊎ ((name ≡ codes "run")
     ⊎ ((name ≡ codes "replay")
-    ⊎ (name ≡ codes "migrate"))))
+    ⊎ (name ≡ codes "migrate")))))
 
 -- the words name no command, or one of those that there are
 abbrev pub IsOurs : Option (Text × List Row) → Type 0
@@ -113,6 +135,7 @@ IsAsked name rows Bundle = ⊥
 IsAsked name rows (Check path) = IsOfFile (codes "check") name rows path.now
 IsAsked name rows (Code path) = IsOfFile (codes "code") name rows path.now
 IsAsked name rows (Drive words) = (name ≡ codes "drive") × IsDriveOf rows words
+IsAsked name rows (Run words) = (name ≡ codes "run") × IsRunOf rows words
 IsAsked name rows (Replay words) = (name ≡ codes "replay") × IsTraceWordsOf rows words
 IsAsked name rows (Migrate words) = (name ≡ codes "migrate") × IsTraceWordsOf rows words
 
@@ -145,6 +168,12 @@ abbrev pub IsPlainDriveOf : Text → Text → Task → Type 0
 IsPlainDriveOf file schedule (Drive words) =
     (words.program.now ≡ file) × (words.schedule.now ≡ schedule) × (words.options ≡ defaults)
 IsPlainDriveOf file schedule task = ⊥
+
+-- the task is to run the program of this file under the defaults
+abbrev pub IsPlainRunOf : Text → Task → Type 0
+IsPlainRunOf file (Run words) =
+    (words.program.now ≡ file) × (words.options ≡ run_defaults)
+IsPlainRunOf file task = ⊥
 
 -- the files are these
 abbrev pub HasFiles : Text → Text → TraceWords → Type 0

@@ -1,4 +1,6 @@
 pub mod Commands
 pub mod DriveWords
+pub mod RunWords
 pub mod Statuses
 pub mod TraceWords
+pub mod Values

@@ -1,7 +1,7 @@
 -- What the words behind `replay` and `migrate` ask for.
 use Rattle.std.specs.Prelude.{◌≡◌, List, codes}
 use Rattle.clap.specs.Walk.{Row}
-use Rattle.btrun.specs.DriveWords.{value_of}
+use Rattle.btrun.specs.Values.{value_of}
 use Rattle.btrun.specs.declared.commands.trace.TraceWords.{TraceWords}
 
 -- the files are those of the arguments

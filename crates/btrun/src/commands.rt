@@ -2,20 +2,25 @@
 ghost use Rattle.std.specs.Prelude.{◌≡◌, true, false, ℕ, List, [], ◌∷◌, map, codes, string_bytes, IfOk, MatchResult};
 ghost use Rattle.clap.specs.Words.{FailsBy, app_of, kind_of, subcommand_of, subcommand_rows_of};
 ghost use Rattle.clap.specs.declared.builder.command.Command.TheViews.{out-Command};
-ghost use Rattle.btrun.specs.Commands.{btrun_app, file_app, is_plain, program_app, words_fault, IsOurs, IsCheckOf, IsCodeOf, IsMigrateOf, IsPlainDriveOf, IsReplayOf, IsTaskOf};
+ghost use Rattle.btrun.specs.Commands.{btrun_app, file_app, is_plain, program_app, words_fault, IsOurs, IsCheckOf, IsCodeOf, IsMigrateOf, IsPlainDriveOf, IsPlainRunOf, IsReplayOf, IsTaskOf};
 
 mod arguments;
 mod drive;
+mod run;
 mod trace;
+mod values;
 
 use arguments::required;
 use clap::error::ErrorKind;
 use clap::{ArgMatches, Command, Error};
 pub use drive::DriveWords;
-use drive::{drive_command, drive_words, has_bad_init};
+use drive::{drive_command, drive_words};
+pub use run::RunWords;
+use run::{run_command, run_words};
 use std::alloc::{AllocError, Global};
 pub use trace::TraceWords;
 use trace::{MIGRATE_ABOUT, MIGRATE_NOTES, REPLAY_ABOUT, REPLAY_NOTES, trace_command, trace_words};
+use values::has_bad_init;
 
 /// The version of the program.
 const VERSION: &str = "0.1.0";
@@ -31,6 +36,8 @@ pub enum Task<'a> {
     Code(&'a str),
     /// Drive the program of a file by a schedule.
     Drive(DriveWords<'a>),
+    /// Run the program of a file by real workers.
+    Run(RunWords<'a>),
     /// Replay a trace of the program of a file.
     Replay(TraceWords<'a>),
     /// Migrate a trace of the program of a file.
@@ -43,7 +50,7 @@ const NOTES: &str = "\
     'THREAD BIT'. One thread begins with 'main', all globals are 0, and at most 2 contexts and\n\
     1000 calls are allowed. The trace of the run is printed.\n\n\
     Examples:\n  btrun < FILE\n  btrun check FILE\n  btrun code FILE\n  \
-    btrun drive FILE SCHEDULE\n  btrun replay FILE TRACE\n  \
+    btrun drive FILE SCHEDULE\n  btrun run FILE\n  btrun replay FILE TRACE\n  \
     btrun migrate FILE TRACE\n\n\
     Exit status:\n  0  done, and no assertion failed\n  1  an assertion failed\n  \
     2  the input or the words were refused\n  3  memory, a device or the output failed";
@@ -111,6 +118,7 @@ fn command<'a>(alloc: Global) -> Result<Command<'a>, AllocError>
         .subcommand(file_command(alloc, "check", CHECK_ABOUT, CHECK_NOTES)?)?
         .subcommand(file_command(alloc, "code", CODE_ABOUT, CODE_NOTES)?)?
         .subcommand(drive_command(alloc)?)?
+        .subcommand(run_command(alloc)?)?
         .subcommand(trace_command(alloc, "replay", REPLAY_ABOUT, REPLAY_NOTES)?)?
         .subcommand(trace_command(alloc, "migrate", MIGRATE_ABOUT, MIGRATE_NOTES)?)
 }
@@ -125,6 +133,7 @@ fn task_of<'a>(alloc: Global, matches: &ArgMatches<'a>) -> Result<Task<'a>, Allo
         Some(("check", words)) => Ok(Task::Check(words.get_str("FILE").unwrap_or(""))),
         Some(("code", words)) => Ok(Task::Code(words.get_str("FILE").unwrap_or(""))),
         Some(("drive", words)) => Ok(Task::Drive(drive_words(alloc, words)?)),
+        Some(("run", words)) => Ok(Task::Run(run_words(alloc, words)?)),
         Some(("replay", words)) => Ok(Task::Replay(trace_words(words))),
         Some(("migrate", words)) => Ok(Task::Migrate(trace_words(words))),
         _ => Ok(Task::Bundle),
@@ -155,6 +164,10 @@ pub fn read_words<'a>(alloc: Global, words: &'a [String]) -> Result<Task<'a>, Er
         → MatchResult result
         (IsPlainDriveOf file schedule)
         (λ e. kind_of e ≡ ErrorKind.OutOfMemory) }
+    ensures run { (program file : List ℕ)
+        → is_plain file ≡ true
+        → map string_bytes words.now ≡ program ∷ codes "run" ∷ file ∷ []
+        → MatchResult result (IsPlainRunOf file) (λ e. kind_of e ≡ ErrorKind.OutOfMemory) }
     ensures replay { (program file trace : List ℕ)
         → is_plain file ≡ true
         → is_plain trace ≡ true

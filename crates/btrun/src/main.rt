@@ -1,5 +1,5 @@
-//! `btrun`: it checks programs; without a command it reads a bundle, a program and a schedule, from
-//! standard input, and prints the trace to which the schedule drives the program.
+//! `btrun`: it checks, drives and runs programs; without a command it reads a bundle, a program and
+//! a schedule, from standard input, and prints the trace to which the schedule drives the program.
 #![tactic(auto)]
 
 mod commands;
@@ -10,5 +10,5 @@ mod tests;
 use std::process::ExitCode;
 
 fn main(rt: HostRuntime) -> ExitCode {
-    ExitCode::from(runs::run(&rt))
+    ExitCode::from(runs::run(&rt, &rt))
 }

@@ -146,6 +146,57 @@ fn refuses_words_of_drive(rt: HostRuntime) -> Result<(), Fail> {
     Ok(())
 }
 
+/// Whether the words behind `run` are read as p.bp, these entries, this seed and these numbers: the
+/// contexts, the calls, the turn and the ring.
+fn runs(
+    alloc: Global,
+    given: &[&str],
+    names: &[&str],
+    seed: u64,
+    numbers: (u32, u32, u32, u32),
+) -> Result<bool, Fail> {
+    let words = words(alloc, given)?;
+    let Ok(Task::Run(run)) = read_words(alloc, &words) else {
+        return Ok(false);
+    };
+    let options = &run.options;
+    let mut entries = options.entries.iter().map(|entry| entry.as_str());
+    let named = names.iter().all(|name| entries.next() == Some(*name));
+    let limits = (options.contexts, options.calls);
+    Ok(
+        run.program == "p.bp"
+            && named
+            && entries.next().is_none()
+            && options.init.is_none()
+            && options.seed == seed
+            && (limits.0, limits.1, options.turn, options.ring) == numbers,
+    )
+}
+
+#[test]
+fn reads_run(rt: HostRuntime) -> Result<(), Fail> {
+    let alloc = rt.alloc();
+    let plain = ["run", "p.bp"];
+    assert!(rt; runs(alloc, &plain, &["main"], 42, (2, 1000, 1, 1024))?);
+    let all = [
+        "run",
+        "p.bp",
+        "--seed",
+        "18446744073709551615",
+        "a",
+        "b",
+        "--contexts",
+        "3",
+        "--calls=7",
+        "--turn",
+        "64",
+        "--ring",
+        "1",
+    ];
+    assert!(rt; runs(alloc, &all, &["a", "b"], u64::MAX, (3, 7, 64, 1))?);
+    Ok(())
+}
+
 #[test]
 fn refuses_words(rt: HostRuntime) -> Result<(), Fail> {
     let alloc = rt.alloc();

@@ -1,6 +1,7 @@
 //! Checking the programs of files.
 use super::{Broken, RECURSIVE, Short};
-use crate::{check_text, lawful_program, show_check};
+use crate::{check_text, show_check};
+use bp_code::lawful_program;
 use std::alloc::Global;
 use std::test::Fail;
 

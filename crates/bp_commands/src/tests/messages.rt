@@ -1,7 +1,7 @@
 //! What the faults say of themselves.
-use crate::{DriveRefusal, FileFault, InputFault, ProgramFault, TraceRefusal};
+use crate::{DriveRefusal, FileFault, InputFault, TraceRefusal};
 use bp_check::CheckFault;
-use bp_code::WriteFault;
+use bp_code::{ProgramFault, WriteFault};
 use bp_machine::{AskFault, SetupFault};
 use bp_syntax::ReadFault;
 use bp_trace::{DriveFault, ReplayFault};

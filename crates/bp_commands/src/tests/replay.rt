@@ -4,10 +4,8 @@ use crate::{
     TraceRefusal, end_trace, migrate_buffered, migrate_program, migrate_text, replay_buffered,
     replay_program, replay_text, show_replay,
 };
-use bp_check::check;
-use bp_code::compile;
+use bp_code::code_of;
 use bp_machine::{Outcome, Report};
-use bp_syntax::read;
 use bp_trace::replay;
 use std::alloc::Global;
 use std::test::Fail;
@@ -119,13 +117,9 @@ fn shows_rows_in_order(rt: HostRuntime) -> Result<(), Fail> {
     let trace = b"\
         btrace 1\nentry a\nentry b\ninit 0\ncontexts 3\ncalls 9\nseed none\n\
         0 0 s\n1 0 s\n1 0 s\n0 0 s\nend 4 2\n";
-    let Ok(tree) = read(alloc, text) else {
-        return Err(Fail::from("no tree"));
+    let Ok(code) = code_of(alloc, text) else {
+        return Err(Fail::from("no code"));
     };
-    let Ok(checked) = check(alloc, tree) else {
-        return Err(Fail::from("not lawful"));
-    };
-    let code = compile(alloc, &checked)?;
     let Ok(replayed) = replay(alloc, &code, trace) else {
         return Err(Fail::from("no trace"));
     };

@@ -78,8 +78,8 @@ fn three_workers_replay(rt: HostRuntime) -> Result<(), AllocError> {
     Ok(())
 }
 
-/// Whether two threads with 10,000 calls each end clean, by these turns and with this ring. A thread
-/// that is refused a context ends earlier; the other then has all its calls.
+/// Whether two threads with 10,000 calls each end clean, by these turns and with this ring. A
+/// thread that is refused a context ends earlier; the other then has all its calls.
 fn has_many_calls<R: Threads + Wait + Sync>(
     rt: &R,
     alloc: Global,

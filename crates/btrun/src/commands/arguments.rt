@@ -1,7 +1,7 @@
 //! The arguments of commands.
 ghost use Rattle.std.specs.Prelude.{◌≡◌, false};
 ghost use Rattle.clap.specs.Words.{rule_of};
-ghost use Rattle.btrun.specs.Commands.{number_rule, option_rule, required_rule, values_rule};
+ghost use Rattle.btrun.specs.Commands.{long_number_rule, number_rule, option_rule, required_rule, values_rule};
 
 use clap::{Arg, value_parser};
 use std::alloc::Global;
@@ -35,4 +35,11 @@ pub fn number_option<'a>(alloc: Global, name: &'a str, help: &'a str) -> Arg<'a>
     ensures { (rule_of result ≡ number_rule name.now) × (result.global ≡ false) }
 {
     option(alloc, name, "N", help).value_parser(value_parser!(u32))
+}
+
+/// An option whose value is a number of 64 bits.
+pub fn long_number_option<'a>(alloc: Global, name: &'a str, help: &'a str) -> Arg<'a>
+    ensures { (rule_of result ≡ long_number_rule name.now) × (result.global ≡ false) }
+{
+    option(alloc, name, "N", help).value_parser(value_parser!(u64))
 }

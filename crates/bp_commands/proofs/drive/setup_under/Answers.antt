@@ -19,5 +19,5 @@ returns c = λ t stands.
     let calls = ap (λ o. o.calls) c.options.view_is in
     setup_answered c.args.options.now t c.args.code.now _ c.or_zeros.result
     (ap₂ (λ es bits. setup_or_zeros es bits c.options.inside.contexts c.options.inside.calls None t) entries (init_is c)
-     ∙ ap₂ (λ k n. setup_or_zeros c.args.options.now.entries c.args.options.now.init k n None t) contexts calls)
+    ∙ ap₂ (λ k n. setup_or_zeros c.args.options.now.entries c.args.options.now.init k n None t) contexts calls)
     (c.or_zeros.ensures.answer t stands) c.or_zeros.ensures.taken

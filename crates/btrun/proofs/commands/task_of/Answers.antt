@@ -4,7 +4,7 @@ use Rattle.clap.specs.declared.parser.matches.ArgMatches.{ArgMatches}
 use Rattle.clap.specs.declared.parser.matches.ArgMatches.TheViews.{out-ArgMatches}
 use Rattle.clap.proofs.WalkLemmas.{first_value-rows}
 use Rattle.btrun.specs.Commands.{IsTaskOf}
-use Rattle.btrun.specs.DriveWords.{value_of}
+use Rattle.btrun.specs.Values.{value_of}
 use Rattle.btrun.specs.declared.commands.Task.TheVariants.{Check, Code}
 use Rattle.btrun.proofs.GivenArguments.{value_read}
 use Rattle.btrun.proofs.commands.task_of.Goals as goal

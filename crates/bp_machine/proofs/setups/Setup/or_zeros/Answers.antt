@@ -17,5 +17,5 @@ bits_are c t stands =
 pub returns-clause-answer : goal.returns-clause-answer
 returns-clause-answer c = λ t stands.
     subst (λ bits. let s = setup_of (map string_bytes c.args.entries.now) bits c.args.contexts c.args.calls c.args.seed in
-        MatchResult c.new.result (λ x. (x ≡ s) × (setup_fault t s ≡ None)) (IsSetupRefusal t s))
+    MatchResult c.new.result (λ x. (x ≡ s) × (setup_fault t s ≡ None)) (IsSetupRefusal t s))
     (bits_are c t stands) (c.new.ensures.answer t stands)

@@ -1,0 +1,131 @@
+//! Programs that real workers run.
+use super::{Broken, Starved};
+use crate::limits::{DEFAULT_CALLS, DEFAULT_CONTEXTS, DEFAULT_RING, DEFAULT_SEED, DEFAULT_TURN};
+use crate::{RunRefusal, end_run, run_buffered, run_program};
+use bp_run::{Open, RunOptions};
+use std::alloc::{AllocError, Global};
+use std::io::Read;
+use std::sync::Wait;
+use std::thread::Threads;
+
+const IF: &[u8] = b"main() begin if (?) then skip; else skip; fi end";
+
+const IF_TRACE: &[u8] = b"\
+    btrace 1\nentry main\ninit -\ncontexts 2\ncalls 1000\nseed 42\n\
+    0 1 s\n0 1 s\n0 1 s\n0 0 e\nend 4 0\n";
+
+const FAILING: &[u8] = b"main() begin assert (0); end";
+
+/// Options with one thread that begins with this procedure, and else the defaults.
+fn options(alloc: Global, entry: &str) -> Result<RunOptions, AllocError> {
+    let mut entries = Vec::new(alloc);
+    entries.push(String::from_str(alloc, entry)?)?;
+    Ok(RunOptions {
+        entries,
+        init: None,
+        contexts: DEFAULT_CONTEXTS,
+        calls: DEFAULT_CALLS,
+        turn: DEFAULT_TURN,
+        seed: DEFAULT_SEED,
+        ring: DEFAULT_RING,
+    })
+}
+
+/// The number and the place of a refusal; none where the program was run.
+fn fault<T>(done: &Result<T, RunRefusal>) -> Option<(u32, Option<u32>)> {
+    match done {
+        Ok(_) => None,
+        Err(refusal) => Some((refusal.number(), refusal.place())),
+    }
+}
+
+/// Whether the run of an input ends with this refusal, or none, and has written these bytes.
+fn runs<I: Read + Drop, R: Threads + Wait + Sync>(
+    rt: &R,
+    alloc: Global,
+    entry: &str,
+    mut program: I,
+    refusal: Option<(u32, Option<u32>)>,
+    trace: &[u8],
+) -> Result<bool, AllocError> {
+    let options = options(alloc, entry)?;
+    let mut out = Vec::new(alloc);
+    let done = run_program(rt, alloc, &options, &Open, &mut program, &mut out);
+    Ok(fault(&done) == refusal && out.as_slice() == trace)
+}
+
+#[test]
+fn runs_a_choice(rt: HostRuntime) -> Result<(), AllocError> {
+    assert!(&rt; runs(&rt, rt.alloc(), "main", IF, None, IF_TRACE)?);
+    Ok(())
+}
+
+#[test]
+fn refuses_programs_that_do_not_run(rt: HostRuntime) -> Result<(), AllocError> {
+    let spaces = [b' '; 65_537];
+    let cases: [(&[u8], u32, Option<u32>); 4] = [
+        (&spaces, 1, None),
+        (b"main() begin", 6, Some(12)),
+        (b"main() begin p(); end", 16, Some(13)),
+        (b"a() begin skip; end", 32, Some(0)),
+    ];
+    for (text, number, place) in cases {
+        assert!(&rt; runs(&rt, rt.alloc(), "main", text, Some((number, place)), b"")?);
+    }
+    Ok(())
+}
+
+#[test]
+fn refuses_files_that_are_not_read(rt: HostRuntime) -> Result<(), AllocError> {
+    let broken = Broken { reads: 1 };
+    assert!(&rt; runs(&rt, rt.alloc(), "main", broken, Some((54, None)), b"")?);
+    assert!(&rt; runs(&rt, rt.alloc(), "main", Starved, Some((7, None)), b"")?);
+    Ok(())
+}
+
+/// Whether the run of a text ends with this status and this text on standard error.
+fn ends<R: Threads + Wait + Sync>(
+    rt: &R,
+    alloc: Global,
+    entry: &str,
+    text: &[u8],
+    status: u8,
+    line: &[u8],
+) -> Result<bool, AllocError> {
+    let options = options(alloc, entry)?;
+    let mut program = text;
+    let done = run_buffered(rt, alloc, &options, &Open, &mut program, Vec::new(alloc));
+    let mut errors = Vec::new(alloc);
+    let ended = end_run(&done, &mut errors);
+    Ok(ended == status && errors.as_slice() == line)
+}
+
+#[test]
+fn ends_runs(rt: HostRuntime) -> Result<(), AllocError> {
+    let unknown = b"btrun: 32 UnknownEntry thread 0\n";
+    assert!(&rt; ends(&rt, rt.alloc(), "main", IF, 0, b"")?);
+    assert!(&rt; ends(&rt, rt.alloc(), "main", FAILING, 1, b"")?);
+    assert!(&rt; ends(&rt, rt.alloc(), "a", IF, 2, unknown)?);
+    Ok(())
+}
+
+/// Whether the output that a run gives back has this trace.
+fn hands_on<R: Threads + Wait + Sync>(
+    rt: &R,
+    alloc: Global,
+    text: &[u8],
+    trace: &[u8],
+) -> Result<bool, AllocError> {
+    let options = options(alloc, "main")?;
+    let mut program = text;
+    match run_buffered(rt, alloc, &options, &Open, &mut program, Vec::new(alloc)) {
+        Ok((_, out)) => Ok(out.as_slice() == trace),
+        Err(_) => Ok(false),
+    }
+}
+
+#[test]
+fn hands_on_a_trace(rt: HostRuntime) -> Result<(), AllocError> {
+    assert!(&rt; hands_on(&rt, rt.alloc(), IF, IF_TRACE)?);
+    Ok(())
+}

@@ -1,0 +1,19 @@
+-- What the words behind `run` ask for.
+use Rattle.std.specs.Prelude.{◌≡◌, List, codes, option_map}
+use Rattle.clap.specs.Walk.{Row, first_of, one_of}
+use Rattle.bp_commands.specs.declared.limits.TheConstants.{DEFAULT_CONTEXTS, DEFAULT_CALLS, DEFAULT_TURN, DEFAULT_SEED, DEFAULT_RING}
+use Rattle.btrun.specs.Values.{bits_in, entries_in, value_of, IsNumberOf}
+use Rattle.btrun.specs.declared.commands.run.RunWords.{RunWords}
+
+-- the file and the options of `run` are those of its arguments
+pub record IsRunOf (rows : List Row) (words : RunWords) : Type 0 where
+  pub program : words.program.now ≡ value_of (codes "FILE") rows
+  pub entries : words.options.entries ≡ entries_in rows
+  pub init : words.options.init ≡ option_map bits_in (first_of (codes "init") rows)
+  pub contexts :
+      IsNumberOf 32 DEFAULT_CONTEXTS (one_of (codes "contexts") rows) words.options.contexts
+  pub calls :
+      IsNumberOf 32 DEFAULT_CALLS (one_of (codes "calls") rows) words.options.calls
+  pub turn : IsNumberOf 32 DEFAULT_TURN (one_of (codes "turn") rows) words.options.turn
+  pub seed : IsNumberOf 64 DEFAULT_SEED (one_of (codes "seed") rows) words.options.seed
+  pub ring : IsNumberOf 32 DEFAULT_RING (one_of (codes "ring") rows) words.options.ring

@@ -1,0 +1,47 @@
+-- What the values of arguments say: numbers, bits, names.
+use Rattle.std.specs.Prelude.{if◌then◌else◌, ◌≡◌, ◌⊎◌, ◌<◌, ◌^◌, ◌==◌, ◌||◌, ℕ, Bool, false, not, List, [], ◌∷◌, Option, Some, None, codes, map, option_map, unwrap_or}
+use Rattle.std.specs.List.{list_all}
+use Rattle.std.specs.Option.{option_map_or}
+use Rattle.std.specs.Str.Parse.{IsNumeral, digits_value, without_leading_plus}
+use Rattle.clap.specs.Kinds.{Kinds}
+use Rattle.clap.specs.Walk.{Row, Text, all_of, first_of, one_of}
+use Rattle.clap.specs.declared.error.kind.ErrorKind.TheVariants.{InvalidValue}
+
+-- the value of an argument, empty where it has none
+abbrev pub value_of : Text → List Row → Text
+value_of id rows = unwrap_or (first_of id rows) []
+
+-- the text is a number of so many bits
+abbrev pub IsNumberText : ℕ → Text → Type 0
+IsNumberText bits text =
+    IsNumeral 10 (without_leading_plus text)
+    × (digits_value 10 (without_leading_plus text) < 2 ^ bits)
+
+-- the number of a text; the default where none is given, or the text is no such number
+abbrev pub IsNumberOf : ℕ → ℕ → Option Text → ℕ → Type 0
+IsNumberOf bits default None n = n ≡ default
+IsNumberOf bits default (Some text) n =
+    (IsNumberText bits text × (n ≡ digits_value 10 (without_leading_plus text)))
+    ⊎ ((IsNumberText bits text → ⊥) × (n ≡ default))
+
+-- each character is 0 or 1
+abbrev pub is_bits : Text → Bool
+is_bits text = list_all (λ b. b == 48 || b == 49) text
+
+abbrev pub bits_in : Text → List Bool
+bits_in text = map (λ b. b == 49) text
+
+-- the entries, which are `main` where none are given
+abbrev pub entries_in : List Row → List Text
+entries_in rows = unwrap_or (all_of (codes "ENTRY") rows) (codes "main" ∷ [])
+
+-- the initial bits have another character than 0 and 1
+abbrev pub has_bad_bits : List Row → Bool
+has_bad_bits rows = option_map_or (λ t. not (is_bits t)) (first_of (codes "init") rows) false
+
+abbrev pub has_bad_init : Option (Text × List Row) → Bool
+has_bad_init command = option_map_or (λ c. has_bad_bits c.1) command false
+
+-- the kind of error of a command's values that `clap` takes for any text
+abbrev pub init_fault : Option (Text × List Row) → Kinds
+init_fault command = if has_bad_init command then InvalidValue ∷ [] else []
