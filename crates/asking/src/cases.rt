@@ -33,8 +33,8 @@ fn unmeasured(name: &'static str, case: Case) -> Measured {
     Measured { name, case, spent }
 }
 
-/// Makes so many rounds of all cases. Each round has all cases, so that a busy moment of the machine
-/// spoils a round of each, and not all rounds of one.
+/// Makes so many rounds of all cases. Each round has all cases, so that a busy moment of the
+/// machine spoils a round of each, and not all rounds of one.
 fn measure<R: Wait + Clock>(
     rt: &R,
     alloc: Global,

@@ -38,7 +38,8 @@ impl Model for RunOptions {
 
     ghost view = { λ o.
         let bits = option_map (λ v. v.items) o.init in
-        options_of (map string_bytes o.entries.items) bits o.contexts o.calls o.turn o.seed o.ring };
+        options_of (map string_bytes o.entries.items) bits
+        o.contexts o.calls o.turn o.seed o.ring };
 }
 
 impl RunOptions {
