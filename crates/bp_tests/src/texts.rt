@@ -1,0 +1,30 @@
+//! Texts and programs that tests of several crates make.
+
+use bp_code::Code;
+use std::alloc::{AllocError, Global};
+use std::test::Fail;
+
+/// The code of a lawful program.
+pub(crate) fn code_of(alloc: Global, text: &[u8]) -> Result<Code, Fail> {
+    match bp_code::code_of(alloc, text) {
+        Ok(code) => Ok(code),
+        Err(_) => Err(Fail::from("no code")),
+    }
+}
+
+/// The piece so many times, behind the front and before the end.
+pub(crate) fn repeated(
+    alloc: Global,
+    front: &[u8],
+    piece: &[u8],
+    count: u32,
+    end: &[u8],
+) -> Result<Vec<u8>, AllocError> {
+    let mut text = Vec::new(alloc);
+    text.extend_from_slice(front)?;
+    for _ in 0..count {
+        text.extend_from_slice(piece)?;
+    }
+    text.extend_from_slice(end)?;
+    Ok(text)
+}
