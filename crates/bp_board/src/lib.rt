@@ -18,6 +18,3 @@ pub use kits::Kit;
 pub use ledgers::Calls;
 pub use seats::Seat;
 pub use taps::Tap;
-
-#[cfg(test)]
-mod tests;

@@ -33,6 +33,7 @@ use std::alloc::Global;
 use std::io::{BufWriter, Read, Write};
 use std::sync::Wait;
 use std::thread::Threads;
+use std::time::Clock;
 
 /// Hands on what a buffer holds, and gives back the output behind it.
 fn hand_on<W: Write + Drop>(out: BufWriter<W>) -> Result<W, WriteFault>
@@ -208,7 +209,7 @@ pub fn migrate_buffered<R: Read, S: Read, W: Write + Drop>(
 
 /// Runs the program of an input as `run_program` does, and gives back the output, which has the
 /// trace. What the workers have made so far is handed on whenever nothing is left to take.
-pub fn run_buffered<G: Gate, I: Read, W: Write + Drop, R: Threads + Wait + Sync>(
+pub fn run_buffered<G: Gate, I: Read, W: Write + Drop, R: Threads + Wait + Clock + Sync>(
     rt: &R,
     alloc: Global,
     options: &RunOptions,

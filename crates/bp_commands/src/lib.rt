@@ -21,8 +21,6 @@ mod replay_lines;
 mod run;
 mod run_refusals;
 mod statuses;
-#[cfg(test)]
-mod tests;
 mod trace_refusals;
 
 pub use buffered::{

@@ -13,12 +13,13 @@ use std::alloc::Global;
 use std::io::{Read, Write};
 use std::sync::Wait;
 use std::thread::Threads;
+use std::time::Clock;
 
 /// Reads a program text, and runs its program under these options, with a worker for each guest
 /// thread: it writes the trace of the history that the workers made, while it grows. It reads at
 /// most 65,537 bytes. Nothing is written before all workers were started; a writer that refuses has
 /// a proper prefix of the trace of a history.
-pub fn run_program<G: Gate, I: Read, W: Write, R: Threads + Wait + Sync>(
+pub fn run_program<G: Gate, I: Read, W: Write, R: Threads + Wait + Clock + Sync>(
     rt: &R,
     alloc: Global,
     options: &RunOptions,

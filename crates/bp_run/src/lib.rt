@@ -3,14 +3,13 @@
 #![tactic(auto)]
 
 mod gates;
+mod idles;
 mod pens;
 mod run_faults;
 mod run_options;
 mod runner;
 mod scribes;
 mod stages;
-#[cfg(test)]
-mod tests;
 mod workers;
 
 pub use gates::{Gate, Open};

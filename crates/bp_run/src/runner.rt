@@ -24,6 +24,7 @@ use std::marker::Brand;
 use std::sync::Wait;
 use std::sync::ledger::Ledger;
 use std::thread::Threads;
+use std::time::Clock;
 
 /// What a run answers, and the pen.
 #[derive(Drop)]
@@ -72,7 +73,7 @@ fn play<
     O: Ledger + Send + Sync,
     G: Gate,
     W: Write,
-    R: Threads + Wait + Sync,
+    R: Threads + Wait + Clock + Sync,
 >(
     rt: &R,
     alloc: Global,
@@ -143,7 +144,7 @@ fn play<
 /// The refusals come in the order of `RunFault`. Nothing is written before all workers were
 /// started; at a write that fails a proper prefix of the trace of a history is written. A worker
 /// that is refused memory ends, and its line stays open: that is no refusal of the run.
-pub fn run<G: Gate, W: Write, R: Threads + Wait + Sync>(
+pub fn run<G: Gate, W: Write, R: Threads + Wait + Clock + Sync>(
     rt: &R,
     alloc: Global,
     text: &[u8],

@@ -2,16 +2,17 @@
 ghost use Rattle.std.specs.Prelude.{◌≡◌, [], true, false, Some, is_some};
 ghost use Rattle.bp_run.specs.Scribing.{IsScribed, IsStaged, IsRestScribed};
 
+use crate::idles::Idle;
 use crate::pens::Pen;
 use crate::workers::have_ended;
 use bp_board::{Calls, Tap};
 use bp_machine::Setup;
 use std::io::Write;
 use std::sync::{Mutex, Wait};
-use std::thread;
+use std::time::Clock;
 
 /// Takes calls and writes their lines, until the workers have ended and no call is seen.
-fn scribe<W: Write, C: Calls, R: Wait>(
+fn scribe<W: Write, C: Calls, R: Wait + Clock>(
     rt: &R,
     pen: &mut Pen<'_, W>,
     tap: &mut Tap<C>,
@@ -22,15 +23,19 @@ fn scribe<W: Write, C: Calls, R: Wait>(
     ensures written { IsScribed (W.contents pen.old.out.now) pen.old.failed
         (W.contents pen.new.out.now) pen.new.failed tap.old.taken tap.new.taken }
 {
+    let mut idle = Idle::new();
     for _ in rt.forever() {
         match tap.next() {
-            Some(call) => pen.line(&call),
+            Some(call) => {
+                idle = Idle::new();
+                pen.line(&call);
+            }
             None => {
                 pen.flush();
                 if have_ended(rt, ended, started) {
                     return;
                 }
-                thread::yield_now();
+                idle.rest(rt);
             }
         }
     }
@@ -39,13 +44,16 @@ fn scribe<W: Write, C: Calls, R: Wait>(
 
 /// Takes calls and drops them, until the workers have ended and no call is seen: no worker stays at
 /// a full ring.
-fn drain<C: Calls, R: Wait>(rt: &R, tap: &mut Tap<C>, ended: &Mutex<u32>, started: u32) {
+fn drain<C: Calls, R: Wait + Clock>(rt: &R, tap: &mut Tap<C>, ended: &Mutex<u32>, started: u32) {
+    let mut idle = Idle::new();
     for _ in rt.forever() {
         if tap.next().is_none() {
             if have_ended(rt, ended, started) {
                 return;
             }
-            thread::yield_now();
+            idle.rest(rt);
+        } else {
+            idle = Idle::new();
         }
     }
     unreachable!()
@@ -53,7 +61,7 @@ fn drain<C: Calls, R: Wait>(rt: &R, tap: &mut Tap<C>, ended: &Mutex<u32>, starte
 
 /// Where all workers were started, writes the head of the trace, and then the calls while they run;
 /// else writes nothing, and waits until those that were started have ended.
-pub(crate) fn write_running<W: Write, C: Calls, R: Wait>(
+pub(crate) fn write_running<W: Write, C: Calls, R: Wait + Clock>(
     rt: &R,
     setup: &Setup,
     pen: &mut Pen<'_, W>,

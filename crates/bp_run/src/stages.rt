@@ -16,6 +16,7 @@ use std::sync::ledger::Ledger;
 use std::sync::{Mutex, Wait};
 use std::thread;
 use std::thread::{JoinHandle, Threads};
+use std::time::Clock;
 
 /// What the scribe and the workers give back.
 #[derive(Drop)]
@@ -33,7 +34,7 @@ pub(crate) fn stage<
     O: Ledger + Send + Sync,
     G: Gate,
     W: Write,
-    R: Threads + Wait + Sync,
+    R: Threads + Wait + Clock + Sync,
 >(
     rt: &R,
     setup: &Setup,

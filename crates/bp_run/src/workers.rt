@@ -4,16 +4,17 @@ ghost use Rattle.bp_board.specs.declared.limits.TheConstants.{MAX_TURN};
 ghost use Rattle.bp_run.specs.Works.{EndsWork};
 
 use crate::gates::Gate;
+use crate::idles::Idle;
 use bp_board::{Board, Calls, Seat};
 use bp_machine::AskFault;
 use std::sync::ledger::Ledger;
 use std::sync::{Mutex, Wait};
-use std::thread;
+use std::time::Clock;
 
 /// Takes turns of at most `turn` calls from this seat, until its line is finished. Where the ring
 /// is full it gives way to other threads, and takes a turn again. It stops where memory is refused,
 /// or where the line was finished already though the seat is open. The calls that were made stand.
-pub fn work<C: Calls, O: Ledger, G: Gate, R: Wait>(
+pub fn work<C: Calls, O: Ledger, G: Gate, R: Wait + Clock>(
     rt: &R,
     board: &Board<C, O>,
     seat: &mut Seat<C, O>,
@@ -27,14 +28,18 @@ pub fn work<C: Calls, O: Ledger, G: Gate, R: Wait>(
     ensures thread { seat.new.thread ≡ seat.old.thread }
     ensures calls { seat.old.calls ≤ seat.new.calls }
 {
+    let mut idle = Idle::new();
     for _ in rt.forever() {
         if !seat.is_open() {
             return Ok(());
         }
         gate.before(seat.thread(), seat.calls());
         match board.turn(rt, seat, turn) {
-            Ok(reply) => gate.after(seat.thread(), reply),
-            Err(AskFault::Busy) => thread::yield_now(),
+            Ok(reply) => {
+                idle = Idle::new();
+                gate.after(seat.thread(), reply);
+            }
+            Err(AskFault::Busy) => idle.rest(rt),
             Err(fault) => return Err(fault),
         }
     }
@@ -54,7 +59,7 @@ pub(crate) fn have_ended(rt: &impl Wait, ended: &Mutex<u32>, started: u32) -> bo
 
 /// What the thread of a worker does: all the work of its seat, and then it is counted as ended. It
 /// gives the seat back, which is still open where memory was refused.
-pub(crate) fn worker<C: Calls, O: Ledger, G: Gate, R: Wait>(
+pub(crate) fn worker<C: Calls, O: Ledger, G: Gate, R: Wait + Clock>(
     rt: &R,
     board: &Board<C, O>,
     ended: &Mutex<u32>,

@@ -28,3 +28,12 @@ pub(crate) fn repeated(
     text.extend_from_slice(end)?;
     Ok(text)
 }
+
+/// The entries of so many threads that begin with `main`.
+pub(crate) fn mains(alloc: Global, count: u32) -> Result<Vec<String>, AllocError> {
+    let mut entries = Vec::new(alloc);
+    for _ in 0..count {
+        entries.push(String::from_str(alloc, "main")?)?;
+    }
+    Ok(entries)
+}

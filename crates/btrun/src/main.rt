@@ -4,8 +4,6 @@
 
 mod commands;
 mod runs;
-#[cfg(test)]
-mod tests;
 
 use std::process::ExitCode;
 

@@ -12,10 +12,15 @@ use crate::commands::{Task, read_words};
 use bp_commands::words_fault;
 use std::sync::Wait;
 use std::thread::Threads;
+use std::time::Clock;
 use std::{env, io};
 
 /// Does what the words ask for.
-fn run_words<T: Threads + Wait + Sync>(rt: &HostRuntime, threads: &T, words: &[String]) -> u8 {
+fn run_words<T: Threads + Wait + Clock + Sync>(
+    rt: &HostRuntime,
+    threads: &T,
+    words: &[String],
+) -> u8 {
     match read_words(rt.alloc(), words) {
         Ok(Task::Bundle) => bundle::drive_input(rt),
         Ok(Task::Check(path)) => files::check_file(rt, path),
@@ -34,7 +39,7 @@ fn words(rt: &HostRuntime) -> io::Result<Vec<String>> {
 }
 
 /// Runs the program and answers its exit status. Workers are started by `threads`.
-pub fn run<T: Threads + Wait + Sync>(rt: &HostRuntime, threads: &T) -> u8 {
+pub fn run<T: Threads + Wait + Clock + Sync>(rt: &HostRuntime, threads: &T) -> u8 {
     match words(rt) {
         Ok(words) => run_words(rt, threads, &words),
         Err(error) => usage::refuse_words(rt, words_fault(&error), &mut rt.stderr()),

@@ -6,9 +6,10 @@ use bp_commands::{end_run, run_buffered};
 use bp_run::Open;
 use std::sync::Wait;
 use std::thread::Threads;
+use std::time::Clock;
 
 /// Runs the program of a file by real workers, and answers the exit status.
-pub fn run_file<T: Threads + Wait + Sync>(
+pub fn run_file<T: Threads + Wait + Clock + Sync>(
     rt: &HostRuntime,
     threads: &T,
     words: &RunWords<'_>,

@@ -4,9 +4,10 @@ ghost use Rattle.std.specs.Prelude.{◌≡◌, true, is_some};
 ghost use Rattle.bp_machine.specs.Setups.{threads, FitsCode};
 ghost use Rattle.bp_board.specs.Kits.{IsNamed};
 
-use super::{Act, Example, LOOP, code_of, kit_of, loop_calls, own, setup_of};
-use crate::limits::MAX_TURN;
-use crate::{Board, Calls, Kit, gather};
+use super::{Act, Example, LOOP, kit_of, loop_calls, own, setup_of};
+use crate::texts::code_of;
+use bp_board::limits::MAX_TURN;
+use bp_board::{Board, Calls, Kit, gather};
 use bp_code::Code;
 use bp_machine::{AskFault, Call, Reply, Setup};
 use std::alloc::Global;

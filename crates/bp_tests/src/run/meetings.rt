@@ -1,20 +1,22 @@
 //! Workers that run at the same time: gates that wait for what only another thread does.
 use super::{IF, IF_TRACE, Numbers, ONE, SKIP, clean_calls, number_of, options, written};
-use crate::{Gate, run};
 use bp_machine::Reply;
+use bp_run::{Gate, run};
 use std::alloc::{AllocError, Global};
 use std::io::Write;
 use std::sync::Wait;
 use std::sync::atomic::{AtomicU64, Ordering};
 use std::thread::Threads;
+use std::time::Clock;
 use std::{io, thread};
 
-/// So many threads of the least program, by turns of one call.
+/// So many threads of the least program, by turns of one call, with a ring of one.
 fn skips(threads: u32) -> Numbers {
     Numbers {
         threads,
         contexts: 1000,
         turn: 1,
+        ring: 1,
         ..ONE
     }
 }
@@ -30,7 +32,7 @@ fn comes_to(word: &AtomicU64, value: u64) -> bool {
     false
 }
 
-/// A gate at which each thread waits, ahead of its first turn, for so many.
+/// A gate at which each thread waits, ahead of its first turn, for all: each has a bit.
 #[derive(Drop)]
 struct Meeting {
     wanted: u64,
@@ -39,9 +41,9 @@ struct Meeting {
 }
 
 impl Gate for Meeting {
-    fn before(&self, _thread: u32, call: u64) {
+    fn before(&self, thread: u32, call: u64) {
         if call == 0 {
-            self.arrived.fetch_add(1, Ordering::SeqCst);
+            self.arrived.fetch_or(1 << (thread % 64), Ordering::SeqCst);
             if !comes_to(&self.arrived, self.wanted) {
                 self.missed.store(1, Ordering::SeqCst);
             }
@@ -51,10 +53,15 @@ impl Gate for Meeting {
     fn after(&self, _thread: u32, _reply: Reply) {}
 }
 
-/// Whether so many threads meet ahead of their first turns.
-fn meet<R: Threads + Wait + Sync>(rt: &R, alloc: Global, threads: u32) -> Result<bool, AllocError> {
+/// Whether so many threads, whose bits are these, meet ahead of their first turns.
+fn meet<R: Threads + Wait + Clock + Sync>(
+    rt: &R,
+    alloc: Global,
+    threads: u32,
+    all: u64,
+) -> Result<bool, AllocError> {
     let gate = Meeting {
-        wanted: u64::from(threads),
+        wanted: all,
         arrived: AtomicU64::new(0),
         missed: AtomicU64::new(0),
     };
@@ -65,8 +72,8 @@ fn meet<R: Threads + Wait + Sync>(rt: &R, alloc: Global, threads: u32) -> Result
 
 #[test]
 fn workers_meet(rt: HostRuntime) -> Result<(), AllocError> {
-    for threads in [2, 16, 64] {
-        assert!(&rt; meet(&rt, rt.alloc(), threads)?);
+    for (threads, all) in [(2, 3), (16, 65_535), (64, u64::MAX)] {
+        assert!(&rt; meet(&rt, rt.alloc(), threads, all)?);
     }
     Ok(())
 }
@@ -105,7 +112,7 @@ fn threads_of(alloc: Global, trace: &[u8]) -> Result<Vec<u8>, AllocError> {
 }
 
 /// Whether the calls of two threads, of which this is held, are of these threads in order.
-fn is_behind<R: Threads + Wait + Sync>(
+fn is_behind<R: Threads + Wait + Clock + Sync>(
     rt: &R,
     alloc: Global,
     held: u32,
@@ -171,7 +178,7 @@ impl<'a> Gate for Reader<'a> {
 }
 
 /// Whether the first call is written before the second is made.
-fn is_written_while_running<R: Threads + Wait + Sync>(
+fn is_written_while_running<R: Threads + Wait + Clock + Sync>(
     rt: &R,
     alloc: Global,
 ) -> Result<bool, AllocError> {

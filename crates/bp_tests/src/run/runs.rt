@@ -2,10 +2,13 @@
 use super::{
     ENDLESS, IF, IF_TRACE, LOOP, LOOP_TRACE, Numbers, ONE, SKIP, clean_calls, writes, written,
 };
-use crate::Open;
+use bp_machine::Reply;
+use bp_run::{Gate, Open};
 use std::alloc::{AllocError, Global};
 use std::sync::Wait;
+use std::thread;
 use std::thread::Threads;
+use std::time::Clock;
 
 /// Three guest threads that take turns and count.
 const TURNS: &[u8] = b"decl turn, hits; main() begin decl i; while (?) do i := !i; bump(i); od end \
@@ -50,14 +53,15 @@ fn lines_of(alloc: Global, text: &[u8], first: u8) -> Result<Vec<u8>, AllocError
     Ok(lines)
 }
 
-/// Whether thread 0 of a run with this ring has its lines. They are those of its own choice bits,
-/// whatever the other threads do between them.
-fn has_own_lines<R: Threads + Wait + Sync>(
+/// Whether thread 0 of a run with these numbers has its lines. They are those of its own choice
+/// bits, whatever the other threads do between them.
+fn has_own_lines<G: Gate, R: Threads + Wait + Clock + Sync>(
     rt: &R,
     alloc: Global,
-    ring: u32,
+    numbers: Numbers,
+    gate: &G,
 ) -> Result<bool, AllocError> {
-    let (trace, number) = written(rt, alloc, TURNS, three(ring), &Open)?;
+    let (trace, number) = written(rt, alloc, TURNS, numbers, gate)?;
     let lines = lines_of(alloc, &trace, b'0')?;
     Ok(number == 0 && lines.as_slice() == TURNS_OF_THREAD_0.as_bytes())
 }
@@ -65,8 +69,31 @@ fn has_own_lines<R: Threads + Wait + Sync>(
 #[test]
 fn three_workers(rt: HostRuntime) -> Result<(), AllocError> {
     for ring in [1024, 1] {
-        assert!(&rt; has_own_lines(&rt, rt.alloc(), ring)?);
+        assert!(&rt; has_own_lines(&rt, rt.alloc(), three(ring), &Open)?);
     }
+    Ok(())
+}
+
+/// A gate at which a worker gives way a hundred times ahead of each turn.
+struct Slow;
+
+impl Gate for Slow {
+    fn before(&self, _thread: u32, _call: u64) {
+        for _ in 0..100 {
+            thread::yield_now();
+        }
+    }
+
+    fn after(&self, _thread: u32, _reply: Reply) {}
+}
+
+#[test]
+fn three_slow_workers(rt: HostRuntime) -> Result<(), AllocError> {
+    let numbers = Numbers {
+        turn: 64,
+        ..three(1)
+    };
+    assert!(&rt; has_own_lines(&rt, rt.alloc(), numbers, &Slow)?);
     Ok(())
 }
 
@@ -80,7 +107,7 @@ fn three_workers_replay(rt: HostRuntime) -> Result<(), AllocError> {
 
 /// Whether two threads with 10,000 calls each end clean, by these turns and with this ring. A
 /// thread that is refused a context ends earlier; the other then has all its calls.
-fn has_many_calls<R: Threads + Wait + Sync>(
+fn has_many_calls<R: Threads + Wait + Clock + Sync>(
     rt: &R,
     alloc: Global,
     turn: u32,

@@ -1,34 +1,19 @@
-//! Worked examples, and what fails under them.
-mod bundles;
-mod check;
-mod code;
-mod drive;
-mod endings;
-mod fault_lines;
-mod messages;
-mod replay;
-mod run;
+//! Writers and readers that fail.
 
 use std::io;
 use std::io::{ErrorKind, Read, Write};
 
-const RECURSIVE: &[u8] = b"\
-    decl g;\n\
-    main() begin decl h; h := !g; A(g,h); skip; A(g,h); skip;\n  \
-    if (g) then R: skip; else skip; fi end\n\
-    A(a1,a2) begin if (a1) then A(a2,a1); else g := a2; fi end";
-
 /// A writer that takes so many bytes, one at a time, and then fails.
 #[derive(Drop)]
-struct Short {
-    taken: Vec<u8>,
-    room: usize,
+pub(crate) struct Short {
+    pub(crate) taken: Vec<u8>,
+    pub(crate) room: usize,
 }
 
 impl Write for Short {
     ghost use Rattle.std.specs.Prelude.{Some};
 
-    ghost contents = { λ s. Some s.taken.items };
+    ghost contents = { λ w. Some w.taken.items };
 
     fn write(&mut self, buf: &[u8]) -> io::Result<usize> {
         if buf.is_empty() {
@@ -48,10 +33,10 @@ impl Write for Short {
     }
 }
 
-/// A reader that gives one byte of its text at each read, and fails at a read.
+/// A reader that gives one space at each of so many reads, and then fails.
 #[derive(Drop)]
-struct Broken {
-    reads: usize,
+pub(crate) struct Broken {
+    pub(crate) reads: usize,
 }
 
 impl Read for Broken {
@@ -67,7 +52,7 @@ impl Read for Broken {
 
 /// A reader that has no memory.
 #[derive(Drop)]
-struct Starved;
+pub(crate) struct Starved;
 
 impl Read for Starved {
     fn read(&mut self, _: &mut [u8]) -> io::Result<usize> {

@@ -4,9 +4,10 @@ ghost use Rattle.std.specs.Prelude.{◌≡◌, true, is_some};
 ghost use Rattle.bp_machine.specs.Setups.{threads, FitsCode};
 ghost use Rattle.bp_board.specs.Kits.{IsNamed};
 
-use super::{Act, Example, LOOP, code_of, kit_of, own, setup_of};
-use crate::limits::MAX_TURN;
-use crate::{Calls, Desk, Kit};
+use super::{Act, Example, LOOP, kit_of, own, setup_of};
+use crate::texts::code_of;
+use bp_board::limits::MAX_TURN;
+use bp_board::{Calls, Desk, Kit};
 use bp_code::Code;
 use bp_machine::{AskFault, Reply, Setup};
 use std::alloc::Global;

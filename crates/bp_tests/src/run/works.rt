@@ -4,18 +4,21 @@ ghost use Rattle.bp_machine.specs.Setups.{threads, FitsCode};
 ghost use Rattle.bp_board.specs.declared.limits.TheConstants.{MAX_TURN};
 ghost use Rattle.bp_board.specs.Kits.{IsNamed};
 
-use super::{ENDLESS, LOOP, Numbers, ONE, options};
-use crate::runner::kit_of;
-use crate::{Gate, Open, work};
+use super::{ENDLESS, LOOP, Numbers, ONE};
+use crate::board::{Example, kit_of, setup_of};
+use crate::texts::code_of;
+use bp_board::limits::MAX_TURN;
 use bp_board::{Board, Calls, Kit, gather};
-use bp_code::{Code, code_of};
+use bp_code::Code;
 use bp_machine::{Reply, Setup};
+use bp_run::{Gate, Open, work};
 use std::alloc::Global;
 use std::marker::Brand;
 use std::sync::Wait;
 use std::sync::atomic::{AtomicU64, Ordering};
 use std::sync::ledger::Ledger;
 use std::test::Fail;
+use std::time::Clock;
 
 /// A gate that notes a digit each time: ahead of a turn the number of calls, and behind it 1 for
 /// Stepped, 2 for Ended and 3 for another reply.
@@ -48,7 +51,7 @@ impl Gate for Notes {
 
 /// The calls and the open lines that are reported once a worker has done the work of the first
 /// seat, at a board of this kit.
-fn work_at<C: Calls, O: Ledger, G: Gate, R: Wait>(
+fn work_at<C: Calls, O: Ledger, G: Gate, R: Wait + Clock>(
     rt: &R,
     alloc: Global,
     kit: Kit,
@@ -79,27 +82,37 @@ fn work_at<C: Calls, O: Ledger, G: Gate, R: Wait>(
     }
 }
 
-/// The same at a board of a program with these numbers.
-fn work_of<G: Gate, R: Wait>(
+/// The same at a board of one thread of a program, with these numbers.
+fn work_of<G: Gate, R: Wait + Clock>(
     rt: &R,
     alloc: Global,
-    text: &[u8],
+    text: &'static [u8],
     numbers: Numbers,
     gate: &G,
 ) -> Result<Option<(u64, u32)>, Fail> {
-    let code = match code_of(alloc, text) {
-        Ok(code) => code,
-        Err(_) => return Err(Fail::from("no code")),
+    let Numbers {
+        calls,
+        turn,
+        ring,
+        ..
+    } = numbers;
+    let example = Example {
+        text,
+        threads: 1,
+        calls,
+        ring,
     };
-    let options = options(alloc, numbers)?;
-    let setup = options.setup(alloc, &code)?;
-    let kit = kit_of(alloc, &setup, &options)?;
-    let turn = options.turn;
+    let code = code_of(alloc, text)?;
+    let setup = setup_of(alloc, &code, example)?;
+    let kit = kit_of(alloc, &setup, ring)?;
+    if turn == 0 || turn > MAX_TURN {
+        return Err(Fail::from("no turn"));
+    }
     Ok(work_at::<Brand, Brand, G, R>(rt, alloc, kit, &code, &setup, turn, gate))
 }
 
 /// Whether the work on the loop by turns of so many calls is noted with these digits.
-fn is_noted<R: Wait>(rt: &R, alloc: Global, turn: u32, digits: u64) -> Result<bool, Fail> {
+fn is_noted<R: Wait + Clock>(rt: &R, alloc: Global, turn: u32, digits: u64) -> Result<bool, Fail> {
     let gate = Notes {
         digits: AtomicU64::new(0),
     };

@@ -4,8 +4,9 @@ ghost use Rattle.std.specs.Prelude.{◌≡◌, true, is_some};
 ghost use Rattle.bp_machine.specs.Setups.{threads, FitsCode};
 ghost use Rattle.bp_board.specs.Kits.{IsNamed};
 
-use super::{Example, LOOP, code_of, kit_of, mains, setup_of};
-use crate::{Board, Calls, Kit, gather};
+use super::{Example, LOOP, kit_of, setup_of};
+use crate::texts::{code_of, mains};
+use bp_board::{Board, Calls, Kit, gather};
 use bp_code::Code;
 use bp_machine::Setup;
 use std::alloc::Global;

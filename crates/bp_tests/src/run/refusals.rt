@@ -1,12 +1,13 @@
 //! Runs that are refused.
 use super::{IF, Numbers, ONE, written};
-use crate::Open;
+use bp_run::Open;
 use std::alloc::{AllocError, Global};
 use std::sync::Wait;
 use std::thread::Threads;
+use std::time::Clock;
 
 /// Whether a run of this text with these numbers is refused with this number, and writes nothing.
-fn is_refused<R: Threads + Wait + Sync>(
+fn is_refused<R: Threads + Wait + Clock + Sync>(
     rt: &R,
     alloc: Global,
     text: &[u8],

@@ -1,45 +1,15 @@
 //! Runs whose writer fails.
 use super::{IF, IF_TRACE, Numbers, ONE, number_of, options};
-use crate::{Open, run};
+use crate::devices::Short;
+use bp_run::{Open, run};
 use std::alloc::{AllocError, Global};
-use std::io;
-use std::io::{ErrorKind, Write};
 use std::sync::Wait;
 use std::thread::Threads;
-
-/// A writer that takes so many bytes and then fails.
-#[derive(Drop)]
-struct Short {
-    taken: Vec<u8>,
-    room: usize,
-}
-
-impl Write for Short {
-    ghost use Rattle.std.specs.Prelude.{Some};
-
-    ghost contents = { λ s. Some s.taken.items };
-
-    fn write(&mut self, buf: &[u8]) -> io::Result<usize> {
-        if buf.is_empty() {
-            return Ok(0);
-        }
-        if self.taken.len() >= self.room {
-            return Err(io::Error::from(ErrorKind::StorageFull));
-        }
-        match self.taken.push(buf[0]) {
-            Ok(()) => Ok(1),
-            Err(_) => Err(io::Error::from(ErrorKind::OutOfMemory)),
-        }
-    }
-
-    fn flush(&mut self) -> io::Result<()> {
-        Ok(())
-    }
-}
+use std::time::Clock;
 
 /// Whether a run over a writer with so much room has written the front of the trace, and is refused
 /// where that is not all of it.
-fn writes_a_front<R: Threads + Wait + Sync>(
+fn writes_a_front<R: Threads + Wait + Clock + Sync>(
     rt: &R,
     alloc: Global,
     room: usize,

@@ -1,12 +1,15 @@
 //! Programs that real workers run.
-use super::{Broken, Starved};
-use crate::limits::{DEFAULT_CALLS, DEFAULT_CONTEXTS, DEFAULT_RING, DEFAULT_SEED, DEFAULT_TURN};
-use crate::{RunRefusal, end_run, run_buffered, run_program};
+use crate::devices::{Broken, Starved};
+use bp_commands::limits::{
+    DEFAULT_CALLS, DEFAULT_CONTEXTS, DEFAULT_RING, DEFAULT_SEED, DEFAULT_TURN,
+};
+use bp_commands::{RunRefusal, end_run, run_buffered, run_program};
 use bp_run::{Open, RunOptions};
 use std::alloc::{AllocError, Global};
 use std::io::Read;
 use std::sync::Wait;
 use std::thread::Threads;
+use std::time::Clock;
 
 const IF: &[u8] = b"main() begin if (?) then skip; else skip; fi end";
 
@@ -40,7 +43,7 @@ fn fault<T>(done: &Result<T, RunRefusal>) -> Option<(u32, Option<u32>)> {
 }
 
 /// Whether the run of an input ends with this refusal, or none, and has written these bytes.
-fn runs<I: Read + Drop, R: Threads + Wait + Sync>(
+fn runs<I: Read + Drop, R: Threads + Wait + Clock + Sync>(
     rt: &R,
     alloc: Global,
     entry: &str,
@@ -84,7 +87,7 @@ fn refuses_files_that_are_not_read(rt: HostRuntime) -> Result<(), AllocError> {
 }
 
 /// Whether the run of a text ends with this status and this text on standard error.
-fn ends<R: Threads + Wait + Sync>(
+fn ends<R: Threads + Wait + Clock + Sync>(
     rt: &R,
     alloc: Global,
     entry: &str,
@@ -110,7 +113,7 @@ fn ends_runs(rt: HostRuntime) -> Result<(), AllocError> {
 }
 
 /// Whether the output that a run gives back has this trace.
-fn hands_on<R: Threads + Wait + Sync>(
+fn hands_on<R: Threads + Wait + Clock + Sync>(
     rt: &R,
     alloc: Global,
     text: &[u8],
