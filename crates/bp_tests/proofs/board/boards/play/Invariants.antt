@@ -1,4 +1,4 @@
-use Rattle.bp_board.proofs.tests.desks.play.Given as goal
+use Rattle.bp_tests.proofs.board.boards.play.Given as goal
 
 abbrev pub ghosts-play_with-C-Calls : goal.ghosts-play_with-C-Calls
 ghosts-play_with-C-Calls g a = record { ring = a.kit.ring }

@@ -1,4 +1,4 @@
-use Rattle.bp_run.proofs.tests.works.work_of.Given as goal
+use Rattle.bp_tests.proofs.run.works.work_of.Given as goal
 
 abbrev pub ghosts-work_at-C-Calls : goal.ghosts-work_at-C-Calls
 ghosts-work_at-C-Calls g a = record { ring = a.kit.ring }

@@ -1,4 +1,4 @@
-use Rattle.bp_board.proofs.tests.gathering.is_gathered.Given as goal
+use Rattle.bp_tests.proofs.board.gathering.is_gathered.Given as goal
 
 abbrev pub ghosts-is_gathered_with-C-Calls : goal.ghosts-is_gathered_with-C-Calls
 ghosts-is_gathered_with-C-Calls a = record { ring = a.kit.ring }
