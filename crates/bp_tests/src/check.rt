@@ -91,57 +91,60 @@ fn finds_names(rt: HostRuntime) -> Result<(), Fail> {
 }
 
 /// The faults, each with its number and its words.
+const FAULTS: &[(CheckFault, u32, &str)] = &[
+    (CheckFault::TwiceGlobal, 11, "a global is declared twice"),
+    (
+        CheckFault::TwiceProcedure,
+        12,
+        "two procedures have one name",
+    ),
+    (
+        CheckFault::TwiceLocal,
+        13,
+        "a formal or local is declared twice",
+    ),
+    (
+        CheckFault::TwiceLabel,
+        14,
+        "a label appears twice in a procedure",
+    ),
+    (
+        CheckFault::UnknownVariable,
+        15,
+        "a variable is not declared",
+    ),
+    (
+        CheckFault::UnknownProcedure,
+        16,
+        "there is no procedure of this name",
+    ),
+    (
+        CheckFault::UnknownLabel,
+        17,
+        "there is no such label in the procedure",
+    ),
+    (
+        CheckFault::Arity,
+        18,
+        "arguments and formals differ in number",
+    ),
+    (
+        CheckFault::Lengths,
+        19,
+        "right sides and targets differ in number",
+    ),
+    (
+        CheckFault::TwiceTarget,
+        20,
+        "a target appears twice on one left side",
+    ),
+    (CheckFault::Limit, 21, "there are more names than the limit"),
+    (CheckFault::Memory, 7, "out of memory"),
+];
+
+/// The table by a call, so that no test holds all of it in its own proof.
 fn faults() -> &'static [(CheckFault, u32, &'static str)] {
-    &[
-        (CheckFault::TwiceGlobal, 11, "a global is declared twice"),
-        (
-            CheckFault::TwiceProcedure,
-            12,
-            "two procedures have one name",
-        ),
-        (
-            CheckFault::TwiceLocal,
-            13,
-            "a formal or local is declared twice",
-        ),
-        (
-            CheckFault::TwiceLabel,
-            14,
-            "a label appears twice in a procedure",
-        ),
-        (
-            CheckFault::UnknownVariable,
-            15,
-            "a variable is not declared",
-        ),
-        (
-            CheckFault::UnknownProcedure,
-            16,
-            "there is no procedure of this name",
-        ),
-        (
-            CheckFault::UnknownLabel,
-            17,
-            "there is no such label in the procedure",
-        ),
-        (
-            CheckFault::Arity,
-            18,
-            "arguments and formals differ in number",
-        ),
-        (
-            CheckFault::Lengths,
-            19,
-            "right sides and targets differ in number",
-        ),
-        (
-            CheckFault::TwiceTarget,
-            20,
-            "a target appears twice on one left side",
-        ),
-        (CheckFault::Limit, 21, "there are more names than the limit"),
-        (CheckFault::Memory, 7, "out of memory"),
-    ]
+    FAULTS
 }
 
 /// Whether the fault has this number, and is shown in these words.
