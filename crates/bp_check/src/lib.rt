@@ -13,8 +13,6 @@ mod programs;
 mod repeats;
 mod scopes;
 mod tables;
-#[cfg(test)]
-mod tests;
 mod uses;
 
 pub use checks::{CheckRefusal, Checked, check};

@@ -35,6 +35,3 @@ pub use programs::compile;
 pub use stores::Store;
 pub use texts::{CodeFault, ProgramFault, code_of, lawful_program};
 pub use writing::{WriteFault, put, put_each};
-
-#[cfg(test)]
-mod tests;

@@ -10,8 +10,6 @@ mod nesting;
 mod parser;
 mod reading;
 mod successions;
-#[cfg(test)]
-mod tests;
 mod tokens;
 mod trees;
 

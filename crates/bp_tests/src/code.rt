@@ -1,1 +1,320 @@
-//! Tests of `bp_code`.
+//! Tests of `bp_code`: bits, instructions, codes and their copies, and writers that fail. The
+//! listings of programs are shown by the cases of the command `code`.
+
+use crate::texts::code_of;
+use bp_check::{CheckFault, check};
+use bp_code::stores::{bit_at, with_bit, word_of};
+use bp_code::{
+    Code, Effect, Heading, Instr, Kind, ProgramFault, Store, WriteFault, compile, lawful_program,
+    list, put, put_each, steps_alike,
+};
+use bp_syntax::{ReadFault, read};
+use std::alloc::{AllocError, Global};
+use std::io::{self, ErrorKind, Write};
+use std::test::Fail;
+
+fn writes_an_end(alloc: Global) -> Result<bool, Fail> {
+    let mut out = Vec::new(alloc);
+    put(&mut out, b"end ")?;
+    put_each(&mut out, &[b"4 ", b"0\n"])?;
+    Ok(out.as_slice() == b"end 4 0\n".as_slice())
+}
+
+#[test]
+fn writes_pieces(rt: HostRuntime) -> Result<(), Fail> {
+    assert!(rt; writes_an_end(rt.alloc())?);
+    Ok(())
+}
+
+fn has_bits() -> bool {
+    let word = word_of(&[false, true, true]);
+    let more = with_bit(word, 127, true);
+    word == 6 && bit_at(more, 127) && !bit_at(more, 0) && with_bit(more, 127, false) == 6
+}
+
+#[test]
+fn reads_and_writes_bits(rt: HostRuntime) {
+    assert!(rt; has_bits());
+}
+
+/// Whether the instruction is of this kind, with these successors.
+fn is_instr(instr: &Instr, kind: Kind, next: Option<u32>, other: Option<u32>) -> bool {
+    instr.kind() == kind && instr.next() == next && instr.other() == other
+}
+
+/// Whether the code has such an instruction at this number.
+fn has_instr(code: &Code, number: u32, kind: Kind, next: Option<u32>, other: Option<u32>) -> bool {
+    match code.get(number) {
+        Some(instr) => is_instr(instr, kind, next, other),
+        None => false,
+    }
+}
+
+/// Whether the instruction is a branch by the choice bit, to 1 and to 2.
+fn branches(instr: &Instr) -> bool {
+    let store = Store {
+        globals: 5,
+        locals: 0,
+    };
+    is_instr(instr, Kind::If, Some(1), Some(2))
+        && instr.callee().is_none()
+        && instr.effect(store, true) == Effect::Continues { next: 1, store }
+        && instr.effect(store, false) == Effect::Continues { next: 2, store }
+}
+
+fn has_a_branch(alloc: Global) -> Result<bool, Fail> {
+    let code = code_of(alloc, b"main() begin if (?) then skip; else skip; fi end")?;
+    let Some(instr) = code.get(0) else {
+        return Ok(false);
+    };
+    let copy = instr.try_copy()?;
+    Ok(branches(instr) && branches(&copy) && copy.is_same(instr))
+}
+
+#[test]
+fn carries_out_an_instruction(rt: HostRuntime) -> Result<(), Fail> {
+    assert!(rt; has_a_branch(rt.alloc())?);
+    Ok(())
+}
+
+/// Whether the instruction prints both bits of a store whose second global is 1.
+fn prints_both(alloc: Global, instr: &Instr) -> Result<bool, Fail> {
+    let store = Store {
+        globals: 2,
+        locals: 0,
+    };
+    Ok(match instr.printed(alloc, store)? {
+        Some(values) => values.as_slice() == [false, true].as_slice(),
+        None => false,
+    })
+}
+
+fn has_a_print(alloc: Global) -> Result<bool, Fail> {
+    let code = code_of(alloc, b"decl x, y; main() begin print (x, y); end")?;
+    match code.get(0) {
+        Some(instr) => prints_both(alloc, instr),
+        None => Ok(false),
+    }
+}
+
+#[test]
+fn prints_values(rt: HostRuntime) -> Result<(), Fail> {
+    assert!(rt; has_a_print(rt.alloc())?);
+    Ok(())
+}
+
+fn is_a_loop(code: &Code) -> bool {
+    code.len() == 3
+        && has_instr(code, 0, Kind::While, Some(1), Some(2))
+        && has_instr(code, 1, Kind::Skip, Some(0), None)
+        && has_instr(code, 2, Kind::Return, None, None)
+}
+
+#[test]
+fn compiles_a_loop(rt: HostRuntime) -> Result<(), Fail> {
+    let code = code_of(rt.alloc(), b"main() begin while (?) do skip; od end")?;
+    assert!(rt; is_a_loop(&code));
+    Ok(())
+}
+
+fn names_its_procedure(code: &Code) -> bool {
+    code.entry("main") == Some(0)
+        && code.entry("x").is_none()
+        && code.formals("main") == Some(0)
+        && matches!(code.heading_of(b"main"), Some(heading) if heading.name() == "main")
+        && code.headings().len() == 1
+}
+
+fn is_an_assignment_and_an_assertion(code: &Code) -> bool {
+    code.len() == 3
+        && code.globals() == 2
+        && has_instr(code, 0, Kind::Assign, Some(1), None)
+        && has_instr(code, 1, Kind::Assert, Some(2), None)
+        && has_instr(code, 2, Kind::Return, None, None)
+        && code.get(3).is_none()
+}
+
+#[test]
+fn compiles_a_program(rt: HostRuntime) -> Result<(), Fail> {
+    let text = b"decl x, y; main() begin x := 1; assert (x); end";
+    let code = code_of(rt.alloc(), text)?;
+    steps_alike(&code);
+    code.is_of_a_program();
+    code.has_spelled_headings();
+    assert!(rt; names_its_procedure(&code) && is_an_assignment_and_an_assertion(&code));
+    Ok(())
+}
+
+/// Whether a code equals its copy, and not the code of another assignment.
+fn compares_codes(alloc: Global) -> Result<bool, Fail> {
+    let code = code_of(alloc, b"decl x, y; main() begin x := 1; assert (x); end")?;
+    let other = code_of(alloc, b"decl x, y; main() begin y := 1; assert (x); end")?;
+    let copy = code.try_copy()?;
+    Ok(copy == code && copy.is_same(&code) && other != code)
+}
+
+#[test]
+fn copies_codes(rt: HostRuntime) -> Result<(), Fail> {
+    assert!(rt; compares_codes(rt.alloc())?);
+    Ok(())
+}
+
+fn declares_one_global(alloc: Global) -> Result<bool, Fail> {
+    let checked = lawful_program(alloc, b"decl x; main() begin x := 1; end")?;
+    Ok(checked.tree().globals().len() == 1)
+}
+
+#[test]
+fn takes_a_lawful_text(rt: HostRuntime) -> Result<(), Fail> {
+    assert!(rt; declares_one_global(rt.alloc())?);
+    Ok(())
+}
+
+fn is_of_a_swap(heading: &Heading) -> bool {
+    heading.name() == "swap"
+        && heading.formals() == 2
+        && heading.locals() == 1
+        && heading.entry() == 9
+}
+
+fn copies_a_heading(alloc: Global) -> Result<bool, Fail> {
+    let heading = Heading::new(String::from_str(alloc, "swap")?, 2, 1, 9);
+    let copy = heading.try_copy()?;
+    Ok(is_of_a_swap(&heading) && copy.is_same(&heading))
+}
+
+#[test]
+fn heads_a_procedure(rt: HostRuntime) -> Result<(), Fail> {
+    assert!(rt; copies_a_heading(rt.alloc())?);
+    Ok(())
+}
+
+/// Whether the fault has this number and this place, and is shown in these words.
+fn is_known(
+    alloc: Global,
+    fault: &ProgramFault,
+    number: u32,
+    place: u32,
+    words: &str,
+) -> Result<bool, AllocError> {
+    let shown = format!(in alloc; "{fault}")?;
+    Ok(fault.number() == number && fault.place() == Some(place) && shown.as_str() == words)
+}
+
+#[test]
+fn numbers_and_shows_faults(rt: HostRuntime) -> Result<(), Fail> {
+    for (fault, number, place, words) in [
+        (
+            ProgramFault::Read(ReadFault::Syntax(13)),
+            6,
+            13,
+            "syntax at 13",
+        ),
+        (
+            ProgramFault::Check(CheckFault::Limit, 663),
+            21,
+            663,
+            "there are more names than the limit at 663",
+        ),
+    ] {
+        assert!(rt; is_known(rt.alloc(), &fault, number, place, words)?);
+    }
+    Ok(())
+}
+
+fn is_shown_as_fifty_one(alloc: Global, fault: WriteFault) -> Result<bool, AllocError> {
+    let shown = format!(in alloc; "{fault}")?;
+    Ok(fault.number() == 51 && shown.as_str() == "the output could not be written")
+}
+
+#[test]
+fn numbers_and_shows_a_failed_write(rt: HostRuntime) -> Result<(), Fail> {
+    assert!(rt; is_shown_as_fifty_one(rt.alloc(), WriteFault::Write)?);
+    Ok(())
+}
+
+/// The program that calls itself once.
+const RECURSION: &[u8] = b"\
+    decl g;\n\
+    main() begin decl h; h := !g; A(g,h); skip; A(g,h); skip;\n  \
+    if (g) then R: skip; else skip; fi end\n\
+    A(a1,a2) begin if (a1) then A(a2,a1); else g := a2; fi end\n";
+
+/// Its listing.
+const LISTING_OF_RECURSION: &[u8] = b"\
+    proc main 0 1\n0 assign 1\n1 call 9 2\n2 skip 3\n\
+    3 call 9 4\n4 skip 5\n5 if 6 7\n6 skip 8\n7 skip 8\n\
+    8 return\nproc A 2 0\n9 if 10 11\n10 call 9 12\n\
+    11 assign 12\n12 return\n";
+
+fn lists_the_recursion(alloc: Global, code: &Code) -> Result<bool, Fail> {
+    let mut out = Vec::new(alloc);
+    list(code, &mut out)?;
+    Ok(out.as_slice() == LISTING_OF_RECURSION)
+}
+
+/// Whether the code of a copied tree, and a copy of that code, have the listing of the tree.
+fn lists_copies(alloc: Global) -> Result<bool, Fail> {
+    let tree = read(alloc, RECURSION)?.try_copy()?;
+    let Ok(checked) = check(alloc, tree) else {
+        return Ok(false);
+    };
+    let code = compile(alloc, &checked)?;
+    let copy = code.try_copy()?;
+    Ok(lists_the_recursion(alloc, &code)? && lists_the_recursion(alloc, &copy)?)
+}
+
+#[test]
+fn lists_copies_alike(rt: HostRuntime) -> Result<(), Fail> {
+    assert!(rt; lists_copies(rt.alloc())?);
+    Ok(())
+}
+
+/// A writer that takes so many bytes, one at a time, and then fails.
+#[derive(Drop)]
+struct Short {
+    taken: Vec<u8>,
+    room: usize,
+}
+
+impl Write for Short {
+    ghost use Rattle.std.specs.Prelude.{Some};
+
+    ghost contents = { λ s. Some s.taken.items };
+
+    fn write(&mut self, buf: &[u8]) -> io::Result<usize> {
+        if buf.is_empty() {
+            return Ok(0);
+        }
+        if self.taken.len() >= self.room {
+            return Err(io::Error::from(ErrorKind::StorageFull));
+        }
+        match self.taken.push(buf[0]) {
+            Ok(()) => Ok(1),
+            Err(_) => Err(io::Error::from(ErrorKind::OutOfMemory)),
+        }
+    }
+
+    fn flush(&mut self) -> io::Result<()> {
+        Ok(())
+    }
+}
+
+/// Whether a writer of so much room takes as much of the listing, and all of it where it has room.
+fn fills(alloc: Global, code: &Code, room: usize) -> bool {
+    let taken = Vec::new(alloc);
+    let mut out = Short { taken, room };
+    let is_listed = list(code, &mut out).is_ok();
+    is_listed == (room == LISTING_OF_RECURSION.len())
+        && out.taken.len() == room
+        && LISTING_OF_RECURSION.starts_with(out.taken.as_slice())
+}
+
+#[test]
+fn writes_a_prefix_of_a_listing(rt: HostRuntime) -> Result<(), Fail> {
+    let code = code_of(rt.alloc(), RECURSION)?;
+    for room in 0..=LISTING_OF_RECURSION.len() {
+        assert!(rt; fills(rt.alloc(), &code, room));
+    }
+    Ok(())
+}

@@ -11,6 +11,3 @@ pub use exprs::{Decider, Expr, Exprs, Op, Sub};
 pub use names::{Name, Names};
 pub use procs::{Proc, Procs};
 pub use stmts::{Block, Form, Stmt};
-
-#[cfg(test)]
-mod tests;
