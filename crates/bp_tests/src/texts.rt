@@ -28,3 +28,12 @@ pub(crate) fn repeated(
     text.extend_from_slice(end)?;
     Ok(text)
 }
+
+/// The names.
+pub(crate) fn names(alloc: Global, texts: &[&str]) -> Result<Vec<String>, AllocError> {
+    let mut names = Vec::new(alloc);
+    for text in texts {
+        names.push(String::from_str(alloc, text)?)?;
+    }
+    Ok(names)
+}
