@@ -13,8 +13,6 @@ mod sessions;
 mod setup_words;
 mod setups;
 mod stacks;
-#[cfg(test)]
-mod tests;
 mod threads;
 mod zeros;
 

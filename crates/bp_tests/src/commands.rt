@@ -9,6 +9,7 @@ mod migrate;
 mod replay;
 mod run;
 
+use crate::texts::names;
 use bp_commands::{DriveOptions, DriveRefusal, FileFault, TraceRefusal};
 use std::alloc::{AllocError, Global};
 
@@ -33,10 +34,7 @@ const RACE_TRACE_2: &[u8] = b"\
 /// The options of the race: two threads, and a context more than the default.
 fn race(alloc: Global) -> Result<DriveOptions, AllocError> {
     let mut options = DriveOptions::defaults(alloc)?;
-    let mut entries = Vec::new(alloc);
-    entries.push(String::from_str(alloc, "a")?)?;
-    entries.push(String::from_str(alloc, "b")?)?;
-    options.entries = entries;
+    options.entries = names(alloc, &["a", "b"])?;
     options.contexts = 3;
     Ok(options)
 }

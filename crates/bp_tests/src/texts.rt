@@ -37,3 +37,12 @@ pub(crate) fn mains(alloc: Global, count: u32) -> Result<Vec<String>, AllocError
     }
     Ok(entries)
 }
+
+/// The names.
+pub(crate) fn names(alloc: Global, texts: &[&str]) -> Result<Vec<String>, AllocError> {
+    let mut names = Vec::new(alloc);
+    for text in texts {
+        names.push(String::from_str(alloc, text)?)?;
+    }
+    Ok(names)
+}

@@ -1,1 +1,14 @@
 //! Tests of `bp_trace`.
+mod faults;
+mod runs;
+mod writing;
+
+use bp_trace::{lines_drive_again, no_two_have_one_text, pieces_are_fewest, refusals_are_single};
+
+#[test]
+fn laws(_rt: HostRuntime) {
+    lines_drive_again();
+    pieces_are_fewest();
+    no_two_have_one_text();
+    refusals_are_single();
+}

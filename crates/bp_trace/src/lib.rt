@@ -17,8 +17,6 @@ mod playing;
 mod replay_faults;
 mod replaying;
 mod schedules;
-#[cfg(test)]
-mod tests;
 mod trace_lines;
 mod traces;
 mod versions;

@@ -1,5 +1,6 @@
 //! Programs that real workers run.
 use crate::devices::{Broken, Starved};
+use crate::texts::names;
 use bp_commands::limits::{
     DEFAULT_CALLS, DEFAULT_CONTEXTS, DEFAULT_RING, DEFAULT_SEED, DEFAULT_TURN,
 };
@@ -21,10 +22,8 @@ const FAILING: &[u8] = b"main() begin assert (0); end";
 
 /// Options with one thread that begins with this procedure, and else the defaults.
 fn options(alloc: Global, entry: &str) -> Result<RunOptions, AllocError> {
-    let mut entries = Vec::new(alloc);
-    entries.push(String::from_str(alloc, entry)?)?;
     Ok(RunOptions {
-        entries,
+        entries: names(alloc, &[entry])?,
         init: None,
         contexts: DEFAULT_CONTEXTS,
         calls: DEFAULT_CALLS,
