@@ -2,8 +2,9 @@
 use std::thread;
 use std::time::{Clock, Duration};
 
-/// So many times a thread only gives way, before it sleeps. A ring is filled and emptied in less.
-const ROUNDS_AWAKE: u32 = 1_000;
+/// So many times a thread only gives way, before it sleeps: far longer than another thread takes to
+/// fill or to empty a ring, so that two threads never wait for each other asleep.
+const ROUNDS_AWAKE: u32 = 100_000;
 
 /// For so many microseconds it sleeps then.
 const NAP: u64 = 1_000;

@@ -7,6 +7,11 @@ use std::alloc::{AllocError, Global};
 use std::io;
 use std::io::{BufWriter, Write};
 
+/// The byte that is so far from `0`.
+fn digit(number: u32) -> u8 {
+    b'0'.wrapping_add(u8::try_from(number).unwrap_or(0))
+}
+
 /// The number of the fault of a text as a digit, 0 where it is read, and the place as a byte from
 /// `0`, or `-`.
 fn answer(alloc: Global, text: &[u8]) -> [u8; 2] {
@@ -15,16 +20,16 @@ fn answer(alloc: Global, text: &[u8]) -> [u8; 2] {
         Err(fault) => (fault.number(), fault.place()),
     };
     let place = match place {
-        Some(at) => b'0'.wrapping_add(at as u8),
+        Some(at) => digit(at),
         None => b'-',
     };
-    [b'0'.wrapping_add(number as u8), place]
+    [digit(number), place]
 }
 
 /// Puts the bytes of which these are the numbers.
 fn put_bytes(text: &mut Vec<u8>, digits: &[usize]) -> Result<(), AllocError> {
     for digit in digits {
-        text.push(*digit as u8)?;
+        text.push(u8::try_from(*digit).unwrap_or(0))?;
     }
     Ok(())
 }

@@ -32,8 +32,9 @@ impl Counter {
             let Some(digit) = self.digits.get_mut(index) else {
                 return false;
             };
-            if *digit + 1 < self.base {
-                *digit += 1;
+            let next = digit.saturating_add(1);
+            if next < self.base {
+                *digit = next;
                 return true;
             }
             *digit = 0;

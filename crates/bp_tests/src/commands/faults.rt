@@ -1,6 +1,6 @@
 //! The lines, the statuses and the words of refusals.
 use bp_check::CheckFault;
-use bp_code::ProgramFault;
+use bp_code::{ProgramFault, WriteFault};
 use bp_commands::{
     DriveRefusal, FileFault, InputFault, RunRefusal, TraceRefusal, exit_status, show_fault,
 };
@@ -11,36 +11,27 @@ use bp_trace::{DriveFault, ReplayFault};
 use std::alloc::{AllocError, Global};
 use std::fmt::Display;
 
-/// Whether this is the line of a fault.
-fn is_line(
-    alloc: Global,
-    number: u32,
-    place: Option<u32>,
-    wanted: Option<Reply>,
-    line: &[u8],
-) -> bool {
+/// The lines of faults, one of each kind of place.
+fn lines(alloc: Global) -> Result<Vec<u8>, WriteFault> {
     let mut out = Vec::new(alloc);
-    show_fault(number, place, wanted, &mut out).is_ok() && out.as_slice() == line
+    show_fault(44, Some(7), Some(Reply::Stepped), &mut out)?;
+    show_fault(6, Some(13), None, &mut out)?;
+    show_fault(32, Some(0), None, &mut out)?;
+    show_fault(1, None, None, &mut out)?;
+    show_fault(48, None, None, &mut out)?;
+    show_fault(54, None, None, &mut out)?;
+    Ok(out)
 }
 
+const LINES: &[u8] = b"\
+    btrun: 44 Reply line 7 wanted s\nbtrun: 6 Syntax at 13\n\
+    btrun: 32 UnknownEntry thread 0\nbtrun: 1 TooLong\n\
+    btrun: 48 TooLong\nbtrun: 54 Device\n";
+
 #[test]
-fn shows_faults(rt: HostRuntime) {
-    let rows: [(u32, Option<u32>, Option<Reply>, &[u8]); 6] = [
-        (
-            44,
-            Some(7),
-            Some(Reply::Stepped),
-            b"btrun: 44 Reply line 7 wanted s\n",
-        ),
-        (6, Some(13), None, b"btrun: 6 Syntax at 13\n"),
-        (32, Some(0), None, b"btrun: 32 UnknownEntry thread 0\n"),
-        (1, None, None, b"btrun: 1 TooLong\n"),
-        (48, None, None, b"btrun: 48 TooLong\n"),
-        (54, None, None, b"btrun: 54 Device\n"),
-    ];
-    for (number, place, wanted, line) in rows {
-        assert!(rt; is_line(rt.alloc(), number, place, wanted, line));
-    }
+fn shows_faults(rt: HostRuntime) -> Result<(), WriteFault> {
+    assert!(rt; lines(rt.alloc())?.as_slice() == LINES);
+    Ok(())
 }
 
 #[test]
