@@ -15,6 +15,8 @@ mod devices;
 #[cfg(test)]
 mod machine;
 #[cfg(test)]
+mod refused;
+#[cfg(test)]
 mod run;
 #[cfg(test)]
 mod syntax;

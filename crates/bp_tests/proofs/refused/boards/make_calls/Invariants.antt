@@ -1,0 +1,19 @@
+use Rattle.bp_tests.proofs.refused.boards.make_calls.Given as goal
+
+abbrev pub ghosts-desk_calls-C-Calls : goal.ghosts-desk_calls-C-Calls
+ghosts-desk_calls-C-Calls g a = record { ring = a.kit.ring }
+
+abbrev pub ghosts-desk_calls-C-Ledger : goal.ghosts-desk_calls-C-Ledger
+ghosts-desk_calls-C-Ledger g a = record { name = a.kit.calls; parts = a.kit.threads }
+
+abbrev pub ghosts-desk_calls-O-Ledger : goal.ghosts-desk_calls-O-Ledger
+ghosts-desk_calls-O-Ledger g a = record { name = a.kit.lines; parts = a.kit.threads }
+
+abbrev pub ghosts-board_calls-C-Calls : goal.ghosts-board_calls-C-Calls
+ghosts-board_calls-C-Calls g a = record { ring = a.kit.ring }
+
+abbrev pub ghosts-board_calls-C-Ledger : goal.ghosts-board_calls-C-Ledger
+ghosts-board_calls-C-Ledger g a = record { name = a.kit.calls; parts = a.kit.threads }
+
+abbrev pub ghosts-board_calls-O-Ledger : goal.ghosts-board_calls-O-Ledger
+ghosts-board_calls-O-Ledger g a = record { name = a.kit.lines; parts = a.kit.threads }
