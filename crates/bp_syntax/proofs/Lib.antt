@@ -14,7 +14,6 @@ pub mod ExpressionsAreRead
 pub mod ProgramsAreRead
 pub mod StopIsSyntaxFault
 pub mod FewStatements
-pub mod PrecedenceRank
 pub mod NamesOfTokens
 pub mod OneProofOfNames
 pub mod ShortNames

@@ -2,7 +2,7 @@
 ghost use Rattle.std.specs.Prelude.{◌≡◌, ◌<◌, ◌≤◌, [], length, drop, map, OnOk, IfOk, MatchOption};
 ghost use Rattle.bp_tree.specs.Ast.{Operation};
 ghost use Rattle.bp_tree.specs.Views.{expression_of, decision_of};
-ghost use Rattle.bp_syntax.specs.ParserState.{UnThen, OperandThen, BinaryThen, ExprThen, ExprsThen, AnyExprsThen, DeciderThen, ConditionThen, ReadsPhrase, is_at_expr, operator_ahead};
+ghost use Rattle.bp_syntax.specs.ParserState.{UnThen, OperandThen, MoreOperands, ExprThen, ExprsThen, AnyExprsThen, DeciderThen, ConditionThen, ReadsPhrase, is_at_expr, operator_ahead};
 
 use crate::parser::operators::{Precedence, operator};
 use crate::parser::{Parser, Stop};
@@ -53,18 +53,26 @@ impl<'a> Parser<'a> {
         }
     }
 
-    /// Reads an operand of the operators of a precedence.
+    /// Reads an operand of the operators of a precedence: un, and what tighter operators combine.
     #[cycle(expr)]
     fn operand(&mut self, alloc: Global, precedence: Precedence) -> Result<Expr, Stop>
         ensures reads { ReadsPhrase result (OperandThen precedence)
             self.old self.new expression_of }
         ensures shorter { OnOk result (length self.new < length self.old) }
     {
+        let first = self.unary(alloc)?;
         match precedence {
-            Precedence::Equality => self.unary(alloc),
-            Precedence::Conjunction => self.binary(alloc, Precedence::Equality),
-            Precedence::Exclusion => self.binary(alloc, Precedence::Conjunction),
-            Precedence::Disjunction => self.binary(alloc, Precedence::Exclusion),
+            Precedence::Equality => Ok(first),
+            Precedence::Conjunction => self.operators(alloc, Precedence::Equality, first),
+            Precedence::Exclusion => {
+                let left = self.operators(alloc, Precedence::Equality, first)?;
+                self.operators(alloc, Precedence::Conjunction, left)
+            }
+            Precedence::Disjunction => {
+                let left = self.operators(alloc, Precedence::Equality, first)?;
+                let left = self.operators(alloc, Precedence::Conjunction, left)?;
+                self.operators(alloc, Precedence::Exclusion, left)
+            }
         }
     }
 
@@ -78,13 +86,20 @@ impl<'a> Parser<'a> {
         Some(op)
     }
 
-    /// Reads operands with operators of the precedence between them.
+    /// Reads operators of a precedence, each with its right operand, behind their first operand. An
+    /// operand in brackets is read while no such call is under way, which keeps the stack short.
     #[cycle(expr)]
-    fn binary(&mut self, alloc: Global, precedence: Precedence) -> Result<Expr, Stop>
-        ensures reads { ReadsPhrase result (BinaryThen precedence) self.old self.new expression_of }
-        ensures shorter { OnOk result (length self.new < length self.old) }
+    fn operators(
+        &mut self,
+        alloc: Global,
+        precedence: Precedence,
+        first: Expr,
+    ) -> Result<Expr, Stop>
+        ensures reads { ReadsPhrase result (MoreOperands precedence (expression_of first))
+            self.old self.new expression_of }
+        ensures shorter { OnOk result (length self.new ≤ length self.old) }
     {
-        let mut left = self.operand(alloc, precedence)?;
+        let mut left = first;
         while let Some(op) = self.eat_operator(precedence) {
             let right = self.operand(alloc, precedence)?;
             left = operation(alloc, op, left, right)?;
@@ -98,7 +113,8 @@ impl<'a> Parser<'a> {
         ensures reads { ReadsPhrase result ExprThen self.old self.new expression_of }
         ensures shorter { OnOk result (length self.new < length self.old) }
     {
-        let left = self.binary(alloc, Precedence::Disjunction)?;
+        let first = self.operand(alloc, Precedence::Disjunction)?;
+        let left = self.operators(alloc, Precedence::Disjunction, first)?;
         if self.eat(TokenKind::Implies) {
             let right = self.expr(alloc)?;
             return Ok(operation(alloc, Op::Implies, left, right)?);
