@@ -3,7 +3,7 @@ ghost use Rattle.std.specs.Prelude.{◌≡◌, true, is_some};
 ghost use Rattle.bp_machine.specs.Setups.{threads, FitsCode};
 ghost use Rattle.bp_board.specs.Kits.{IsNamed};
 
-use super::ready::{code, kit, setup};
+use super::ready::{CALLS, code, kit, setup};
 use super::{tell, wants};
 use bp_board::{Board, Calls, Desk, Kit, Seat, Tap};
 use bp_code::Code;
@@ -179,7 +179,7 @@ fn make_calls<R: Wait + Clock>(
 /// Whether something was refused, and the calls are those without a refusal. Where a desk or a board
 /// was refused, another one is opened.
 fn calls_alike<R: Wait + Clock>(rt: &R, alloc: Global, way: Way) -> Result<bool, Fail> {
-    let code = code(alloc)?;
+    let code = code(alloc, CALLS)?;
     let setup = setup(alloc, &code, 1, Some(42))?;
     let mut first = [None; 20];
     let mut second = [None; 20];

@@ -16,7 +16,10 @@ pub(super) const PROGRAM: &[u8] = b"decl x, y; \
     main() begin decl h; while (?) do h := !h; f(h, 1); od print (x, y); end \
     f(a, b) begin x, y := a, b; if (?) then f(b, a); else skip; fi end";
 
-/// Its tree.
+/// A procedure that calls itself, so that each step takes a frame.
+pub(super) const CALLS: &[u8] = b"decl x, y; main() begin f(0); end f(a) begin f(!a); end";
+
+/// The tree of the program.
 pub(super) fn tree(alloc: Global) -> Result<Tree, ReadFault> {
     match read(alloc, PROGRAM) {
         Ok(tree) => Ok(tree),
@@ -24,11 +27,11 @@ pub(super) fn tree(alloc: Global) -> Result<Tree, ReadFault> {
     }
 }
 
-/// Its code.
-pub(super) fn code(alloc: Global) -> Result<Code, Fail> {
-    match bp_code::code_of(alloc, PROGRAM) {
+/// The code of a program with two globals.
+pub(super) fn code(alloc: Global, text: &[u8]) -> Result<Code, Fail> {
+    match bp_code::code_of(alloc, text) {
         Ok(code) => Ok(code),
-        Err(_) => code_of(alloc, PROGRAM),
+        Err(_) => code_of(alloc, text),
     }
 }
 

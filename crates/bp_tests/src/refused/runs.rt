@@ -3,7 +3,7 @@
 use super::ready::{PROGRAM, code, entries, output};
 use super::{tell, wants};
 use bp_machine::Report;
-use bp_run::{Open, RunFault, RunOptions, run};
+use bp_run::{Open, RunOptions, run};
 use bp_trace::{ReplayFault, replay};
 use std::alloc::Global;
 use std::sync::Wait;
@@ -26,7 +26,7 @@ fn options(alloc: Global, ring: u32) -> Result<RunOptions, Fail> {
 
 /// Whether the trace is replayed to this report.
 fn is_replayed(alloc: Global, trace: &[u8], report: Report) -> Result<bool, Fail> {
-    let code = code(alloc)?;
+    let code = code(alloc, PROGRAM)?;
     let replayed = match replay(alloc, &code, trace) {
         Err(ReplayFault::Memory) => replay(alloc, &code, trace)?,
         done => done?,
@@ -42,11 +42,11 @@ fn report<R: Threads + Wait + Clock + Sync>(
     out: &mut Vec<u8>,
 ) -> Result<Option<Report>, Fail> {
     match run(rt, alloc, PROGRAM, options, &Open, out) {
-        Err(RunFault::Memory) | Err(RunFault::Start) => {
-            wants(out.is_empty())?;
+        Ok(report) => Ok(Some(report)),
+        Err(fault) => {
+            wants(matches!(fault.number(), 7 | 53) && out.is_empty())?;
             Ok(None)
         }
-        done => Ok(Some(done?)),
     }
 }
 

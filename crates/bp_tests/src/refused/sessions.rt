@@ -1,7 +1,7 @@
 //! Sessions and their calls: after a refusal a session makes the calls that it makes without one.
 ghost use Rattle.bp_machine.specs.Setups.{FitsCode};
 
-use super::ready::{code, setup};
+use super::ready::{CALLS, PROGRAM, code, setup};
 use super::{tell, wants};
 use bp_code::Code;
 use bp_machine::{AskFault, Call, Session, Setup};
@@ -17,7 +17,7 @@ enum Way {
 }
 
 fn makes_a_session(alloc: Global) -> Result<bool, Fail> {
-    let code = code(alloc)?;
+    let code = code(alloc, PROGRAM)?;
     let setup = setup(alloc, &code, 3, None)?;
     let (session, was_refused) = match Session::new(alloc, &code, &setup) {
         Ok(session) => (session, false),
@@ -45,15 +45,17 @@ fn call(session: &mut Session, way: Way) -> Result<Call, AskFault> {
     }
 }
 
-/// The next call, made once more where it is refused memory, which leaves the report as it was.
-fn again(session: &mut Session, way: Way) -> Result<(Call, bool), Fail> {
+/// The next call, made once more where it is refused memory, which leaves the report as it was;
+/// none where the thread has made its last one.
+fn again(session: &mut Session, way: Way) -> Result<(Option<Call>, bool), Fail> {
     let before = session.report();
     match call(session, way) {
         Err(AskFault::Memory) => {
             wants(session.report() == before)?;
-            Ok((call(session, way)?, true))
+            Ok((Some(call(session, way)?), true))
         }
-        done => Ok((done?, false)),
+        Err(AskFault::Finished) => Ok((None, false)),
+        done => Ok((Some(done?), false)),
     }
 }
 
@@ -73,18 +75,16 @@ fn make_calls(
     };
     let mut was_refused = false;
     for place in made.iter_mut() {
-        if !session.is_finished(0) {
-            let (call, is_again) = again(&mut session, way)?;
-            *place = Some(call);
-            was_refused = was_refused || is_again;
-        }
+        let (call, is_again) = again(&mut session, way)?;
+        *place = call;
+        was_refused = was_refused || is_again;
     }
     Ok(was_refused)
 }
 
 /// Whether a call was refused, and the calls are those without a refusal.
 fn calls_alike(alloc: Global, way: Way) -> Result<bool, Fail> {
-    let code = code(alloc)?;
+    let code = code(alloc, CALLS)?;
     let seed = if way == Way::AskWith { None } else { Some(42) };
     let setup = setup(alloc, &code, 1, seed)?;
     let mut first = [None; 20];
@@ -125,7 +125,7 @@ fn prints_next(session: &Session) -> Result<bool, Fail> {
 
 /// The same at the print behind the loop.
 fn prints_behind_the_loop(alloc: Global) -> Result<bool, Fail> {
-    let code = code(alloc)?;
+    let code = code(alloc, PROGRAM)?;
     let setup = setup(alloc, &code, 1, None)?;
     let mut session = match Session::new(alloc, &code, &setup) {
         Ok(session) => session,

@@ -1,12 +1,12 @@
 //! Setups and their copies.
-use super::ready::{code, entries, setup};
+use super::ready::{PROGRAM, code, entries, setup};
 use super::{tell, wants};
 use bp_machine::{Setup, SetupFault};
 use std::alloc::Global;
 use std::test::Fail;
 
 fn makes_a_setup(alloc: Global) -> Result<bool, Fail> {
-    let code = code(alloc)?;
+    let code = code(alloc, PROGRAM)?;
     let names = entries(alloc, 3)?;
     let bits = [false, false];
     let (made, was_refused) = match Setup::new(alloc, &code, &names, &bits, 1000, 20, Some(42)) {
@@ -26,7 +26,7 @@ fn make_a_setup(rt: HostRuntime) -> Result<(), Fail> {
 }
 
 fn copies_a_setup(alloc: Global) -> Result<bool, Fail> {
-    let code = code(alloc)?;
+    let code = code(alloc, PROGRAM)?;
     let setup = setup(alloc, &code, 3, None)?;
     let (copy, was_refused) = match setup.try_copy() {
         Ok(copy) => (copy, false),

@@ -73,7 +73,7 @@ fn compiles(alloc: Global) -> Result<bool, Fail> {
         Ok(made) => (made, false),
         Err(_) => (compile(alloc, &checked)?, true),
     };
-    wants(is_whole(checked.tree()) && made == code(alloc)?)?;
+    wants(is_whole(checked.tree()) && made == code(alloc, PROGRAM)?)?;
     Ok(was_refused)
 }
 
@@ -83,7 +83,7 @@ fn compile_a_tree(rt: HostRuntime) -> Result<(), Fail> {
 }
 
 fn copies_a_code(alloc: Global) -> Result<bool, Fail> {
-    let code = code(alloc)?;
+    let code = code(alloc, PROGRAM)?;
     let (copy, was_refused) = match code.try_copy() {
         Ok(copy) => (copy, false),
         Err(_) => (code.try_copy()?, true),

@@ -2,7 +2,7 @@
 ghost use Rattle.std.specs.Prelude.{◌≡◌, None};
 ghost use Rattle.bp_machine.specs.Setups.{FitsCode};
 
-use super::ready::{code, output, setup};
+use super::ready::{PROGRAM, code, output, setup};
 use super::{tell, wants};
 use bp_code::Code;
 use bp_machine::Setup;
@@ -40,7 +40,7 @@ fn trace(alloc: Global, code: &Code) -> Result<(Vec<u8>, bool), Fail> {
 }
 
 fn drives(alloc: Global) -> Result<bool, Fail> {
-    let code = code(alloc)?;
+    let code = code(alloc, PROGRAM)?;
     let (first, was_refused) = trace(alloc, &code)?;
     let (second, is_late) = trace(alloc, &code)?;
     wants(first.as_slice() == second.as_slice() && first.ends_with(b"\nend 11 2\n"))?;
@@ -53,7 +53,7 @@ fn drive_a_program(rt: HostRuntime) -> Result<(), Fail> {
 }
 
 fn replays(alloc: Global) -> Result<bool, Fail> {
-    let code = code(alloc)?;
+    let code = code(alloc, PROGRAM)?;
     let (trace, _) = trace(alloc, &code)?;
     let (replayed, was_refused) = match replay(alloc, &code, &trace) {
         Err(ReplayFault::Memory) => (replay(alloc, &code, &trace)?, true),
@@ -69,7 +69,7 @@ fn replay_a_trace(rt: HostRuntime) -> Result<(), Fail> {
 }
 
 fn migrates(alloc: Global) -> Result<bool, Fail> {
-    let code = code(alloc)?;
+    let code = code(alloc, PROGRAM)?;
     let (trace, _) = trace(alloc, &code)?;
     let mut out = output(alloc)?;
     let (report, was_refused) = match migrate(alloc, &code, &trace, &mut out) {
