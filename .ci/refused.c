@@ -1,6 +1,7 @@
 /* Loaded before the C library by .ci/refusals. It refuses the growth or the read whose number the environment names,
-   counted from 1, and each write to standard output from that number on; or it lets each read and write move one byte
-   alone. To the file that REFUSED names it adds a byte for each refusal. */
+   counted from 1, and each write to standard output from that number on; or each growth behind the first write to
+   standard output; or it lets each read and write move one byte alone. To the file that REFUSED names it adds a byte for
+   each refusal. */
 #define _GNU_SOURCE
 #include <dlfcn.h>
 #include <errno.h>
@@ -12,7 +13,8 @@
 #include <unistd.h>
 
 static atomic_long grown, reads, writes;
-static long no_growth, no_read, no_write, is_short;
+static long no_growth, no_read, no_write, none_behind, is_short;
+static atomic_int has_written;
 static char room[4096];
 static atomic_size_t used;
 
@@ -25,6 +27,7 @@ __attribute__((constructor)) static void begin(void) {
     no_growth = number("REFUSE_GROWTH");
     no_read = number("REFUSE_READ");
     no_write = number("REFUSE_WRITE");
+    none_behind = number("REFUSE_BEHIND");
     is_short = number("SHORT_IO");
 }
 
@@ -42,6 +45,10 @@ static int refused(atomic_long *count, long which) {
     return which && atomic_fetch_add(count, 1) + 1 == which && told();
 }
 
+static int refused_growth(void) {
+    return (none_behind && atomic_load(&has_written) && told()) || refused(&grown, no_growth);
+}
+
 static int refused_from(atomic_long *count, long which) {
     return which && atomic_fetch_add(count, 1) + 1 >= which && told();
 }
@@ -52,7 +59,7 @@ void *malloc(size_t size) {
     static void *(*real)(size_t);
     if (!real)
         real = next("malloc");
-    if (refused(&grown, no_growth)) {
+    if (refused_growth()) {
         errno = ENOMEM;
         return NULL;
     }
@@ -63,7 +70,7 @@ void *realloc(void *old, size_t size) {
     static void *(*real)(void *, size_t);
     if (!real)
         real = next("realloc");
-    if (refused(&grown, no_growth)) {
+    if (refused_growth()) {
         errno = ENOMEM;
         return NULL;
     }
@@ -81,7 +88,7 @@ void *calloc(size_t count, size_t size) {
         }
         real = next("calloc");
     }
-    if (refused(&grown, no_growth)) {
+    if (refused_growth()) {
         errno = ENOMEM;
         return NULL;
     }
@@ -101,7 +108,10 @@ static ssize_t written(int file, const void *bytes, size_t size) {
         errno = EIO;
         return -1;
     }
-    return syscall(SYS_write, file, bytes, is_short && size ? 1 : size);
+    ssize_t count = syscall(SYS_write, file, bytes, is_short && size ? 1 : size);
+    if (file == STDOUT_FILENO)
+        atomic_store(&has_written, 1);
+    return count;
 }
 
 ssize_t write(int file, const void *bytes, size_t size) { return written(file, bytes, size); }

@@ -15,5 +15,6 @@ mod SizesInLayout
 mod SlotsAreVariables
 mod SpelledHeadings
 pub mod StandsForStepsAlike
+mod StartsOfPlaces
 mod WithSlots
 mod WordBits

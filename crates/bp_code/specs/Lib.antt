@@ -23,6 +23,7 @@ pub mod Resolved
 pub mod Same
 pub mod Slots
 pub mod StandsFor
+pub mod Starts
 pub mod Steps
 pub mod Values
 pub mod Views

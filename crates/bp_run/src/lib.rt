@@ -9,6 +9,7 @@ mod run_faults;
 mod run_options;
 mod runner;
 mod scribes;
+mod spreads;
 mod stages;
 mod workers;
 
@@ -16,4 +17,5 @@ pub use gates::{Gate, Open};
 pub use run_faults::RunFault;
 pub use run_options::RunOptions;
 pub use runner::run;
+pub use spreads::Spread;
 pub use workers::work;

@@ -54,17 +54,19 @@ pub data Wanted : Type 0 where
 abbrev pub NamesThen : List Name → (List Name → Wanted) → Wanted
 NamesThen ns next = NameThen (λ n. MoreNames (ns ++ n ∷ []) next)
 
--- an operand of an operator of the precedence
-abbrev pub OperandThen : Precedence → (Expression → Wanted) → Wanted
-OperandThen Equality next = UnThen next
-OperandThen Conjunction next = UnThen (λ e. MoreOperands Equality e next)
-OperandThen Exclusion next =
-    UnThen (λ e. MoreOperands Equality e (λ a. MoreOperands Conjunction a next))
-OperandThen Disjunction next =
-    UnThen (λ e.
+-- the operators that bind more tightly than the precedence, behind their first operand
+abbrev pub MoreTighter : Precedence → Expression → (Expression → Wanted) → Wanted
+MoreTighter Equality e next = next e
+MoreTighter Conjunction e next = MoreOperands Equality e next
+MoreTighter Exclusion e next = MoreOperands Equality e (λ a. MoreOperands Conjunction a next)
+MoreTighter Disjunction e next =
     MoreOperands Equality e (λ a.
     MoreOperands Conjunction a (λ b.
-    MoreOperands Exclusion b next)))
+    MoreOperands Exclusion b next))
+
+-- an operand of an operator of the precedence
+abbrev pub OperandThen : Precedence → (Expression → Wanted) → Wanted
+OperandThen s next = UnThen (λ e. MoreTighter s e next)
 
 -- operands with operators of the precedence between them
 abbrev pub BinaryThen : Precedence → (Expression → Wanted) → Wanted

@@ -6,7 +6,7 @@ use bp_check::{CheckFault, check};
 use bp_code::stores::{bit_at, with_bit, word_of};
 use bp_code::{
     Code, Effect, Heading, Instr, Kind, ProgramFault, Store, WriteFault, compile, lawful_program,
-    list, put, put_each, steps_alike,
+    list, places, put, put_each, steps_alike,
 };
 use bp_syntax::{ReadFault, read};
 use std::alloc::{AllocError, Global};
@@ -167,6 +167,19 @@ fn declares_one_global(alloc: Global) -> Result<bool, Fail> {
 #[test]
 fn takes_a_lawful_text(rt: HostRuntime) -> Result<(), Fail> {
     assert!(rt; declares_one_global(rt.alloc())?);
+    Ok(())
+}
+
+/// Whether the instructions of two procedures are those of the statements at these places.
+fn places_statements(alloc: Global) -> Result<bool, Fail> {
+    let text = b"main() begin a: while (?) do skip; od end f() begin skip; end";
+    let starts = places(alloc, &lawful_program(alloc, text)?)?;
+    Ok(starts.as_slice() == [Some(16), Some(29), None, Some(52), None].as_slice())
+}
+
+#[test]
+fn places_the_instructions(rt: HostRuntime) -> Result<(), Fail> {
+    assert!(rt; places_statements(rt.alloc())?);
     Ok(())
 }
 

@@ -10,6 +10,7 @@ mod sessions;
 mod setups;
 mod texts;
 mod traces;
+mod without_memory;
 
 use std::test::Fail;
 

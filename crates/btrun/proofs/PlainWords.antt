@@ -5,7 +5,7 @@ use Rattle.clap.specs.Kinds.{or_else}
 use Rattle.clap.specs.Lexer.{long_of, short_of}
 use Rattle.clap.specs.Words.{HasKind, Kinds, Row, Text, fault_of, kind_of, subcommand_of}
 use Rattle.clap.specs.declared.builder.value_parser.Reading.TheVariants.{AsWritten}
-use Rattle.clap.specs.declared.parser.matches.ValueSource.TheVariants.{CommandLine}
+use Rattle.clap.specs.declared.parser.matches.ValueSource.TheVariants.{CommandLine, DefaultValue}
 use Rattle.clap.specs.declared.error.Error.{Error}
 use Rattle.clap.specs.declared.error.kind.ErrorKind.TheVariants.{OutOfMemory}
 use Rattle.clap.proofs.OnLiterals.{clap_on_literals}
@@ -203,7 +203,14 @@ drive_asked program file schedule task plain even asks =
 abbrev run_words : Text → Text → List Text
 run_words program file = program ∷ codes "run" ∷ file ∷ []
 
-run_named : (program file : Text) → IsWord file → subcommand_of btrun_app (run_words program file) ≡ Some (codes "run", file_row file)
+-- what stands for a flag that is not given
+abbrev down : Text → Row
+down id = record { id = id; values = codes "false" ∷ []; count = None; source = Some DefaultValue; reading = AsWritten }
+
+abbrev run_rows : Text → List Row
+run_rows file = given (codes "FILE") file ∷ down (codes "spread") ∷ []
+
+run_named : (program file : Text) → IsWord file → subcommand_of btrun_app (run_words program file) ≡ Some (codes "run", run_rows file)
 unfolding clap_on_literals
 run_named program file (no_end, no_long, no_short) = rw (no_end, no_long, no_short) refl
 
@@ -214,7 +221,7 @@ run_clean program file (no_end, no_long, no_short) = rw (no_end, no_long, no_sho
 pub run_faulty : (program file : Text) → is_plain file ≡ true → words_fault (run_words program file) ≡ []
 run_faulty program file plain =
     let word = is_word file plain in
-    no_fault (run_words program file) (Some (codes "run", file_row file)) (run_clean program file word) (run_named program file word) refl
+    no_fault (run_words program file) (Some (codes "run", run_rows file)) (run_clean program file word) (run_named program file word) refl
 
 run_options_are : (o : runs.OptionsOf) → o.entries ≡ codes "main" ∷ [] → o.init ≡ None → o.contexts ≡ DEFAULT_CONTEXTS → o.calls ≡ DEFAULT_CALLS
     → o.turn ≡ DEFAULT_TURN → o.seed ≡ DEFAULT_SEED → o.ring ≡ DEFAULT_RING → o ≡ run_defaults
@@ -224,12 +231,12 @@ run_options_are o entries init contexts calls turn seed ring =
     ∙ (ap₂ (λ n x. runs.options_of (codes "main" ∷ []) None DEFAULT_CONTEXTS DEFAULT_CALLS n x o.ring) turn seed
     ∙ ap (runs.options_of (codes "main" ∷ []) None DEFAULT_CONTEXTS DEFAULT_CALLS DEFAULT_TURN DEFAULT_SEED) ring))
 
-run_of : (file : Text) (task : Task) → IsTaskOf (Some (codes "run", file_row file)) task → IsPlainRunOf file task
+run_of : (file : Text) (task : Task) → IsTaskOf (Some (codes "run", run_rows file)) task → IsPlainRunOf file task
 run_of file Bundle asks = absurd asks
 run_of file (Check path) asks = absurd (check≢run (sym asks.0))
 run_of file (Code path) asks = absurd (code≢run (sym asks.0))
 run_of file (Drive words) asks = absurd (drive≢run (sym asks.0))
-run_of file (Run words) (named, of) = (of.program, run_options_are words.options of.entries of.init of.contexts of.calls of.turn of.seed of.ring)
+run_of file (Run words) (named, of) = (of.program, of.spread.1 refl, run_options_are words.options of.entries of.init of.contexts of.calls of.turn of.seed of.ring)
 run_of file (Replay words) asks = absurd (run≢replay asks.0)
 run_of file (Migrate words) asks = absurd (run≢migrate asks.0)
 

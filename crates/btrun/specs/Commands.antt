@@ -1,11 +1,12 @@
 -- What the words of the command line ask for. How words are told apart as commands, options and
 -- values is said by the rules of `clap`.
-use Rattle.std.specs.Prelude.{◌≡◌, ◌⊎◌, ◌==◌, Bool, true, not, List, [], ◌∷◌, Option, Some, None, codes, pos}
+use Rattle.std.specs.Prelude.{◌≡◌, ◌⊎◌, ◌==◌, Bool, true, false, not, List, [], ◌∷◌, Option, Some, None, codes, pos}
 use Rattle.clap.specs.Faults.{fault_of}
 use Rattle.clap.specs.Kinds.{Kinds, or_else}
 use Rattle.clap.specs.Lexer.{usize_max}
 use Rattle.clap.specs.Walk.{Row, Rule, Text}
 use Rattle.clap.specs.Simple.{App, new_app, new_rule, on_top, subcommand_of, with_rule, with_subcommand}
+use Rattle.clap.specs.declared.builder.action.ArgAction.TheVariants.{SetTrue}
 use Rattle.clap.specs.declared.builder.value_parser.ValueParser.TheVariants as parser
 use Rattle.bp_commands.specs.Drives.{defaults}
 use Rattle.bp_commands.specs.RunInputs.{run_defaults}
@@ -47,6 +48,10 @@ abbrev pub long_number_rule : Text → Rule
 long_number_rule name =
     record (option_rule name) { parser = Some (parser.Unsigned 0 18446744073709551615) }
 
+-- an option without a value
+abbrev pub flag_rule : Text → Rule
+flag_rule name = record (new_rule name) { long = Some name; action = Some SetTrue }
+
 -- an argument with any number of values
 abbrev pub values_rule : Text → Rule
 values_rule name =
@@ -70,7 +75,8 @@ drive_app =
     ∷ option_rule (codes "init")
     ∷ [])
 
--- `run FILE [ENTRY].. [--seed N] [--contexts N] [--calls N] [--turn N] [--init BITS] [--ring N]`
+-- `run FILE [ENTRY].. [--seed N] [--contexts N] [--calls N] [--turn N] [--init BITS] [--ring N]
+-- [--spread]`
 abbrev pub run_app : App
 run_app =
     with_rules (file_app (codes "run")) (
@@ -81,6 +87,7 @@ run_app =
     ∷ number_rule (codes "turn")
     ∷ option_rule (codes "init")
     ∷ number_rule (codes "ring")
+    ∷ flag_rule (codes "spread")
     ∷ [])
 
 -- a command of this name, a file and a trace
@@ -169,10 +176,10 @@ IsPlainDriveOf file schedule (Drive words) =
     (words.program.now ≡ file) × (words.schedule.now ≡ schedule) × (words.options ≡ defaults)
 IsPlainDriveOf file schedule task = ⊥
 
--- the task is to run the program of this file under the defaults
+-- the task is to run the program of this file under the defaults, its workers as they come
 abbrev pub IsPlainRunOf : Text → Task → Type 0
 IsPlainRunOf file (Run words) =
-    (words.program.now ≡ file) × (words.options ≡ run_defaults)
+    (words.program.now ≡ file) × (words.spread ≡ false) × (words.options ≡ run_defaults)
 IsPlainRunOf file task = ⊥
 
 -- the files are these

@@ -2,7 +2,7 @@
 use Rattle.std.specs.Prelude.{◌≡◌, List, codes, option_map}
 use Rattle.clap.specs.Walk.{Row, first_of, one_of}
 use Rattle.bp_commands.specs.declared.limits.TheConstants.{DEFAULT_CONTEXTS, DEFAULT_CALLS, DEFAULT_TURN, DEFAULT_SEED, DEFAULT_RING}
-use Rattle.btrun.specs.Values.{bits_in, entries_in, value_of, IsNumberOf}
+use Rattle.btrun.specs.Values.{bits_in, entries_in, value_of, IsFlagOf, IsNumberOf}
 use Rattle.btrun.specs.declared.commands.run.RunWords.{RunWords}
 
 -- the file and the options of `run` are those of its arguments
@@ -17,3 +17,4 @@ pub record IsRunOf (rows : List Row) (words : RunWords) : Type 0 where
   pub turn : IsNumberOf 32 DEFAULT_TURN (one_of (codes "turn") rows) words.options.turn
   pub seed : IsNumberOf 64 DEFAULT_SEED (one_of (codes "seed") rows) words.options.seed
   pub ring : IsNumberOf 32 DEFAULT_RING (one_of (codes "ring") rows) words.options.ring
+  pub spread : IsFlagOf (one_of (codes "spread") rows) words.spread

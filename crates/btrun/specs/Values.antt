@@ -1,5 +1,5 @@
 -- What the values of arguments say: numbers, bits, names.
-use Rattle.std.specs.Prelude.{if◌then◌else◌, ◌≡◌, ◌⊎◌, ◌<◌, ◌^◌, ◌==◌, ◌||◌, ℕ, Bool, false, not, List, [], ◌∷◌, Option, Some, None, codes, map, option_map, unwrap_or}
+use Rattle.std.specs.Prelude.{if◌then◌else◌, ◌≡◌, ◌⊎◌, ◌<◌, ◌^◌, ◌==◌, ◌||◌, ℕ, Bool, false, true, not, List, [], ◌∷◌, Option, Some, None, codes, map, option_map, unwrap_or}
 use Rattle.std.specs.List.{list_all}
 use Rattle.std.specs.Option.{option_map_or}
 use Rattle.std.specs.Str.Parse.{IsNumeral, digits_value, without_leading_plus}
@@ -23,6 +23,13 @@ IsNumberOf bits default None n = n ≡ default
 IsNumberOf bits default (Some text) n =
     (IsNumberText bits text × (n ≡ digits_value 10 (without_leading_plus text)))
     ⊎ ((IsNumberText bits text → ⊥) × (n ≡ default))
+
+-- a flag is up where it is given; `clap` has a text for either
+abbrev pub IsFlagOf : Option Text → Bool → Type 0
+IsFlagOf text flag =
+    (text ≡ Some (codes "true") → flag ≡ true)
+    × (text ≡ Some (codes "false") → flag ≡ false)
+    × (text ≡ None → flag ≡ false)
 
 -- each character is 0 or 1
 abbrev pub is_bits : Text → Bool

@@ -2,7 +2,7 @@
 ghost use Rattle.std.specs.Prelude.{◌≡◌, ◌<◌, ◌≤◌, [], length, drop, map, OnOk, IfOk, MatchOption};
 ghost use Rattle.bp_tree.specs.Ast.{Operation};
 ghost use Rattle.bp_tree.specs.Views.{expression_of, decision_of};
-ghost use Rattle.bp_syntax.specs.ParserState.{UnThen, OperandThen, MoreOperands, ExprThen, ExprsThen, AnyExprsThen, DeciderThen, ConditionThen, ReadsPhrase, is_at_expr, operator_ahead};
+ghost use Rattle.bp_syntax.specs.ParserState.{UnThen, OperandThen, MoreOperands, MoreTighter, ExprThen, ExprsThen, AnyExprsThen, DeciderThen, ConditionThen, ReadsPhrase, is_at_expr, operator_ahead};
 
 use crate::parser::operators::{Precedence, operator};
 use crate::parser::{Parser, Stop};
@@ -61,6 +61,16 @@ impl<'a> Parser<'a> {
         ensures shorter { OnOk result (length self.new < length self.old) }
     {
         let first = self.unary(alloc)?;
+        self.tighter(alloc, precedence, first)
+    }
+
+    /// Reads the operators that bind more tightly than the precedence, behind their first operand.
+    #[cycle(expr)]
+    fn tighter(&mut self, alloc: Global, precedence: Precedence, first: Expr) -> Result<Expr, Stop>
+        ensures reads { ReadsPhrase result (MoreTighter precedence (expression_of first))
+            self.old self.new expression_of }
+        ensures shorter { OnOk result (length self.new ≤ length self.old) }
+    {
         match precedence {
             Precedence::Equality => Ok(first),
             Precedence::Conjunction => self.operators(alloc, Precedence::Equality, first),
@@ -86,8 +96,7 @@ impl<'a> Parser<'a> {
         Some(op)
     }
 
-    /// Reads operators of a precedence, each with its right operand, behind their first operand. An
-    /// operand in brackets is read while no such call is under way, which keeps the stack short.
+    /// Reads operators of a precedence, each with its right operand, behind their first operand.
     #[cycle(expr)]
     fn operators(
         &mut self,
@@ -107,14 +116,16 @@ impl<'a> Parser<'a> {
         Ok(left)
     }
 
-    /// Reads expr.
+    /// Reads expr. Between a bracket and one that follows it at once only `unary` and `expr` are
+    /// called, which keeps the stack short.
     #[cycle(expr)]
     pub(crate) fn expr(&mut self, alloc: Global) -> Result<Expr, Stop>
         ensures reads { ReadsPhrase result ExprThen self.old self.new expression_of }
         ensures shorter { OnOk result (length self.new < length self.old) }
     {
-        let first = self.operand(alloc, Precedence::Disjunction)?;
-        let left = self.operators(alloc, Precedence::Disjunction, first)?;
+        let first = self.unary(alloc)?;
+        let operand = self.tighter(alloc, Precedence::Disjunction, first)?;
+        let left = self.operators(alloc, Precedence::Disjunction, operand)?;
         if self.eat(TokenKind::Implies) {
             let right = self.expr(alloc)?;
             return Ok(operation(alloc, Op::Implies, left, right)?);

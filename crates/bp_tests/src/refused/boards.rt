@@ -176,7 +176,7 @@ fn make_calls<R: Wait + Clock>(
     }
 }
 
-/// Whether something was refused, and the calls are those without a refusal. Where a desk or a board
+/// Whether something was refused, and the calls are those without a refusal. Where a desk or board
 /// was refused, another one is opened.
 fn calls_alike<R: Wait + Clock>(rt: &R, alloc: Global, way: Way) -> Result<bool, Fail> {
     let code = code(alloc, CALLS)?;

@@ -1,5 +1,4 @@
-//! Runs: 7 or 53 with nothing written, or a whole trace; the line of a worker that was refused stays
-//! open.
+//! Runs: 7 or 53 with nothing written, or a whole trace; the line of a refused worker stays open.
 use super::ready::{PROGRAM, code, entries, output};
 use super::{tell, wants};
 use bp_machine::Report;

@@ -1,7 +1,7 @@
 //! Workers that run at the same time: gates that wait for what only another thread does.
 use super::{IF, IF_TRACE, Numbers, ONE, SKIP, clean_calls, number_of, options, written};
 use bp_machine::Reply;
-use bp_run::{Gate, run};
+use bp_run::{Gate, Spread, run};
 use std::alloc::{AllocError, Global};
 use std::io::Write;
 use std::sync::Wait;
@@ -74,6 +74,16 @@ fn meet<R: Threads + Wait + Clock + Sync>(
 fn workers_meet(rt: HostRuntime) -> Result<(), AllocError> {
     for (threads, all) in [(2, 3), (16, 65_535), (64, u64::MAX)] {
         assert!(&rt; meet(&rt, rt.alloc(), threads, all)?);
+    }
+    Ok(())
+}
+
+#[test]
+fn workers_are_spread(rt: HostRuntime) -> Result<(), AllocError> {
+    for (threads, calls) in [(2, 6), (16, 48), (64, 192)] {
+        let gate = Spread::new(42, threads as usize);
+        let done = clean_calls(&rt, rt.alloc(), SKIP, skips(threads), &gate)?;
+        assert!(&rt; done == Some(calls));
     }
     Ok(())
 }

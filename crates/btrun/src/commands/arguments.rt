@@ -1,9 +1,9 @@
 //! The arguments of commands.
 ghost use Rattle.std.specs.Prelude.{◌≡◌, false};
 ghost use Rattle.clap.specs.Words.{rule_of};
-ghost use Rattle.btrun.specs.Commands.{long_number_rule, number_rule, option_rule, required_rule, values_rule};
+ghost use Rattle.btrun.specs.Commands.{flag_rule, long_number_rule, number_rule, option_rule, required_rule, values_rule};
 
-use clap::{Arg, value_parser};
+use clap::{Arg, ArgAction, value_parser};
 use std::alloc::Global;
 
 /// An argument that has to be there.
@@ -42,4 +42,14 @@ pub fn long_number_option<'a>(alloc: Global, name: &'a str, help: &'a str) -> Ar
     ensures { (rule_of result ≡ long_number_rule name.now) × (result.global ≡ false) }
 {
     option(alloc, name, "N", help).value_parser(value_parser!(u64))
+}
+
+/// An option without a value.
+pub fn flag<'a>(alloc: Global, name: &'a str, help: &'a str) -> Arg<'a>
+    ensures { (rule_of result ≡ flag_rule name.now) × (result.global ≡ false) }
+{
+    Arg::new(alloc, name)
+        .long(name)
+        .action(ArgAction::SetTrue)
+        .help(help)
 }

@@ -5,9 +5,9 @@ ghost use Rattle.clap.specs.declared.builder.command.Command.TheViews.{out-Comma
 ghost use Rattle.btrun.specs.Commands.{run_app};
 ghost use Rattle.btrun.specs.RunWords.{IsRunOf};
 
-use super::arguments::{long_number_option, number_option, option, values};
+use super::arguments::{flag, long_number_option, number_option, option, values};
 use super::file_command;
-use super::values::{entries, init, long_number, number};
+use super::values::{entries, init, is_given, long_number, number};
 use bp_commands::limits::{
     DEFAULT_CALLS, DEFAULT_CONTEXTS, DEFAULT_RING, DEFAULT_SEED, DEFAULT_TURN,
 };
@@ -20,6 +20,8 @@ use std::alloc::{AllocError, Global};
 pub struct RunWords<'a> {
     /// The file of the program.
     pub program: &'a str,
+    /// Whether the workers start together and give way at random.
+    pub spread: bool,
     /// What the run starts from.
     pub options: RunOptions,
 }
@@ -50,6 +52,7 @@ pub fn run_command<'a>(alloc: Global) -> Result<Command<'a>, AllocError>
     let turn = "How many calls a worker makes in a turn, 1 to 64 [default: 1]";
     let init = "The initial bits of the globals, each 0 or 1 [default: all 0]";
     let ring = "How many calls wait to be printed, 1 to 65536 [default: 1024]";
+    let spread = "The workers start together and give way at random, so that runs differ";
     file_command(alloc, "run", ABOUT, NOTES)?
         .arg(values(alloc, "ENTRY", entries))?
         .arg(long_number_option(alloc, "seed", seed))?
@@ -57,7 +60,8 @@ pub fn run_command<'a>(alloc: Global) -> Result<Command<'a>, AllocError>
         .arg(number_option(alloc, "calls", calls))?
         .arg(number_option(alloc, "turn", turn))?
         .arg(option(alloc, "init", "BITS", init))?
-        .arg(number_option(alloc, "ring", ring))
+        .arg(number_option(alloc, "ring", ring))?
+        .arg(flag(alloc, "spread", spread))
 }
 
 /// What the words behind `run` ask for.
@@ -67,6 +71,7 @@ pub fn run_words<'a>(alloc: Global, words: &ArgMatches<'a>) -> Result<RunWords<'
     // FILE is required, so it is there.
     Ok(RunWords {
         program: words.get_str("FILE").unwrap_or(""),
+        spread: is_given(words, "spread"),
         options: RunOptions {
             entries: entries(alloc, words)?,
             init: init(alloc, words)?,

@@ -1,7 +1,7 @@
 //! The values of arguments.
 ghost use Rattle.std.specs.Prelude.{◌≡◌, codes, map, string_bytes, option_map, IfOk};
 ghost use Rattle.clap.specs.Words.{first_of, found_of, one_of, rows_of, subcommand_rows_of};
-ghost use Rattle.btrun.specs.Values.{bits_in, entries_in, has_bad_bits, has_bad_init, is_bits, IsNumberOf};
+ghost use Rattle.btrun.specs.Values.{bits_in, entries_in, has_bad_bits, has_bad_init, is_bits, IsFlagOf, IsNumberOf};
 
 use bp_commands::limits::DEFAULT_ENTRY;
 use clap::ArgMatches;
@@ -72,6 +72,13 @@ pub fn long_number(words: &ArgMatches<'_>, name: &str, default: u64) -> u64
     ensures { IsNumberOf 64 default (one_of name.now (rows_of (found_of words.now))) result }
 {
     words.get_one(name).unwrap_or(default)
+}
+
+/// Whether a flag is given.
+pub fn is_given(words: &ArgMatches<'_>, name: &str) -> bool
+    ensures { IsFlagOf (one_of name.now (rows_of (found_of words.now))) result }
+{
+    words.get_flag(name)
 }
 
 /// Whether the initial bits have another character than 0 and 1.

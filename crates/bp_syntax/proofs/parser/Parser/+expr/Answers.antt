@@ -1,9 +1,9 @@
-use Rattle.std.proofs.Common.{◌≡◌, ◌∙◌, Some, refl, sym, ap, subst, rules}
+use Rattle.std.proofs.Common.{◌≡◌, ◌∙◌, Some, refl, sym, ap, subst}
 use Rattle.bp_tree.specs.Ast.{Variable, Operation}
 use Rattle.bp_tree.specs.declared.exprs.Op.TheVariants as op
 use Rattle.bp_tree.specs.Views.{expression_of}
-use Rattle.bp_syntax.specs.ParserState.{ExprThen, OperandThen, UnThen, MoreImplied, MoreOperands, ReadsBy, kind_ahead, parse_result}
-use Rattle.bp_syntax.specs.declared.parser.operators.Precedence.TheVariants.{Equality, Conjunction, Exclusion, Disjunction}
+use Rattle.bp_syntax.specs.ParserState.{ExprThen, OperandThen, UnThen, MoreImplied, MoreOperands, MoreTighter, ReadsBy, kind_ahead, parse_result, wanted_after_un}
+use Rattle.bp_syntax.specs.declared.parser.operators.Precedence.TheVariants.{Conjunction, Exclusion, Disjunction}
 use Rattle.bp_syntax.specs.declared.tokens.TokenKind.TheVariants as kind
 use Rattle.bp_syntax.proofs.ResultByNextToken.{at_exit, passed_on, ahead_name, implies_ahead}
 use Rattle.bp_syntax.proofs.ResultAfterToken.{no_implies}
@@ -11,20 +11,28 @@ use Rattle.bp_syntax.proofs.parser.Parser.+expr.Goals as goal
 
 pub expr-returns-in_err-first-clause-reads : goal.expr-returns-in_err-first-clause-reads
 expr-returns-in_err-first-clause-reads t c next =
-    at_exit _ c.in_err-first.field-0.0 (ExprThen next) c.args.self.now c.operand.new.self _ _ c.from_residual.ensures.1 refl
-    (c.in_err-first.ensures.reads (λ e. MoreOperands Disjunction e (λ a. MoreImplied a next)))
+    at_exit _ c.in_err-first.field-0.0 (ExprThen next) c.args.self.now c.unary.new.self _ _ c.from_residual.ensures.1 refl
+    (c.in_err-first.ensures.reads (wanted_after_un next))
+
+pub expr-returns-in_err-operand-clause-reads : goal.expr-returns-in_err-operand-clause-reads
+expr-returns-in_err-operand-clause-reads t c next =
+    at_exit _ c.in_err-operand.field-0.0 (ExprThen next) c.args.self.now c.tighter.new.self _ _ c.from_residual-in_err-operand.ensures.1
+    (c.in_ok-first.ensures.reads (wanted_after_un next))
+    (c.in_err-operand.ensures.reads (λ a. MoreOperands Disjunction a (λ b. MoreImplied b next)))
 
 pub expr-returns-in_err-left-clause-reads : goal.expr-returns-in_err-left-clause-reads
 expr-returns-in_err-left-clause-reads t c next =
     at_exit _ c.in_err-left.field-0.0 (ExprThen next) c.args.self.now c.operators.new.self _ _ c.from_residual-in_err-left.ensures.1
-    (c.in_ok-first.ensures.reads (λ e. MoreOperands Disjunction e (λ a. MoreImplied a next)))
+    (c.in_ok-first.ensures.reads (wanted_after_un next)
+    ∙ c.in_ok-operand.ensures.reads (λ a. MoreOperands Disjunction a (λ b. MoreImplied b next)))
     (c.in_err-left.ensures.reads (λ a. MoreImplied a next))
 
 pub expr-returns-in_err-right-clause-reads : goal.expr-returns-in_err-right-clause-reads
 expr-returns-in_err-right-clause-reads t c next =
     let a = expression_of c.in_ok-left.left in
     at_exit _ c.in_err-right.field-0.0 (ExprThen next) c.args.self.now c.expr.new.self _ _ c.from_residual-in_err-right.ensures.1
-    (c.in_ok-first.ensures.reads (λ e. MoreOperands Disjunction e (λ d. MoreImplied d next))
+    (c.in_ok-first.ensures.reads (wanted_after_un next)
+    ∙ c.in_ok-operand.ensures.reads (λ e. MoreOperands Disjunction e (λ d. MoreImplied d next))
     ∙ c.in_ok-left.ensures.reads (λ d. MoreImplied d next)
     ∙ implies_ahead a next c.operators.new.self c.eat.new.self (sym c.if-eat.ensures.value) c.if-eat.ensures.left)
     (c.in_err-right.ensures.reads (λ b. next (Operation op.Implies a b)))
@@ -32,7 +40,8 @@ expr-returns-in_err-right-clause-reads t c next =
 pub expr-returns-then-eat-clause-reads : goal.expr-returns-then-eat-clause-reads
 expr-returns-then-eat-clause-reads t c next =
     let a = expression_of c.in_ok-left.left in
-    c.in_ok-first.ensures.reads (λ e. MoreOperands Disjunction e (λ d. MoreImplied d next))
+    c.in_ok-first.ensures.reads (wanted_after_un next)
+    ∙ c.in_ok-operand.ensures.reads (λ e. MoreOperands Disjunction e (λ d. MoreImplied d next))
     ∙ c.in_ok-left.ensures.reads (λ d. MoreImplied d next)
     ∙ implies_ahead a next c.operators.new.self c.eat.new.self (sym c.if-eat.ensures.value) c.if-eat.ensures.left
     ∙ c.in_ok-right.ensures.reads (λ b. next (Operation op.Implies a b))
@@ -41,32 +50,35 @@ expr-returns-then-eat-clause-reads t c next =
 pub expr-returns-clause-reads : goal.expr-returns-clause-reads
 expr-returns-clause-reads t c next =
     let a = expression_of c.in_ok-left.left in
-    c.in_ok-first.ensures.reads (λ e. MoreOperands Disjunction e (λ d. MoreImplied d next))
+    c.in_ok-first.ensures.reads (wanted_after_un next)
+    ∙ c.in_ok-operand.ensures.reads (λ e. MoreOperands Disjunction e (λ d. MoreImplied d next))
     ∙ c.in_ok-left.ensures.reads (λ d. MoreImplied d next)
     ∙ no_implies a next c.operators.new.self (sym c.if-eat.ensures.value)
     ∙ ap (parse_result (next a)) (sym c.if-eat.ensures.left)
 
-pub operand-returns-in-Conjunction-clause-reads : goal.operand-returns-in-Conjunction-clause-reads
-operand-returns-in-Conjunction-clause-reads t c next =
-    subst (λ s. ReadsBy c.operators.result (OperandThen s next) c.args.self.now c.operators.new.self (λ e. next (expression_of e))) (sym c.in-Conjunction.is)
-    (passed_on c.operators.result (OperandThen Conjunction next) (MoreOperands Equality (expression_of c.in_ok-first.first) next) c.args.self.now c.unary.new.self c.operators.new.self _
-    (c.in_ok-first.ensures.reads (λ e. MoreOperands Equality e next))
-    (c.operators.ensures.reads next))
+pub operand-returns-clause-reads : goal.operand-returns-clause-reads
+operand-returns-clause-reads t c next =
+    passed_on c.tighter.result (OperandThen c.args.precedence next) (MoreTighter c.args.precedence (expression_of c.in_ok-first.first) next) c.args.self.now c.unary.new.self c.tighter.new.self _
+    (c.in_ok-first.ensures.reads (λ e. MoreTighter c.args.precedence e next))
+    (c.tighter.ensures.reads next)
 
-pub operand-returns-in_ok-left-in-Exclusion-clause-reads : goal.operand-returns-in_ok-left-in-Exclusion-clause-reads
-operand-returns-in_ok-left-in-Exclusion-clause-reads t c next =
-    subst (λ s. ReadsBy c.operators-in-Exclusion-2.result (OperandThen s next) c.args.self.now c.operators-in-Exclusion-2.new.self (λ e. next (expression_of e))) (sym c.in-Exclusion.is)
-    (passed_on c.operators-in-Exclusion-2.result (OperandThen Exclusion next) (MoreOperands Conjunction (expression_of c.in_ok-left-in-Exclusion.left) next) c.args.self.now c.operators-in-Exclusion.new.self c.operators-in-Exclusion-2.new.self _
-    (c.in_ok-first.ensures.reads (λ e. MoreOperands Equality e (λ a. MoreOperands Conjunction a next))
-    ∙ c.in_ok-left-in-Exclusion.ensures.reads (λ a. MoreOperands Conjunction a next))
+pub tighter-returns-in-Conjunction-clause-reads : goal.tighter-returns-in-Conjunction-clause-reads
+tighter-returns-in-Conjunction-clause-reads t c next =
+    subst (λ s. ReadsBy c.operators.result (MoreTighter s (expression_of c.args.first) next) c.args.self.now c.operators.new.self (λ e. next (expression_of e))) (sym c.in-Conjunction.is)
+    (c.operators.ensures.reads next)
+
+pub tighter-returns-in_ok-left-in-Exclusion-clause-reads : goal.tighter-returns-in_ok-left-in-Exclusion-clause-reads
+tighter-returns-in_ok-left-in-Exclusion-clause-reads t c next =
+    subst (λ s. ReadsBy c.operators-in-Exclusion-2.result (MoreTighter s (expression_of c.args.first) next) c.args.self.now c.operators-in-Exclusion-2.new.self (λ e. next (expression_of e))) (sym c.in-Exclusion.is)
+    (passed_on c.operators-in-Exclusion-2.result (MoreTighter Exclusion (expression_of c.args.first) next) (MoreOperands Conjunction (expression_of c.in_ok-left-in-Exclusion.left) next) c.args.self.now c.operators-in-Exclusion.new.self c.operators-in-Exclusion-2.new.self _
+    (c.in_ok-left-in-Exclusion.ensures.reads (λ a. MoreOperands Conjunction a next))
     (c.operators-in-Exclusion-2.ensures.reads next))
 
-pub operand-returns-in_ok-left-in-Disjunction-2-clause-reads : goal.operand-returns-in_ok-left-in-Disjunction-2-clause-reads
-operand-returns-in_ok-left-in-Disjunction-2-clause-reads t c next =
-    subst (λ s. ReadsBy c.operators-in-Disjunction-3.result (OperandThen s next) c.args.self.now c.operators-in-Disjunction-3.new.self (λ e. next (expression_of e))) (sym c.in-Disjunction.is)
-    (passed_on c.operators-in-Disjunction-3.result (OperandThen Disjunction next) (MoreOperands Exclusion (expression_of c.in_ok-left-in-Disjunction-2.left) next) c.args.self.now c.operators-in-Disjunction-2.new.self c.operators-in-Disjunction-3.new.self _
-    (c.in_ok-first.ensures.reads (λ e. MoreOperands Equality e (λ a. MoreOperands Conjunction a (λ b. MoreOperands Exclusion b next)))
-    ∙ c.in_ok-left-in-Disjunction.ensures.reads (λ a. MoreOperands Conjunction a (λ b. MoreOperands Exclusion b next))
+pub tighter-returns-in_ok-left-in-Disjunction-2-clause-reads : goal.tighter-returns-in_ok-left-in-Disjunction-2-clause-reads
+tighter-returns-in_ok-left-in-Disjunction-2-clause-reads t c next =
+    subst (λ s. ReadsBy c.operators-in-Disjunction-3.result (MoreTighter s (expression_of c.args.first) next) c.args.self.now c.operators-in-Disjunction-3.new.self (λ e. next (expression_of e))) (sym c.in-Disjunction.is)
+    (passed_on c.operators-in-Disjunction-3.result (MoreTighter Disjunction (expression_of c.args.first) next) (MoreOperands Exclusion (expression_of c.in_ok-left-in-Disjunction-2.left) next) c.args.self.now c.operators-in-Disjunction-2.new.self c.operators-in-Disjunction-3.new.self _
+    (c.in_ok-left-in-Disjunction.ensures.reads (λ a. MoreOperands Conjunction a (λ b. MoreOperands Exclusion b next))
     ∙ c.in_ok-left-in-Disjunction-2.ensures.reads (λ b. MoreOperands Exclusion b next))
     (c.operators-in-Disjunction-3.ensures.reads next))
 

@@ -1,4 +1,4 @@
-use Rattle.std.proofs.Common.{◌≡◌, ◌<◌, ◌≤◌, length, ◌+◌, ◌*◌}
+use Rattle.std.proofs.Common.{◌≡◌, ◌≤◌, length, ◌+◌, ◌*◌}
 use Rattle.bp_tree.specs.Ast as tree
 use Rattle.bp_tree.specs.Views.{expression_of}
 use Rattle.bp_syntax.specs.ParserState.{Wanted, MoreOperands, parse_result}
@@ -12,6 +12,9 @@ decreases-operand l = 10 * length l.self.now + 1
 
 abbrev pub decreases-operators : goal.decreases-operators
 decreases-operators l = 10 * length l.self.now + 2
+
+abbrev pub decreases-tighter : goal.decreases-tighter
+decreases-tighter l = 10 * length l.self.now + 3
 
 abbrev pub decreases-expr : goal.decreases-expr
 decreases-expr l = 10 * length l.self.now + 9

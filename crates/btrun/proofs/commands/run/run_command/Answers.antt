@@ -10,4 +10,5 @@ returns c =
     let calls = with_argument _ _ _ _ _ contexts c.number_option-2.ensures c.in_ok-arg-4.ensures in
     let turn = with_argument _ _ _ _ _ calls c.number_option-3.ensures c.in_ok-arg-5.ensures in
     let init = with_argument _ _ _ _ _ turn c.option.ensures c.in_ok-arg-6.ensures in
-    if_ok c.arg-7.result _ (HasShape run_app) (λ new adds. with_argument _ new _ _ _ init c.number_option-4.ensures adds) c.arg-7.ensures
+    let ring = with_argument _ _ _ _ _ init c.number_option-4.ensures c.in_ok-arg-7.ensures in
+    if_ok c.arg-8.result _ (HasShape run_app) (λ new adds. with_argument _ new _ _ _ ring c.flag.ensures adds) c.arg-8.ensures

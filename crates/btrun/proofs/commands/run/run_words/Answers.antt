@@ -14,4 +14,5 @@ returns c = record {
   turn = c.number-3.ensures;
   seed = c.long_number.ensures;
   ring = c.number-4.ensures;
+  spread = c.is_given.ensures;
 }

@@ -1,0 +1,8 @@
+use Rattle.std.proofs.Common.{◌≡◌, ◌++◌, drop}
+use Rattle.bp_code.specs.StandsFor.{places_of}
+use Rattle.bp_code.proofs.StartsOfPlaces.{starts}
+use Rattle.bp_code.proofs.starts.places.Given as goal
+
+abbrev pub invariant-loop-proc : goal.invariant-loop-proc
+invariant-loop-proc l =
+    l.starts.items ++ starts (places_of (drop l.proc-index l.procs)) ≡ starts (places_of l.procs)

@@ -1,0 +1,51 @@
+//! Where in the text the statements of a program begin, in the order of its instructions.
+ghost use Rattle.std.specs.Prelude.{◌≡◌, ◌++◌, IfOk, OnOk};
+ghost use Rattle.bp_tree.specs.Blocks.{block_of, statement_of};
+ghost use Rattle.bp_code.specs.Starts.{block_starts, inner_starts, starts_of};
+
+use bp_check::Checked;
+use bp_tree::{Form, Stmt};
+use std::alloc::{AllocError, Global};
+
+/// Notes where statements begin, and those inside them.
+#[cycle(note_starts)]
+fn note_block(starts: &mut Vec<Option<u32>>, stmts: &[Stmt]) -> Result<(), AllocError>
+    ensures { OnOk result
+        (starts.new.items ≡ starts.old.items ++ block_starts (block_of stmts.now)) }
+{
+    for stmt in stmts {
+        starts.push(Some(stmt.at()))?;
+        note_inside(starts, stmt.form())?;
+    }
+    Ok(())
+}
+
+/// Notes where the statements inside a statement begin.
+#[cycle(note_starts)]
+fn note_inside(starts: &mut Vec<Option<u32>>, form: &Form) -> Result<(), AllocError>
+    ensures { OnOk result
+        (starts.new.items ≡ starts.old.items ++ inner_starts (statement_of form.now)) }
+{
+    match form {
+        Form::If(_, a, b) => {
+            note_block(starts, a.as_slice())?;
+            note_block(starts, b.as_slice())
+        }
+        Form::While(_, body) => note_block(starts, body.as_slice()),
+        _ => Ok(()),
+    }
+}
+
+/// For each instruction of the program's code, in order, the offset of its statement's first token
+/// behind its label, and none at the end of a procedure.
+pub fn places(alloc: Global, checked: &Checked) -> Result<Vec<Option<u32>>, AllocError>
+    ensures { IfOk result (λ v. v.items ≡ starts_of checked.now) }
+{
+    let procs = checked.tree().procs();
+    let mut starts = Vec::new(alloc);
+    for proc in procs {
+        note_block(&mut starts, proc.body())?;
+        starts.push(None)?;
+    }
+    Ok(starts)
+}

@@ -1,0 +1,242 @@
+//! Calls that take no memory. Each test prints a line once all is ready; `.ci/growths` refuses each
+//! growth behind it, and none may be asked for.
+ghost use Rattle.std.specs.Prelude.{◌≡◌, true, is_some};
+ghost use Rattle.bp_machine.specs.Setups.{threads, FitsCode};
+ghost use Rattle.bp_board.specs.Kits.{IsNamed};
+
+use super::ready::{CALLS, PROGRAM, code, kit, output, setup};
+use super::wants;
+use bp_board::{Board, Calls, Kit, gather};
+use bp_check::Checked;
+use bp_code::{Code, Kind, WriteFault, compile, lawful_program, list};
+use bp_commands::{
+    DriveRefusal, FileFault, InputFault, RunRefusal, TraceRefusal, WordsFault, end_drive, end_file,
+    end_printed, end_run, end_trace, reading_fault, refuse_memory, show_check, show_replay,
+    words_fault,
+};
+use bp_machine::{Call, Choices, Outcome, Reply, Session, Setup, open_lines};
+use bp_run::RunFault;
+use bp_trace::{replay, write_call, write_end, write_head, write_trace, write_trace2};
+use std::alloc::Global;
+use std::io::{self, ErrorKind};
+use std::marker::Brand;
+use std::sync::Wait;
+use std::sync::ledger::Ledger;
+use std::test::Fail;
+
+/// Prints the line behind which no memory may be asked for.
+fn begin(rt: &HostRuntime) -> Result<(), Fail> {
+    println!(rt; "without memory")?;
+    Ok(())
+}
+
+/// The listing of the program.
+const LISTING: &[u8] = b"\
+    proc main 0 1\n0 while 1 3\n1 assign 2\n2 call 5 0\n3 print 4\n4 return\n\
+    proc f 2 0\n5 assign 6\n6 if 7 8\n7 call 5 9\n8 skip 9\n9 return\n";
+
+/// Whether the accessors of a code give the parts of the program's.
+fn names_parts(code: &Code) -> bool {
+    code.len() == 10
+        && code.globals() == 2
+        && code.entry("f") == Some(5)
+        && code.formals("f") == Some(2)
+        && matches!(code.heading_of(b"main"), Some(heading) if heading.locals() == 1)
+        && matches!(code.get(9), Some(instr) if instr.kind() == Kind::Return)
+}
+
+/// Whether a program that was checked has two globals, and its line says so.
+fn is_checked(checked: &Checked, out: &mut Vec<u8>) -> Result<bool, WriteFault> {
+    show_check(checked, out)?;
+    Ok(checked.tree().globals().len() == 2 && out.as_slice() == b"ok 2 2\n".as_slice())
+}
+
+#[test]
+fn programs(rt: HostRuntime) -> Result<(), Fail> {
+    let alloc = rt.alloc();
+    let checked = lawful_program(alloc, PROGRAM)?;
+    let code = compile(alloc, &checked)?;
+    let copy = code.try_copy()?;
+    let (mut line, mut listing) = (output(alloc)?, output(alloc)?);
+    begin(&rt)?;
+    wants(is_checked(&checked, &mut line)?)?;
+    wants(names_parts(&code) && copy == code)?;
+    list(&code, &mut listing)?;
+    wants(listing.as_slice() == LISTING)
+}
+
+/// Whether the choice bits of the seed begin as they should, and the setup equals its copy.
+fn is_set_up(code: &Code, setup: &Setup, copy: &Setup) -> bool {
+    let mut choices = Choices::new(42, 0);
+    let bits = (
+        choices.next(),
+        choices.next(),
+        choices.next(),
+        choices.next(),
+    );
+    bits == (true, true, true, false) && setup.fits(code) && setup == copy
+}
+
+#[test]
+fn setups(rt: HostRuntime) -> Result<(), Fail> {
+    let alloc = rt.alloc();
+    let code = code(alloc, PROGRAM)?;
+    let setup = setup(alloc, &code, 2, Some(42))?;
+    let copy = setup.try_copy()?;
+    begin(&rt)?;
+    wants(is_set_up(&code, &setup, &copy))
+}
+
+/// Whether a session of two threads stands after one step of one context.
+fn stands_after_a_step(session: &Session) -> bool {
+    session.setup().is_in_range();
+    let report = session.report();
+    !session.is_finished(0)
+        && !session.is_failed()
+        && session.global(0) == Some(false)
+        && session.contexts_used() == 1
+        && session.open_lines() == 2
+        && report.calls == 1
+        && report.outcome == Outcome::Clean
+}
+
+#[test]
+fn sessions(rt: HostRuntime) -> Result<(), Fail> {
+    let alloc = rt.alloc();
+    let code = code(alloc, PROGRAM)?;
+    let setup = setup(alloc, &code, 2, Some(42))?;
+    let mut session = Session::new(alloc, &code, &setup)?;
+    let call = session.prepare(1)?;
+    begin(&rt)?;
+    session.commit(&call);
+    wants(*session.code() == code && *session.setup() == setup)?;
+    wants(stands_after_a_step(&session) && open_lines(&setup, &[call]) == 2)
+}
+
+/// Makes a turn of two calls at a board of one thread, takes one of them, gathers the board, and
+/// takes the other one.
+fn gathers<C: Calls, O: Ledger, R: Wait>(
+    rt: &R,
+    out: &HostRuntime,
+    kit: Kit,
+    code: &Code,
+    setup: &Setup,
+) -> Result<(), Fail>
+    requires named { IsNamed kit C.name C.parts O.name O.parts C.ring }
+    requires threads { kit.threads ≡ threads setup.now }
+    requires fits { FitsCode code.now setup.now }
+    requires seeded { is_some setup.now.seed ≡ true }
+{
+    let (board, mut seats, mut tap) = Board::<C, O>::open(out.alloc(), kit, code, setup)?;
+    let Some(seat) = seats.get_mut(0) else {
+        return Err(Fail::from("no seat"));
+    };
+    board.turn(rt, seat, 2)?;
+    begin(out)?;
+    wants(seat.thread() == 0 && seat.calls() == 2 && seat.is_open())?;
+    let first = tap.next();
+    let Ok(mut gathered) = gather(board, seats, tap, code, setup) else {
+        return Err(Fail::from("another board"));
+    };
+    wants(gathered.report.calls == 2 && gathered.report.left_open == 1)?;
+    wants(first.is_some() && gathered.tap.next().is_some() && gathered.tap.next().is_none())
+}
+
+#[test]
+fn boards(rt: HostRuntime) -> Result<(), Fail> {
+    let alloc = rt.alloc();
+    let code = code(alloc, CALLS)?;
+    let setup = setup(alloc, &code, 1, Some(42))?;
+    let kit = kit(alloc, &setup, 8)?;
+    gathers::<Brand, Brand, HostRuntime>(&rt, &rt, kit, &code, &setup)
+}
+
+/// A call of thread 0.
+const fn call(reply: Reply) -> Call {
+    Call {
+        thread: 0,
+        bit: false,
+        reply,
+    }
+}
+
+/// The calls of a thread that prints.
+fn calls() -> [Call; 3] {
+    [
+        call(Reply::Stepped),
+        call(Reply::Stepped),
+        call(Reply::Ended),
+    ]
+}
+
+const PRINTED: &[u8] = b"btrace 1\nentry main\ninit 10\ncontexts 2\ncalls 9\nseed none\n\
+    0 0 s\n0 0 s\n0 0 e\nend 3 0\n";
+
+const PRINTED_2: &[u8] = b"btrace 2\nentry main\ninit 10\ncontexts 2\ncalls 9\nseed none\n\
+    0 0s0s0e\nend 3 0\n";
+
+/// Whether the trace is written from its parts, and whole in both versions.
+fn writes(
+    setup: &Setup,
+    parts: &mut Vec<u8>,
+    one: &mut Vec<u8>,
+    two: &mut Vec<u8>,
+) -> Result<bool, WriteFault> {
+    write_head(setup, parts)?;
+    let calls = calls();
+    for call in &calls {
+        write_call(call, parts)?;
+    }
+    write_end(3, 0, parts)?;
+    write_trace(setup, &calls, one)?;
+    write_trace2(setup, &calls, two)?;
+    Ok(parts.as_slice() == PRINTED && one.as_slice() == PRINTED && two.as_slice() == PRINTED_2)
+}
+
+#[test]
+fn traces(rt: HostRuntime) -> Result<(), Fail> {
+    let alloc = rt.alloc();
+    let code = code(alloc, b"decl x, y; main() begin print (x, y); end")?;
+    let replayed = replay(alloc, &code, PRINTED)?;
+    let (mut parts, mut one, mut two) = (output(alloc)?, output(alloc)?, output(alloc)?);
+    let mut rows = output(alloc)?;
+    begin(&rt)?;
+    wants(writes(&replayed.setup, &mut parts, &mut one, &mut two)?)?;
+    show_replay(&replayed, &mut rows)?;
+    wants(rows.as_slice() == b"print 0 10\noutcome clean\n".as_slice())
+}
+
+/// Whether each end of a run that was refused memory has its status and its line.
+fn ends(errors: &mut Vec<u8>) -> bool {
+    let file: Result<(), FileFault> = Err(FileFault::Memory);
+    let run = Err::<(bp_machine::Report, ()), RunRefusal>(RunRefusal::Run(RunFault::Memory));
+    let trace = Err::<(bp_machine::Report, ()), TraceRefusal>(TraceRefusal::Memory);
+    let drive = Err::<(bp_machine::Report, ()), DriveRefusal>(DriveRefusal::Memory);
+    let statuses = (
+        refuse_memory(errors),
+        end_file(&file, errors),
+        end_run(&run, errors),
+        end_trace(&trace, errors),
+        end_drive(&drive, errors),
+    );
+    statuses == (3, 3, 3, 3, 3) && errors.as_slice() == MEMORY_LINES
+}
+
+const MEMORY_LINES: &[u8] = b"\
+    btrun: 7 Memory\nbtrun: 7 Memory\nbtrun: 7 Memory\nbtrun: 7 Memory\nbtrun: 7 Memory\n";
+
+/// Whether a refusal by the system is sorted, and the end of a text of our own has its line.
+fn sorts(errors: &mut Vec<u8>) -> bool {
+    let missing = io::Error::from(ErrorKind::NotFound);
+    reading_fault(&missing) == InputFault::Device
+        && words_fault(&missing) == WordsFault::NotText
+        && end_printed(&Err(missing), errors) == 3
+        && errors.as_slice() == b"btrun: 51 Write\n".as_slice()
+}
+
+#[test]
+fn endings(rt: HostRuntime) -> Result<(), Fail> {
+    let (mut lines, mut line) = (output(rt.alloc())?, output(rt.alloc())?);
+    begin(&rt)?;
+    wants(ends(&mut lines) && sorts(&mut line))
+}
