@@ -1,10 +1,10 @@
 use Rattle.bp_tests.proofs.refused.without_memory.boards.Given as goal
 
 abbrev pub ghosts-gathers-C-Calls : goal.ghosts-gathers-C-Calls
-ghosts-gathers-C-Calls a = record { ring = a.kit.ring }
+ghosts-gathers-C-Calls g a = record { ring = a.kit.ring }
 
 abbrev pub ghosts-gathers-C-Ledger : goal.ghosts-gathers-C-Ledger
-ghosts-gathers-C-Ledger a = record { name = a.kit.calls; parts = a.kit.threads }
+ghosts-gathers-C-Ledger g a = record { name = a.kit.calls; parts = a.kit.threads }
 
 abbrev pub ghosts-gathers-O-Ledger : goal.ghosts-gathers-O-Ledger
-ghosts-gathers-O-Ledger a = record { name = a.kit.lines; parts = a.kit.threads }
+ghosts-gathers-O-Ledger g a = record { name = a.kit.lines; parts = a.kit.threads }
