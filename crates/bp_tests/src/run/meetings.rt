@@ -145,7 +145,8 @@ fn a_worker_waits_for_another(rt: HostRuntime) -> Result<(), AllocError> {
     Ok(())
 }
 
-/// A writer that raises a flag once it has taken the head of the trace and its first call line.
+/// A writer that raises a flag once it is flushed with the head of the trace and its first call
+/// line.
 #[derive(Drop)]
 struct Flagged<'a> {
     taken: Vec<u8>,
@@ -158,14 +159,13 @@ impl<'a> Write for Flagged<'a> {
     ghost contents = { λ w. Some w.taken.items };
 
     fn write(&mut self, buf: &[u8]) -> io::Result<usize> {
-        let taken = self.taken.write(buf)?;
-        if self.taken.len() >= 61 {
-            self.flag.store(1, Ordering::SeqCst);
-        }
-        Ok(taken)
+        self.taken.write(buf)
     }
 
     fn flush(&mut self) -> io::Result<()> {
+        if self.taken.len() >= 61 {
+            self.flag.store(1, Ordering::SeqCst);
+        }
         Ok(())
     }
 }
@@ -187,7 +187,7 @@ impl<'a> Gate for Reader<'a> {
     fn after(&self, _thread: u32, _reply: Reply) {}
 }
 
-/// Whether the first call is written before the second is made.
+/// Whether the first call is written and handed on before the second is made.
 fn is_written_while_running<R: Threads + Wait + Clock + Sync>(
     rt: &R,
     alloc: Global,
