@@ -18,6 +18,7 @@ pub mod SeededWithCall
 pub mod SessionAnswers
 pub mod SetupInRange
 pub mod SetupRefusals
+pub mod ShownTops
 pub mod StackTops
 pub mod StandsAfterCall
 pub mod StandsAfterTransition

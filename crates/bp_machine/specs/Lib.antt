@@ -15,4 +15,5 @@ pub mod Sessions
 pub mod Setups
 pub mod Stacks
 pub mod States
+pub mod Tops
 pub mod Transitions

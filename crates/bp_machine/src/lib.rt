@@ -14,6 +14,7 @@ mod setup_words;
 mod setups;
 mod stacks;
 mod threads;
+pub mod tops;
 mod zeros;
 
 pub use calls::{Call, Reply};
@@ -26,3 +27,4 @@ pub use laws::{
 pub use reports::{Outcome, Report};
 pub use sessions::{AskFault, Session};
 pub use setups::{Setup, SetupFault};
+pub use tops::Top;

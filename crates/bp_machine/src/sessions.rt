@@ -1,11 +1,12 @@
 //! Sessions: the sequential machine, one call at a time.
-ghost use Rattle.std.specs.Prelude.{◌≡◌, ◌++◌, ◌∷◌, ◌<◌, [], ℕ, List, Option, None, Some, slice_get, option_map, IfOk, OnOk, OnErr, MatchResult};
+ghost use Rattle.std.specs.Prelude.{◌≡◌, ◌++◌, ◌∷◌, ◌<◌, [], ℕ, List, Option, None, Some, slice_get, option_map, IfOk, OnOk, OnErr, MatchOption, MatchResult};
 ghost use Rattle.bp_tree.specs.Ast.{Program};
 ghost use Rattle.bp_code.specs.StandsFor.{StandsFor};
 ghost use Rattle.bp_machine.specs.declared.calls.Call.{Call as Answered};
 ghost use Rattle.bp_machine.specs.Contexts.{IsLeastWithin};
 ghost use Rattle.bp_machine.specs.Answers.{stack_of};
 ghost use Rattle.bp_machine.specs.PrintedRows.{values_printed};
+ghost use Rattle.bp_machine.specs.Tops.{IsTop};
 ghost use Rattle.bp_machine.specs.Setups.{FitsCode, threads};
 ghost use Rattle.bp_machine.specs.Histories.{granted_threads, configuration_after, is_finished, open_lines};
 ghost use Rattle.bp_machine.specs.Reports.{IsReport};
@@ -18,6 +19,7 @@ use crate::machine::Machine;
 use crate::reports::Report;
 use crate::setups::Setup;
 use crate::threads::{Transition, first_threads};
+use crate::tops::Top;
 use bp_code::stores::word_of;
 use bp_code::{Code, Store, steps_alike};
 use std::alloc::{AllocError, Global};
@@ -366,6 +368,31 @@ impl Session {
         };
         let printed = instr.printed(*self.choices.allocator(), store)?;
         Ok(printed)
+    }
+
+    /// Where a thread goes on: none where its stack is empty, or there is no such thread.
+    pub fn top(&self, thread: u32) -> Option<Top>
+        ensures { (t : Program) (h : List Answered)
+            → StandsFor self.now.code t
+            → Stands t self.now h
+            → let now = configuration_after t self.now.setup h in
+            MatchOption result (stack_of now thread ≡ []) (IsTop t now thread) }
+    {
+        let Some(guest) = self.machine.thread(thread) else {
+            return None;
+        };
+        let Some(top) = guest.stack().top() else {
+            return None;
+        };
+        let store = Store {
+            globals: self.machine.globals(),
+            locals: top.locals,
+        };
+        Some(Top {
+            number: top.number,
+            store,
+            depth: guest.stack().len(),
+        })
     }
 
     /// The choice bit of the next call of a thread, where this bit or none is handed in.

@@ -132,3 +132,22 @@ fn print_of_no_thread(rt: HostRuntime) -> Result<(), Fail> {
     assert!(rt; refusal_of_print(rt.alloc())? == Some(AskFault::NoThread));
     Ok(())
 }
+
+/// The number of the next instruction of a thread, the globals, and how many frames it has.
+fn top_of(session: &Session, thread: u32) -> Option<(u32, u128, usize)> {
+    let top = session.top(thread)?;
+    Some((top.number, top.store.globals, top.depth))
+}
+
+#[test]
+fn tops_of_threads(rt: HostRuntime) -> Result<(), Fail> {
+    let text = b"decl x; main() begin x := 1; end";
+    let mut session = session_of(rt.alloc(), text, &[false], 1000)?;
+    assert!(rt; top_of(&session, 0) == Some((0, 0, 1)));
+    assert!(rt; top_of(&session, 1).is_none());
+    session.ask_with(0, false)?;
+    assert!(rt; top_of(&session, 0) == Some((1, 1, 1)));
+    session.ask_with(0, false)?;
+    assert!(rt; top_of(&session, 0).is_none());
+    Ok(())
+}

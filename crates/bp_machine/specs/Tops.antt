@@ -1,0 +1,18 @@
+-- Where a thread goes on: at the top of its stack.
+use Rattle.std.specs.Prelude.{◌≡◌, ℕ, List, ◌∷◌, length}
+use Rattle.bp_tree.specs.Ast.{Program}
+use Rattle.bp_code.specs.Bits.{bits_of}
+use Rattle.bp_code.specs.Configurations.{Frame, Configuration}
+use Rattle.bp_code.specs.StandsFor.{Remains, places_of, valuation_of, variables}
+use Rattle.bp_machine.specs.declared.tops.Top.{Top}
+use Rattle.bp_machine.specs.Answers.{stack_of}
+
+-- the thread i goes on at this instruction, with these globals and locals, and so many frames
+pub record IsTop (t : Program) (c : Configuration) (i : ℕ) (x : Top) : Type 0 where
+  pub frame : Frame
+  pub below : List Frame
+  pub stack : stack_of c i ≡ frame ∷ below
+  pub next : Remains (places_of t.procedures) x.number frame.procedure frame.left
+  pub globals : c.globals ≡ valuation_of t.globals (bits_of x.store.globals)
+  pub locals : frame.locals ≡ valuation_of (variables frame.procedure) (bits_of x.store.locals)
+  pub depth : x.depth ≡ length (frame ∷ below)
