@@ -26,3 +26,5 @@ mod texts;
 mod trace;
 #[cfg(test)]
 mod tree;
+#[cfg(test)]
+mod view;

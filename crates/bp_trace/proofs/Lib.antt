@@ -8,7 +8,7 @@ mod HeadStopsAt
 mod InitBits
 mod Joined
 mod LineThread
-mod LinesDriveAgain
+pub mod LinesDriveAgain
 mod LinesOfHistory
 mod NumberOfDigits
 mod OneField
@@ -24,7 +24,7 @@ mod OwnEnds
 mod PieceTexts
 mod PieceThreads
 mod PiecesAreFewest
-mod PlayableFronts
+pub mod PlayableFronts
 mod PlayedCalls
 mod PlayedLines
 mod ReplayedTexts

@@ -1,0 +1,127 @@
+//! Views of histories.
+
+use bp_code::{compile, lawful_program};
+use bp_trace::replay;
+use bp_view::{Position, ViewOptions, position_of, view};
+use std::alloc::Global;
+use std::test::Fail;
+
+pub(crate) const TEXT: &[u8] = b"decl x;\nmain() begin x := 1; assert (x); end\n";
+
+pub(crate) const TRACE: &[u8] = b"\
+    btrace 1\nentry main\ninit 0\ncontexts 2\ncalls 1000\nseed none\n\
+    0 0 s\n0 1 s\n0 0 s\n0 0 e\nend 4 0\n";
+
+/// What the trace is shown as.
+pub(crate) const VIEW: &[u8] = b"\
+    thread 0 begins in main\nglobals x=0\ncontexts at most 2\ncalls of a thread at most 1000\n\
+    seed none\n\n\
+    \x201 0 1 2:14  x := 1      x=1\n\
+    \x202 0 1 2:22  assert (x)\n\
+    \x203 0 1 -     end of main\n\
+    \x204 0 - -                 ended\n\n\
+    4 calls, contexts 1, open threads 0\nno assertion failed\n";
+
+/// The same with the last call alone.
+const LAST: &[u8] = b"\
+    thread 0 begins in main\nglobals x=0\ncontexts at most 2\ncalls of a thread at most 1000\n\
+    seed none\n\n\
+    \x204 0 - -                 ended\n\n\
+    4 calls, contexts 1, open threads 0\nno assertion failed\n";
+
+/// The same with no call.
+const NONE: &[u8] = b"\
+    thread 0 begins in main\nglobals x=0\ncontexts at most 2\ncalls of a thread at most 1000\n\
+    seed none\n\n\n\
+    4 calls, contexts 1, open threads 0\nno assertion failed\n";
+
+/// All calls, without colours.
+pub(crate) const ALL: ViewOptions = ViewOptions {
+    thread: None,
+    last: None,
+    has_colour: false,
+};
+
+/// The view of the history of a trace.
+fn view_of(
+    alloc: Global,
+    text: &[u8],
+    trace: &[u8],
+    options: ViewOptions,
+) -> Result<Vec<u8>, Fail> {
+    let Ok(checked) = lawful_program(alloc, text) else {
+        return Err(Fail::from("no program"));
+    };
+    let code = compile(alloc, &checked)?;
+    let Ok(replayed) = replay(alloc, &code, trace) else {
+        return Err(Fail::from("no trace"));
+    };
+    let setup = &replayed.setup;
+    match view(
+        alloc,
+        text,
+        &checked,
+        &code,
+        setup,
+        &replayed.history,
+        options,
+    ) {
+        Ok(shown) => Ok(shown),
+        Err(_) => Err(Fail::from("no view")),
+    }
+}
+
+#[test]
+fn shows_each_call(rt: HostRuntime) -> Result<(), Fail> {
+    let shown = view_of(rt.alloc(), TEXT, TRACE, ALL)?;
+    assert!(rt; shown.as_slice() == VIEW);
+    Ok(())
+}
+
+#[test]
+fn shows_the_last_calls(rt: HostRuntime) -> Result<(), Fail> {
+    let mut options = ALL;
+    options.last = Some(1);
+    let shown = view_of(rt.alloc(), TEXT, TRACE, options)?;
+    assert!(rt; shown.as_slice() == LAST);
+    Ok(())
+}
+
+#[test]
+fn shows_the_calls_of_a_thread(rt: HostRuntime) -> Result<(), Fail> {
+    let mut options = ALL;
+    options.thread = Some(0);
+    let all = view_of(rt.alloc(), TEXT, TRACE, options)?;
+    options.thread = Some(1);
+    let none = view_of(rt.alloc(), TEXT, TRACE, options)?;
+    assert!(rt; all.as_slice() == VIEW);
+    assert!(rt; none.as_slice() == NONE);
+    Ok(())
+}
+
+/// A failed assertion of a choice bit, which is red on a terminal.
+const FAILED: &[u8] = b"\
+    thread 0 begins in main\ncontexts at most 2\ncalls of a thread at most 1000\nseed none\n\n\
+    \x1b[31m 1 0 1 1:14  assert (?)  ?=0 failed\x1b[0m\n\n\
+    1 calls, contexts 1, open threads 0\n\
+    an assertion of thread 0 failed at 1:14: assert (?)\n";
+
+#[test]
+fn shows_a_failure_in_red(rt: HostRuntime) -> Result<(), Fail> {
+    let text = b"main() begin assert (?); end";
+    let trace =
+        b"btrace 1\nentry main\ninit -\ncontexts 2\ncalls 1000\nseed none\n0 0 f\nend 1 0\n";
+    let mut options = ALL;
+    options.has_colour = true;
+    let shown = view_of(rt.alloc(), text, trace, options)?;
+    assert!(rt; shown.as_slice() == FAILED);
+    Ok(())
+}
+
+#[test]
+fn positions_are_counted_from_1(rt: HostRuntime) {
+    assert!(rt; position_of(b"ab\nc", 0) == Position { line: 1, column: 1 });
+    assert!(rt; position_of(b"ab\nc", 2) == Position { line: 1, column: 3 });
+    assert!(rt; position_of(b"ab\nc", 3) == Position { line: 2, column: 1 });
+    assert!(rt; position_of(b"ab\nc", 9) == Position { line: 2, column: 2 });
+}

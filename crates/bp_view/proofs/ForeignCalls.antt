@@ -1,0 +1,76 @@
+-- A call of a history that may be played is the machine's own, and is refused for want of memory alone.
+use Rattle.std.proofs.Common.{◌≡◌, ◌≢◌, ◌∙◌, ℕ, ◌<◌, Bool, true, false, List, ◌∷◌, ◌++◌, Option, None, Some, is_some, cond, refl, ap, sym, subst, arith, suc, take, drop, drop-cons, length, get_or}
+use Rattle.std.proofs.lemmas.Bool.{false≢true}
+use Rattle.std.proofs.lemmas.List.{take-append-drop}
+use Rattle.bp_tree.specs.Ast.{Program}
+use Rattle.bp_machine.specs.declared.calls.Call.{Call}
+use Rattle.bp_machine.specs.declared.sessions.AskFault.{AskFault}
+use Rattle.bp_machine.specs.declared.sessions.AskFault.TheVariants.{NoThread, Finished, Seeded, Unseeded, Memory, Busy}
+use Rattle.bp_machine.specs.Answers.{Answers}
+use Rattle.bp_machine.specs.Histories.{configuration_after, granted_threads}
+use Rattle.bp_machine.specs.SeededHistories.{IsBitOfCall}
+use Rattle.bp_machine.specs.Sessions.{IsAskRefusal, IsNextCall}
+use Rattle.bp_machine.specs.Setups.{SetupOf, threads}
+use Rattle.bp_trace.specs.declared.replay_faults.ReplayFault.TheVariants as fault
+use Rattle.bp_trace.specs.Judging.{given_bit}
+use Rattle.bp_trace.specs.Replays.{IsPlayable}
+use Rattle.bp_view.specs.declared.views.ViewFault.{ViewFault}
+use Rattle.bp_view.specs.declared.views.ViewFault.TheVariants as view
+use Rattle.bp_view.specs.Views.{view_fault_of, IsCallRefusal, IsViewRefusal}
+use Rattle.bp_trace.proofs.LinesDriveAgain.{same_answer}
+use Rattle.bp_trace.proofs.PlayableFronts.{next_allowed, not_refused}
+
+not_other : (a b : Bool) → (a ≢ b → ⊥) → a ≡ b
+not_other true true never = refl
+not_other false false never = refl
+not_other true false never = absurd (never (λ e. false≢true (sym e)))
+not_other false true never = absurd (never false≢true)
+
+not_given : (b bit : Bool) → b ≡ true → is_some (cond b None (Some bit)) ≡ true → ⊥
+not_given true bit e given = false≢true given
+not_given false bit e given = false≢true e
+
+given_there : (b bit : Bool) → b ≡ false → cond b None (Some bit) ≡ None → ⊥
+given_there true bit e none = false≢true (sym e)
+given_there false bit e none = false≢true (sym (ap is_some none))
+
+module _ (t : Program) (s : SetupOf) (h : List Call) (x : Call) where
+  module _ (g : List Call) (playable : IsPlayable t s (h ++ x ∷ g)) where
+    -- the machine makes the call
+    pub is_asked : (f : AskFault) → IsAskRefusal t s h x.thread (given_bit (is_some s.seed) x) f → f ≢ Memory → ⊥
+    is_asked NoThread r other = let within = (next_allowed t s h x g playable).thread in absurd (omega (arith, r, within))
+    is_asked Finished r other = false≢true (sym (next_allowed t s h x g playable).unfinished ∙ r.1)
+    is_asked Seeded r other = not_given (is_some s.seed) x.bit r.2 r.1
+    is_asked Unseeded r other = given_there (is_some s.seed) x.bit (ap is_some r.2) r.1
+    is_asked Memory r other = other refl
+    is_asked Busy r other = r
+
+    same_bit : (own : Bool) (b : Bool) → IsBitOfCall s h x.thread (cond b None (Some x.bit)) own → own ≡ x.bit
+    same_bit own true r = r.is ∙ sym (not_other x.bit _ (λ other. not_refused t s h x g playable 0 (fault.Bit 0) (refl, (next_allowed t s h x g playable).unfinished, record { seed = r.seed; has = r.has; other = other })))
+    same_bit own false r = r.1
+
+    -- and it is that one
+    pub is_the_own : (own : Call) → IsNextCall t s h x.thread (given_bit (is_some s.seed) x) own → own ≡ x
+    is_the_own own next =
+        let bit = same_bit own.bit (is_some s.seed) next.bit in
+        let one = subst (λ i. Answers t s.contexts (configuration_after t s h) (granted_threads h) i own.bit own.reply) next.thread next.allowed.answers in
+        let other = subst (λ b. Answers t s.contexts (configuration_after t s h) (granted_threads h) x.thread b own.reply) bit one in
+        let reply = same_answer t s.contexts (configuration_after t s h) (granted_threads h) x.thread x.bit own.reply x.reply other (next_allowed t s h x g playable).answers in
+        λ i. record { thread = next.thread i; bit = bit i; reply = reply i }
+
+  pub refusal_is : (f : AskFault) → IsAskRefusal t s h x.thread (given_bit (is_some s.seed) x) f → IsCallRefusal t s h x (view_fault_of f)
+  refusal_is Memory r = tt
+  refusal_is NoThread r = λ g playable. is_asked g playable NoThread r (λ e. cc)
+  refusal_is Finished r = λ g playable. is_asked g playable Finished r (λ e. cc)
+  refusal_is Seeded r = λ g playable. is_asked g playable Seeded r (λ e. cc)
+  refusal_is Unseeded r = λ g playable. is_asked g playable Unseeded r (λ e. cc)
+  refusal_is Busy r = λ g playable. r
+
+-- so a history with a call that is refused may not be played
+pub history_refused : (t : Program) (s : SetupOf) (calls : List Call) (n : ℕ) (d : Call) (f : ViewFault)
+    → n < length calls → IsCallRefusal t s (take n calls) (get_or calls n d) f → IsViewRefusal t s calls f
+history_refused t s calls n d view.Memory within r = tt
+history_refused t s calls n d view.Foreign within r = λ playable.
+    let whole : calls ≡ take n calls ++ get_or calls n d ∷ drop (suc n) calls =
+    sym (take-append-drop n calls) ∙ ap (λ z. take n calls ++ z) (drop-cons calls n d within) in
+    r (drop (suc n) calls) (subst (IsPlayable t s) whole playable)

@@ -1,0 +1,5 @@
+use Rattle.bp_view.proofs.TextsOnOneLine.{one_line_after}
+use Rattle.bp_view.proofs.excerpts.excerpt_of.Goals as goal
+
+pub cut-requires : goal.cut-requires
+cut-requires c = c.loop-piece.invariant

@@ -1,0 +1,5 @@
+use Rattle.bp_view.proofs.TextsOnOneLine.{adds_then}
+use Rattle.bp_view.proofs.excerpts.push_piece.Goals as goal
+
+pub returns : goal.returns
+returns c = adds_then _ _ _ c.in_ok-push_on_one_line.ensures c.in_ok-push_on_one_line-2.ensures

@@ -1,0 +1,12 @@
+use Rattle.std.proofs.Common.{◌≡◌, ◌∙◌, ap, refl}
+use Rattle.bp_view.specs.Views.{IsCallRefusal}
+use Rattle.bp_view.proofs.ForeignCalls.{refusal_is, is_the_own}
+use Rattle.bp_view.proofs.views.make.Goals as goal
+
+pub returns-then-not-is_own-clause-refused : goal.returns-then-not-is_own-clause-refused
+returns-then-not-is_own-clause-refused c = λ t h is stands behind playable.
+    c.if-not-is_own.ensures.other refl (is_the_own t c.args.session.now.setup h c.args.call.now behind playable c.in-Ok.own (c.in-Ok.ensures.answer t h is stands))
+
+pub returns-in-Err-clause-refused : goal.returns-in-Err-clause-refused
+returns-in-Err-clause-refused c = λ t h is stands.
+    rw c.view_fault_of.ensures (refusal_is t c.args.session.now.setup h c.args.call.now c.in-Err.fault (c.in-Err.ensures.answer t h is stands))

@@ -1,0 +1,154 @@
+-- The line of a call.
+use Rattle.std.specs.Prelude.{if◌then◌else◌, ◌≡◌, ◌==◌, not, ◌&&◌, ℕ, suc, Bool, false, List, [], ◌∷◌, ◌++◌, Option, None, Some, MatchOption, length, codes, decimal}
+use Rattle.bp_tree.specs.Ast.{Program}
+use Rattle.bp_code.specs.Starts.{start_of}
+use Rattle.bp_code.specs.Configurations.{Frame}
+use Rattle.bp_machine.specs.declared.calls.Call.{Call}
+use Rattle.bp_machine.specs.declared.calls.Reply.{Reply}
+use Rattle.bp_machine.specs.declared.calls.Reply.TheVariants.{Stopped, Ended, NoContexts, Full, Blocked, Failed, Stepped}
+use Rattle.bp_machine.specs.Answers.{stack_of}
+use Rattle.bp_machine.specs.ContextCounts.{last_thread}
+use Rattle.bp_machine.specs.Contexts.{IsLeastWithin}
+use Rattle.bp_machine.specs.Histories.{configuration_after, granted_threads}
+use Rattle.bp_machine.specs.Replies.{is_granted}
+use Rattle.bp_machine.specs.Setups.{SetupOf}
+use Rattle.bp_machine.specs.Tops.{IsTop}
+use Rattle.bp_view.specs.Columns.{at_left, at_right}
+use Rattle.bp_view.specs.declared.lines.Moment.{Moment}
+use Rattle.bp_view.specs.declared.lines.Widths.{Widths}
+use Rattle.bp_view.specs.OneLine.{IsOneLine}
+use Rattle.bp_view.specs.Places.{place_text}
+
+-- what is said of a reply
+abbrev pub reply_words : Reply → List ℕ
+reply_words Stopped = codes " stopped"
+reply_words Ended = codes " ended"
+reply_words NoContexts = codes " out of contexts"
+reply_words Full = codes " stack full"
+reply_words Blocked = codes " waits"
+reply_words Failed = codes " failed"
+reply_words Stepped = []
+
+-- the number of the context of a step, and a sign where a call made none
+abbrev pub context_text : Option ℕ → List ℕ
+context_text None = codes "-"
+context_text (Some n) = decimal n
+
+-- a sign before a step behind which another thread's was the last
+abbrev pub mark_text : Bool → List ℕ
+mark_text switch = if switch then codes ">" else codes " "
+
+-- what the columns show of a call
+pub record Fields : Type 0 where
+  pub number : ℕ
+  pub thread : ℕ
+  pub context : Option ℕ
+  pub switch : Bool
+  pub place : List ℕ
+
+abbrev pub fields_text : Widths → Fields → List ℕ
+fields_text w f =
+    mark_text f.switch
+    ++ at_right w.number (decimal f.number)
+    ++ codes " "
+    ++ at_right w.thread (decimal f.thread)
+    ++ codes " "
+    ++ at_right w.context (context_text f.context)
+    ++ codes " "
+    ++ at_left w.place f.place
+
+-- what the columns show of a call at this place
+abbrev pub fields_of : Moment → List ℕ → Fields
+fields_of m place =
+    record {
+      number = m.number;
+      thread = m.call.thread;
+      context = m.context;
+      switch = m.is_switch;
+      place = place;
+    }
+
+-- a note of a reply: its words between texts on one line
+pub record IsNote (r : Reply) (note : List ℕ) : Type 0 where
+  pub choice : List ℕ
+  pub changes : List ℕ
+  pub is : note ≡ choice ++ reply_words r ++ changes
+  pub choice_is : IsOneLine choice
+  pub changes_are : IsOneLine changes
+
+-- the new bytes are the old ones, a text on one line, and the note
+pub record AddsColumns (note old new : List ℕ) : Type 0 where
+  pub statement : List ℕ
+  pub is : new ≡ old ++ statement ++ note
+  pub statement_is : IsOneLine statement
+
+-- a call: the fields in columns of these widths, the statement, and the note of the reply
+pub record IsCallText (w : Widths) (f : Fields) (r : Reply) (text : List ℕ) : Type 0 where
+  pub statement : List ℕ
+  pub note : List ℕ
+  pub is : text ≡ fields_text w f ++ statement ++ note
+  pub statement_is : IsOneLine statement
+  pub note_is : IsNote r note
+
+pub record AddsCall (w : Widths) (f : Fields) (r : Reply) (old new : List ℕ) : Type 0 where
+  pub more : List ℕ
+  pub is : new ≡ old ++ more
+  pub more_is : IsCallText w f r more
+
+-- a line: the text of a call, between the signs of a colour where colours are wanted
+pub record IsLineWith (w : Widths) (coloured : Bool) (f : Fields) (r : Reply) (line : List ℕ)
+    : Type 0 where
+  pub opening : List ℕ
+  pub text : List ℕ
+  pub closing : List ℕ
+  pub is : line ≡ opening ++ text ++ closing ++ codes "\n"
+  pub text_is : IsCallText w f r text
+  pub plain : coloured ≡ false → (opening ≡ []) × (closing ≡ [])
+
+pub record AddsLine (w : Widths) (coloured : Bool) (f : Fields) (r : Reply) (old new : List ℕ)
+    : Type 0 where
+  pub more : List ℕ
+  pub is : new ≡ old ++ more
+  pub more_is : IsLineWith w coloured f r more
+
+-- thread i has a statement that comes next
+abbrev pub start_on_stack : List Frame → Option ℕ
+start_on_stack [] = None
+start_on_stack (f ∷ fs) = start_of f.left
+
+-- the step is one of another thread than the last
+abbrev pub is_other : Option ℕ → ℕ → Bool
+is_other None i = false
+is_other (Some l) i = not (l == i)
+
+abbrev pub is_switch : List Call → Call → Bool
+is_switch h x = is_granted x.reply && is_other (last_thread (granted_threads h)) x.thread
+
+-- the context of the step of the call x after h, where it is granted
+abbrev pub IsContext : List Call → Call → Option ℕ → Type 0
+IsContext h x None = is_granted x.reply ≡ false
+IsContext h x (Some n) =
+    (is_granted x.reply ≡ Bool.true) × IsLeastWithin n (granted_threads (h ++ x ∷ []))
+
+-- The fields of the call x after the history h of a program: its number from 1, its thread, the
+-- context that it runs in, and the place of the statement that its thread has next.
+pub record AreFields
+    (t : Program) (text : List ℕ) (s : SetupOf) (h : List Call) (x : Call) (f : Fields)
+    : Type 0 where
+  pub number : f.number ≡ suc (length h)
+  pub thread : f.thread ≡ x.thread
+  pub context : IsContext h x f.context
+  pub switch : f.switch ≡ is_switch h x
+  pub place :
+      f.place ≡ place_text text (start_on_stack (stack_of (configuration_after t s h) x.thread))
+
+-- the moment is that of the call x after h: what is at the top of its thread's stack before it
+pub record IsMomentOf (t : Program) (s : SetupOf) (h : List Call) (x : Call) (m : Moment)
+    : Type 0 where
+  pub number : m.number ≡ suc (length h)
+  pub call : m.call ≡ x
+  pub context : IsContext h x m.context
+  pub switch : m.is_switch ≡ is_switch h x
+  pub before :
+      let now = configuration_after t s h in
+      MatchOption m.before (stack_of now x.thread ≡ []) (IsTop t now x.thread)

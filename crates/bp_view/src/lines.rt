@@ -1,0 +1,288 @@
+//! The line of a call.
+ghost use Rattle.std.specs.Prelude.{◌≡◌, ◌++◌, [], false, codes, decimal, option_map, IfOk, OnOk};
+ghost use Rattle.bp_view.specs.Columns.{at_right};
+ghost use Rattle.bp_view.specs.OneLine.{AddsOneLine, IsOneLine};
+ghost use Rattle.bp_view.specs.Scenes.{place_of_scene, IsOnOneLine};
+ghost use Rattle.bp_view.specs.Lines.{reply_words, context_text, fields_of, fields_text, IsNote, AddsCall, AddsColumns, AddsLine};
+
+use crate::changes::push_changes;
+use crate::columns::{push_bytes, push_left, push_on_one_line, push_right, push_spaces};
+use crate::options::ViewOptions;
+use crate::scenes::Scene;
+use bp_machine::{Call, Reply, Top};
+use bp_tree::{Name, Proc};
+use itoa::Buffer;
+use std::alloc::{AllocError, Global};
+
+/// A statement is moved to the right by two columns for each frame of the stack, for so many frames
+/// at most.
+pub(crate) const MAX_INDENTS: usize = 8;
+
+/// How many bytes a column takes at first, which few columns pass.
+const ROOM: usize = 96;
+
+/// What ends a line in colour.
+const PLAIN: &[u8] = b"\x1b[0m";
+
+/// How wide the columns are.
+#[derive(Clone, Copy, Debug, PartialEq, Eq)]
+pub(crate) struct Widths {
+    pub(crate) number: usize,
+    pub(crate) thread: usize,
+    pub(crate) context: usize,
+    pub(crate) place: usize,
+    pub(crate) words: usize,
+}
+
+/// What a view shows its calls of.
+#[derive(Clone, Copy)]
+pub(crate) struct Stage<'a> {
+    pub(crate) scenes: &'a [Scene],
+    pub(crate) globals: &'a [Name],
+    pub(crate) procs: &'a [Proc],
+    pub(crate) widths: Widths,
+    /// How many calls the history has.
+    pub(crate) count: u64,
+    pub(crate) options: ViewOptions,
+}
+
+/// A call of a history, and what was before and after it.
+#[derive(Clone, Copy)]
+pub(crate) struct Moment {
+    /// Its place in the history, from 1.
+    pub(crate) number: u64,
+    pub(crate) call: Call,
+    /// The context in which its step is; none where it made none.
+    pub(crate) context: Option<u32>,
+    /// Whether another thread made the step before.
+    pub(crate) is_switch: bool,
+    pub(crate) before: Option<Top>,
+    pub(crate) after: Option<Top>,
+}
+
+/// What is said of a reply.
+fn reply_words(reply: Reply) -> &'static [u8]
+    ensures { result.now ≡ reply_words reply }
+{
+    match reply {
+        Reply::Stopped => b" stopped",
+        Reply::Ended => b" ended",
+        Reply::NoContexts => b" out of contexts",
+        Reply::Full => b" stack full",
+        Reply::Blocked => b" waits",
+        Reply::Failed => b" failed",
+        Reply::Stepped => b"",
+    }
+}
+
+/// The colour of a call: a failure is red, a switch is yellow.
+fn colour_of(moment: &Moment) -> &'static [u8] {
+    if moment.call.reply == Reply::Failed {
+        return b"\x1b[31m";
+    }
+    if moment.is_switch {
+        return b"\x1b[33m";
+    }
+    b""
+}
+
+/// What begins and what ends the line of a call, in colour where that is wanted.
+fn colours_of(stage: &Stage<'_>, moment: &Moment) -> (&'static [u8], &'static [u8])
+    ensures { stage.now.options.has_colour ≡ false → (result.0.now ≡ []) × (result.1.now ≡ []) }
+{
+    if !stage.options.has_colour {
+        return (b"", b"");
+    }
+    let colour = colour_of(moment);
+    (colour, if colour.is_empty() { b"" } else { PLAIN })
+}
+
+/// Adds the number of a context at the right of a field, and a sign where there is none.
+fn push_context(line: &mut Vec<u8>, width: usize, context: Option<u32>) -> Result<(), AllocError>
+    ensures { OnOk result
+        (line.new.items ≡ line.old.items ++ at_right width (context_text context)) }
+{
+    match context {
+        Some(n) => {
+            let mut buffer = Buffer::new();
+            push_right(line, width, buffer.format(n).as_bytes())
+        }
+        None => push_right(line, width, b"-"),
+    }
+}
+
+/// Adds a number at the right of a field, and a space.
+fn push_number(line: &mut Vec<u8>, width: usize, number: u64) -> Result<(), AllocError>
+    ensures { OnOk result
+        (line.new.items ≡ line.old.items ++ at_right width (decimal number) ++ codes " ") }
+{
+    let mut buffer = Buffer::new();
+    push_right(line, width, buffer.format(number).as_bytes())?;
+    push_bytes(line, b" ")
+}
+
+/// Adds the fields of a call: its number, thread, context and place.
+fn push_fields(
+    line: &mut Vec<u8>,
+    widths: Widths,
+    moment: &Moment,
+    place: &[u8],
+) -> Result<(), AllocError>
+    ensures { OnOk result
+        (line.new.items
+        ≡ line.old.items ++ fields_text widths (fields_of moment.now place.now)) }
+{
+    push_bytes(line, if moment.is_switch { b">" } else { b" " })?;
+    push_number(line, widths.number, moment.number)?;
+    push_number(line, widths.thread, u64::from(moment.call.thread))?;
+    push_context(line, widths.context, moment.context)?;
+    push_bytes(line, b" ")?;
+    push_left(line, widths.place, place)
+}
+
+/// Adds the statement, moved to the right by the depth of the stack.
+fn push_statement(line: &mut Vec<u8>, words: &[u8], depth: usize) -> Result<(), AllocError>
+    requires { IsOneLine words.now }
+    ensures { OnOk result (AddsOneLine line.old.items line.new.items) }
+{
+    push_spaces(line, 2 * depth.min(MAX_INDENTS))?;
+    push_bytes(line, words)?;
+    Ok(())
+}
+
+/// The statement of a scene, moved to the right; no text where there is no scene.
+fn statement_of(
+    alloc: Global,
+    scene: Option<&Scene>,
+    before: Option<Top>,
+) -> Result<Vec<u8>, AllocError>
+    requires { IsOnOneLine (option_map (λ s. s.now) scene) }
+    ensures { IfOk result (λ v. IsOneLine v.items) }
+{
+    let mut statement = Vec::with_capacity(alloc, ROOM)?;
+    if let (Some(scene), Some(top)) = (scene, before) {
+        push_statement(&mut statement, scene.excerpt.words.as_slice(), top.depth)?;
+    }
+    Ok(statement)
+}
+
+/// Adds the choice bit of a call, where its step reads it.
+fn push_choice(note: &mut Vec<u8>, scene: Option<&Scene>, call: &Call) -> Result<(), AllocError>
+    ensures { OnOk result (AddsOneLine note.old.items note.new.items) }
+{
+    let Some(scene) = scene else {
+        return Ok(());
+    };
+    let is_read = matches!(call.reply, Reply::Stepped | Reply::Failed | Reply::Blocked);
+    if scene.excerpt.reads_choice && is_read {
+        push_on_one_line(note, if call.bit { b" ?=1" } else { b" ?=0" })?;
+    }
+    Ok(())
+}
+
+/// Adds the variables that a call changed.
+fn push_changed(note: &mut Vec<u8>, stage: &Stage<'_>, moment: &Moment) -> Result<(), AllocError>
+    ensures { OnOk result (AddsOneLine note.old.items note.new.items) }
+{
+    if let (Some(before), Some(after)) = (moment.before, moment.after) {
+        push_changes(
+            note,
+            stage.scenes,
+            stage.globals,
+            stage.procs,
+            before,
+            after,
+        )?;
+    }
+    Ok(())
+}
+
+/// What a call comes to: the choice bit where it is read, the reply where it is no step, and the
+/// variables that the step changed.
+fn note_of(
+    alloc: Global,
+    stage: &Stage<'_>,
+    scene: Option<&Scene>,
+    moment: &Moment,
+) -> Result<Vec<u8>, AllocError>
+    ensures { IfOk result (λ v. IsNote moment.now.call.reply v.items) }
+{
+    let mut note = Vec::with_capacity(alloc, ROOM)?;
+    push_choice(&mut note, scene, &moment.call)?;
+    push_bytes(&mut note, reply_words(moment.call.reply))?;
+    push_changed(&mut note, stage, moment)?;
+    Ok(note)
+}
+
+/// Adds a statement and what its call comes to, in two columns.
+fn push_columns(
+    line: &mut Vec<u8>,
+    width: usize,
+    statement: &[u8],
+    note: &[u8],
+) -> Result<(), AllocError>
+    requires { IsOneLine statement.now }
+    ensures { OnOk result (AddsColumns note.now line.old.items line.new.items) }
+{
+    if note.is_empty() {
+        push_bytes(line, statement)?;
+    } else {
+        push_left(line, width, statement)?;
+        push_bytes(line, note)?;
+    }
+    Ok(())
+}
+
+/// The place that is printed of a scene.
+fn place_of<'a>(scene: Option<&'a Scene>) -> &'a [u8]
+    ensures { result.now ≡ place_of_scene (option_map (λ s. s.now) scene.entry) }
+{
+    match scene {
+        Some(scene) => scene.place.as_slice(),
+        None => b"-",
+    }
+}
+
+/// Adds what the columns show of a call.
+fn push_call(
+    line: &mut Vec<u8>,
+    stage: &Stage<'_>,
+    scene: Option<&Scene>,
+    moment: &Moment,
+) -> Result<(), AllocError>
+    requires { IsOnOneLine (option_map (λ s. s.now) scene) }
+    ensures { let place = place_of_scene (option_map (λ s. s.now) scene.entry) in
+        let fields = fields_of moment.now place in
+        OnOk result
+        (AddsCall stage.now.widths fields moment.now.call.reply line.old.items line.new.items) }
+{
+    let alloc = *line.allocator();
+    let statement = statement_of(alloc, scene, moment.before)?;
+    let note = note_of(alloc, stage, scene, moment)?;
+    push_fields(line, stage.widths, moment, place_of(scene))?;
+    push_columns(line, stage.widths.words, &statement, &note)?;
+    Ok(())
+}
+
+/// Adds the line of a call, in colour where that is wanted and the call is a failure or a switch.
+pub(crate) fn push_line(
+    line: &mut Vec<u8>,
+    stage: &Stage<'_>,
+    scene: Option<&Scene>,
+    moment: &Moment,
+) -> Result<(), AllocError>
+    requires { IsOnOneLine (option_map (λ s. s.now) scene) }
+    ensures { let place = place_of_scene (option_map (λ s. s.now) scene.entry) in
+        let fields = fields_of moment.now place in
+        let reply = moment.now.call.reply in
+        let coloured = stage.now.options.has_colour in
+        OnOk result
+        (AddsLine stage.now.widths coloured fields reply line.old.items line.new.items) }
+{
+    let (opening, closing) = colours_of(stage, moment);
+    push_bytes(line, opening)?;
+    push_call(line, stage, scene, moment)?;
+    push_bytes(line, closing)?;
+    push_bytes(line, b"\n")?;
+    Ok(())
+}

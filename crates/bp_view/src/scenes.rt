@@ -1,0 +1,114 @@
+//! What is shown of each instruction.
+ghost use Rattle.std.specs.Prelude.{◌≡◌, ℕ, List, None, Some, IfOk};
+ghost use Rattle.bp_code.specs.Starts.{starts_of};
+ghost use Rattle.bp_view.specs.Places.{place_text, position_text};
+ghost use Rattle.bp_view.specs.Positions.{position_at};
+ghost use Rattle.bp_view.specs.Scenes.{AreScenes, IsScene};
+
+use crate::columns::{push_bytes, push_on_one_line};
+use crate::excerpts::{Excerpt, excerpt_of};
+use crate::positions::{FIRST, Position, position_from};
+use bp_check::Checked;
+use bp_code::places;
+use bp_tree::Proc;
+use itoa::Buffer;
+use std::alloc::{AllocError, Global};
+
+/// What is shown of an instruction: the place of its statement, as it is printed, and its text.
+#[derive(Drop)]
+pub(crate) struct Scene {
+    pub(crate) place: Vec<u8>,
+    pub(crate) excerpt: Excerpt,
+    /// Where the statement begins in the text; none at the end of a procedure.
+    pub(crate) start: Option<u32>,
+    /// The procedure's place among the procedures.
+    pub(crate) procedure: usize,
+}
+
+/// The text of a place.
+fn place_text(alloc: Global, position: Position) -> Result<Vec<u8>, AllocError>
+    ensures { IfOk result (λ v. v.items ≡ position_text position) }
+{
+    let mut text = Vec::new(alloc);
+    let mut line = Buffer::new();
+    let mut column = Buffer::new();
+    push_bytes(&mut text, line.format(position.line).as_bytes())?;
+    push_bytes(&mut text, b":")?;
+    push_bytes(&mut text, column.format(position.column).as_bytes())?;
+    Ok(text)
+}
+
+/// The scene of a statement that begins at this offset.
+fn statement_scene(
+    alloc: Global,
+    text: &[u8],
+    start: u32,
+    position: Position,
+    procedure: usize,
+) -> Result<Scene, AllocError>
+    requires { position ≡ position_at text.now start }
+    ensures { IfOk result (IsScene text.now (Some start)) }
+{
+    let rest = text.get(start as usize..).unwrap_or(&[]);
+    Ok(Scene {
+        place: place_text(alloc, position)?,
+        excerpt: excerpt_of(alloc, rest)?,
+        start: Some(start),
+        procedure,
+    })
+}
+
+/// The scene of the end of a procedure.
+fn end_scene(alloc: Global, name: &[u8], procedure: usize) -> Result<Scene, AllocError>
+    ensures { (text : List ℕ) → IfOk result (IsScene text None) }
+{
+    let mut place = Vec::new(alloc);
+    push_bytes(&mut place, b"-")?;
+    let mut words = Vec::new(alloc);
+    push_on_one_line(&mut words, b"end of ")?;
+    push_on_one_line(&mut words, name)?;
+    Ok(Scene {
+        place,
+        excerpt: Excerpt {
+            words,
+            reads_choice: false,
+        },
+        start: None,
+        procedure,
+    })
+}
+
+/// The name of a procedure.
+fn name_of(procs: &[Proc], procedure: usize) -> &[u8] {
+    match procs.get(procedure) {
+        Some(proc) => proc.name().text().as_bytes(),
+        None => b"",
+    }
+}
+
+/// A scene for each instruction of the program of a text, in their order.
+pub(crate) fn scenes_of(
+    alloc: Global,
+    text: &[u8],
+    checked: &Checked,
+) -> Result<Vec<Scene>, AllocError>
+    ensures { IfOk result (λ v. AreScenes text.now (starts_of checked.now) v.items) }
+{
+    let procs = checked.tree().procs();
+    let starts = places(alloc, checked)?;
+    let mut scenes = Vec::new(alloc);
+    let mut at = 0;
+    let mut position = FIRST;
+    let mut procedure = 0;
+    for start in starts.iter() {
+        if let Some(start) = *start {
+            position = position_from(text, at, position, start as usize);
+            at = start as usize;
+            scenes.push(statement_scene(alloc, text, start, position, procedure)?)?;
+        } else {
+            scenes.push(end_scene(alloc, name_of(procs, procedure), procedure)?)?;
+            procedure = procedure.saturating_add(1);
+        }
+    }
+    Ok(scenes)
+}
