@@ -18,6 +18,7 @@ use Rattle.bp_commands.specs.DriveInputs.{IsProgramDriven, IsDriveRefusal}
 use Rattle.bp_commands.specs.declared.pairs.PairFault.TheVariants as pair
 use Rattle.bp_machine.specs.declared.calls.Call.{Call}
 use Rattle.bp_machine.specs.Setups.{SetupOf}
+use Rattle.bp_commands.specs.TraceTexts.{TextRule}
 use Rattle.bp_commands.specs.TraceInputs.{IsTraceWritten, IsTraceRefusal}
 use Rattle.bp_commands.specs.declared.trace_refusals.TraceRefusal.{TraceRefusal}
 use Rattle.bp_commands.specs.declared.trace_refusals.TraceRefusal.TheVariants as trace
@@ -147,20 +148,20 @@ pub program_unbuffered : (had has old : Option (List ℕ)) (o : OptionsOf) → I
 program_unbuffered had has old o = record { bytes = old; why = inl (refl, pair_unbuffered had has MAX_SCHEDULE) }
 
 -- the same of a program and a trace
-module _ (io : PairInputs) (old : Option (List ℕ)) (text_of : Tree → SetupOf → List Call → List ℕ) where
-  pub trace_not_written : (held after : Option (List ℕ)) → held ≡ old → (f : TraceRefusal) → IsTraceRefusal io held after text_of f → IsTraceNotWritten io old text_of f
+module _ (io : PairInputs) (old : Option (List ℕ)) (is_text : TextRule) where
+  pub trace_not_written : (held after : Option (List ℕ)) → held ≡ old → (f : TraceRefusal) → IsTraceRefusal io held after is_text f → IsTraceNotWritten io old is_text f
   trace_not_written held after same f refused =
-      let moved = subst (λ x. IsTraceRefusal io x after text_of f) same refused in
+      let moved = subst (λ x. IsTraceRefusal io x after is_text f) same refused in
       record { bytes = after; why = inl moved }
 
-  pub trace_not_taken : (held after : Option (List ℕ)) → held ≡ old → (report : Report) → IsTraceWritten io held after text_of report → IsTraceNotWritten io old text_of trace.Write
+  pub trace_not_taken : (held after : Option (List ℕ)) → held ≡ old → (report : Report) → IsTraceWritten io held after is_text report → IsTraceNotWritten io old is_text trace.Write
   trace_not_taken held after same report written =
-      let moved = subst (λ x. IsTraceWritten io x after text_of report) same written in
+      let moved = subst (λ x. IsTraceWritten io x after is_text report) same written in
       record { bytes = after; why = inr (refl, (report, moved)) }
 
-  pub trace_handed_on : (held after taken : Option (List ℕ)) → held ≡ old → (report : Report) → Keeps after taken → IsTraceWritten io held after text_of report → IsTraceWritten io old taken text_of report
+  pub trace_handed_on : (held after taken : Option (List ℕ)) → held ≡ old → (report : Report) → Keeps after taken → IsTraceWritten io held after is_text report → IsTraceWritten io old taken is_text report
   trace_handed_on held after taken same report kept written =
-      let moved = subst (λ x. IsTraceWritten io x after text_of report) same written in
+      let moved = subst (λ x. IsTraceWritten io x after is_text report) same written in
       let found = moved.holds in
       record {
         text = moved.text;
@@ -171,10 +172,12 @@ module _ (io : PairInputs) (old : Option (List ℕ)) (text_of : Tree → SetupOf
           setup = found.setup;
           history = found.history;
           legal = found.legal;
+          shown = found.shown;
+          shown_is = found.shown_is;
           written = record { grown = appends_kept old after taken _ kept found.written.grown };
           report = found.report;
         };
       }
 
-pub trace_unbuffered : (had has old : Option (List ℕ)) (text_of : Tree → SetupOf → List Call → List ℕ) → IsTraceNotWritten (untouched had has) old text_of trace.Memory
-trace_unbuffered had has old text_of = record { bytes = old; why = inl (refl, pair_unbuffered had has MAX_TRACE) }
+pub trace_unbuffered : (had has old : Option (List ℕ)) (is_text : TextRule) → IsTraceNotWritten (untouched had has) old is_text trace.Memory
+trace_unbuffered had has old is_text = record { bytes = old; why = inl (refl, pair_unbuffered had has MAX_TRACE) }

@@ -1,5 +1,5 @@
 -- What replaying or migrating a trace of a program says of its text.
-use Rattle.std.proofs.Common.{◌≡◌, refl, subst, map, List, ℕ, Option}
+use Rattle.std.proofs.Common.{◌≡◌, refl, map, List, ℕ, Option}
 use Rattle.bp_code.specs.Writing.{AppendsAll, AppendsPart}
 use Rattle.bp_code.specs.Flat.{Flat}
 use Rattle.bp_tree.specs.Ast.{Program}
@@ -13,18 +13,19 @@ use Rattle.bp_trace.specs.declared.migrate_faults.MigrateFault.TheVariants as mi
 use Rattle.bp_trace.specs.Replayed.{row_of, IsReplayed}
 use Rattle.bp_trace.specs.Replays.{IsReplayRefusal}
 use Rattle.bp_trace.specs.Migrations.{IsMigrated, IsMigrateRefusal}
+use Rattle.bp_trace.specs.TraceText.{trace_text_2}
 use Rattle.bp_commands.specs.ReplayLines.{shown_text}
 use Rattle.bp_code.specs.LawfulTexts.{IsProgramCode, IsCodeRefusal}
 use Rattle.bp_commands.specs.Faults.{trace_refusal_of_code, trace_refusal_of_migration}
-use Rattle.bp_commands.specs.TraceTexts.{replay_of, migration_of, IsTraceOf, IsTraceRefused, IsTextWritten, IsTextCutShort, IsTraceTextRefusal}
+use Rattle.bp_commands.specs.TraceTexts.{TextRule, IsReplayText, IsMigrationText, IsTraceOf, IsTraceRefused, IsTextWritten, IsTextCutShort, IsTraceTextRefusal}
 use Rattle.bp_code.specs.declared.texts.CodeFault.{CodeFault}
 use Rattle.bp_code.specs.declared.texts.CodeFault.TheVariants as code
 
 -- a text without code has no trace
-pub trace_without_code : (text trace : List ℕ) (old : Option (List ℕ)) (text_of : Program → SetupOf → List Call → List ℕ) (f : CodeFault) → IsCodeRefusal text f
-    → IsTraceTextRefusal text trace old old text_of (trace_refusal_of_code f)
-trace_without_code text trace old text_of (code.Program f) found = (refl, found)
-trace_without_code text trace old text_of code.Memory found = (refl, found)
+pub trace_without_code : (text trace : List ℕ) (old : Option (List ℕ)) (is_text : TextRule) (f : CodeFault) → IsCodeRefusal text f
+    → IsTraceTextRefusal text trace old old is_text (trace_refusal_of_code f)
+trace_without_code text trace old is_text (code.Program f) found = (refl, found)
+trace_without_code text trace old is_text code.Memory found = (refl, found)
 
 module _ (text trace : List ℕ) (c : Flat) (code : IsProgramCode text c) where
   pub trace_refused : (old : Option (List ℕ)) (f : ReplayFault) → IsReplayRefusal code.program trace f → IsTraceRefused text trace old old f
@@ -39,44 +40,52 @@ module _ (text trace : List ℕ) (c : Flat) (code : IsProgramCode text c) where
       legal : IsTraceOf text trace code.program r.setup r.history.items
       legal = record { of = code.of; version = is.version; is = is.trace }
 
-      same : lines ≡ replay_of code.program r.setup r.history.items
+      same : IsReplayText text code.program r.setup r.history.items lines
       same = rw (is.printed, is.report.outcome) refl
 
-      pub replay_written : AppendsAll old new lines → IsTextWritten text trace old new replay_of r.report
+      pub replay_written : AppendsAll old new lines → IsTextWritten text trace old new IsReplayText r.report
       replay_written all = record {
         program = code.program;
         setup = r.setup;
         history = r.history.items;
         legal = legal;
-        written = subst (AppendsAll old new) same all;
+        shown = lines;
+        shown_is = same;
+        written = all;
         report = is.report;
       }
 
-      pub replay_cut_short : AppendsPart old new lines → IsTextCutShort text trace old new replay_of
+      pub replay_cut_short : AppendsPart old new lines → IsTextCutShort text trace old new IsReplayText
       replay_cut_short part = record {
         program = code.program;
         setup = r.setup;
         history = r.history.items;
         legal = legal;
-        written = subst (AppendsPart old new) same part;
+        shown = lines;
+        shown_is = same;
+        written = part;
       }
 
-    pub migration_written : (r : Report) → IsMigrated code.program trace old new r → IsTextWritten text trace old new migration_of r
+    pub migration_written : (r : Report) → IsMigrated code.program trace old new r → IsTextWritten text trace old new IsMigrationText r
     migration_written r is = record {
       program = code.program;
       setup = is.setup;
       history = is.history;
       legal = record { of = code.of; version = is.version; is = is.trace };
+      shown = trace_text_2 is.setup is.history;
+      shown_is = refl;
       written = is.written;
       report = is.report;
     }
 
-    pub migration_refused : (f : MigrateFault) → IsMigrateRefusal code.program trace old new f → IsTraceTextRefusal text trace old new migration_of (trace_refusal_of_migration f)
+    pub migration_refused : (f : MigrateFault) → IsMigrateRefusal code.program trace old new f → IsTraceTextRefusal text trace old new IsMigrationText (trace_refusal_of_migration f)
     migration_refused (migrate.Replay f) found = record { program = code.program; of = code.of; refused = found.1; written = found.0 }
     migration_refused migrate.Write found = record {
       program = code.program;
       setup = found.setup;
       history = found.history;
       legal = record { of = code.of; version = found.version; is = found.trace };
+      shown = trace_text_2 found.setup found.history;
+      shown_is = refl;
       written = found.written;
     }

@@ -11,6 +11,7 @@ use Rattle.bp_commands.specs.Bundles.{IsBundleDriven, IsBundleRefusal}
 use Rattle.bp_commands.specs.Drives.{OptionsOf}
 use Rattle.bp_commands.specs.Pairs.{PairInputs}
 use Rattle.bp_commands.specs.DriveInputs.{IsProgramDriven, IsDriveRefusal}
+use Rattle.bp_commands.specs.TraceTexts.{TextRule}
 use Rattle.bp_commands.specs.TraceInputs.{IsTraceWritten, IsTraceRefusal}
 use Rattle.bp_run.specs.Options as run_options
 use Rattle.bp_run.specs.declared.run_faults.RunFault.TheVariants as run
@@ -94,9 +95,9 @@ IsProgramNotRun ends o =
 
 -- a trace was not replayed or migrated through a buffer, as the text of a history is
 abbrev pub IsTraceNotWritten
-    : PairInputs → Option (List ℕ) → (Program → SetupOf → List Call → List ℕ) → TraceRefusal
+    : PairInputs → Option (List ℕ) → TextRule → TraceRefusal
     → Type 0
-IsTraceNotWritten io old text_of =
+IsTraceNotWritten io old is_text =
     IsNotDone trace.Write
-    (λ bytes. IsTraceWritten io old bytes text_of)
-    (λ bytes. IsTraceRefusal io old bytes text_of)
+    (λ bytes. IsTraceWritten io old bytes is_text)
+    (λ bytes. IsTraceRefusal io old bytes is_text)

@@ -17,3 +17,4 @@ pub mod SetupsUnderOptions
 pub mod Statuses
 pub mod TraceInputs
 pub mod TraceTexts
+pub mod Views

@@ -17,13 +17,18 @@ use Rattle.bp_code.specs.declared.texts.CodeFault.TheVariants as code
 use Rattle.bp_commands.specs.declared.trace_refusals.TraceRefusal.{TraceRefusal}
 use Rattle.bp_commands.specs.declared.trace_refusals.TraceRefusal.TheVariants as refusal
 
+-- What a command writes of a history, as a rule on the program text, the program, the setup, the
+-- history and what is written of them.
+abbrev pub TextRule : Type 1
+TextRule = List ℕ → Program → SetupOf → List Call → List ℕ → Type 0
+
 -- what a replay shows of a history: what its steps printed, and its outcome
-abbrev pub replay_of : Program → SetupOf → List Call → List ℕ
-replay_of t s h = shown_text (printed_rows t s h) (outcome_of h)
+abbrev pub IsReplayText : TextRule
+IsReplayText text t s h written = written ≡ shown_text (printed_rows t s h) (outcome_of h)
 
 -- the trace of version 2 of a history
-abbrev pub migration_of : Program → SetupOf → List Call → List ℕ
-migration_of t s h = trace_text_2 s h
+abbrev pub IsMigrationText : TextRule
+IsMigrationText text t s h written = written ≡ trace_text_2 s h
 
 -- the text has this lawful program, and the trace is that of a legal history of it
 pub record IsTraceOf
@@ -41,15 +46,17 @@ module _ (text trace : List ℕ) (old new : Option (List ℕ)) where
     pub refused : IsReplayRefusal program trace f
     pub written : new ≡ old
 
-  -- The command writes this text of a history.
-  module _ (text_of : Program → SetupOf → List Call → List ℕ) where
+  -- The command writes such a text of a history.
+  module _ (is_text : TextRule) where
     -- it was written, and the history is reported
     pub record IsTextWritten (r : Report) : Type 0 where
       pub program : Program
       pub setup : SetupOf
       pub history : List Call
       pub legal : IsTraceOf text trace program setup history
-      pub written : AppendsAll old new (text_of program setup history)
+      pub shown : List ℕ
+      pub shown_is : is_text text program setup history shown
+      pub written : AppendsAll old new shown
       pub report : IsReport setup history r
 
     -- a proper prefix of it was written
@@ -58,7 +65,9 @@ module _ (text trace : List ℕ) (old new : Option (List ℕ)) where
       pub setup : SetupOf
       pub history : List Call
       pub legal : IsTraceOf text trace program setup history
-      pub written : AppendsPart old new (text_of program setup history)
+      pub shown : List ℕ
+      pub shown_is : is_text text program setup history shown
+      pub written : AppendsPart old new shown
 
     -- why a text and a trace are refused, and what was written: the first of these that applies
     abbrev pub IsTraceTextRefusal : TraceRefusal → Type 0

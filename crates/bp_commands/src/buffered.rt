@@ -10,8 +10,9 @@ ghost use Rattle.bp_commands.specs.Checks.{check_line};
 ghost use Rattle.bp_commands.specs.Listings.{listing_of};
 ghost use Rattle.bp_commands.specs.Pairs.{PairInputs};
 ghost use Rattle.bp_commands.specs.DriveInputs.{IsProgramDriven};
-ghost use Rattle.bp_commands.specs.TraceTexts.{migration_of, replay_of};
+ghost use Rattle.bp_commands.specs.TraceTexts.{IsMigrationText, IsReplayText};
 ghost use Rattle.bp_commands.specs.TraceInputs.{IsTraceWritten};
+ghost use Rattle.bp_commands.specs.Views.{IsViewText};
 ghost use Rattle.bp_commands.specs.Buffered.{Ends, IsWrittenTo, IsNotWritten, IsBundleDrivenTo, IsBundleNotDriven, IsProgramNotDriven, IsTraceNotWritten, IsProgramRunTo, IsProgramNotRun};
 
 use crate::bundle::drive_bundle;
@@ -26,9 +27,11 @@ use crate::replay::replay_program;
 use crate::run::run_program;
 use crate::run_refusals::RunRefusal;
 use crate::trace_refusals::TraceRefusal;
+use crate::view::view_program;
 use bp_code::WriteFault;
 use bp_machine::Report;
 use bp_run::{Gate, RunFault, RunOptions};
+use bp_view::ViewOptions;
 use std::alloc::Global;
 use std::io::{BufWriter, Read, Write};
 use std::sync::Wait;
@@ -163,8 +166,8 @@ pub fn replay_buffered<R: Read, S: Read, W: Write + Drop>(
     } in
         let old = W.contents output in
         MatchResult result
-        (λ r. IsTraceWritten io old (W.contents r.1) replay_of r.0)
-        (IsTraceNotWritten io old replay_of) }
+        (λ r. IsTraceWritten io old (W.contents r.1) IsReplayText r.0)
+        (IsTraceNotWritten io old IsReplayText) }
     ensures text { let most = TEXT_LIMIT + 1 in
         TookAtMost (R.remaining program.old) (R.remaining program.new) most }
     ensures lines { let most = MAX_TRACE + 1 in
@@ -174,6 +177,36 @@ pub fn replay_buffered<R: Read, S: Read, W: Write + Drop>(
         return Err(TraceRefusal::Memory);
     };
     let report = replay_program(alloc, program, trace, &mut out)?;
+    Ok((report, hand_on(out)?))
+}
+
+/// Shows a trace as `view_program` does, and gives back the output, which has the view.
+pub fn view_buffered<R: Read, S: Read, W: Write + Drop>(
+    alloc: Global,
+    options: ViewOptions,
+    program: &mut R,
+    trace: &mut S,
+    output: W,
+) -> Result<(Report, W), TraceRefusal>
+    ensures answer { let io : PairInputs = record {
+      program_before = R.remaining program.old;
+      program_after = R.remaining program.new;
+      input_before = S.remaining trace.old;
+      input_after = S.remaining trace.new;
+    } in
+        let old = W.contents output in
+        MatchResult result
+        (λ r. IsTraceWritten io old (W.contents r.1) (IsViewText options) r.0)
+        (IsTraceNotWritten io old (IsViewText options)) }
+    ensures text { let most = TEXT_LIMIT + 1 in
+        TookAtMost (R.remaining program.old) (R.remaining program.new) most }
+    ensures lines { let most = MAX_TRACE + 1 in
+        TookAtMost (S.remaining trace.old) (S.remaining trace.new) most }
+{
+    let Ok(mut out) = BufWriter::new(alloc, output) else {
+        return Err(TraceRefusal::Memory);
+    };
+    let report = view_program(alloc, options, program, trace, &mut out)?;
     Ok((report, hand_on(out)?))
 }
 
@@ -193,8 +226,8 @@ pub fn migrate_buffered<R: Read, S: Read, W: Write + Drop>(
     } in
         let old = W.contents output in
         MatchResult result
-        (λ r. IsTraceWritten io old (W.contents r.1) migration_of r.0)
-        (IsTraceNotWritten io old migration_of) }
+        (λ r. IsTraceWritten io old (W.contents r.1) IsMigrationText r.0)
+        (IsTraceNotWritten io old IsMigrationText) }
     ensures text { let most = TEXT_LIMIT + 1 in
         TookAtMost (R.remaining program.old) (R.remaining program.new) most }
     ensures lines { let most = MAX_TRACE + 1 in

@@ -22,10 +22,11 @@ mod run;
 mod run_refusals;
 mod statuses;
 mod trace_refusals;
+mod view;
 
 pub use buffered::{
     check_buffered, drive_buffered, drive_program_buffered, list_buffered, migrate_buffered,
-    replay_buffered, run_buffered,
+    replay_buffered, run_buffered, view_buffered,
 };
 pub use bundle::drive_bundle;
 pub use check::{check_text, show_check};
@@ -46,3 +47,4 @@ pub use run::run_program;
 pub use run_refusals::RunRefusal;
 pub use statuses::exit_status;
 pub use trace_refusals::TraceRefusal;
+pub use view::{view_program, view_text};

@@ -4,7 +4,7 @@ ghost use Rattle.bp_syntax.specs.declared.limits.TheConstants.{TEXT_LIMIT};
 ghost use Rattle.bp_trace.specs.declared.limits.TheConstants.{MAX_TRACE};
 ghost use Rattle.bp_commands.specs.Inputs.{TookAtMost};
 ghost use Rattle.bp_commands.specs.Pairs.{PairInputs};
-ghost use Rattle.bp_commands.specs.TraceTexts.{migration_of, IsTextWritten, IsTraceTextRefusal};
+ghost use Rattle.bp_commands.specs.TraceTexts.{IsMigrationText, IsTextWritten, IsTraceTextRefusal};
 ghost use Rattle.bp_commands.specs.TraceInputs.{IsTraceWritten, IsTraceRefusal};
 
 use crate::pairs::read_pair;
@@ -28,8 +28,8 @@ pub fn migrate_text<W: Write>(
     ensures { let old = W.contents out.old in
         let new = W.contents out.new in
         MatchResult result
-        (IsTextWritten text.now trace.now old new migration_of)
-        (IsTraceTextRefusal text.now trace.now old new migration_of) }
+        (IsTextWritten text.now trace.now old new IsMigrationText)
+        (IsTraceTextRefusal text.now trace.now old new IsMigrationText) }
 {
     let code = code_of(alloc, text)?;
     let report = migrate(alloc, &code, trace, out)?;
@@ -55,8 +55,8 @@ pub fn migrate_program<R: Read, S: Read, W: Write>(
         let old = W.contents out.old in
         let new = W.contents out.new in
         MatchResult result
-        (IsTraceWritten io old new migration_of)
-        (IsTraceRefusal io old new migration_of) }
+        (IsTraceWritten io old new IsMigrationText)
+        (IsTraceRefusal io old new IsMigrationText) }
     ensures text { let most = TEXT_LIMIT + 1 in
         TookAtMost (R.remaining program.old) (R.remaining program.new) most }
     ensures lines { let most = MAX_TRACE + 1 in

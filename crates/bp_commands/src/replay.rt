@@ -4,7 +4,7 @@ ghost use Rattle.bp_syntax.specs.declared.limits.TheConstants.{TEXT_LIMIT};
 ghost use Rattle.bp_trace.specs.declared.limits.TheConstants.{MAX_TRACE};
 ghost use Rattle.bp_commands.specs.Inputs.{TookAtMost};
 ghost use Rattle.bp_commands.specs.Pairs.{PairInputs};
-ghost use Rattle.bp_commands.specs.TraceTexts.{replay_of, IsTextWritten, IsTraceTextRefusal};
+ghost use Rattle.bp_commands.specs.TraceTexts.{IsReplayText, IsTextWritten, IsTraceTextRefusal};
 ghost use Rattle.bp_commands.specs.TraceInputs.{IsTraceWritten, IsTraceRefusal};
 
 use crate::pairs::read_pair;
@@ -29,8 +29,8 @@ pub fn replay_text<W: Write>(
     ensures { let old = W.contents out.old in
         let new = W.contents out.new in
         MatchResult result
-        (IsTextWritten text.now trace.now old new replay_of)
-        (IsTraceTextRefusal text.now trace.now old new replay_of) }
+        (IsTextWritten text.now trace.now old new IsReplayText)
+        (IsTraceTextRefusal text.now trace.now old new IsReplayText) }
 {
     let code = code_of(alloc, text)?;
     let replayed = replay(alloc, &code, trace)?;
@@ -56,8 +56,8 @@ pub fn replay_program<R: Read, S: Read, W: Write>(
         let old = W.contents out.old in
         let new = W.contents out.new in
         MatchResult result
-        (IsTraceWritten io old new replay_of)
-        (IsTraceRefusal io old new replay_of) }
+        (IsTraceWritten io old new IsReplayText)
+        (IsTraceRefusal io old new IsReplayText) }
     ensures text { let most = TEXT_LIMIT + 1 in
         TookAtMost (R.remaining program.old) (R.remaining program.new) most }
     ensures lines { let most = MAX_TRACE + 1 in

@@ -8,6 +8,7 @@ mod faults;
 mod migrate;
 mod replay;
 mod run;
+mod view;
 
 use crate::texts::names;
 use bp_commands::{DriveOptions, DriveRefusal, FileFault, TraceRefusal};

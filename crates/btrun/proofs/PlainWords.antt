@@ -13,10 +13,10 @@ use Rattle.bp_commands.specs.Drives.{OptionsOf, options_of, defaults}
 use Rattle.bp_run.specs.Options as runs
 use Rattle.bp_commands.specs.RunInputs.{run_defaults}
 use Rattle.bp_commands.specs.declared.limits.TheConstants.{DEFAULT_CONTEXTS, DEFAULT_CALLS, DEFAULT_TURN, DEFAULT_SEED, DEFAULT_RING}
-use Rattle.btrun.specs.Commands.{btrun_app, is_plain, words_fault, IsCheckOf, IsCodeOf, IsMigrateOf, IsPlainDriveOf, IsPlainRunOf, IsReplayOf, IsTaskOf}
+use Rattle.btrun.specs.Commands.{btrun_app, is_plain, words_fault, IsCheckOf, IsCodeOf, IsMigrateOf, IsPlainDriveOf, IsPlainRunOf, IsPlainShowOf, IsReplayOf, IsTaskOf}
 use Rattle.btrun.specs.Values.{init_fault}
 use Rattle.btrun.specs.declared.commands.Task.{Task}
-use Rattle.btrun.specs.declared.commands.Task.TheVariants.{Bundle, Check, Code, Drive, Run, Replay, Migrate}
+use Rattle.btrun.specs.declared.commands.Task.TheVariants.{Bundle, Check, Code, Drive, Run, Replay, Show, Migrate}
 
 -- words that `clap` takes have no fault where the command's initial bits have none
 no_fault : (words : List Text) (command : Option (Text × List Row)) → fault_of btrun_app words ≡ [] → subcommand_of btrun_app words ≡ command → init_fault command ≡ [] → words_fault words ≡ []
@@ -94,6 +94,24 @@ run≢replay same = let heads = ap (λ t. get_or t 1 0) same in absurd (omega (a
 run≢migrate : codes "run" ≡ codes "migrate" → ⊥
 run≢migrate same = let heads = ap (λ t. get_or t 0 0) same in absurd (omega (arith, heads))
 
+check≢show : codes "check" ≡ codes "show" → ⊥
+check≢show same = let heads = ap (λ t. get_or t 0 0) same in absurd (omega (arith, heads))
+
+code≢show : codes "code" ≡ codes "show" → ⊥
+code≢show same = let heads = ap (λ t. get_or t 0 0) same in absurd (omega (arith, heads))
+
+drive≢show : codes "drive" ≡ codes "show" → ⊥
+drive≢show same = let heads = ap (λ t. get_or t 0 0) same in absurd (omega (arith, heads))
+
+run≢show : codes "run" ≡ codes "show" → ⊥
+run≢show same = let heads = ap (λ t. get_or t 0 0) same in absurd (omega (arith, heads))
+
+replay≢show : codes "replay" ≡ codes "show" → ⊥
+replay≢show same = let heads = ap (λ t. get_or t 0 0) same in absurd (omega (arith, heads))
+
+show≢migrate : codes "show" ≡ codes "migrate" → ⊥
+show≢migrate same = let heads = ap (λ t. get_or t 0 0) same in absurd (omega (arith, heads))
+
 -- the row of an argument that has one value
 abbrev given : Text → Text → Row
 given id text = record { id = id; values = text ∷ []; count = None; source = Some CommandLine; reading = AsWritten }
@@ -130,6 +148,7 @@ check_of file (Code path) asks = absurd (check≢code asks.0)
 check_of file (Drive words) asks = absurd (check≢drive asks.0)
 check_of file (Run words) asks = absurd (check≢run asks.0)
 check_of file (Replay words) asks = absurd (check≢replay asks.0)
+check_of file (Show words) asks = absurd (check≢show asks.0)
 check_of file (Migrate words) asks = absurd (check≢migrate asks.0)
 
 pub check_asked : (program file : Text) (task : Task) → is_plain file ≡ true → IsTaskOf (subcommand_of btrun_app (check_words program file)) task → IsCheckOf file task
@@ -158,6 +177,7 @@ code_of file (Check path) asks = absurd (check≢code (sym asks.0))
 code_of file (Drive words) asks = absurd (code≢drive asks.0)
 code_of file (Run words) asks = absurd (code≢run asks.0)
 code_of file (Replay words) asks = absurd (code≢replay asks.0)
+code_of file (Show words) asks = absurd (code≢show asks.0)
 code_of file (Migrate words) asks = absurd (code≢migrate asks.0)
 
 pub code_asked : (program file : Text) (task : Task) → is_plain file ≡ true → IsTaskOf (subcommand_of btrun_app (code_words program file)) task → IsCodeOf file task
@@ -194,6 +214,7 @@ drive_of file schedule (Code path) asks = absurd (code≢drive (sym asks.0))
 drive_of file schedule (Drive words) (named, of) = (of.program, of.schedule, options_are words.options of.entries of.init of.contexts of.calls)
 drive_of file schedule (Run words) asks = absurd (drive≢run asks.0)
 drive_of file schedule (Replay words) asks = absurd (drive≢replay asks.0)
+drive_of file schedule (Show words) asks = absurd (drive≢show asks.0)
 drive_of file schedule (Migrate words) asks = absurd (drive≢migrate asks.0)
 
 pub drive_asked : (program file schedule : Text) (task : Task) → is_plain file ≡ true → is_plain schedule ≡ true → IsTaskOf (subcommand_of btrun_app (drive_words program file schedule)) task → IsPlainDriveOf file schedule task
@@ -238,6 +259,7 @@ run_of file (Code path) asks = absurd (code≢run (sym asks.0))
 run_of file (Drive words) asks = absurd (drive≢run (sym asks.0))
 run_of file (Run words) (named, of) = (of.program, of.spread.1 refl, run_options_are words.options of.entries of.init of.contexts of.calls of.turn of.seed of.ring)
 run_of file (Replay words) asks = absurd (run≢replay asks.0)
+run_of file (Show words) asks = absurd (run≢show asks.0)
 run_of file (Migrate words) asks = absurd (run≢migrate asks.0)
 
 pub run_asked : (program file : Text) (task : Task) → is_plain file ≡ true → IsTaskOf (subcommand_of btrun_app (run_words program file)) task → IsPlainRunOf file task
@@ -270,11 +292,43 @@ replay_of file trace (Code path) asks = absurd (code≢replay (sym asks.0))
 replay_of file trace (Drive words) asks = absurd (drive≢replay (sym asks.0))
 replay_of file trace (Run words) asks = absurd (run≢replay (sym asks.0))
 replay_of file trace (Replay words) (named, of) = (of.program, of.trace)
+replay_of file trace (Show words) asks = absurd (replay≢show asks.0)
 replay_of file trace (Migrate words) asks = absurd (replay≢migrate asks.0)
 
 pub replay_asked : (program file trace : Text) (task : Task) → is_plain file ≡ true → is_plain trace ≡ true → IsTaskOf (subcommand_of btrun_app (replay_words program file trace)) task → IsReplayOf file trace task
 replay_asked program file trace task plain even asks =
     replay_of file trace task (subst (λ c. IsTaskOf c task) (replay_named program file trace (is_word file plain) (is_word trace even)) asks)
+
+abbrev show_words : Text → Text → Text → List Text
+show_words program file trace = program ∷ codes "show" ∷ file ∷ trace ∷ []
+
+show_named : (program file trace : Text) → IsWord file → IsWord trace → subcommand_of btrun_app (show_words program file trace) ≡ Some (codes "show", trace_rows file trace)
+unfolding clap_on_literals
+show_named program file trace (no_end, no_long, no_short) (none_ends, none_long, none_short) = rw (no_end, no_long, no_short, none_ends, none_long, none_short) refl
+
+show_clean : (program file trace : Text) → IsWord file → IsWord trace → fault_of btrun_app (show_words program file trace) ≡ []
+unfolding clap_on_literals
+show_clean program file trace (no_end, no_long, no_short) (none_ends, none_long, none_short) = rw (no_end, no_long, no_short, none_ends, none_long, none_short) refl
+
+pub show_faulty : (program file trace : Text) → is_plain file ≡ true → is_plain trace ≡ true → words_fault (show_words program file trace) ≡ []
+show_faulty program file trace plain even =
+    let word = is_word file plain in
+    let other = is_word trace even in
+    no_fault (show_words program file trace) (Some (codes "show", trace_rows file trace)) (show_clean program file trace word other) (show_named program file trace word other) refl
+
+show_of : (file trace : Text) (task : Task) → IsTaskOf (Some (codes "show", trace_rows file trace)) task → IsPlainShowOf file trace task
+show_of file trace Bundle asks = absurd asks
+show_of file trace (Check path) asks = absurd (check≢show (sym asks.0))
+show_of file trace (Code path) asks = absurd (code≢show (sym asks.0))
+show_of file trace (Drive words) asks = absurd (drive≢show (sym asks.0))
+show_of file trace (Run words) asks = absurd (run≢show (sym asks.0))
+show_of file trace (Replay words) asks = absurd (replay≢show (sym asks.0))
+show_of file trace (Show words) (named, of) = (of.program, of.trace, of.thread, of.last)
+show_of file trace (Migrate words) asks = absurd (show≢migrate asks.0)
+
+pub show_asked : (program file trace : Text) (task : Task) → is_plain file ≡ true → is_plain trace ≡ true → IsTaskOf (subcommand_of btrun_app (show_words program file trace)) task → IsPlainShowOf file trace task
+show_asked program file trace task plain even asks =
+    show_of file trace task (subst (λ c. IsTaskOf c task) (show_named program file trace (is_word file plain) (is_word trace even)) asks)
 
 abbrev migrate_words : Text → Text → Text → List Text
 migrate_words program file trace = program ∷ codes "migrate" ∷ file ∷ trace ∷ []
@@ -299,6 +353,7 @@ migrate_of file trace (Check path) asks = absurd (check≢migrate (sym asks.0))
 migrate_of file trace (Code path) asks = absurd (code≢migrate (sym asks.0))
 migrate_of file trace (Drive words) asks = absurd (drive≢migrate (sym asks.0))
 migrate_of file trace (Run words) asks = absurd (run≢migrate (sym asks.0))
+migrate_of file trace (Show words) asks = absurd (show≢migrate (sym asks.0))
 migrate_of file trace (Migrate words) (named, of) = (of.program, of.trace)
 migrate_of file trace (Replay words) asks = absurd (replay≢migrate (sym asks.0))
 

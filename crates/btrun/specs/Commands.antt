@@ -13,10 +13,11 @@ use Rattle.bp_commands.specs.RunInputs.{run_defaults}
 use Rattle.btrun.specs.Values.{value_of, init_fault}
 use Rattle.btrun.specs.DriveWords.{IsDriveOf}
 use Rattle.btrun.specs.RunWords.{IsRunOf}
+use Rattle.btrun.specs.ShowWords.{IsShowOf}
 use Rattle.btrun.specs.TraceWords.{IsTraceWordsOf}
 use Rattle.btrun.specs.declared.commands.trace.TraceWords.{TraceWords}
 use Rattle.btrun.specs.declared.commands.Task.{Task}
-use Rattle.btrun.specs.declared.commands.Task.TheVariants.{Bundle, Check, Code, Drive, Run, Replay, Migrate}
+use Rattle.btrun.specs.declared.commands.Task.TheVariants.{Bundle, Check, Code, Drive, Run, Replay, Show, Migrate}
 
 -- an argument that has to be there
 abbrev pub required_rule : Text → Rule
@@ -98,6 +99,14 @@ trace_app name = with_rule (file_app name) (required_rule (codes "TRACE"))
 abbrev pub replay_app : App
 replay_app = trace_app (codes "replay")
 
+-- `show FILE TRACE [--thread N] [--last N]`
+abbrev pub show_app : App
+show_app =
+    with_rules (trace_app (codes "show")) (
+    number_rule (codes "thread")
+    ∷ long_number_rule (codes "last")
+    ∷ [])
+
 -- `migrate FILE TRACE`
 abbrev pub migrate_app : App
 migrate_app = trace_app (codes "migrate")
@@ -115,7 +124,7 @@ with_commands a (c ∷ cs) = with_commands (with_subcommand a c.top) cs
 abbrev pub btrun_app : App
 btrun_app =
     with_commands program_app
-    (check_app ∷ code_app ∷ drive_app ∷ run_app ∷ replay_app ∷ migrate_app ∷ [])
+    (check_app ∷ code_app ∷ drive_app ∷ run_app ∷ replay_app ∷ show_app ∷ migrate_app ∷ [])
 
 -- the command has this name, and its file is the path
 abbrev pub IsOfFile : Text → Text → List Row → Text → Type 0
@@ -129,7 +138,8 @@ IsNamed name =
     ⊎ ((name ≡ codes "drive")
     ⊎ ((name ≡ codes "run")
     ⊎ ((name ≡ codes "replay")
-    ⊎ (name ≡ codes "migrate")))))
+    ⊎ ((name ≡ codes "show")
+    ⊎ (name ≡ codes "migrate"))))))
 
 -- the words name no command, or one of those that there are
 abbrev pub IsOurs : Option (Text × List Row) → Type 0
@@ -144,6 +154,7 @@ IsAsked name rows (Code path) = IsOfFile (codes "code") name rows path.now
 IsAsked name rows (Drive words) = (name ≡ codes "drive") × IsDriveOf rows words
 IsAsked name rows (Run words) = (name ≡ codes "run") × IsRunOf rows words
 IsAsked name rows (Replay words) = (name ≡ codes "replay") × IsTraceWordsOf rows words
+IsAsked name rows (Show words) = (name ≡ codes "show") × IsShowOf rows words
 IsAsked name rows (Migrate words) = (name ≡ codes "migrate") × IsTraceWordsOf rows words
 
 -- what the words ask for, by the command that they name
@@ -190,6 +201,15 @@ HasFiles file trace words = (words.program.now ≡ file) × (words.trace.now ≡
 abbrev pub IsReplayOf : Text → Text → Task → Type 0
 IsReplayOf file trace (Replay words) = HasFiles file trace words
 IsReplayOf file trace task = ⊥
+
+-- the task is to show all calls of this trace of the program of this file
+abbrev pub IsPlainShowOf : Text → Text → Task → Type 0
+IsPlainShowOf file trace (Show words) =
+    (words.program.now ≡ file)
+    × (words.trace.now ≡ trace)
+    × (words.thread ≡ None)
+    × (words.last ≡ None)
+IsPlainShowOf file trace task = ⊥
 
 -- the task is to migrate this trace of the program of this file
 abbrev pub IsMigrateOf : Text → Text → Task → Type 0

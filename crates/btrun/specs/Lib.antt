@@ -1,6 +1,7 @@
 pub mod Commands
 pub mod DriveWords
 pub mod RunWords
+pub mod ShowWords
 pub mod Statuses
 pub mod TraceWords
 pub mod Values

@@ -24,6 +24,13 @@ IsNumberOf bits default (Some text) n =
     (IsNumberText bits text × (n ≡ digits_value 10 (without_leading_plus text)))
     ⊎ ((IsNumberText bits text → ⊥) × (n ≡ default))
 
+-- the number of a text, and none where none is given or the text is no such number
+abbrev pub IsNumberIn : ℕ → Option Text → Option ℕ → Type 0
+IsNumberIn bits None n = n ≡ None
+IsNumberIn bits (Some text) (Some n) =
+    IsNumberText bits text × (n ≡ digits_value 10 (without_leading_plus text))
+IsNumberIn bits (Some text) None = IsNumberText bits text → ⊥
+
 -- a flag is up where it is given; `clap` has a text for either
 abbrev pub IsFlagOf : Option Text → Bool → Type 0
 IsFlagOf text flag =

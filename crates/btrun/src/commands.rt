@@ -2,11 +2,12 @@
 ghost use Rattle.std.specs.Prelude.{◌≡◌, true, false, ℕ, List, [], ◌∷◌, map, codes, string_bytes, IfOk, MatchResult};
 ghost use Rattle.clap.specs.Words.{FailsBy, app_of, kind_of, subcommand_of, subcommand_rows_of};
 ghost use Rattle.clap.specs.declared.builder.command.Command.TheViews.{out-Command};
-ghost use Rattle.btrun.specs.Commands.{btrun_app, file_app, is_plain, program_app, words_fault, IsOurs, IsCheckOf, IsCodeOf, IsMigrateOf, IsPlainDriveOf, IsPlainRunOf, IsReplayOf, IsTaskOf};
+ghost use Rattle.btrun.specs.Commands.{btrun_app, file_app, is_plain, program_app, words_fault, IsOurs, IsCheckOf, IsCodeOf, IsMigrateOf, IsPlainDriveOf, IsPlainRunOf, IsPlainShowOf, IsReplayOf, IsTaskOf};
 
 mod arguments;
 mod drive;
 mod run;
+mod show;
 mod trace;
 mod values;
 
@@ -17,6 +18,8 @@ pub use drive::DriveWords;
 use drive::{drive_command, drive_words};
 pub use run::RunWords;
 use run::{run_command, run_words};
+pub use show::ShowWords;
+use show::{show_command, show_words};
 use std::alloc::{AllocError, Global};
 pub use trace::TraceWords;
 use trace::{MIGRATE_ABOUT, MIGRATE_NOTES, REPLAY_ABOUT, REPLAY_NOTES, trace_command, trace_words};
@@ -40,6 +43,8 @@ pub enum Task<'a> {
     Run(RunWords<'a>),
     /// Replay a trace of the program of a file.
     Replay(TraceWords<'a>),
+    /// Show a trace of the program of a file.
+    Show(ShowWords<'a>),
     /// Migrate a trace of the program of a file.
     Migrate(TraceWords<'a>),
 }
@@ -51,7 +56,7 @@ const NOTES: &str = "\
     1000 calls are allowed. The trace of the run is printed.\n\n\
     Examples:\n  btrun < FILE\n  btrun check FILE\n  btrun code FILE\n  \
     btrun drive FILE SCHEDULE\n  btrun run FILE\n  btrun replay FILE TRACE\n  \
-    btrun migrate FILE TRACE\n\n\
+    btrun show FILE TRACE\n  btrun migrate FILE TRACE\n\n\
     Exit status:\n  0  done, and no assertion failed\n  1  an assertion failed\n  \
     2  the input or the words were refused\n  3  memory, a device or the output failed";
 
@@ -120,6 +125,7 @@ fn command<'a>(alloc: Global) -> Result<Command<'a>, AllocError>
         .subcommand(drive_command(alloc)?)?
         .subcommand(run_command(alloc)?)?
         .subcommand(trace_command(alloc, "replay", REPLAY_ABOUT, REPLAY_NOTES)?)?
+        .subcommand(show_command(alloc)?)?
         .subcommand(trace_command(alloc, "migrate", MIGRATE_ABOUT, MIGRATE_NOTES)?)
 }
 
@@ -135,6 +141,7 @@ fn task_of<'a>(alloc: Global, matches: &ArgMatches<'a>) -> Result<Task<'a>, Allo
         Some(("drive", words)) => Ok(Task::Drive(drive_words(alloc, words)?)),
         Some(("run", words)) => Ok(Task::Run(run_words(alloc, words)?)),
         Some(("replay", words)) => Ok(Task::Replay(trace_words(words))),
+        Some(("show", words)) => Ok(Task::Show(show_words(words))),
         Some(("migrate", words)) => Ok(Task::Migrate(trace_words(words))),
         _ => Ok(Task::Bundle),
     }
@@ -173,6 +180,11 @@ pub fn read_words<'a>(alloc: Global, words: &'a [String]) -> Result<Task<'a>, Er
         → is_plain trace ≡ true
         → map string_bytes words.now ≡ program ∷ codes "replay" ∷ file ∷ trace ∷ []
         → MatchResult result (IsReplayOf file trace) (λ e. kind_of e ≡ ErrorKind.OutOfMemory) }
+    ensures show { (program file trace : List ℕ)
+        → is_plain file ≡ true
+        → is_plain trace ≡ true
+        → map string_bytes words.now ≡ program ∷ codes "show" ∷ file ∷ trace ∷ []
+        → MatchResult result (IsPlainShowOf file trace) (λ e. kind_of e ≡ ErrorKind.OutOfMemory) }
     ensures migrate { (program file trace : List ℕ)
         → is_plain file ≡ true
         → is_plain trace ≡ true

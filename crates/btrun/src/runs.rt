@@ -4,6 +4,7 @@ mod bundle;
 mod drive;
 mod files;
 mod inputs;
+mod show;
 mod trace;
 mod usage;
 mod workers;
@@ -28,6 +29,7 @@ fn run_words<T: Threads + Wait + Clock + Sync>(
         Ok(Task::Drive(words)) => drive::drive_files(rt, &words),
         Ok(Task::Run(words)) => workers::run_file(rt, threads, &words),
         Ok(Task::Replay(words)) => trace::replay_files(rt, &words),
+        Ok(Task::Show(words)) => show::show_files(rt, &words),
         Ok(Task::Migrate(words)) => trace::migrate_files(rt, &words),
         Err(error) => usage::explain(rt, &error, &mut rt.stderr()),
     }

@@ -1,9 +1,10 @@
 //! What the commands do: a refusal of memory is 7, and writes nothing.
 use super::ready::{PROGRAM, entries, output};
 use super::{tell, wants};
+use crate::view::ALL;
 use bp_commands::{
     DriveOptions, check_text, drive_bundle, drive_program, list_program, migrate_program,
-    replay_program, run_program,
+    replay_program, run_program, view_program,
 };
 use bp_run::{Open, RunOptions};
 use std::alloc::{AllocError, Global};
@@ -20,6 +21,7 @@ enum Command {
     Bundle,
     Drive,
     Replay,
+    Show,
     Migrate,
 }
 
@@ -54,6 +56,9 @@ fn number(
             .err()
             .map(|e| e.number()),
         Command::Replay => replay_program(alloc, &mut program, &mut trace, out)
+            .err()
+            .map(|e| e.number()),
+        Command::Show => view_program(alloc, ALL, &mut program, &mut trace, out)
             .err()
             .map(|e| e.number()),
         Command::Migrate => migrate_program(alloc, &mut program, &mut trace, out)
@@ -108,6 +113,14 @@ fn replay_a_trace(rt: HostRuntime) -> Result<(), Fail> {
     tell(
         &rt,
         writes(rt.alloc(), Command::Replay, b"outcome clean\n")?,
+    )
+}
+
+#[test]
+fn show_a_trace(rt: HostRuntime) -> Result<(), Fail> {
+    tell(
+        &rt,
+        writes(rt.alloc(), Command::Show, b"no assertion failed\n")?,
     )
 }
 

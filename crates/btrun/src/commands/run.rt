@@ -20,7 +20,7 @@ use std::alloc::{AllocError, Global};
 pub struct RunWords<'a> {
     /// The file of the program.
     pub program: &'a str,
-    /// Whether the workers start together and give way at random.
+    /// Whether the workers start together and take turns as they are drawn.
     pub spread: bool,
     /// What the run starts from.
     pub options: RunOptions,
@@ -52,7 +52,7 @@ pub fn run_command<'a>(alloc: Global) -> Result<Command<'a>, AllocError>
     let turn = "How many calls a worker makes in a turn, 1 to 64 [default: 1]";
     let init = "The initial bits of the globals, each 0 or 1 [default: all 0]";
     let ring = "How many calls wait to be printed, 1 to 65536 [default: 1024]";
-    let spread = "The workers start together and give way at random, so that runs differ";
+    let spread = "The workers start together and take turns as they are drawn, so that runs differ";
     file_command(alloc, "run", ABOUT, NOTES)?
         .arg(values(alloc, "ENTRY", entries))?
         .arg(long_number_option(alloc, "seed", seed))?

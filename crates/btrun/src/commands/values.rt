@@ -1,7 +1,7 @@
 //! The values of arguments.
 ghost use Rattle.std.specs.Prelude.{◌≡◌, codes, map, string_bytes, option_map, IfOk};
 ghost use Rattle.clap.specs.Words.{first_of, found_of, one_of, rows_of, subcommand_rows_of};
-ghost use Rattle.btrun.specs.Values.{bits_in, entries_in, has_bad_bits, has_bad_init, is_bits, IsFlagOf, IsNumberOf};
+ghost use Rattle.btrun.specs.Values.{bits_in, entries_in, has_bad_bits, has_bad_init, is_bits, IsFlagOf, IsNumberIn, IsNumberOf};
 
 use bp_commands::limits::DEFAULT_ENTRY;
 use clap::ArgMatches;
@@ -72,6 +72,20 @@ pub fn long_number(words: &ArgMatches<'_>, name: &str, default: u64) -> u64
     ensures { IsNumberOf 64 default (one_of name.now (rows_of (found_of words.now))) result }
 {
     words.get_one(name).unwrap_or(default)
+}
+
+/// The number of an option, of 32 bits, where one is given.
+pub fn given_number(words: &ArgMatches<'_>, name: &str) -> Option<u32>
+    ensures { IsNumberIn 32 (one_of name.now (rows_of (found_of words.now))) result }
+{
+    words.get_one(name)
+}
+
+/// The number of an option, of 64 bits, where one is given.
+pub fn given_long_number(words: &ArgMatches<'_>, name: &str) -> Option<u64>
+    ensures { IsNumberIn 64 (one_of name.now (rows_of (found_of words.now))) result }
+{
+    words.get_one(name)
 }
 
 /// Whether a flag is given.

@@ -1,12 +1,12 @@
 use Rattle.std.proofs.lemmas.Result.{err_from_is_err_and}
-use Rattle.bp_commands.specs.TraceTexts.{migration_of}
+use Rattle.bp_commands.specs.TraceTexts.{IsMigrationText}
 use Rattle.bp_commands.proofs.TraceWritten.{trace_without_code, migration_refused, migration_written}
 use Rattle.bp_commands.proofs.migrate.migrate_text.Goals as goal
 
 pub returns-in_err-code : goal.returns-in_err-code
 returns-in_err-code g c =
     let p = err_from_is_err_and c.from_residual.result c.from_residual.ensures.1 in
-    rw (p.1, p.2) (trace_without_code _ _ _ migration_of c.in_err-code.field-0.0 c.in_err-code.ensures)
+    rw (p.1, p.2) (trace_without_code _ _ _ IsMigrationText c.in_err-code.field-0.0 c.in_err-code.ensures)
 
 pub returns-in_err-report : goal.returns-in_err-report
 returns-in_err-report g c =

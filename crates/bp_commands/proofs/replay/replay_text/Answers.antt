@@ -1,12 +1,12 @@
 use Rattle.std.proofs.lemmas.Result.{err_from_is_err_and}
-use Rattle.bp_commands.specs.TraceTexts.{replay_of}
+use Rattle.bp_commands.specs.TraceTexts.{IsReplayText}
 use Rattle.bp_commands.proofs.TraceWritten.{trace_without_code, trace_refused, replay_written, replay_cut_short}
 use Rattle.bp_commands.proofs.replay.replay_text.Goals as goal
 
 pub returns-in_err-code : goal.returns-in_err-code
 returns-in_err-code g c =
     let p = err_from_is_err_and c.from_residual.result c.from_residual.ensures.1 in
-    rw (p.1, p.2) (trace_without_code _ _ _ replay_of c.in_err-code.field-0.0 c.in_err-code.ensures)
+    rw (p.1, p.2) (trace_without_code _ _ _ IsReplayText c.in_err-code.field-0.0 c.in_err-code.ensures)
 
 pub returns-in_err-replayed : goal.returns-in_err-replayed
 returns-in_err-replayed g c =

@@ -3,7 +3,7 @@ use Rattle.clap.specs.Words.{kind_of, subcommand_of}
 use Rattle.clap.specs.declared.error.kind.ErrorKind.TheVariants.{OutOfMemory}
 use Rattle.btrun.specs.Commands.{btrun_app, words_fault, IsOurs, IsTaskOf}
 use Rattle.btrun.proofs.NoHelpEntered.{named_ours}
-use Rattle.btrun.proofs.PlainWords.{none_faulty, check_faulty, check_asked, code_faulty, code_asked, drive_faulty, drive_asked, run_faulty, run_asked, replay_faulty, replay_asked, migrate_faulty, migrate_asked}
+use Rattle.btrun.proofs.PlainWords.{none_faulty, check_faulty, check_asked, code_faulty, code_asked, drive_faulty, drive_asked, run_faulty, run_asked, replay_faulty, replay_asked, show_faulty, show_asked, migrate_faulty, migrate_asked}
 use Rattle.btrun.proofs.WordsFaults.{cleared, named, refused, refused_for_memory, bad_refused, fine_faulty, not_bad}
 use Rattle.btrun.proofs.commands.read_words.Goals as goal
 
@@ -118,6 +118,24 @@ returns-clause-replay c program file trace plain even is =
     let words = map string_bytes c.args.words.now in
     let name = named _ words c.in_ok-command.ensures c.in_ok-matches.matches c.in_ok-matches.ensures.matches ∙ ap (subcommand_of btrun_app) is in
     replay_asked program file trace c.in_ok-task_of.field-0 plain even (subst (λ command. IsTaskOf command c.in_ok-task_of.field-0) name c.in_ok-task_of.ensures)
+
+pub returns-in_err-matches-clause-show : goal.returns-in_err-matches-clause-show
+returns-in_err-matches-clause-show c program file trace plain even is =
+    let memory = refused_kind c (ap words_fault is ∙ show_faulty program file trace plain even) in
+    search rules
+
+pub returns-then-has_bad_init-clause-show : goal.returns-then-has_bad_init-clause-show
+returns-then-has_bad_init-clause-show c program file trace plain even is =
+    let words = map string_bytes c.args.words.now in
+    let clean = cleared _ words c.in_ok-command.ensures c.in_ok-matches.ensures.kinds in
+    let name = named _ words c.in_ok-command.ensures c.in_ok-matches.matches c.in_ok-matches.ensures.matches in
+    absurd (not_bad words _ clean name (sym c.has_bad_init.ensures ∙ c.if-has_bad_init.true) (ap words_fault is ∙ show_faulty program file trace plain even))
+
+pub returns-clause-show : goal.returns-clause-show
+returns-clause-show c program file trace plain even is =
+    let words = map string_bytes c.args.words.now in
+    let name = named _ words c.in_ok-command.ensures c.in_ok-matches.matches c.in_ok-matches.ensures.matches ∙ ap (subcommand_of btrun_app) is in
+    show_asked program file trace c.in_ok-task_of.field-0 plain even (subst (λ command. IsTaskOf command c.in_ok-task_of.field-0) name c.in_ok-task_of.ensures)
 
 pub returns-in_err-matches-clause-migrate : goal.returns-in_err-matches-clause-migrate
 returns-in_err-matches-clause-migrate c program file trace plain even is =
