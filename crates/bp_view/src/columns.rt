@@ -34,10 +34,8 @@ pub(crate) fn push_on_one_line(line: &mut Vec<u8>, bytes: &[u8]) -> Result<(), A
 pub(crate) fn push_spaces(line: &mut Vec<u8>, count: usize) -> Result<(), AllocError>
     ensures { OnOk result (line.new.items ≡ line.old.items ++ spaces count) }
 {
-    for _ in 0..count {
-        line.push(b' ')?;
-    }
-    Ok(())
+    let size = line.len().checked_add(count).ok_or(AllocError)?;
+    line.resize(size, b' ')
 }
 
 /// Adds the bytes at the right of a field.

@@ -1,5 +1,5 @@
 //! The line of a call.
-ghost use Rattle.std.specs.Prelude.{◌≡◌, ◌++◌, [], false, codes, decimal, option_map, IfOk, OnOk};
+ghost use Rattle.std.specs.Prelude.{◌≡◌, ◌++◌, [], false, codes, decimal, option_map, OnOk};
 ghost use Rattle.bp_view.specs.Columns.{at_right};
 ghost use Rattle.bp_view.specs.OneLine.{AddsOneLine, IsOneLine};
 ghost use Rattle.bp_view.specs.Scenes.{place_of_scene, IsOnOneLine};
@@ -12,14 +12,11 @@ use crate::scenes::Scene;
 use bp_machine::{Call, Reply, Top};
 use bp_tree::{Name, Proc};
 use itoa::Buffer;
-use std::alloc::{AllocError, Global};
+use std::alloc::AllocError;
 
 /// A statement is moved to the right by two columns for each frame of the stack, for so many frames
 /// at most.
 pub(crate) const MAX_INDENTS: usize = 8;
-
-/// How many bytes a column takes at first, which few columns pass.
-const ROOM: usize = 96;
 
 /// What ends a line in colour.
 const PLAIN: &[u8] = b"\x1b[0m";
@@ -150,20 +147,19 @@ fn push_statement(line: &mut Vec<u8>, words: &[u8], depth: usize) -> Result<(), 
     Ok(())
 }
 
-/// The statement of a scene, moved to the right; no text where there is no scene.
-fn statement_of(
-    alloc: Global,
+/// Adds the statement of a scene, moved to the right; no text where there is no scene.
+fn push_scene(
+    line: &mut Vec<u8>,
     scene: Option<&Scene>,
     before: Option<Top>,
-) -> Result<Vec<u8>, AllocError>
+) -> Result<(), AllocError>
     requires { IsOnOneLine (option_map (λ s. s.now) scene) }
-    ensures { IfOk result (λ v. IsOneLine v.items) }
+    ensures { OnOk result (AddsOneLine line.old.items line.new.items) }
 {
-    let mut statement = Vec::with_capacity(alloc, ROOM)?;
     if let (Some(scene), Some(top)) = (scene, before) {
-        push_statement(&mut statement, scene.excerpt.words.as_slice(), top.depth)?;
+        push_statement(line, scene.excerpt.words.as_slice(), top.depth)?;
     }
-    Ok(statement)
+    Ok(())
 }
 
 /// Adds the choice bit of a call, where its step reads it.
@@ -197,37 +193,30 @@ fn push_changed(note: &mut Vec<u8>, stage: &Stage<'_>, moment: &Moment) -> Resul
     Ok(())
 }
 
-/// What a call comes to: the choice bit where it is read, the reply where it is no step, and the
-/// variables that the step changed.
-fn note_of(
-    alloc: Global,
+/// Writes what a call comes to: the choice bit where it is read, the reply where it is no step, and
+/// the variables that the step changed.
+fn write_note(
+    note: &mut Vec<u8>,
     stage: &Stage<'_>,
     scene: Option<&Scene>,
     moment: &Moment,
-) -> Result<Vec<u8>, AllocError>
-    ensures { IfOk result (λ v. IsNote moment.now.call.reply v.items) }
+) -> Result<(), AllocError>
+    ensures { OnOk result (IsNote moment.now.call.reply note.new.items) }
 {
-    let mut note = Vec::with_capacity(alloc, ROOM)?;
-    push_choice(&mut note, scene, &moment.call)?;
-    push_bytes(&mut note, reply_words(moment.call.reply))?;
-    push_changed(&mut note, stage, moment)?;
-    Ok(note)
+    note.clear();
+    push_choice(note, scene, &moment.call)?;
+    push_bytes(note, reply_words(moment.call.reply))?;
+    push_changed(note, stage, moment)?;
+    Ok(())
 }
 
-/// Adds a statement and what its call comes to, in two columns.
-fn push_columns(
-    line: &mut Vec<u8>,
-    width: usize,
-    statement: &[u8],
-    note: &[u8],
-) -> Result<(), AllocError>
-    requires { IsOneLine statement.now }
+/// Adds what a call comes to, behind spaces that fill the line to this size; no spaces where there
+/// is nothing to add.
+fn push_note(line: &mut Vec<u8>, size: usize, note: &[u8]) -> Result<(), AllocError>
     ensures { OnOk result (AddsColumns note.now line.old.items line.new.items) }
 {
-    if note.is_empty() {
-        push_bytes(line, statement)?;
-    } else {
-        push_left(line, width, statement)?;
+    if !note.is_empty() {
+        push_spaces(line, size.saturating_sub(line.len()))?;
         push_bytes(line, note)?;
     }
     Ok(())
@@ -243,9 +232,10 @@ fn place_of<'a>(scene: Option<&'a Scene>) -> &'a [u8]
     }
 }
 
-/// Adds what the columns show of a call.
+/// Adds what the columns show of a call. The note is room for what it comes to.
 fn push_call(
     line: &mut Vec<u8>,
+    note: &mut Vec<u8>,
     stage: &Stage<'_>,
     scene: Option<&Scene>,
     moment: &Moment,
@@ -256,17 +246,19 @@ fn push_call(
         OnOk result
         (AddsCall stage.now.widths fields moment.now.call.reply line.old.items line.new.items) }
 {
-    let alloc = *line.allocator();
-    let statement = statement_of(alloc, scene, moment.before)?;
-    let note = note_of(alloc, stage, scene, moment)?;
+    write_note(note, stage, scene, moment)?;
     push_fields(line, stage.widths, moment, place_of(scene))?;
-    push_columns(line, stage.widths.words, &statement, &note)?;
+    let size = line.len().saturating_add(stage.widths.words);
+    push_scene(line, scene, moment.before)?;
+    push_note(line, size, note)?;
     Ok(())
 }
 
 /// Adds the line of a call, in colour where that is wanted and the call is a failure or a switch.
+/// The note is room for what the call comes to.
 pub(crate) fn push_line(
     line: &mut Vec<u8>,
+    note: &mut Vec<u8>,
     stage: &Stage<'_>,
     scene: Option<&Scene>,
     moment: &Moment,
@@ -281,7 +273,7 @@ pub(crate) fn push_line(
 {
     let (opening, closing) = colours_of(stage, moment);
     push_bytes(line, opening)?;
-    push_call(line, stage, scene, moment)?;
+    push_call(line, note, stage, scene, moment)?;
     push_bytes(line, closing)?;
     push_bytes(line, b"\n")?;
     Ok(())

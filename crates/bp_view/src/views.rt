@@ -231,8 +231,13 @@ fn last_step(last: Option<u32>, call: &Call) -> Option<u32>
     last
 }
 
-/// Adds the line of a call, where it is shown.
-fn push_shown(view: &mut Vec<u8>, stage: &Stage<'_>, moment: &Moment) -> Result<(), AllocError>
+/// Adds the line of a call, where it is shown. The note is room for what the call comes to.
+fn push_shown(
+    view: &mut Vec<u8>,
+    note: &mut Vec<u8>,
+    stage: &Stage<'_>,
+    moment: &Moment,
+) -> Result<(), AllocError>
     requires { AreOnOneLine stage.now.scenes.now }
     ensures { (t : Program) (text : List ℕ) (s : SetupOf) (h : List Answered) (x : Answered)
         → AreScenes text (starts_of t) stage.now.scenes.now
@@ -248,7 +253,7 @@ fn push_shown(view: &mut Vec<u8>, stage: &Stage<'_>, moment: &Moment) -> Result<
         .shows(moment.call.thread, moment.number, stage.count)
     {
         let scene = scene_of(stage.scenes, moment.before);
-        push_line(view, stage, scene, moment)?;
+        push_line(view, note, stage, scene, moment)?;
     }
     Ok(())
 }
@@ -281,10 +286,11 @@ fn push_calls(
         → Stands t session.old []
         → IfErr result (IsViewRefusal t session.old.setup history.now) }
 {
+    let mut note = Vec::new(*view.allocator());
     let mut last = None;
     for (n, call) in history.iter().enumerate() {
         let moment = moment_of(session, last, n as u64 + 1, call)?;
-        push_shown(view, stage, &moment)?;
+        push_shown(view, &mut note, stage, &moment)?;
         last = last_step(last, call);
     }
     Ok(())

@@ -1,0 +1,29 @@
+use Rattle.std.proofs.Common.{◌≡◌, ◌∙◌, ◌++◌, ℕ, List, ap, refl, subst, sym, append_assoc}
+use Rattle.bp_view.specs.Lines.{fields_of, fields_text, IsNote}
+use Rattle.bp_view.proofs.TextsOnOneLine.{one_line_append}
+use Rattle.bp_view.proofs.lines.push_call.Goals as goal
+
+regrouped : (line fields words filled note : List ℕ) → (((line ++ fields) ++ words) ++ filled) ++ note ≡ line ++ ((fields ++ (words ++ filled)) ++ note)
+regrouped line fields words filled note = simp append_assoc
+
+pub returns : goal.returns
+returns c =
+    let line = c.args.line.now.items in
+    let fields = fields_text c.args.stage.now.widths (fields_of c.args.moment.now c.place_of.result.now) in
+    let words = c.in_ok-push_scene.ensures in
+    let note = c.in_ok-push_note.ensures in
+    let written = c.deref.result.now in
+    let statement = words.more ++ note.statement in
+    record {
+      more = (fields ++ statement) ++ written;
+      is = note.is
+          ∙ ap (λ x. (x ++ note.statement) ++ written) (words.is ∙ ap (λ x. x ++ words.more) c.in_ok-push_fields.ensures)
+          ∙ regrouped line fields words.more note.statement written;
+      more_is = record {
+        statement = statement;
+        note = written;
+        is = ap (λ p. (fields_text c.args.stage.now.widths (fields_of c.args.moment.now p) ++ statement) ++ written) c.place_of.ensures;
+        statement_is = one_line_append words.more note.statement words.one_line note.statement_is;
+        note_is = subst (IsNote c.args.moment.now.call.reply) (sym c.deref.ensures.value) c.in_ok-write_note.ensures;
+      };
+    }
