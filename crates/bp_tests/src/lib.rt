@@ -13,6 +13,8 @@ mod commands;
 #[cfg(test)]
 mod devices;
 #[cfg(test)]
+mod explain;
+#[cfg(test)]
 mod machine;
 #[cfg(test)]
 mod refused;

@@ -4,6 +4,7 @@
 //! its call is made once more where the growth was one of these.
 mod boards;
 mod commands;
+mod explanations;
 mod ready;
 mod runs;
 mod sessions;

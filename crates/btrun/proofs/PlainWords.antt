@@ -116,8 +116,12 @@ show≢migrate same = let heads = ap (λ t. get_or t 0 0) same in absurd (omega 
 abbrev given : Text → Text → Row
 given id text = record { id = id; values = text ∷ []; count = None; source = Some CommandLine; reading = AsWritten }
 
+-- what stands for a flag that is not given
+abbrev down : Text → Row
+down id = record { id = id; values = codes "false" ∷ []; count = None; source = Some DefaultValue; reading = AsWritten }
+
 abbrev file_row : Text → List Row
-file_row file = given (codes "FILE") file ∷ []
+file_row file = given (codes "FILE") file ∷ down (codes "explain") ∷ []
 
 abbrev IsWord : Text → Type 0
 IsWord file = (bytes_eq file (45 ∷ 45 ∷ []) ≡ false) × (long_of file ≡ None) × (short_of file ≡ None)
@@ -143,8 +147,8 @@ check_faulty program file plain =
 
 check_of : (file : Text) (task : Task) → IsTaskOf (Some (codes "check", file_row file)) task → IsCheckOf file task
 check_of file Bundle asks = absurd asks
-check_of file (Check path) asks = asks.1
-check_of file (Code path) asks = absurd (check≢code asks.0)
+check_of file (Check words) (named, of) = (of.program, of.explain.1 refl)
+check_of file (Code words) asks = absurd (check≢code asks.0)
 check_of file (Drive words) asks = absurd (check≢drive asks.0)
 check_of file (Run words) asks = absurd (check≢run asks.0)
 check_of file (Replay words) asks = absurd (check≢replay asks.0)
@@ -172,8 +176,8 @@ code_faulty program file plain =
 
 code_of : (file : Text) (task : Task) → IsTaskOf (Some (codes "code", file_row file)) task → IsCodeOf file task
 code_of file Bundle asks = absurd asks
-code_of file (Code path) asks = asks.1
-code_of file (Check path) asks = absurd (check≢code (sym asks.0))
+code_of file (Code words) (named, of) = (of.program, of.explain.1 refl)
+code_of file (Check words) asks = absurd (check≢code (sym asks.0))
 code_of file (Drive words) asks = absurd (code≢drive asks.0)
 code_of file (Run words) asks = absurd (code≢run asks.0)
 code_of file (Replay words) asks = absurd (code≢replay asks.0)
@@ -187,7 +191,7 @@ abbrev drive_words : Text → Text → Text → List Text
 drive_words program file schedule = program ∷ codes "drive" ∷ file ∷ schedule ∷ []
 
 abbrev both_rows : Text → Text → List Row
-both_rows file schedule = given (codes "FILE") file ∷ given (codes "SCHEDULE") schedule ∷ []
+both_rows file schedule = given (codes "FILE") file ∷ given (codes "SCHEDULE") schedule ∷ down (codes "explain") ∷ []
 
 drive_named : (program file schedule : Text) → IsWord file → IsWord schedule → subcommand_of btrun_app (drive_words program file schedule) ≡ Some (codes "drive", both_rows file schedule)
 unfolding clap_on_literals
@@ -209,9 +213,9 @@ options_are o entries init contexts calls =
 
 drive_of : (file schedule : Text) (task : Task) → IsTaskOf (Some (codes "drive", both_rows file schedule)) task → IsPlainDriveOf file schedule task
 drive_of file schedule Bundle asks = absurd asks
-drive_of file schedule (Check path) asks = absurd (check≢drive (sym asks.0))
-drive_of file schedule (Code path) asks = absurd (code≢drive (sym asks.0))
-drive_of file schedule (Drive words) (named, of) = (of.program, of.schedule, options_are words.options of.entries of.init of.contexts of.calls)
+drive_of file schedule (Check words) asks = absurd (check≢drive (sym asks.0))
+drive_of file schedule (Code words) asks = absurd (code≢drive (sym asks.0))
+drive_of file schedule (Drive words) (named, of) = (of.program, of.schedule, of.explain.1 refl, options_are words.options of.entries of.init of.contexts of.calls)
 drive_of file schedule (Run words) asks = absurd (drive≢run asks.0)
 drive_of file schedule (Replay words) asks = absurd (drive≢replay asks.0)
 drive_of file schedule (Show words) asks = absurd (drive≢show asks.0)
@@ -224,12 +228,8 @@ drive_asked program file schedule task plain even asks =
 abbrev run_words : Text → Text → List Text
 run_words program file = program ∷ codes "run" ∷ file ∷ []
 
--- what stands for a flag that is not given
-abbrev down : Text → Row
-down id = record { id = id; values = codes "false" ∷ []; count = None; source = Some DefaultValue; reading = AsWritten }
-
 abbrev run_rows : Text → List Row
-run_rows file = given (codes "FILE") file ∷ down (codes "spread") ∷ []
+run_rows file = given (codes "FILE") file ∷ down (codes "explain") ∷ down (codes "spread") ∷ []
 
 run_named : (program file : Text) → IsWord file → subcommand_of btrun_app (run_words program file) ≡ Some (codes "run", run_rows file)
 unfolding clap_on_literals
@@ -254,10 +254,10 @@ run_options_are o entries init contexts calls turn seed ring =
 
 run_of : (file : Text) (task : Task) → IsTaskOf (Some (codes "run", run_rows file)) task → IsPlainRunOf file task
 run_of file Bundle asks = absurd asks
-run_of file (Check path) asks = absurd (check≢run (sym asks.0))
-run_of file (Code path) asks = absurd (code≢run (sym asks.0))
+run_of file (Check words) asks = absurd (check≢run (sym asks.0))
+run_of file (Code words) asks = absurd (code≢run (sym asks.0))
 run_of file (Drive words) asks = absurd (drive≢run (sym asks.0))
-run_of file (Run words) (named, of) = (of.program, of.spread.1 refl, run_options_are words.options of.entries of.init of.contexts of.calls of.turn of.seed of.ring)
+run_of file (Run words) (named, of) = (of.program, of.spread.1 refl, of.explain.1 refl, run_options_are words.options of.entries of.init of.contexts of.calls of.turn of.seed of.ring)
 run_of file (Replay words) asks = absurd (run≢replay asks.0)
 run_of file (Show words) asks = absurd (run≢show asks.0)
 run_of file (Migrate words) asks = absurd (run≢migrate asks.0)
@@ -266,7 +266,7 @@ pub run_asked : (program file : Text) (task : Task) → is_plain file ≡ true �
 run_asked program file task plain asks = run_of file task (subst (λ c. IsTaskOf c task) (run_named program file (is_word file plain)) asks)
 
 abbrev trace_rows : Text → Text → List Row
-trace_rows file trace = given (codes "FILE") file ∷ given (codes "TRACE") trace ∷ []
+trace_rows file trace = given (codes "FILE") file ∷ given (codes "TRACE") trace ∷ down (codes "explain") ∷ []
 
 abbrev replay_words : Text → Text → Text → List Text
 replay_words program file trace = program ∷ codes "replay" ∷ file ∷ trace ∷ []
@@ -287,11 +287,11 @@ replay_faulty program file trace plain even =
 
 replay_of : (file trace : Text) (task : Task) → IsTaskOf (Some (codes "replay", trace_rows file trace)) task → IsReplayOf file trace task
 replay_of file trace Bundle asks = absurd asks
-replay_of file trace (Check path) asks = absurd (check≢replay (sym asks.0))
-replay_of file trace (Code path) asks = absurd (code≢replay (sym asks.0))
+replay_of file trace (Check words) asks = absurd (check≢replay (sym asks.0))
+replay_of file trace (Code words) asks = absurd (code≢replay (sym asks.0))
 replay_of file trace (Drive words) asks = absurd (drive≢replay (sym asks.0))
 replay_of file trace (Run words) asks = absurd (run≢replay (sym asks.0))
-replay_of file trace (Replay words) (named, of) = (of.program, of.trace)
+replay_of file trace (Replay words) (named, of) = (of.program, of.trace, of.explain.1 refl)
 replay_of file trace (Show words) asks = absurd (replay≢show asks.0)
 replay_of file trace (Migrate words) asks = absurd (replay≢migrate asks.0)
 
@@ -318,12 +318,12 @@ show_faulty program file trace plain even =
 
 show_of : (file trace : Text) (task : Task) → IsTaskOf (Some (codes "show", trace_rows file trace)) task → IsPlainShowOf file trace task
 show_of file trace Bundle asks = absurd asks
-show_of file trace (Check path) asks = absurd (check≢show (sym asks.0))
-show_of file trace (Code path) asks = absurd (code≢show (sym asks.0))
+show_of file trace (Check words) asks = absurd (check≢show (sym asks.0))
+show_of file trace (Code words) asks = absurd (code≢show (sym asks.0))
 show_of file trace (Drive words) asks = absurd (drive≢show (sym asks.0))
 show_of file trace (Run words) asks = absurd (run≢show (sym asks.0))
 show_of file trace (Replay words) asks = absurd (replay≢show (sym asks.0))
-show_of file trace (Show words) (named, of) = (of.program, of.trace, of.thread, of.last)
+show_of file trace (Show words) (named, of) = (of.program, of.trace, of.thread, of.last, of.explain.1 refl)
 show_of file trace (Migrate words) asks = absurd (show≢migrate asks.0)
 
 pub show_asked : (program file trace : Text) (task : Task) → is_plain file ≡ true → is_plain trace ≡ true → IsTaskOf (subcommand_of btrun_app (show_words program file trace)) task → IsPlainShowOf file trace task
@@ -349,12 +349,12 @@ migrate_faulty program file trace plain even =
 
 migrate_of : (file trace : Text) (task : Task) → IsTaskOf (Some (codes "migrate", trace_rows file trace)) task → IsMigrateOf file trace task
 migrate_of file trace Bundle asks = absurd asks
-migrate_of file trace (Check path) asks = absurd (check≢migrate (sym asks.0))
-migrate_of file trace (Code path) asks = absurd (code≢migrate (sym asks.0))
+migrate_of file trace (Check words) asks = absurd (check≢migrate (sym asks.0))
+migrate_of file trace (Code words) asks = absurd (code≢migrate (sym asks.0))
 migrate_of file trace (Drive words) asks = absurd (drive≢migrate (sym asks.0))
 migrate_of file trace (Run words) asks = absurd (run≢migrate (sym asks.0))
 migrate_of file trace (Show words) asks = absurd (show≢migrate (sym asks.0))
-migrate_of file trace (Migrate words) (named, of) = (of.program, of.trace)
+migrate_of file trace (Migrate words) (named, of) = (of.program, of.trace, of.explain.1 refl)
 migrate_of file trace (Replay words) asks = absurd (replay≢migrate (sym asks.0))
 
 pub migrate_asked : (program file trace : Text) (task : Task) → is_plain file ≡ true → is_plain trace ≡ true → IsTaskOf (subcommand_of btrun_app (migrate_words program file trace)) task → IsMigrateOf file trace task

@@ -10,8 +10,9 @@ use Rattle.clap.specs.declared.builder.action.ArgAction.TheVariants.{SetTrue}
 use Rattle.clap.specs.declared.builder.value_parser.ValueParser.TheVariants as parser
 use Rattle.bp_commands.specs.Drives.{defaults}
 use Rattle.bp_commands.specs.RunInputs.{run_defaults}
-use Rattle.btrun.specs.Values.{value_of, init_fault}
+use Rattle.btrun.specs.Values.{init_fault}
 use Rattle.btrun.specs.DriveWords.{IsDriveOf}
+use Rattle.btrun.specs.FileWords.{IsFileWordsOf}
 use Rattle.btrun.specs.RunWords.{IsRunOf}
 use Rattle.btrun.specs.ShowWords.{IsShowOf}
 use Rattle.btrun.specs.TraceWords.{IsTraceWordsOf}
@@ -23,15 +24,22 @@ use Rattle.btrun.specs.declared.commands.Task.TheVariants.{Bundle, Check, Code, 
 abbrev pub required_rule : Text → Rule
 required_rule name = record (new_rule name) { required = true }
 
--- a command of this name and a file
-abbrev pub file_app : Text → App
-file_app name = with_rule (new_app name) (required_rule (codes "FILE"))
+-- an option without a value
+abbrev pub flag_rule : Text → Rule
+flag_rule name = record (new_rule name) { long = Some name; action = Some SetTrue }
 
--- `check FILE`
+-- a command of this name, a file, and the flag for explanations
+abbrev pub file_app : Text → App
+file_app name =
+    with_rule
+    (with_rule (new_app name) (required_rule (codes "FILE")))
+    (flag_rule (codes "explain"))
+
+-- `check FILE [--explain]`
 abbrev pub check_app : App
 check_app = file_app (codes "check")
 
--- `code FILE`
+-- `code FILE [--explain]`
 abbrev pub code_app : App
 code_app = file_app (codes "code")
 
@@ -49,10 +57,6 @@ abbrev pub long_number_rule : Text → Rule
 long_number_rule name =
     record (option_rule name) { parser = Some (parser.Unsigned 0 18446744073709551615) }
 
--- an option without a value
-abbrev pub flag_rule : Text → Rule
-flag_rule name = record (new_rule name) { long = Some name; action = Some SetTrue }
-
 -- an argument with any number of values
 abbrev pub values_rule : Text → Rule
 values_rule name =
@@ -65,7 +69,7 @@ abbrev pub with_rules : App → List Rule → App
 with_rules a [] = a
 with_rules a (r ∷ rs) = with_rules (with_rule a r) rs
 
--- `drive FILE SCHEDULE [ENTRY].. [--contexts N] [--calls N] [--init BITS]`
+-- `drive FILE SCHEDULE [ENTRY].. [--contexts N] [--calls N] [--init BITS] [--explain]`
 abbrev pub drive_app : App
 drive_app =
     with_rules (file_app (codes "drive")) (
@@ -77,7 +81,7 @@ drive_app =
     ∷ [])
 
 -- `run FILE [ENTRY].. [--seed N] [--contexts N] [--calls N] [--turn N] [--init BITS] [--ring N]
--- [--spread]`
+-- [--spread] [--explain]`
 abbrev pub run_app : App
 run_app =
     with_rules (file_app (codes "run")) (
@@ -95,11 +99,11 @@ run_app =
 abbrev pub trace_app : Text → App
 trace_app name = with_rule (file_app name) (required_rule (codes "TRACE"))
 
--- `replay FILE TRACE`
+-- `replay FILE TRACE [--explain]`
 abbrev pub replay_app : App
 replay_app = trace_app (codes "replay")
 
--- `show FILE TRACE [--thread N] [--last N]`
+-- `show FILE TRACE [--thread N] [--last N] [--explain]`
 abbrev pub show_app : App
 show_app =
     with_rules (trace_app (codes "show")) (
@@ -107,7 +111,7 @@ show_app =
     ∷ long_number_rule (codes "last")
     ∷ [])
 
--- `migrate FILE TRACE`
+-- `migrate FILE TRACE [--explain]`
 abbrev pub migrate_app : App
 migrate_app = trace_app (codes "migrate")
 
@@ -125,10 +129,6 @@ abbrev pub btrun_app : App
 btrun_app =
     with_commands program_app
     (check_app ∷ code_app ∷ drive_app ∷ run_app ∷ replay_app ∷ show_app ∷ migrate_app ∷ [])
-
--- the command has this name, and its file is the path
-abbrev pub IsOfFile : Text → Text → List Row → Text → Type 0
-IsOfFile command name rows path = (name ≡ command) × (path ≡ value_of (codes "FILE") rows)
 
 -- the name of a command
 abbrev pub IsNamed : Text → Type 0
@@ -149,8 +149,8 @@ IsOurs (Some command) = IsNamed command.0
 -- what the command of this name asks for, with its arguments; a bundle is asked for without one
 abbrev pub IsAsked : Text → List Row → Task → Type 0
 IsAsked name rows Bundle = ⊥
-IsAsked name rows (Check path) = IsOfFile (codes "check") name rows path.now
-IsAsked name rows (Code path) = IsOfFile (codes "code") name rows path.now
+IsAsked name rows (Check words) = (name ≡ codes "check") × IsFileWordsOf rows words
+IsAsked name rows (Code words) = (name ≡ codes "code") × IsFileWordsOf rows words
 IsAsked name rows (Drive words) = (name ≡ codes "drive") × IsDriveOf rows words
 IsAsked name rows (Run words) = (name ≡ codes "run") × IsRunOf rows words
 IsAsked name rows (Replay words) = (name ≡ codes "replay") × IsTraceWordsOf rows words
@@ -171,31 +171,38 @@ abbrev pub is_plain : Text → Bool
 is_plain [] = true
 is_plain (b ∷ bs) = not (b == 45)
 
--- the task is to check this file
+-- the task is to check this file, and faults are not explained
 abbrev pub IsCheckOf : Text → Task → Type 0
-IsCheckOf file (Check path) = path.now ≡ file
+IsCheckOf file (Check words) = (words.program.now ≡ file) × (words.explain ≡ false)
 IsCheckOf file task = ⊥
 
--- the task is to list the code of this file
+-- the task is to list the code of this file, and faults are not explained
 abbrev pub IsCodeOf : Text → Task → Type 0
-IsCodeOf file (Code path) = path.now ≡ file
+IsCodeOf file (Code words) = (words.program.now ≡ file) × (words.explain ≡ false)
 IsCodeOf file task = ⊥
 
 -- the task is to drive the program of this file by the schedule of that one, under the defaults
 abbrev pub IsPlainDriveOf : Text → Text → Task → Type 0
 IsPlainDriveOf file schedule (Drive words) =
-    (words.program.now ≡ file) × (words.schedule.now ≡ schedule) × (words.options ≡ defaults)
+    (words.program.now ≡ file)
+    × (words.schedule.now ≡ schedule)
+    × (words.explain ≡ false)
+    × (words.options ≡ defaults)
 IsPlainDriveOf file schedule task = ⊥
 
 -- the task is to run the program of this file under the defaults, its workers as they come
 abbrev pub IsPlainRunOf : Text → Task → Type 0
 IsPlainRunOf file (Run words) =
-    (words.program.now ≡ file) × (words.spread ≡ false) × (words.options ≡ run_defaults)
+    (words.program.now ≡ file)
+    × (words.spread ≡ false)
+    × (words.explain ≡ false)
+    × (words.options ≡ run_defaults)
 IsPlainRunOf file task = ⊥
 
--- the files are these
+-- the files are these, and faults are not explained
 abbrev pub HasFiles : Text → Text → TraceWords → Type 0
-HasFiles file trace words = (words.program.now ≡ file) × (words.trace.now ≡ trace)
+HasFiles file trace words =
+    (words.program.now ≡ file) × (words.trace.now ≡ trace) × (words.explain ≡ false)
 
 -- the task is to replay this trace of the program of this file
 abbrev pub IsReplayOf : Text → Text → Task → Type 0
@@ -209,6 +216,7 @@ IsPlainShowOf file trace (Show words) =
     × (words.trace.now ≡ trace)
     × (words.thread ≡ None)
     × (words.last ≡ None)
+    × (words.explain ≡ false)
 IsPlainShowOf file trace task = ⊥
 
 -- the task is to migrate this trace of the program of this file

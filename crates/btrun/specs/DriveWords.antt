@@ -2,7 +2,7 @@
 use Rattle.std.specs.Prelude.{◌≡◌, List, codes, option_map}
 use Rattle.clap.specs.Walk.{Row, first_of, one_of}
 use Rattle.bp_commands.specs.declared.limits.TheConstants.{DEFAULT_CONTEXTS, DEFAULT_CALLS}
-use Rattle.btrun.specs.Values.{bits_in, entries_in, value_of, IsNumberOf}
+use Rattle.btrun.specs.Values.{bits_in, entries_in, value_of, IsFlagOf, IsNumberOf}
 use Rattle.btrun.specs.declared.commands.drive.DriveWords.{DriveWords}
 
 -- the files and the options of `drive` are those of its arguments
@@ -15,3 +15,4 @@ pub record IsDriveOf (rows : List Row) (words : DriveWords) : Type 0 where
       IsNumberOf 32 DEFAULT_CONTEXTS (one_of (codes "contexts") rows) words.options.contexts
   pub calls :
       IsNumberOf 32 DEFAULT_CALLS (one_of (codes "calls") rows) words.options.calls
+  pub explain : IsFlagOf (one_of (codes "explain") rows) words.explain

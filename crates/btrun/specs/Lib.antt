@@ -1,5 +1,6 @@
 pub mod Commands
 pub mod DriveWords
+pub mod FileWords
 pub mod RunWords
 pub mod ShowWords
 pub mod Statuses

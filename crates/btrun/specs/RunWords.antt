@@ -18,3 +18,4 @@ pub record IsRunOf (rows : List Row) (words : RunWords) : Type 0 where
   pub seed : IsNumberOf 64 DEFAULT_SEED (one_of (codes "seed") rows) words.options.seed
   pub ring : IsNumberOf 32 DEFAULT_RING (one_of (codes "ring") rows) words.options.ring
   pub spread : IsFlagOf (one_of (codes "spread") rows) words.spread
+  pub explain : IsFlagOf (one_of (codes "explain") rows) words.explain

@@ -6,16 +6,18 @@ ghost use Rattle.btrun.specs.Commands.{btrun_app, file_app, is_plain, program_ap
 
 mod arguments;
 mod drive;
+mod files;
 mod run;
 mod show;
 mod trace;
 mod values;
 
-use arguments::required;
 use clap::error::ErrorKind;
 use clap::{ArgMatches, Command, Error};
 pub use drive::DriveWords;
 use drive::{drive_command, drive_words};
+pub use files::FileWords;
+use files::{file_command, file_words};
 pub use run::RunWords;
 use run::{run_command, run_words};
 pub use show::ShowWords;
@@ -33,10 +35,10 @@ const VERSION: &str = "0.1.0";
 pub enum Task<'a> {
     /// Drive the bundle that standard input has.
     Bundle,
-    /// Check the program of this file.
-    Check(&'a str),
-    /// List the code of the program of this file.
-    Code(&'a str),
+    /// Check the program of a file.
+    Check(FileWords<'a>),
+    /// List the code of the program of a file.
+    Code(FileWords<'a>),
     /// Drive the program of a file by a schedule.
     Drive(DriveWords<'a>),
     /// Run the program of a file by real workers.
@@ -85,23 +87,6 @@ const CODE_NOTES: &str = "\
 /// What is wrong with the value of `--init`.
 const BAD_INIT: &str = "the value of '--init' has a character other than 0 and 1";
 
-/// A command of this name and a file.
-fn file_command<'a>(
-    alloc: Global,
-    name: &'a str,
-    about: &'a str,
-    notes: &'a str,
-) -> Result<Command<'a>, AllocError>
-    ensures { IfOk result
-        (λ c. (app_of c ≡ file_app name.now) × ((out-Command c).has_globals ≡ false)) }
-{
-    let file = required(alloc, "FILE", "The file of the program");
-    Command::new(alloc, name)
-        .about(about)
-        .after_help(notes)
-        .arg(file)
-}
-
 /// What stands before the commands.
 fn program<'a>(alloc: Global) -> Command<'a>
     ensures { app_of result ≡ program_app }
@@ -135,9 +120,8 @@ fn task_of<'a>(alloc: Global, matches: &ArgMatches<'a>) -> Result<Task<'a>, Allo
     ensures { IfOk result (IsTaskOf (subcommand_rows_of matches.now)) }
 {
     match matches.subcommand() {
-        // FILE is required, so it is there.
-        Some(("check", words)) => Ok(Task::Check(words.get_str("FILE").unwrap_or(""))),
-        Some(("code", words)) => Ok(Task::Code(words.get_str("FILE").unwrap_or(""))),
+        Some(("check", words)) => Ok(Task::Check(file_words(words))),
+        Some(("code", words)) => Ok(Task::Code(file_words(words))),
         Some(("drive", words)) => Ok(Task::Drive(drive_words(alloc, words)?)),
         Some(("run", words)) => Ok(Task::Run(run_words(alloc, words)?)),
         Some(("replay", words)) => Ok(Task::Replay(trace_words(words))),

@@ -2,6 +2,7 @@
 
 mod bundle;
 mod drive;
+mod explain;
 mod files;
 mod inputs;
 mod show;
@@ -24,8 +25,8 @@ fn run_words<T: Threads + Wait + Clock + Sync>(
 ) -> u8 {
     match read_words(rt.alloc(), words) {
         Ok(Task::Bundle) => bundle::drive_input(rt),
-        Ok(Task::Check(path)) => files::check_file(rt, path),
-        Ok(Task::Code(path)) => files::list_file(rt, path),
+        Ok(Task::Check(words)) => files::check_file(rt, &words),
+        Ok(Task::Code(words)) => files::list_file(rt, &words),
         Ok(Task::Drive(words)) => drive::drive_files(rt, &words),
         Ok(Task::Run(words)) => workers::run_file(rt, threads, &words),
         Ok(Task::Replay(words)) => trace::replay_files(rt, &words),

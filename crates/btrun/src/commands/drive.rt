@@ -6,8 +6,8 @@ ghost use Rattle.btrun.specs.Commands.{drive_app};
 ghost use Rattle.btrun.specs.DriveWords.{IsDriveOf};
 
 use super::arguments::{number_option, option, required, values};
-use super::file_command;
-use super::values::{entries, init, number};
+use super::files::file_command;
+use super::values::{entries, init, is_given, number};
 use bp_commands::DriveOptions;
 use bp_commands::limits::{DEFAULT_CALLS, DEFAULT_CONTEXTS};
 use clap::{ArgMatches, Command};
@@ -20,6 +20,8 @@ pub struct DriveWords<'a> {
     pub program: &'a str,
     /// The file of the schedule.
     pub schedule: &'a str,
+    /// Whether a fault is explained.
+    pub explain: bool,
     /// What the run starts from.
     pub options: DriveOptions,
 }
@@ -61,6 +63,7 @@ pub fn drive_words<'a>(alloc: Global, words: &ArgMatches<'a>) -> Result<DriveWor
     Ok(DriveWords {
         program: words.get_str("FILE").unwrap_or(""),
         schedule: words.get_str("SCHEDULE").unwrap_or(""),
+        explain: is_given(words, "explain"),
         options: DriveOptions {
             entries: entries(alloc, words)?,
             init: init(alloc, words)?,

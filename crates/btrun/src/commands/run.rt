@@ -6,7 +6,7 @@ ghost use Rattle.btrun.specs.Commands.{run_app};
 ghost use Rattle.btrun.specs.RunWords.{IsRunOf};
 
 use super::arguments::{flag, long_number_option, number_option, option, values};
-use super::file_command;
+use super::files::file_command;
 use super::values::{entries, init, is_given, long_number, number};
 use bp_commands::limits::{
     DEFAULT_CALLS, DEFAULT_CONTEXTS, DEFAULT_RING, DEFAULT_SEED, DEFAULT_TURN,
@@ -22,6 +22,8 @@ pub struct RunWords<'a> {
     pub program: &'a str,
     /// Whether the workers start together and take turns as they are drawn.
     pub spread: bool,
+    /// Whether a fault is explained.
+    pub explain: bool,
     /// What the run starts from.
     pub options: RunOptions,
 }
@@ -72,6 +74,7 @@ pub fn run_words<'a>(alloc: Global, words: &ArgMatches<'a>) -> Result<RunWords<'
     Ok(RunWords {
         program: words.get_str("FILE").unwrap_or(""),
         spread: is_given(words, "spread"),
+        explain: is_given(words, "explain"),
         options: RunOptions {
             entries: entries(alloc, words)?,
             init: init(alloc, words)?,

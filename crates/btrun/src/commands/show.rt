@@ -7,7 +7,7 @@ ghost use Rattle.btrun.specs.ShowWords.{IsShowOf};
 
 use super::arguments::{long_number_option, number_option};
 use super::trace::trace_command;
-use super::values::{given_long_number, given_number};
+use super::values::{given_long_number, given_number, is_given};
 use clap::{ArgMatches, Command};
 use std::alloc::{AllocError, Global};
 
@@ -22,6 +22,8 @@ pub struct ShowWords<'a> {
     pub thread: Option<u32>,
     /// So many of the last calls of the history.
     pub last: Option<u64>,
+    /// Whether a fault is explained.
+    pub explain: bool,
 }
 
 /// What `show` does.
@@ -61,5 +63,6 @@ pub fn show_words<'a>(words: &ArgMatches<'a>) -> ShowWords<'a>
         trace: words.get_str("TRACE").unwrap_or(""),
         thread: given_number(words, "thread"),
         last: given_long_number(words, "last"),
+        explain: is_given(words, "explain"),
     }
 }

@@ -6,7 +6,8 @@ ghost use Rattle.btrun.specs.Commands.{trace_app};
 ghost use Rattle.btrun.specs.TraceWords.{IsTraceWordsOf};
 
 use super::arguments::required;
-use super::file_command;
+use super::files::file_command;
+use super::values::is_given;
 use clap::{ArgMatches, Command};
 use std::alloc::{AllocError, Global};
 
@@ -17,6 +18,8 @@ pub struct TraceWords<'a> {
     pub program: &'a str,
     /// The file of the trace.
     pub trace: &'a str,
+    /// Whether a fault is explained.
+    pub explain: bool,
 }
 
 /// What `replay` does.
@@ -65,5 +68,6 @@ pub fn trace_words<'a>(words: &ArgMatches<'a>) -> TraceWords<'a>
     TraceWords {
         program: words.get_str("FILE").unwrap_or(""),
         trace: words.get_str("TRACE").unwrap_or(""),
+        explain: is_given(words, "explain"),
     }
 }

@@ -1,5 +1,6 @@
 //! A run of `drive FILE SCHEDULE [ENTRY]..`.
 
+use super::explain::explain_drive;
 use super::inputs::InputFile;
 use crate::commands::DriveWords;
 use bp_commands::{drive_program_buffered, end_drive};
@@ -15,5 +16,9 @@ pub fn drive_files(rt: &HostRuntime, words: &DriveWords<'_>) -> u8 {
         &mut schedule,
         rt.stdout(),
     );
-    end_drive(&driven, &mut rt.stderr())
+    let status = end_drive(&driven, &mut rt.stderr());
+    if let (true, Err(refusal)) = (words.explain, &driven) {
+        explain_drive(rt, words.program, words.schedule, refusal);
+    }
+    status
 }

@@ -1,5 +1,6 @@
 //! A run of `show FILE TRACE`.
 
+use super::explain::explain_pair;
 use super::inputs::InputFile;
 use crate::commands::ShowWords;
 use bp_commands::{end_trace, view_buffered};
@@ -26,5 +27,9 @@ pub fn show_files(rt: &HostRuntime, words: &ShowWords<'_>) -> u8 {
         has_colour: has_colour(rt),
     };
     let shown = view_buffered(rt.alloc(), options, &mut program, &mut trace, rt.stdout());
-    end_trace(&shown, &mut rt.stderr())
+    let status = end_trace(&shown, &mut rt.stderr());
+    if let (true, Err(fault)) = (words.explain, &shown) {
+        explain_pair(rt, words.program, words.trace, fault);
+    }
+    status
 }

@@ -1,5 +1,6 @@
 //! A run of `run FILE [ENTRY]..`.
 
+use super::explain::explain_file;
 use super::inputs::InputFile;
 use crate::commands::RunWords;
 use bp_commands::{end_run, run_buffered};
@@ -25,7 +26,11 @@ fn run_at<G: Gate, T: Threads + Wait + Clock + Sync>(
         &mut program,
         rt.stdout(),
     );
-    end_run(&done, &mut rt.stderr())
+    let status = end_run(&done, &mut rt.stderr());
+    if let (true, Err(fault)) = (words.explain, &done) {
+        explain_file(rt, words.program, fault.number(), fault);
+    }
+    status
 }
 
 /// The same, at the gate that the words ask for.

@@ -1,0 +1,54 @@
+-- What an explanation begins with, and which bytes it has.
+use Rattle.std.specs.Prelude.{if◌then◌else◌, ◌≡◌, ◌==◌, ◌||◌, ◌&&◌, nat_le, ℕ, Bool, true, List, [], ◌∷◌, ◌++◌, Option, None, Some, All, map, decimal}
+use Rattle.bp_view.specs.declared.positions.Position.{Position}
+use Rattle.bp_view.specs.Positions.{position_at}
+
+-- the byte is a line feed, or a character that a terminal shows in one column
+abbrev pub is_plain : ℕ → Bool
+is_plain b = b == 10 || (nat_le 32 b && nat_le b 126)
+
+-- how a byte is shown
+abbrev pub shown : ℕ → ℕ
+shown b = if is_plain b then b else if b == 9 || b == 13 then 32 else 63
+
+-- a terminal shows the text as it is
+abbrev pub IsPlain : List ℕ → Type 0
+IsPlain text = All (λ b. is_plain b ≡ true) text
+
+-- a space stands for a line feed
+abbrev pub on_one_line : ℕ → ℕ
+on_one_line b = if b == 10 then 32 else b
+
+-- a number behind a colon
+abbrev pub behind_colon : ℕ → List ℕ
+behind_colon n = 58 ∷ decimal n
+
+-- the line that names a file
+abbrev pub file_line : List ℕ → List ℕ
+file_line name = map on_one_line name ++ 10 ∷ []
+
+-- the line that names a file and a line of it
+abbrev pub number_line : List ℕ → ℕ → List ℕ
+number_line name n = map on_one_line name ++ behind_colon n ++ 10 ∷ []
+
+-- the line that names a file, a line of it and a column
+abbrev pub position_line : List ℕ → Position → List ℕ
+position_line name p =
+    map on_one_line name ++ behind_colon p.line ++ behind_colon p.column ++ 10 ∷ []
+
+-- the line that names a file, and the position of a byte of its text where one is to be named
+abbrev pub place_line : List ℕ → List ℕ → Option ℕ → List ℕ
+place_line name text None = file_line name
+place_line name text (Some at) = position_line name (position_at text at)
+
+-- the text begins with these bytes, as they are shown
+pub record Begins (front text : List ℕ) : Type 0 where
+  pub rest : List ℕ
+  pub is : text ≡ map shown front ++ rest
+
+-- the text is this head, an excerpt that shows something, and a sentence, as they are shown
+pub record IsExplanation (head : List ℕ) (Shows : List ℕ → Type 0) (text : List ℕ) : Type 0 where
+  pub excerpt : List ℕ
+  pub sentence : List ℕ
+  pub is : text ≡ map shown head ++ map shown excerpt ++ map shown sentence
+  pub shows : Shows excerpt

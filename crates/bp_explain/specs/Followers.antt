@@ -1,0 +1,18 @@
+-- With which tokens a text may go on.
+use Rattle.std.specs.Prelude.{◌⊎◌, ℕ, List, ◌∷◌, ◌++◌, length}
+use Rattle.bp_tree.specs.Ast.{Program}
+use Rattle.bp_syntax.specs.Texts.{IsTextOf, IsRefusal}
+use Rattle.bp_syntax.specs.declared.faults.ReadFault.TheVariants.{Syntax}
+
+-- the text is a program
+pub record IsProgram (text : List ℕ) : Type 0 where
+  pub program : Program
+  pub derived : IsTextOf text program
+
+-- a program begins with the text: it is one, or it only ends too early
+abbrev pub BeginsProgram : List ℕ → Type 0
+BeginsProgram text = IsProgram text ⊎ IsRefusal text (Syntax (length text))
+
+-- a program begins with the front and, on the next line, the token
+abbrev pub MayFollow : List ℕ → List ℕ → Type 0
+MayFollow front token = BeginsProgram (front ++ 10 ∷ token)

@@ -1,0 +1,4 @@
+pub mod Excerpts
+pub mod Explained
+pub mod Explanations
+pub mod Followers

@@ -1,0 +1,73 @@
+//! How many arguments a call has, and how many variables and values an assignment.
+
+use crate::parts::part_from;
+use crate::pieces::take_piece;
+
+/// How many tokens and commas the own text of a statement has, up to its `;`.
+#[derive(Clone, Copy, Debug)]
+struct Tally {
+    tokens: usize,
+    /// The commas before `:=`, or all where there is none.
+    first_commas: usize,
+    /// The commas behind `:=`.
+    second_commas: usize,
+    is_behind: bool,
+}
+
+/// What a tally is before any token.
+const EMPTY: Tally = Tally {
+    tokens: 0,
+    first_commas: 0,
+    second_commas: 0,
+    is_behind: false,
+};
+
+/// The tally with one more token.
+fn with_token(tally: Tally, token: &[u8]) -> Tally {
+    let mut tally = tally;
+    tally.tokens = tally.tokens.saturating_add(1);
+    if token == b":=".as_slice() {
+        tally.is_behind = true;
+    } else if token == b",".as_slice() && tally.is_behind {
+        tally.second_commas = tally.second_commas.saturating_add(1);
+    } else if token == b",".as_slice() {
+        tally.first_commas = tally.first_commas.saturating_add(1);
+    }
+    tally
+}
+
+/// The tally of the statement at this place.
+fn tally_at(text: &[u8], at: usize) -> Tally {
+    let mut tally = EMPTY;
+    let mut rest = part_from(text, at);
+    while let Some(piece) = take_piece(&mut rest) {
+        if piece.words == b";".as_slice() {
+            return tally;
+        }
+        if !piece.is_gap {
+            tally = with_token(tally, piece.words);
+        }
+    }
+    tally
+}
+
+/// How many tokens a call without arguments has: its name and two brackets.
+const BARE_CALL: usize = 3;
+
+/// How many arguments the call has whose name is at this place.
+pub(crate) fn argument_count(text: &[u8], at: usize) -> usize {
+    let tally = tally_at(text, at);
+    if tally.tokens <= BARE_CALL {
+        return 0;
+    }
+    tally.first_commas.saturating_add(1)
+}
+
+/// How many variables and how many values the assignment has whose first variable is at this place.
+pub(crate) fn side_counts(text: &[u8], at: usize) -> (usize, usize) {
+    let tally = tally_at(text, at);
+    (
+        tally.first_commas.saturating_add(1),
+        tally.second_commas.saturating_add(1),
+    )
+}

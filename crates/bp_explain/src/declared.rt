@@ -1,0 +1,46 @@
+//! What the name at a place of a program's text stands among.
+
+use bp_syntax::Tree;
+use bp_tree::{Name, Proc};
+
+/// The first of the names that is spelled so.
+pub(crate) fn first_named<'a>(names: &'a [Name], spelling: &[u8]) -> Option<&'a Name> {
+    names.iter().find(|name| name.text().as_bytes() == spelling)
+}
+
+/// The first of the procedures whose name is spelled so.
+pub(crate) fn first_procedure<'a>(tree: &'a Tree, spelling: &[u8]) -> Option<&'a Proc> {
+    tree.procs()
+        .iter()
+        .find(|proc| proc.name().text().as_bytes() == spelling)
+}
+
+/// The procedure in whose text this place is.
+pub(crate) fn procedure_around(tree: &Tree, at: usize) -> Option<&Proc> {
+    tree.procs()
+        .iter()
+        .rfind(|proc| proc.name().at() as usize <= at)
+}
+
+/// What a name that is declared at a place is.
+#[derive(Clone, Copy, Debug, PartialEq, Eq)]
+pub(crate) enum Role {
+    Global,
+    Procedure,
+    Own,
+}
+
+/// What the name that is declared at this place is.
+pub(crate) fn role_at(tree: &Tree, at: usize) -> Role {
+    if tree.globals().iter().any(|name| name.at() as usize == at) {
+        return Role::Global;
+    }
+    if tree
+        .procs()
+        .iter()
+        .any(|proc| proc.name().at() as usize == at)
+    {
+        return Role::Procedure;
+    }
+    Role::Own
+}

@@ -1,0 +1,34 @@
+//! Explanations of faults, for people: where in a file a fault is, the line, and what was expected
+//! there or what is wrong.
+#![tactic(auto)]
+
+mod call_sentences;
+mod candidates;
+mod check_sentences;
+mod counts;
+mod declared;
+mod excerpts;
+mod explanations;
+mod head_sentences;
+mod heads;
+mod hints;
+mod line_sentences;
+mod lines;
+mod numbers;
+mod offers;
+mod parts;
+mod pieces;
+mod programs;
+mod read_sentences;
+mod schedules;
+mod sentences;
+mod setup_sentences;
+mod syntax_sentences;
+mod trace_heads;
+mod traces;
+mod turns;
+mod walks;
+
+pub use programs::explain_program;
+pub use schedules::explain_schedule;
+pub use traces::explain_trace;

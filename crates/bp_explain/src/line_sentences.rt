@@ -1,0 +1,80 @@
+//! Sentences on a line of a trace that is no line of calls and no end.
+
+use crate::excerpts::push_line;
+use crate::lines::{Line, line_of};
+use crate::numbers::number_at_front;
+use crate::sentences::{push_all, push_count, push_number};
+use crate::trace_heads::{entry_count, is_in_pieces};
+use std::alloc::AllocError;
+
+/// What begins the line that ends a trace.
+const END: &[u8] = b"end ";
+
+/// The thread that the line names, where its front is that of a line of calls.
+fn thread_of(line: Option<Line<'_>>) -> Option<u32> {
+    let (thread, _) = number_at_front(line?.words)?;
+    Some(thread)
+}
+
+fn push_no_thread(out: &mut Vec<u8>, thread: u32, threads: usize) -> Result<(), AllocError> {
+    push_all(out, &[b"there is no thread "])?;
+    push_number(out, thread as usize)?;
+    push_all(out, &[b": the trace has "])?;
+    push_count(out, threads, b"thread")?;
+    push_all(out, &[b", counted from 0\n"])
+}
+
+fn push_same_thread(out: &mut Vec<u8>, thread: u32) -> Result<(), AllocError> {
+    push_all(out, &[b"the line before is of thread "])?;
+    push_number(out, thread as usize)?;
+    push_all(out, &[b" too, and has all its successive calls\n"])
+}
+
+/// Adds what a line behind the head of a trace may be.
+fn push_forms(out: &mut Vec<u8>, trace: &[u8]) -> Result<(), AllocError> {
+    let calls: &[u8] = if is_in_pieces(trace) {
+        b"'0 1s0s', a thread and then the choice bit and the letter of the reply of each call"
+    } else {
+        b"'0 1 s', a thread, a choice bit and the letter of the reply"
+    };
+    push_all(
+        out,
+        &[b"expected a line as ", calls, b", or 'end CALLS OPEN'\n"],
+    )
+}
+
+/// Adds why this line is none of a trace, where the line before is that.
+fn push_sentence(
+    out: &mut Vec<u8>,
+    trace: &[u8],
+    line: Line<'_>,
+    before: Option<Line<'_>>,
+) -> Result<(), AllocError> {
+    let threads = entry_count(trace);
+    let thread = thread_of(Some(line));
+    if before.is_some_and(|line| line.words.starts_with(END)) {
+        return push_all(out, &[b"nothing may follow the end line\n"]);
+    }
+    match thread {
+        Some(thread) if thread as usize >= threads => push_no_thread(out, thread, threads),
+        Some(thread) if is_in_pieces(trace) && thread_of(before) == Some(thread) => {
+            push_same_thread(out, thread)
+        }
+        _ if !line.is_ended => push_all(out, &[b"there is no line feed behind this line\n"]),
+        _ => push_forms(out, trace),
+    }
+}
+
+/// Adds this line of a trace, which is no line of calls and no end, and what it should have been.
+pub(crate) fn push_body_line(
+    out: &mut Vec<u8>,
+    trace: &[u8],
+    number: usize,
+) -> Result<(), AllocError> {
+    let before = line_of(trace, number.saturating_sub(1));
+    push_line(out, trace, number)?;
+    match line_of(trace, number) {
+        Some(line) => push_sentence(out, trace, line, before),
+        None => Ok(()),
+    }
+}

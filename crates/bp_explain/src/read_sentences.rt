@@ -1,0 +1,120 @@
+//! Sentences on faults of a text: what is wrong before the text is a tree.
+ghost use Rattle.std.specs.Prelude.{IfOk};
+ghost use Rattle.bp_syntax.specs.Faults.{read_fault_place};
+ghost use Rattle.bp_explain.specs.Explanations.{place_line, IsExplanation, IsPlain};
+ghost use Rattle.bp_explain.specs.Excerpts.{ShowsFault};
+
+use crate::excerpts::excerpt_of;
+use crate::explanations::explanation_of_place;
+use crate::heads::head_of_place;
+use crate::sentences::{push_all, push_number, push_quoted};
+use crate::syntax_sentences::push_syntax;
+use bp_syntax::ReadFault;
+use bp_syntax::limits::{NESTING_LIMIT, SUCCESSION_LIMIT, TEXT_LIMIT};
+use std::alloc::{AllocError, Global};
+
+fn push_too_long(out: &mut Vec<u8>) -> Result<(), AllocError> {
+    push_all(out, &[b"a program has at most "])?;
+    push_number(out, TEXT_LIMIT)?;
+    push_all(out, &[b" bytes\n"])
+}
+
+/// What a writer may have meant by a byte with which nothing begins.
+fn hint(byte: u8) -> &'static [u8] {
+    match byte {
+        b'2'..=b'9' => b"; the constants are 0 and 1",
+        b'/' => b"; a comment begins with '//'",
+        b'}' => b"; no name in braces is open",
+        b'>' => b"; an implication is written '=>'",
+        b'<' | b'+' | b'-' | b'*' => b"; all variables are bits",
+        b'"' | b'\'' => b"; there are no texts in a program",
+        _ => b"",
+    }
+}
+
+/// Adds that nothing begins with this byte, which is named by its number where a terminal does not
+/// show it.
+fn push_bad_byte(out: &mut Vec<u8>, byte: u8) -> Result<(), AllocError> {
+    push_all(out, &[b"nothing in a program begins with "])?;
+    if matches!(byte, b'!'..=b'~') {
+        push_quoted(out, &[byte])?;
+    } else {
+        push_all(out, &[b"the byte "])?;
+        push_number(out, usize::from(byte))?;
+    }
+    push_all(out, &[hint(byte), b"\n"])
+}
+
+fn push_open_name(out: &mut Vec<u8>) -> Result<(), AllocError> {
+    push_all(
+        out,
+        &[
+            b"this name is not closed: a name in braces has printable ASCII characters alone, \
+            and ends with '}'\n",
+        ],
+    )
+}
+
+fn push_too_nested(out: &mut Vec<u8>) -> Result<(), AllocError> {
+    push_all(out, &[b"'if' and 'while' nest at most "])?;
+    push_number(out, NESTING_LIMIT)?;
+    push_all(out, &[b" deep\n"])
+}
+
+fn push_too_many(out: &mut Vec<u8>) -> Result<(), AllocError> {
+    push_all(out, &[b"at most "])?;
+    push_number(out, SUCCESSION_LIMIT)?;
+    push_all(
+        out,
+        &[
+            b" tokens follow one another without one of \
+            ';', 'then', 'do', 'else', 'fi', 'od', 'begin' or 'end'\n",
+        ],
+    )
+}
+
+/// Adds the sentence on a fault at this place of the text.
+fn push_sentence(
+    alloc: Global,
+    out: &mut Vec<u8>,
+    text: &[u8],
+    fault: &ReadFault,
+) -> Result<(), AllocError> {
+    match fault {
+        ReadFault::TooLong => push_too_long(out),
+        ReadFault::BadByte(at) => {
+            let byte = text.get(*at as usize).copied().unwrap_or(0);
+            push_bad_byte(out, byte)
+        }
+        ReadFault::OpenName(_) => push_open_name(out),
+        ReadFault::TooNested(_) => push_too_nested(out),
+        ReadFault::TooManyTokens(_) => push_too_many(out),
+        ReadFault::Syntax(at) => push_syntax(alloc, out, text, *at as usize),
+        ReadFault::Memory => Ok(()),
+    }
+}
+
+/// Explains why a text is not that of a tree.
+pub(crate) fn explain_read(
+    alloc: Global,
+    name: &str,
+    text: &[u8],
+    fault: &ReadFault,
+) -> Result<Vec<u8>, AllocError>
+    ensures is { IfOk result (λ v.
+        let place = read_fault_place fault.now in
+        IsExplanation (place_line name.now text.now place) (ShowsFault text.now place) v.items) }
+    ensures plain { IfOk result (λ v. IsPlain v.items) }
+{
+    let place = fault.place();
+    let head = head_of_place(alloc, name, text, place)?;
+    let excerpt = excerpt_of(alloc, text, place)?;
+    let mut sentence = Vec::new(alloc);
+    push_sentence(alloc, &mut sentence, text, fault)?;
+    explanation_of_place(
+        alloc,
+        head.as_slice(),
+        excerpt.as_slice(),
+        sentence.as_slice(),
+    )
+}

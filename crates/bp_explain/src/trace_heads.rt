@@ -1,0 +1,87 @@
+//! The lines of a trace's head: which is which, and the setup that they say.
+
+use crate::lines::{line_of, take_line, text_from_line};
+use crate::parts::{part_before, part_from};
+use crate::sentences::{push_all, push_number};
+use bp_code::Code;
+use bp_machine::Setup;
+use bp_trace::{ReplayFault, Replayed, replay};
+use std::alloc::{AllocError, Global};
+
+/// What begins an entry line.
+pub(crate) const ENTRY: &[u8] = b"entry ";
+
+/// The line on which the first entry is due.
+pub(crate) const FIRST_ENTRY: usize = 2;
+
+/// How many lines of a head are behind its entries.
+const LINES_BEHIND_ENTRIES: usize = 4;
+
+/// How many entry lines a trace has.
+pub(crate) fn entry_count(trace: &[u8]) -> usize {
+    let mut rest = text_from_line(trace, FIRST_ENTRY);
+    let mut count = 0usize;
+    while let Some(line) = take_line(&mut rest) {
+        let has_name = line.words.len() > ENTRY.len();
+        if !line.is_ended || !has_name || !line.words.starts_with(ENTRY) {
+            return count;
+        }
+        count = count.saturating_add(1);
+    }
+    count
+}
+
+/// The name on the entry line of a thread.
+pub(crate) fn entry_of(trace: &[u8], thread: usize) -> &[u8] {
+    match line_of(trace, thread.saturating_add(FIRST_ENTRY)) {
+        Some(line) => part_from(line.words, ENTRY.len()),
+        None => part_before(trace, 0),
+    }
+}
+
+/// The number of the line on which the initial bits are due.
+pub(crate) fn init_line(trace: &[u8]) -> usize {
+    entry_count(trace).saturating_add(FIRST_ENTRY)
+}
+
+/// The lines of a trace behind its head.
+pub(crate) fn body_of(trace: &[u8]) -> &[u8] {
+    text_from_line(trace, init_line(trace).saturating_add(LINES_BEHIND_ENTRIES))
+}
+
+/// Whether the trace is of version 2.
+pub(crate) fn is_in_pieces(trace: &[u8]) -> bool {
+    trace.starts_with(b"btrace 2\n")
+}
+
+/// The trace of no call with the head of this one.
+fn trace_without_calls(alloc: Global, trace: &[u8]) -> Result<Vec<u8>, AllocError> {
+    let head_size = trace.len().saturating_sub(body_of(trace).len());
+    let mut text = Vec::new(alloc);
+    push_all(&mut text, &[part_before(trace, head_size), b"end 0 "])?;
+    // Before any call each line is open.
+    push_number(&mut text, entry_count(trace))?;
+    text.push(b'\n')?;
+    Ok(text)
+}
+
+/// The setup that the head of a trace says, where it is one of this code.
+pub(crate) fn setup_of(
+    alloc: Global,
+    code: &Code,
+    trace: &[u8],
+) -> Result<Option<Setup>, AllocError> {
+    let text = trace_without_calls(alloc, trace)?;
+    let replayed = match replay(alloc, code, text.as_slice()) {
+        Ok(replayed) => replayed,
+        Err(ReplayFault::Memory) => return Err(AllocError),
+        Err(_) => return Ok(None),
+    };
+    let Replayed {
+        setup,
+        history: _,
+        printed: _,
+        report: _,
+    } = replayed;
+    Ok(Some(setup))
+}

@@ -1,0 +1,107 @@
+//! A walk over the calls of a trace, each of which the machine makes for itself, up to the first
+//! that is not the machine's.
+ghost use Rattle.std.specs.Prelude.{◌<◌, ◌≤◌, length};
+ghost use Rattle.bp_code.specs.StandsFor.{StandsFor};
+
+use crate::lines::take_line;
+use crate::numbers::number_at_front;
+use crate::trace_heads::{body_of, setup_of};
+use crate::turns::{Turn, take_turn};
+use bp_code::Code;
+use bp_machine::{AskFault, Call, Report, Session};
+use std::alloc::{AllocError, Global};
+
+/// Why a walk stops, and at which byte of the trace.
+#[derive(Clone, Copy, Debug)]
+pub(crate) enum Stop {
+    /// The machine's own call has another choice bit than this digit.
+    Bit(Call, usize),
+    /// The machine's own call has another reply than this letter.
+    Reply(Call, usize),
+    /// The thread of this call has made its last one.
+    Finished(u32, usize),
+    /// There are no further calls. This is what the calls come to.
+    End(Report, usize),
+}
+
+/// The digit of a choice bit.
+pub(crate) fn digit_of(bit: bool) -> u8 {
+    if bit { b'1' } else { b'0' }
+}
+
+/// The machine's own call of the thread, with the bit of the seed where there is one, else with
+/// that of the trace; none where the thread makes no further call.
+fn own_call(
+    session: &mut Session,
+    is_seeded: bool,
+    thread: u32,
+    turn: Turn,
+) -> Result<Option<Call>, AllocError> {
+    let asked = if is_seeded {
+        session.ask(thread)
+    } else {
+        session.ask_with(thread, turn.digit == b'1')
+    };
+    match asked {
+        Ok(own) => Ok(Some(own)),
+        Err(AskFault::Memory) => Err(AllocError),
+        Err(_) => Ok(None),
+    }
+}
+
+/// Makes the calls of a line, whose turns end at this byte of the trace, up to the first that is
+/// not the machine's.
+fn walk_line(
+    session: &mut Session,
+    is_seeded: bool,
+    thread: u32,
+    turns: &[u8],
+    end: usize,
+) -> Result<Option<Stop>, AllocError> {
+    let mut rest = turns;
+    while let Some(turn) = take_turn(&mut rest) {
+        let digit_at = end.saturating_sub(turn.behind_digit).saturating_sub(1);
+        let Some(own) = own_call(session, is_seeded, thread, turn)? else {
+            return Ok(Some(Stop::Finished(thread, digit_at)));
+        };
+        if digit_of(own.bit) != turn.digit {
+            return Ok(Some(Stop::Bit(own, digit_at)));
+        }
+        if own.reply.letter() != turn.letter {
+            let letter_at = end.saturating_sub(rest.len()).saturating_sub(1);
+            return Ok(Some(Stop::Reply(own, letter_at)));
+        }
+    }
+    Ok(None)
+}
+
+/// Makes the calls of a trace, up to the first that is not the machine's.
+fn walk_calls(session: &mut Session, is_seeded: bool, trace: &[u8]) -> Result<Stop, AllocError> {
+    let mut rest = body_of(trace);
+    let mut at = trace.len().saturating_sub(rest.len());
+    while let Some(line) = take_line(&mut rest) {
+        let Some((thread, turns)) = number_at_front(line.words) else {
+            return Ok(Stop::End(session.report(), at));
+        };
+        let end = at.saturating_add(line.words.len());
+        if let Some(stop) = walk_line(session, is_seeded, thread, turns, end)? {
+            return Ok(stop);
+        }
+        at = trace.len().saturating_sub(rest.len());
+    }
+    Ok(Stop::End(session.report(), at))
+}
+
+/// Where the calls of a trace are no longer the machine's. There is no answer where the head says
+/// no setup of this code.
+pub(crate) fn walk(alloc: Global, code: &Code, trace: &[u8]) -> Result<Option<Stop>, AllocError> {
+    let Some(setup) = setup_of(alloc, code, trace)? else {
+        return Ok(None);
+    };
+    if !setup.fits(code) {
+        return Ok(None);
+    }
+    let mut session = Session::new(alloc, code, &setup)?;
+    let stop = walk_calls(&mut session, setup.seed().is_some(), trace)?;
+    Ok(Some(stop))
+}

@@ -1,0 +1,64 @@
+//! Explanations: a refusal of memory gives none.
+use super::ready::code;
+use super::{tell, wants};
+use bp_explain::{explain_program, explain_schedule, explain_trace};
+use bp_trace::DriveFault;
+use std::alloc::{AllocError, Global};
+use std::test::Fail;
+
+const PROGRAM: &[u8] = b"decl x; main() begin x := 1; end";
+
+const TRACE: &[u8] =
+    b"btrace 1\nentry main\ninit 0\ncontexts 2\ncalls 9\nseed none\n0 0 s\n0 0 b\n";
+
+/// What explains that no statement begins where an expression is due, that a procedure is not
+/// there, that a call has another reply, and that a line is none of a schedule.
+const WANTED: [&[u8]; 4] = [
+    b"f:1:22\n    decl x; main() begin := 1; end\n                         ^\n\
+    expected a statement or 'decl', not ':='\n",
+    b"f:1:14\n    main() begin f(); end\n                 ^\nthere is no procedure 'f'\n",
+    b"f:8\n    0 0 b\n        ^\nexpected '0 0 s': the thread makes a step\n",
+    b"f:1\n    0 2\nexpected a line as '0 1', a thread, one space and a choice bit\n",
+];
+
+/// The explanation of this number.
+fn explanation(alloc: Global, number: usize) -> Result<Result<Vec<u8>, AllocError>, Fail> {
+    let explained = match number {
+        0 => explain_program(alloc, "f", b"decl x; main() begin := 1; end"),
+        1 => explain_program(alloc, "f", b"main() begin f(); end"),
+        2 => explain_trace(alloc, &code(alloc, PROGRAM)?, "f", TRACE),
+        _ => explain_schedule(alloc, "f", b"0 2\n", &DriveFault::Line(1)),
+    };
+    Ok(explained)
+}
+
+/// Whether the explanation of this number was refused once.
+fn explains(alloc: Global, number: usize) -> Result<bool, Fail> {
+    let (explained, was_refused) = match explanation(alloc, number)? {
+        Ok(explained) => (explained, false),
+        Err(_) => (explanation(alloc, number)??, true),
+    };
+    let wanted = WANTED.get(number).copied().unwrap_or(b"");
+    wants(explained.as_slice() == wanted)?;
+    Ok(was_refused)
+}
+
+#[test]
+fn explain_a_token(rt: HostRuntime) -> Result<(), Fail> {
+    tell(&rt, explains(rt.alloc(), 0)?)
+}
+
+#[test]
+fn explain_a_name(rt: HostRuntime) -> Result<(), Fail> {
+    tell(&rt, explains(rt.alloc(), 1)?)
+}
+
+#[test]
+fn explain_a_trace(rt: HostRuntime) -> Result<(), Fail> {
+    tell(&rt, explains(rt.alloc(), 2)?)
+}
+
+#[test]
+fn explain_a_schedule(rt: HostRuntime) -> Result<(), Fail> {
+    tell(&rt, explains(rt.alloc(), 3)?)
+}
