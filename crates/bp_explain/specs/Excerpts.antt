@@ -1,10 +1,9 @@
 -- A line of a text, and a caret below one of its bytes.
-use Rattle.std.specs.Prelude.{◌≡◌, ◌⊎◌, ◌==◌, ℕ, List, [], ◌∷◌, ◌++◌, Option, None, Some, length, take, drop, replicate}
+use Rattle.std.specs.Prelude.{◌≡◌, ◌⊎◌, ◌==◌, ℕ, List, [], ◌∷◌, ◌++◌, Option, None, Some, length, take, drop}
 use Rattle.std.specs.List.{before_first}
+use Rattle.bp_view.specs.Columns.{spaces}
+use Rattle.bp_view.specs.Positions.{position_at}
 use Rattle.bp_explain.specs.declared.excerpts.TheConstants.{INDENT, MAX_BEHIND}
-
-abbrev pub spaces : ℕ → List ℕ
-spaces n = replicate n 32
 
 -- the bytes before the first line feed
 abbrev pub first_line : List ℕ → List ℕ
@@ -28,9 +27,13 @@ pub record PointsAt (text : List ℕ) (at : ℕ) (old new : List ℕ) : Type 0 w
   pub more : List ℕ
   pub is : new ≡ old ++ with_caret front (shown_from text at ++ more)
 
--- added is nothing, or a line with a caret below the place
+-- the line of this place has no byte
+abbrev pub HasEmptyLine : List ℕ → ℕ → Type 0
+HasEmptyLine text at = (first_line (drop at text) ≡ []) × ((position_at text at).column ≡ 1)
+
+-- added is a line with a caret below the place, or nothing where the line of the place is empty
 abbrev pub ShowsPlace : List ℕ → ℕ → List ℕ → List ℕ → Type 0
-ShowsPlace text at old new = (new ≡ old) ⊎ PointsAt text at old new
+ShowsPlace text at old new = (HasEmptyLine text at × (new ≡ old)) ⊎ PointsAt text at old new
 
 -- the excerpt for a fault that names this byte of the text, or none
 abbrev pub ShowsFault : List ℕ → Option ℕ → List ℕ → Type 0

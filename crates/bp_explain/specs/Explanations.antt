@@ -1,6 +1,7 @@
 -- What an explanation begins with, and which bytes it has.
 use Rattle.std.specs.Prelude.{if◌then◌else◌, ◌≡◌, ◌==◌, ◌||◌, ◌&&◌, nat_le, ℕ, Bool, true, List, [], ◌∷◌, ◌++◌, Option, None, Some, All, map, decimal}
 use Rattle.bp_view.specs.declared.positions.Position.{Position}
+use Rattle.bp_view.specs.OneLine.{on_one_line}
 use Rattle.bp_view.specs.Positions.{position_at}
 
 -- the byte is a line feed, or a character that a terminal shows in one column
@@ -14,10 +15,6 @@ shown b = if is_plain b then b else if b == 9 || b == 13 then 32 else 63
 -- a terminal shows the text as it is
 abbrev pub IsPlain : List ℕ → Type 0
 IsPlain text = All (λ b. is_plain b ≡ true) text
-
--- a space stands for a line feed
-abbrev pub on_one_line : ℕ → ℕ
-on_one_line b = if b == 10 then 32 else b
 
 -- a number behind a colon
 abbrev pub behind_colon : ℕ → List ℕ

@@ -1,9 +1,11 @@
 //! A line of a text with a caret below a place.
 ghost use Rattle.std.specs.Prelude.{◌≡◌, ◌++◌, ◌∷◌, [], length, OnOk, IfOk};
-ghost use Rattle.bp_explain.specs.Excerpts.{spaces, with_caret, shown_from, ShowsPlace, ShowsFault};
+ghost use Rattle.bp_view.specs.Columns.{spaces};
+ghost use Rattle.bp_explain.specs.Excerpts.{with_caret, shown_from, ShowsPlace, ShowsFault};
 
 use crate::lines::text_from_line;
 use crate::parts::{first_line, last_line, part_before, part_from};
+use bp_view::position_of;
 use std::alloc::{AllocError, Global};
 
 /// So many spaces stand ahead of each line of an excerpt.
@@ -95,11 +97,11 @@ fn shown_from(text: &[u8], at: usize) -> &[u8]
 pub(crate) fn push_place(out: &mut Vec<u8>, text: &[u8], at: usize) -> Result<(), AllocError>
     ensures { OnOk result (ShowsPlace text.now at out.old.items out.new.items) }
 {
-    let before = last_line(part_before(text, at));
     let behind = first_line(part_from(text, at));
-    if before.is_empty() && behind.is_empty() {
+    if behind.is_empty() && position_of(text, at).column == 1 {
         return Ok(());
     }
+    let before = last_line(part_before(text, at));
     let front = shown_end(*out.allocator(), before)?;
     let dots = dots(behind, MAX_BEHIND);
     push_with_caret(out, front.as_slice(), shown_from(text, at), dots)?;

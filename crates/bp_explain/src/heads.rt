@@ -1,6 +1,7 @@
 //! The head of an explanation: which file, and where in it.
 ghost use Rattle.std.specs.Prelude.{◌≡◌, ◌++◌, map, IfOk, OnOk};
-ghost use Rattle.bp_explain.specs.Explanations.{on_one_line, behind_colon, file_line, number_line, position_line, place_line};
+ghost use Rattle.bp_view.specs.OneLine.{on_one_line};
+ghost use Rattle.bp_explain.specs.Explanations.{behind_colon, file_line, number_line, position_line, place_line};
 
 use bp_view::{Position, position_of};
 use itoa::Buffer;

@@ -2,7 +2,8 @@
 ghost use Rattle.std.specs.Prelude.{IfOk, map};
 ghost use Rattle.bp_tree.specs.Ast.{Program};
 ghost use Rattle.bp_code.specs.StandsFor.{StandsFor};
-ghost use Rattle.bp_explain.specs.Explanations.{on_one_line, number_line, Begins, IsPlain};
+ghost use Rattle.bp_view.specs.OneLine.{on_one_line};
+ghost use Rattle.bp_explain.specs.Explanations.{number_line, Begins, IsPlain};
 ghost use Rattle.bp_explain.specs.Explained.{ExplainsTrace};
 
 use crate::call_sentences::push_stop;

@@ -18,15 +18,16 @@ const ROWS: [Row; 27] = [
         expected an expression, not '&'; 'and' is written '&'\n",
     ),
     (
-        b"f() begin\n\tif (0) then\r\n\t\x1b[2J{a\x7f} // a comment that is so long that it is cut somewhere \
-        behind here\n",
+        b"f() begin\n\tif (0) then\r\n\t\x1b[2J{a\x7f} // a comment that is so long that it is \
+        cut somewhere behind here\n",
         b"f:3:2\n     ?[2J{a?} // a comment that is so long th..\n     ^\n\
         nothing in a program begins with the byte 27\n",
     ),
     (b"main() begin skip; end", b""),
     (
         b"decl x, y;\nmain() begin\n    x = y;\nend\n",
-        b"f:3:7\n        x = y;\n          ^\nexpected '(', ',', ':' or ':=', not '='; an assignment is written ':='\n",
+        b"f:3:7\n        x = y;\n          ^\n\
+        expected '(', ',', ':' or ':=', not '='; an assignment is written ':='\n",
     ),
     (
         b"main() begin skip;",

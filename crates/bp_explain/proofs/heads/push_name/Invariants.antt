@@ -1,5 +1,5 @@
 use Rattle.std.proofs.Common.{◌≡◌, ◌++◌, take, map}
-use Rattle.bp_explain.specs.Explanations.{on_one_line}
+use Rattle.bp_view.specs.OneLine.{on_one_line}
 use Rattle.bp_explain.proofs.heads.push_name.Given as goal
 
 abbrev pub invariant-loop-byte : goal.invariant-loop-byte
