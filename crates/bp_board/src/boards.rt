@@ -17,7 +17,7 @@ use std::alloc::{AllocError, Global};
 use std::sync::ledger::Ledger;
 use std::sync::{Mutex, Wait};
 
-/// A desk behind one lock, which workers share.
+/// A monitor: a desk behind one mutex, which the workers share.
 #[derive(Drop)]
 pub struct Board<C: Calls, O: Ledger> {
     pub(crate) desk: Mutex<Desk<C, O>>,

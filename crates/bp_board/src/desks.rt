@@ -21,9 +21,10 @@ use std::alloc::{AllocError, Global};
 use std::marker::Model;
 use std::sync::ledger::{Book, Ledger};
 
-/// A session of guest threads, whose calls are sent to a ring in the order in which they are made.
-/// Whenever nobody is at work on it, what was sent is a legal history of its program and setup,
-/// with the bits of the setup's seed, and its session stands after it.
+/// The state that the lock of a board protects: a session, and the sending end of the ring, to
+/// which each call goes in the order in which the calls are made. Whenever nobody is at work on it,
+/// what was sent is a legal history of its program and setup, with the bits of the setup's seed,
+/// and its session stands after it.
 #[derive(Drop)]
 pub struct Desk<C: Calls, O: Ledger> {
     pub(crate) session: Session,

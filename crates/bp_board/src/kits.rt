@@ -9,8 +9,8 @@ use std::alloc::{AllocError, Global};
 use std::marker::Model;
 use std::sync::ledger::Blank;
 
-/// The blanks of two ledgers, of the calls that are made and of the lines that are open, and the
-/// two ends of a new ring.
+/// The parts from which a board is opened: the two ends of a new ring, and the blanks of two
+/// ledgers, one of the calls that are made and one of the lines that are open.
 #[derive(Drop)]
 pub struct Kit {
     pub(crate) threads: u32,
@@ -31,7 +31,7 @@ impl Model for Kit {
 }
 
 impl Kit {
-    /// A kit for so many guest threads, with a ring that holds so many calls.
+    /// A kit for `threads` guest threads, with a ring that holds `ring` calls.
     pub fn new(alloc: Global, threads: u32, ring: u32) -> Result<Kit, AllocError>
         requires some { 0 < threads }
         requires few { threads ≤ MAX_THREADS }

@@ -1,7 +1,7 @@
 //! The limits of boards.
 
-/// Calls in a ring.
+/// The most calls that a ring holds.
 pub const MAX_RING: u32 = 65_536;
 
-/// Calls in a turn.
+/// The most calls of one turn.
 pub const MAX_TURN: u32 = 64;

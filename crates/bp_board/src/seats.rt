@@ -5,8 +5,8 @@ use crate::ledgers::Calls;
 use std::marker::Model;
 use std::sync::ledger::{Ledger, Share};
 
-/// The seat of a guest thread: who holds it makes the calls of that thread. It has shares of the
-/// two ledgers of its board.
+/// The right to make one guest thread's calls, which belongs to whoever holds the seat. It has
+/// shares of the two ledgers of its board.
 #[derive(Drop)]
 pub struct Seat<C: Calls, O: Ledger> {
     pub(crate) thread: u32,

@@ -9,7 +9,8 @@ use bp_machine::Call;
 use rtrb::Consumer;
 use std::marker::{Model, PhantomData};
 
-/// The receiving end of a board's ring. It takes no lock, and waits for nobody.
+/// The receiving end of a board's ring, which gives the history call by call. It takes no lock, and
+/// never waits.
 #[derive(Drop)]
 pub struct Tap<C: Calls> {
     pub(crate) from: Consumer<Call>,

@@ -31,7 +31,6 @@ impl<'a> Model for Callees<'a> {
 }
 
 impl<'a> Callees<'a> {
-    /// The table of these procedures.
     pub(crate) fn new(alloc: Global, procs: &'a [Proc]) -> Result<Callees<'a>, AllocError>
         ensures { IfOk result (λ c. c ≡ procs.now) }
     {
@@ -39,7 +38,6 @@ impl<'a> Callees<'a> {
         Ok(Callees { procs, names })
     }
 
-    /// Their names, in order.
     pub(crate) fn names(&self) -> &NameTable<'a>
         ensures { result.now ≡ map (λ q. q.name) self.now }
     {

@@ -79,7 +79,7 @@ pub struct CheckRefusal {
     pub fault: CheckFault,
     /// The offset at which its name begins in the text; 0 for `Memory`.
     pub at: u32,
-    /// The tree that was to be checked.
+    /// The tree, given back so that the caller can still use it.
     pub tree: Tree,
 }
 

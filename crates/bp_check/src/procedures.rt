@@ -45,7 +45,6 @@ fn collect_inside<'a>(out: &mut Vec<&'a Stmt>, form: &'a Form) -> Result<(), All
     }
 }
 
-/// Appends the labels of statements.
 fn gather_labels<'a>(out: &mut Vec<&'a Name>, stmts: &[&'a Stmt]) -> Result<(), AllocError>
     ensures { OnOk result (names_of out.new.items
         ≡ names_of out.old.items ++ labels_of (all_labelled stmts.now)) }
@@ -87,7 +86,6 @@ fn all_statements<'a>(alloc: Global, proc: &'a Proc) -> Result<Vec<&'a Stmt>, Al
     Ok(stmts)
 }
 
-/// The labels of statements.
 fn labels_in<'a>(alloc: Global, stmts: &[&'a Stmt]) -> Result<Vec<&'a Name>, AllocError>
     ensures { IfOk result (λ v. names_of v.items ≡ labels_of (all_labelled stmts.now)) }
 {

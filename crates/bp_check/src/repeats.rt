@@ -27,7 +27,6 @@ pub(crate) fn least_repeat(names: &NameTable<'_>, fault: CheckFault) -> Option<F
     best
 }
 
-/// The first name past a limit.
 fn first_past(names: &NameTable<'_>, limit: usize) -> Option<Found>
     ensures { Finds (Only CheckFault.Limit (IsPast limit names.now)) result }
 {

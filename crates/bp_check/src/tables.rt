@@ -36,7 +36,6 @@ impl<'a> Model for NameTable<'a> {
 }
 
 impl<'a> NameTable<'a> {
-    /// The table of these names.
     pub(crate) fn new(alloc: Global, names: Vec<&'a Name>) -> Result<NameTable<'a>, AllocError>
         ensures { IfOk result (λ t. t ≡ names_of names.entry.items) }
     {
@@ -73,7 +72,6 @@ impl<'a> NameTable<'a> {
         NameTable::new(alloc, all)
     }
 
-    /// The names, in order.
     pub(crate) fn names(&self) -> &[&'a Name]
         ensures { names_of result.now ≡ self.now }
     {
@@ -105,7 +103,6 @@ impl<'a> NameTable<'a> {
     }
 }
 
-/// Appends names to a list.
 fn gather<'a>(out: &mut Vec<&'a Name>, names: &'a [Name]) -> Result<(), AllocError>
     ensures { OnOk result (names_of out.new.items ≡ names_of out.old.items ++ names.now) }
 {
@@ -115,7 +112,6 @@ fn gather<'a>(out: &mut Vec<&'a Name>, names: &'a [Name]) -> Result<(), AllocErr
     Ok(())
 }
 
-/// Appends the names of procedures to a list.
 fn gather_procedures<'a>(out: &mut Vec<&'a Name>, procs: &'a [Proc]) -> Result<(), AllocError>
     ensures { OnOk result (names_of out.new.items
         ≡ names_of out.old.items ++ map (λ q. q.name) procs.now) }

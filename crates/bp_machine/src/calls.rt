@@ -46,7 +46,7 @@ impl Reply {
     }
 }
 
-/// One call of a guest thread.
+/// A request of a guest thread to make one step, and the machine's reply.
 #[derive(Clone, Copy, Debug, PartialEq, Eq)]
 pub struct Call {
     /// The thread, from 0.

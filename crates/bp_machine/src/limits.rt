@@ -1,10 +1,10 @@
 //! The limits of a session.
 
-/// Guest threads; there is at least one.
+/// The most guest threads of a session, which has at least one.
 pub const MAX_THREADS: usize = 64;
-/// Contexts that a session may be allowed.
+/// The most contexts that a session may be allowed.
 pub const MAX_CONTEXTS: u32 = 1000;
-/// Calls that a thread may be allowed; at least one is.
+/// The most calls that a thread may be allowed. It is allowed at least one.
 pub const MAX_CALLS: u32 = 100_000;
-/// Frames of a stack.
+/// The most frames of a thread's stack.
 pub const MAX_FRAMES: usize = 1024;

@@ -116,14 +116,13 @@ impl Machine {
         }
     }
 
-    /// The word of the globals.
+    /// The globals, that of slot n in the bit of weight 2 to the n.
     pub(crate) fn globals(&self) -> u128
         ensures { result ≡ self.now.state.globals }
     {
         self.globals
     }
 
-    /// The bit of a global.
     pub(crate) fn global(&self, slot: u8) -> bool
         requires { slot < 128 }
         ensures { result ≡ bits_of self.now.state.globals slot }
@@ -152,7 +151,6 @@ impl Machine {
         matches!(self.outcome, Outcome::Failed { .. })
     }
 
-    /// A guest thread by its number.
     pub(crate) fn thread(&self, thread: u32) -> Option<&GuestThread>
         ensures { option_map (λ g. g.now.guest) result ≡ slice_get self.now.state.threads thread }
     {
@@ -176,7 +174,7 @@ impl Machine {
         count
     }
 
-    /// How many calls were made.
+    /// How many calls all threads made together.
     pub(crate) fn calls(&self) -> u64
         requires { length self.now.state.threads ≤ MAX_THREADS }
         ensures { (t : Program) (s : SetupOf) (h : List Answered)

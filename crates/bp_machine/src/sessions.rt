@@ -53,7 +53,7 @@ pub enum AskFault {
 impl AskFault {
     ghost use Rattle.bp_machine.specs.Sessions.{ask_fault_number};
 
-    /// The number of the fault.
+    /// The number by which users know the fault.
     pub fn number(&self) -> u32
         ensures { result ≡ ask_fault_number self.now }
     {
@@ -258,7 +258,7 @@ impl Session {
         draw(&mut self.choices, call.thread as usize);
     }
 
-    /// The code of the program.
+    /// The code whose instructions the threads step through.
     pub fn code(&self) -> &Code
         ensures { result.now ≡ self.now.code }
     {

@@ -159,7 +159,6 @@ fn fault_of_setup(
     fault_of_numbers(code, init, u64::from(contexts), u64::from(calls))
 }
 
-/// Copies of names.
 fn copies(alloc: Global, names: &[String]) -> Result<Vec<String>, AllocError>
     ensures { IfOk result (λ v. map string_bytes v.items ≡ map string_bytes names.now) }
 {
@@ -177,14 +176,12 @@ fn same_seeds(seed: Option<u64>, other: Option<u64>) -> bool
     seed == other
 }
 
-/// Whether both lists have the same bits in order.
 fn same_bits(bits: &[bool], others: &[bool]) -> bool
     ensures { IsTrue result ↔ (bits.now ≡ others.now) }
 {
     bits == others
 }
 
-/// Whether both lists have the same names in order.
 fn same_names(names: &[String], others: &[String]) -> bool
     ensures { IsTrue result ↔ (map string_bytes names.now ≡ map string_bytes others.now) }
 {
@@ -229,7 +226,6 @@ impl From<AllocError> for SetupFault {
 }
 
 impl Setup {
-    /// The setup that has these parts.
     pub(crate) fn of_parts(
         entries: Vec<String>,
         init: Vec<bool>,
@@ -301,7 +297,7 @@ impl Setup {
         self.init.as_slice()
     }
 
-    /// How many guest threads there are.
+    /// How many guest threads there are: 1 to 64.
     pub fn threads(&self) -> u32
         ensures { result ≡ threads self.now }
     {
@@ -325,14 +321,14 @@ impl Setup {
         self.init.get(n as usize).copied()
     }
 
-    /// How many contexts are allowed.
+    /// How many contexts are allowed: at most 1,000.
     pub fn contexts(&self) -> u32
         ensures { result ≡ self.now.contexts }
     {
         self.contexts
     }
 
-    /// How many calls of each thread are allowed.
+    /// How many calls of each thread are allowed: 1 to 100,000.
     pub fn calls(&self) -> u32
         ensures { result ≡ self.now.calls }
     {
@@ -369,7 +365,7 @@ impl Setup {
             && same_names(self.entries.as_slice(), other.entries.as_slice())
     }
 
-    /// A copy, which equals its source.
+    /// Copies the setup. Each session keeps a copy of its own.
     pub fn try_copy(&self) -> Result<Setup, AllocError>
         ensures { IfOk result (λ s. s ≡ self.now) }
     {
@@ -394,7 +390,6 @@ impl PartialEq for Setup {
 
     ghost laws = { partial_equiv_from_equiv (same-equiv coded_setup) };
 
-    /// Whether both hold the same arguments.
     fn eq(&self, other: &Setup) -> bool
         ensures gives { result ≡ same coded_setup self.now other.now }
         ensures equal { IsTrue result ↔ (self.now ≡ other.now) }

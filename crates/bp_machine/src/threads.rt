@@ -16,12 +16,11 @@ pub(crate) enum Transition {
     Stays(Reply),
     /// A failed assertion.
     Fails,
-    /// A step.
+    /// A granted step, with its effect on the thread.
     Steps(Effect),
 }
 
 impl Transition {
-    /// The reply to the call.
     pub(crate) fn reply(&self) -> Reply
         ensures { result ≡ reply_of_transition self.now }
     {
@@ -80,7 +79,6 @@ impl GuestThread {
         self.ended || calls <= self.calls
     }
 
-    /// How many calls it made.
     pub(crate) fn calls(&self) -> u32
         ensures { result ≡ self.now.guest.calls }
     {

@@ -1,14 +1,13 @@
-//! Gates: what workers say of their turns.
+//! Gates: callbacks around the turns of workers.
 use bp_machine::Reply;
 
-/// What a worker calls around each of its turns, while it holds no lock. Whoever starts a run can
-/// so hold a worker back, or watch it.
+/// Callbacks around each turn of a worker, made while it holds no lock. Whoever starts a run can
+/// use them to hold a worker back, or to watch it.
 pub trait Gate: Sync {
-    /// Ahead of each turn, with the number of calls that the thread has made.
+    /// Called before each turn, with the number of calls that the thread has made.
     fn before(&self, thread: u32, call: u64);
 
-    /// Behind each turn that answered a reply, with that reply. A turn that is refused has no
-    /// reply.
+    /// Called after each turn that was answered, with its reply. A turn that is refused has none.
     fn after(&self, thread: u32, reply: Reply);
 }
 

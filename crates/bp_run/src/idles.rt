@@ -1,12 +1,12 @@
-//! How a thread waits that finds nothing to do.
+//! Back-off of an idle thread.
 use std::thread;
 use std::time::{Clock, Duration};
 
-/// So many times a thread only gives way, before it sleeps: far longer than another thread takes to
-/// fill or to empty a ring, so that two threads never wait for each other asleep.
+/// A thread yields this often before it sleeps. That takes far longer than another thread needs to
+/// fill or to empty a ring, so two threads never wait for each other asleep.
 const ROUNDS_AWAKE: u32 = 100_000;
 
-/// For so many microseconds it sleeps then.
+/// How long it then sleeps each time, in microseconds.
 const NAP: u64 = 1_000;
 
 /// How often a thread found nothing to do since it last had something.
@@ -16,7 +16,6 @@ pub(crate) struct Idle {
 }
 
 impl Idle {
-    /// No round yet.
     pub fn new() -> Idle {
         Idle { rounds: 0 }
     }

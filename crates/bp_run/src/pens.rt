@@ -32,7 +32,6 @@ impl<'a, W: Write> Pen<'a, W> {
         }
     }
 
-    /// Writes the head of a trace.
     pub fn head(&mut self, setup: &Setup)
         ensures same_reference { self.new.out.ghost_name ≡ self.old.out.ghost_name }
         ensures inks { Inks (W.contents self.old.out.now) self.old.failed
@@ -44,7 +43,6 @@ impl<'a, W: Write> Pen<'a, W> {
         }
     }
 
-    /// Writes the line of a call.
     pub fn line(&mut self, call: &Call)
         ensures same_reference { self.new.out.ghost_name ≡ self.old.out.ghost_name }
         ensures inks { Inks (W.contents self.old.out.now) self.old.failed

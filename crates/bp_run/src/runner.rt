@@ -138,8 +138,8 @@ fn play<
 
 /// Runs the program of a text under these options, and writes the trace: one worker for each guest
 /// thread makes its calls, and the calling thread writes them while the workers run. It answers the
-/// report of the history that was written. Which legal history that is nobody says; each bit of it
-/// is that of the seed.
+/// report of the history that was written. The contract does not say which legal history that is;
+/// its bits are those of the seed.
 ///
 /// The refusals come in the order of `RunFault`. Nothing is written before all workers were
 /// started; at a write that fails a proper prefix of the trace of a history is written. A worker

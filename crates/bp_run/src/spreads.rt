@@ -6,15 +6,15 @@ use rand_pcg::Lcg64Xsh32;
 use std::sync::atomic::{AtomicU64, Ordering};
 use std::thread;
 
-/// So many times a worker gives way at most, until all have come, and until it is drawn.
+/// The most yields before a worker no longer waits: for all to come, or to be drawn.
 const ROUNDS: u32 = 100_000;
 
 /// So many threads are told apart, as many as a run may have.
 const THREADS: u32 = 64;
 
-/// A gate at which the workers of a run start together, and then take turns as they are drawn by a
-/// seed. Who is drawn and does not come in time is passed over, so it promises nothing about which
-/// runs come: the machine's scheduler has its say.
+/// A gate at which the workers of a run start together, and then take turns in an order drawn by a
+/// seed. A worker that is drawn and does not come in time is passed over. So nothing is promised
+/// about which runs come: the scheduler of the operating system has its say.
 #[derive(Drop)]
 pub struct Spread {
     seed: u64,
@@ -28,7 +28,6 @@ pub struct Spread {
     turns: AtomicU64,
 }
 
-/// The bit of a thread.
 fn bit_of(thread: u32) -> u64 {
     1 << (thread % THREADS)
 }
@@ -40,7 +39,7 @@ fn lot(seed: u64, turn: u64) -> u32 {
 }
 
 impl Spread {
-    /// A gate for so many threads.
+    /// A gate that expects this many threads.
     pub fn new(seed: u64, threads: usize) -> Spread {
         let all = match threads {
             0 => 0,

@@ -61,7 +61,7 @@ impl<'a> Model for Parser<'a> {
 }
 
 impl<'a> Parser<'a> {
-    /// The kind of the next token.
+    /// The kind of the next token, `None` after the last.
     pub(crate) fn peek(&self) -> Option<TokenKind>
         ensures { result ≡ kind_ahead self.now }
     {
@@ -101,7 +101,7 @@ impl<'a> Parser<'a> {
         }
     }
 
-    /// The place of the next token, or the end.
+    /// The place of the next token, `end` where there is none.
     pub(crate) fn place_or(&self, end: u32) -> u32
         ensures { result ≡ place_or end self.now }
     {
@@ -111,7 +111,6 @@ impl<'a> Parser<'a> {
         }
     }
 
-    /// Goes past the next token.
     pub(crate) fn advance(&mut self)
         requires { 0 < length self.old }
         ensures { self.new ≡ drop 1 self.old }

@@ -2,7 +2,7 @@
 ghost use Rattle.std.specs.Prelude.{◌≡◌};
 ghost use Rattle.bp_syntax.specs.Tokens as spelling;
 
-/// The kind of a piece of a text.
+/// What the scan tells apart. Reserved words are identifiers here.
 #[derive(Clone, Copy, Debug, PartialEq, Eq)]
 pub(crate) enum LexemeKind {
     White,

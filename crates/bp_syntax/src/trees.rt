@@ -77,7 +77,7 @@ impl Tree {
         let _ = &self.globals;
     }
 
-    /// A copy, which equals its source.
+    /// Copies the whole program. Fails only if an allocation fails.
     pub fn try_copy(&self) -> Result<Tree, AllocError>
         ensures { IfOk result (λ t. t ≡ self.now) }
     {

@@ -60,7 +60,7 @@ impl Model for Sub {
 }
 
 impl Sub {
-    /// The operand that is this expression.
+    /// Moves an expression into a box. Fails if the allocation fails.
     pub fn new(alloc: Global, expr: Expr) -> Result<Sub, AllocError>
         ensures { IfOk result (λ s. s ≡ expression_of expr) }
     {
@@ -69,14 +69,14 @@ impl Sub {
         })
     }
 
-    /// The expression.
+    /// The expression in the box.
     pub fn get(&self) -> &Expr
         ensures { expression_of result.now ≡ self.now }
     {
         &self.inner
     }
 
-    /// A copy, which equals its source.
+    /// Copies the expression into a box of its own.
     #[cycle(expr)]
     pub fn try_copy(&self) -> Result<Sub, AllocError>
         ensures { IfOk result (λ s. s ≡ self.now) }
@@ -90,7 +90,7 @@ impl Sub {
 }
 
 impl Expr {
-    /// A copy, which equals its source.
+    /// Copies an expression with all its operands, one level of calls for each level of the tree.
     #[cycle(expr)]
     pub fn try_copy(&self) -> Result<Expr, AllocError>
         ensures { IfOk result (λ e. expression_of e ≡ expression_of self.now) }
@@ -117,7 +117,7 @@ pub enum Decider {
 }
 
 impl Decider {
-    /// A copy, which equals its source.
+    /// Copies what decides. `?` needs no allocation.
     pub fn try_copy(&self) -> Result<Decider, AllocError>
         ensures { IfOk result (λ d. decision_of d ≡ decision_of self.now) }
     {
@@ -150,7 +150,7 @@ impl Model for Exprs {
 }
 
 impl Exprs {
-    /// The expressions of a vector.
+    /// Takes over a vector, whose order is that of the text.
     pub fn new(items: Vec<Expr>) -> Exprs
         ensures { result ≡ map expression_of items.items }
     {
@@ -164,7 +164,7 @@ impl Exprs {
         self.items.as_slice()
     }
 
-    /// A copy, which equals its source.
+    /// Copies each expression, in order.
     pub fn try_copy(&self) -> Result<Exprs, AllocError>
         ensures { IfOk result (λ es. es ≡ self.now) }
     {

@@ -45,7 +45,7 @@ impl Name {
         self.at
     }
 
-    /// A copy, which equals its source.
+    /// Copies the spelling. The copy names the same place in the text.
     pub fn try_copy(&self) -> Result<Name, AllocError>
         ensures { IfOk result (λ n. n ≡ self.now) }
     {
@@ -76,7 +76,7 @@ impl Model for Names {
 }
 
 impl Names {
-    /// The names of a vector.
+    /// Takes over a vector, whose order is that of the text.
     pub fn new(items: Vec<Name>) -> Names
         ensures { result ≡ items.items }
     {
@@ -90,7 +90,7 @@ impl Names {
         self.items.as_slice()
     }
 
-    /// A copy, which equals its source.
+    /// Copies each name, in order.
     pub fn try_copy(&self) -> Result<Names, AllocError>
         ensures { IfOk result (λ n. n ≡ self.now) }
     {

@@ -1,4 +1,4 @@
-//! Procedures.
+//! Procedures: what a text declares of each, and its statements.
 ghost use Rattle.std.specs.Prelude.{◌≡◌, IfOk};
 
 use crate::names::{Name, Names};
@@ -6,7 +6,7 @@ use crate::stmts::{Block, Stmt};
 use std::alloc::AllocError;
 use std::marker::Model;
 
-/// A procedure.
+/// A procedure: its name, its formals, its declared locals and its statements.
 #[derive(Drop)]
 pub struct Proc {
     name: Name,
@@ -34,7 +34,7 @@ impl Model for Proc {
 impl Proc {
     ghost use Rattle.bp_tree.specs.Blocks.{block_of};
 
-    /// The procedure of these parts.
+    /// Puts a procedure together. Whether its names are lawful is not checked here.
     pub fn new(name: Name, formals: Names, locals: Names, body: Block) -> Proc
         ensures { result ≡ record { name = name; formals = formals; locals = locals; body = body } }
     {
@@ -46,7 +46,7 @@ impl Proc {
         }
     }
 
-    /// Its name.
+    /// The name by which calls and entries find the procedure.
     pub fn name(&self) -> &Name
         ensures { result.now ≡ self.now.name }
     {
@@ -74,7 +74,7 @@ impl Proc {
         self.body.as_slice()
     }
 
-    /// A copy, which equals its source.
+    /// Copies the procedure with all its statements.
     pub fn try_copy(&self) -> Result<Proc, AllocError>
         ensures { IfOk result (λ p. p ≡ self.now) }
     {
@@ -110,7 +110,7 @@ impl Model for Procs {
 }
 
 impl Procs {
-    /// The procedures of a vector.
+    /// Takes over a vector, whose order is that of the text.
     pub fn new(items: Vec<Proc>) -> Procs
         ensures { result ≡ items.items }
     {
@@ -124,7 +124,7 @@ impl Procs {
         self.items.as_slice()
     }
 
-    /// A copy, which equals its source.
+    /// Copies each procedure, in order.
     pub fn try_copy(&self) -> Result<Procs, AllocError>
         ensures { IfOk result (λ p. p ≡ self.now) }
     {

@@ -1,4 +1,4 @@
-//! Statements.
+//! Statements, and blocks of them.
 ghost use Rattle.std.specs.Prelude.{◌≡◌, IfOk, [], ◌∷◌};
 ghost use Rattle.std.specs.Option.{option_copied};
 ghost use Rattle.bp_tree.specs.Blocks.{statement_of, block_of};
@@ -86,14 +86,14 @@ impl Stmt {
         self.at
     }
 
-    /// What the statement does.
+    /// What the statement does, with its operands and the blocks inside it.
     pub fn form(&self) -> &Form
         ensures { result.now ≡ self.now.form }
     {
         &self.form
     }
 
-    /// A copy, which equals its source.
+    /// Copies the statement with its label and the blocks inside it.
     #[cycle(stmt)]
     pub fn try_copy(&self) -> Result<Stmt, AllocError>
         ensures { IfOk result (λ s. block_of (s ∷ []) ≡ block_of (self.now ∷ [])) }
@@ -111,7 +111,7 @@ impl Stmt {
 }
 
 impl Form {
-    /// A copy, which equals its source.
+    /// Copies the operands and the blocks, one level of calls for each level of nesting.
     #[cycle(stmt)]
     pub fn try_copy(&self) -> Result<Form, AllocError>
         ensures { IfOk result (λ f. statement_of f ≡ statement_of self.now) }
@@ -145,7 +145,7 @@ impl Form {
 }
 
 impl Block {
-    /// The block of these statements.
+    /// Takes over a vector, whose order is that of the text.
     pub fn new(items: Vec<Stmt>) -> Block
         ensures { result ≡ block_of items.items }
     {
@@ -159,7 +159,7 @@ impl Block {
         self.items.as_slice()
     }
 
-    /// A copy, which equals its source.
+    /// Copies each statement, in order.
     #[cycle(stmt)]
     pub fn try_copy(&self) -> Result<Block, AllocError>
         ensures { IfOk result (λ b. b ≡ self.now) }

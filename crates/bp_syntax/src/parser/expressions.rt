@@ -10,7 +10,6 @@ use crate::tokens::TokenKind;
 use bp_tree::{Decider, Expr, Exprs, Op, Sub};
 use std::alloc::{AllocError, Global};
 
-/// The operation of an operator on two operands.
 fn operation(alloc: Global, op: Op, left: Expr, right: Expr) -> Result<Expr, AllocError>
     ensures { IfOk result
         (λ e. expression_of e ≡ Operation op (expression_of left) (expression_of right)) }

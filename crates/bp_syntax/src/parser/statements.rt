@@ -11,7 +11,7 @@ use bp_tree::{Block, Form, Name, Stmt};
 use std::alloc::Global;
 
 impl<'a> Parser<'a> {
-    /// Reads an assignment.
+    /// Reads NAME,+ ":=" expr,+ ";".
     fn assignment(&mut self, alloc: Global) -> Result<Form, Stop>
         ensures reads { ReadsPhrase result AssignThen self.old self.new statement_of }
         ensures shorter { OnOk result (length self.new < length self.old) }
@@ -23,7 +23,7 @@ impl<'a> Parser<'a> {
         Ok(Form::Assign(targets, values))
     }
 
-    /// Reads a call.
+    /// Reads NAME "(" expr,* ")" ";".
     fn call(&mut self, alloc: Global) -> Result<Form, Stop>
         ensures reads { ReadsPhrase result CallThen self.old self.new statement_of }
         ensures shorter { OnOk result (length self.new < length self.old) }
@@ -36,7 +36,7 @@ impl<'a> Parser<'a> {
         Ok(Form::Call(callee, arguments))
     }
 
-    /// Reads a jump.
+    /// Reads "goto" NAME ";".
     fn jump(&mut self, alloc: Global) -> Result<Form, Stop>
         ensures reads { ReadsPhrase result (KeywordThen kind.Goto GotoThen)
             self.old self.new statement_of }
@@ -48,7 +48,7 @@ impl<'a> Parser<'a> {
         Ok(Form::Goto(to))
     }
 
-    /// Reads a print.
+    /// Reads "print" "(" expr,+ ")" ";".
     fn printing(&mut self, alloc: Global) -> Result<Form, Stop>
         ensures reads { ReadsPhrase result (KeywordThen kind.Print PrintThen)
             self.old self.new statement_of }
@@ -62,7 +62,7 @@ impl<'a> Parser<'a> {
         Ok(Form::Print(values))
     }
 
-    /// Reads an assertion.
+    /// Reads "assert" "(" decider ")" ";".
     fn assertion(&mut self, alloc: Global) -> Result<Form, Stop>
         ensures reads { ReadsPhrase result (KeywordThen kind.Assert AssertThen)
             self.old self.new statement_of }
@@ -74,7 +74,7 @@ impl<'a> Parser<'a> {
         Ok(Form::Assert(decider))
     }
 
-    /// Reads an assumption.
+    /// Reads "assume" "(" decider ")" ";".
     fn assumption(&mut self, alloc: Global) -> Result<Form, Stop>
         ensures reads { ReadsPhrase result (KeywordThen kind.Assume AssumeThen)
             self.old self.new statement_of }
@@ -104,7 +104,7 @@ impl<'a> Parser<'a> {
         Ok(Form::If(decider, yes, no))
     }
 
-    /// Reads a loop.
+    /// Reads "while" "(" decider ")" "do" stmt+ "od".
     #[cycle(stmt)]
     fn repetition(&mut self, alloc: Global) -> Result<Form, Stop>
         ensures reads { ReadsPhrase result (KeywordThen kind.While WhileThen)
