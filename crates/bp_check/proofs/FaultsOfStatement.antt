@@ -1,5 +1,5 @@
 -- The faults of one statement.
-use Rattle.std.proofs.Common.{◌≡◌, ◌⊎◌, ℕ, List, [], length, Option, refl, sym, inl, inr, subst}
+use Rattle.std.proofs.Common.{◌⊎◌, ℕ, List, [], Option, refl, sym, inl, inr, subst}
 use Rattle.std.proofs.Common.{Result, Ok, Err, IfOk}
 use Rattle.bp_tree.specs.Ast.{Name, Expression, Statement, Assigns, Calls, GoesTo, Procedure}
 use Rattle.bp_check.specs.declared.faults.CheckFault.{CheckFault}
@@ -9,9 +9,6 @@ use Rattle.bp_check.specs.Faults.{IsUndeclared, IsUneven, HasTargetTwice}
 use Rattle.bp_check.specs.Sets.{Only, IsMisuse, IsStatementFault}
 use Rattle.bp_check.specs.LeastFound.{Finds, least_of}
 use Rattle.bp_check.proofs.LeastOfBoth.{finds_both, finds_same}
-
-pub no_uneven : (targets : List Name) (values : List Expression) (at : ℕ) → length targets ≡ length values → IsUneven (Assigns targets values) at → ⊥
-no_uneven targets values at e x = x.0 e
 
 -- An assignment's faults are those of its two sides.
 

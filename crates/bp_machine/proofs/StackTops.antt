@@ -1,5 +1,5 @@
 -- A stack that is kept with its top last.
-use Rattle.std.proofs.Common.{◌≡◌, ◌⊎◌, ℕ, ◌+◌, ◌-◌, ◌<◌, List, [], ◌∷◌, ◌++◌, length, reverse, None, Some, refl, ap, ◌∙◌, arith, inl, inr}
+use Rattle.std.proofs.Common.{◌≡◌, ◌⊎◌, ℕ, ◌+◌, ◌-◌, ◌<◌, List, [], ◌∷◌, ◌++◌, length, reverse, Some, refl, ap, ◌∙◌, arith, inl, inr}
 use Rattle.std.specs.Prelude.{slice_get, slice_set}
 use Rattle.std.proofs.lemmas.List.{reverse-append, length-append, append_assoc}
 use Rattle.std.proofs.Math.Seq.{set-append_seam}
@@ -37,13 +37,6 @@ top_is xs = elim (snoc xs) [ inl none ↦ rw none refl | inr at ↦ go at.0 at.1
     go ys y is =
         let size : length (ys ++ y ∷ []) - 1 ≡ length ys = omega (arith, length-append ys (y ∷ [])) in
         rw (is, size, last_at ys [] y, reverse_last ys y) refl
-
-pub none_entered : (xs : List ActivationRecord) (f : ActivationRecord) (next : ℕ) → top_of (reverse xs) ≡ None → reverse xs ≡ entered_top f next (reverse xs)
-none_entered xs f next none = go (reverse xs) none
-  where
-    go : (s : List ActivationRecord) → top_of s ≡ None → s ≡ entered_top f next s
-    go [] e = refl
-    go (g ∷ s) e = cc
 
 pub entered : (xs : List ActivationRecord) (f c : ActivationRecord) (next n : ℕ) → top_of (reverse xs) ≡ Some c → n ≡ length xs + 1
     → reverse (slice_set (xs ++ f ∷ []) (n - 2) (record { number = next; locals = c.locals })) ≡ entered_top f next (reverse xs)

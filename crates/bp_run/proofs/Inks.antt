@@ -1,11 +1,11 @@
 -- How what a pen has written adds up.
-use Rattle.std.proofs.Common.{◌≡◌, ℕ, ◌<◌, Bool, false, true, List, [], ◌++◌, Option, Result, Ok, Err, length, take, sym, subst, append_assoc}
+use Rattle.std.proofs.Common.{◌≡◌, ℕ, Bool, false, true, List, [], ◌++◌, Option, Result, Ok, Err, sym, subst, append_assoc}
 use Rattle.std.proofs.lemmas.List.{append-nil}
-use Rattle.std.proofs.KnownBytes.{Appends-nil, Appends-kept}
-use Rattle.std.specs.Io.KnownBytes.{Keeps, Appends}
+use Rattle.std.proofs.KnownBytes.{Appends-nil}
+use Rattle.std.specs.Io.KnownBytes.{Appends}
 use Rattle.std.specs.Result.{is_err}
 use Rattle.bp_code.specs.Writing.{Writes}
-use Rattle.bp_code.proofs.Appends.{all_then, part_first, part_then}
+use Rattle.bp_code.proofs.Appends.{all_then, part_then}
 use Rattle.bp_run.specs.Inks.{IsInked, Inks}
 
 -- a new pen
@@ -27,17 +27,8 @@ pub inks_written : {T E : Type 0} (old now : Option (List ℕ)) (had failed : Bo
 inks_written old now had failed text r fresh is w =
     subst (λ b. Inks old b now failed text) (sym fresh) (inks_more old now failed text (subst (λ b. IsInked old now b text) (sym is) (inked_by old now text r w)))
 
--- the pen that has failed writes nothing
-pub inks_not : (old : Option (List ℕ)) (text : List ℕ) → Inks old true old true text
-inks_not old text first before b = part_first first old before text b
-
 pub inks_none : (old : Option (List ℕ)) (had : Bool) → Inks old had old had []
 inks_none old had first before b = subst (λ w. IsInked first old had w) (sym (append-nil before)) b
-
--- known bytes that are kept are as good as those that were
-pub inks_kept : (old now : Option (List ℕ)) (had : Bool) → Keeps old now → Inks old had now had []
-inks_kept old now false k first before b = record { grown = subst (Appends first now) (sym (append-nil before)) (Appends-kept first old now before b.grown k) }
-inks_kept old now true k first before b = record { count = b.count; short = subst (λ w. b.count < length w) (sym (append-nil before)) b.short; grown = subst (λ w. Appends first now (take b.count w)) (sym (append-nil before)) (Appends-kept first old now _ b.grown k) }
 
 pub inks_then : (old mid now : Option (List ℕ)) (f g h : Bool) (xs ys : List ℕ) → Inks old f mid g xs → Inks mid g now h ys → Inks old f now h (xs ++ ys)
 inks_then old mid now f g h xs ys a b first before i =

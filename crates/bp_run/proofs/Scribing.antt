@@ -34,15 +34,6 @@ scribed_more old mid new had f f' taken t1 t2 c s e w = record {
   inks = inks_line old mid new had f f' s.more c s.inks w;
 }
 
--- nothing was taken, and the writer was flushed
-pub scribed_flushed : (old mid new : Option (List ℕ)) (had f f' : Bool) (taken t1 t2 : List Call)
-    → IsScribed old had mid f taken t1 → t2 ≡ t1 → Inks mid f new f' [] → IsScribed old had new f' taken t2
-scribed_flushed old mid new had f f' taken t1 t2 s e w = record {
-  more = s.more;
-  grown = e ∙ s.grown;
-  inks = subst (λ x. Inks old had new f' x) (append-nil (lines_of s.more)) (inks_then old mid new had f f' (lines_of s.more) [] s.inks w);
-}
-
 pub rest_begins : (old : Option (List ℕ)) (had : Bool) (rest : Option (List Call)) → is_some rest ≡ true → IsRestScribed old had old had rest rest
 rest_begins old had (Some cs) t = record { more = []; left = cs; were = refl; are = refl; inks = inks_none old had }
 rest_begins old had None t = absurd (false≢true t)

@@ -18,11 +18,6 @@ decided_read y {ts} {d} {z} {r} o is c next =
     ∙ decider_read is (λ e. WordThen kind.Close (next e)) (ends_at kind.Close z r closing c)
     ∙ read_word kind.Close (next d) z r c
 
--- what follows the first name of a left side
-not_open : {x : Token} {ts : List Token} {ns : List Name} {y : Token} {r : List Token} → IsNames (x ∷ ts) ns (y ∷ r) → y.kind ≡ kind.Becomes → is_at kind.Open ts ≡ false
-not_open (one_name (first_name h)) b = ap (λ k. is_same_kind k kind.Open) b
-not_open (more_names (first_name h) (first_word c) d) b = ap (λ k. is_same_kind k kind.Open) c
-
 targets_read : {ts : List Token} {ns : List Name} {y : Token} {r : List Token} → IsNames ts ns (y ∷ r) → y.kind ≡ kind.Becomes → (next : ℕ → Statement → Wanted) → parse_result (FormThen next) ts ≡ parse_result (AssignThen (next (place_ahead ts))) ts
 targets_read (one_name (first_name {token = x} {rest = r} h)) b next = assign_ahead next x r h (ap (λ k. is_same_kind k kind.Open) b)
 targets_read (more_names (first_name {token = x} h) (first_word {token = y} {rest = ts} c) d) b next = assign_ahead next x (y ∷ ts) h (ap (λ k. is_same_kind k kind.Open) c)

@@ -1,20 +1,20 @@
 -- What the next tokens say of the parser's result.
-use Rattle.std.proofs.Common.{◌≡◌, ℕ, true, false, List, [], ◌∷◌, ◌++◌, drop, Option, Some, None, Result, Ok, Err, refl, sym, ap, subst, ◌∙◌}
-use Rattle.std.specs.Prelude.{IsErrAnd, is_some}
+use Rattle.std.proofs.Common.{◌≡◌, ℕ, true, false, List, [], ◌∷◌, ◌++◌, drop, Option, Some, Result, Ok, Err, refl, sym, ap, subst, ◌∙◌}
+use Rattle.std.specs.Prelude.{IsErrAnd}
 use Rattle.std.proofs.lemmas.Result.{err_from_is_err_and}
 use Rattle.std.proofs.lemmas.Bool.{false≢true}
-use Rattle.bp_tree.specs.Ast.{Name, Expression, Variable, Operation, Decision, Choose, Block, Done, Then, Statement, Program}
+use Rattle.bp_tree.specs.Ast.{Name, Expression, Variable, Operation, Block, Done, Then, Statement}
 use Rattle.bp_tree.specs.declared.exprs.Op.TheVariants as op
 use Rattle.bp_tree.specs.declared.stmts.Stmt.{Stmt}
 use Rattle.bp_tree.specs.Blocks.{statement_of, block_of}
 use Rattle.bp_syntax.specs.Tokens.{Token}
 use Rattle.bp_syntax.specs.Grammar.{name_of}
-use Rattle.bp_syntax.specs.ParserState.{Wanted, Complete, WordThen, NameThen, MoreNames, UnThen, MoreImplied, MoreExprs, DeciderThen, FormThen, StmtThen, MoreStmts, MoreDecls, NamesThen, ExprThen, ExprsThen, AssignThen, CallThen, is_at, kind_ahead, place_ahead, ParseResult, Got, Stops, result_after, parse_result, wanted_in_form, IsStop, ReadsBy, Reads}
+use Rattle.bp_syntax.specs.ParserState.{Wanted, WordThen, NameThen, UnThen, MoreImplied, FormThen, StmtThen, MoreStmts, ExprThen, AssignThen, CallThen, is_at, kind_ahead, place_ahead, ParseResult, Stops, result_after, parse_result, wanted_in_form, IsStop, ReadsBy}
 use Rattle.bp_syntax.specs.declared.parser.Stop.{Stop}
 use Rattle.bp_syntax.specs.declared.tokens.TokenKind.{TokenKind}
 use Rattle.bp_syntax.specs.declared.tokens.TokenKind.TheVariants as kind
 use Rattle.bp_syntax.proofs.NextTokenIsWanted.{same}
-use Rattle.bp_syntax.proofs.ResultAfterToken.{read_word, read_name, read_comma, read_expr_comma, read_implies, at_kind_un, read_question, at_kind_form, read_label, call_ahead, assign_ahead, read_decl}
+use Rattle.bp_syntax.proofs.ResultAfterToken.{read_word, read_name, read_implies, at_kind_un, at_kind_form, read_label, call_ahead, assign_ahead}
 
 -- a function that passes another's refusal on stops there too
 pub at_exit : {U : Type 0} (r : Result U Stop) (e : Stop) (before : Wanted) (old new : List Token) (after : U → Wanted) (o : ParseResult) → IsErrAnd r (λ d. d ≡ e) → parse_result before old ≡ o → IsStop e o new → ReadsBy r before old new after
@@ -34,25 +34,9 @@ ahead_name next (x ∷ r) h =
     let k : x.kind ≡ kind.Name = cc in
     at_kind_un kind.Name next x r k ∙ sym (read_name (λ n. next (Variable n)) x r k)
 
-pub question_ahead : (next : Decision → Wanted) (ts left : List Token) → is_at kind.Question ts ≡ true → left ≡ drop 1 ts → parse_result (DeciderThen next) ts ≡ parse_result (next Choose) left
-question_ahead next [] left h l = absurd (false≢true h)
-question_ahead next (x ∷ r) left h l = read_question next x r (same x.kind kind.Question h) ∙ ap (parse_result (next Choose)) (sym l)
-
-pub comma_ahead : (acc : List Name) (next : List Name → Wanted) (ts left : List Token) → is_at kind.Comma ts ≡ true → left ≡ drop 1 ts → parse_result (MoreNames acc next) ts ≡ parse_result (NamesThen acc next) left
-comma_ahead acc next [] left h l = absurd (false≢true h)
-comma_ahead acc next (x ∷ r) left h l = read_comma acc next x r (same x.kind kind.Comma h) ∙ ap (parse_result (NamesThen acc next)) (sym l)
-
-pub expr_comma_ahead : (acc : List Expression) (next : List Expression → Wanted) (ts left : List Token) → is_at kind.Comma ts ≡ true → left ≡ drop 1 ts → parse_result (MoreExprs acc next) ts ≡ parse_result (ExprsThen acc next) left
-expr_comma_ahead acc next [] left h l = absurd (false≢true h)
-expr_comma_ahead acc next (x ∷ r) left h l = read_expr_comma acc next x r (same x.kind kind.Comma h) ∙ ap (parse_result (ExprsThen acc next)) (sym l)
-
 pub implies_ahead : (a : Expression) (next : Expression → Wanted) (ts left : List Token) → is_at kind.Implies ts ≡ true → left ≡ drop 1 ts → parse_result (MoreImplied a next) ts ≡ parse_result (ExprThen (λ b. next (Operation op.Implies a b))) left
 implies_ahead a next [] left h l = absurd (false≢true h)
 implies_ahead a next (x ∷ r) left h l = read_implies a next x r (same x.kind kind.Implies h) ∙ ap (parse_result (ExprThen (λ b. next (Operation op.Implies a b)))) (sym l)
-
-pub decl_ahead : (acc : List Name) (next : List Name → Wanted) (ts left : List Token) → is_at kind.Decl ts ≡ true → left ≡ drop 1 ts → parse_result (MoreDecls acc next) ts ≡ parse_result (NamesThen acc (λ ns. WordThen kind.Semicolon (MoreDecls ns next))) left
-decl_ahead acc next [] left h l = absurd (false≢true h)
-decl_ahead acc next (x ∷ r) left h l = read_decl acc next x r (same x.kind kind.Decl h) ∙ ap (parse_result (NamesThen acc (λ ns. WordThen kind.Semicolon (MoreDecls ns next)))) (sym l)
 
 -- a label comes
 pub label_ahead : (next : Option Name → ℕ → Statement → Wanted) (ts : List Token) → is_at kind.Name ts ≡ true → is_at kind.Colon (drop 1 ts) ≡ true → parse_result (StmtThen next) ts ≡ parse_result (NameThen (λ n. WordThen kind.Colon (FormThen (next (Some n))))) ts
@@ -98,21 +82,3 @@ pub one_more_form : (next : Block → Wanted) (ss ss' : List Stmt) (s : Stmt) (t
 one_more_form next ss ss' s ts is =
     let same = λ (b : Block). sym (one_more_stmt ss s b) ∙ ap (λ l. before_block l b) (sym is) in
     λ i. parse_result (MoreStmts (λ b. next (same b i))) ts
-
-pub complete_ends : (p : Program) (ts : List Token) → kind_ahead ts ≡ None → parse_result (Complete p) ts ≡ Got p
-complete_ends p [] h = refl
-complete_ends p (x ∷ r) h = let z : ⊥ = cc in absurd z
-
-pub complete_stops : (p : Program) (ts : List Token) → (kind_ahead ts ≡ None → ⊥) → parse_result (Complete p) ts ≡ Stops ts
-complete_stops p [] h = absurd (h refl)
-complete_stops p (x ∷ r) h = refl
-
-pub at_last_exit : {U : Type 0} (r : Result U Stop) (e : Stop) (before : Wanted) (old new : List Token) (tree : U → Program) (o : ParseResult) → IsErrAnd r (λ d. d ≡ e) → parse_result before old ≡ o → IsStop e o new → Reads r before old new tree
-at_last_exit r e before old new tree o is h s =
-    let p = err_from_is_err_and r is in
-    subst (λ q. Reads q before old new tree) (sym p.1)
-    (subst (λ d. IsStop d (parse_result before old) new) (sym p.2) (subst (λ q. IsStop e q new) (sym h) s))
-
-pub is_none_of : {A : Type 0} (o : Option A) → is_some o ≡ false → o ≡ None
-is_none_of None h = refl
-is_none_of (Some x) h = absurd (false≢true (sym h))

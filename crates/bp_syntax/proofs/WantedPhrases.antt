@@ -5,7 +5,7 @@ use Rattle.bp_tree.specs.declared.exprs.Op.{Op}
 use Rattle.bp_tree.specs.declared.exprs.Op.TheVariants as op
 use Rattle.bp_syntax.specs.Tokens.{Token}
 use Rattle.bp_syntax.specs.Grammar.{name_of, IsNames, one_name, more_names, IsAnyNames, IsExpr, of_or, implication, IsOr, of_xor, disjunction, IsXor, of_and, exclusion, IsAnd, of_eq, conjunction, IsEq, of_un, equality, difference, IsUn, IsExprs, one_expr, more_exprs, IsAnyExprs, IsDecider, IsForm, IsStmt, IsStmts, one_stmt, more_stmts, IsDecls, IsProcs, first_word, first_name}
-use Rattle.bp_syntax.specs.ParserState.{Wanted, Complete, WordThen, NameThen, MoreNames, AnyNamesThen, UnThen, MoreOperands, MoreImplied, MoreExprs, AnyExprsThen, DeciderThen, FormThen, FormAfter, StmtThen, StmtAfter, MoreStmts, MoreDecls, MoreProcs, NamesThen, ExprThen, ExprsThen, StmtsThen, OperandThen, operator}
+use Rattle.bp_syntax.specs.ParserState.{Wanted, Complete, WordThen, NameThen, MoreNames, AnyNamesThen, UnThen, MoreOperands, MoreImplied, MoreExprs, AnyExprsThen, DeciderThen, FormThen, FormAfter, StmtThen, StmtAfter, MoreStmts, MoreDecls, MoreProcs, NamesThen, ExprThen, ExprsThen, OperandThen, operator}
 use Rattle.bp_syntax.specs.declared.parser.operators.Precedence.{Precedence}
 use Rattle.bp_syntax.specs.declared.parser.operators.Precedence.TheVariants.{Equality, Conjunction, Exclusion, Disjunction}
 use Rattle.bp_syntax.specs.declared.tokens.TokenKind.{TokenKind}
@@ -129,6 +129,3 @@ exprs_from acc next ts q n = let p = expr_from (λ e. MoreExprs (acc ++ e ∷ []
   where
     joined : (e : Expression) (us : List Token) → IsExpr ts e us → Needs (MoreExprs (acc ++ e ∷ []) next) us q → (es : List Expression) × (r : List Token) × IsExprs ts es r × Needs (next (acc ++ es)) r q
     joined e us d (exprs {r = r} ds m n) = (e ∷ ds, r, exprs_join d m, subst (λ l. Needs (next l) r q) (append_assoc acc (e ∷ []) ds) n)
-
-pub stmts_from : (next : Block → Wanted) (ts : List Token) (q : Program) → Needs (StmtsThen next) ts q → (b : Block) × (r : List Token) × IsStmts ts b r × Needs (next b) r q
-stmts_from next ts q (stmt l at s d (stmts b m n)) = (Then l at s b, _, stmts_join d m, n)
