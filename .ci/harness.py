@@ -1,0 +1,65 @@
+"""What the scripts of .ci/ share: the program under test, runs of it, the report of each test, and the closing count.
+It is no test itself."""
+import os
+import subprocess
+import sys
+import tempfile
+from pathlib import Path
+
+TOP = Path(__file__).resolve().parent.parent
+SECONDS = 60
+
+
+def program_under_test(default="crates/btrun/out/btrun", built_by="rt ci or rt run"):
+    """The program that the first argument names, or the default below the top of the repository."""
+    program = Path(sys.argv[1] if len(sys.argv) > 1 else TOP / default).resolve()
+    if not program.exists():
+        sys.exit("%s is not there: %s builds it" % (program, built_by))
+    return program
+
+
+def run(words, **how):
+    """Runs a command for a minute at most. Its input is empty and both its streams are captured, unless `how` says
+    otherwise."""
+    if how.get("input") is None:
+        how["stdin"] = subprocess.DEVNULL
+    return subprocess.run(words, **{"stdout": subprocess.PIPE, "stderr": subprocess.PIPE, "timeout": SECONDS, **how})
+
+
+def refusing_library(folder):
+    """Builds the library that refuses growths, reads and writes (.ci/refused.c) in this folder."""
+    library = Path(folder) / "refused.so"
+    subprocess.run(["cc", "-O1", "-shared", "-fPIC", "-o", library, TOP / ".ci/refused.c", "-ldl"], check=True)
+    return library
+
+
+def run_refused(words, library, settings, **how):
+    """Runs a command while the library refuses what these settings name: how it ended, and how often it was refused."""
+    with tempfile.NamedTemporaryFile() as refused:
+        given = {"LD_PRELOAD": str(library), "REFUSED": refused.name, **settings}
+        ended = run(words, env={**os.environ, **given}, **how)
+        return ended, os.path.getsize(refused.name)
+
+
+class Report:
+    """Counts tests, and prints a line for each that is told."""
+
+    def __init__(self):
+        self.passed = self.failed = 0
+
+    def count(self, is_passed):
+        """Counts a test without a line."""
+        if is_passed:
+            self.passed += 1
+        else:
+            self.failed += 1
+
+    def tell(self, name, wrong, told="ok"):
+        """Prints a test and what is wrong with it, or what is told where nothing is."""
+        print("%s ... %s" % (name, wrong or told))
+        self.count(not wrong)
+
+    def end(self):
+        """Prints the closing count. The exit status is 0 if there were tests and all passed."""
+        print("%d passed, %d failed" % (self.passed, self.failed))
+        return 1 if self.failed or not self.passed else 0
