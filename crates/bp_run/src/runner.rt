@@ -26,20 +26,20 @@ use std::sync::ledger::Ledger;
 use std::thread::Threads;
 use std::time::Clock;
 
-/// What a run answers, and the pen.
+/// The answer of a run, and the pen that wrote its trace.
 #[derive(Drop)]
-struct Outcome<'a, W> {
+struct Finished<'a, W> {
     answer: Result<Report, RunFault>,
     pen: Pen<'a, W>,
 }
 
 /// The answer of a run that is refused, with the pen as it was.
-fn refused<'a, W>(pen: Pen<'a, W>, fault: RunFault) -> Outcome<'a, W>
+fn refused<'a, W>(pen: Pen<'a, W>, fault: RunFault) -> Finished<'a, W>
     ensures same_reference { result.pen.out.ghost_name ≡ pen.entry.out.ghost_name }
     ensures answer { result.answer ≡ Err fault }
     ensures same { result.pen.out.now ≡ pen.entry.out.now }
 {
-    Outcome {
+    Finished {
         answer: Err(fault),
         pen,
     }
@@ -83,7 +83,7 @@ fn play<
     turn: u32,
     gate: &G,
     pen: Pen<'a, W>,
-) -> Outcome<'a, W>
+) -> Finished<'a, W>
     requires named { IsNamed kit C.name C.parts O.name O.parts C.ring }
     requires threads { kit.threads ≡ threads setup.now }
     requires fits { FitsCode code.now setup.now }
@@ -130,7 +130,7 @@ fn play<
     if pen.failed {
         return refused(pen, RunFault::Write);
     }
-    Outcome {
+    Finished {
         answer: Ok(gathered.report),
         pen,
     }

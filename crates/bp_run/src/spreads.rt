@@ -9,8 +9,8 @@ use std::thread;
 /// The most yields before a worker no longer waits: for all to come, or to be drawn.
 const ROUNDS: u32 = 100_000;
 
-/// So many threads are told apart, as many as a run may have.
-const THREADS: u32 = 64;
+/// How many threads are told apart: as many as a run may have.
+const MAX_THREADS: u32 = 64;
 
 /// A gate at which the workers of a run start together, and then take turns in an order drawn by a
 /// seed. A worker that is drawn and does not come in time is passed over. So nothing is promised
@@ -29,7 +29,7 @@ pub struct Spread {
 }
 
 fn bit_of(thread: u32) -> u64 {
-    1 << (thread % THREADS)
+    1 << (thread % MAX_THREADS)
 }
 
 /// A number for each turn, by the seed: the first of the PCG XSH RR 64/32 (O'Neill) from a state of
@@ -74,7 +74,7 @@ impl Spread {
             return None;
         }
         let lot = lot(self.seed, self.turns.load(Ordering::SeqCst)) % count;
-        (0..THREADS)
+        (0..MAX_THREADS)
             .filter(|thread| active & bit_of(*thread) != 0)
             .nth(lot as usize)
     }
