@@ -1,5 +1,5 @@
 //! The stage of a run: a worker for each seat, and the scribe, at one board.
-ghost use Rattle.std.specs.Prelude.{◌≡◌, ◌≤◌, ◌<◌, ◌∷◌, [], false, vec_len, vec_capacity};
+ghost use Rattle.std.specs.Prelude.{◌≡◌, ◌≤◌, ◌<◌, ◌+◌, ◌∷◌, [], false, vec_len, vec_capacity};
 ghost use Rattle.std.specs.Thread.{IsSync};
 ghost use Rattle.bp_board.specs.declared.limits.TheConstants.{MAX_TURN};
 ghost use Rattle.bp_machine.specs.declared.limits.TheConstants.{MAX_THREADS};
@@ -15,7 +15,7 @@ use std::io::Write;
 use std::sync::ledger::Ledger;
 use std::sync::{Mutex, Wait};
 use std::thread;
-use std::thread::{JoinHandle, Threads};
+use std::thread::{JoinHandle, Scope, Threads};
 use std::time::Clock;
 
 /// What the scribe and the workers give back.
@@ -25,6 +25,59 @@ pub(crate) struct Staged<'a, W, C: Calls, O: Ledger> {
     pub tap: Tap<C>,
     pub seats: Vec<Seat<C, O>>,
     pub all_started: bool,
+}
+
+/// Starts a worker for each seat, in order, until one cannot be started. Answers whether all were
+/// started. The seats without a worker are dropped.
+fn start_workers<
+    's,
+    E,
+    C: Calls + Send + Sync + 's,
+    O: Ledger + Send + Sync + 's,
+    G: Gate + 's,
+    R: Threads + Wait + Clock + Sync + 's,
+>(
+    scope: &Scope<'s, E>,
+    rt: &'s R,
+    board: &'s Board<C, O>,
+    ended: &'s Mutex<u32>,
+    seats: Vec<Seat<C, O>>,
+    handles: &mut Vec<JoinHandle<Seat<C, O>>>,
+    turn: u32,
+    gate: &'s G,
+) -> bool
+    requires shared { IsSync R.row × IsSync G.row }
+    requires some { 0 < turn }
+    requires few { turn ≤ MAX_TURN }
+    requires room { vec_len handles.old + vec_len seats ≤ vec_capacity handles.old }
+    ensures { vec_len handles.new ≤ vec_len handles.old + vec_len seats }
+{
+    for seat in seats {
+        match scope.spawn(
+            move || -> Seat<C, O>
+                requires some { 0 < turn }
+                requires few { turn ≤ MAX_TURN }
+            { worker(rt, board, ended, seat, turn, gate) },
+        ) {
+            Ok(handle) => handles.push_reserved(handle),
+            Err(_) => return false,
+        }
+    }
+    true
+}
+
+/// Waits until the workers have ended, and adds the seats that they give back.
+fn join_workers<C: Calls + Send, O: Ledger + Send, R: Threads>(
+    rt: &R,
+    handles: Vec<JoinHandle<Seat<C, O>>>,
+    mut back: Vec<Seat<C, O>>,
+) -> Vec<Seat<C, O>>
+    requires { vec_len back + vec_len handles ≤ vec_capacity back }
+{
+    for handle in handles {
+        back.push_reserved(handle.join(rt));
+    }
+    back
 }
 
 /// Starts a worker for each seat, takes and writes calls while they run, and joins them.
@@ -82,35 +135,25 @@ pub(crate) fn stage<
                 result.all_started }
         {
             let mut handles = handles;
-            let mut back = back;
             let mut pen = pen;
             let mut tap = tap;
-            let mut started = 0u32;
-            let mut all_started = true;
-            for seat in seats {
-                if all_started {
-                    match scope.spawn(
-                        move || -> Seat<C, O>
-                            requires some { 0 < turn }
-                            requires few { turn ≤ MAX_TURN }
-                        { worker(rt, board, ended, seat, turn, gate) },
-                    ) {
-                        Ok(handle) => {
-                            handles.push_reserved(handle);
-                            started += 1;
-                        }
-                        Err(_) => all_started = false,
-                    }
-                }
-            }
+            let all_started = start_workers(
+                scope,
+                rt,
+                board,
+                ended,
+                seats,
+                &mut handles,
+                turn,
+                gate,
+            );
+            let started = handles.len() as u32;
             write_running(rt, setup, &mut pen, &mut tap, ended, started, all_started);
-            for handle in handles {
-                back.push_reserved(handle.join(rt));
-            }
+            let seats = join_workers(rt, handles, back);
             Staged {
                 pen,
                 tap,
-                seats: back,
+                seats,
                 all_started,
             }
         },

@@ -2,7 +2,7 @@ use denote.Param.Send.{sendable}
 use Rattle.std.proofs.Crossing.{crosses}
 use Rattle.bp_board.proofs.seats.Seat.TheSendSync.{the_send as seat_send}
 use Rattle.bp_run.proofs.BoardsCross.{board_sync}
-use Rattle.bp_run.proofs.stages.fn.stage.scope.Goals as goal
+use Rattle.bp_run.proofs.stages.start_workers.Goals as goal
 
 pub spawn-requires-send-F : goal.spawn-requires-send-F
 spawn-requires-send-F g c = λ κs lives. search (sendable, crosses, board_sync, seat_send) depth 40 fits 10000

@@ -1,0 +1,11 @@
+use Rattle.std.proofs.Common.{◌≡◌, ◌≤◌, ◌+◌, vec_len, vec_capacity}
+use Rattle.std.specs.Vec.Iter.{into_iter_len}
+use Rattle.bp_run.proofs.stages.start_workers.Given as goal
+
+abbrev pub invariant-loop-seat : goal.invariant-loop-seat
+invariant-loop-seat g l = record {
+  can : (goal.iterator-loop-seat g).can_next l.seat-iterator;
+  ends : (goal.iterator-loop-seat g).is_finite l.seat-iterator;
+  room : vec_len l.handles + into_iter_len l.seat-iterator ≤ vec_capacity l.handles;
+  few : vec_len l.handles + into_iter_len l.seat-iterator ≤ vec_len l.fn.handles + vec_len l.fn.seats;
+}
