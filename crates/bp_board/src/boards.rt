@@ -1,4 +1,4 @@
-//! The board: a desk behind one lock.
+//! The board: a desk under one lock.
 ghost use Rattle.std.specs.Prelude.{◌≡◌, ◌≤◌, ◌<◌, [], true, false, None, is_some, IfOk, MatchResult};
 ghost use Rattle.bp_machine.specs.Setups.{threads, FitsCode};
 ghost use Rattle.bp_board.specs.declared.limits.TheConstants.{MAX_TURN};
@@ -17,7 +17,7 @@ use std::alloc::{AllocError, Global};
 use std::sync::ledger::Ledger;
 use std::sync::{Mutex, Wait};
 
-/// A monitor: a desk behind one mutex, which the workers share.
+/// A monitor: a desk under one mutex, which the workers share.
 #[derive(Drop)]
 pub struct Board<C: Calls, O: Ledger> {
     pub(crate) desk: Mutex<Desk<C, O>>,

@@ -39,7 +39,7 @@ pub enum CheckFault {
     /// At the first name past a limit of procedures, globals, or formals and locals.
     #[error("there are more names than the limit")]
     Limit,
-    /// A growth of memory was refused.
+    /// An allocation failed.
     #[error("out of memory")]
     Memory,
 }

@@ -5,7 +5,7 @@ ghost use Rattle.bp_check.specs.Scopes.{has};
 use crate::tables::NameTable;
 use std::marker::Model;
 
-/// A procedure's own variables, and behind them the globals.
+/// A procedure's own variables, and after them the globals.
 #[derive(Drop)]
 pub(crate) struct Scope<'s, 'a> {
     own: NameTable<'a>,

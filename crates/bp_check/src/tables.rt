@@ -92,7 +92,7 @@ impl<'a> NameTable<'a> {
         self.first(text).is_some()
     }
 
-    /// Whether one of the first so many names is spelled so.
+    /// Whether one of the first `count` names is spelled so.
     pub(crate) fn has_before(&self, count: usize, text: &str) -> bool
         ensures { result ≡ has (take count self.now) text.now }
     {

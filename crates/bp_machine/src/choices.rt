@@ -7,7 +7,7 @@ use rand_core::utils::NextWord;
 use rand_pcg::Lcg64Xsh32;
 use std::marker::Model;
 
-/// The stream of thread 0; thread i has the stream behind it by i.
+/// The stream of thread 0. Thread i has the stream whose number is greater by i.
 const FIRST_STREAM: u64 = 54;
 
 /// The last place of a bit in a word.

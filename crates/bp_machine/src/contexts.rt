@@ -32,7 +32,7 @@ impl ContextCount {
         u64::from(self.used) + opened
     }
 
-    /// Whether one more step of the thread is within so many contexts.
+    /// Whether one more step of the thread is within `contexts` contexts.
     pub(crate) fn allows(&self, contexts: u32, thread: u32) -> bool
         ensures value { result ≡ nat_le (used_with self.now thread) contexts }
         ensures law { (threads : List ℕ)

@@ -157,7 +157,7 @@ impl Machine {
         self.threads.get(thread as usize)
     }
 
-    /// How many threads may go on, where so many calls of each are allowed.
+    /// How many threads may go on, if `calls` calls of each are allowed.
     pub(crate) fn open_lines(&self, calls: u32) -> u32
         requires { length self.now.state.threads ≤ MAX_THREADS }
         ensures { (t : Program) (s : SetupOf) (h : List Answered)
@@ -188,7 +188,7 @@ impl Machine {
         sum
     }
 
-    /// What a call of the thread comes to, where so many contexts are allowed.
+    /// What a call of the thread results in, if `contexts` contexts are allowed.
     pub(crate) fn judge(
         &self,
         code: &Code,

@@ -247,9 +247,10 @@ impl Setup {
         }
     }
 
-    /// The setup of guest threads that begin with these procedures, on globals with these bits in
-    /// order of declaration, within so many contexts, with at most so many calls of each thread.
-    /// With a seed each call has the choice bit of that seed, else the one that is handed in.
+    /// The setup of guest threads that begin in the procedures `entries`. `init` has the initial
+    /// bits of the globals in order of declaration. At most `contexts` contexts are allowed, and at
+    /// most `calls` calls of each thread. With a seed each call has the choice bit of that seed,
+    /// else the one that is handed in.
     pub fn new(
         alloc: Global,
         code: &Code,

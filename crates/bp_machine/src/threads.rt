@@ -72,7 +72,7 @@ impl GuestThread {
         &self.stack
     }
 
-    /// Whether the thread makes no further call, where it may make so many.
+    /// Whether the thread makes no further call, if it may make `calls` calls.
     pub(crate) fn is_finished(&self, calls: u32) -> bool
         ensures { result ≡ (self.now.guest.ended || nat_le calls self.now.guest.calls) }
     {

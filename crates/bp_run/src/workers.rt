@@ -52,7 +52,7 @@ fn note_end(rt: &impl Wait, ended: &Mutex<u32>) {
     *count = count.saturating_add(1);
 }
 
-/// Whether so many workers have ended.
+/// Whether at least `started` workers have ended.
 pub(crate) fn have_ended(rt: &impl Wait, ended: &Mutex<u32>, started: u32) -> bool {
     *ended.lock(rt) >= started
 }

@@ -27,7 +27,7 @@ pub enum ReadFault {
     /// The first token after which no program can go on; the text's length where it ends too early.
     #[error("syntax at {0}")]
     Syntax(u32),
-    /// A growth of memory was refused.
+    /// An allocation failed.
     #[error("out of memory")]
     Memory,
 }

@@ -12,13 +12,13 @@ use crate::tokens::{
 pub(crate) enum Lexeme {
     /// The longest piece that fits, and its length.
     Piece(LexemeKind, usize),
-    /// A brace that begins no name. No name begins in so many bytes from it on.
+    /// A brace that begins no name. No name begins in this many bytes from it on.
     OpenBrace(usize),
     /// Another byte with which no piece begins.
     BadByte,
 }
 
-/// Whether a piece of the kind goes on with this byte behind its first.
+/// Whether a piece of the kind may continue with this byte after its first.
 fn is_continuation(kind: LexemeKind, b: u8) -> bool
     ensures { result ≡ is_continuation kind b }
 {

@@ -19,7 +19,7 @@ use std::marker::Model;
 pub(crate) enum Stop {
     /// The next token may not come here, or the tokens may not end here.
     Unexpected,
-    /// A growth of memory was refused.
+    /// An allocation failed.
     Memory,
 }
 
@@ -160,7 +160,7 @@ impl<'a> Parser<'a> {
         Ok(name)
     }
 
-    /// Reads NAME,+ behind the names that are there.
+    /// Reads NAME,+ and adds it to the names that are there.
     pub(crate) fn names(&mut self, alloc: Global, names: &mut Vec<Name>) -> Result<(), Stop>
         ensures reads { ReadsPhrase result (NamesThen names.old.items)
             self.old self.new (λ _. names.new.items) }

@@ -63,7 +63,7 @@ impl<'a> Parser<'a> {
         self.tighter(alloc, precedence, first)
     }
 
-    /// Reads the operators that bind more tightly than the precedence, behind their first operand.
+    /// Reads the operators that bind more tightly than the precedence, after their first operand.
     #[cycle(expr)]
     fn tighter(&mut self, alloc: Global, precedence: Precedence, first: Expr) -> Result<Expr, Stop>
         ensures reads { ReadsPhrase result (MoreTighter precedence (expression_of first))
@@ -95,7 +95,7 @@ impl<'a> Parser<'a> {
         Some(op)
     }
 
-    /// Reads operators of a precedence, each with its right operand, behind their first operand.
+    /// Reads operators of a precedence, each with its right operand, after their first operand.
     #[cycle(expr)]
     fn operators(
         &mut self,
@@ -132,7 +132,7 @@ impl<'a> Parser<'a> {
         Ok(left)
     }
 
-    /// Reads expr,+ behind the expressions that are there.
+    /// Reads expr,+ and adds it to the expressions that are there.
     fn exprs(&mut self, alloc: Global, exprs: &mut Vec<Expr>) -> Result<(), Stop>
         ensures reads { ReadsPhrase result (ExprsThen (map expression_of exprs.old.items))
             self.old self.new (λ _. map expression_of exprs.new.items) }
