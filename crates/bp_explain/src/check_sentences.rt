@@ -1,11 +1,10 @@
 //! Sentences on faults of a program whose text is in order.
 ghost use Rattle.std.specs.Prelude.{Some, IfOk};
 ghost use Rattle.bp_explain.specs.Explanations.{place_line, IsExplanation, IsPlain};
-ghost use Rattle.bp_explain.specs.Excerpts.{ShowsFault};
+ghost use Rattle.bp_text.specs.Excerpts.{ShowsFault};
 
 use crate::counts::{argument_count, side_counts};
 use crate::declared::{Role, first_named, first_procedure, procedure_around, role_at};
-use crate::excerpts::excerpt_of;
 use crate::explanations::explanation_of_place;
 use crate::heads::head_of_place;
 use crate::pieces::token_at;
@@ -13,8 +12,8 @@ use crate::sentences::{push_all, push_count, push_number, push_quoted};
 use bp_check::CheckFault;
 use bp_check::limits::{MAX_GLOBALS, MAX_OWN_NAMES, MAX_PROCEDURES};
 use bp_syntax::{Tree, read};
+use bp_text::{excerpt_of, position_of};
 use bp_tree::Name;
-use bp_view::position_of;
 use std::alloc::{AllocError, Global};
 
 /// Adds words, a name in quotes, and more words.

@@ -3,12 +3,12 @@
 ghost use Rattle.std.specs.Prelude.{◌<◌, ◌≤◌, length};
 ghost use Rattle.bp_code.specs.StandsFor.{StandsFor};
 
-use crate::lines::take_line;
 use crate::numbers::number_at_front;
 use crate::trace_heads::{body_of, setup_of};
 use crate::turns::{Turn, take_turn};
 use bp_code::Code;
 use bp_machine::{AskFault, Call, Report, Session};
+use bp_text::take_line;
 use std::alloc::{AllocError, Global};
 
 /// Why a walk stops, and at which byte of the trace.

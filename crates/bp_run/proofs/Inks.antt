@@ -4,8 +4,8 @@ use Rattle.std.proofs.lemmas.List.{append-nil}
 use Rattle.std.proofs.KnownBytes.{Appends-nil, Appends-kept}
 use Rattle.std.specs.Io.KnownBytes.{Keeps, Appends}
 use Rattle.std.specs.Result.{is_err}
-use Rattle.bp_code.specs.Writing.{Writes}
-use Rattle.bp_code.proofs.Appends.{all_then, part_first, part_then}
+use Rattle.bp_text.specs.Writing.{Writes}
+use Rattle.bp_text.proofs.Appends.{all_then, part_first, part_then}
 use Rattle.bp_run.specs.Inks.{IsInked, Inks}
 
 -- a new pen

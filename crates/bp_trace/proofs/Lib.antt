@@ -10,7 +10,6 @@ mod Joined
 mod LineThread
 pub mod LinesDriveAgain
 mod LinesOfHistory
-mod NumberOfDigits
 mod OneField
 mod OneHead
 mod OneHistoryBehind

@@ -19,7 +19,6 @@ ghost use Rattle.bp_view.specs.Places.{place_text};
 ghost use Rattle.bp_view.specs.Scenes.{place_of_scene, AreOnOneLine, AreScenes, IsOnOneLine};
 ghost use Rattle.bp_view.specs.Views.{view_fault_of, AddsLines, AddsShown, IsCallRefusal, IsView, IsViewRefusal};
 
-use crate::columns::{digits, push_bytes};
 use crate::heads::head_of;
 use crate::lines::{MAX_INDENTS, Moment, Stage, Widths, push_line};
 use crate::options::ViewOptions;
@@ -28,6 +27,7 @@ use crate::scenes::{Scene, scenes_of};
 use bp_check::Checked;
 use bp_code::Code;
 use bp_machine::{AskFault, Call, Reply, Session, Setup, Top};
+use bp_text::{digits, push_bytes};
 use std::alloc::{AllocError, Global};
 use thiserror::Error;
 
