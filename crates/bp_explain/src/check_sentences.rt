@@ -1,5 +1,6 @@
 //! Sentences on faults of a program whose text is in order.
-ghost use Rattle.std.specs.Prelude.{Some, IfOk};
+ghost use Rattle.std.specs.Prelude.{◌≡◌, IfOk};
+ghost use Rattle.bp_check.specs.Faults.{check_fault_place};
 ghost use Rattle.bp_explain.specs.Explanations.{place_line, IsExplanation, IsPlain};
 ghost use Rattle.bp_text.specs.Excerpts.{ShowsFault};
 
@@ -182,6 +183,16 @@ fn push_sentence(
     }
 }
 
+/// The byte that the fault names, where it names one.
+fn place_of(fault: CheckFault, at: u32) -> Option<u32>
+    ensures { result ≡ check_fault_place fault at }
+{
+    match fault {
+        CheckFault::Memory => None,
+        _ => Some(at),
+    }
+}
+
 /// Explains why the program of a text is not lawful.
 pub(crate) fn explain_check(
     alloc: Global,
@@ -191,7 +202,7 @@ pub(crate) fn explain_check(
     at: u32,
 ) -> Result<Vec<u8>, AllocError>
     ensures is { IfOk result (λ v.
-        let place = Some at in
+        let place = check_fault_place fault at in
         IsExplanation (place_line name.now text.now place) (ShowsFault text.now place) v.items) }
     ensures plain { IfOk result (λ v. IsPlain v.items) }
 {
@@ -199,8 +210,9 @@ pub(crate) fn explain_check(
         // The text was read before, so it is memory that was refused.
         return Err(AllocError);
     };
-    let head = head_of_place(alloc, name, text, Some(at))?;
-    let excerpt = excerpt_of(alloc, text, Some(at))?;
+    let place = place_of(fault, at);
+    let head = head_of_place(alloc, name, text, place)?;
+    let excerpt = excerpt_of(alloc, text, place)?;
     let mut sentence = Vec::new(alloc);
     push_sentence(&mut sentence, text, &tree, fault, at as usize)?;
     sentence.push(b'\n')?;
