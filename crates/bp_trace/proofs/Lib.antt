@@ -19,6 +19,7 @@ mod OneRefusal
 mod OneRefusedCall
 mod OneRest
 mod OneText
+mod OtherCalls
 mod OwnEnds
 mod PieceTexts
 mod PieceThreads
