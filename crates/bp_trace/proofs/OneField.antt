@@ -1,8 +1,6 @@
 -- A line of a word has one value.
-use Rattle.std.proofs.Common.{◌≡◌, ◌≢◌, ◌==◌, true, false, ℕ, List, [], ◌∷◌, ◌++◌, Option, None, Some, length, refl, sym, ap, ◌∙◌, arith, append_assoc, codes, decimal}
-use Rattle.std.proofs.lemmas.Bool.{false≢true}
-use Rattle.std.proofs.lemmas.Bool.Decides.{Decides-eqb}
-use Rattle.std.proofs.lemmas.List.{append_cancel_left, nil_from_length}
+use Rattle.std.proofs.Common.{◌≡◌, ◌≢◌, ℕ, List, [], ◌∷◌, ◌++◌, Option, None, Some, refl, sym, ap, ◌∙◌, arith, append_assoc, codes, decimal}
+use Rattle.std.proofs.lemmas.List.{append_cancel_left}
 use Rattle.bp_trace.specs.Heads.{field_line}
 use Rattle.bp_trace.specs.HeadReading.{IsCut, IsFieldAt, HasNoField, HasNoEntry, IsNoInit, HasNoInit, HasNoNumber, IsSeed, HasNoSeed}
 use Rattle.bp_text.specs.Decimals.{IsNoNumber}

@@ -1,5 +1,5 @@
 -- A call that differs from the machine's own is refused.
-use Rattle.std.proofs.Common.{if◌then◌else◌, ◌≡◌, ◌≢◌, ◌∙◌, ℕ, Bool, true, false, List, Option, None, Some, length, sym, ap, subst, inr}
+use Rattle.std.proofs.Common.{if◌then◌else◌, ◌≡◌, ◌≢◌, ◌∙◌, ℕ, Bool, true, false, List, None, Some, length, sym, ap, subst, inr}
 use Rattle.bp_tree.specs.Ast.{Program}
 use Rattle.bp_machine.specs.declared.calls.Call.{Call}
 use Rattle.bp_machine.specs.declared.calls.Reply.{Reply}
@@ -11,7 +11,7 @@ use Rattle.bp_machine.specs.Setups.{SetupOf}
 use Rattle.bp_trace.specs.declared.replay_faults.ReplayFault.{ReplayFault}
 use Rattle.bp_trace.specs.declared.replay_faults.ReplayFault.TheVariants as fault
 use Rattle.bp_trace.specs.Judging.{IsMismatch, IsCallRefusal}
-use Rattle.bp_trace.specs.Replays.{HasOtherBit, IsOtherReply, IsCallFault}
+use Rattle.bp_trace.specs.Replays.{HasOtherBit, IsCallFault}
 
 module _ (t : Program) (s : SetupOf) (h : List Call) (n : ℕ) (x : Call) where
   other_bit : (own seeded : Bool) → IsBitOfCall s h x.thread (if seeded then None else Some x.bit) own → own ≢ x.bit → HasOtherBit t s h n x

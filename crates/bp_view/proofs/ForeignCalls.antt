@@ -10,7 +10,7 @@ use Rattle.bp_machine.specs.Answers.{Answers}
 use Rattle.bp_machine.specs.Histories.{configuration_after, granted_threads}
 use Rattle.bp_machine.specs.SeededHistories.{IsBitOfCall}
 use Rattle.bp_machine.specs.Sessions.{IsAskRefusal, IsNextCall, given_bit}
-use Rattle.bp_machine.specs.Setups.{SetupOf, threads}
+use Rattle.bp_machine.specs.Setups.{SetupOf}
 use Rattle.bp_trace.specs.declared.replay_faults.ReplayFault.TheVariants as fault
 use Rattle.bp_trace.specs.Replays.{IsPlayable}
 use Rattle.bp_view.specs.declared.views.ViewFault.{ViewFault}
