@@ -1,5 +1,3 @@
-pub mod Appends
-pub mod AppendsPieces
 mod BitsFrom
 mod BlockItems
 mod CompiledStandsFor

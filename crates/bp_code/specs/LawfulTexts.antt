@@ -1,11 +1,11 @@
 -- The lawful program of a text and its code, and why a text has none.
-use Rattle.std.specs.Prelude.{ℕ, List, Option, Some}
+use Rattle.std.specs.Prelude.{ℕ, List, Option}
 use Rattle.bp_tree.specs.Ast.{Program}
 use Rattle.bp_code.specs.Flat.{Flat}
 use Rattle.bp_code.specs.StandsFor.{StandsFor}
 use Rattle.bp_syntax.specs.Texts.{IsTextOf, IsRefusal as IsReadRefusal}
 use Rattle.bp_syntax.specs.Faults.{read_fault_number, read_fault_place}
-use Rattle.bp_check.specs.Faults.{IsLawful, check_fault_number}
+use Rattle.bp_check.specs.Faults.{IsLawful, check_fault_number, check_fault_place}
 use Rattle.bp_check.specs.Refusals.{IsRefusal}
 use Rattle.bp_code.specs.declared.texts.ProgramFault.{ProgramFault}
 use Rattle.bp_code.specs.declared.texts.ProgramFault.TheVariants.{Read, Check}
@@ -38,7 +38,7 @@ abbrev pub program_fault_number : ProgramFault → ℕ
 program_fault_number (Read f) = read_fault_number f
 program_fault_number (Check f at) = check_fault_number f
 
--- the byte of the text that the fault names
+-- the byte of the text that the fault names; refused memory names none
 abbrev pub program_fault_place : ProgramFault → Option ℕ
 program_fault_place (Read f) = read_fault_place f
-program_fault_place (Check f at) = Some at
+program_fault_place (Check f at) = check_fault_place f at

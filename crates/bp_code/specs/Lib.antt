@@ -27,4 +27,3 @@ pub mod Starts
 pub mod Steps
 pub mod Values
 pub mod Views
-pub mod Writing

@@ -1,5 +1,4 @@
-//! Programs as flat code: what a program means, the instructions that stand for it, and the calls
-//! that write a text to any writer.
+//! Programs as flat code: what a program means, and the instructions that stand for it.
 #![tactic(auto)]
 
 mod actions;
@@ -24,7 +23,6 @@ pub mod starts;
 pub mod stores;
 pub mod texts;
 mod translate;
-pub mod writing;
 
 pub use code::Code;
 pub use effects::Effect;
@@ -36,4 +34,3 @@ pub use programs::compile;
 pub use starts::places;
 pub use stores::Store;
 pub use texts::{CodeFault, ProgramFault, code_of, lawful_program};
-pub use writing::{WriteFault, put, put_each};

@@ -1,13 +1,13 @@
 //! The listing of a code.
 ghost use Rattle.std.specs.Prelude.{◌≡◌, drop, flat_map};
-ghost use Rattle.bp_code.specs.Writing.{Writes};
+ghost use Rattle.bp_text.specs.Writing.{Writes};
 ghost use Rattle.bp_code.specs.Listing.{number_field, line, heading_line, instruction_line, lines_between, end_before, listing_text};
 
 use crate::actions::Action;
 use crate::code::Code;
 use crate::headings::Heading;
 use crate::instrs::Instr;
-use crate::writing::{WriteFault, put, put_each};
+use bp_text::{WriteFault, put, put_each};
 use itoa::Buffer;
 use std::io::Write;
 

@@ -7,16 +7,15 @@ use crate::programs::compile;
 use bp_check::{CheckFault, Checked, check};
 use bp_syntax::{ReadFault, read};
 use std::alloc::{AllocError, Global};
-use thiserror::Error;
+use std::error::Error;
+use std::fmt;
 
 /// Why a text is not that of a lawful program: the first of these that applies, `Memory` aside.
-#[derive(Debug, Drop, PartialEq, Eq, Error)]
+#[derive(Debug, Drop, PartialEq, Eq)]
 pub enum ProgramFault {
     /// It is refused as a text.
-    #[error("{0}")]
     Read(ReadFault),
-    /// Its program is refused, at this byte of the text.
-    #[error("{0} at {1}")]
+    /// Its program is refused, at this byte of the text. For refused memory the byte is 0.
     Check(CheckFault, u32),
 }
 
@@ -34,16 +33,29 @@ impl ProgramFault {
         }
     }
 
-    /// The byte that the fault names, where it names one.
+    /// The byte that the fault names, where it names one. Refused memory names none.
     pub fn place(&self) -> Option<u32>
         ensures { result ≡ program_fault_place self.now }
     {
         match self {
             ProgramFault::Read(fault) => fault.place(),
+            ProgramFault::Check(CheckFault::Memory, _) => None,
             ProgramFault::Check(_, at) => Some(*at),
         }
     }
 }
+
+impl fmt::Display for ProgramFault {
+    fn fmt<W: fmt::Write>(&self, f: &mut fmt::Formatter<W>) -> fmt::Result {
+        match self {
+            ProgramFault::Read(fault) => write!(f, "{fault}"),
+            ProgramFault::Check(CheckFault::Memory, _) => write!(f, "{}", CheckFault::Memory),
+            ProgramFault::Check(fault, at) => write!(f, "{fault} at {at}"),
+        }
+    }
+}
+
+impl Error for ProgramFault {}
 
 /// Reads and checks a text.
 pub fn lawful_program(alloc: Global, text: &[u8]) -> Result<Checked, ProgramFault>

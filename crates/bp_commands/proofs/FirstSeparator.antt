@@ -2,7 +2,7 @@
 use Rattle.std.proofs.Common.{arith, refl, [], ◌∷◌, ◌≡◌, ◌∙◌, sym, ap, subst, ℕ, ◌+◌, ◌-◌, ◌<◌, ◌≤◌, ◌==◌, true, false, List, ◌++◌, length, take, drop, get_or, add-one, take-suc, take-append-drop, length-take-le, inl, inr}
 use Rattle.std.proofs.Math.Seq.{take-append_seam, drop-append_seam}
 use Rattle.std.proofs.lemmas.Bool.{cases_lt, true≢false}
-use Rattle.bp_code.proofs.AppendsPieces.{all_from}
+use Rattle.bp_text.proofs.AppendsPieces.{all_from}
 use Rattle.bp_commands.specs.BundleParts.{IsSeparated, HasNoSeparator, ends_line, HasNoneBefore, IsSplit}
 
 ends_line-append : (bs : List ℕ) (b : ℕ) → ends_line (bs ++ b ∷ []) ≡ (b == 10)

@@ -1,6 +1,6 @@
 -- What replaying or migrating a trace of a program says of its text.
 use Rattle.std.proofs.Common.{◌≡◌, refl, map, List, ℕ, Option}
-use Rattle.bp_code.specs.Writing.{AppendsAll, AppendsPart}
+use Rattle.bp_text.specs.Writing.{AppendsAll, AppendsPart}
 use Rattle.bp_code.specs.Flat.{Flat}
 use Rattle.bp_tree.specs.Ast.{Program}
 use Rattle.bp_machine.specs.declared.calls.Call.{Call}

@@ -3,7 +3,7 @@ use Rattle.std.specs.Prelude.{◌≡◌, ℕ, List}
 use Rattle.bp_tree.specs.Ast.{Program}
 use Rattle.bp_syntax.specs.declared.limits.TheConstants.{TEXT_LIMIT}
 use Rattle.bp_syntax.specs.declared.faults.ReadFault.TheVariants.{TooLong}
-use Rattle.bp_code.specs.Writing.{AppendsAll, AppendsPart}
+use Rattle.bp_text.specs.Writing.{AppendsAll, AppendsPart}
 use Rattle.bp_commands.specs.Inputs.{Streams, IsInput, IsTooLong, TookAtMost}
 use Rattle.bp_code.specs.LawfulTexts.{IsLawfulText, IsProgramRefusal}
 use Rattle.bp_code.specs.declared.texts.ProgramFault.{ProgramFault}

@@ -1,6 +1,6 @@
 -- What a command writes of a trace of the program of a text, and why they are refused.
 use Rattle.std.specs.Prelude.{◌≡◌, ℕ, List, Option}
-use Rattle.bp_code.specs.Writing.{AppendsAll, AppendsPart}
+use Rattle.bp_text.specs.Writing.{AppendsAll, AppendsPart}
 use Rattle.bp_tree.specs.Ast.{Program}
 use Rattle.bp_machine.specs.declared.calls.Call.{Call}
 use Rattle.bp_machine.specs.declared.reports.Report.{Report}

@@ -1,14 +1,15 @@
 //! The command `check`.
 ghost use Rattle.std.specs.Prelude.{◌+◌, MatchResult};
-ghost use Rattle.bp_code.specs.Writing.{Writes};
+ghost use Rattle.bp_text.specs.Writing.{Writes};
 ghost use Rattle.bp_commands.specs.Inputs.{Streams, TookAtMost};
 ghost use Rattle.bp_commands.specs.Checks.{check_line, IsCheckWritten, IsCheckRefusal};
 
 use crate::file_faults::FileFault;
 use crate::inputs::read_whole;
 use bp_check::Checked;
-use bp_code::{WriteFault, lawful_program, put_each};
+use bp_code::lawful_program;
 use bp_syntax::limits::TEXT_LIMIT;
+use bp_text::{WriteFault, put_each};
 use itoa::Buffer;
 use std::alloc::Global;
 use std::io::{Read, Write};

@@ -1,9 +1,10 @@
 //! Why a program is not driven.
 use crate::inputs::InputFault;
 use crate::pairs::PairFault;
-use bp_code::{CodeFault, ProgramFault, WriteFault};
+use bp_code::{CodeFault, ProgramFault};
 use bp_machine::SetupFault;
 use bp_syntax::ReadFault;
+use bp_text::WriteFault;
 use bp_trace::DriveFault;
 use std::alloc::AllocError;
 use thiserror::Error;

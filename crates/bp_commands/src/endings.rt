@@ -12,7 +12,6 @@ use crate::file_faults::FileFault;
 use crate::run_refusals::RunRefusal;
 use crate::statuses::exit_status;
 use crate::trace_refusals::TraceRefusal;
-use bp_code::WriteFault;
 use bp_machine::{Outcome, Reply, Report};
 use std::io::{self, ErrorKind, Write};
 
@@ -145,6 +144,6 @@ pub fn end_printed<E: Write>(printed: &io::Result<()>, errors: &mut E) -> u8
 {
     match printed {
         Ok(()) => exit_status(false, None),
-        Err(_) => refuse(WriteFault::Write.number(), None, None, errors),
+        Err(_) => refuse(51, None, None, errors),
     }
 }

@@ -1,10 +1,10 @@
 //! The lines that report faults.
 ghost use Rattle.std.specs.Prelude.{◌≡◌, ◌++◌};
-ghost use Rattle.bp_code.specs.Writing.{Writes};
+ghost use Rattle.bp_text.specs.Writing.{Writes};
 ghost use Rattle.bp_commands.specs.FaultLines.{run_faults, fault_table, name_in, detail_in, fault_head, place_text, wanted_text, detail_text, fault_line, IsReportable};
 
-use bp_code::{WriteFault, put, put_each};
 use bp_machine::Reply;
+use bp_text::{WriteFault, put, put_each};
 use itoa::Buffer;
 use std::io::Write;
 

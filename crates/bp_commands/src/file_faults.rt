@@ -1,7 +1,8 @@
 //! Why a command that reads a file is refused.
 use crate::inputs::InputFault;
-use bp_code::{ProgramFault, WriteFault};
+use bp_code::ProgramFault;
 use bp_syntax::ReadFault;
+use bp_text::WriteFault;
 use thiserror::Error;
 
 /// Why a command that reads a file is refused: the first of these that applies, `Memory` aside.

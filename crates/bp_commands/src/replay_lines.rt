@@ -1,11 +1,11 @@
 //! The lines that show a replay.
 ghost use Rattle.std.specs.Prelude.{◌≡◌, flat_map, map};
-ghost use Rattle.bp_code.specs.Writing.{Writes};
+ghost use Rattle.bp_text.specs.Writing.{Writes};
 ghost use Rattle.bp_trace.specs.Replayed.{row_of};
 ghost use Rattle.bp_commands.specs.ReplayLines.{bit_text, outcome_line, printed_line, row_line, shown_text};
 
-use bp_code::{WriteFault, put, put_each};
 use bp_machine::Outcome;
+use bp_text::{WriteFault, put, put_each};
 use bp_trace::{Printed, Replayed};
 use itoa::Buffer;
 use std::io::Write;

@@ -1,8 +1,9 @@
 //! Why a program is not run.
 use crate::inputs::InputFault;
-use bp_code::{ProgramFault, WriteFault};
+use bp_code::ProgramFault;
 use bp_run::RunFault;
 use bp_syntax::ReadFault;
+use bp_text::WriteFault;
 use thiserror::Error;
 
 /// Why the program of a file is not run: the first of these that applies, `Memory` aside.

@@ -1,8 +1,9 @@
 //! Why a trace is not replayed or migrated.
 use crate::pairs::PairFault;
-use bp_code::{CodeFault, ProgramFault, WriteFault};
+use bp_code::{CodeFault, ProgramFault};
 use bp_machine::Reply;
 use bp_syntax::ReadFault;
+use bp_text::WriteFault;
 use bp_trace::{MigrateFault, ReplayFault};
 use thiserror::Error;
 

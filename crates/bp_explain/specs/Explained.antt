@@ -10,9 +10,9 @@ use Rattle.bp_trace.specs.declared.replay_faults.ReplayFault.TheVariants as repl
 use Rattle.bp_trace.specs.declared.replaying.Replayed.{Replayed}
 use Rattle.bp_trace.specs.Replayed.{IsReplayed}
 use Rattle.bp_trace.specs.Replays.{IsReplayRefusal}
-use Rattle.bp_view.specs.OneLine.{on_one_line}
+use Rattle.bp_text.specs.OneLine.{on_one_line}
 use Rattle.bp_explain.specs.Explanations.{file_line, number_line, place_line, Begins, IsExplanation}
-use Rattle.bp_explain.specs.Excerpts.{ShowsFault}
+use Rattle.bp_text.specs.Excerpts.{ShowsFault}
 
 -- the explanation of a text that is refused as a program: the fault's place, and its line with a
 -- caret below it

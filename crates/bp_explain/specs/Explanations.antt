@@ -1,8 +1,8 @@
 -- What an explanation begins with, and which bytes it has.
 use Rattle.std.specs.Prelude.{if◌then◌else◌, ◌≡◌, ◌==◌, ◌||◌, ◌&&◌, nat_le, ℕ, Bool, true, List, [], ◌∷◌, ◌++◌, Option, None, Some, All, map, decimal}
-use Rattle.bp_view.specs.declared.positions.Position.{Position}
-use Rattle.bp_view.specs.OneLine.{on_one_line}
-use Rattle.bp_view.specs.Positions.{position_at}
+use Rattle.bp_text.specs.declared.positions.Position.{Position}
+use Rattle.bp_text.specs.OneLine.{on_one_line}
+use Rattle.bp_text.specs.Positions.{position_at}
 
 -- the byte is a line feed, or a character that a terminal shows in one column
 abbrev pub is_plain : ℕ → Bool

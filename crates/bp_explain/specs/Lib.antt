@@ -1,4 +1,3 @@
-pub mod Excerpts
 pub mod Explained
 pub mod Explanations
 pub mod Followers

@@ -1,11 +1,10 @@
 //! Sentences on a call of a trace that is not the machine's own, and on the end of a trace.
 
-use crate::excerpts::{push_line, push_place};
 use crate::sentences::{push_all, push_number};
 use crate::trace_heads::is_in_pieces;
 use crate::walks::{Stop, digit_of};
 use bp_machine::{Call, Reply, Report};
-use bp_view::position_of;
+use bp_text::{position_of, push_line, push_place};
 use std::alloc::AllocError;
 
 /// Why the machine gives a reply.

@@ -1,11 +1,11 @@
 //! Sentences on faults of a program whose text is in order.
-ghost use Rattle.std.specs.Prelude.{Some, IfOk};
+ghost use Rattle.std.specs.Prelude.{◌≡◌, IfOk};
+ghost use Rattle.bp_check.specs.Faults.{check_fault_place};
 ghost use Rattle.bp_explain.specs.Explanations.{place_line, IsExplanation, IsPlain};
-ghost use Rattle.bp_explain.specs.Excerpts.{ShowsFault};
+ghost use Rattle.bp_text.specs.Excerpts.{ShowsFault};
 
 use crate::counts::{argument_count, side_counts};
 use crate::declared::{Role, first_named, first_procedure, procedure_around, role_at};
-use crate::excerpts::excerpt_of;
 use crate::explanations::explanation_of_place;
 use crate::heads::head_of_place;
 use crate::pieces::token_at;
@@ -13,8 +13,8 @@ use crate::sentences::{push_all, push_count, push_number, push_quoted};
 use bp_check::CheckFault;
 use bp_check::limits::{MAX_GLOBALS, MAX_OWN_NAMES, MAX_PROCEDURES};
 use bp_syntax::{Tree, read};
+use bp_text::{excerpt_of, position_of};
 use bp_tree::Name;
-use bp_view::position_of;
 use std::alloc::{AllocError, Global};
 
 /// Adds words, a name in quotes, and more words.
@@ -183,6 +183,16 @@ fn push_sentence(
     }
 }
 
+/// The byte that the fault names, where it names one.
+fn place_of(fault: CheckFault, at: u32) -> Option<u32>
+    ensures { result ≡ check_fault_place fault at }
+{
+    match fault {
+        CheckFault::Memory => None,
+        _ => Some(at),
+    }
+}
+
 /// Explains why the program of a text is not lawful.
 pub(crate) fn explain_check(
     alloc: Global,
@@ -192,7 +202,7 @@ pub(crate) fn explain_check(
     at: u32,
 ) -> Result<Vec<u8>, AllocError>
     ensures is { IfOk result (λ v.
-        let place = Some at in
+        let place = check_fault_place fault at in
         IsExplanation (place_line name.now text.now place) (ShowsFault text.now place) v.items) }
     ensures plain { IfOk result (λ v. IsPlain v.items) }
 {
@@ -200,8 +210,9 @@ pub(crate) fn explain_check(
         // The text was read before, so it is memory that was refused.
         return Err(AllocError);
     };
-    let head = head_of_place(alloc, name, text, Some(at))?;
-    let excerpt = excerpt_of(alloc, text, Some(at))?;
+    let place = place_of(fault, at);
+    let head = head_of_place(alloc, name, text, place)?;
+    let excerpt = excerpt_of(alloc, text, place)?;
     let mut sentence = Vec::new(alloc);
     push_sentence(&mut sentence, text, &tree, fault, at as usize)?;
     sentence.push(b'\n')?;

@@ -1,7 +1,7 @@
 //! How many arguments a call has, and how many variables and values an assignment.
 
-use crate::parts::part_from;
 use crate::pieces::take_piece;
+use bp_text::part_from;
 
 /// How many tokens and commas the own text of a statement has, up to its `;`.
 #[derive(Clone, Copy, Debug)]

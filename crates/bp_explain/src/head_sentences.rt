@@ -1,9 +1,8 @@
 //! Sentences on a line of a trace's head that is not as it is due.
 
-use crate::excerpts::push_line;
-use crate::lines::line_of;
 use crate::sentences::push_all;
 use crate::trace_heads::init_line;
+use bp_text::{line_of, push_line};
 use std::alloc::AllocError;
 
 /// What is due on this line of a head, where the initial bits are due on that one.

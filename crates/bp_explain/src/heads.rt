@@ -1,28 +1,10 @@
 //! The head of an explanation: which file, and where in it.
-ghost use Rattle.std.specs.Prelude.{◌≡◌, ◌++◌, map, IfOk, OnOk};
-ghost use Rattle.bp_view.specs.OneLine.{on_one_line};
+ghost use Rattle.std.specs.Prelude.{◌≡◌, ◌++◌, IfOk, OnOk};
 ghost use Rattle.bp_explain.specs.Explanations.{behind_colon, file_line, number_line, position_line, place_line};
 
-use bp_view::{Position, position_of};
+use bp_text::{Position, position_of, push_on_one_line};
 use itoa::Buffer;
 use std::alloc::{AllocError, Global};
-
-/// The byte, or a space for a line feed.
-fn on_one_line(byte: u8) -> u8
-    ensures { result ≡ on_one_line byte }
-{
-    if byte == b'\n' { b' ' } else { byte }
-}
-
-/// Adds the name of a file, which may hold line feeds.
-fn push_name(out: &mut Vec<u8>, name: &[u8]) -> Result<(), AllocError>
-    ensures { OnOk result (out.new.items ≡ out.old.items ++ map on_one_line name.now) }
-{
-    for byte in name {
-        out.push(on_one_line(*byte))?;
-    }
-    Ok(())
-}
 
 /// Adds a colon and a number.
 fn push_behind_colon(out: &mut Vec<u8>, number: usize) -> Result<(), AllocError>
@@ -38,7 +20,7 @@ pub(crate) fn head_of_file(alloc: Global, name: &str) -> Result<Vec<u8>, AllocEr
     ensures { IfOk result (λ v. v.items ≡ file_line name.now) }
 {
     let mut head = Vec::new(alloc);
-    push_name(&mut head, name.as_bytes())?;
+    push_on_one_line(&mut head, name.as_bytes())?;
     head.push(b'\n')?;
     Ok(head)
 }
@@ -48,7 +30,7 @@ pub(crate) fn head_of_line(alloc: Global, name: &str, line: usize) -> Result<Vec
     ensures { IfOk result (λ v. v.items ≡ number_line name.now line) }
 {
     let mut head = Vec::new(alloc);
-    push_name(&mut head, name.as_bytes())?;
+    push_on_one_line(&mut head, name.as_bytes())?;
     push_behind_colon(&mut head, line)?;
     head.push(b'\n')?;
     Ok(head)
@@ -59,7 +41,7 @@ fn head_of_position(alloc: Global, name: &str, position: Position) -> Result<Vec
     ensures { IfOk result (λ v. v.items ≡ position_line name.now position) }
 {
     let mut head = Vec::new(alloc);
-    push_name(&mut head, name.as_bytes())?;
+    push_on_one_line(&mut head, name.as_bytes())?;
     push_behind_colon(&mut head, position.line)?;
     push_behind_colon(&mut head, position.column)?;
     head.push(b'\n')?;

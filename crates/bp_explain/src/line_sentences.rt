@@ -1,10 +1,9 @@
 //! Sentences on a line of a trace that is no line of calls and no end.
 
-use crate::excerpts::push_line;
-use crate::lines::{Line, line_of};
 use crate::numbers::number_at_front;
 use crate::sentences::{push_all, push_count, push_number};
 use crate::trace_heads::{entry_count, is_in_pieces};
+use bp_text::{Line, line_of, push_line};
 use std::alloc::AllocError;
 
 /// What begins the line that ends a trace.

@@ -1,7 +1,7 @@
 //! The pieces of a program text: names, constants, symbols, and the gaps between them.
 ghost use Rattle.std.specs.Prelude.{◌≤◌, ◌<◌, length, MatchOption};
 
-use crate::parts::{part_before, part_from};
+use bp_text::{part_before, part_from};
 
 fn is_white(byte: u8) -> bool {
     matches!(byte, b' ' | b'\t' | b'\n' | b'\r')

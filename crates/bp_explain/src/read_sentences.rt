@@ -2,15 +2,15 @@
 ghost use Rattle.std.specs.Prelude.{IfOk};
 ghost use Rattle.bp_syntax.specs.Faults.{read_fault_place};
 ghost use Rattle.bp_explain.specs.Explanations.{place_line, IsExplanation, IsPlain};
-ghost use Rattle.bp_explain.specs.Excerpts.{ShowsFault};
+ghost use Rattle.bp_text.specs.Excerpts.{ShowsFault};
 
-use crate::excerpts::excerpt_of;
 use crate::explanations::explanation_of_place;
 use crate::heads::head_of_place;
 use crate::sentences::{push_all, push_number, push_quoted};
 use crate::syntax_sentences::push_syntax;
 use bp_syntax::ReadFault;
 use bp_syntax::limits::{NESTING_LIMIT, SUCCESSION_LIMIT, TEXT_LIMIT};
+use bp_text::excerpt_of;
 use std::alloc::{AllocError, Global};
 
 fn push_too_long(out: &mut Vec<u8>) -> Result<(), AllocError> {

@@ -3,11 +3,10 @@ ghost use Rattle.std.specs.Prelude.{IfOk};
 ghost use Rattle.bp_explain.specs.Explanations.{number_line, Begins, IsPlain};
 ghost use Rattle.bp_explain.specs.Explained.{ExplainsSchedule};
 
-use crate::excerpts::push_line;
 use crate::explanations::{about_line, explain_too_long};
-use crate::lines::{Line, line_of};
 use crate::numbers::number_at_front;
 use crate::sentences::{push_all, push_number};
+use bp_text::{Line, line_of, push_line};
 use bp_trace::DriveFault;
 use bp_trace::limits::MAX_SCHEDULE;
 use std::alloc::{AllocError, Global};

@@ -1,6 +1,6 @@
 //! The parts of sentences: words, numbers, and names in quotes.
 
-use crate::parts::part_before;
+use bp_text::part_before;
 use itoa::Buffer;
 use std::alloc::AllocError;
 

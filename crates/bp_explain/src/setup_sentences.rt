@@ -1,14 +1,11 @@
 //! Sentences on the head of a trace that says no setup of the program.
 
-use crate::excerpts::push_line;
-use crate::lines::line_of;
-use crate::numbers::number_of;
-use crate::parts::part_from;
 use crate::sentences::{push_all, push_count, push_number, push_quoted};
 use crate::trace_heads::{FIRST_ENTRY, entry_count, entry_of, init_line};
 use bp_code::Code;
 use bp_machine::SetupFault;
 use bp_machine::limits::{MAX_CALLS, MAX_CONTEXTS, MAX_THREADS};
+use bp_text::{line_of, number_of, part_from, push_line};
 use std::alloc::AllocError;
 
 /// What begins the line of the contexts.
@@ -29,7 +26,7 @@ fn has_many_contexts(trace: &[u8]) -> bool {
         return false;
     };
     match number_of(part_from(line.words, CONTEXTS.len())) {
-        Some(number) => number > MAX_CONTEXTS,
+        Some(number) => number > u64::from(MAX_CONTEXTS),
         None => true,
     }
 }

@@ -2,9 +2,9 @@
 
 use crate::hints::token_hint;
 use crate::offers::{Offer, offers_behind, push_offers};
-use crate::parts::part_before;
 use crate::pieces::token_at;
 use crate::sentences::{push_all, push_quoted};
+use bp_text::part_before;
 use std::alloc::{AllocError, Global};
 
 /// Adds what was expected. A text that is nearly too long has no room for a token, and then there

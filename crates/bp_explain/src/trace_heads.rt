@@ -1,10 +1,9 @@
 //! The lines of a trace's head: which is which, and the setup that they say.
 
-use crate::lines::{line_of, take_line, text_from_line};
-use crate::parts::{part_before, part_from};
 use crate::sentences::{push_all, push_number};
 use bp_code::Code;
 use bp_machine::Setup;
+use bp_text::{line_of, part_before, part_from, take_line, text_from_line};
 use bp_trace::{ReplayFault, Replayed, replay};
 use std::alloc::{AllocError, Global};
 

@@ -2,7 +2,7 @@
 ghost use Rattle.std.specs.Prelude.{IfOk, map};
 ghost use Rattle.bp_tree.specs.Ast.{Program};
 ghost use Rattle.bp_code.specs.StandsFor.{StandsFor};
-ghost use Rattle.bp_view.specs.OneLine.{on_one_line};
+ghost use Rattle.bp_text.specs.OneLine.{on_one_line};
 ghost use Rattle.bp_explain.specs.Explanations.{number_line, Begins, IsPlain};
 ghost use Rattle.bp_explain.specs.Explained.{ExplainsTrace};
 
@@ -14,9 +14,9 @@ use crate::setup_sentences::{line_of_setup, push_setup};
 use crate::walks::{Stop, walk};
 use bp_code::Code;
 use bp_machine::SetupFault;
+use bp_text::position_of;
 use bp_trace::limits::MAX_TRACE;
 use bp_trace::{ReplayFault, replay};
-use bp_view::position_of;
 use std::alloc::{AllocError, Global};
 
 /// Explains that this line of a trace's head is not as it is due.

@@ -3,12 +3,12 @@
 ghost use Rattle.std.specs.Prelude.{◌<◌, ◌≤◌, length};
 ghost use Rattle.bp_code.specs.StandsFor.{StandsFor};
 
-use crate::lines::take_line;
 use crate::numbers::number_at_front;
 use crate::trace_heads::{body_of, setup_of};
 use crate::turns::{Turn, take_turn};
 use bp_code::Code;
 use bp_machine::{AskFault, Call, Report, Session};
+use bp_text::take_line;
 use std::alloc::{AllocError, Global};
 
 /// Why a walk stops, and at which byte of the trace.
@@ -29,21 +29,18 @@ pub(crate) fn digit_of(bit: bool) -> u8 {
     if bit { b'1' } else { b'0' }
 }
 
-/// The machine's own call of the thread, with the bit of the seed where there is one, else with
-/// that of the trace; none where the thread makes no further call.
-fn own_call(
+/// Makes the machine's own call of the thread, with the bit of the seed where there is one, else
+/// with that of the trace. There is none where the thread makes no further call.
+fn make_own_call(
     session: &mut Session,
-    is_seeded: bool,
     thread: u32,
     turn: Turn,
 ) -> Result<Option<Call>, AllocError> {
-    let asked = if is_seeded {
-        session.ask(thread)
-    } else {
-        session.ask_with(thread, turn.digit == b'1')
-    };
-    match asked {
-        Ok(own) => Ok(Some(own)),
+    match session.prepare_as_recorded(thread, turn.digit == b'1') {
+        Ok(own) => {
+            session.commit(&own);
+            Ok(Some(own))
+        }
         Err(AskFault::Memory) => Err(AllocError),
         Err(_) => Ok(None),
     }
@@ -53,7 +50,6 @@ fn own_call(
 /// not the machine's.
 fn walk_line(
     session: &mut Session,
-    is_seeded: bool,
     thread: u32,
     turns: &[u8],
     end: usize,
@@ -61,7 +57,7 @@ fn walk_line(
     let mut rest = turns;
     while let Some(turn) = take_turn(&mut rest) {
         let digit_at = end.saturating_sub(turn.behind_digit).saturating_sub(1);
-        let Some(own) = own_call(session, is_seeded, thread, turn)? else {
+        let Some(own) = make_own_call(session, thread, turn)? else {
             return Ok(Some(Stop::Finished(thread, digit_at)));
         };
         if digit_of(own.bit) != turn.digit {
@@ -76,7 +72,7 @@ fn walk_line(
 }
 
 /// Makes the calls of a trace, up to the first that is not the machine's.
-fn walk_calls(session: &mut Session, is_seeded: bool, trace: &[u8]) -> Result<Stop, AllocError> {
+fn walk_calls(session: &mut Session, trace: &[u8]) -> Result<Stop, AllocError> {
     let mut rest = body_of(trace);
     let mut at = trace.len().saturating_sub(rest.len());
     while let Some(line) = take_line(&mut rest) {
@@ -84,7 +80,7 @@ fn walk_calls(session: &mut Session, is_seeded: bool, trace: &[u8]) -> Result<St
             return Ok(Stop::End(session.report(), at));
         };
         let end = at.saturating_add(line.words.len());
-        if let Some(stop) = walk_line(session, is_seeded, thread, turns, end)? {
+        if let Some(stop) = walk_line(session, thread, turns, end)? {
             return Ok(stop);
         }
         at = trace.len().saturating_sub(rest.len());
@@ -102,6 +98,6 @@ pub(crate) fn walk(alloc: Global, code: &Code, trace: &[u8]) -> Result<Option<St
         return Ok(None);
     }
     let mut session = Session::new(alloc, code, &setup)?;
-    let stop = walk_calls(&mut session, setup.seed().is_some(), trace)?;
+    let stop = walk_calls(&mut session, trace)?;
     Ok(Some(stop))
 }

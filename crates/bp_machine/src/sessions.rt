@@ -10,7 +10,7 @@ ghost use Rattle.bp_machine.specs.Tops.{IsTop};
 ghost use Rattle.bp_machine.specs.Setups.{FitsCode, threads};
 ghost use Rattle.bp_machine.specs.Histories.{granted_threads, configuration_after, is_finished, open_lines};
 ghost use Rattle.bp_machine.specs.Reports.{IsReport};
-ghost use Rattle.bp_machine.specs.Sessions.{Stands, IsNextCall, IsAskRefusal, IsPrintRefusal};
+ghost use Rattle.bp_machine.specs.Sessions.{Stands, IsNextCall, IsAskRefusal, IsPrintRefusal, given_bit};
 ghost use Rattle.bp_machine.specs.KeptSessions.{AreFirstChoices, AreDrawn, IsKeptBit, IsBitRefusal, IsGiven, IsJudged, IsKeptRefusal};
 
 use crate::calls::Call;
@@ -239,6 +239,29 @@ impl Session {
         self.prepare_given(thread, Some(bit))
     }
 
+    /// Prepares the machine's own call of the thread of a recorded call: with the bit of the seed
+    /// where the setup has one, else with the bit that was recorded.
+    pub fn prepare_as_recorded(&mut self, thread: u32, bit: bool) -> Result<Call, AskFault>
+        ensures answer { (t : Program) (h : List Answered)
+            → StandsFor self.old.code t
+            → Stands t self.old h
+            → let given = given_bit self.old.setup bit in
+            MatchResult result
+            (IsNextCall t self.old.setup h thread given)
+            (IsAskRefusal t self.old.setup h thread given) }
+        ensures asked { let given = given_bit self.old.setup bit in
+            IfOk result (λ c. (c.thread ≡ thread) × IsGiven given c.bit) }
+        ensures stands { (t : Program) (h : List Answered)
+            → Stands t self.old h
+            → Stands t self.new h }
+        ensures ready { IfOk result (λ c. self.new.ready ≡ Some c) }
+        ensures kept { (self.new.code ≡ self.old.code) × (self.new.setup ≡ self.old.setup) }
+        ensures same { OnErr result (self.new ≡ self.old) }
+    {
+        let given = self.given_bit(bit);
+        self.prepare_given(thread, given)
+    }
+
     /// Makes the call that the session is prepared for.
     pub fn commit(&mut self, call: &Call)
         requires { self.old.ready ≡ Some call.now }
@@ -406,6 +429,17 @@ impl Session {
             (None, Some(bit)) => Ok(bit),
             (Some(_), Some(_)) => Err(AskFault::Seeded),
             (None, None) => Err(AskFault::Unseeded),
+        }
+    }
+
+    /// The bit that is handed in for a recorded call with this bit.
+    fn given_bit(&self, bit: bool) -> Option<bool>
+        ensures { result ≡ given_bit self.now.setup bit }
+    {
+        if self.setup.seed().is_some() {
+            None
+        } else {
+            Some(bit)
         }
     }
 

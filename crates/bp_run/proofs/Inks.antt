@@ -3,8 +3,8 @@ use Rattle.std.proofs.Common.{◌≡◌, ℕ, Bool, false, true, List, [], ◌++
 use Rattle.std.proofs.lemmas.List.{append-nil}
 use Rattle.std.proofs.KnownBytes.{Appends-nil}
 use Rattle.std.specs.Result.{is_err}
-use Rattle.bp_code.specs.Writing.{Writes}
-use Rattle.bp_code.proofs.Appends.{all_then, part_then}
+use Rattle.bp_text.specs.Writing.{Writes}
+use Rattle.bp_text.proofs.Appends.{all_then, part_then}
 use Rattle.bp_run.specs.Inks.{IsInked, Inks}
 
 -- a new pen

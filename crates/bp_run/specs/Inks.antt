@@ -1,6 +1,6 @@
 -- What a pen has written.
 use Rattle.std.specs.Prelude.{ℕ, Bool, true, false, List, ◌++◌, Option}
-use Rattle.bp_code.specs.Writing.{AppendsAll, AppendsPart}
+use Rattle.bp_text.specs.Writing.{AppendsAll, AppendsPart}
 
 -- since `first` the writer got all of the text; or, where a write failed, a proper prefix of it
 abbrev pub IsInked : Option (List ℕ) → Option (List ℕ) → Bool → List ℕ → Type 0

@@ -2,7 +2,7 @@
 use Rattle.std.specs.Prelude.{◌≡◌, ℕ, List, Option, length}
 use Rattle.std.specs.Io.KnownBytes.{Appends}
 use Rattle.bp_tree.specs.Ast.{Program}
-use Rattle.bp_code.specs.Writing.{AppendsPart}
+use Rattle.bp_text.specs.Writing.{AppendsPart}
 use Rattle.bp_machine.specs.declared.calls.Call.{Call}
 use Rattle.bp_machine.specs.declared.reports.Report.{Report}
 use Rattle.bp_machine.specs.declared.reports.Outcome.TheVariants.{Failed}

@@ -5,10 +5,11 @@ use crate::texts::code_of;
 use bp_check::{CheckFault, check};
 use bp_code::stores::{bit_at, with_bit, word_of};
 use bp_code::{
-    Code, Effect, Heading, Instr, Kind, ProgramFault, Store, WriteFault, compile, lawful_program,
-    list, places, put, put_each, steps_alike,
+    Code, Effect, Heading, Instr, Kind, ProgramFault, Store, compile, lawful_program, list, places,
+    steps_alike,
 };
 use bp_syntax::{ReadFault, read};
+use bp_text::{WriteFault, put, put_each};
 use std::alloc::{AllocError, Global};
 use std::io::{self, ErrorKind, Write};
 use std::test::Fail;
@@ -235,14 +236,14 @@ fn numbers_and_shows_faults(rt: HostRuntime) -> Result<(), Fail> {
     Ok(())
 }
 
-fn is_shown_as_fifty_one(alloc: Global, fault: WriteFault) -> Result<bool, AllocError> {
+fn is_shown(alloc: Global, fault: WriteFault) -> Result<bool, AllocError> {
     let shown = format!(in alloc; "{fault}")?;
-    Ok(fault.number() == 51 && shown.as_str() == "the output could not be written")
+    Ok(shown.as_str() == "the output could not be written")
 }
 
 #[test]
-fn numbers_and_shows_a_failed_write(rt: HostRuntime) -> Result<(), Fail> {
-    assert!(rt; is_shown_as_fifty_one(rt.alloc(), WriteFault::Write)?);
+fn shows_a_failed_write(rt: HostRuntime) -> Result<(), Fail> {
+    assert!(rt; is_shown(rt.alloc(), WriteFault::Write)?);
     Ok(())
 }
 

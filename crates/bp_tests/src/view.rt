@@ -1,8 +1,9 @@
 //! Views of histories.
 
 use bp_code::{compile, lawful_program};
+use bp_text::{Position, position_of};
 use bp_trace::replay;
-use bp_view::{Position, ViewOptions, position_of, view};
+use bp_view::{ViewOptions, view};
 use std::alloc::Global;
 use std::test::Fail;
 

@@ -6,9 +6,9 @@ use Rattle.std.proofs.lemmas.List.{append-nil, take_more, take_all}
 use Rattle.std.proofs.lemmas.List.Concat.{flat_map-append, flat_map_single}
 use Rattle.std.proofs.KnownBytes.{Appends-trans}
 use Rattle.std.specs.Io.KnownBytes.{Appends}
-use Rattle.bp_code.specs.Writing.{AppendsAll, AppendsPart}
+use Rattle.bp_text.specs.Writing.{AppendsAll, AppendsPart}
 use Rattle.bp_trace.specs.Schedules.{bit_digit}
-use Rattle.bp_code.proofs.AppendsPieces.{AppendsPart_within, flat_map_at}
+use Rattle.bp_text.proofs.AppendsPieces.{AppendsPart_within, flat_map_at}
 
 -- past the last element there is none
 pub past_end : {X : Type 0} (xs : List X) (i : ℕ) → slice_get xs i ≡ None → length xs ≤ i

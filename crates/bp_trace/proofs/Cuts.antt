@@ -1,8 +1,9 @@
 -- The first of a byte cuts two lists alike; and texts of numbers, which hold digits alone.
 use Rattle.std.proofs.Common.{◌≡◌, ℕ, ◌<◌, ◌^◌, List, [], ◌∷◌, ◌++◌, length, refl, sym, arith, decimal}
-use Rattle.std.specs.Str.Parse.{AllDigits, digits_value}
-use Rattle.std.proofs.lemmas.Str.Parse.{IsNumeralModel, numerals_by_value, tells_digits, digit_from_value}
+use Rattle.std.specs.Str.Parse.{AllDigits}
+use Rattle.std.proofs.lemmas.Str.Parse.{digit_from_value}
 use Rattle.std.proofs.lemmas.Fmt.{digits_decimal, decimal_injective, decimal_nonempty}
+use Rattle.bp_text.proofs.Numerals.{numerals}
 use Rattle.bp_trace.specs.Writable.{Without}
 
 pub same_head : {A : Type 0} (a b : A) (x y : List A) → a ∷ x ≡ b ∷ y → (a ≡ b) × (x ≡ y)
@@ -16,9 +17,6 @@ one_cut byte (c ∷ a) (d ∷ b) x y p q e =
     let heads = same_head c d (a ++ byte ∷ x) (b ++ byte ∷ y) e in
     let rest = one_cut byte a b x y p.1 q.1 heads.1 in
     (cc (heads.0, rest.0), rest.1)
-
-pub numerals : IsNumeralModel (AllDigits 10) (digits_value 10)
-numerals = numerals_by_value (AllDigits 10) tells_digits
 
 pub digits_without : (byte : ℕ) → byte < 48 → (ds : List ℕ) → AllDigits 10 ds → Without byte ds
 digits_without byte low [] p = tt

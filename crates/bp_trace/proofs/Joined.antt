@@ -2,7 +2,7 @@
 use Rattle.std.proofs.Common.{◌≡◌, ◌≢◌, ℕ, ◌+◌, ◌<◌, List, [], ◌∷◌, ◌++◌, length, take, drop, flat_map, get_or, ap, sym, ◌∙◌, append_assoc}
 use Rattle.std.proofs.lemmas.List.{append-nil, take_more}
 use Rattle.std.proofs.lemmas.List.Concat.{flat_map-append}
-use Rattle.bp_code.proofs.AppendsPieces.{flat_map_at}
+use Rattle.bp_text.proofs.AppendsPieces.{flat_map_at}
 use Rattle.bp_trace.proofs.OneText.{front_cut}
 
 module _ {X : Type 0} (f : X → List ℕ) (xs : List X) (i : ℕ) (x : X) (within : i < length xs) (text rest : List ℕ) (before : text ≡ flat_map f (take i xs) ++ rest) where

@@ -10,7 +10,6 @@ mod Joined
 mod LineThread
 pub mod LinesDriveAgain
 mod LinesOfHistory
-mod NumberOfDigits
 mod OneField
 mod OneHead
 mod OneHistoryBehind
@@ -20,6 +19,7 @@ mod OneRefusal
 mod OneRefusedCall
 mod OneRest
 mod OneText
+mod OtherCalls
 mod OwnEnds
 mod PieceTexts
 mod PieceThreads

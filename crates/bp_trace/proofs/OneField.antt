@@ -1,21 +1,13 @@
 -- A line of a word has one value.
-use Rattle.std.proofs.Common.{◌≡◌, ◌≢◌, ◌==◌, true, false, ℕ, List, [], ◌∷◌, ◌++◌, Option, None, Some, length, refl, sym, ap, ◌∙◌, arith, append_assoc, codes, decimal}
-use Rattle.std.proofs.lemmas.Bool.{false≢true}
-use Rattle.std.proofs.lemmas.Bool.Decides.{Decides-eqb}
-use Rattle.std.proofs.lemmas.List.{append_cancel_left, nil_from_length}
+use Rattle.std.proofs.Common.{◌≡◌, ◌≢◌, ℕ, List, [], ◌∷◌, ◌++◌, Option, None, Some, refl, sym, ap, ◌∙◌, arith, append_assoc, codes, decimal}
+use Rattle.std.proofs.lemmas.List.{append_cancel_left}
 use Rattle.bp_trace.specs.Heads.{field_line}
-use Rattle.bp_trace.specs.HeadReading.{IsCut, IsFieldAt, HasNoField, HasNoEntry, IsNoInit, HasNoInit, IsNoNumber, HasNoNumber, IsSeed, HasNoSeed}
+use Rattle.bp_trace.specs.HeadReading.{IsCut, IsFieldAt, HasNoField, HasNoEntry, IsNoInit, HasNoInit, HasNoNumber, IsSeed, HasNoSeed}
+use Rattle.bp_text.specs.Decimals.{IsNoNumber}
 use Rattle.bp_trace.specs.TraceText.{init_digits, seed_word}
 use Rattle.bp_trace.specs.Writable.{Without}
 use Rattle.bp_trace.proofs.Cuts.{one_cut, decimal_without}
 use Rattle.bp_trace.proofs.OneText.{init_without, seed_without}
-
--- whether an element is left
-pub none_left : (xs : List ℕ) → (length xs == 0) ≡ true → xs ≡ []
-none_left xs none = nil_from_length xs ((Decides-eqb (length xs) 0).0 none)
-
-pub some_left : (xs : List ℕ) → (length xs == 0) ≡ false → xs ≢ []
-some_left xs some e = let none = (Decides-eqb (length xs) 0).1 (ap length e) in false≢true (sym some ∙ none)
 
 no_cut : (line a rest : List ℕ) → Without 10 line → line ≢ a ++ 10 ∷ rest
 no_cut [] [] rest p e = absurd (cc)

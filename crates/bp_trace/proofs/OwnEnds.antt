@@ -12,7 +12,7 @@ use Rattle.bp_machine.specs.Setups.{SetupOf, threads}
 use Rattle.bp_machine.proofs.LegalLength.{legal_length}
 use Rattle.bp_trace.specs.Replays.{IsDecimal, IsEndLine}
 use Rattle.bp_trace.specs.TraceText.{end_line}
-use Rattle.bp_trace.proofs.Cuts.{numerals}
+use Rattle.bp_text.proofs.Numerals.{numerals}
 use Rattle.bp_trace.proofs.TraceLength.{open_few}
 
 decimal_is : (n : ℕ) → n < 2 ^ 64 → IsDecimal (decimal n)

@@ -1,5 +1,5 @@
 -- How the head of a trace is read: a device of the reader, which no public clause names.
-use Rattle.std.specs.Prelude.{◌≡◌, ◌≢◌, ◌<◌, ◌^◌, ℕ, Bool, List, ◌∷◌, ◌++◌, Option, Some, length, map, codes, decimal, slice_index}
+use Rattle.std.specs.Prelude.{◌≡◌, ◌≢◌, ◌<◌, ◌^◌, ℕ, Bool, List, ◌∷◌, ◌++◌, Option, Some, length, map, codes, decimal}
 use Rattle.std.specs.List.{AllByRecursion, concat}
 use Rattle.bp_machine.specs.Setups.{SetupOf, setup_of}
 use Rattle.bp_trace.specs.declared.heads.Head.{Head}
@@ -59,19 +59,6 @@ IsNoInit value = (bits : List Bool) → value ≢ init_digits bits
 -- no init line begins the text
 abbrev pub HasNoInit : List ℕ → Type 0
 HasNoInit text = (bits : List Bool) (rest : List ℕ) → text ≢ init_line bits ++ rest
-
--- a zero stands before other digits
-abbrev pub IsPadded : List ℕ → Type 0
-IsPadded digits = (1 < length digits) × (slice_index digits 0 ≡ 48)
-
--- the digits are the decimal of this number, which has 64 bits
-pub record IsNumber (digits : List ℕ) (n : ℕ) : Type 0 where
-  pub fits : n < 2 ^ 64
-  pub digits_are : digits ≡ decimal n
-
--- the digits are the decimal of no number of 64 bits
-abbrev pub IsNoNumber : List ℕ → Type 0
-IsNoNumber digits = (n : ℕ) → n < 2 ^ 64 → digits ≢ decimal n
 
 -- the line of this word and this number begins the text, and then comes the rest
 pub record IsNumberAt (word text : List ℕ) (n : ℕ) (rest : List ℕ) : Type 0 where

@@ -1,5 +1,5 @@
 -- How a replay judges a call: a device, which no public clause names.
-use Rattle.std.specs.Prelude.{if◌then◌else◌, ◌≡◌, ◌≢◌, ◌⊎◌, ◌≤◌, ◌+◌, ◌++◌, ℕ, Bool, List, Option, None, Some, length, map, drop}
+use Rattle.std.specs.Prelude.{◌≡◌, ◌≢◌, ◌⊎◌, ◌≤◌, ◌+◌, ◌++◌, ℕ, List, Option, length, map, drop}
 use Rattle.std.specs.Option.{option_map, option_to_list}
 use Rattle.bp_tree.specs.Ast.{Program}
 use Rattle.bp_machine.specs.declared.calls.Call.{Call}
@@ -26,10 +26,6 @@ use Rattle.bp_trace.specs.Replays.{IsPlayable, line_count, IsCallFault, IsRefuse
 -- the rows of a call, which prints one or none
 abbrev pub rows_of : Option Printed → List PrintedRow
 rows_of row = option_to_list (option_map row_of row)
-
--- the bit that a session is handed for a call of a trace
-abbrev pub given_bit : Bool → Call → Option Bool
-given_bit seeded x = if seeded then None else Some x.bit
 
 -- the refusal of a call on the line n, of a thread that is there
 abbrev pub replay_fault_of : AskFault → ℕ → ReplayFault

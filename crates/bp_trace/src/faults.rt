@@ -1,6 +1,6 @@
 //! Why a schedule is not played.
 
-use bp_code::WriteFault;
+use bp_text::WriteFault;
 use std::alloc::AllocError;
 use thiserror::Error;
 

@@ -1,14 +1,15 @@
 //! Heads of traces, read line by line.
-ghost use Rattle.std.specs.Prelude.{◌≡◌, ◌<◌, ◌≤◌, ◌^◌, ◌+◌, ◌-◌, ◌*◌, ◌++◌, ◌↔◌, IsTrue, IfOk, MatchOption, MatchResult, SomeIff, length, map};
+ghost use Rattle.std.specs.Prelude.{◌≡◌, ◌≤◌, ◌+◌, ◌++◌, IfOk, MatchOption, MatchResult, length, map};
 ghost use Rattle.bp_trace.specs.declared.limits.TheConstants.{MAX_TRACE};
 ghost use Rattle.bp_trace.specs.Schedules.{bit_digit};
 ghost use Rattle.bp_trace.specs.TraceText.{version_line, init_digits, init_line};
 ghost use Rattle.bp_trace.specs.Writable.{Without};
-ghost use Rattle.bp_trace.specs.HeadReading.{IsCut, HasNoFront, IsFieldAt, HasNoField, HasNoVersion, IsEntryAt, HasNoEntry, AreEntriesAt, AreNoBits, IsNoInit, HasNoInit, IsPadded, IsNumber, IsNoNumber, IsNumberAt, HasNoNumber, IsSeedAt, HasNoSeed, IsHeadOf, IsHeadRefusal};
+ghost use Rattle.bp_trace.specs.HeadReading.{IsCut, HasNoFront, IsFieldAt, HasNoField, HasNoVersion, IsEntryAt, HasNoEntry, AreEntriesAt, AreNoBits, IsNoInit, HasNoInit, IsNumberAt, HasNoNumber, IsSeedAt, HasNoSeed, IsHeadOf, IsHeadRefusal};
 
 use crate::replay_faults::ReplayFault;
 use crate::trace_lines::bit_of;
 use crate::versions::Version;
+use bp_text::number_of;
 use std::alloc::{AllocError, Global};
 
 /// What the head of a trace says.
@@ -156,53 +157,6 @@ fn init_at(alloc: Global, text: &[u8]) -> Result<Option<(Vec<bool>, &[u8])>, All
         None => Ok(None),
         Some(bits) => Ok(Some((bits, rest))),
     }
-}
-
-/// The number with one more digit behind it, where it has 64 bits.
-fn with_digit(number: u64, digit: u8) -> Option<u64>
-    requires low { 48 ≤ digit }
-    requires high { digit ≤ 57 }
-    ensures { SomeIff result (number * 10 + (digit - 48) < 2 ^ 64) (number * 10 + (digit - 48)) }
-{
-    let Some(tens) = number.checked_mul(10) else {
-        return None;
-    };
-    match tens.checked_add(u64::from(digit - b'0')) {
-        None => None,
-        Some(number) => Some(number),
-    }
-}
-
-/// Whether a zero stands before other digits.
-fn is_padded(digits: &[u8]) -> bool
-    ensures { IsTrue result ↔ IsPadded digits.now }
-{
-    digits.len() > 1 && digits[0] == b'0'
-}
-
-/// The number of 64 bits whose decimal the digits are.
-fn number_of(digits: &[u8]) -> Option<u64>
-    ensures { MatchOption result
-        (IsNoNumber digits.now)
-        (IsNumber digits.now) }
-{
-    if digits.is_empty() {
-        return None;
-    }
-    if is_padded(digits) {
-        return None;
-    }
-    let mut number = 0;
-    for digit in digits {
-        if !digit.is_ascii_digit() {
-            return None;
-        }
-        let Some(next) = with_digit(number, *digit) else {
-            return None;
-        };
-        number = next;
-    }
-    Some(number)
 }
 
 /// The number on the line of the word that begins the text, and what is behind the line.

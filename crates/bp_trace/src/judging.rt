@@ -1,5 +1,5 @@
 //! Judging the calls of a trace, one after the other.
-ghost use Rattle.std.specs.Prelude.{◌≡◌, ◌⊎◌, ◌<◌, ◌++◌, ◌∷◌, [], List, Some, IfOk, IfErr, OnOk, MatchResult, map, is_some};
+ghost use Rattle.std.specs.Prelude.{◌≡◌, ◌<◌, ◌++◌, ◌∷◌, [], List, Some, IfOk, IfErr, OnOk, MatchResult, map};
 ghost use Rattle.bp_tree.specs.Ast.{Program};
 ghost use Rattle.bp_code.specs.StandsFor.{StandsFor};
 ghost use Rattle.bp_machine.specs.declared.calls.Call.{Call as Answered};
@@ -7,9 +7,9 @@ ghost use Rattle.bp_machine.specs.Histories.{configuration_after};
 ghost use Rattle.bp_machine.specs.Replies.{is_granted};
 ghost use Rattle.bp_machine.specs.PrintedRows.{rows_of_call};
 ghost use Rattle.bp_machine.specs.Setups.{threads};
-ghost use Rattle.bp_machine.specs.Sessions.{Stands, IsNextCall, IsAskRefusal};
+ghost use Rattle.bp_machine.specs.Sessions.{Stands};
 ghost use Rattle.bp_trace.specs.Replayed.{row_of};
-ghost use Rattle.bp_trace.specs.Judging.{rows_of, given_bit, replay_fault_of, IsOwnAs, IsMismatch, IsCallRefusal};
+ghost use Rattle.bp_trace.specs.Judging.{rows_of, replay_fault_of, IsOwnAs, IsMismatch, IsCallRefusal};
 
 use crate::replay_faults::ReplayFault;
 use bp_machine::{AskFault, Call, Reply, Session};
@@ -51,29 +51,6 @@ fn replay_fault_of(fault: AskFault, n: u32) -> ReplayFault
     match fault {
         AskFault::Memory => ReplayFault::Memory,
         _ => ReplayFault::AfterFinish(n),
-    }
-}
-
-/// Prepares the machine's call of the thread, with the bit of the seed where there is one, else
-/// with that of the trace.
-fn own_call(session: &mut Session, seeded: bool, call: &Call) -> Result<Call, AskFault>
-    ensures answer { (t : Program) (h : List Answered)
-        → StandsFor session.old.code t
-        → Stands t session.old h
-        → let given = given_bit seeded call.now in
-        MatchResult result
-        (IsNextCall t session.old.setup h call.now.thread given)
-        (IsAskRefusal t session.old.setup h call.now.thread given) }
-    ensures stands { (t : Program) (h : List Answered)
-        → Stands t session.old h
-        → Stands t session.new h }
-    ensures ready { IfOk result (λ c. session.new.ready ≡ Some c) }
-    ensures kept { (session.new.code ≡ session.old.code) × (session.new.setup ≡ session.old.setup) }
-{
-    if seeded {
-        session.prepare(call.thread)
-    } else {
-        session.prepare_with(call.thread, call.bit)
     }
 }
 
@@ -120,13 +97,11 @@ fn row_of_call(session: &Session, call: &Call) -> Result<Option<Printed>, AskFau
 /// Judges a call on the `n`-th line of a trace, of a thread that is there, and keeps it.
 pub(crate) fn judge(
     session: &mut Session,
-    seeded: bool,
     call: &Call,
     n: u32,
     played: &mut Played,
 ) -> Result<(), ReplayFault>
     requires thread { call.now.thread < threads session.old.setup }
-    requires seeded { seeded ≡ is_some session.old.setup.seed }
     ensures stands { (t : Program) (h : List Answered)
         → StandsFor session.old.code t
         → Stands t session.old h
@@ -145,7 +120,7 @@ pub(crate) fn judge(
         → Stands t session.old h
         → IfErr result (IsCallRefusal t session.old.setup h n call.now) }
 {
-    let own = match own_call(session, seeded, call) {
+    let own = match session.prepare_as_recorded(call.thread, call.bit) {
         Ok(own) => own,
         Err(fault) => return Err(replay_fault_of(fault, n)),
     };

@@ -1,8 +1,8 @@
 //! Why a trace is not migrated.
 
 use crate::replay_faults::ReplayFault;
-use bp_code::WriteFault;
 use bp_machine::Reply;
+use bp_text::WriteFault;
 use thiserror::Error;
 
 /// Why a trace is not migrated: the first of these that applies.

@@ -1,13 +1,13 @@
 //! Writing the calls of a history by its pieces.
 ghost use Rattle.std.specs.Prelude.{None, flat_map};
-ghost use Rattle.bp_code.specs.Writing.{Writes};
+ghost use Rattle.bp_text.specs.Writing.{Writes};
 ghost use Rattle.bp_trace.specs.Pieces.{pieces_of, turn_of};
 ghost use Rattle.bp_trace.specs.TraceText.{piece_line, turn_text};
 ghost use Rattle.bp_trace.specs.TurnTexts.{line_start, opening, turn_behind, turns_behind};
 
 use crate::traces::bit_digit;
-use bp_code::{WriteFault, put, put_each};
 use bp_machine::Call;
+use bp_text::{WriteFault, put, put_each};
 use itoa::Buffer;
 use std::io::Write;
 

@@ -1,5 +1,5 @@
 //! Playing the lines of calls of a trace.
-ghost use Rattle.std.specs.Prelude.{◌≡◌, ◌<◌, ◌+◌, ◌^◌, ◌++◌, [], length, map, is_some, drop, IfOk, IfErr, OnOk};
+ghost use Rattle.std.specs.Prelude.{◌≡◌, ◌<◌, ◌+◌, ◌^◌, ◌++◌, [], length, map, IfOk, IfErr, OnOk};
 ghost use Rattle.std.specs.List.{AllByRecursion};
 ghost use Rattle.bp_tree.specs.Ast.{Program};
 ghost use Rattle.bp_code.specs.StandsFor.{StandsFor};
@@ -37,13 +37,11 @@ fn last_thread(history: &[Call]) -> Option<u32>
 /// Judges the calls of the `n`-th line of a trace, one after the other.
 fn judge_line(
     session: &mut Session,
-    seeded: bool,
     calls: &[Call],
     n: u32,
     played: &mut Played,
 ) -> Result<(), ReplayFault>
     requires threads { AllByRecursion (λ x. x.thread < threads session.old.setup) calls.now }
-    requires seeded { seeded ≡ is_some session.old.setup.seed }
     requires played { ArePlayed session.old played.old }
     ensures played { OnOk result (ArePlayed session.new played.new) }
     ensures history { OnOk result
@@ -55,7 +53,7 @@ fn judge_line(
         (IsLineRefused t session.old.setup played.old.history.items n calls.now) }
 {
     for call in calls {
-        judge(session, seeded, call, n, played)?;
+        judge(session, call, n, played)?;
     }
     Ok(())
 }
@@ -80,7 +78,6 @@ pub(crate) fn play(
         → IfErr result (IsBodyRefusal t version setup.now text.now first) }
 {
     setup.is_in_range();
-    let seeded = setup.seed().is_some();
     let mut played = Played {
         history: Vec::new(alloc),
         printed: Vec::new(alloc),
@@ -95,7 +92,7 @@ pub(crate) fn play(
         let Some(more) = found else {
             return Ok(Body { played, size, line });
         };
-        judge_line(session, seeded, calls.as_slice(), line, &mut played)?;
+        judge_line(session, calls.as_slice(), line, &mut played)?;
         size += more;
         line += 1;
     }

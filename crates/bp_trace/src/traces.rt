@@ -1,15 +1,15 @@
 //! Writing the text of a trace.
 ghost use Rattle.std.specs.Prelude.{◌≡◌, ◌≤◌, map, flat_map, length};
 ghost use Rattle.bp_check.specs.declared.limits.TheConstants.{MAX_GLOBALS};
-ghost use Rattle.bp_code.specs.Writing.{Writes};
+ghost use Rattle.bp_text.specs.Writing.{Writes};
 ghost use Rattle.bp_machine.specs.Histories.{open_lines};
 ghost use Rattle.bp_trace.specs.Schedules.{bit_digit};
 ghost use Rattle.bp_trace.specs.TraceText.{entry_line, init_digits, init_line, limit_lines, version_line, head_text, call_line, end_line, calls_text, text_of, trace_text, trace_text_2};
 
 use crate::pieces::write_pieces;
 use crate::versions::Version;
-use bp_code::{WriteFault, put, put_each};
 use bp_machine::{Call, Setup, open_lines};
+use bp_text::{WriteFault, put, put_each};
 use itoa::Buffer;
 use std::io::Write;
 

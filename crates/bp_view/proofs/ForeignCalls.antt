@@ -9,10 +9,9 @@ use Rattle.bp_machine.specs.declared.sessions.AskFault.TheVariants.{NoThread, Fi
 use Rattle.bp_machine.specs.Answers.{Answers}
 use Rattle.bp_machine.specs.Histories.{configuration_after, granted_threads}
 use Rattle.bp_machine.specs.SeededHistories.{IsBitOfCall}
-use Rattle.bp_machine.specs.Sessions.{IsAskRefusal, IsNextCall}
-use Rattle.bp_machine.specs.Setups.{SetupOf, threads}
+use Rattle.bp_machine.specs.Sessions.{IsAskRefusal, IsNextCall, given_bit}
+use Rattle.bp_machine.specs.Setups.{SetupOf}
 use Rattle.bp_trace.specs.declared.replay_faults.ReplayFault.TheVariants as fault
-use Rattle.bp_trace.specs.Judging.{given_bit}
 use Rattle.bp_trace.specs.Replays.{IsPlayable}
 use Rattle.bp_view.specs.declared.views.ViewFault.{ViewFault}
 use Rattle.bp_view.specs.declared.views.ViewFault.TheVariants as view
@@ -37,7 +36,7 @@ given_there false bit e none = false≢true (sym (ap is_some none))
 module _ (t : Program) (s : SetupOf) (h : List Call) (x : Call) where
   module _ (g : List Call) (playable : IsPlayable t s (h ++ x ∷ g)) where
     -- the machine makes the call
-    pub is_asked : (f : AskFault) → IsAskRefusal t s h x.thread (given_bit (is_some s.seed) x) f → f ≢ Memory → ⊥
+    pub is_asked : (f : AskFault) → IsAskRefusal t s h x.thread (given_bit s x.bit) f → f ≢ Memory → ⊥
     is_asked NoThread r other = let within = (next_allowed t s h x g playable).thread in absurd (omega (arith, r, within))
     is_asked Finished r other = false≢true (sym (next_allowed t s h x g playable).unfinished ∙ r.1)
     is_asked Seeded r other = not_given (is_some s.seed) x.bit r.2 r.1
@@ -50,7 +49,7 @@ module _ (t : Program) (s : SetupOf) (h : List Call) (x : Call) where
     same_bit own false r = r.1
 
     -- and it is that one
-    pub is_the_own : (own : Call) → IsNextCall t s h x.thread (given_bit (is_some s.seed) x) own → own ≡ x
+    pub is_the_own : (own : Call) → IsNextCall t s h x.thread (given_bit s x.bit) own → own ≡ x
     is_the_own own next =
         let bit = same_bit own.bit (is_some s.seed) next.bit in
         let one = subst (λ i. Answers t s.contexts (configuration_after t s h) (granted_threads h) i own.bit own.reply) next.thread next.allowed.answers in
@@ -58,7 +57,7 @@ module _ (t : Program) (s : SetupOf) (h : List Call) (x : Call) where
         let reply = same_answer t s.contexts (configuration_after t s h) (granted_threads h) x.thread x.bit own.reply x.reply other (next_allowed t s h x g playable).answers in
         λ i. record { thread = next.thread i; bit = bit i; reply = reply i }
 
-  pub refusal_is : (f : AskFault) → IsAskRefusal t s h x.thread (given_bit (is_some s.seed) x) f → IsCallRefusal t s h x (view_fault_of f)
+  pub refusal_is : (f : AskFault) → IsAskRefusal t s h x.thread (given_bit s x.bit) f → IsCallRefusal t s h x (view_fault_of f)
   refusal_is Memory r = tt
   refusal_is NoThread r = λ g playable. is_asked g playable NoThread r (λ e. cc)
   refusal_is Finished r = λ g playable. is_asked g playable Finished r (λ e. cc)

@@ -1,6 +1,4 @@
 pub mod ForeignCalls
 pub mod LinesOfCalls
 pub mod PlacesOfTops
-pub mod PositionsOfParts
 pub mod SceneLists
-pub mod TextsOnOneLine

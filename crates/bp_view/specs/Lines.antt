@@ -13,10 +13,10 @@ use Rattle.bp_machine.specs.Histories.{configuration_after, granted_threads}
 use Rattle.bp_machine.specs.Replies.{is_granted}
 use Rattle.bp_machine.specs.Setups.{SetupOf}
 use Rattle.bp_machine.specs.Tops.{IsTop}
-use Rattle.bp_view.specs.Columns.{at_left, at_right}
+use Rattle.bp_text.specs.Columns.{at_left, at_right}
 use Rattle.bp_view.specs.declared.lines.Moment.{Moment}
 use Rattle.bp_view.specs.declared.lines.Widths.{Widths}
-use Rattle.bp_view.specs.OneLine.{IsOneLine}
+use Rattle.bp_text.specs.OneLine.{IsOneLine}
 use Rattle.bp_view.specs.Places.{place_text}
 
 -- what is said of a reply

@@ -1,7 +1,7 @@
 -- How a view prints where a statement begins.
 use Rattle.std.specs.Prelude.{ℕ, List, [], ◌∷◌, ◌++◌, Option, None, Some, codes, decimal}
-use Rattle.bp_view.specs.declared.positions.Position.{Position}
-use Rattle.bp_view.specs.Positions.{position_at}
+use Rattle.bp_text.specs.declared.positions.Position.{Position}
+use Rattle.bp_text.specs.Positions.{position_at}
 
 -- LINE:COLUMN
 abbrev pub position_text : Position → List ℕ

@@ -2,7 +2,7 @@
 use Rattle.std.specs.Prelude.{◌≡◌, ℕ, List, [], ◌∷◌, Option, None, Some, codes}
 use Rattle.std.specs.List.{AllByRecursion}
 use Rattle.bp_view.specs.declared.scenes.Scene.{Scene}
-use Rattle.bp_view.specs.OneLine.{IsOneLine}
+use Rattle.bp_text.specs.OneLine.{IsOneLine}
 use Rattle.bp_view.specs.Places.{place_text}
 
 -- the scene shows the place of the statement that begins at this offset, and words on one line

@@ -1,6 +1,6 @@
 //! What a call changed.
 ghost use Rattle.std.specs.Prelude.{OnOk};
-ghost use Rattle.bp_view.specs.OneLine.{AddsOneLine};
+ghost use Rattle.bp_text.specs.OneLine.{AddsOneLine};
 
 use crate::scenes::Scene;
 use crate::variables::push_values;

@@ -1,8 +1,8 @@
 //! The text of a statement on one line.
 ghost use Rattle.std.specs.Prelude.{◌≤◌, ◌<◌, length, IfOk, OnOk, MatchOption};
-ghost use Rattle.bp_view.specs.OneLine.{AddsOneLine, IsOneLine};
+ghost use Rattle.bp_text.specs.OneLine.{AddsOneLine, IsOneLine};
 
-use crate::columns::push_on_one_line;
+use bp_text::push_on_one_line;
 use std::alloc::{AllocError, Global};
 
 /// So many bytes of a statement are shown.
@@ -138,7 +138,7 @@ fn cut(words: &mut Vec<u8>) -> Result<(), AllocError>
     Ok(())
 }
 
-#[tactic(auto, using(crate::proofs::TextsOnOneLine::one_line_after))]
+#[tactic(auto, using(bp_text::proofs::TextsOnOneLine::one_line_after))]
 /// The own text of the statement with which the text begins: up to `;`, `then` or `do`.
 pub(crate) fn excerpt_of(alloc: Global, text: &[u8]) -> Result<Excerpt, AllocError>
     ensures { IfOk result (λ e. IsOneLine e.words.items) }

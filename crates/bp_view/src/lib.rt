@@ -2,17 +2,14 @@
 #![tactic(auto)]
 
 mod changes;
-mod columns;
 mod excerpts;
 mod heads;
 mod lines;
 mod options;
 mod outcomes;
-mod positions;
 mod scenes;
 mod variables;
 mod views;
 
 pub use options::ViewOptions;
-pub use positions::{Position, position_of};
 pub use views::{ViewFault, view};

@@ -1,15 +1,15 @@
 //! The line of a call.
 ghost use Rattle.std.specs.Prelude.{◌≡◌, ◌++◌, [], false, codes, decimal, option_map, OnOk};
-ghost use Rattle.bp_view.specs.Columns.{at_right};
-ghost use Rattle.bp_view.specs.OneLine.{AddsOneLine, IsOneLine};
+ghost use Rattle.bp_text.specs.Columns.{at_right};
+ghost use Rattle.bp_text.specs.OneLine.{AddsOneLine, IsOneLine};
 ghost use Rattle.bp_view.specs.Scenes.{place_of_scene, IsOnOneLine};
 ghost use Rattle.bp_view.specs.Lines.{reply_words, context_text, fields_of, fields_text, IsNote, AddsCall, AddsColumns, AddsLine};
 
 use crate::changes::push_changes;
-use crate::columns::{push_bytes, push_left, push_on_one_line, push_right, push_spaces};
 use crate::options::ViewOptions;
 use crate::scenes::Scene;
 use bp_machine::{Call, Reply, Top};
+use bp_text::{push_bytes, push_left, push_on_one_line, push_right, push_spaces};
 use bp_tree::{Name, Proc};
 use itoa::Buffer;
 use std::alloc::AllocError;

@@ -2,14 +2,13 @@
 ghost use Rattle.std.specs.Prelude.{◌≡◌, ℕ, List, None, Some, IfOk};
 ghost use Rattle.bp_code.specs.Starts.{starts_of};
 ghost use Rattle.bp_view.specs.Places.{place_text, position_text};
-ghost use Rattle.bp_view.specs.Positions.{position_at};
+ghost use Rattle.bp_text.specs.Positions.{position_at};
 ghost use Rattle.bp_view.specs.Scenes.{AreScenes, IsScene};
 
-use crate::columns::{push_bytes, push_on_one_line};
 use crate::excerpts::{Excerpt, excerpt_of};
-use crate::positions::{FIRST, Position, position_from};
 use bp_check::Checked;
 use bp_code::places;
+use bp_text::{FIRST, Position, position_from, push_bytes, push_on_one_line};
 use bp_tree::Proc;
 use itoa::Buffer;
 use std::alloc::{AllocError, Global};

@@ -1,9 +1,9 @@
 //! The names of the bits of a store, and their values.
 ghost use Rattle.std.specs.Prelude.{OnOk};
-ghost use Rattle.bp_view.specs.OneLine.{AddsOneLine};
+ghost use Rattle.bp_text.specs.OneLine.{AddsOneLine};
 
-use crate::columns::{push_bytes, push_on_one_line};
 use bp_code::Store;
+use bp_text::{push_bytes, push_on_one_line};
 use bp_tree::{Name, Proc};
 use std::alloc::AllocError;
 

@@ -1,5 +1,5 @@
 //! A view of a history.
-ghost use Rattle.std.specs.Prelude.{◌≡◌, ◌≢◌, ◌++◌, ◌∷◌, [], ℕ, suc, List, true, false, length, is_some, option_map, IfErr, IfOk, OnOk, MatchOption, MatchResult};
+ghost use Rattle.std.specs.Prelude.{◌≡◌, ◌≢◌, ◌++◌, ◌∷◌, [], ℕ, suc, List, true, false, length, option_map, IfErr, IfOk, OnOk, MatchOption, MatchResult};
 ghost use Rattle.bp_tree.specs.Ast.{Program};
 ghost use Rattle.bp_code.specs.Configurations.{Configuration};
 ghost use Rattle.bp_code.specs.StandsFor.{StandsFor};
@@ -11,15 +11,13 @@ ghost use Rattle.bp_machine.specs.Contexts.{IsLeastWithin};
 ghost use Rattle.bp_machine.specs.Histories.{granted_threads};
 ghost use Rattle.bp_machine.specs.Replies.{is_granted};
 ghost use Rattle.bp_machine.specs.Setups.{FitsCode, SetupOf};
-ghost use Rattle.bp_machine.specs.Sessions.{Stands, IsAskRefusal, IsNextCall};
-ghost use Rattle.bp_trace.specs.Judging.{given_bit};
+ghost use Rattle.bp_machine.specs.Sessions.{Stands};
 ghost use Rattle.bp_machine.specs.Tops.{IsTop};
 ghost use Rattle.bp_view.specs.Lines.{is_other, start_on_stack, IsMomentOf};
 ghost use Rattle.bp_view.specs.Places.{place_text};
 ghost use Rattle.bp_view.specs.Scenes.{place_of_scene, AreOnOneLine, AreScenes, IsOnOneLine};
 ghost use Rattle.bp_view.specs.Views.{view_fault_of, AddsLines, AddsShown, IsCallRefusal, IsView, IsViewRefusal};
 
-use crate::columns::{digits, push_bytes};
 use crate::heads::head_of;
 use crate::lines::{MAX_INDENTS, Moment, Stage, Widths, push_line};
 use crate::options::ViewOptions;
@@ -28,6 +26,7 @@ use crate::scenes::{Scene, scenes_of};
 use bp_check::Checked;
 use bp_code::Code;
 use bp_machine::{AskFault, Call, Reply, Session, Setup, Top};
+use bp_text::{digits, push_bytes};
 use std::alloc::{AllocError, Global};
 use thiserror::Error;
 
@@ -70,30 +69,6 @@ fn widths_of(scenes: &[Scene], setup: &Setup, calls: usize, frames: usize) -> Wi
     }
 }
 
-/// Makes the call of the thread, with the bit of the seed where there is one, else with that of the
-/// history.
-fn own_call(session: &mut Session, call: &Call) -> Result<Call, AskFault>
-    ensures answer { (t : Program) (h : List Answered)
-        → StandsFor session.old.code t
-        → Stands t session.old h
-        → let given = given_bit (is_some session.old.setup.seed) call.now in
-        MatchResult result
-        (IsNextCall t session.old.setup h call.now.thread given)
-        (IsAskRefusal t session.old.setup h call.now.thread given) }
-    ensures stands { (t : Program) (h : List Answered)
-        → StandsFor session.old.code t
-        → Stands t session.old h
-        → IfOk result (λ c. Stands t session.new (h ++ c ∷ [])) }
-    ensures kept { OnOk result
-        ((session.new.code ≡ session.old.code) × (session.new.setup ≡ session.old.setup)) }
-{
-    if session.setup().seed().is_some() {
-        session.ask(call.thread)
-    } else {
-        session.ask_with(call.thread, call.bit)
-    }
-}
-
 /// Whether the call is the machine's own.
 fn is_own(own: Call, call: Call) -> bool
     ensures own { result ≡ true → own ≡ call }
@@ -125,11 +100,12 @@ fn make(session: &mut Session, call: &Call) -> Result<(), ViewFault>
         → Stands t session.old h
         → IfErr result (IsCallRefusal t session.old.setup h call.now) }
 {
-    match own_call(session, call) {
+    match session.prepare_as_recorded(call.thread, call.bit) {
         Ok(own) => {
             if !is_own(own, *call) {
                 return Err(ViewFault::Foreign);
             }
+            session.commit(&own);
             Ok(())
         }
         Err(fault) => Err(view_fault_of(fault)),

@@ -1,12 +1,13 @@
 //! The lines, the statuses and the words of refusals.
 use bp_check::CheckFault;
-use bp_code::{ProgramFault, WriteFault};
+use bp_code::ProgramFault;
 use bp_commands::{
     DriveRefusal, FileFault, InputFault, RunRefusal, TraceRefusal, exit_status, show_fault,
 };
 use bp_machine::{Reply, SetupFault};
 use bp_run::RunFault;
 use bp_syntax::ReadFault;
+use bp_text::WriteFault;
 use bp_trace::{DriveFault, ReplayFault};
 use std::alloc::{AllocError, Global};
 use std::fmt::Display;

@@ -8,7 +8,7 @@ use super::ready::{CALLS, PROGRAM, code, kit, output, setup};
 use super::wants;
 use bp_board::{Board, Calls, Kit, gather};
 use bp_check::Checked;
-use bp_code::{Code, Kind, WriteFault, compile, lawful_program, list};
+use bp_code::{Code, Kind, compile, lawful_program, list};
 use bp_commands::{
     DriveRefusal, FileFault, InputFault, RunRefusal, TraceRefusal, WordsFault, end_drive, end_file,
     end_printed, end_run, end_trace, reading_fault, refuse_memory, show_check, show_replay,
@@ -16,6 +16,7 @@ use bp_commands::{
 };
 use bp_machine::{Call, Choices, Outcome, Reply, Session, Setup, open_lines};
 use bp_run::RunFault;
+use bp_text::WriteFault;
 use bp_trace::{replay, write_call, write_end, write_head, write_trace, write_trace2};
 use std::alloc::Global;
 use std::io::{self, ErrorKind};

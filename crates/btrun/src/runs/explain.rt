@@ -2,10 +2,11 @@
 //! The files are read once more.
 
 use super::inputs::InputFile;
-use bp_code::{code_of, put};
+use bp_code::code_of;
 use bp_commands::{DriveRefusal, TraceRefusal, exit_status, read_whole};
 use bp_explain::{explain_program, explain_schedule, explain_trace};
 use bp_syntax::limits::TEXT_LIMIT;
+use bp_text::put;
 use bp_trace::DriveFault;
 use bp_trace::limits::{MAX_SCHEDULE, MAX_TRACE};
 use std::fmt::Display;

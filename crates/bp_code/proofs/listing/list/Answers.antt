@@ -1,7 +1,7 @@
 use Rattle.std.proofs.Common.{subst}
 use Rattle.std.proofs.lemmas.Result.{err_from_is_err_and}
 use Rattle.bp_code.specs.Listing.{listing_text}
-use Rattle.bp_code.proofs.Appends.{HasRest, rest_after, part_of_rest}
+use Rattle.bp_text.proofs.Appends.{HasRest, rest_after, part_of_rest}
 use Rattle.bp_code.proofs.ListingLines.{procedures_next}
 use Rattle.bp_code.proofs.listing.list.Goals as goal
 

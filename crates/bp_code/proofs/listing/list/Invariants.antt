@@ -1,6 +1,6 @@
 use Rattle.std.proofs.Common.{drop}
 use Rattle.bp_code.specs.Listing.{procedure_lines, listing_text}
-use Rattle.bp_code.proofs.Appends.{HasRest}
+use Rattle.bp_text.proofs.Appends.{HasRest}
 use Rattle.bp_code.proofs.listing.list.Given as goal
 
 abbrev pub invariant-loop-n : goal.invariant-loop-n

@@ -1,7 +1,7 @@
 use Rattle.std.proofs.Common.{subst, ◌<◌, ◌≤◌, length, arith}
 use Rattle.std.proofs.lemmas.Result.{err_from_is_err_and}
 use Rattle.bp_code.specs.Listing.{lines_between}
-use Rattle.bp_code.proofs.Appends.{HasRest, rest_after, part_of_rest}
+use Rattle.bp_text.proofs.Appends.{HasRest, rest_after, part_of_rest}
 use Rattle.bp_code.proofs.ListingLines.{lines_next, lines_beyond}
 use Rattle.bp_code.proofs.listing.write_instructions.Goals as goal
 use Rattle.bp_code.proofs.listing.write_instructions.Goals.{in-Some+in_ok-write_instruction, in_default}

@@ -1,5 +1,5 @@
 use Rattle.bp_code.specs.Listing.{lines_between}
-use Rattle.bp_code.proofs.Appends.{HasRest}
+use Rattle.bp_text.proofs.Appends.{HasRest}
 use Rattle.bp_code.proofs.listing.write_instructions.Given as goal
 
 abbrev pub invariant-loop-number : goal.invariant-loop-number

@@ -1,7 +1,7 @@
 use Rattle.std.proofs.Common.{codes, ◌++◌, flat_map}
 use Rattle.std.proofs.lemmas.Result.{err_from_is_err_and}
 use Rattle.bp_code.specs.Listing.{number_field}
-use Rattle.bp_code.proofs.Appends.{part_first, part_then, writes_then}
+use Rattle.bp_text.proofs.Appends.{part_first, part_then, writes_then}
 use Rattle.bp_code.proofs.listing.write_line.Goals as goal
 
 pub returns-in_err-put_each : goal.returns-in_err-put_each

@@ -1,8 +1,8 @@
 use Rattle.std.proofs.Common.{sym, subst}
 use Rattle.std.proofs.lemmas.List.{append-nil}
 use Rattle.std.proofs.lemmas.Result.{err_from_is_err_and}
-use Rattle.bp_code.proofs.AppendsPieces.{flat_map_at, AppendsPart_within}
-use Rattle.bp_code.specs.Writing.{AppendsPart}
+use Rattle.bp_text.proofs.AppendsPieces.{flat_map_at, AppendsPart_within}
+use Rattle.bp_text.specs.Writing.{AppendsPart}
 use Rattle.bp_code.specs.Listing.{number_field}
 use Rattle.bp_code.proofs.listing.write_numbers.Goals as goal
 

@@ -1,7 +1,7 @@
 use Rattle.std.proofs.Common.{codes, ◌++◌}
 use Rattle.std.proofs.lemmas.Result.{err_from_is_err_and}
 use Rattle.bp_commands.specs.FaultLines.{place_text, wanted_text}
-use Rattle.bp_code.proofs.Appends.{part_first, writes_then}
+use Rattle.bp_text.proofs.Appends.{part_first, writes_then}
 use Rattle.bp_commands.proofs.fault_lines.put_detail.Goals as goal
 
 pub returns-in_err-put_place-in-Wanted : goal.returns-in_err-put_place-in-Wanted

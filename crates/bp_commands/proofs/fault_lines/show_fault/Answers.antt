@@ -1,10 +1,10 @@
 use Rattle.std.proofs.Common.{◌≡◌, ◌∙◌, ap, subst, ℕ, List, Option, codes, ◌++◌}
 use Rattle.std.proofs.lemmas.Result.{err_from_is_err_and}
-use Rattle.bp_code.specs.Writing.{AppendsPart, Writes}
+use Rattle.bp_text.specs.Writing.{AppendsPart, Writes}
 use Rattle.bp_machine.specs.declared.calls.Reply.{Reply}
 use Rattle.bp_commands.specs.declared.fault_lines.Detail.{Detail}
 use Rattle.bp_commands.specs.FaultLines.{fault_table, name_in, detail_in, fault_head, detail_text, fault_line}
-use Rattle.bp_code.proofs.Appends.{part_first, part_then, writes_then}
+use Rattle.bp_text.proofs.Appends.{part_first, part_then, writes_then}
 use Rattle.bp_commands.proofs.fault_lines.show_fault.Goals as goal
 
 -- a name and words that the fault_table has make its line

@@ -1,6 +1,6 @@
 use Rattle.std.proofs.Common.{codes, ◌++◌, flat_map}
 use Rattle.std.proofs.lemmas.Result.{err_from_is_err_and}
-use Rattle.bp_code.proofs.Appends.{part_first, part_then, writes_then}
+use Rattle.bp_text.proofs.Appends.{part_first, part_then, writes_then}
 use Rattle.bp_commands.specs.ReplayLines.{bit_text, row_head}
 use Rattle.bp_commands.proofs.replay_lines.put_row.Goals as goal
 

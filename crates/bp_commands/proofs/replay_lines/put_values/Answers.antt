@@ -1,7 +1,7 @@
 use Rattle.std.proofs.Common.{sym, subst}
 use Rattle.std.proofs.lemmas.Result.{err_from_is_err_and}
-use Rattle.bp_code.proofs.AppendsPieces.{flat_map_at, AppendsPart_within}
-use Rattle.bp_code.specs.Writing.{AppendsPart}
+use Rattle.bp_text.proofs.AppendsPieces.{flat_map_at, AppendsPart_within}
+use Rattle.bp_text.specs.Writing.{AppendsPart}
 use Rattle.bp_commands.specs.ReplayLines.{bit_text}
 use Rattle.bp_commands.proofs.replay_lines.put_values.Goals as goal
 

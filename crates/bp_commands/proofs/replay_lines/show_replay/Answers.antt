@@ -2,7 +2,7 @@ use Rattle.std.proofs.Common.{flat_map}
 use Rattle.std.proofs.lemmas.Result.{err_from_is_err_and}
 use Rattle.std.proofs.lemmas.List.Folds.{flat_map-map}
 use Rattle.bp_trace.specs.Replayed.{row_of}
-use Rattle.bp_code.proofs.Appends.{part_first, writes_then}
+use Rattle.bp_text.proofs.Appends.{part_first, writes_then}
 use Rattle.bp_commands.specs.ReplayLines.{outcome_line, row_line, printed_line}
 use Rattle.bp_commands.proofs.replay_lines.show_replay.Goals as goal
 

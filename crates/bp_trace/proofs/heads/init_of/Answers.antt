@@ -2,7 +2,7 @@ use Rattle.std.proofs.Common.{sym, ◌∙◌}
 use Rattle.std.proofs.lemmas.Bool.Decides.{Decides-eqb}
 use Rattle.std.proofs.lemmas.Slice.Eq.{slice_eq-Decides}
 use Rattle.bp_trace.proofs.InitBits.{init_ok}
-use Rattle.bp_trace.proofs.OneField.{some_left}
+use Rattle.bp_text.proofs.Lengths.{some_left}
 use Rattle.bp_trace.proofs.heads.init_of.Goals as goal
 
 pub returns : goal.returns

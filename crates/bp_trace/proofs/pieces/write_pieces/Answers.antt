@@ -1,8 +1,8 @@
 use Rattle.std.proofs.Common.{◌<◌, sym, subst, None, codes, length, arith}
 use Rattle.std.proofs.lemmas.Bool.Decides.{nat_tests}
 use Rattle.std.proofs.lemmas.Result.{err_from_is_err_and}
-use Rattle.bp_code.specs.Writing.{AppendsPart}
-use Rattle.bp_code.proofs.Appends.{part_first, writes_then}
+use Rattle.bp_text.specs.Writing.{AppendsPart}
+use Rattle.bp_text.proofs.Appends.{part_first, writes_then}
 use Rattle.bp_trace.specs.TurnTexts.{turns_behind}
 use Rattle.bp_trace.proofs.PieceTexts.{some_pieces}
 use Rattle.bp_trace.proofs.pieces.write_pieces.Goals as goal

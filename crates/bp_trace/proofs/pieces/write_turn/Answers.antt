@@ -1,7 +1,7 @@
 use Rattle.bp_trace.specs.Pieces.{turn_of}
 use Rattle.bp_trace.specs.TraceText.{turn_text}
 use Rattle.bp_trace.specs.TurnTexts.{opening}
-use Rattle.bp_code.proofs.Appends.{writes_then}
+use Rattle.bp_text.proofs.Appends.{writes_then}
 use Rattle.bp_trace.proofs.pieces.write_turn.Goals as goal
 
 pub returns : goal.returns

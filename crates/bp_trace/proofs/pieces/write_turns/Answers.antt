@@ -2,8 +2,8 @@ use Rattle.std.proofs.Common.{◌+◌, take, drop, get_or, sym, subst, Some, Non
 use Rattle.std.specs.Io.KnownBytes.{Appends}
 use Rattle.std.proofs.KnownBytes.{Appends-trans}
 use Rattle.std.proofs.lemmas.Result.{err_from_is_err_and}
-use Rattle.bp_code.specs.Writing.{AppendsPart}
-use Rattle.bp_code.proofs.AppendsPieces.{AppendsPart_within}
+use Rattle.bp_text.specs.Writing.{AppendsPart}
+use Rattle.bp_text.proofs.AppendsPieces.{AppendsPart_within}
 use Rattle.bp_machine.specs.declared.calls.Call.{Call}
 use Rattle.bp_machine.specs.declared.calls.Reply.TheVariants.{Stopped}
 use Rattle.bp_trace.specs.TurnTexts.{turn_behind, turns_behind, last_of}

@@ -1,7 +1,7 @@
 use Rattle.std.proofs.Common.{◌++◌, flat_map}
 use Rattle.std.proofs.lemmas.Result.{err_from_is_err_and}
 use Rattle.bp_trace.specs.TraceText.{entry_line, init_line, limit_lines}
-use Rattle.bp_code.proofs.Appends.{part_first, part_then, writes_then}
+use Rattle.bp_text.proofs.Appends.{part_first, part_then, writes_then}
 use Rattle.bp_trace.proofs.traces.write_head_of.Goals as goal
 
 pub returns-in_err-put : goal.returns-in_err-put

@@ -2,7 +2,7 @@ use Rattle.std.proofs.Common.{◌++◌, length}
 use Rattle.std.proofs.lemmas.Result.{err_from_is_err_and}
 use Rattle.bp_machine.specs.Histories.{open_lines}
 use Rattle.bp_trace.specs.TraceText.{head_text, calls_text, end_line}
-use Rattle.bp_code.proofs.Appends.{part_first, part_then, writes_then}
+use Rattle.bp_text.proofs.Appends.{part_first, part_then, writes_then}
 use Rattle.bp_trace.proofs.traces.write_with_open_lines.Goals as goal
 
 pub returns-in_err-write_head_of : goal.returns-in_err-write_head_of

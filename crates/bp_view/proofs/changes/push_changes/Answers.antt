@@ -1,4 +1,4 @@
-use Rattle.bp_view.proofs.TextsOnOneLine.{adds_then}
+use Rattle.bp_text.proofs.TextsOnOneLine.{adds_then}
 use Rattle.bp_view.proofs.changes.push_changes.Goals as goal
 
 pub returns : goal.returns

@@ -1,5 +1,5 @@
 use Rattle.std.proofs.Common.{length}
-use Rattle.bp_view.specs.OneLine.{IsOneLine}
+use Rattle.bp_text.specs.OneLine.{IsOneLine}
 use Rattle.bp_view.proofs.excerpts.excerpt_of.Given as goal
 
 abbrev pub invariant-loop-piece : goal.invariant-loop-piece

@@ -1,6 +1,6 @@
 use Rattle.std.proofs.Common.{◌≡◌, ◌∙◌, ◌++◌, ℕ, List, ap, refl, subst, sym, append_assoc}
 use Rattle.bp_view.specs.Lines.{fields_of, fields_text, IsNote}
-use Rattle.bp_view.proofs.TextsOnOneLine.{one_line_append}
+use Rattle.bp_text.proofs.TextsOnOneLine.{one_line_append}
 use Rattle.bp_view.proofs.lines.push_call.Goals as goal
 
 regrouped : (line fields words filled note : List ℕ) → (((line ++ fields) ++ words) ++ filled) ++ note ≡ line ++ ((fields ++ (words ++ filled)) ++ note)

@@ -1,6 +1,6 @@
 use Rattle.std.proofs.Common.{◌∙◌, ◌++◌, ap}
-use Rattle.bp_view.specs.Columns.{spaces}
-use Rattle.bp_view.proofs.TextsOnOneLine.{one_line_spaces}
+use Rattle.bp_text.specs.Columns.{spaces}
+use Rattle.bp_text.proofs.TextsOnOneLine.{one_line_spaces}
 use Rattle.bp_view.proofs.lines.push_note.Goals as goal
 
 pub returns-in_ok-push_bytes : goal.returns-in_ok-push_bytes

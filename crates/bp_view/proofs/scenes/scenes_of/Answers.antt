@@ -1,7 +1,7 @@
 use Rattle.std.proofs.Common.{◌≡◌, ◌∙◌, ap, sym}
 use Rattle.std.proofs.lemmas.List.{take_all}
 use Rattle.bp_view.proofs.SceneLists.{more_scenes}
-use Rattle.bp_view.specs.Positions.{position_at}
+use Rattle.bp_text.specs.Positions.{position_at}
 use Rattle.bp_view.proofs.scenes.scenes_of.Goals.{in-Some+in_ok-statement_scene+in_ok-push, in_default+in_ok-end_scene+in_ok-push-2}
 use Rattle.bp_view.proofs.scenes.scenes_of.Goals as goal
 

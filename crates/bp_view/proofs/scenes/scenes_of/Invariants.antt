@@ -1,5 +1,5 @@
 use Rattle.std.proofs.Common.{◌≡◌, take}
-use Rattle.bp_view.specs.Positions.{position_at}
+use Rattle.bp_text.specs.Positions.{position_at}
 use Rattle.bp_view.specs.Scenes.{AreScenes}
 use Rattle.bp_view.proofs.scenes.scenes_of.Given as goal
 

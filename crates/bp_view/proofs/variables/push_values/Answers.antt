@@ -1,4 +1,4 @@
-use Rattle.bp_view.proofs.TextsOnOneLine.{adds_then}
+use Rattle.bp_text.proofs.TextsOnOneLine.{adds_then}
 use Rattle.bp_view.proofs.variables.push_values.Goals as goal
 
 pub loop-n-preserved : goal.loop-n-preserved

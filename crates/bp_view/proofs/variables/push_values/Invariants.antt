@@ -1,4 +1,4 @@
-use Rattle.bp_view.specs.OneLine.{AddsOneLine}
+use Rattle.bp_text.specs.OneLine.{AddsOneLine}
 use Rattle.bp_view.proofs.variables.push_values.Given as goal
 
 abbrev pub invariant-loop-n : goal.invariant-loop-n

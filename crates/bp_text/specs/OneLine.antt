@@ -1,0 +1,17 @@
+-- Texts on one line.
+use Rattle.std.specs.Prelude.{if◌then◌else◌, ◌≡◌, ◌==◌, ℕ, false, List, [], ◌∷◌, ◌++◌}
+
+-- no byte is a line end
+abbrev pub IsOneLine : List ℕ → Type 0
+IsOneLine [] = Unit {0}
+IsOneLine (b ∷ bs) = ((b == 10) ≡ false) × IsOneLine bs
+
+-- a space stands for a line end
+abbrev pub on_one_line : ℕ → ℕ
+on_one_line b = if b == 10 then 32 else b
+
+-- the new bytes are the old ones and then a text on one line
+pub record AddsOneLine (old new : List ℕ) : Type 0 where
+  pub more : List ℕ
+  pub is : new ≡ old ++ more
+  pub one_line : IsOneLine more
