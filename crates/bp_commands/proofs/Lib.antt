@@ -1,13 +1,5 @@
-mod BufferRefused
-mod DriveRefused
+mod Answered
+mod Driven
 mod FirstSeparator
-mod InputRefused
-mod MappedErrors
-mod PairRefused
-mod Reportable
-mod RunRefused
-mod SetupsOfOptions
-mod TextDriven
-mod TextRefused
-mod TraceInputsRefused
-mod TraceWritten
+mod Migrated
+mod RunAnswers

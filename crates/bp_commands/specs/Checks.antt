@@ -1,10 +1,12 @@
--- What checking the program of an input writes, and why one is refused.
-use Rattle.std.specs.Prelude.{ℕ, List, [], ◌∷◌, length, codes, decimal}
+-- The command `check`.
+use Rattle.std.specs.Prelude.{◌≡◌, ℕ, List, [], ◌∷◌, length, codes, decimal}
 use Rattle.std.specs.List.{concat}
 use Rattle.bp_tree.specs.Ast.{Program}
-use Rattle.bp_commands.specs.Inputs.{Streams}
-use Rattle.bp_commands.specs.ProgramInputs.{IsProgramWritten, IsFileRefusal}
-use Rattle.bp_commands.specs.declared.file_faults.FileFault.{FileFault}
+use Rattle.bp_code.specs.LawfulTexts.{IsLawfulText, IsProgramRefusal}
+use Rattle.bp_code.specs.declared.texts.ProgramFault.{ProgramFault}
+use Rattle.bp_commands.specs.declared.faults.Fault.{Fault}
+use Rattle.bp_commands.specs.Faults.{fault_of_program}
+use Rattle.bp_commands.specs.Commands.{Command}
 
 -- `ok`, the number of procedures, and the number of globals
 abbrev pub check_line : Program → List ℕ
@@ -13,9 +15,23 @@ check_line p = concat (
     ∷ codes " " ∷ decimal (length p.globals)
     ∷ codes "\n" ∷ [])
 
--- the line of its numbers was written
-abbrev pub IsCheckWritten : Streams → Type 0
-IsCheckWritten io = IsProgramWritten io check_line
+-- the text is that of a lawful program, of which this is written
+pub record IsOfProgram (text_of : Program → List ℕ) (text written : List ℕ) : Type 0 where
+  pub program : Program
+  pub lawful : IsLawfulText text program
+  pub is : written ≡ text_of program
 
-abbrev pub IsCheckRefusal : Streams → FileFault → Type 0
-IsCheckRefusal io = IsFileRefusal io check_line
+-- the text is not that of a lawful program
+pub record IsUnlawful (text : List ℕ) (f : Fault) : Type 0 where
+  pub cause : ProgramFault
+  pub why : IsProgramRefusal text cause
+  pub is : f ≡ fault_of_program cause
+
+-- it writes the numbers of procedures and globals
+abbrev pub checks : Command (List ℕ) (Unit {0})
+checks = record {
+  Writes = IsOfProgram check_line;
+  Reports = λ text written _. IsOfProgram check_line text written;
+  Refuses = IsUnlawful;
+  Spoils = λ _ _. ⊥;
+}

@@ -1,19 +1,10 @@
--- What reading an input within its limit takes and answers; what a command's reader and writer had
--- before and after it.
+-- What reading an input within its limit takes and answers.
 use Rattle.std.specs.Prelude.{◌≡◌, ℕ, ◌+◌, ◌≤◌, List, Option, length, ⊤}
 use Rattle.std.specs.Io.KnownBytes.{Consumes, IsAtEnd}
 use Rattle.std.specs.declared.io.ErrorKind.{ErrorKind}
 use Rattle.std.specs.declared.io.ErrorKind.TheVariants.{OutOfMemory}
 use Rattle.bp_commands.specs.declared.inputs.InputFault.{InputFault}
 use Rattle.bp_commands.specs.declared.inputs.InputFault.TheVariants.{Device, TooLong, Memory}
-
--- the bytes that a command's reader had left, and those that its writer had taken, where they are
--- known
-pub record Streams : Type 0 where
-  pub input_before : Option (List ℕ)
-  pub input_after : Option (List ℕ)
-  pub output_before : Option (List ℕ)
-  pub output_after : Option (List ℕ)
 
 -- why an input is not opened or read, by the kind of the system's error
 abbrev pub reading_fault_of : ErrorKind → InputFault

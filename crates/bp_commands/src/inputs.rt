@@ -1,8 +1,14 @@
-//! Reading an input within its limit.
+//! Reading the inputs of a command, each within its limit.
 ghost use Rattle.std.specs.Prelude.{◌≡◌, ◌+◌, MatchResult};
 ghost use Rattle.std.specs.IoError.{error_kind};
+ghost use Rattle.bp_commands.specs.Faults.{fault_of_text};
 ghost use Rattle.bp_commands.specs.Inputs.{reading_fault_of, IsInput, IsInputRefusal, TookAtMost};
+ghost use Rattle.bp_commands.specs.Given.{IsPairIn, IsPairUnread, IsReadRefused, IsText, IsTextUnread};
 
+use crate::faults::Fault;
+use bp_code::ProgramFault;
+use bp_syntax::ReadFault;
+use bp_syntax::limits::TEXT_LIMIT;
 use std::alloc::{AllocError, Global};
 use std::io::{self, ErrorKind, Read};
 use thiserror::Error;
@@ -35,7 +41,7 @@ impl From<AllocError> for InputFault {
 }
 
 /// Why an input is not opened or read.
-pub fn reading_fault(error: &io::Error) -> InputFault
+fn reading_fault(error: &io::Error) -> InputFault
     ensures { result ≡ reading_fault_of (error_kind error.now) }
 {
     match error.kind() {
@@ -44,7 +50,7 @@ pub fn reading_fault(error: &io::Error) -> InputFault
     }
 }
 
-/// Reads to the end of an input of at most so many bytes. It takes at most one byte more than the
+/// Reads to the end of an input of at most `limit` bytes. It takes at most one byte more than the
 /// limit.
 pub fn read_whole<R: Read>(
     alloc: Global,
@@ -72,4 +78,84 @@ pub fn read_whole<R: Read>(
         }
         bytes.extend_from_slice(&chunk[..count])?;
     }
+}
+
+/// An input: its reader, and what was read of it.
+#[derive(Drop)]
+pub struct Source<R> {
+    pub reader: R,
+    /// All bytes of the input, once it was read whole; none before.
+    pub bytes: Vec<u8>,
+}
+
+impl<R> Source<R> {
+    /// The input of this reader, of which nothing was read.
+    pub fn new(alloc: Global, reader: R) -> Source<R>
+        ensures { result.reader ≡ reader }
+    {
+        Source {
+            reader,
+            bytes: Vec::new(alloc),
+        }
+    }
+}
+
+/// What a fault of the program's input is.
+fn fault_of_text(fault: InputFault) -> Fault
+    ensures { result ≡ fault_of_text fault }
+{
+    match fault {
+        InputFault::TooLong => Fault::Program(ProgramFault::Read(ReadFault::TooLong)),
+        fault => Fault::from(fault),
+    }
+}
+
+/// Reads a program text. It takes at most 65,537 bytes.
+pub fn read_text<R: Read>(alloc: Global, program: &mut Source<R>) -> Result<(), Fault>
+    ensures { let old = R.remaining program.old.reader in
+        let new = R.remaining program.new.reader in
+        MatchResult result
+        (λ _. IsText old new program.new.bytes.items)
+        (IsTextUnread old new) }
+{
+    match read_whole(alloc, TEXT_LIMIT, &mut program.reader) {
+        Ok(text) => {
+            program.bytes = text;
+            Ok(())
+        }
+        Err(fault) => Err(fault_of_text(fault)),
+    }
+}
+
+/// Reads an input other than a program text, of at most `limit` bytes. It takes at most one byte
+/// more than the limit.
+pub fn read_input<R: Read>(alloc: Global, limit: usize, input: &mut Source<R>) -> Result<(), Fault>
+    ensures { let old = R.remaining input.old.reader in
+        let new = R.remaining input.new.reader in
+        MatchResult result
+        (λ _. IsInput limit old new input.new.bytes.items)
+        (IsReadRefused limit old new) }
+{
+    input.bytes = read_whole(alloc, limit, &mut input.reader)?;
+    Ok(())
+}
+
+/// Reads a program text, and then an input beside it, of at most `limit` bytes.
+pub fn read_pair<R: Read, S: Read>(
+    alloc: Global,
+    limit: usize,
+    program: &mut Source<R>,
+    input: &mut Source<S>,
+) -> Result<(), Fault>
+    ensures { let old = R.remaining program.old.reader in
+        let new = R.remaining program.new.reader in
+        let input_old = S.remaining input.old.reader in
+        let input_new = S.remaining input.new.reader in
+        MatchResult result
+        (λ _. IsPairIn limit old new input_old input_new
+        (record { text = program.new.bytes.items; input = input.new.bytes.items }))
+        (IsPairUnread limit old new input_old input_new) }
+{
+    read_text(alloc, program)?;
+    read_input(alloc, limit, input)
 }

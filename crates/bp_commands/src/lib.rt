@@ -1,50 +1,45 @@
-//! What each command does, over any reader and writer; the lines of faults, and the exit statuses.
+//! What each command does, over any readers and writer, and how a run of it ends: from the paths of
+//! its files to the exit status and the line on standard error.
 #![tactic(auto)]
 
-mod buffered;
-mod bundle;
 mod bundle_parts;
-mod check;
-mod code;
-mod drive;
-mod drive_options;
-mod drive_refusals;
-mod endings;
+mod bundles;
+mod checking;
+mod coding;
+mod commands;
+mod driving;
+mod ends;
+mod explanations;
 mod fault_lines;
-mod file_faults;
+mod fault_table;
+mod faults;
+mod files;
+mod flushes;
 mod inputs;
 pub mod limits;
-mod migrate;
-mod pairs;
-mod replay;
+mod migrating;
 mod replay_lines;
-mod run;
-mod run_refusals;
-mod statuses;
-mod trace_refusals;
-mod view;
+mod replaying;
+mod running;
+mod runs;
+mod showing;
 
-pub use buffered::{
-    check_buffered, drive_buffered, drive_program_buffered, list_buffered, migrate_buffered,
-    replay_buffered, run_buffered, view_buffered,
-};
-pub use bundle::drive_bundle;
-pub use check::{check_text, show_check};
-pub use code::list_program;
-pub use drive::{drive_program, drive_text};
-pub use drive_options::DriveOptions;
-pub use drive_refusals::{BundleFault, DriveRefusal};
-pub use endings::{
-    WordsFault, end_drive, end_file, end_printed, end_run, end_trace, refuse_memory, words_fault,
-};
-pub use fault_lines::{Detail, show_fault};
-pub use file_faults::FileFault;
-pub use inputs::{InputFault, read_whole, reading_fault};
-pub use migrate::{migrate_program, migrate_text};
-pub use replay::{replay_program, replay_text};
+pub use bundles::drive_bundle;
+pub use checking::{Check, show_check};
+pub use coding::Code;
+pub use commands::{PairCommand, ProgramCommand, do_on_pair, do_on_program};
+pub use driving::Drive;
+pub use ends::{Ended, end};
+pub use explanations::Named;
+pub use fault_lines::show_fault;
+pub use fault_table::{Detail, Row};
+pub use faults::Fault;
+pub use files::{Files, InputFile};
+pub use flushes::flushed;
+pub use inputs::{InputFault, Source, read_whole};
+pub use migrating::Migrate;
 pub use replay_lines::show_replay;
-pub use run::run_program;
-pub use run_refusals::RunRefusal;
-pub use statuses::exit_status;
-pub use trace_refusals::TraceRefusal;
-pub use view::{view_program, view_text};
+pub use replaying::Replay;
+pub use running::{run_program, run_text};
+pub use runs::{run_by_workers, run_on_bundle, run_on_pair, run_on_program};
+pub use showing::Show;

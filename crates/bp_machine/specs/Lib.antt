@@ -14,6 +14,7 @@ pub mod SessionCodes
 pub mod Sessions
 pub mod Setups
 pub mod Stacks
+pub mod Starts
 pub mod States
 pub mod Tops
 pub mod Transitions

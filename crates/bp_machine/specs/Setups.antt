@@ -28,16 +28,10 @@ setup_of entries init contexts calls seed = record {
   seed = seed;
 }
 
--- the bits of so many globals: where none are given all are 0
+-- the initial bits of n globals: where none are given all are 0
 abbrev pub initial_bits : Option (List Bool) → ℕ → List Bool
-initial_bits None globals = replicate globals false
-initial_bits (Some bits) globals = bits
-
--- the setup of a program whose initial bits may be left out
-abbrev pub setup_or_zeros
-    : List (List ℕ) → Option (List Bool) → ℕ → ℕ → Option ℕ → Program → SetupOf
-setup_or_zeros entries init contexts calls seed t =
-    setup_of entries (initial_bits init (length t.globals)) contexts calls seed
+initial_bits None n = replicate n false
+initial_bits (Some bits) n = bits
 
 abbrev pub threads : SetupOf → ℕ
 threads s = length s.entries

@@ -13,9 +13,9 @@ mod sessions;
 mod setup_words;
 mod setups;
 mod stacks;
+mod starts;
 mod threads;
 pub mod tops;
-mod zeros;
 
 pub use calls::{Call, Reply};
 pub use choices::Choices;
@@ -27,4 +27,5 @@ pub use laws::{
 pub use reports::{Outcome, Report};
 pub use sessions::{AskFault, Session};
 pub use setups::{Setup, SetupFault};
+pub use starts::Start;
 pub use tops::Top;

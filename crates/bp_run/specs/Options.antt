@@ -1,39 +1,32 @@
 -- The setup of a program under the options of a run, and when they are refused.
-use Rattle.std.specs.Prelude.{◌≡◌, ◌<◌, ◌≤◌, ℕ, ◌==◌, Bool, true, ◌||◌, nat_lt, List, [], ◌∷◌, Option, None, Some, is_some}
+use Rattle.std.specs.Prelude.{◌≡◌, ◌<◌, ◌≤◌, ℕ, ◌==◌, Bool, true, ◌||◌, nat_lt, [], ◌∷◌, Option, None, Some, is_some}
 use Rattle.bp_tree.specs.Ast.{Program}
 use Rattle.bp_code.specs.Flat.{Flat}
 use Rattle.bp_machine.specs.declared.setups.SetupFault.{SetupFault}
 use Rattle.bp_machine.specs.declared.setups.SetupFault.TheVariants.{OutOfRange, Memory}
-use Rattle.bp_machine.specs.Setups.{SetupOf, setup_or_zeros, setup_fault, fault_if, first_of, FitsCode}
+use Rattle.bp_machine.specs.Setups.{SetupOf, setup_fault, fault_if, first_of, FitsCode}
+use Rattle.bp_machine.specs.Starts.{StartOf, default_start, setup_from}
+use Rattle.bp_run.specs.declared.limits.TheConstants.{DEFAULT_TURN, DEFAULT_SEED, DEFAULT_RING}
 use Rattle.bp_board.specs.declared.limits.TheConstants.{MAX_TURN, MAX_RING}
 
--- the procedure with which each thread begins, the bits of the globals where they are given, the
--- contexts and the calls of a thread that are allowed, the calls of a turn, the seed of the choice
--- bits, and the calls that the ring holds
+-- what each run starts from, the calls of a turn, the seed of the choice bits, and the calls that
+-- the ring holds
 pub record OptionsOf : Type 0 where
-  pub entries : List (List ℕ)
-  pub init : Option (List Bool)
-  pub contexts : ℕ
-  pub calls : ℕ
+  pub start : StartOf
   pub turn : ℕ
   pub seed : ℕ
   pub ring : ℕ
 
-abbrev pub options_of : List (List ℕ) → Option (List Bool) → ℕ → ℕ → ℕ → ℕ → ℕ → OptionsOf
-options_of entries init contexts calls turn seed ring = record {
-  entries = entries;
-  init = init;
-  contexts = contexts;
-  calls = calls;
-  turn = turn;
-  seed = seed;
-  ring = ring;
-}
+abbrev pub options_of : StartOf → ℕ → ℕ → ℕ → OptionsOf
+options_of start turn seed ring = record { start = start; turn = turn; seed = seed; ring = ring }
 
--- the setup of a program under the options, with their seed; where no bits are given all globals
--- begin with 0
+-- a run starts from the defaults, a turn is one call, and the seed is 42
+abbrev pub default_options : OptionsOf
+default_options = options_of default_start DEFAULT_TURN DEFAULT_SEED DEFAULT_RING
+
+-- the setup of a program under the options, with their seed
 abbrev pub setup_under : OptionsOf → Program → SetupOf
-setup_under o t = setup_or_zeros o.entries o.init o.contexts o.calls (Some o.seed) t
+setup_under o t = setup_from o.start (Some o.seed) t
 
 -- a turn has no call or too many, or the ring has no room or too much
 abbrev pub has_bad_turn_or_ring : OptionsOf → Bool

@@ -4,6 +4,7 @@
 
 mod gates;
 mod idles;
+pub mod limits;
 mod pens;
 mod run_faults;
 mod run_options;

@@ -7,21 +7,15 @@ ghost use Rattle.bp_run.specs.Options.{setup_under, options_fault, IsOptionsRefu
 
 use bp_board::limits::{MAX_RING, MAX_TURN};
 use bp_code::Code;
-use bp_machine::{Setup, SetupFault};
+use bp_machine::{Setup, SetupFault, Start};
 use std::alloc::Global;
 use std::marker::Model;
 
-/// What a run starts from, beside the program.
+/// What a run by real threads starts from, beside the program.
 #[derive(Drop)]
 pub struct RunOptions {
-    /// The name of the procedure with which each guest thread begins, thread 0 first: 1 to 64.
-    pub entries: Vec<String>,
-    /// The initial bit of each global in order of declaration; where none are given all are 0.
-    pub init: Option<Vec<bool>>,
-    /// How many contexts are allowed: at most 1,000.
-    pub contexts: u32,
-    /// How many calls of each guest thread are allowed: 1 to 100,000.
-    pub calls: u32,
+    /// What each run starts from.
+    pub start: Start,
     /// How many calls a worker makes at most while it holds the lock of the board: 1 to 64.
     pub turn: u32,
     /// The seed of the choice bits.
@@ -31,15 +25,11 @@ pub struct RunOptions {
 }
 
 impl Model for RunOptions {
-    ghost use Rattle.std.specs.Prelude.{map, string_bytes, option_map};
     ghost use Rattle.bp_run.specs.Options.{OptionsOf, options_of};
 
     ghost Value = { OptionsOf };
 
-    ghost view = { λ o.
-        let bits = option_map (λ v. v.items) o.init in
-        options_of (map string_bytes o.entries.items) bits
-        o.contexts o.calls o.turn o.seed o.ring };
+    ghost view = { λ o. options_of o.start o.turn o.seed o.ring };
 }
 
 impl RunOptions {
@@ -58,13 +48,7 @@ impl RunOptions {
             → MatchResult result (IsSetupUnder self.now t) (IsOptionsRefusal self.now t) }
         ensures taken { IfOk result (FitsOptions self.now code.now) }
     {
-        let init = match &self.init {
-            Some(bits) => Some(bits.as_slice()),
-            None => None,
-        };
-        let (contexts, calls) = (self.contexts, self.calls);
-        let seed = Some(self.seed);
-        let made = Setup::or_zeros(alloc, code, &self.entries, init, contexts, calls, seed);
+        let made = self.start.setup(alloc, code, Some(self.seed));
         if !self.is_out_of_range() {
             return made;
         }

@@ -1,18 +1,20 @@
 //! What the commands do, over readers and writers that may fail.
 mod bundle;
-mod check;
-mod code;
-mod drive;
-mod endings;
 mod faults;
-mod migrate;
-mod replay;
+mod fronts;
+mod inputs;
+mod lines;
+mod pairs;
+mod programs;
 mod run;
-mod view;
+mod runs;
+mod unread;
 
 use crate::texts::names;
-use bp_commands::{DriveOptions, DriveRefusal, FileFault, TraceRefusal};
+use bp_commands::{Fault, PairCommand, ProgramCommand, Source, do_on_pair, do_on_program};
+use bp_machine::Start;
 use std::alloc::{AllocError, Global};
+use std::io::{Read, Write};
 
 const RECURSIVE: &[u8] = b"\
     decl g;\n\
@@ -32,38 +34,28 @@ const RACE_TRACE_2: &[u8] = b"\
     btrace 2\nentry a\nentry b\ninit 0\ncontexts 3\ncalls 1000\nseed none\n\
     0 0s\n1 0s\n0 0f\nend 3 1\n";
 
-/// The options of the race: two threads, and a context more than the default.
-fn race(alloc: Global) -> Result<DriveOptions, AllocError> {
-    let mut options = DriveOptions::defaults(alloc)?;
-    options.entries = names(alloc, &["a", "b"])?;
-    options.contexts = 3;
-    Ok(options)
+const LISTING: &[u8] = b"\
+    proc main 0 1\n0 assign 1\n1 call 9 2\n2 skip 3\n\
+    3 call 9 4\n4 skip 5\n5 if 6 7\n6 skip 8\n7 skip 8\n\
+    8 return\nproc A 2 0\n9 if 10 11\n10 call 9 12\n\
+    11 assign 12\n12 return\n";
+
+/// What the race starts from: two threads, and a context more than the default.
+fn race(alloc: Global) -> Result<Start, AllocError> {
+    let mut start = Start::defaults(alloc)?;
+    start.entries = names(alloc, &["a", "b"])?;
+    start.contexts = 3;
+    Ok(start)
 }
 
 /// The number and the place of a refusal.
 type Said = Option<(u32, Option<u32>)>;
 
-/// What a command on a program says; none where it is done.
-fn said_of_file<T>(done: &Result<T, FileFault>) -> Said {
+/// What a command says; none where it is done.
+fn said<T>(done: &Result<T, Fault>) -> Said {
     match done {
         Ok(_) => None,
-        Err(fault) => Some((fault.number(), fault.place())),
-    }
-}
-
-/// What driving says; none where the program was driven.
-fn said_of_drive<T>(done: &Result<T, DriveRefusal>) -> Said {
-    match done {
-        Ok(_) => None,
-        Err(refusal) => Some((refusal.number(), refusal.place())),
-    }
-}
-
-/// What a command on a trace says; none where it is done.
-fn said_of_trace<T>(done: &Result<T, TraceRefusal>) -> Said {
-    match done {
-        Ok(_) => None,
-        Err(refusal) => Some((refusal.number(), refusal.place())),
+        Err(fault) => Some((fault.row().number, fault.place())),
     }
 }
 
@@ -74,4 +66,28 @@ fn said_of_room(room: usize, length: usize) -> Said {
     } else {
         None
     }
+}
+
+/// What a command says of the program that a reader gives.
+fn said_of_program<C: ProgramCommand, R: Read + Drop, W: Write>(
+    alloc: Global,
+    command: &C,
+    program: R,
+    out: &mut W,
+) -> Said {
+    let mut program = Source::new(alloc, program);
+    said(&do_on_program(alloc, command, &mut program, out))
+}
+
+/// What a command says of the program and the input beside it that two readers give.
+fn said_of_pair<C: PairCommand, P: Read + Drop, S: Read + Drop, W: Write>(
+    alloc: Global,
+    command: &C,
+    program: P,
+    input: S,
+    out: &mut W,
+) -> Said {
+    let mut program = Source::new(alloc, program);
+    let mut input = Source::new(alloc, input);
+    said(&do_on_pair(alloc, command, &mut program, &mut input, out))
 }

@@ -7,7 +7,7 @@ mod writers;
 
 use crate::texts::mains;
 use bp_code::{Code, code_of};
-use bp_machine::{Outcome, Report};
+use bp_machine::{Outcome, Report, Start};
 use bp_run::{Gate, RunFault, RunOptions, run};
 use bp_trace::replay;
 use std::alloc::{AllocError, Global};
@@ -60,10 +60,12 @@ const ONE: Numbers = Numbers {
 /// The options of these numbers.
 fn options(alloc: Global, numbers: Numbers) -> Result<RunOptions, AllocError> {
     Ok(RunOptions {
-        entries: mains(alloc, numbers.threads)?,
-        init: None,
-        contexts: numbers.contexts,
-        calls: numbers.calls,
+        start: Start {
+            entries: mains(alloc, numbers.threads)?,
+            init: None,
+            contexts: numbers.contexts,
+            calls: numbers.calls,
+        },
         turn: numbers.turn,
         seed: 42,
         ring: numbers.ring,

@@ -21,7 +21,7 @@ use Rattle.bp_trace.specs.declared.faults.DriveFault.TheVariants as fault
 use Rattle.bp_trace.specs.declared.schedules.ScheduleLine.{ScheduleLine}
 use Rattle.bp_trace.specs.declared.limits.TheConstants.{MAX_SCHEDULE}
 use Rattle.bp_trace.specs.Schedules.{bit_digit, line_text, schedule_text, line_of_call, lines_of_history, IsLineAt}
-use Rattle.bp_trace.specs.Drives.{IsRefusal}
+use Rattle.bp_trace.specs.Drives.{IsAfterFinish, IsRefusal}
 use Rattle.bp_trace.specs.LinePlays.{drive_fault_of, IsAdded, IsLineRefusal}
 
 module _ (x : SessionOf) (h : List Call) (of_some : IsOfProgram x.code) (stands : StandsForAll x h) where
@@ -83,16 +83,14 @@ module _ (x : SessionOf) (t : Program) (is : StandsFor x.code t) (s : SetupOf) (
     pub line_refused : (f : DriveFault) → IsLineRefusal x.setup h line n f → (bytes : Option (List ℕ)) → IsRefusal t s schedule bytes bytes f
     line_refused fault.TooLong r bytes = absurd r
     line_refused (fault.Line m) r bytes = absurd r
-    line_refused (fault.AfterFinish m) r bytes = (
-      refl,
-      short,
-      record {
-        rest = rest;
-        reached = record { history = h; legal = legal_of; whole = whole; number = r.0 ∙ number };
-        line = line;
-        begins = subst (λ k. IsLineAt k rest line) all begins;
-        finished = ap (λ z. is_finished z h line.thread) (sym setup) ∙ r.1;
-      },
-    )
+    line_refused (fault.AfterFinish m) r bytes =
+        let after : IsAfterFinish t s schedule m = record {
+          rest = rest;
+          reached = record { history = h; legal = legal_of; whole = whole; number = r.0 ∙ number };
+          line = line;
+          begins = subst (λ k. IsLineAt k rest line) all begins;
+          finished = ap (λ z. is_finished z h line.thread) (sym setup) ∙ r.1;
+        } in
+        (refl, (short, after))
     line_refused fault.Memory r bytes = (refl, short)
     line_refused fault.Write r bytes = absurd r

@@ -57,18 +57,24 @@ pub record IsDriven (t : Program) (s : SetupOf) (schedule : List ℕ) (h : List 
   pub legal : IsLegal t s h
   pub lines : schedule ≡ schedule_text (lines_of_history h)
 
--- Each refusal, the first that applies; the bytes of the writer before and after it. Nothing is
--- said of when memory is refused.
-module _ (t : Program) (s : SetupOf) (schedule : List ℕ) (old new : Option (List ℕ)) where
+-- Why a schedule does not drive a program: the first that applies. Nothing is said of when memory is
+-- refused.
+module _ (t : Program) (s : SetupOf) (schedule : List ℕ) where
   abbrev IsShort : Type 0
   IsShort = length schedule ≤ MAX_SCHEDULE
 
-  abbrev pub IsRefusal : DriveFault → Type 0
-  IsRefusal TooLong = (new ≡ old) × (MAX_SCHEDULE < length schedule)
-  IsRefusal (Line n) = (new ≡ old) × IsShort × IsBadLine t s schedule n
-  IsRefusal (AfterFinish n) = (new ≡ old) × IsShort × IsAfterFinish t s schedule n
-  IsRefusal Memory = (new ≡ old) × IsShort
-  IsRefusal Write = (h : List Call) × IsDriven t s schedule h × AppendsPart old new (trace_text s h)
+  abbrev pub IsScheduleRefusal : DriveFault → Type 0
+  IsScheduleRefusal TooLong = MAX_SCHEDULE < length schedule
+  IsScheduleRefusal (Line n) = IsShort × IsBadLine t s schedule n
+  IsScheduleRefusal (AfterFinish n) = IsShort × IsAfterFinish t s schedule n
+  IsScheduleRefusal Memory = IsShort
+  IsScheduleRefusal Write = ⊥
+
+  -- what was written then, by the bytes of the writer before and after it
+  abbrev pub IsRefusal : Option (List ℕ) → Option (List ℕ) → DriveFault → Type 0
+  IsRefusal old new Write =
+      (h : List Call) × IsDriven t s schedule h × AppendsPart old new (trace_text s h)
+  IsRefusal old new f = (new ≡ old) × IsScheduleRefusal f
 
 -- the schedule drives the program to a history, which is written and reported
 pub record IsPlayed

@@ -1,8 +1,2 @@
-pub mod Commands
-pub mod DriveWords
-pub mod FileWords
-pub mod RunWords
-pub mod ShowWords
 pub mod Statuses
-pub mod TraceWords
-pub mod Values
+pub mod Tasks

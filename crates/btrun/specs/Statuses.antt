@@ -1,10 +1,12 @@
 -- How runs end whose words ask for no task: the exit status, and what is left on standard error
 -- beside what `clap` prints there.
-use Rattle.std.specs.Prelude.{◌≡◌, ◌⊎◌, ℕ, List, Option, None}
-use Rattle.bp_commands.specs.Endings.{HasLine}
-use Rattle.bp_commands.specs.FaultLines.{fault_line}
-use Rattle.bp_commands.specs.declared.endings.WordsFault.{WordsFault}
-use Rattle.bp_commands.specs.declared.endings.WordsFault.TheVariants as words
+use Rattle.std.specs.Prelude.{◌≡◌, ◌⊎◌, ℕ, List, Option}
+use Rattle.std.specs.declared.io.ErrorKind.{ErrorKind as IoErrorKind}
+use Rattle.std.specs.declared.io.ErrorKind.TheVariants as io
+use Rattle.bp_commands.specs.Ends.{HasLine}
+use Rattle.bp_commands.specs.FaultTable.{fault_line}
+use Rattle.bp_commands.specs.declared.faults.Fault.{Fault}
+use Rattle.bp_commands.specs.declared.faults.Fault.TheVariants as fault
 use Rattle.clap.specs.declared.error.kind.ErrorKind.{ErrorKind}
 use Rattle.clap.specs.declared.error.kind.ErrorKind.TheVariants.{OutOfMemory, DisplayHelp, DisplayVersion}
 
@@ -20,26 +22,26 @@ IsWordsStatus DisplayVersion status = IsPrintedStatus status
 IsWordsStatus _ status = status ≡ 2
 
 -- the status of words that are not read; for the text on bad words there may be no memory
-abbrev pub IsUnreadStatus : WordsFault → ℕ → Type 0
-IsUnreadStatus words.Memory status = status ≡ 3
-IsUnreadStatus words.NotText status = (status ≡ 2) ⊎ (status ≡ 3)
+abbrev pub IsUnreadStatus : IoErrorKind → ℕ → Type 0
+IsUnreadStatus io.OutOfMemory status = status ≡ 3
+IsUnreadStatus _ status = (status ≡ 2) ⊎ (status ≡ 3)
 
--- the line of a fault without a place, before and after which standard error has these bytes
-abbrev pub HasFaultLine : ℕ → Option (List ℕ) → Option (List ℕ) → Type 0
-HasFaultLine number old new = HasLine (fault_line number None None) old new
+-- the line of a fault, before and after which standard error has these bytes
+abbrev pub HasFaultLine : Fault → Option (List ℕ) → Option (List ℕ) → Type 0
+HasFaultLine f old new = HasLine (fault_line f) old new
 
 -- nothing, or that the help or the version could not be written
 abbrev pub IsPrintedLine : Option (List ℕ) → Option (List ℕ) → Type 0
-IsPrintedLine old new = (new ≡ old) ⊎ HasFaultLine 51 old new
+IsPrintedLine old new = (new ≡ old) ⊎ HasFaultLine fault.Write old new
 
 -- our line on such words
 abbrev pub IsWordsLine : ErrorKind → Option (List ℕ) → Option (List ℕ) → Type 0
-IsWordsLine OutOfMemory old new = HasFaultLine 7 old new
+IsWordsLine OutOfMemory old new = HasFaultLine fault.Memory old new
 IsWordsLine DisplayHelp old new = IsPrintedLine old new
 IsWordsLine DisplayVersion old new = IsPrintedLine old new
 IsWordsLine _ old new = new ≡ old
 
 -- our line on words that are not read
-abbrev pub IsUnreadLine : WordsFault → Option (List ℕ) → Option (List ℕ) → Type 0
-IsUnreadLine words.Memory old new = HasFaultLine 7 old new
-IsUnreadLine words.NotText old new = (new ≡ old) ⊎ HasFaultLine 7 old new
+abbrev pub IsUnreadLine : IoErrorKind → Option (List ℕ) → Option (List ℕ) → Type 0
+IsUnreadLine io.OutOfMemory old new = HasFaultLine fault.Memory old new
+IsUnreadLine _ old new = (new ≡ old) ⊎ HasFaultLine fault.Memory old new

@@ -2,8 +2,10 @@
 //! a schedule, from standard input, and prints the trace to which the schedule drives the program.
 #![tactic(auto)]
 
-mod commands;
+mod host_files;
 mod runs;
+mod tasks;
+mod usage;
 
 use std::process::ExitCode;
 

@@ -1,33 +1,38 @@
 //! The lines, the statuses and the words of refusals.
+use crate::devices::Short;
 use bp_check::CheckFault;
 use bp_code::ProgramFault;
-use bp_commands::{
-    DriveRefusal, FileFault, InputFault, RunRefusal, TraceRefusal, exit_status, show_fault,
-};
+use bp_commands::{Fault, InputFault, end, show_fault};
 use bp_machine::{Reply, SetupFault};
-use bp_run::RunFault;
 use bp_syntax::ReadFault;
 use bp_text::WriteFault;
 use bp_trace::{DriveFault, ReplayFault};
 use std::alloc::{AllocError, Global};
 use std::fmt::Display;
 
+const LINES: &[u8] = b"\
+    btrun: 44 Reply line 7 wanted s\nbtrun: 6 Syntax at 13\n\
+    btrun: 11 TwiceGlobal at 5\nbtrun: 32 UnknownEntry thread 0\nbtrun: 1 TooLong\n\
+    btrun: 42 Line line 3\nbtrun: 48 TooLong\nbtrun: 54 Device\nbtrun: 7 Memory\n";
+
 /// The lines of faults, one of each kind of place.
 fn lines(alloc: Global) -> Result<Vec<u8>, WriteFault> {
     let mut out = Vec::new(alloc);
-    show_fault(44, Some(7), Some(Reply::Stepped), &mut out)?;
-    show_fault(6, Some(13), None, &mut out)?;
-    show_fault(32, Some(0), None, &mut out)?;
-    show_fault(1, None, None, &mut out)?;
-    show_fault(48, None, None, &mut out)?;
-    show_fault(54, None, None, &mut out)?;
+    for fault in [
+        Fault::Trace(ReplayFault::Reply(7, Reply::Stepped)),
+        Fault::Program(ProgramFault::Read(ReadFault::Syntax(13))),
+        Fault::Program(ProgramFault::Check(CheckFault::TwiceGlobal, 5)),
+        Fault::Setup(SetupFault::UnknownEntry(0)),
+        Fault::Program(ProgramFault::Read(ReadFault::TooLong)),
+        Fault::Schedule(DriveFault::Line(3)),
+        Fault::TooLong,
+        Fault::Device,
+        Fault::Memory,
+    ] {
+        show_fault(&fault, &mut out)?;
+    }
     Ok(out)
 }
-
-const LINES: &[u8] = b"\
-    btrun: 44 Reply line 7 wanted s\nbtrun: 6 Syntax at 13\n\
-    btrun: 32 UnknownEntry thread 0\nbtrun: 1 TooLong\n\
-    btrun: 48 TooLong\nbtrun: 54 Device\n";
 
 #[test]
 fn shows_faults(rt: HostRuntime) -> Result<(), WriteFault> {
@@ -37,13 +42,68 @@ fn shows_faults(rt: HostRuntime) -> Result<(), WriteFault> {
 
 #[test]
 fn gives_statuses(rt: HostRuntime) {
-    assert_eq!(rt; exit_status(false, None), 0);
-    assert_eq!(rt; exit_status(true, None), 1);
-    for number in [1, 6, 20, 32, 42, 47, 48] {
-        assert_eq!(rt; exit_status(false, Some(number)), 2);
+    for fault in [
+        Fault::TooLong,
+        Fault::Program(ProgramFault::Read(ReadFault::TooLong)),
+        Fault::Setup(SetupFault::UnknownEntry(0)),
+        Fault::Schedule(DriveFault::AfterFinish(2)),
+        Fault::Trace(ReplayFault::NoEnd),
+    ] {
+        assert_eq!(rt; fault.status(), 2);
     }
-    for number in [7, 51, 52, 53, 54] {
-        assert_eq!(rt; exit_status(false, Some(number)), 3);
+    for fault in [
+        Fault::Memory,
+        Fault::Write,
+        Fault::Foreign,
+        Fault::Start,
+        Fault::Device,
+    ] {
+        assert_eq!(rt; fault.status(), 3);
+    }
+}
+
+/// Whether a fault is one value, whoever reports it.
+fn are_one(one: Fault, other: Fault) -> bool {
+    one == other && one.place().is_none()
+}
+
+#[test]
+fn has_one_value_for_each_refusal(rt: HostRuntime) {
+    let check = ProgramFault::Check(CheckFault::Memory, 0);
+    assert!(rt; are_one(Fault::from(AllocError), Fault::from(check)));
+    assert!(rt;
+        are_one(
+            Fault::from(InputFault::Memory),
+            Fault::from(SetupFault::Memory)
+        )
+    );
+    assert!(rt;
+        are_one(
+            Fault::from(DriveFault::TooLong),
+            Fault::from(ReplayFault::TooLong)
+        )
+    );
+    assert!(rt;
+        are_one(
+            Fault::from(DriveFault::Write),
+            Fault::from(WriteFault::Write)
+        )
+    );
+}
+
+/// Whether a refusal of memory has status 3 and its line, also where only its front is written.
+fn refuses_memory(alloc: Global, room: usize) -> bool {
+    let taken = Vec::new(alloc);
+    let mut errors = Short { taken, room };
+    let status = end(&Err::<(), Fault>(Fault::Memory), &mut errors);
+    let line: &[u8] = b"btrun: 7 Memory\n";
+    status == 3 && line.get(..room) == Some(errors.taken.as_slice())
+}
+
+#[test]
+fn keeps_the_status_where_no_line_is_written(rt: HostRuntime) {
+    for room in [0, 7, 16] {
+        assert!(rt; refuses_memory(rt.alloc(), room));
     }
 }
 
@@ -65,80 +125,26 @@ fn says_why_inputs_are_refused(rt: HostRuntime) -> Result<(), AllocError> {
 }
 
 #[test]
-fn says_why_files_are_refused(rt: HostRuntime) -> Result<(), AllocError> {
+fn says_why_commands_are_refused(rt: HostRuntime) -> Result<(), AllocError> {
     let read = ProgramFault::Read(ReadFault::Syntax(13));
     let check = ProgramFault::Check(CheckFault::TwiceGlobal, 13);
     for (fault, words) in [
-        (FileFault::Device, "the file could not be read"),
-        (FileFault::Program(read), "syntax at 13"),
+        (Fault::Device, "the file could not be read"),
+        (Fault::TooLong, "the input is too long"),
+        (Fault::Program(read), "syntax at 13"),
+        (Fault::Program(check), "a global is declared twice at 13"),
         (
-            FileFault::Program(check),
-            "a global is declared twice at 13",
-        ),
-        (FileFault::Write, "the output could not be written"),
-        (FileFault::Memory, "out of memory"),
-    ] {
-        assert!(rt; says(rt.alloc(), &fault, words)?);
-    }
-    Ok(())
-}
-
-#[test]
-fn says_why_programs_are_not_driven(rt: HostRuntime) -> Result<(), AllocError> {
-    let read = ProgramFault::Read(ReadFault::Syntax(13));
-    for (fault, words) in [
-        (DriveRefusal::Device, "the input could not be read"),
-        (DriveRefusal::TooLong, "the input is too long"),
-        (DriveRefusal::Program(read), "syntax at 13"),
-        (
-            DriveRefusal::Setup(SetupFault::InitLength),
+            Fault::Setup(SetupFault::InitLength),
             "there must be one initial bit for each global",
         ),
         (
-            DriveRefusal::Drive(DriveFault::AfterFinish(2)),
+            Fault::Schedule(DriveFault::AfterFinish(2)),
             "line 2 of the schedule is of a thread that has made its last call",
         ),
-        (DriveRefusal::Memory, "out of memory"),
-    ] {
-        assert!(rt; says(rt.alloc(), &fault, words)?);
-    }
-    Ok(())
-}
-
-#[test]
-fn says_why_traces_are_refused(rt: HostRuntime) -> Result<(), AllocError> {
-    let read = ProgramFault::Read(ReadFault::Syntax(13));
-    let setup = ReplayFault::Setup(SetupFault::Threads);
-    for (fault, words) in [
-        (TraceRefusal::Device, "the input could not be read"),
-        (TraceRefusal::Program(read), "syntax at 13"),
-        (
-            TraceRefusal::Trace(ReplayFault::NoEnd),
-            "the trace has no end",
-        ),
-        (
-            TraceRefusal::Trace(setup),
-            "there must be 1 to 64 guest threads",
-        ),
-        (TraceRefusal::Write, "the output could not be written"),
-        (TraceRefusal::Memory, "out of memory"),
-    ] {
-        assert!(rt; says(rt.alloc(), &fault, words)?);
-    }
-    Ok(())
-}
-
-#[test]
-fn says_why_runs_are_refused(rt: HostRuntime) -> Result<(), AllocError> {
-    let read = ProgramFault::Read(ReadFault::Syntax(13));
-    for (fault, words) in [
-        (RunRefusal::Device, "the file could not be read"),
-        (RunRefusal::Run(RunFault::Program(read)), "syntax at 13"),
-        (
-            RunRefusal::Run(RunFault::Write),
-            "the output could not be written",
-        ),
-        (RunRefusal::Run(RunFault::Memory), "out of memory"),
+        (Fault::Trace(ReplayFault::NoEnd), "the trace has no end"),
+        (Fault::Start, "a worker could not be started"),
+        (Fault::Write, "the output could not be written"),
+        (Fault::Memory, "out of memory"),
     ] {
         assert!(rt; says(rt.alloc(), &fault, words)?);
     }

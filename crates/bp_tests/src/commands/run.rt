@@ -1,10 +1,10 @@
 //! Programs that real workers run.
+use super::{Said, said as said_of};
 use crate::devices::{Broken, Starved};
 use crate::texts::names;
-use bp_commands::limits::{
-    DEFAULT_CALLS, DEFAULT_CONTEXTS, DEFAULT_RING, DEFAULT_SEED, DEFAULT_TURN,
-};
-use bp_commands::{RunRefusal, end_run, run_buffered, run_program};
+use bp_commands::{Source, end, run_program, run_text};
+use bp_machine::Start;
+use bp_run::limits::{DEFAULT_RING, DEFAULT_SEED, DEFAULT_TURN};
 use bp_run::{Open, RunOptions};
 use std::alloc::{AllocError, Global};
 use std::io::Read;
@@ -22,38 +22,30 @@ const FAILING: &[u8] = b"main() begin assert (0); end";
 
 /// Options with one thread that begins with this procedure, and else the defaults.
 fn options(alloc: Global, entry: &str) -> Result<RunOptions, AllocError> {
+    let mut start = Start::defaults(alloc)?;
+    start.entries = names(alloc, &[entry])?;
     Ok(RunOptions {
-        entries: names(alloc, &[entry])?,
-        init: None,
-        contexts: DEFAULT_CONTEXTS,
-        calls: DEFAULT_CALLS,
+        start,
         turn: DEFAULT_TURN,
         seed: DEFAULT_SEED,
         ring: DEFAULT_RING,
     })
 }
 
-/// The number and the place of a refusal; none where the program was run.
-fn fault<T>(done: &Result<T, RunRefusal>) -> Option<(u32, Option<u32>)> {
-    match done {
-        Ok(_) => None,
-        Err(refusal) => Some((refusal.number(), refusal.place())),
-    }
-}
-
-/// Whether the run of an input ends with this refusal, or none, and has written these bytes.
+/// Whether the run of an input says this, and has written these bytes.
 fn runs<I: Read + Drop, R: Threads + Wait + Clock + Sync>(
-    rt: &R,
+    threads: &R,
     alloc: Global,
     entry: &str,
-    mut program: I,
-    refusal: Option<(u32, Option<u32>)>,
+    program: I,
+    said: Said,
     trace: &[u8],
 ) -> Result<bool, AllocError> {
     let options = options(alloc, entry)?;
+    let mut program = Source::new(alloc, program);
     let mut out = Vec::new(alloc);
-    let done = run_program(rt, alloc, &options, &Open, &mut program, &mut out);
-    Ok(fault(&done) == refusal && out.as_slice() == trace)
+    let done = run_program(alloc, threads, &options, &Open, &mut program, &mut out);
+    Ok(said_of(&done) == said && out.as_slice() == trace)
 }
 
 #[test]
@@ -87,7 +79,7 @@ fn refuses_files_that_are_not_read(rt: HostRuntime) -> Result<(), AllocError> {
 
 /// Whether the run of a text ends with this status and this text on standard error.
 fn ends<R: Threads + Wait + Clock + Sync>(
-    rt: &R,
+    threads: &R,
     alloc: Global,
     entry: &str,
     text: &[u8],
@@ -95,11 +87,9 @@ fn ends<R: Threads + Wait + Clock + Sync>(
     line: &[u8],
 ) -> Result<bool, AllocError> {
     let options = options(alloc, entry)?;
-    let mut program = text;
-    let done = run_buffered(rt, alloc, &options, &Open, &mut program, Vec::new(alloc));
+    let done = run_text(alloc, threads, &options, &Open, text, &mut Vec::new(alloc));
     let mut errors = Vec::new(alloc);
-    let ended = end_run(&done, &mut errors);
-    Ok(ended == status && errors.as_slice() == line)
+    Ok(end(&done, &mut errors) == status && errors.as_slice() == line)
 }
 
 #[test]
@@ -108,26 +98,5 @@ fn ends_runs(rt: HostRuntime) -> Result<(), AllocError> {
     assert!(&rt; ends(&rt, rt.alloc(), "main", IF, 0, b"")?);
     assert!(&rt; ends(&rt, rt.alloc(), "main", FAILING, 1, b"")?);
     assert!(&rt; ends(&rt, rt.alloc(), "a", IF, 2, unknown)?);
-    Ok(())
-}
-
-/// Whether the output that a run gives back has this trace.
-fn hands_on<R: Threads + Wait + Clock + Sync>(
-    rt: &R,
-    alloc: Global,
-    text: &[u8],
-    trace: &[u8],
-) -> Result<bool, AllocError> {
-    let options = options(alloc, "main")?;
-    let mut program = text;
-    match run_buffered(rt, alloc, &options, &Open, &mut program, Vec::new(alloc)) {
-        Ok((_, out)) => Ok(out.as_slice() == trace),
-        Err(_) => Ok(false),
-    }
-}
-
-#[test]
-fn hands_on_a_trace(rt: HostRuntime) -> Result<(), AllocError> {
-    assert!(&rt; hands_on(&rt, rt.alloc(), IF, IF_TRACE)?);
     Ok(())
 }

@@ -2,7 +2,7 @@
 
 use crate::texts::{code_of, names};
 use bp_code::Code;
-use bp_machine::{Setup, SetupFault};
+use bp_machine::{Setup, SetupFault, Start};
 use std::alloc::Global;
 use std::test::Fail;
 
@@ -53,12 +53,20 @@ fn copied_setup(rt: HostRuntime) -> Result<(), Fail> {
     Ok(())
 }
 
-/// Whether a setup without initial bits equals one with a zero for each global.
+/// Whether the setup from a start without initial bits equals one with a zero for each global.
 fn begins_with_zeros(alloc: Global) -> Result<bool, Fail> {
     let code = code_of(alloc, b"decl x, y; main() begin skip; end")?;
-    let entries = names(alloc, &["main"])?;
-    let zeros = Setup::new(alloc, &code, &entries, &[false, false], 1, 10, Some(42))?;
-    Ok(Setup::or_zeros(alloc, &code, &entries, None, 1, 10, Some(42))? == zeros)
+    let start = Start::defaults(alloc)?;
+    let zeros = Setup::new(
+        alloc,
+        &code,
+        &start.entries,
+        &[false, false],
+        2,
+        1000,
+        Some(42),
+    )?;
+    Ok(start.setup(alloc, &code, Some(42))? == zeros)
 }
 
 #[test]

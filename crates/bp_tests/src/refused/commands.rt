@@ -3,9 +3,10 @@ use super::ready::{PROGRAM, entries, output};
 use super::{tell, wants};
 use crate::view::ALL;
 use bp_commands::{
-    DriveOptions, check_text, drive_bundle, drive_program, list_program, migrate_program,
-    replay_program, run_program, view_program,
+    Check, Code, Drive, Fault, Migrate, PairCommand, Replay, Show, Source, do_on_pair,
+    do_on_program, drive_bundle, run_program,
 };
+use bp_machine::Start;
 use bp_run::{Open, RunOptions};
 use std::alloc::{AllocError, Global};
 use std::sync::Wait;
@@ -33,56 +34,56 @@ const SCHEDULE: &[u8] = b"0 1\n0 1\n0 0\n0 0\n";
 const TRACE: &[u8] = b"btrace 1\nentry main\ninit 00\ncontexts 2\ncalls 1000\nseed none\n\
     0 1 s\n0 1 s\n0 0 s\n0 0 s\nend 4 1\n";
 
-/// The number of a refusal of the command, none where it is done.
-fn number(
+/// The number of a fault, none where there is none.
+fn number_of<T: Drop>(done: Result<T, Fault>) -> Option<u32> {
+    done.err().map(|fault| fault.row().number)
+}
+
+/// The number of a refusal of a command on the program and an input beside it.
+fn number_of_pair<C: PairCommand>(
     alloc: Global,
-    command: Command,
-    options: &DriveOptions,
+    command: &C,
+    input: &[u8],
     out: &mut Vec<u8>,
 ) -> Option<u32> {
-    let mut program = PROGRAM;
-    let (mut bundle, mut lines, mut trace) = (BUNDLE, SCHEDULE, TRACE);
+    let mut program = Source::new(alloc, PROGRAM);
+    let mut input = Source::new(alloc, input);
+    number_of(do_on_pair(alloc, command, &mut program, &mut input, out))
+}
+
+/// The number of a refusal of the command, none where it is done.
+fn number(alloc: Global, command: Command, start: &Start, out: &mut Vec<u8>) -> Option<u32> {
+    let mut program = Source::new(alloc, PROGRAM);
     match command {
-        Command::Check => check_text(alloc, &mut program, out)
-            .err()
-            .map(|e| e.number()),
-        Command::Code => list_program(alloc, &mut program, out)
-            .err()
-            .map(|e| e.number()),
-        Command::Bundle => drive_bundle(alloc, &mut bundle, out)
-            .err()
-            .map(|e| e.number()),
-        Command::Drive => drive_program(alloc, options, &mut program, &mut lines, out)
-            .err()
-            .map(|e| e.number()),
-        Command::Replay => replay_program(alloc, &mut program, &mut trace, out)
-            .err()
-            .map(|e| e.number()),
-        Command::Show => view_program(alloc, ALL, &mut program, &mut trace, out)
-            .err()
-            .map(|e| e.number()),
-        Command::Migrate => migrate_program(alloc, &mut program, &mut trace, out)
-            .err()
-            .map(|e| e.number()),
+        Command::Check => number_of(do_on_program(alloc, &Check, &mut program, out)),
+        Command::Code => number_of(do_on_program(alloc, &Code, &mut program, out)),
+        Command::Bundle => {
+            let mut bundle = Source::new(alloc, BUNDLE);
+            number_of(drive_bundle(alloc, &mut bundle, out))
+        }
+        Command::Drive => number_of_pair(alloc, &Drive { start }, SCHEDULE, out),
+        Command::Replay => number_of_pair(alloc, &Replay, TRACE, out),
+        Command::Show => number_of_pair(alloc, &Show { options: ALL }, TRACE, out),
+        Command::Migrate => number_of_pair(alloc, &Migrate, TRACE, out),
     }
 }
 
-/// The default options, made once more where they are refused.
-fn defaults(alloc: Global) -> Result<DriveOptions, AllocError> {
-    match DriveOptions::defaults(alloc) {
-        Ok(options) => Ok(options),
-        Err(_) => DriveOptions::defaults(alloc),
+/// The default start, made once more where it is refused.
+fn defaults(alloc: Global) -> Result<Start, AllocError> {
+    match Start::defaults(alloc) {
+        Ok(start) => Ok(start),
+        Err(_) => Start::defaults(alloc),
     }
 }
 
 /// Whether the command was refused once, and what it writes ends so.
 fn writes(alloc: Global, command: Command, end: &[u8]) -> Result<bool, Fail> {
-    let options = defaults(alloc)?;
+    let start = defaults(alloc)?;
     let mut out = output(alloc)?;
-    let refusal = number(alloc, command, &options, &mut out);
+    let refusal = number(alloc, command, &start, &mut out);
     if refusal.is_some() {
         wants(refusal == Some(7) && out.is_empty())?;
-        wants(number(alloc, command, &options, &mut out).is_none())?;
+        wants(number(alloc, command, &start, &mut out).is_none())?;
     }
     wants(out.ends_with(end))?;
     Ok(refusal.is_some())
@@ -136,19 +137,19 @@ fn number_of_run<R: Threads + Wait + Clock + Sync>(
     options: &RunOptions,
     out: &mut Vec<u8>,
 ) -> Option<u32> {
-    let mut program = PROGRAM;
-    run_program(rt, alloc, options, &Open, &mut program, out)
-        .err()
-        .map(|e| e.number())
+    let mut program = Source::new(alloc, PROGRAM);
+    number_of(run_program(alloc, rt, options, &Open, &mut program, out))
 }
 
 /// Whether a run of one thread was refused. Where its worker was, its line is left open.
 fn runs<R: Threads + Wait + Clock + Sync>(rt: &R, alloc: Global) -> Result<bool, Fail> {
     let options = RunOptions {
-        entries: entries(alloc, 1)?,
-        init: None,
-        contexts: 2,
-        calls: 5,
+        start: Start {
+            entries: entries(alloc, 1)?,
+            init: None,
+            contexts: 2,
+            calls: 5,
+        },
         turn: 1,
         seed: 42,
         ring: 8,

@@ -1,7 +1,7 @@
 //! Runs: 7 or 53 with nothing written, or a whole trace; the line of a refused worker stays open.
 use super::ready::{PROGRAM, code, entries, output};
 use super::{tell, wants};
-use bp_machine::Report;
+use bp_machine::{Report, Start};
 use bp_run::{Open, RunOptions, run};
 use bp_trace::{ReplayFault, replay};
 use std::alloc::Global;
@@ -13,10 +13,12 @@ use std::time::Clock;
 /// Three threads of 20 calls each, by turns of three.
 fn options(alloc: Global, ring: u32) -> Result<RunOptions, Fail> {
     Ok(RunOptions {
-        entries: entries(alloc, 3)?,
-        init: None,
-        contexts: 1000,
-        calls: 20,
+        start: Start {
+            entries: entries(alloc, 3)?,
+            init: None,
+            contexts: 1000,
+            calls: 20,
+        },
         turn: 3,
         seed: 42,
         ring,

@@ -9,17 +9,11 @@ use super::wants;
 use bp_board::{Board, Calls, Kit, gather};
 use bp_check::Checked;
 use bp_code::{Code, Kind, compile, lawful_program, list};
-use bp_commands::{
-    DriveRefusal, FileFault, InputFault, RunRefusal, TraceRefusal, WordsFault, end_drive, end_file,
-    end_printed, end_run, end_trace, reading_fault, refuse_memory, show_check, show_replay,
-    words_fault,
-};
-use bp_machine::{Call, Choices, Outcome, Reply, Session, Setup, open_lines};
-use bp_run::RunFault;
+use bp_commands::{Fault, end, show_check, show_replay};
+use bp_machine::{Call, Choices, Outcome, Reply, Report, Session, Setup, open_lines};
 use bp_text::WriteFault;
 use bp_trace::{replay, write_call, write_end, write_head, write_trace, write_trace2};
 use std::alloc::Global;
-use std::io::{self, ErrorKind};
 use std::marker::Brand;
 use std::sync::Wait;
 use std::sync::ledger::Ledger;
@@ -207,37 +201,19 @@ fn traces(rt: HostRuntime) -> Result<(), Fail> {
     wants(rows.as_slice() == b"print 0 10\noutcome clean\n".as_slice())
 }
 
-/// Whether each end of a run that was refused memory has its status and its line.
+/// Whether the end of a run that was refused memory, or whose output failed, has its status and its
+/// line.
 fn ends(errors: &mut Vec<u8>) -> bool {
-    let file: Result<(), FileFault> = Err(FileFault::Memory);
-    let run = Err::<(bp_machine::Report, ()), RunRefusal>(RunRefusal::Run(RunFault::Memory));
-    let trace = Err::<(bp_machine::Report, ()), TraceRefusal>(TraceRefusal::Memory);
-    let drive = Err::<(bp_machine::Report, ()), DriveRefusal>(DriveRefusal::Memory);
     let statuses = (
-        refuse_memory(errors),
-        end_file(&file, errors),
-        end_run(&run, errors),
-        end_trace(&trace, errors),
-        end_drive(&drive, errors),
+        end(&Err::<Report, Fault>(Fault::Memory), errors),
+        end(&Err::<(), Fault>(Fault::Write), errors),
     );
-    statuses == (3, 3, 3, 3, 3) && errors.as_slice() == MEMORY_LINES
-}
-
-const MEMORY_LINES: &[u8] = b"\
-    btrun: 7 Memory\nbtrun: 7 Memory\nbtrun: 7 Memory\nbtrun: 7 Memory\nbtrun: 7 Memory\n";
-
-/// Whether a refusal by the system is sorted, and the end of a text of our own has its line.
-fn sorts(errors: &mut Vec<u8>) -> bool {
-    let missing = io::Error::from(ErrorKind::NotFound);
-    reading_fault(&missing) == InputFault::Device
-        && words_fault(&missing) == WordsFault::NotText
-        && end_printed(&Err(missing), errors) == 3
-        && errors.as_slice() == b"btrun: 51 Write\n".as_slice()
+    statuses == (3, 3) && errors.as_slice() == b"btrun: 7 Memory\nbtrun: 51 Write\n".as_slice()
 }
 
 #[test]
 fn endings(rt: HostRuntime) -> Result<(), Fail> {
-    let (mut lines, mut line) = (output(rt.alloc())?, output(rt.alloc())?);
+    let mut lines = output(rt.alloc())?;
     begin(&rt)?;
-    wants(ends(&mut lines) && sorts(&mut line))
+    wants(ends(&mut lines))
 }

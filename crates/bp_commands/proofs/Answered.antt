@@ -1,0 +1,26 @@
+-- What a command answers where it refuses, and where it is given what it reads.
+use Rattle.std.proofs.Common.{refl, inl, inr, ℕ, List, Option, Result, Ok, Err}
+use Rattle.std.proofs.KnownBytes.{Keeps-refl}
+use Rattle.bp_text.specs.Writing.{AppendsPart}
+use Rattle.bp_commands.specs.declared.faults.Fault.{Fault}
+use Rattle.bp_commands.specs.declared.faults.Fault.TheVariants.{Write}
+use Rattle.bp_commands.specs.Commands.{Command, IsNotDone, IsRefusedWith, Answers, AnswersOf}
+use Rattle.bp_commands.specs.Given.{Inputs}
+
+module _ {X R : Type 0} (command : Command X R) (given : X) (old : Option (List ℕ)) where
+  pub refused_with : (f : Fault) → command.Refuses given f → IsRefusedWith command old old given f
+  refused_with f why = inl (Keeps-refl old, why)
+
+  pub cut_short : (new : Option (List ℕ)) (text : List ℕ) → command.Writes given text → AppendsPart old new text → IsRefusedWith command old new given Write
+  cut_short new text writes part = inr (inl (refl, record { text = text; writes = writes; written = part }))
+
+  module _ (inputs : Inputs X) (read : inputs.Holds given) where
+    pub refused : (f : Fault) → command.Refuses given f → IsNotDone command old old inputs f
+    refused f why = inr (record { given = given; read = read; refused = refused_with f why })
+
+    pub cut : (new : Option (List ℕ)) (text : List ℕ) → command.Writes given text → AppendsPart old new text → IsNotDone command old new inputs Write
+    cut new text writes part = inr (record { given = given; read = read; refused = cut_short new text writes part })
+
+    pub answered : (new : Option (List ℕ)) (r : Result R Fault) → AnswersOf command given old new r → Answers command inputs old new r
+    answered new (Ok report) done = record { given = given; read = read; done = done }
+    answered new (Err f) why = inr (record { given = given; read = read; refused = why })

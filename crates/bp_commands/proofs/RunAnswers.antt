@@ -1,0 +1,67 @@
+-- What a run of a text says of the command `run`.
+use Rattle.std.proofs.Common.{◌≡◌, refl, sym, subst, inl, inr, List, ℕ, Option}
+use Rattle.std.specs.Io.KnownBytes.{Keeps}
+use Rattle.std.proofs.KnownBytes.{Keeps-refl}
+use Rattle.bp_machine.specs.declared.reports.Report.{Report}
+use Rattle.bp_run.specs.declared.run_faults.RunFault.{RunFault}
+use Rattle.bp_run.specs.declared.run_faults.RunFault.TheVariants as run
+use Rattle.bp_run.specs.Options.{OptionsOf, setup_under}
+use Rattle.bp_run.specs.Runs.{IsTracedRun, IsRunRefusal}
+use Rattle.bp_trace.specs.TraceText.{trace_text}
+use Rattle.bp_commands.specs.Commands.{IsDoneWith, IsRefusedWith}
+use Rattle.bp_commands.specs.Faults.{fault_of_run}
+use Rattle.bp_commands.specs.Runs.{runs, IsRunReport}
+
+module _ (o : OptionsOf) (text : List ℕ) (old new : Option (List ℕ)) where
+  pub done : (r : Report) → IsTracedRun o text old new r → IsDoneWith (runs o) old new text r
+  done r is =
+      let played = is.played in
+      let written = trace_text (setup_under o is.program) played.history in
+      let reports : IsRunReport o text written r = record {
+        program = is.program;
+        of = is.of;
+        fine = is.fine;
+        played = record {
+          history = played.history;
+          written = refl;
+          report = played.report;
+          legal = played.legal;
+          seeded = played.seeded;
+          steps = played.steps;
+          within = played.within;
+          failure = played.failure;
+          seats = played.seats;
+          one_each = played.one_each;
+          made = played.made;
+        };
+      } in
+      record { text = written; reports = reports; written = record { grown = played.written } }
+
+  kept : new ≡ old → Keeps old new
+  kept same = subst (Keeps old) (sym same) (Keeps-refl old)
+
+  pub refused : (f : RunFault) → IsRunRefusal o text old new f → IsRefusedWith (runs o) old new text (fault_of_run f)
+  refused (run.Program f) found = inl (kept found.0, inl (record { cause = f; why = found.1; is = refl }))
+  refused (run.Setup f) found =
+      inl (kept found.unwritten, inr (inl (record { program = found.program; lawful = found.of; cause = f; why = found.refused; is = refl })))
+  refused run.Memory found = inl (kept found.unwritten, inr (inr (inl (record { program = found.program; lawful = found.of; is = refl }))))
+  refused run.Start found =
+      inl (kept found.refused, inr (inr (inr (record { runnable = record { program = found.program; lawful = found.of; fine = found.fine }; is = refl }))))
+  refused run.Foreign found =
+      inr (inr (record { runnable = record { program = found.program; lawful = found.of; fine = found.fine }; is = refl }))
+  refused run.Write found =
+      let cut = found.refused in
+      inr (inl (
+        refl,
+        record {
+          text = trace_text (setup_under o found.program) cut.history;
+          writes = record {
+            runnable = record { program = found.program; lawful = found.of; fine = found.fine };
+            history = cut.history;
+            legal = cut.legal;
+            seeded = cut.seeded;
+            is = refl;
+          };
+          written = cut.written;
+        },
+      ))

@@ -1,0 +1,35 @@
+-- How a run ends: its exit status, and what it leaves on standard error.
+use Rattle.std.specs.Prelude.{◌≡◌, ◌⊎◌, ℕ, List, Option, Result, Ok, Err, Bool, true, false}
+use Rattle.bp_text.specs.Writing.{AppendsAll, AppendsPart}
+use Rattle.bp_machine.specs.declared.reports.Outcome.{Outcome}
+use Rattle.bp_machine.specs.declared.reports.Outcome.TheVariants.{Clean, Failed}
+use Rattle.bp_machine.specs.declared.reports.Report.{Report}
+use Rattle.bp_commands.specs.declared.faults.Fault.{Fault}
+use Rattle.bp_commands.specs.FaultTable.{fault_line, status_of}
+
+-- an assertion failed
+abbrev pub has_failed : Outcome → Bool
+has_failed Clean = false
+has_failed (Failed thread) = true
+
+abbrev pub report_failed : Report → Bool
+report_failed r = has_failed r.outcome
+
+-- no assertion fails
+abbrev pub never : {R : Type 0} → R → Bool
+never report = false
+
+-- the status of a run that was done, in which an assertion failed or not
+abbrev pub done_status : Bool → ℕ
+done_status true = 1
+done_status false = 0
+
+-- the line was written, or a proper prefix of it where standard error failed
+abbrev pub HasLine : List ℕ → Option (List ℕ) → Option (List ℕ) → Type 0
+HasLine line old new = AppendsAll old new line ⊎ AppendsPart old new line
+
+module _ {T : Type 0} (failed : T → Bool) where
+  -- the status of the answer, and the line of its fault
+  abbrev pub Ends : Result T Fault → ℕ → Option (List ℕ) → Option (List ℕ) → Type 0
+  Ends (Ok report) status old new = (status ≡ done_status (failed report)) × (new ≡ old)
+  Ends (Err f) status old new = (status ≡ status_of f) × HasLine (fault_line f) old new

@@ -1,0 +1,77 @@
+-- The command `run`.
+use Rattle.std.specs.Prelude.{◌≡◌, ◌⊎◌, ℕ, List, [], None, Some}
+use Rattle.bp_tree.specs.Ast.{Program}
+use Rattle.bp_code.specs.LawfulTexts.{IsLawfulText}
+use Rattle.bp_machine.specs.declared.calls.Call.{Call}
+use Rattle.bp_machine.specs.declared.reports.Report.{Report}
+use Rattle.bp_machine.specs.declared.setups.SetupFault.{SetupFault}
+use Rattle.bp_machine.specs.Histories.{IsLegal}
+use Rattle.bp_machine.specs.SeededHistories.{HasSeededBits}
+use Rattle.bp_run.specs.Options.{OptionsOf, setup_under, options_fault, IsOptionsRefusal}
+use Rattle.bp_run.specs.Runs.{IsTracedRun}
+use Rattle.bp_trace.specs.TraceText.{trace_text}
+use Rattle.bp_commands.specs.declared.faults.Fault.{Fault}
+use Rattle.bp_commands.specs.declared.faults.Fault.TheVariants.{Start, Foreign, Memory}
+use Rattle.bp_commands.specs.Checks.{IsUnlawful}
+use Rattle.bp_commands.specs.Commands.{Command}
+use Rattle.bp_commands.specs.Faults.{fault_of_setup}
+
+-- The program of a text is run by real threads, under these options.
+module _ (o : OptionsOf) (text : List ℕ) where
+  -- the text is that of a lawful program, for which the options have no fault
+  pub record IsRunnable : Type 0 where
+    pub program : Program
+    pub lawful : IsLawfulText text program
+    pub fine : options_fault o program ≡ None
+
+  -- the trace of a legal history, with the bits of the seed
+  pub record IsOfRun (written : List ℕ) : Type 0 where
+    pub runnable : IsRunnable
+    pub history : List Call
+    pub legal : IsLegal runnable.program (setup_under o runnable.program) history
+    pub seeded : HasSeededBits (setup_under o runnable.program) history
+    pub is : written ≡ trace_text (setup_under o runnable.program) history
+
+  -- what an empty output has after a run with this report
+  abbrev pub IsRunReport : List ℕ → Report → Type 0
+  IsRunReport written report = IsTracedRun o text (Some []) (Some written) report
+
+  -- the text is that of a lawful program, for which the options are refused
+  pub record AreOptionsRefused (f : Fault) : Type 0 where
+    pub program : Program
+    pub lawful : IsLawfulText text program
+    pub cause : SetupFault
+    pub why : IsOptionsRefusal o program cause
+    pub is : f ≡ fault_of_setup cause
+
+  -- the text is that of a lawful program, and memory was refused before a worker was started
+  pub record LacksMemory (f : Fault) : Type 0 where
+    pub program : Program
+    pub lawful : IsLawfulText text program
+    pub is : f ≡ Memory
+
+  -- a worker could not be started
+  pub record IsNotStarted (f : Fault) : Type 0 where
+    pub runnable : IsRunnable
+    pub is : f ≡ Start
+
+  -- the board gave up what is not of this run: nothing is said of what was written
+  pub record IsForeign (f : Fault) : Type 0 where
+    pub runnable : IsRunnable
+    pub is : f ≡ Foreign
+
+  abbrev pub IsRunRefused : Fault → Type 0
+  IsRunRefused f =
+      IsUnlawful text f
+      ⊎ (AreOptionsRefused f
+      ⊎ (LacksMemory f
+      ⊎ IsNotStarted f))
+
+-- it writes the trace of the history that the workers make
+abbrev pub runs : OptionsOf → Command (List ℕ) Report
+runs o = record {
+  Writes = IsOfRun o;
+  Reports = IsRunReport o;
+  Refuses = IsRunRefused o;
+  Spoils = IsForeign o;
+}

@@ -1,0 +1,32 @@
+//! The command without a name: it drives a bundle.
+ghost use Rattle.bp_commands.specs.Bundles.{bundles};
+ghost use Rattle.bp_commands.specs.Commands.{Answers};
+ghost use Rattle.bp_commands.specs.Given.{bundle_alone};
+
+use crate::bundle_parts::parts;
+use crate::commands::PairCommand;
+use crate::driving::Drive;
+use crate::faults::Fault;
+use crate::inputs::{Source, read_input};
+use crate::limits::MAX_BUNDLE;
+use bp_machine::{Report, Start};
+use std::alloc::Global;
+use std::io::{Read, Write};
+
+/// Reads a bundle, a program and a schedule, drives the program by the schedule, and writes the
+/// trace: one thread begins with `main`, all globals are 0, and at most 2 contexts and 1,000 calls
+/// are allowed. At most 1,048,577 bytes are read.
+pub fn drive_bundle<R: Read, W: Write>(
+    alloc: Global,
+    bundle: &mut Source<R>,
+    out: &mut W,
+) -> Result<Report, Fault>
+    ensures { let inputs = bundle_alone
+        (R.remaining bundle.old.reader) (R.remaining bundle.new.reader) in
+        Answers bundles inputs (W.contents out.old) (W.contents out.new) result }
+{
+    read_input(alloc, MAX_BUNDLE, bundle)?;
+    let start = Start::defaults(alloc)?;
+    let (text, schedule) = parts(&bundle.bytes);
+    Drive { start: &start }.apply(alloc, text, schedule, out)
+}

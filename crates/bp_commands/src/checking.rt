@@ -1,0 +1,43 @@
+//! The command `check`.
+ghost use Rattle.bp_text.specs.Writing.{Writes};
+ghost use Rattle.bp_commands.specs.Checks.{check_line};
+
+use crate::commands::ProgramCommand;
+use crate::faults::Fault;
+use bp_check::Checked;
+use bp_code::lawful_program;
+use bp_text::{WriteFault, put_each};
+use itoa::Buffer;
+use std::alloc::Global;
+use std::io::Write;
+
+/// Writes `ok P G` and a line feed: the numbers of procedures and of globals that a lawful program
+/// has.
+pub fn show_check<W: Write>(checked: &Checked, out: &mut W) -> Result<(), WriteFault>
+    ensures { Writes (W.contents out.old) (W.contents out.new) (check_line checked.now) result }
+{
+    let tree = checked.tree();
+    let mut first = Buffer::new();
+    let mut second = Buffer::new();
+    let procedures = first.format(tree.procs().len()).as_bytes();
+    let globals = second.format(tree.globals().len()).as_bytes();
+    put_each(out, &[b"ok ", procedures, b" ", globals, b"\n"])
+}
+
+/// `check`: writes `ok P G` with the numbers of a program's procedures and globals.
+#[derive(Clone, Copy)]
+pub struct Check;
+
+impl ProgramCommand for Check {
+    ghost use Rattle.bp_commands.specs.Checks.{checks};
+
+    type Answer = ();
+
+    ghost command = { λ _. checks };
+
+    fn apply<W: Write>(&self, alloc: Global, text: &[u8], out: &mut W) -> Result<(), Fault> {
+        let checked = lawful_program(alloc, text)?;
+        show_check(&checked, out)?;
+        Ok(())
+    }
+}

@@ -1,0 +1,95 @@
+//! Commands on what they are given, and on what they read.
+ghost use Rattle.std.specs.Prelude.{◌≡◌, List, ℕ};
+ghost use Rattle.bp_machine.specs.declared.reports.Report.{Report};
+ghost use Rattle.bp_commands.specs.Commands.{Answers, AnswersOf, Command};
+ghost use Rattle.bp_commands.specs.Given.{bundle_alone, text_alone, text_and, Pair};
+
+use crate::ends::Ended;
+use crate::explanations::Named;
+use crate::faults::Fault;
+use crate::inputs::{Source, read_pair, read_text};
+use bp_machine::Report;
+use std::alloc::Global;
+use std::io::{Read, Write};
+
+/// A command on a program.
+pub trait ProgramCommand {
+    /// What it reports where it is done.
+    type Answer: Ended + Drop;
+
+    ghost command: { Self → Command (List ℕ) Self.Answer };
+
+    /// Does the command on the text of a program.
+    fn apply<W: Write>(
+        &self,
+        alloc: Global,
+        text: &[u8],
+        out: &mut W,
+    ) -> Result<Self::Answer, Fault>
+        ensures { AnswersOf (command self.now) text.now
+            (W.contents out.old) (W.contents out.new) result };
+}
+
+/// A command on a program and an input beside it.
+pub trait PairCommand {
+    ghost command: { Self → Command Pair Report };
+
+    ghost limit: { Self → ℕ };
+
+    /// How many bytes the input beside the program has at most.
+    fn limit(&self) -> usize
+        ensures { result ≡ limit self.now };
+
+    /// Does the command on the text of a program and the input beside it.
+    fn apply<W: Write>(
+        &self,
+        alloc: Global,
+        text: &[u8],
+        input: &[u8],
+        out: &mut W,
+    ) -> Result<Report, Fault>
+        ensures { let given : Pair = record { text = text.now; input = input.now } in
+            AnswersOf (command self.now) given (W.contents out.old) (W.contents out.new) result };
+
+    /// Explains a fault, for people. There may be no explanation.
+    fn explain(
+        &self,
+        alloc: Global,
+        fault: &Fault,
+        program: Named<'_>,
+        input: Named<'_>,
+    ) -> Option<Vec<u8>>;
+}
+
+/// Reads a program text, and does a command on it. At most 65,537 bytes are read.
+pub fn do_on_program<C: ProgramCommand, R: Read, W: Write>(
+    alloc: Global,
+    command: &C,
+    program: &mut Source<R>,
+    out: &mut W,
+) -> Result<C::Answer, Fault>
+    ensures { let inputs = text_alone
+        (R.remaining program.old.reader) (R.remaining program.new.reader) in
+        Answers (C.command command.now) inputs (W.contents out.old) (W.contents out.new) result }
+{
+    read_text(alloc, program)?;
+    command.apply(alloc, &program.bytes, out)
+}
+
+/// Reads a program text, and then the input beside it, and does a command on both. At most one
+/// byte more than its limit is read of each.
+pub fn do_on_pair<C: PairCommand, R: Read, S: Read, W: Write>(
+    alloc: Global,
+    command: &C,
+    program: &mut Source<R>,
+    input: &mut Source<S>,
+    out: &mut W,
+) -> Result<Report, Fault>
+    ensures { let inputs = text_and (C.limit command.now)
+        (R.remaining program.old.reader) (R.remaining program.new.reader)
+        (S.remaining input.old.reader) (S.remaining input.new.reader) in
+        Answers (C.command command.now) inputs (W.contents out.old) (W.contents out.new) result }
+{
+    read_pair(alloc, command.limit(), program, input)?;
+    command.apply(alloc, &program.bytes, &input.bytes, out)
+}

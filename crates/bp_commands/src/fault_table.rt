@@ -1,0 +1,192 @@
+//! The table of the faults: the number, the name, and what the fault names.
+ghost use Rattle.std.specs.Prelude.{◌≡◌};
+ghost use Rattle.bp_commands.specs.FaultTable.{check_row, fault_row, long_row, memory_row, place_of, read_row, row_of, schedule_row, setup_row, status_of, trace_row, wanted_of, write_row};
+
+use crate::faults::Fault;
+use bp_check::CheckFault;
+use bp_code::ProgramFault;
+use bp_machine::{Reply, SetupFault};
+use bp_syntax::ReadFault;
+use bp_trace::{DriveFault, ReplayFault};
+
+/// What a fault names.
+#[derive(Clone, Copy)]
+pub enum Detail {
+    Nothing,
+    /// A byte of the program text.
+    Byte(u32),
+    /// A guest thread.
+    Thread(u32),
+    /// A line of the schedule or the trace.
+    Line(u32),
+    /// A line of the trace, and the reply that it should have.
+    Wanted(u32, Reply),
+}
+
+/// How users know a fault: a row of the table.
+#[derive(Clone, Copy)]
+pub struct Row {
+    pub number: u32,
+    pub name: &'static [u8],
+    pub detail: Detail,
+}
+
+fn new_row(number: u32, name: &'static [u8], detail: Detail) -> Row
+    ensures { row_of result ≡ record { number = number; name = name.now; detail = detail } }
+{
+    Row {
+        number,
+        name,
+        detail,
+    }
+}
+
+fn memory_row() -> Row
+    ensures { row_of result ≡ memory_row }
+{
+    new_row(7, b"Memory", Detail::Nothing)
+}
+
+fn long_row() -> Row
+    ensures { row_of result ≡ long_row }
+{
+    new_row(48, b"TooLong", Detail::Nothing)
+}
+
+fn write_row() -> Row
+    ensures { row_of result ≡ write_row }
+{
+    new_row(51, b"Write", Detail::Nothing)
+}
+
+fn read_row(fault: &ReadFault) -> Row
+    ensures { row_of result ≡ read_row fault.now }
+{
+    match fault {
+        ReadFault::TooLong => new_row(1, b"TooLong", Detail::Nothing),
+        ReadFault::BadByte(at) => new_row(2, b"BadByte", Detail::Byte(*at)),
+        ReadFault::OpenName(at) => new_row(3, b"OpenName", Detail::Byte(*at)),
+        ReadFault::TooNested(at) => new_row(4, b"TooNested", Detail::Byte(*at)),
+        ReadFault::TooManyTokens(at) => new_row(5, b"TooManyTokens", Detail::Byte(*at)),
+        ReadFault::Syntax(at) => new_row(6, b"Syntax", Detail::Byte(*at)),
+        ReadFault::Memory => memory_row(),
+    }
+}
+
+fn check_row(fault: &CheckFault, at: u32) -> Row
+    ensures { row_of result ≡ check_row fault.now at }
+{
+    let place = Detail::Byte(at);
+    match fault {
+        CheckFault::TwiceGlobal => new_row(11, b"TwiceGlobal", place),
+        CheckFault::TwiceProcedure => new_row(12, b"TwiceProcedure", place),
+        CheckFault::TwiceLocal => new_row(13, b"TwiceLocal", place),
+        CheckFault::TwiceLabel => new_row(14, b"TwiceLabel", place),
+        CheckFault::UnknownVariable => new_row(15, b"UnknownVariable", place),
+        CheckFault::UnknownProcedure => new_row(16, b"UnknownProcedure", place),
+        CheckFault::UnknownLabel => new_row(17, b"UnknownLabel", place),
+        CheckFault::Arity => new_row(18, b"Arity", place),
+        CheckFault::Lengths => new_row(19, b"Lengths", place),
+        CheckFault::TwiceTarget => new_row(20, b"TwiceTarget", place),
+        CheckFault::Limit => new_row(21, b"Limit", place),
+        CheckFault::Memory => memory_row(),
+    }
+}
+
+fn setup_row(fault: &SetupFault) -> Row
+    ensures { row_of result ≡ setup_row fault.now }
+{
+    match fault {
+        SetupFault::Threads => new_row(31, b"Threads", Detail::Nothing),
+        SetupFault::UnknownEntry(thread) => new_row(32, b"UnknownEntry", Detail::Thread(*thread)),
+        SetupFault::EntryHasFormals(thread) => new_row(
+            33,
+            b"EntryHasFormals",
+            Detail::Thread(*thread),
+        ),
+        SetupFault::InitLength => new_row(34, b"InitLength", Detail::Nothing),
+        SetupFault::OutOfRange => new_row(35, b"OutOfRange", Detail::Nothing),
+        SetupFault::Memory => memory_row(),
+    }
+}
+
+fn schedule_row(fault: &DriveFault) -> Row
+    ensures { row_of result ≡ schedule_row fault.now }
+{
+    match fault {
+        DriveFault::TooLong => long_row(),
+        DriveFault::Line(line) => new_row(42, b"Line", Detail::Line(*line)),
+        DriveFault::AfterFinish(line) => new_row(47, b"AfterFinish", Detail::Line(*line)),
+        DriveFault::Memory => memory_row(),
+        DriveFault::Write => write_row(),
+    }
+}
+
+fn trace_row(fault: &ReplayFault) -> Row
+    ensures { row_of result ≡ trace_row fault.now }
+{
+    match fault {
+        ReplayFault::TooLong => long_row(),
+        ReplayFault::Head(line) => new_row(41, b"Head", Detail::Line(*line)),
+        ReplayFault::Setup(fault) => setup_row(fault),
+        ReplayFault::Line(line) => new_row(42, b"Line", Detail::Line(*line)),
+        ReplayFault::AfterFinish(line) => new_row(47, b"AfterFinish", Detail::Line(*line)),
+        ReplayFault::Bit(line) => new_row(43, b"Bit", Detail::Line(*line)),
+        ReplayFault::Reply(line, wanted) => new_row(44, b"Reply", Detail::Wanted(*line, *wanted)),
+        ReplayFault::NoEnd => new_row(45, b"NoEnd", Detail::Nothing),
+        ReplayFault::EndCount => new_row(46, b"EndCount", Detail::Nothing),
+        ReplayFault::Memory => memory_row(),
+    }
+}
+
+impl Fault {
+    /// How users know the fault: its row of the table.
+    pub fn row(&self) -> Row
+        ensures { row_of result ≡ fault_row self.now }
+    {
+        match self {
+            Fault::Device => new_row(54, b"Device", Detail::Nothing),
+            Fault::TooLong => long_row(),
+            Fault::Program(ProgramFault::Read(fault)) => read_row(fault),
+            Fault::Program(ProgramFault::Check(fault, at)) => check_row(fault, *at),
+            Fault::Setup(fault) => setup_row(fault),
+            Fault::Schedule(fault) => schedule_row(fault),
+            Fault::Trace(fault) => trace_row(fault),
+            Fault::Start => new_row(53, b"Start", Detail::Nothing),
+            Fault::Foreign => new_row(52, b"Foreign", Detail::Nothing),
+            Fault::Write => write_row(),
+            Fault::Memory => memory_row(),
+        }
+    }
+
+    /// The exit status of a run that the fault ended, by its number: 3 for memory, devices and workers
+    /// that do not start, 2 for any other.
+    pub fn status(&self) -> u8
+        ensures { result ≡ status_of self.now }
+    {
+        match self.row().number {
+            7 | 51..=54 => 3,
+            _ => 2,
+        }
+    }
+
+    /// The byte, line or thread that the fault names, where it names one.
+    pub fn place(&self) -> Option<u32>
+        ensures { result ≡ place_of self.now }
+    {
+        match self.row().detail {
+            Detail::Nothing => None,
+            Detail::Byte(n) | Detail::Thread(n) | Detail::Line(n) | Detail::Wanted(n, _) => Some(n),
+        }
+    }
+
+    /// The reply that was wanted, where the fault is that of a reply.
+    pub fn wanted(&self) -> Option<Reply>
+        ensures { result ≡ wanted_of self.now }
+    {
+        match self.row().detail {
+            Detail::Wanted(_, reply) => Some(reply),
+            _ => None,
+        }
+    }
+}

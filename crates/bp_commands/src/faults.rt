@@ -1,0 +1,191 @@
+//! Why a command is refused.
+use crate::inputs::InputFault;
+use bp_check::CheckFault;
+use bp_code::{CodeFault, ProgramFault};
+use bp_machine::SetupFault;
+use bp_run::RunFault;
+use bp_syntax::ReadFault;
+use bp_text::WriteFault;
+use bp_trace::{DriveFault, MigrateFault, ReplayFault};
+use std::alloc::AllocError;
+use thiserror::Error;
+
+/// Why a command is refused: the first of these that applies, `Memory` aside. Whichever library
+/// reports it, refused memory is one value, and so are a failed write and an input that is too long.
+#[derive(Debug, Drop, PartialEq, Eq, Error)]
+pub enum Fault {
+    /// An input could not be read.
+    #[error("the file could not be read")]
+    Device,
+    /// An input beside the program, or a bundle, is longer than its limit.
+    #[error("the input is too long")]
+    TooLong,
+    /// The program text is refused.
+    #[error("{0}")]
+    Program(ProgramFault),
+    /// The setup does not fit the program.
+    #[error("{0}")]
+    Setup(SetupFault),
+    /// The schedule is refused.
+    #[error("{0}")]
+    Schedule(DriveFault),
+    /// The text is no trace of the program.
+    #[error("{0}")]
+    Trace(ReplayFault),
+    /// A worker could not be started.
+    #[error("a worker could not be started")]
+    Start,
+    /// The board gave up what is not of its run.
+    #[error("the board is of another code or setup, or the seats are not its own")]
+    Foreign,
+    /// The output could not be written.
+    #[error("the output could not be written")]
+    Write,
+    /// There was not enough memory.
+    #[error("out of memory")]
+    Memory,
+}
+
+impl From<AllocError> for Fault {
+    ghost use Rattle.bp_commands.specs.declared.faults.Fault.{Fault};
+    ghost use Rattle.std.specs.Prelude.{◌≡◌};
+
+    ghost from_gives = { λ _ e. e ≡ Fault.Memory };
+
+    fn from(_: AllocError) -> Fault {
+        Fault::Memory
+    }
+}
+
+impl From<WriteFault> for Fault {
+    ghost use Rattle.bp_commands.specs.declared.faults.Fault.{Fault};
+    ghost use Rattle.std.specs.Prelude.{◌≡◌};
+
+    ghost from_gives = { λ _ e. e ≡ Fault.Write };
+
+    fn from(_: WriteFault) -> Fault {
+        Fault::Write
+    }
+}
+
+impl From<InputFault> for Fault {
+    ghost use Rattle.bp_commands.specs.Faults.{fault_of_input};
+    ghost use Rattle.std.specs.Prelude.{◌≡◌};
+
+    ghost from_gives = { λ f e. e ≡ fault_of_input f };
+
+    fn from(fault: InputFault) -> Fault {
+        match fault {
+            InputFault::Device => Fault::Device,
+            InputFault::TooLong => Fault::TooLong,
+            InputFault::Memory => Fault::Memory,
+        }
+    }
+}
+
+impl From<ProgramFault> for Fault {
+    ghost use Rattle.bp_commands.specs.Faults.{fault_of_program};
+    ghost use Rattle.std.specs.Prelude.{◌≡◌};
+
+    ghost from_gives = { λ f e. e ≡ fault_of_program f };
+
+    fn from(fault: ProgramFault) -> Fault {
+        match fault {
+            ProgramFault::Read(ReadFault::Memory) => Fault::Memory,
+            ProgramFault::Check(CheckFault::Memory, _) => Fault::Memory,
+            fault => Fault::Program(fault),
+        }
+    }
+}
+
+impl From<CodeFault> for Fault {
+    ghost use Rattle.bp_commands.specs.Faults.{fault_of_code};
+    ghost use Rattle.std.specs.Prelude.{◌≡◌};
+
+    ghost from_gives = { λ f e. e ≡ fault_of_code f };
+
+    fn from(fault: CodeFault) -> Fault {
+        match fault {
+            CodeFault::Program(fault) => Fault::from(fault),
+            CodeFault::Memory => Fault::Memory,
+        }
+    }
+}
+
+impl From<SetupFault> for Fault {
+    ghost use Rattle.bp_commands.specs.Faults.{fault_of_setup};
+    ghost use Rattle.std.specs.Prelude.{◌≡◌};
+
+    ghost from_gives = { λ f e. e ≡ fault_of_setup f };
+
+    fn from(fault: SetupFault) -> Fault {
+        match fault {
+            SetupFault::Memory => Fault::Memory,
+            fault => Fault::Setup(fault),
+        }
+    }
+}
+
+impl From<DriveFault> for Fault {
+    ghost use Rattle.bp_commands.specs.Faults.{fault_of_schedule};
+    ghost use Rattle.std.specs.Prelude.{◌≡◌};
+
+    ghost from_gives = { λ f e. e ≡ fault_of_schedule f };
+
+    fn from(fault: DriveFault) -> Fault {
+        match fault {
+            DriveFault::TooLong => Fault::TooLong,
+            DriveFault::Memory => Fault::Memory,
+            DriveFault::Write => Fault::Write,
+            fault => Fault::Schedule(fault),
+        }
+    }
+}
+
+impl From<ReplayFault> for Fault {
+    ghost use Rattle.bp_commands.specs.Faults.{fault_of_trace};
+    ghost use Rattle.std.specs.Prelude.{◌≡◌};
+
+    ghost from_gives = { λ f e. e ≡ fault_of_trace f };
+
+    fn from(fault: ReplayFault) -> Fault {
+        match fault {
+            ReplayFault::TooLong => Fault::TooLong,
+            ReplayFault::Setup(fault) => Fault::from(fault),
+            ReplayFault::Memory => Fault::Memory,
+            fault => Fault::Trace(fault),
+        }
+    }
+}
+
+impl From<MigrateFault> for Fault {
+    ghost use Rattle.bp_commands.specs.Faults.{fault_of_migration};
+    ghost use Rattle.std.specs.Prelude.{◌≡◌};
+
+    ghost from_gives = { λ f e. e ≡ fault_of_migration f };
+
+    fn from(fault: MigrateFault) -> Fault {
+        match fault {
+            MigrateFault::Replay(fault) => Fault::from(fault),
+            MigrateFault::Write => Fault::Write,
+        }
+    }
+}
+
+impl From<RunFault> for Fault {
+    ghost use Rattle.bp_commands.specs.Faults.{fault_of_run};
+    ghost use Rattle.std.specs.Prelude.{◌≡◌};
+
+    ghost from_gives = { λ f e. e ≡ fault_of_run f };
+
+    fn from(fault: RunFault) -> Fault {
+        match fault {
+            RunFault::Program(fault) => Fault::from(fault),
+            RunFault::Setup(fault) => Fault::from(fault),
+            RunFault::Start => Fault::Start,
+            RunFault::Foreign => Fault::Foreign,
+            RunFault::Write => Fault::Write,
+            RunFault::Memory => Fault::Memory,
+        }
+    }
+}

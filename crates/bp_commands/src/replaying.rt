@@ -1,0 +1,51 @@
+//! The command `replay`.
+use crate::commands::PairCommand;
+use crate::explanations::{Named, of_trace};
+use crate::faults::Fault;
+use crate::replay_lines::show_replay;
+use bp_code::code_of;
+use bp_machine::Report;
+use bp_trace::limits::MAX_TRACE;
+use bp_trace::replay;
+use std::alloc::Global;
+use std::io::Write;
+
+/// `replay`: replays a trace of a program, and writes what its steps printed, and the outcome.
+#[derive(Clone, Copy)]
+pub struct Replay;
+
+impl PairCommand for Replay {
+    ghost use Rattle.bp_trace.specs.declared.limits.TheConstants.{MAX_TRACE};
+    ghost use Rattle.bp_commands.specs.Traces.{replays};
+
+    ghost command = { λ _. replays };
+
+    ghost limit = { λ _. MAX_TRACE };
+
+    fn limit(&self) -> usize {
+        MAX_TRACE
+    }
+
+    fn apply<W: Write>(
+        &self,
+        alloc: Global,
+        text: &[u8],
+        trace: &[u8],
+        out: &mut W,
+    ) -> Result<Report, Fault> {
+        let code = code_of(alloc, text)?;
+        let replayed = replay(alloc, &code, trace)?;
+        show_replay(&replayed, out)?;
+        Ok(replayed.report)
+    }
+
+    fn explain(
+        &self,
+        alloc: Global,
+        fault: &Fault,
+        program: Named<'_>,
+        trace: Named<'_>,
+    ) -> Option<Vec<u8>> {
+        of_trace(alloc, fault, program, trace)
+    }
+}

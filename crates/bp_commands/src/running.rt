@@ -1,0 +1,48 @@
+//! The command `run`. It is no `ProgramCommand`, since what starts threads is known of a function's
+//! own parameters alone.
+ghost use Rattle.bp_commands.specs.Commands.{Answers, AnswersOf};
+ghost use Rattle.bp_commands.specs.Given.{text_alone};
+ghost use Rattle.bp_commands.specs.Runs.{runs};
+
+use crate::faults::Fault;
+use crate::inputs::{Source, read_text};
+use bp_machine::Report;
+use bp_run::{Gate, RunOptions, run};
+use std::alloc::Global;
+use std::io::{Read, Write};
+use std::sync::Wait;
+use std::thread::Threads;
+use std::time::Clock;
+
+/// Runs the program of a text under these options, with a worker for each guest thread, and writes
+/// the trace of the history that the workers make, while it grows.
+pub fn run_text<G: Gate, W: Write, T: Threads + Wait + Clock + Sync>(
+    alloc: Global,
+    threads: &T,
+    options: &RunOptions,
+    gate: &G,
+    text: &[u8],
+    out: &mut W,
+) -> Result<Report, Fault>
+    ensures { AnswersOf (runs options.now) text.now
+        (W.contents out.old) (W.contents out.new) result }
+{
+    Ok(run(threads, alloc, text, options, gate, out)?)
+}
+
+/// Reads a program text, and runs its program as `run_text` does. At most 65,537 bytes are read.
+pub fn run_program<G: Gate, R: Read, W: Write, T: Threads + Wait + Clock + Sync>(
+    alloc: Global,
+    threads: &T,
+    options: &RunOptions,
+    gate: &G,
+    program: &mut Source<R>,
+    out: &mut W,
+) -> Result<Report, Fault>
+    ensures { let inputs = text_alone
+        (R.remaining program.old.reader) (R.remaining program.new.reader) in
+        Answers (runs options.now) inputs (W.contents out.old) (W.contents out.new) result }
+{
+    read_text(alloc, program)?;
+    run_text(alloc, threads, options, gate, &program.bytes, out)
+}

@@ -1,0 +1,138 @@
+//! Runs of the commands, from the paths of their files to the exit status.
+ghost use Rattle.std.specs.Prelude.{false};
+ghost use Rattle.std.specs.Io.Buffered.{writer_contents};
+ghost use Rattle.bp_commands.specs.Bundles.{bundles};
+ghost use Rattle.bp_commands.specs.Ends.{report_failed};
+ghost use Rattle.bp_commands.specs.Files.{pair_of_files, IsRun};
+ghost use Rattle.bp_commands.specs.Given.{bundle_alone, text_alone};
+ghost use Rattle.bp_commands.specs.Runs.{runs};
+
+use crate::bundles::drive_bundle;
+use crate::commands::{PairCommand, ProgramCommand, do_on_pair, do_on_program};
+use crate::ends::end;
+use crate::explanations::{Named, explain_on_pair, explain_on_program};
+use crate::files::{Files, InputFile};
+use crate::flushes::flushed;
+use crate::inputs::Source;
+use crate::running::run_program;
+use bp_run::{Gate, RunOptions};
+use std::alloc::Global;
+use std::io::{BufWriter, Read, Write};
+use std::sync::Wait;
+use std::thread::Threads;
+use std::time::Clock;
+
+/// Does a command on the program of a file, and answers the exit status and the output.
+pub fn run_on_program<C: ProgramCommand, F: Files, W: Write + Drop, E: Write>(
+    alloc: Global,
+    command: &C,
+    files: &F,
+    path: &str,
+    explains: bool,
+    mut out: BufWriter<W>,
+    errors: &mut E,
+) -> (u8, W)
+    ensures { let inputs = text_alone (F.bytes files.now path.now) in
+        let old = writer_contents W.contents out in
+        IsRun (C.command command.now) C.Answer.failed inputs explains old (W.contents result.1)
+        (E.contents errors.old) (E.contents errors.new) result.0 }
+{
+    let mut program = InputFile::source(alloc, files, path);
+    let done = do_on_program(alloc, command, &mut program, &mut out);
+    let (done, output) = flushed(done, out);
+    let status = end(&done, errors);
+    let program = Named {
+        name: path,
+        text: &program.bytes,
+    };
+    explain_on_program(alloc, explains, &done, program, errors);
+    (status, output)
+}
+
+/// Runs the program of a file by real workers, and answers the exit status and the output.
+pub fn run_by_workers<
+    F: Files,
+    G: Gate,
+    T: Threads + Wait + Clock + Sync,
+    W: Write + Drop,
+    E: Write,
+>(
+    alloc: Global,
+    threads: &T,
+    options: &RunOptions,
+    gate: &G,
+    files: &F,
+    path: &str,
+    explains: bool,
+    mut out: BufWriter<W>,
+    errors: &mut E,
+) -> (u8, W)
+    ensures { let inputs = text_alone (F.bytes files.now path.now) in
+        let old = writer_contents W.contents out in
+        IsRun (runs options.now) report_failed inputs explains old (W.contents result.1)
+        (E.contents errors.old) (E.contents errors.new) result.0 }
+{
+    let mut program = InputFile::source(alloc, files, path);
+    let done = run_program(alloc, threads, options, gate, &mut program, &mut out);
+    let (done, output) = flushed(done, out);
+    let status = end(&done, errors);
+    let program = Named {
+        name: path,
+        text: &program.bytes,
+    };
+    explain_on_program(alloc, explains, &done, program, errors);
+    (status, output)
+}
+
+/// Does a command on the program of a file and the input that another file has, and answers the
+/// exit status and the output.
+pub fn run_on_pair<C: PairCommand, F: Files, W: Write + Drop, E: Write>(
+    alloc: Global,
+    command: &C,
+    files: &F,
+    path: &str,
+    input_path: &str,
+    explains: bool,
+    mut out: BufWriter<W>,
+    errors: &mut E,
+) -> (u8, W)
+    ensures { let inputs = pair_of_files (C.limit command.now)
+        (F.bytes files.now path.now) (F.bytes files.now input_path.now) in
+        let old = writer_contents W.contents out in
+        IsRun (C.command command.now) report_failed inputs explains old (W.contents result.1)
+        (E.contents errors.old) (E.contents errors.new) result.0 }
+{
+    let mut program = InputFile::source(alloc, files, path);
+    let mut input = InputFile::source(alloc, files, input_path);
+    let done = do_on_pair(alloc, command, &mut program, &mut input, &mut out);
+    let (done, output) = flushed(done, out);
+    let status = end(&done, errors);
+    let program = Named {
+        name: path,
+        text: &program.bytes,
+    };
+    let input = Named {
+        name: input_path,
+        text: &input.bytes,
+    };
+    explain_on_pair(alloc, command, explains, &done, program, input, errors);
+    (status, output)
+}
+
+/// Drives the bundle of a reader, and answers the exit status and the output.
+pub fn run_on_bundle<R: Read + Drop, W: Write + Drop, E: Write>(
+    alloc: Global,
+    reader: R,
+    mut out: BufWriter<W>,
+    errors: &mut E,
+) -> (u8, W)
+    ensures { let inputs = bundle_alone (R.remaining reader) in
+        let old = writer_contents W.contents out in
+        IsRun bundles report_failed inputs false old (W.contents result.1)
+        (E.contents errors.old) (E.contents errors.new) result.0 }
+{
+    let mut bundle = Source::new(alloc, reader);
+    let done = drive_bundle(alloc, &mut bundle, &mut out);
+    let (done, output) = flushed(done, out);
+    (end(&done, errors), output)
+}

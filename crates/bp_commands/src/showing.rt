@@ -1,0 +1,76 @@
+//! The command `show`.
+ghost use Rattle.std.specs.Prelude.{MatchResult};
+ghost use Rattle.bp_code.specs.LawfulTexts.{IsCodeRefusal, IsLawfulText};
+ghost use Rattle.bp_code.specs.StandsFor.{StandsFor};
+
+use crate::commands::PairCommand;
+use crate::explanations::{Named, of_trace};
+use crate::faults::Fault;
+use bp_check::Checked;
+use bp_code::{Code, CodeFault, compile, lawful_program};
+use bp_machine::Report;
+use bp_text::put;
+use bp_trace::limits::MAX_TRACE;
+use bp_trace::replay;
+use bp_view::{ViewOptions, view};
+use std::alloc::Global;
+use std::io::Write;
+
+/// The lawful program of a text, and its code.
+fn program_of(alloc: Global, text: &[u8]) -> Result<(Checked, Code), CodeFault>
+    ensures { MatchResult result
+        (λ p. IsLawfulText text.now p.0 × StandsFor p.1 p.0)
+        (IsCodeRefusal text.now) }
+{
+    let checked = lawful_program(alloc, text)?;
+    let code = compile(alloc, &checked)?;
+    Ok((checked, code))
+}
+
+/// `show`: replays a trace of a program, and writes a view of its history, for people: the setup, a
+/// line for each call that is shown, and the outcome.
+#[derive(Clone, Copy)]
+pub struct Show {
+    /// Which calls are shown, and how.
+    pub options: ViewOptions,
+}
+
+impl PairCommand for Show {
+    ghost use Rattle.bp_trace.specs.declared.limits.TheConstants.{MAX_TRACE};
+    ghost use Rattle.bp_commands.specs.Traces.{shows};
+
+    ghost command = { λ s. shows s.options };
+
+    ghost limit = { λ _. MAX_TRACE };
+
+    fn limit(&self) -> usize {
+        MAX_TRACE
+    }
+
+    fn apply<W: Write>(
+        &self,
+        alloc: Global,
+        text: &[u8],
+        trace: &[u8],
+        out: &mut W,
+    ) -> Result<Report, Fault> {
+        let (checked, code) = program_of(alloc, text)?;
+        let replayed = replay(alloc, &code, trace)?;
+        let (setup, history) = (&replayed.setup, &replayed.history);
+        let Ok(shown) = view(alloc, text, &checked, &code, setup, history, self.options) else {
+            return Err(Fault::Memory);
+        };
+        put(out, &shown)?;
+        Ok(replayed.report)
+    }
+
+    fn explain(
+        &self,
+        alloc: Global,
+        fault: &Fault,
+        program: Named<'_>,
+        trace: Named<'_>,
+    ) -> Option<Vec<u8>> {
+        of_trace(alloc, fault, program, trace)
+    }
+}

@@ -1,0 +1,32 @@
+use Rattle.std.proofs.Common.{◌≡◌, ◌∙◌, ap, ap₂, sym, subst, length, map, string_bytes, option_map, None, MatchResult}
+use Rattle.bp_tree.specs.Ast.{Program}
+use Rattle.bp_code.specs.StandsFor.{StandsFor}
+use Rattle.bp_machine.specs.Setups.{SetupOf, initial_bits, setup_of, setup_fault, IsSetupRefusal}
+use Rattle.bp_machine.specs.Starts.{setup_from}
+use Rattle.bp_machine.proofs.ZerosNotGiven.{bits_given, bits_not_given}
+use Rattle.bp_machine.proofs.starts.Start.setup.Goals as goal
+use Rattle.bp_machine.proofs.starts.Start.setup.Goals.{in-Some, in-None}
+
+-- the bits that are handed on are those of the start
+bits_are : (c : goal.After-new) (t : Program) → StandsFor c.args.code.now t → c.match-self.init.now ≡ initial_bits c.args.self.now.init (length t.globals)
+bits_are c t stands =
+    let few = c.has_few_globals.ensures in
+    let view = ap (λ s. initial_bits s.init (length t.globals)) c.self.view_is in
+    elim c.match-self.branch [
+      | in-Some w ↦ bits_given (λ v. v.items) c.self.inside.init _ (length t.globals) w.in-Some.bits w.in-Some.is (ap (λ b. b.now) w.init-is ∙ w.as_slice-init.ensures.value) ∙ view
+      | in-None w ↦ bits_not_given (λ v. v.items) c.self.inside.init _ (length t.globals) w.globals.result w.in-None.is (ap (λ b. b.now) w.init-is) (rw w.globals.ensures few) (w.globals.ensures ∙ stands.globals) ∙ view
+    ]
+
+setup_is : (c : goal.After-new) (t : Program) → StandsFor c.args.code.now t
+    → setup_of (map string_bytes c.deref.result.now) c.match-self.init.now c.self.inside.contexts c.self.inside.calls c.args.seed ≡ setup_from c.args.self.now c.args.seed t
+setup_is c t stands =
+    let entries = ap (map string_bytes) c.deref.ensures.value ∙ ap (λ s. s.entries) c.self.view_is in
+    let contexts = ap (λ s. s.contexts) c.self.view_is in
+    let calls = ap (λ s. s.calls) c.self.view_is in
+    ap₂ (λ es bits. setup_of es bits c.self.inside.contexts c.self.inside.calls c.args.seed) entries (bits_are c t stands)
+    ∙ ap₂ (λ k n. setup_of c.args.self.now.entries (initial_bits c.args.self.now.init (length t.globals)) k n c.args.seed) contexts calls
+
+pub returns-clause-answer : goal.returns-clause-answer
+returns-clause-answer c = λ t stands.
+    subst (λ s. MatchResult c.new.result (λ x. (x ≡ s) × (setup_fault t s ≡ None)) (IsSetupRefusal t s))
+    (setup_is c t stands) (c.new.ensures.answer t stands)

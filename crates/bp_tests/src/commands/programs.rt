@@ -1,0 +1,53 @@
+//! Commands on a program.
+use super::{LISTING, RECURSIVE, Said, said, said_of_program};
+use bp_commands::{Check, Code, ProgramCommand, Source, do_on_program};
+use std::alloc::Global;
+use std::test::Fail;
+
+/// Whether a command says this of a text, and writes these lines.
+fn does<C: ProgramCommand>(
+    alloc: Global,
+    command: &C,
+    text: &[u8],
+    said: Said,
+    lines: &[u8],
+) -> bool {
+    let mut out = Vec::new(alloc);
+    said_of_program(alloc, command, text, &mut out) == said && out.as_slice() == lines
+}
+
+#[test]
+fn checks_texts(rt: HostRuntime) {
+    let alloc = rt.alloc();
+    assert!(rt; does(alloc, &Check, RECURSIVE, None, b"ok 2 1\n"));
+    assert!(rt; does(alloc, &Check, b"main() begin end", Some((6, Some(13))), b""));
+}
+
+#[test]
+fn lists_texts(rt: HostRuntime) {
+    let alloc = rt.alloc();
+    assert!(rt; does(alloc, &Code, RECURSIVE, None, LISTING));
+    assert!(rt;
+        does(
+            alloc,
+            &Code,
+            b"main() begin x := 2; end",
+            Some((2, Some(18))),
+            b""
+        )
+    );
+}
+
+/// How much is left of a text of so many spaces, once it is refused as too long.
+fn left_of(alloc: Global, count: usize) -> Result<Option<usize>, Fail> {
+    let text = vec![in alloc; b' '; count]?;
+    let mut program = Source::new(alloc, text.as_slice());
+    let done = do_on_program(alloc, &Check, &mut program, &mut Vec::new(alloc));
+    Ok((said(&done) == Some((1, None))).then_some(program.reader.len()))
+}
+
+#[test]
+fn reads_no_further_than_the_limit(rt: HostRuntime) -> Result<(), Fail> {
+    assert!(rt; left_of(rt.alloc(), 65_547)? == Some(10));
+    Ok(())
+}

@@ -1,0 +1,33 @@
+-- What a match on an argument's value says of the rows of a parse.
+use Rattle.std.proofs.Common.{◌≡◌, ap, refl, false, not, codes, map, option_map, unwrap_or, Bool, List, [], ◌∷◌, Bor, Option, Some, None}
+use Rattle.std.specs.Option.{option_map_or}
+use Rattle.clap.specs.Walk.{Text}
+use Rattle.bp_words.specs.Values.{is_bits, bits_in}
+
+read_or : (given : Option (Bor Text)) (first : Option Text) (r d : Bor Text) → option_map (λ s. s.now) given ≡ first → r ≡ unwrap_or given d → d.now ≡ [] → r.now ≡ unwrap_or first []
+read_or None first r d same is empty = rw (is, ← same) empty
+read_or (Some p) first r d same is empty = rw (is, ← same) refl
+
+module _ (given : Option (Bor Text)) (first : Option Text) (same : option_map (λ s. s.now) given ≡ first) where
+  pub bits_bad : (text : Bor Text) (r : Bool) → given ≡ Some text → r ≡ is_bits text.now → not r ≡ option_map_or (λ t. not (is_bits t)) first false
+  bits_bad text r is value = rw (← same, is) (ap not value)
+
+  pub bits_fine : given ≡ None → false ≡ option_map_or (λ t. not (is_bits t)) first false
+  bits_fine is = rw (← same, is) refl
+
+  pub bits_read : (text : Bor Text) (bits : List Bool) → given ≡ Some text → bits ≡ bits_in text.now → Some bits ≡ option_map bits_in first
+  bits_read text bits is value = rw (← same, is) (ap Some value)
+
+  pub no_bits_read : given ≡ None → None ≡ option_map bits_in first
+  no_bits_read is = rw (← same, is) refl
+
+  -- the value that was given, or the empty one in its place
+  pub value_read : (r d : Bor Text) → r ≡ unwrap_or given d → d.now ≡ [] → r.now ≡ unwrap_or first []
+  value_read r d is empty = read_or given first r d same is empty
+
+module _ (given : Option (Bor (List (Bor Text)))) (all : Option (List Text)) (same : option_map (λ s. map (λ v. v.now) s.now) given ≡ all) where
+  pub names_read : (names : Bor (List (Bor Text))) → given ≡ Some names → map (λ v. v.now) names.now ≡ unwrap_or all (codes "main" ∷ [])
+  names_read names is = rw (← same, is) refl
+
+  pub no_names_read : given ≡ None → (codes "main" ∷ []) ≡ unwrap_or all (codes "main" ∷ [])
+  no_names_read is = rw (← same, is) refl

@@ -1,0 +1,365 @@
+-- What plain words ask for: they have no fault, and name the command and its files.
+use Rattle.std.proofs.Common.{arith, get_or, refl, sym, subst, ap, ap₂, codes, not, rules, inl, inr, Bool, true, false, List, Option, Some, None, [], ◌∷◌, ◌≡◌, ◌==◌, ◌∙◌}
+use Rattle.std.specs.Str.{bytes_eq}
+use Rattle.clap.specs.Kinds.{or_else}
+use Rattle.clap.specs.Lexer.{long_of, short_of}
+use Rattle.clap.specs.Words.{HasKind, Kinds, Row, Text, fault_of, kind_of, subcommand_of}
+use Rattle.clap.specs.declared.builder.value_parser.Reading.TheVariants.{AsWritten}
+use Rattle.clap.specs.declared.parser.matches.ValueSource.TheVariants.{CommandLine, DefaultValue}
+use Rattle.clap.specs.declared.error.Error.{Error}
+use Rattle.clap.specs.declared.error.kind.ErrorKind.TheVariants.{OutOfMemory}
+use Rattle.clap.proofs.OnLiterals.{clap_on_literals}
+use Rattle.bp_machine.specs.Starts.{StartOf, default_start, start_with}
+use Rattle.bp_machine.specs.declared.limits.TheConstants.{DEFAULT_CONTEXTS, DEFAULT_CALLS}
+use Rattle.bp_run.specs.Options.{OptionsOf, default_options, options_of}
+use Rattle.bp_run.specs.declared.limits.TheConstants.{DEFAULT_TURN, DEFAULT_SEED, DEFAULT_RING}
+use Rattle.bp_words.specs.Commands.{btrun_app, is_plain, words_fault, IsCheckOf, IsCodeOf, IsMigrateOf, IsPlainDriveOf, IsPlainRunOf, IsPlainShowOf, IsReplayOf, IsTaskOf}
+use Rattle.bp_words.specs.Values.{init_fault}
+use Rattle.bp_words.specs.declared.commands.Task.{Task}
+use Rattle.bp_words.specs.declared.commands.Task.TheVariants.{Bundle, Check, Code, Drive, Run, Replay, Show, Migrate}
+
+-- words that `clap` takes have no fault where the command's initial bits have none
+no_fault : (words : List Text) (command : Option (Text × List Row)) → fault_of btrun_app words ≡ [] → subcommand_of btrun_app words ≡ command → init_fault command ≡ [] → words_fault words ≡ []
+no_fault words command clean named fine = ap₂ (λ f c. or_else f (init_fault c)) clean named ∙ fine
+
+none_clean : (program : Text) → fault_of btrun_app (program ∷ []) ≡ []
+unfolding clap_on_literals
+none_clean program = refl
+
+none_named : (program : Text) → subcommand_of btrun_app (program ∷ []) ≡ None
+unfolding clap_on_literals
+none_named program = refl
+
+pub none_faulty : (program : Text) → words_fault (program ∷ []) ≡ []
+none_faulty program = no_fault (program ∷ []) None (none_clean program) (none_named program) refl
+
+not_dash : (b : Bool) → not b ≡ true → b ≡ false
+not_dash false plain = refl
+not_dash true plain = search rules
+
+ends_nothing : (file : Text) → is_plain file ≡ true → bytes_eq file (45 ∷ 45 ∷ []) ≡ false
+ends_nothing [] plain = refl
+ends_nothing (b ∷ bs) plain = rw (not_dash (b == 45) plain) refl
+
+is_not_long : (file : Text) → is_plain file ≡ true → long_of file ≡ None
+is_not_long [] plain = refl
+is_not_long (b ∷ bs) plain = rw (not_dash (b == 45) plain) refl
+
+is_not_short : (file : Text) → is_plain file ≡ true → short_of file ≡ None
+is_not_short [] plain = refl
+is_not_short (b ∷ bs) plain = rw (not_dash (b == 45) plain) refl
+
+check≢code : codes "check" ≡ codes "code" → ⊥
+check≢code same = cc
+
+check≢drive : codes "check" ≡ codes "drive" → ⊥
+check≢drive same = let heads = ap (λ t. get_or t 0 0) same in absurd (omega (arith, heads))
+
+code≢drive : codes "code" ≡ codes "drive" → ⊥
+code≢drive same = let heads = ap (λ t. get_or t 0 0) same in absurd (omega (arith, heads))
+
+check≢replay : codes "check" ≡ codes "replay" → ⊥
+check≢replay same = let heads = ap (λ t. get_or t 0 0) same in absurd (omega (arith, heads))
+
+check≢migrate : codes "check" ≡ codes "migrate" → ⊥
+check≢migrate same = let heads = ap (λ t. get_or t 0 0) same in absurd (omega (arith, heads))
+
+code≢replay : codes "code" ≡ codes "replay" → ⊥
+code≢replay same = let heads = ap (λ t. get_or t 0 0) same in absurd (omega (arith, heads))
+
+code≢migrate : codes "code" ≡ codes "migrate" → ⊥
+code≢migrate same = let heads = ap (λ t. get_or t 0 0) same in absurd (omega (arith, heads))
+
+drive≢replay : codes "drive" ≡ codes "replay" → ⊥
+drive≢replay same = let heads = ap (λ t. get_or t 0 0) same in absurd (omega (arith, heads))
+
+drive≢migrate : codes "drive" ≡ codes "migrate" → ⊥
+drive≢migrate same = let heads = ap (λ t. get_or t 0 0) same in absurd (omega (arith, heads))
+
+replay≢migrate : codes "replay" ≡ codes "migrate" → ⊥
+replay≢migrate same = let heads = ap (λ t. get_or t 0 0) same in absurd (omega (arith, heads))
+
+check≢run : codes "check" ≡ codes "run" → ⊥
+check≢run same = let heads = ap (λ t. get_or t 0 0) same in absurd (omega (arith, heads))
+
+code≢run : codes "code" ≡ codes "run" → ⊥
+code≢run same = let heads = ap (λ t. get_or t 0 0) same in absurd (omega (arith, heads))
+
+drive≢run : codes "drive" ≡ codes "run" → ⊥
+drive≢run same = let heads = ap (λ t. get_or t 0 0) same in absurd (omega (arith, heads))
+
+run≢replay : codes "run" ≡ codes "replay" → ⊥
+run≢replay same = let heads = ap (λ t. get_or t 1 0) same in absurd (omega (arith, heads))
+
+run≢migrate : codes "run" ≡ codes "migrate" → ⊥
+run≢migrate same = let heads = ap (λ t. get_or t 0 0) same in absurd (omega (arith, heads))
+
+check≢show : codes "check" ≡ codes "show" → ⊥
+check≢show same = let heads = ap (λ t. get_or t 0 0) same in absurd (omega (arith, heads))
+
+code≢show : codes "code" ≡ codes "show" → ⊥
+code≢show same = let heads = ap (λ t. get_or t 0 0) same in absurd (omega (arith, heads))
+
+drive≢show : codes "drive" ≡ codes "show" → ⊥
+drive≢show same = let heads = ap (λ t. get_or t 0 0) same in absurd (omega (arith, heads))
+
+run≢show : codes "run" ≡ codes "show" → ⊥
+run≢show same = let heads = ap (λ t. get_or t 0 0) same in absurd (omega (arith, heads))
+
+replay≢show : codes "replay" ≡ codes "show" → ⊥
+replay≢show same = let heads = ap (λ t. get_or t 0 0) same in absurd (omega (arith, heads))
+
+show≢migrate : codes "show" ≡ codes "migrate" → ⊥
+show≢migrate same = let heads = ap (λ t. get_or t 0 0) same in absurd (omega (arith, heads))
+
+-- the row of an argument that has one value
+abbrev given : Text → Text → Row
+given id text = record { id = id; values = text ∷ []; count = None; source = Some CommandLine; reading = AsWritten }
+
+-- what stands for a flag that is not given
+abbrev down : Text → Row
+down id = record { id = id; values = codes "false" ∷ []; count = None; source = Some DefaultValue; reading = AsWritten }
+
+abbrev file_row : Text → List Row
+file_row file = given (codes "FILE") file ∷ down (codes "explain") ∷ []
+
+abbrev IsWord : Text → Type 0
+IsWord file = (bytes_eq file (45 ∷ 45 ∷ []) ≡ false) × (long_of file ≡ None) × (short_of file ≡ None)
+
+is_word : (file : Text) → is_plain file ≡ true → IsWord file
+is_word file plain = (ends_nothing file plain, is_not_long file plain, is_not_short file plain)
+
+abbrev check_words : Text → Text → List Text
+check_words program file = program ∷ codes "check" ∷ file ∷ []
+
+check_named : (program file : Text) → IsWord file → subcommand_of btrun_app (check_words program file) ≡ Some (codes "check", file_row file)
+unfolding clap_on_literals
+check_named program file (no_end, no_long, no_short) = rw (no_end, no_long, no_short) refl
+
+check_clean : (program file : Text) → IsWord file → fault_of btrun_app (check_words program file) ≡ []
+unfolding clap_on_literals
+check_clean program file (no_end, no_long, no_short) = rw (no_end, no_long, no_short) refl
+
+pub check_faulty : (program file : Text) → is_plain file ≡ true → words_fault (check_words program file) ≡ []
+check_faulty program file plain =
+    let word = is_word file plain in
+    no_fault (check_words program file) (Some (codes "check", file_row file)) (check_clean program file word) (check_named program file word) refl
+
+check_of : (file : Text) (task : Task) → IsTaskOf (Some (codes "check", file_row file)) task → IsCheckOf file task
+check_of file Bundle asks = absurd asks
+check_of file (Check words) (named, of) = (of.program, of.explain.1 refl)
+check_of file (Code words) asks = absurd (check≢code asks.0)
+check_of file (Drive words) asks = absurd (check≢drive asks.0)
+check_of file (Run words) asks = absurd (check≢run asks.0)
+check_of file (Replay words) asks = absurd (check≢replay asks.0)
+check_of file (Show words) asks = absurd (check≢show asks.0)
+check_of file (Migrate words) asks = absurd (check≢migrate asks.0)
+
+pub check_asked : (program file : Text) (task : Task) → is_plain file ≡ true → IsTaskOf (subcommand_of btrun_app (check_words program file)) task → IsCheckOf file task
+check_asked program file task plain asks = check_of file task (subst (λ c. IsTaskOf c task) (check_named program file (is_word file plain)) asks)
+
+abbrev code_words : Text → Text → List Text
+code_words program file = program ∷ codes "code" ∷ file ∷ []
+
+code_named : (program file : Text) → IsWord file → subcommand_of btrun_app (code_words program file) ≡ Some (codes "code", file_row file)
+unfolding clap_on_literals
+code_named program file (no_end, no_long, no_short) = rw (no_end, no_long, no_short) refl
+
+code_clean : (program file : Text) → IsWord file → fault_of btrun_app (code_words program file) ≡ []
+unfolding clap_on_literals
+code_clean program file (no_end, no_long, no_short) = rw (no_end, no_long, no_short) refl
+
+pub code_faulty : (program file : Text) → is_plain file ≡ true → words_fault (code_words program file) ≡ []
+code_faulty program file plain =
+    let word = is_word file plain in
+    no_fault (code_words program file) (Some (codes "code", file_row file)) (code_clean program file word) (code_named program file word) refl
+
+code_of : (file : Text) (task : Task) → IsTaskOf (Some (codes "code", file_row file)) task → IsCodeOf file task
+code_of file Bundle asks = absurd asks
+code_of file (Code words) (named, of) = (of.program, of.explain.1 refl)
+code_of file (Check words) asks = absurd (check≢code (sym asks.0))
+code_of file (Drive words) asks = absurd (code≢drive asks.0)
+code_of file (Run words) asks = absurd (code≢run asks.0)
+code_of file (Replay words) asks = absurd (code≢replay asks.0)
+code_of file (Show words) asks = absurd (code≢show asks.0)
+code_of file (Migrate words) asks = absurd (code≢migrate asks.0)
+
+pub code_asked : (program file : Text) (task : Task) → is_plain file ≡ true → IsTaskOf (subcommand_of btrun_app (code_words program file)) task → IsCodeOf file task
+code_asked program file task plain asks = code_of file task (subst (λ c. IsTaskOf c task) (code_named program file (is_word file plain)) asks)
+
+abbrev drive_words : Text → Text → Text → List Text
+drive_words program file schedule = program ∷ codes "drive" ∷ file ∷ schedule ∷ []
+
+abbrev both_rows : Text → Text → List Row
+both_rows file schedule = given (codes "FILE") file ∷ given (codes "SCHEDULE") schedule ∷ down (codes "explain") ∷ []
+
+drive_named : (program file schedule : Text) → IsWord file → IsWord schedule → subcommand_of btrun_app (drive_words program file schedule) ≡ Some (codes "drive", both_rows file schedule)
+unfolding clap_on_literals
+drive_named program file schedule (no_end, no_long, no_short) (none_ends, none_long, none_short) = rw (no_end, no_long, no_short, none_ends, none_long, none_short) refl
+
+drive_clean : (program file schedule : Text) → IsWord file → IsWord schedule → fault_of btrun_app (drive_words program file schedule) ≡ []
+unfolding clap_on_literals
+drive_clean program file schedule (no_end, no_long, no_short) (none_ends, none_long, none_short) = rw (no_end, no_long, no_short, none_ends, none_long, none_short) refl
+
+pub drive_faulty : (program file schedule : Text) → is_plain file ≡ true → is_plain schedule ≡ true → words_fault (drive_words program file schedule) ≡ []
+drive_faulty program file schedule plain even =
+    let word = is_word file plain in
+    let other = is_word schedule even in
+    no_fault (drive_words program file schedule) (Some (codes "drive", both_rows file schedule)) (drive_clean program file schedule word other) (drive_named program file schedule word other) refl
+
+start_is : (o : StartOf) → o.entries ≡ codes "main" ∷ [] → o.init ≡ None → o.contexts ≡ DEFAULT_CONTEXTS → o.calls ≡ DEFAULT_CALLS → o ≡ default_start
+start_is o entries init contexts calls =
+    ap₂ (λ e i. start_with e i o.contexts o.calls) entries init ∙ ap₂ (λ k n. start_with (codes "main" ∷ []) None k n) contexts calls
+
+drive_of : (file schedule : Text) (task : Task) → IsTaskOf (Some (codes "drive", both_rows file schedule)) task → IsPlainDriveOf file schedule task
+drive_of file schedule Bundle asks = absurd asks
+drive_of file schedule (Check words) asks = absurd (check≢drive (sym asks.0))
+drive_of file schedule (Code words) asks = absurd (code≢drive (sym asks.0))
+drive_of file schedule (Drive words) (named, of) = (of.program, of.schedule, of.explain.1 refl, start_is words.start of.entries of.init of.contexts of.calls)
+drive_of file schedule (Run words) asks = absurd (drive≢run asks.0)
+drive_of file schedule (Replay words) asks = absurd (drive≢replay asks.0)
+drive_of file schedule (Show words) asks = absurd (drive≢show asks.0)
+drive_of file schedule (Migrate words) asks = absurd (drive≢migrate asks.0)
+
+pub drive_asked : (program file schedule : Text) (task : Task) → is_plain file ≡ true → is_plain schedule ≡ true → IsTaskOf (subcommand_of btrun_app (drive_words program file schedule)) task → IsPlainDriveOf file schedule task
+drive_asked program file schedule task plain even asks =
+    drive_of file schedule task (subst (λ c. IsTaskOf c task) (drive_named program file schedule (is_word file plain) (is_word schedule even)) asks)
+
+abbrev run_words : Text → Text → List Text
+run_words program file = program ∷ codes "run" ∷ file ∷ []
+
+abbrev run_rows : Text → List Row
+run_rows file = given (codes "FILE") file ∷ down (codes "explain") ∷ down (codes "spread") ∷ []
+
+run_named : (program file : Text) → IsWord file → subcommand_of btrun_app (run_words program file) ≡ Some (codes "run", run_rows file)
+unfolding clap_on_literals
+run_named program file (no_end, no_long, no_short) = rw (no_end, no_long, no_short) refl
+
+run_clean : (program file : Text) → IsWord file → fault_of btrun_app (run_words program file) ≡ []
+unfolding clap_on_literals
+run_clean program file (no_end, no_long, no_short) = rw (no_end, no_long, no_short) refl
+
+pub run_faulty : (program file : Text) → is_plain file ≡ true → words_fault (run_words program file) ≡ []
+run_faulty program file plain =
+    let word = is_word file plain in
+    no_fault (run_words program file) (Some (codes "run", run_rows file)) (run_clean program file word) (run_named program file word) refl
+
+options_are : (o : OptionsOf) → o.start ≡ default_start → o.turn ≡ DEFAULT_TURN → o.seed ≡ DEFAULT_SEED → o.ring ≡ DEFAULT_RING → o ≡ default_options
+options_are o start turn seed ring =
+    ap₂ (λ s n. options_of s n o.seed o.ring) start turn
+    ∙ ap₂ (λ x r. options_of default_start DEFAULT_TURN x r) seed ring
+
+run_of : (file : Text) (task : Task) → IsTaskOf (Some (codes "run", run_rows file)) task → IsPlainRunOf file task
+run_of file Bundle asks = absurd asks
+run_of file (Check words) asks = absurd (check≢run (sym asks.0))
+run_of file (Code words) asks = absurd (code≢run (sym asks.0))
+run_of file (Drive words) asks = absurd (drive≢run (sym asks.0))
+run_of file (Run words) (named, of) = (of.program, of.spread.1 refl, of.explain.1 refl, options_are words.options (start_is words.options.start of.entries of.init of.contexts of.calls) of.turn of.seed of.ring)
+run_of file (Replay words) asks = absurd (run≢replay asks.0)
+run_of file (Show words) asks = absurd (run≢show asks.0)
+run_of file (Migrate words) asks = absurd (run≢migrate asks.0)
+
+pub run_asked : (program file : Text) (task : Task) → is_plain file ≡ true → IsTaskOf (subcommand_of btrun_app (run_words program file)) task → IsPlainRunOf file task
+run_asked program file task plain asks = run_of file task (subst (λ c. IsTaskOf c task) (run_named program file (is_word file plain)) asks)
+
+abbrev trace_rows : Text → Text → List Row
+trace_rows file trace = given (codes "FILE") file ∷ given (codes "TRACE") trace ∷ down (codes "explain") ∷ []
+
+abbrev replay_words : Text → Text → Text → List Text
+replay_words program file trace = program ∷ codes "replay" ∷ file ∷ trace ∷ []
+
+replay_named : (program file trace : Text) → IsWord file → IsWord trace → subcommand_of btrun_app (replay_words program file trace) ≡ Some (codes "replay", trace_rows file trace)
+unfolding clap_on_literals
+replay_named program file trace (no_end, no_long, no_short) (none_ends, none_long, none_short) = rw (no_end, no_long, no_short, none_ends, none_long, none_short) refl
+
+replay_clean : (program file trace : Text) → IsWord file → IsWord trace → fault_of btrun_app (replay_words program file trace) ≡ []
+unfolding clap_on_literals
+replay_clean program file trace (no_end, no_long, no_short) (none_ends, none_long, none_short) = rw (no_end, no_long, no_short, none_ends, none_long, none_short) refl
+
+pub replay_faulty : (program file trace : Text) → is_plain file ≡ true → is_plain trace ≡ true → words_fault (replay_words program file trace) ≡ []
+replay_faulty program file trace plain even =
+    let word = is_word file plain in
+    let other = is_word trace even in
+    no_fault (replay_words program file trace) (Some (codes "replay", trace_rows file trace)) (replay_clean program file trace word other) (replay_named program file trace word other) refl
+
+replay_of : (file trace : Text) (task : Task) → IsTaskOf (Some (codes "replay", trace_rows file trace)) task → IsReplayOf file trace task
+replay_of file trace Bundle asks = absurd asks
+replay_of file trace (Check words) asks = absurd (check≢replay (sym asks.0))
+replay_of file trace (Code words) asks = absurd (code≢replay (sym asks.0))
+replay_of file trace (Drive words) asks = absurd (drive≢replay (sym asks.0))
+replay_of file trace (Run words) asks = absurd (run≢replay (sym asks.0))
+replay_of file trace (Replay words) (named, of) = (of.program, of.trace, of.explain.1 refl)
+replay_of file trace (Show words) asks = absurd (replay≢show asks.0)
+replay_of file trace (Migrate words) asks = absurd (replay≢migrate asks.0)
+
+pub replay_asked : (program file trace : Text) (task : Task) → is_plain file ≡ true → is_plain trace ≡ true → IsTaskOf (subcommand_of btrun_app (replay_words program file trace)) task → IsReplayOf file trace task
+replay_asked program file trace task plain even asks =
+    replay_of file trace task (subst (λ c. IsTaskOf c task) (replay_named program file trace (is_word file plain) (is_word trace even)) asks)
+
+abbrev show_words : Text → Text → Text → List Text
+show_words program file trace = program ∷ codes "show" ∷ file ∷ trace ∷ []
+
+show_named : (program file trace : Text) → IsWord file → IsWord trace → subcommand_of btrun_app (show_words program file trace) ≡ Some (codes "show", trace_rows file trace)
+unfolding clap_on_literals
+show_named program file trace (no_end, no_long, no_short) (none_ends, none_long, none_short) = rw (no_end, no_long, no_short, none_ends, none_long, none_short) refl
+
+show_clean : (program file trace : Text) → IsWord file → IsWord trace → fault_of btrun_app (show_words program file trace) ≡ []
+unfolding clap_on_literals
+show_clean program file trace (no_end, no_long, no_short) (none_ends, none_long, none_short) = rw (no_end, no_long, no_short, none_ends, none_long, none_short) refl
+
+pub show_faulty : (program file trace : Text) → is_plain file ≡ true → is_plain trace ≡ true → words_fault (show_words program file trace) ≡ []
+show_faulty program file trace plain even =
+    let word = is_word file plain in
+    let other = is_word trace even in
+    no_fault (show_words program file trace) (Some (codes "show", trace_rows file trace)) (show_clean program file trace word other) (show_named program file trace word other) refl
+
+show_of : (file trace : Text) (task : Task) → IsTaskOf (Some (codes "show", trace_rows file trace)) task → IsPlainShowOf file trace task
+show_of file trace Bundle asks = absurd asks
+show_of file trace (Check words) asks = absurd (check≢show (sym asks.0))
+show_of file trace (Code words) asks = absurd (code≢show (sym asks.0))
+show_of file trace (Drive words) asks = absurd (drive≢show (sym asks.0))
+show_of file trace (Run words) asks = absurd (run≢show (sym asks.0))
+show_of file trace (Replay words) asks = absurd (replay≢show (sym asks.0))
+show_of file trace (Show words) (named, of) = (of.program, of.trace, of.thread, of.last, of.explain.1 refl)
+show_of file trace (Migrate words) asks = absurd (show≢migrate asks.0)
+
+pub show_asked : (program file trace : Text) (task : Task) → is_plain file ≡ true → is_plain trace ≡ true → IsTaskOf (subcommand_of btrun_app (show_words program file trace)) task → IsPlainShowOf file trace task
+show_asked program file trace task plain even asks =
+    show_of file trace task (subst (λ c. IsTaskOf c task) (show_named program file trace (is_word file plain) (is_word trace even)) asks)
+
+abbrev migrate_words : Text → Text → Text → List Text
+migrate_words program file trace = program ∷ codes "migrate" ∷ file ∷ trace ∷ []
+
+migrate_named : (program file trace : Text) → IsWord file → IsWord trace → subcommand_of btrun_app (migrate_words program file trace) ≡ Some (codes "migrate", trace_rows file trace)
+unfolding clap_on_literals
+migrate_named program file trace (no_end, no_long, no_short) (none_ends, none_long, none_short) = rw (no_end, no_long, no_short, none_ends, none_long, none_short) refl
+
+migrate_clean : (program file trace : Text) → IsWord file → IsWord trace → fault_of btrun_app (migrate_words program file trace) ≡ []
+unfolding clap_on_literals
+migrate_clean program file trace (no_end, no_long, no_short) (none_ends, none_long, none_short) = rw (no_end, no_long, no_short, none_ends, none_long, none_short) refl
+
+pub migrate_faulty : (program file trace : Text) → is_plain file ≡ true → is_plain trace ≡ true → words_fault (migrate_words program file trace) ≡ []
+migrate_faulty program file trace plain even =
+    let word = is_word file plain in
+    let other = is_word trace even in
+    no_fault (migrate_words program file trace) (Some (codes "migrate", trace_rows file trace)) (migrate_clean program file trace word other) (migrate_named program file trace word other) refl
+
+migrate_of : (file trace : Text) (task : Task) → IsTaskOf (Some (codes "migrate", trace_rows file trace)) task → IsMigrateOf file trace task
+migrate_of file trace Bundle asks = absurd asks
+migrate_of file trace (Check words) asks = absurd (check≢migrate (sym asks.0))
+migrate_of file trace (Code words) asks = absurd (code≢migrate (sym asks.0))
+migrate_of file trace (Drive words) asks = absurd (drive≢migrate (sym asks.0))
+migrate_of file trace (Run words) asks = absurd (run≢migrate (sym asks.0))
+migrate_of file trace (Show words) asks = absurd (show≢migrate (sym asks.0))
+migrate_of file trace (Migrate words) (named, of) = (of.program, of.trace, of.explain.1 refl)
+migrate_of file trace (Replay words) asks = absurd (replay≢migrate (sym asks.0))
+
+pub migrate_asked : (program file trace : Text) (task : Task) → is_plain file ≡ true → is_plain trace ≡ true → IsTaskOf (subcommand_of btrun_app (migrate_words program file trace)) task → IsMigrateOf file trace task
+migrate_asked program file trace task plain even asks =
+    migrate_of file trace task (subst (λ c. IsTaskOf c task) (migrate_named program file trace (is_word file plain) (is_word trace even)) asks)
+
+-- where there is no fault, only memory was refused
+pub only_memory : (kinds : Kinds) (e : Error) → kinds ≡ [] → HasKind kinds e → kind_of e ≡ OutOfMemory
+only_memory [] e none (inl memory) = memory
+only_memory [] e none (inr other) = absurd other
+only_memory (k ∷ ks) e none kind = search rules

@@ -1,0 +1,56 @@
+-- Which kind of fault refuses words, from what a parse of them answers.
+use Rattle.std.proofs.Common.{◌≡◌, ◌∙◌, if◌then◌else◌, ap, ap₂, refl, sym, subst, inl, inr, true, false, List, Option, [], ◌∷◌}
+use Rattle.clap.specs.Kinds.{HasKind, Kinds, or_else}
+use Rattle.clap.specs.Simple.{HasMatchesOf, app_of, is_simple, subcommand_of, subcommand_rows_of}
+use Rattle.clap.specs.Faults.{fault_of, is_simple_and_free}
+use Rattle.clap.specs.Walk.{Row, Text}
+use Rattle.clap.specs.Values.{kind_of}
+use Rattle.clap.specs.declared.builder.command.Command.{Command}
+use Rattle.clap.specs.declared.error.Error.{Error}
+use Rattle.clap.specs.declared.error.kind.ErrorKind.TheVariants.{InvalidValue, OutOfMemory}
+use Rattle.clap.specs.declared.parser.matches.ArgMatches.{ArgMatches}
+use Rattle.bp_words.specs.Commands.{btrun_app, words_fault}
+use Rattle.bp_words.specs.Values.{has_bad_init}
+use Rattle.bp_words.proofs.PlainWords.{only_memory}
+
+is_exact : is_simple_and_free btrun_app ≡ true
+is_exact = refl
+
+either_kind : (first next : Kinds) (e : Error) → HasKind first e → HasKind (or_else first next) e
+either_kind [] next e (inl memory) = inl memory
+either_kind [] next e (inr other) = absurd other
+either_kind (k ∷ ks) next e kind = kind
+
+module _ (command : Command) (words : List Text) (is : app_of command ≡ btrun_app) where
+  pub cleared : (is_simple_and_free (app_of command) ≡ true → fault_of (app_of command) words ≡ []) → fault_of btrun_app words ≡ []
+  cleared kinds = subst (λ a. fault_of a words ≡ []) is (kinds (ap is_simple_and_free is ∙ is_exact))
+
+  pub named : (m : ArgMatches) → HasMatchesOf (app_of command) words m → subcommand_rows_of m ≡ subcommand_of btrun_app words
+  named m matches = (matches (ap is_simple is ∙ refl)).1 ∙ ap (λ a. subcommand_of a words) is
+
+  pub refused : (e : Error) → (is_simple_and_free (app_of command) ≡ true → HasKind (fault_of (app_of command) words) e) → HasKind (words_fault words) e
+  refused e kinds =
+      either_kind (fault_of btrun_app words) _ e (subst (λ a. HasKind (fault_of a words) e) is (kinds (ap is_simple_and_free is ∙ is_exact)))
+
+  -- words without a fault are refused for want of memory alone
+  pub refused_for_memory : (e : Error) → (is_simple_and_free (app_of command) ≡ true → HasKind (fault_of (app_of command) words) e) → words_fault words ≡ [] → kind_of e ≡ OutOfMemory
+  refused_for_memory e kinds none = only_memory (words_fault words) e none (refused e kinds)
+
+module _ (words : List Text) (command : Option (Text × List Row)) (clean : fault_of btrun_app words ≡ []) (is : command ≡ subcommand_of btrun_app words) where
+  pub faulty : words_fault words ≡ (if has_bad_init command then InvalidValue ∷ [] else [])
+  faulty = ap₂ (λ f c. or_else f (if has_bad_init c then InvalidValue ∷ [] else [])) clean (sym is)
+
+  pub bad_refused : (e : Error) → has_bad_init command ≡ true → kind_of e ≡ InvalidValue → HasKind (words_fault words) e
+  bad_refused e bad kind = subst (λ kinds. HasKind kinds e) (sym (faulty ∙ ap (λ b. if b then InvalidValue ∷ [] else []) bad)) (inr (inl kind))
+
+  pub fine_faulty : has_bad_init command ≡ false → words_fault words ≡ []
+  fine_faulty fine = faulty ∙ ap (λ b. if b then InvalidValue ∷ [] else []) fine
+
+  -- words that have no fault have no bad bits
+  pub not_bad : has_bad_init command ≡ true → words_fault words ≡ [] → ⊥
+  not_bad bad none =
+      let some : InvalidValue ∷ [] ≡ [] = sym (faulty ∙ ap (λ b. if b then InvalidValue ∷ [] else []) bad) ∙ none in
+      no_kind some
+    where
+      no_kind : InvalidValue ∷ [] ≡ [] → ⊥
+      no_kind same = cc

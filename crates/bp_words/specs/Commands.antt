@@ -1,0 +1,225 @@
+-- What the words of the command line ask for. How words are told apart as commands, options and
+-- values is said by the rules of `clap`.
+use Rattle.std.specs.Prelude.{◌≡◌, ◌⊎◌, ◌==◌, Bool, true, false, not, List, [], ◌∷◌, Option, Some, None, codes, pos}
+use Rattle.clap.specs.Faults.{fault_of}
+use Rattle.clap.specs.Kinds.{Kinds, or_else}
+use Rattle.clap.specs.Lexer.{usize_max}
+use Rattle.clap.specs.Walk.{Row, Rule, Text}
+use Rattle.clap.specs.Simple.{App, new_app, new_rule, on_top, subcommand_of, with_rule, with_subcommand}
+use Rattle.clap.specs.declared.builder.action.ArgAction.TheVariants.{SetTrue}
+use Rattle.clap.specs.declared.builder.value_parser.ValueParser.TheVariants as parser
+use Rattle.bp_machine.specs.Starts.{default_start}
+use Rattle.bp_run.specs.Options.{default_options}
+use Rattle.bp_words.specs.Values.{init_fault}
+use Rattle.bp_words.specs.DriveWords.{IsDriveOf}
+use Rattle.bp_words.specs.FileWords.{IsFileWordsOf}
+use Rattle.bp_words.specs.RunWords.{IsRunOf}
+use Rattle.bp_words.specs.ShowWords.{IsShowOf}
+use Rattle.bp_words.specs.TraceWords.{IsTraceWordsOf}
+use Rattle.bp_words.specs.declared.trace.TraceWords.{TraceWords}
+use Rattle.bp_words.specs.declared.commands.Task.{Task}
+use Rattle.bp_words.specs.declared.commands.Task.TheVariants.{Bundle, Check, Code, Drive, Run, Replay, Show, Migrate}
+
+-- an argument that has to be there
+abbrev pub required_rule : Text → Rule
+required_rule name = record (new_rule name) { required = true }
+
+-- an option without a value
+abbrev pub flag_rule : Text → Rule
+flag_rule name = record (new_rule name) { long = Some name; action = Some SetTrue }
+
+-- a command of this name, a file, and the flag for explanations
+abbrev pub file_app : Text → App
+file_app name =
+    with_rule
+    (with_rule (new_app name) (required_rule (codes "FILE")))
+    (flag_rule (codes "explain"))
+
+-- `check FILE [--explain]`
+abbrev pub check_app : App
+check_app = file_app (codes "check")
+
+-- `code FILE [--explain]`
+abbrev pub code_app : App
+code_app = file_app (codes "code")
+
+-- an option that has a value
+abbrev pub option_rule : Text → Rule
+option_rule name = record (new_rule name) { long = Some name; value_names = 1 }
+
+-- an option whose value is a number of 32 bits
+abbrev pub number_rule : Text → Rule
+number_rule name =
+    record (option_rule name) { parser = Some (parser.Signed (pos 0) (pos 4294967295)) }
+
+-- an option whose value is a number of 64 bits
+abbrev pub long_number_rule : Text → Rule
+long_number_rule name =
+    record (option_rule name) { parser = Some (parser.Unsigned 0 18446744073709551615) }
+
+-- an argument with any number of values
+abbrev pub values_rule : Text → Rule
+values_rule name =
+    record (new_rule name) {
+      range = Some (record { start_inclusive = 0; end_inclusive = usize_max });
+    }
+
+-- the arguments in turn
+abbrev pub with_rules : App → List Rule → App
+with_rules a [] = a
+with_rules a (r ∷ rs) = with_rules (with_rule a r) rs
+
+-- `drive FILE SCHEDULE [ENTRY].. [--contexts N] [--calls N] [--init BITS] [--explain]`
+abbrev pub drive_app : App
+drive_app =
+    with_rules (file_app (codes "drive")) (
+    required_rule (codes "SCHEDULE")
+    ∷ values_rule (codes "ENTRY")
+    ∷ number_rule (codes "contexts")
+    ∷ number_rule (codes "calls")
+    ∷ option_rule (codes "init")
+    ∷ [])
+
+-- `run FILE [ENTRY].. [--seed N] [--contexts N] [--calls N] [--turn N] [--init BITS] [--ring N]
+-- [--spread] [--explain]`
+abbrev pub run_app : App
+run_app =
+    with_rules (file_app (codes "run")) (
+    values_rule (codes "ENTRY")
+    ∷ long_number_rule (codes "seed")
+    ∷ number_rule (codes "contexts")
+    ∷ number_rule (codes "calls")
+    ∷ number_rule (codes "turn")
+    ∷ option_rule (codes "init")
+    ∷ number_rule (codes "ring")
+    ∷ flag_rule (codes "spread")
+    ∷ [])
+
+-- a command of this name, a file and a trace
+abbrev pub trace_app : Text → App
+trace_app name = with_rule (file_app name) (required_rule (codes "TRACE"))
+
+-- `replay FILE TRACE [--explain]`
+abbrev pub replay_app : App
+replay_app = trace_app (codes "replay")
+
+-- `show FILE TRACE [--thread N] [--last N] [--explain]`
+abbrev pub show_app : App
+show_app =
+    with_rules (trace_app (codes "show")) (
+    number_rule (codes "thread")
+    ∷ long_number_rule (codes "last")
+    ∷ [])
+
+-- `migrate FILE TRACE [--explain]`
+abbrev pub migrate_app : App
+migrate_app = trace_app (codes "migrate")
+
+-- the program without a command
+abbrev pub program_app : App
+program_app = on_top (λ s. record s { has_version = true }) (new_app (codes "btrun"))
+
+-- the commands in turn
+abbrev pub with_commands : App → List App → App
+with_commands a [] = a
+with_commands a (c ∷ cs) = with_commands (with_subcommand a c.top) cs
+
+-- all commands
+abbrev pub btrun_app : App
+btrun_app =
+    with_commands program_app
+    (check_app ∷ code_app ∷ drive_app ∷ run_app ∷ replay_app ∷ show_app ∷ migrate_app ∷ [])
+
+-- the name of a command
+abbrev pub IsNamed : Text → Type 0
+IsNamed name =
+    (name ≡ codes "check")
+    ⊎ ((name ≡ codes "code")
+    ⊎ ((name ≡ codes "drive")
+    ⊎ ((name ≡ codes "run")
+    ⊎ ((name ≡ codes "replay")
+    ⊎ ((name ≡ codes "show")
+    ⊎ (name ≡ codes "migrate"))))))
+
+-- the words name no command, or one of those that there are
+abbrev pub IsOurs : Option (Text × List Row) → Type 0
+IsOurs None = Unit {0}
+IsOurs (Some command) = IsNamed command.0
+
+-- what the command of this name asks for, with its arguments; a bundle is asked for without one
+abbrev pub IsAsked : Text → List Row → Task → Type 0
+IsAsked name rows Bundle = ⊥
+IsAsked name rows (Check words) = (name ≡ codes "check") × IsFileWordsOf rows words
+IsAsked name rows (Code words) = (name ≡ codes "code") × IsFileWordsOf rows words
+IsAsked name rows (Drive words) = (name ≡ codes "drive") × IsDriveOf rows words
+IsAsked name rows (Run words) = (name ≡ codes "run") × IsRunOf rows words
+IsAsked name rows (Replay words) = (name ≡ codes "replay") × IsTraceWordsOf rows words
+IsAsked name rows (Show words) = (name ≡ codes "show") × IsShowOf rows words
+IsAsked name rows (Migrate words) = (name ≡ codes "migrate") × IsTraceWordsOf rows words
+
+-- what the words ask for, by the command that they name
+abbrev pub IsTaskOf : Option (Text × List Row) → Task → Type 0
+IsTaskOf None task = task ≡ Bundle
+IsTaskOf (Some command) task = IsAsked command.0 command.1 task
+
+-- why words are refused: as `clap` says, or else for their initial bits
+abbrev pub words_fault : List Text → Kinds
+words_fault words = or_else (fault_of btrun_app words) (init_fault (subcommand_of btrun_app words))
+
+-- the word is no option, and does not end the options
+abbrev pub is_plain : Text → Bool
+is_plain [] = true
+is_plain (b ∷ bs) = not (b == 45)
+
+-- the task is to check this file, and faults are not explained
+abbrev pub IsCheckOf : Text → Task → Type 0
+IsCheckOf file (Check words) = (words.program.now ≡ file) × (words.explain ≡ false)
+IsCheckOf file task = ⊥
+
+-- the task is to list the code of this file, and faults are not explained
+abbrev pub IsCodeOf : Text → Task → Type 0
+IsCodeOf file (Code words) = (words.program.now ≡ file) × (words.explain ≡ false)
+IsCodeOf file task = ⊥
+
+-- the task is to drive the program of this file by the schedule of that one, under the defaults
+abbrev pub IsPlainDriveOf : Text → Text → Task → Type 0
+IsPlainDriveOf file schedule (Drive words) =
+    (words.program.now ≡ file)
+    × (words.schedule.now ≡ schedule)
+    × (words.explain ≡ false)
+    × (words.start ≡ default_start)
+IsPlainDriveOf file schedule task = ⊥
+
+-- the task is to run the program of this file under the defaults, its workers as they come
+abbrev pub IsPlainRunOf : Text → Task → Type 0
+IsPlainRunOf file (Run words) =
+    (words.program.now ≡ file)
+    × (words.spread ≡ false)
+    × (words.explain ≡ false)
+    × (words.options ≡ default_options)
+IsPlainRunOf file task = ⊥
+
+-- the files are these, and faults are not explained
+abbrev pub HasFiles : Text → Text → TraceWords → Type 0
+HasFiles file trace words =
+    (words.program.now ≡ file) × (words.trace.now ≡ trace) × (words.explain ≡ false)
+
+-- the task is to replay this trace of the program of this file
+abbrev pub IsReplayOf : Text → Text → Task → Type 0
+IsReplayOf file trace (Replay words) = HasFiles file trace words
+IsReplayOf file trace task = ⊥
+
+-- the task is to show all calls of this trace of the program of this file
+abbrev pub IsPlainShowOf : Text → Text → Task → Type 0
+IsPlainShowOf file trace (Show words) =
+    (words.program.now ≡ file)
+    × (words.trace.now ≡ trace)
+    × (words.thread ≡ None)
+    × (words.last ≡ None)
+    × (words.explain ≡ false)
+IsPlainShowOf file trace task = ⊥
+
+-- the task is to migrate this trace of the program of this file
+abbrev pub IsMigrateOf : Text → Text → Task → Type 0
+IsMigrateOf file trace (Migrate words) = HasFiles file trace words
+IsMigrateOf file trace task = ⊥

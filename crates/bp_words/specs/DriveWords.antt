@@ -1,0 +1,18 @@
+-- What the words behind `drive` ask for.
+use Rattle.std.specs.Prelude.{◌≡◌, List, codes, option_map}
+use Rattle.clap.specs.Walk.{Row, first_of, one_of}
+use Rattle.bp_machine.specs.declared.limits.TheConstants.{DEFAULT_CONTEXTS, DEFAULT_CALLS}
+use Rattle.bp_words.specs.Values.{bits_in, entries_in, value_of, IsFlagOf, IsNumberOf}
+use Rattle.bp_words.specs.declared.drive.DriveWords.{DriveWords}
+
+-- the files and the options of `drive` are those of its arguments
+pub record IsDriveOf (rows : List Row) (words : DriveWords) : Type 0 where
+  pub program : words.program.now ≡ value_of (codes "FILE") rows
+  pub schedule : words.schedule.now ≡ value_of (codes "SCHEDULE") rows
+  pub entries : words.start.entries ≡ entries_in rows
+  pub init : words.start.init ≡ option_map bits_in (first_of (codes "init") rows)
+  pub contexts :
+      IsNumberOf 32 DEFAULT_CONTEXTS (one_of (codes "contexts") rows) words.start.contexts
+  pub calls :
+      IsNumberOf 32 DEFAULT_CALLS (one_of (codes "calls") rows) words.start.calls
+  pub explain : IsFlagOf (one_of (codes "explain") rows) words.explain

@@ -1,0 +1,7 @@
+pub mod Commands
+pub mod DriveWords
+pub mod FileWords
+pub mod RunWords
+pub mod ShowWords
+pub mod TraceWords
+pub mod Values

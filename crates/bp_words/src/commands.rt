@@ -1,0 +1,188 @@
+//! The words of the command line.
+ghost use Rattle.std.specs.Prelude.{◌≡◌, true, false, ℕ, List, [], ◌∷◌, map, codes, string_bytes, IfOk, MatchResult};
+ghost use Rattle.clap.specs.Words.{FailsBy, app_of, kind_of, subcommand_of, subcommand_rows_of};
+ghost use Rattle.clap.specs.declared.builder.command.Command.TheViews.{out-Command};
+ghost use Rattle.bp_words.specs.Commands.{btrun_app, file_app, is_plain, program_app, words_fault, IsOurs, IsCheckOf, IsCodeOf, IsMigrateOf, IsPlainDriveOf, IsPlainRunOf, IsPlainShowOf, IsReplayOf, IsTaskOf};
+
+use crate::drive::{DriveWords, drive_command, drive_words};
+use crate::files::{FileWords, file_command, file_words};
+use crate::run::{RunWords, run_command, run_words};
+use crate::show::{ShowWords, show_command, show_words};
+use crate::trace::{
+    MIGRATE_ABOUT, MIGRATE_NOTES, REPLAY_ABOUT, REPLAY_NOTES, TraceWords, trace_command,
+    trace_words,
+};
+use crate::values::has_bad_init;
+use clap::error::ErrorKind;
+use clap::{ArgMatches, Command, Error};
+use std::alloc::{AllocError, Global};
+
+/// The version of the program.
+const VERSION: &str = "0.1.0";
+
+/// What the user wants done.
+#[derive(Drop)]
+pub enum Task<'a> {
+    /// Drive the bundle that standard input has.
+    Bundle,
+    /// Check the program of a file.
+    Check(FileWords<'a>),
+    /// List the code of the program of a file.
+    Code(FileWords<'a>),
+    /// Drive the program of a file by a schedule.
+    Drive(DriveWords<'a>),
+    /// Run the program of a file by real workers.
+    Run(RunWords<'a>),
+    /// Replay a trace of the program of a file.
+    Replay(TraceWords<'a>),
+    /// Show a trace of the program of a file.
+    Show(ShowWords<'a>),
+    /// Migrate a trace of the program of a file.
+    Migrate(TraceWords<'a>),
+}
+
+/// What `--help` says behind the commands.
+const NOTES: &str = "\
+    Without a command standard input is a bundle: a program, a line '%', and a schedule of lines\n\
+    'THREAD BIT'. One thread begins with 'main', all globals are 0, and at most 2 contexts and\n\
+    1000 calls are allowed. The trace of the run is printed.\n\n\
+    Examples:\n  btrun < FILE\n  btrun check FILE\n  btrun code FILE\n  \
+    btrun drive FILE SCHEDULE\n  btrun run FILE\n  btrun replay FILE TRACE\n  \
+    btrun show FILE TRACE\n  btrun migrate FILE TRACE\n\n\
+    Exit status:\n  0  done, and no assertion failed\n  1  an assertion failed\n  \
+    2  the input or the words were refused\n  3  memory, a device or the output failed";
+
+/// What `check` does.
+const CHECK_ABOUT: &str =
+    "Checks a program and prints 'ok', its number of procedures and its number of globals";
+
+/// What `check --help` says behind the arguments.
+const CHECK_NOTES: &str = "\
+    The first fault is one line on standard error, with the offset of its byte.\n\n\
+    Example:\n  btrun check lock.bp\n\nExit status:\n  0  the program is lawful\n  \
+    2  it is refused, or the words were\n  3  memory, a device or the output failed";
+
+/// What `code` does.
+const CODE_ABOUT: &str = "Prints the listing of a program's code";
+
+/// What `code --help` says behind the arguments.
+const CODE_NOTES: &str = "\
+    A procedure has a line 'proc NAME FORMALS LOCALS', and behind it a line for each instruction,\n\
+    with its number and those of its successors. The first fault is one line on \
+    standard error, with\n\
+    the offset of its byte.\n\nExample:\n  btrun code lock.bp\n\n\
+    Exit status:\n  0  the listing is printed\n  2  the program is refused, or the words were\n  \
+    3  memory, a device or the output failed";
+
+/// What is wrong with the value of `--init`.
+const BAD_INIT: &str = "the value of '--init' has a character other than 0 and 1";
+
+/// What stands before the commands.
+fn program<'a>(alloc: Global) -> Command<'a>
+    ensures { app_of result ≡ program_app }
+{
+    Command::new(alloc, "btrun")
+        .version(VERSION)
+        .about(
+            "Runs concurrent Boolean programs. \
+            Without a command it reads a bundle from standard input and prints its trace",
+        )
+        .after_help(NOTES)
+}
+
+/// All commands.
+fn command<'a>(alloc: Global) -> Result<Command<'a>, AllocError>
+    ensures { IfOk result (λ c. app_of c ≡ btrun_app) }
+{
+    program(alloc)
+        .subcommand(file_command(alloc, "check", CHECK_ABOUT, CHECK_NOTES)?)?
+        .subcommand(file_command(alloc, "code", CODE_ABOUT, CODE_NOTES)?)?
+        .subcommand(drive_command(alloc)?)?
+        .subcommand(run_command(alloc)?)?
+        .subcommand(trace_command(alloc, "replay", REPLAY_ABOUT, REPLAY_NOTES)?)?
+        .subcommand(show_command(alloc)?)?
+        .subcommand(trace_command(alloc, "migrate", MIGRATE_ABOUT, MIGRATE_NOTES)?)
+}
+
+/// The task that the matched words name.
+fn task_of<'a>(alloc: Global, matches: &ArgMatches<'a>) -> Result<Task<'a>, AllocError>
+    requires { IsOurs (subcommand_rows_of matches.now) }
+    ensures { IfOk result (IsTaskOf (subcommand_rows_of matches.now)) }
+{
+    match matches.subcommand() {
+        Some(("check", words)) => Ok(Task::Check(file_words(words))),
+        Some(("code", words)) => Ok(Task::Code(file_words(words))),
+        Some(("drive", words)) => Ok(Task::Drive(drive_words(alloc, words)?)),
+        Some(("run", words)) => Ok(Task::Run(run_words(alloc, words)?)),
+        Some(("replay", words)) => Ok(Task::Replay(trace_words(words))),
+        Some(("show", words)) => Ok(Task::Show(show_words(words))),
+        Some(("migrate", words)) => Ok(Task::Migrate(trace_words(words))),
+        _ => Ok(Task::Bundle),
+    }
+}
+
+/// Reads the words, of which the first is the program's name. The error also has the texts of help
+/// and version.
+pub fn read_words<'a>(alloc: Global, words: &'a [String]) -> Result<Task<'a>, Error>
+    ensures task { IfOk result
+        (λ t. IsTaskOf (subcommand_of btrun_app (map string_bytes words.now)) t) }
+    ensures refusal { FailsBy (words_fault (map string_bytes words.now)) result }
+    ensures bundle { (program : List ℕ)
+        → map string_bytes words.now ≡ program ∷ []
+        → MatchResult result (λ t. t ≡ Task.Bundle) (λ e. kind_of e ≡ ErrorKind.OutOfMemory) }
+    ensures check { (program file : List ℕ)
+        → is_plain file ≡ true
+        → map string_bytes words.now ≡ program ∷ codes "check" ∷ file ∷ []
+        → MatchResult result (IsCheckOf file) (λ e. kind_of e ≡ ErrorKind.OutOfMemory) }
+    ensures code { (program file : List ℕ)
+        → is_plain file ≡ true
+        → map string_bytes words.now ≡ program ∷ codes "code" ∷ file ∷ []
+        → MatchResult result (IsCodeOf file) (λ e. kind_of e ≡ ErrorKind.OutOfMemory) }
+    ensures drive { (program file schedule : List ℕ)
+        → is_plain file ≡ true
+        → is_plain schedule ≡ true
+        → map string_bytes words.now ≡ program ∷ codes "drive" ∷ file ∷ schedule ∷ []
+        → MatchResult result
+        (IsPlainDriveOf file schedule)
+        (λ e. kind_of e ≡ ErrorKind.OutOfMemory) }
+    ensures run { (program file : List ℕ)
+        → is_plain file ≡ true
+        → map string_bytes words.now ≡ program ∷ codes "run" ∷ file ∷ []
+        → MatchResult result (IsPlainRunOf file) (λ e. kind_of e ≡ ErrorKind.OutOfMemory) }
+    ensures replay { (program file trace : List ℕ)
+        → is_plain file ≡ true
+        → is_plain trace ≡ true
+        → map string_bytes words.now ≡ program ∷ codes "replay" ∷ file ∷ trace ∷ []
+        → MatchResult result (IsReplayOf file trace) (λ e. kind_of e ≡ ErrorKind.OutOfMemory) }
+    ensures show { (program file trace : List ℕ)
+        → is_plain file ≡ true
+        → is_plain trace ≡ true
+        → map string_bytes words.now ≡ program ∷ codes "show" ∷ file ∷ trace ∷ []
+        → MatchResult result (IsPlainShowOf file trace) (λ e. kind_of e ≡ ErrorKind.OutOfMemory) }
+    ensures migrate { (program file trace : List ℕ)
+        → is_plain file ≡ true
+        → is_plain trace ≡ true
+        → map string_bytes words.now ≡ program ∷ codes "migrate" ∷ file ∷ trace ∷ []
+        → MatchResult result (IsMigrateOf file trace) (λ e. kind_of e ≡ ErrorKind.OutOfMemory) }
+{
+    let command = command(alloc)?;
+    let matches = command.try_get_matches_from(words)?;
+    if has_bad_init(&matches) {
+        return Err(invalid_value(alloc, BAD_INIT)?);
+    }
+    Ok(task_of(alloc, &matches)?)
+}
+
+/// The error of a value that `clap` takes.
+fn invalid_value(alloc: Global, message: &str) -> Result<Error, AllocError>
+    ensures { IfOk result (λ e. kind_of e ≡ ErrorKind.InvalidValue) }
+{
+    command(alloc)?.error(ErrorKind::InvalidValue, message)
+}
+
+/// The error of words that are not UTF-8.
+pub fn not_text(alloc: Global) -> Result<Error, AllocError>
+    ensures { IfOk result (λ e. kind_of e ≡ ErrorKind.InvalidValue) }
+{
+    invalid_value(alloc, "a word is not UTF-8")
+}

@@ -1,0 +1,18 @@
+//! The words of the command line: which command they name, with which files and options.
+#![tactic(auto)]
+
+mod arguments;
+mod commands;
+mod drive;
+mod files;
+mod run;
+mod show;
+mod trace;
+mod values;
+
+pub use commands::{Task, not_text, read_words};
+pub use drive::DriveWords;
+pub use files::FileWords;
+pub use run::RunWords;
+pub use show::ShowWords;
+pub use trace::TraceWords;

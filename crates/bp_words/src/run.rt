@@ -1,0 +1,90 @@
+//! The words of `run`.
+ghost use Rattle.std.specs.Prelude.{◌≡◌, false, IfOk};
+ghost use Rattle.clap.specs.Words.{app_of, found_of, rows_of};
+ghost use Rattle.clap.specs.declared.builder.command.Command.TheViews.{out-Command};
+ghost use Rattle.bp_words.specs.Commands.{run_app};
+ghost use Rattle.bp_words.specs.RunWords.{IsRunOf};
+
+use crate::arguments::{flag, long_number_option, number_option, option, values};
+use crate::files::file_command;
+use crate::values::{entries, init, is_given, long_number, number};
+use bp_machine::Start;
+use bp_machine::limits::{DEFAULT_CALLS, DEFAULT_CONTEXTS};
+use bp_run::RunOptions;
+use bp_run::limits::{DEFAULT_RING, DEFAULT_SEED, DEFAULT_TURN};
+use clap::{ArgMatches, Command};
+use std::alloc::{AllocError, Global};
+
+/// A program, and what its run starts from beside it.
+#[derive(Drop)]
+pub struct RunWords<'a> {
+    /// The file of the program.
+    pub program: &'a str,
+    /// Whether the workers start together and take turns as they are drawn.
+    pub spread: bool,
+    /// Whether a fault is explained.
+    pub explain: bool,
+    /// What the run starts from.
+    pub options: RunOptions,
+}
+
+/// What `run` does.
+const ABOUT: &str = "Runs a program by one worker for each thread and prints the trace of the run";
+
+/// What `run --help` says behind the arguments.
+const NOTES: &str = "\
+    The workers take turns as the machine's scheduler has it, so two runs may differ; each \
+    trace is one\n\
+    of a run of the program, and 'btrun replay' takes it. It is printed while the run goes on.\n\
+    The first fault is one line on standard error.\n\n\
+    Example:\n  btrun run race.bp writer reader --contexts 4 --seed 7\n\n\
+    Exit status:\n  0  done, and no assertion failed\n  1  an assertion failed\n  \
+    2  the program was refused, or the words were\n  \
+    3  memory, a device, a thread or the output failed";
+
+/// The command `run`.
+pub fn run_command<'a>(alloc: Global) -> Result<Command<'a>, AllocError>
+    ensures { IfOk result
+        (λ c. (app_of c ≡ run_app) × ((out-Command c).has_globals ≡ false)) }
+{
+    let entries = "The procedure with which a thread begins, one a thread [default: main]";
+    let seed = "The seed of the choice bits [default: 42]";
+    let contexts = "How many contexts are allowed [default: 2]";
+    let calls = "How many calls of a thread are allowed [default: 1000]";
+    let turn = "How many calls a worker makes in a turn, 1 to 64 [default: 1]";
+    let init = "The initial bits of the globals, each 0 or 1 [default: all 0]";
+    let ring = "How many calls wait to be printed, 1 to 65536 [default: 1024]";
+    let spread = "The workers start together and take turns as they are drawn, so that runs differ";
+    file_command(alloc, "run", ABOUT, NOTES)?
+        .arg(values(alloc, "ENTRY", entries))?
+        .arg(long_number_option(alloc, "seed", seed))?
+        .arg(number_option(alloc, "contexts", contexts))?
+        .arg(number_option(alloc, "calls", calls))?
+        .arg(number_option(alloc, "turn", turn))?
+        .arg(option(alloc, "init", "BITS", init))?
+        .arg(number_option(alloc, "ring", ring))?
+        .arg(flag(alloc, "spread", spread))
+}
+
+/// What the words behind `run` ask for.
+pub fn run_words<'a>(alloc: Global, words: &ArgMatches<'a>) -> Result<RunWords<'a>, AllocError>
+    ensures { IfOk result (IsRunOf (rows_of (found_of words.now))) }
+{
+    // FILE is required, so it is there.
+    Ok(RunWords {
+        program: words.get_str("FILE").unwrap_or(""),
+        spread: is_given(words, "spread"),
+        explain: is_given(words, "explain"),
+        options: RunOptions {
+            start: Start {
+                entries: entries(alloc, words)?,
+                init: init(alloc, words)?,
+                contexts: number(words, "contexts", DEFAULT_CONTEXTS),
+                calls: number(words, "calls", DEFAULT_CALLS),
+            },
+            turn: number(words, "turn", DEFAULT_TURN),
+            seed: long_number(words, "seed", DEFAULT_SEED),
+            ring: number(words, "ring", DEFAULT_RING),
+        },
+    })
+}

@@ -1,0 +1,68 @@
+//! The words of `show`.
+ghost use Rattle.std.specs.Prelude.{◌≡◌, false, IfOk};
+ghost use Rattle.clap.specs.Words.{app_of, found_of, rows_of};
+ghost use Rattle.clap.specs.declared.builder.command.Command.TheViews.{out-Command};
+ghost use Rattle.bp_words.specs.Commands.{show_app};
+ghost use Rattle.bp_words.specs.ShowWords.{IsShowOf};
+
+use crate::arguments::{long_number_option, number_option};
+use crate::trace::trace_command;
+use crate::values::{given_long_number, given_number, is_given};
+use clap::{ArgMatches, Command};
+use std::alloc::{AllocError, Global};
+
+/// A program, a trace of it, and which of its calls are shown.
+#[derive(Drop)]
+pub struct ShowWords<'a> {
+    /// The file of the program.
+    pub program: &'a str,
+    /// The file of the trace.
+    pub trace: &'a str,
+    /// The calls of this thread alone.
+    pub thread: Option<u32>,
+    /// So many of the last calls of the history.
+    pub last: Option<u64>,
+    /// Whether a fault is explained.
+    pub explain: bool,
+}
+
+/// What `show` does.
+const ABOUT: &str = "Replays a trace and shows what happened, call by call";
+
+/// What `show --help` says behind the arguments.
+const NOTES: &str = "\
+    The setup comes first. Then each call has a line: its number, the thread, the context that\n\
+    its step is in, the line and column of the statement, the statement, the choice bit where\n\
+    one was read, the reply where it is no step, and the variables that the step changed. A\n\
+    line where the context switches begins with '>'. Last comes the outcome. On a terminal a\n\
+    failure is red and a switch is yellow, where NO_COLOR is not set. The first fault is one\n\
+    line on standard error.\n\n\
+    Example:\n  btrun show race.bp race.trace --last 20\n\n\
+    Exit status:\n  0  done, and no assertion failed\n  1  an assertion failed\n  \
+    2  an input was refused, or the words were\n  3  memory, a device or the output failed";
+
+/// The command `show`.
+pub fn show_command<'a>(alloc: Global) -> Result<Command<'a>, AllocError>
+    ensures { IfOk result
+        (λ c. (app_of c ≡ show_app) × ((out-Command c).has_globals ≡ false)) }
+{
+    let thread = "Shows the calls of this thread alone";
+    let last = "Shows so many of the last calls";
+    trace_command(alloc, "show", ABOUT, NOTES)?
+        .arg(number_option(alloc, "thread", thread))?
+        .arg(long_number_option(alloc, "last", last))
+}
+
+/// What the words behind `show` ask for.
+pub fn show_words<'a>(words: &ArgMatches<'a>) -> ShowWords<'a>
+    ensures { IsShowOf (rows_of (found_of words.now)) result }
+{
+    // FILE and TRACE are required, so they are there.
+    ShowWords {
+        program: words.get_str("FILE").unwrap_or(""),
+        trace: words.get_str("TRACE").unwrap_or(""),
+        thread: given_number(words, "thread"),
+        last: given_long_number(words, "last"),
+        explain: is_given(words, "explain"),
+    }
+}

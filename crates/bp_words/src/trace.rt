@@ -1,0 +1,73 @@
+//! The words of `replay` and `migrate`.
+ghost use Rattle.std.specs.Prelude.{◌≡◌, false, IfOk};
+ghost use Rattle.clap.specs.Words.{app_of, found_of, rows_of};
+ghost use Rattle.clap.specs.declared.builder.command.Command.TheViews.{out-Command};
+ghost use Rattle.bp_words.specs.Commands.{trace_app};
+ghost use Rattle.bp_words.specs.TraceWords.{IsTraceWordsOf};
+
+use crate::arguments::required;
+use crate::files::file_command;
+use crate::values::is_given;
+use clap::{ArgMatches, Command};
+use std::alloc::{AllocError, Global};
+
+/// A program and a trace of it.
+#[derive(Drop)]
+pub struct TraceWords<'a> {
+    /// The file of the program.
+    pub program: &'a str,
+    /// The file of the trace.
+    pub trace: &'a str,
+    /// Whether a fault is explained.
+    pub explain: bool,
+}
+
+/// What `replay` does.
+pub const REPLAY_ABOUT: &str = "Replays a trace and prints what its steps printed, and the outcome";
+
+/// What `replay --help` says behind the arguments.
+pub const REPLAY_NOTES: &str = "\
+    A step at a 'print' has a line 'print THREAD BITS'. The last line is 'outcome clean', or\n\
+    'outcome failed THREAD' with the thread whose assertion failed. The first fault is one \
+    line on\n\
+    standard error.\n\n\
+    Example:\n  btrun replay race.bp race.trace\n\n\
+    Exit status:\n  0  done, and no assertion failed\n  1  an assertion failed\n  \
+    2  an input was refused, or the words were\n  3  memory, a device or the output failed";
+
+/// What `migrate` does.
+pub const MIGRATE_ABOUT: &str = "Prints the trace of version 2 of a trace in either version";
+
+/// What `migrate --help` says behind the arguments.
+pub const MIGRATE_NOTES: &str = "\
+    Version 2 has a line for each piece: the calls that a thread makes one after the other. \
+    The trace\n\
+    is replayed first. The first fault is one line on standard error.\n\n\
+    Example:\n  btrun migrate race.bp race.trace\n\n\
+    Exit status:\n  0  done, and no assertion failed\n  1  an assertion failed\n  \
+    2  an input was refused, or the words were\n  3  memory, a device or the output failed";
+
+/// A command of this name, a file and a trace.
+pub fn trace_command<'a>(
+    alloc: Global,
+    name: &'a str,
+    about: &'a str,
+    notes: &'a str,
+) -> Result<Command<'a>, AllocError>
+    ensures { IfOk result
+        (λ c. (app_of c ≡ trace_app name.now) × ((out-Command c).has_globals ≡ false)) }
+{
+    file_command(alloc, name, about, notes)?.arg(required(alloc, "TRACE", "The file of the trace"))
+}
+
+/// What the words behind `replay` or `migrate` ask for.
+pub fn trace_words<'a>(words: &ArgMatches<'a>) -> TraceWords<'a>
+    ensures { IsTraceWordsOf (rows_of (found_of words.now)) result }
+{
+    // FILE and TRACE are required, so they are there.
+    TraceWords {
+        program: words.get_str("FILE").unwrap_or(""),
+        trace: words.get_str("TRACE").unwrap_or(""),
+        explain: is_given(words, "explain"),
+    }
+}

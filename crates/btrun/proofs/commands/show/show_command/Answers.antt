@@ -1,8 +1,0 @@
-use Rattle.btrun.proofs.CommandShapes.{HasShape, with_argument, if_ok}
-use Rattle.btrun.specs.Commands.{show_app}
-use Rattle.btrun.proofs.commands.show.show_command.Goals as goal
-
-pub returns : goal.returns
-returns c =
-    let thread = with_argument _ _ _ _ _ c.in_ok-trace_command.ensures c.number_option.ensures c.in_ok-arg.ensures in
-    if_ok c.arg-2.result _ (HasShape show_app) (λ new adds. with_argument _ new _ _ _ thread c.long_number_option.ensures adds) c.arg-2.ensures

@@ -1,0 +1,82 @@
+-- What a run reads, writes and answers, by the task that its words ask for.
+use Rattle.std.specs.Prelude.{ℕ, Bool, false, List, Option}
+use Rattle.bp_commands.specs.Bundles.{bundles}
+use Rattle.bp_commands.specs.Checks.{checks}
+use Rattle.bp_commands.specs.Drives.{drives}
+use Rattle.bp_commands.specs.Ends.{never, report_failed}
+use Rattle.bp_commands.specs.Files.{pair_of_files, IsRun}
+use Rattle.bp_commands.specs.Given.{bundle_alone, text_alone}
+use Rattle.bp_commands.specs.Listings.{lists}
+use Rattle.bp_commands.specs.Runs.{runs}
+use Rattle.bp_commands.specs.Traces.{migrates, replays, shows}
+use Rattle.bp_trace.specs.declared.limits.TheConstants.{MAX_SCHEDULE, MAX_TRACE}
+use Rattle.bp_view.specs.declared.options.ViewOptions.{ViewOptions}
+use Rattle.bp_words.specs.declared.commands.Task.{Task}
+use Rattle.bp_words.specs.declared.commands.Task.TheVariants.{Bundle, Check, Code, Drive, Run, Replay, Show, Migrate}
+use Rattle.bp_words.specs.declared.drive.DriveWords.{DriveWords}
+use Rattle.bp_words.specs.declared.run.RunWords.{RunWords}
+use Rattle.bp_words.specs.declared.show.ShowWords.{ShowWords}
+
+-- which calls are shown, and how
+abbrev pub view_options : ShowWords → Bool → ViewOptions
+view_options words has_colour = record {
+  thread = words.thread;
+  last = words.last;
+  has_colour = has_colour;
+}
+
+-- the program of a file is run as these words ask for
+abbrev pub IsRunDone
+    : (List ℕ → Option (List ℕ)) → RunWords
+    → Option (List ℕ) → Option (List ℕ) → Option (List ℕ) → Option (List ℕ) → ℕ
+    → Type 0
+IsRunDone bytes words old new errors_old errors_new status =
+    let inputs = text_alone (bytes words.program.now) in
+    IsRun (runs words.options) report_failed inputs words.explain
+    old new errors_old errors_new status
+
+-- the program of a file is driven by the schedule of another, as these words ask for
+abbrev pub IsDriveDone
+    : (List ℕ → Option (List ℕ)) → DriveWords
+    → Option (List ℕ) → Option (List ℕ) → Option (List ℕ) → Option (List ℕ) → ℕ
+    → Type 0
+IsDriveDone bytes words old new errors_old errors_new status =
+    let inputs = pair_of_files MAX_SCHEDULE
+    (bytes words.program.now) (bytes words.schedule.now) in
+    IsRun (drives words.start) report_failed inputs words.explain
+    old new errors_old errors_new status
+
+-- the trace of a file is shown, as these words ask for
+abbrev pub IsShowDone
+    : (List ℕ → Option (List ℕ)) → Bool → ShowWords
+    → Option (List ℕ) → Option (List ℕ) → Option (List ℕ) → Option (List ℕ) → ℕ
+    → Type 0
+IsShowDone bytes has_colour words old new errors_old errors_new status =
+    let inputs = pair_of_files MAX_TRACE (bytes words.program.now) (bytes words.trace.now) in
+    IsRun (shows (view_options words has_colour)) report_failed inputs words.explain
+    old new errors_old errors_new status
+
+-- The files have these bytes by their paths, and so has standard input. The output and standard
+-- error have these bytes before and after the run, which ends with this status.
+module _
+    (bytes : List ℕ → Option (List ℕ)) (input : Option (List ℕ)) (has_colour : Bool)
+    (old new errors_old errors_new : Option (List ℕ)) (status : ℕ) where
+  abbrev pub IsTaskDone : Task → Type 0
+  IsTaskDone Bundle =
+      IsRun bundles report_failed (bundle_alone input) false old new errors_old errors_new status
+  IsTaskDone (Check words) =
+      let inputs = text_alone (bytes words.program.now) in
+      IsRun checks never inputs words.explain old new errors_old errors_new status
+  IsTaskDone (Code words) =
+      let inputs = text_alone (bytes words.program.now) in
+      IsRun lists never inputs words.explain old new errors_old errors_new status
+  IsTaskDone (Drive words) = IsDriveDone bytes words old new errors_old errors_new status
+  IsTaskDone (Run words) = IsRunDone bytes words old new errors_old errors_new status
+  IsTaskDone (Replay words) =
+      let inputs = pair_of_files MAX_TRACE (bytes words.program.now) (bytes words.trace.now) in
+      IsRun replays report_failed inputs words.explain old new errors_old errors_new status
+  IsTaskDone (Show words) =
+      IsShowDone bytes has_colour words old new errors_old errors_new status
+  IsTaskDone (Migrate words) =
+      let inputs = pair_of_files MAX_TRACE (bytes words.program.now) (bytes words.trace.now) in
+      IsRun migrates report_failed inputs words.explain old new errors_old errors_new status

@@ -1,0 +1,205 @@
+//! What each task does, over any files and streams.
+ghost use Rattle.std.specs.Io.Buffered.{writer_contents};
+ghost use Rattle.std.specs.Prelude.{◌≡◌};
+ghost use Rattle.bp_commands.specs.Ends.{report_failed};
+ghost use Rattle.bp_commands.specs.Files.{pair_of_files, IsRun};
+ghost use Rattle.bp_commands.specs.Given.{text_alone};
+ghost use Rattle.btrun.specs.Tasks.{view_options, IsDriveDone, IsRunDone, IsShowDone, IsTaskDone};
+
+use bp_commands::{
+    Check, Code, Drive, Files, Migrate, PairCommand, ProgramCommand, Replay, Show, run_by_workers,
+    run_on_bundle, run_on_pair, run_on_program,
+};
+use bp_run::{Gate, Open, Spread};
+use bp_view::ViewOptions;
+use bp_words::{DriveWords, FileWords, RunWords, ShowWords, Task, TraceWords};
+use std::alloc::Global;
+use std::io::{BufWriter, Read, Write};
+use std::sync::Wait;
+use std::thread::Threads;
+use std::time::Clock;
+
+/// Runs the program of a file at a gate.
+fn run_at<F: Files, T: Threads + Wait + Clock + Sync, G: Gate, W: Write + Drop, E: Write>(
+    alloc: Global,
+    threads: &T,
+    gate: &G,
+    files: &F,
+    words: &RunWords<'_>,
+    out: BufWriter<W>,
+    errors: &mut E,
+) -> (u8, W)
+    ensures { let old = writer_contents W.contents out in
+        IsRunDone (F.bytes files.now) words.now old (W.contents result.1)
+        (E.contents errors.old) (E.contents errors.new) result.0 }
+{
+    let (options, path) = (&words.options, words.program);
+    run_by_workers(
+        alloc,
+        threads,
+        options,
+        gate,
+        files,
+        path,
+        words.explain,
+        out,
+        errors,
+    )
+}
+
+/// Runs the program of a file at the gate that the words ask for.
+fn run_as_asked<F: Files, T: Threads + Wait + Clock + Sync, W: Write + Drop, E: Write>(
+    alloc: Global,
+    threads: &T,
+    files: &F,
+    words: &RunWords<'_>,
+    out: BufWriter<W>,
+    errors: &mut E,
+) -> (u8, W)
+    ensures { let old = writer_contents W.contents out in
+        IsRunDone (F.bytes files.now) words.now old (W.contents result.1)
+        (E.contents errors.old) (E.contents errors.new) result.0 }
+{
+    if words.spread {
+        let gate = Spread::new(words.options.seed, words.options.start.entries.len());
+        run_at(alloc, threads, &gate, files, words, out, errors)
+    } else {
+        run_at(alloc, threads, &Open, files, words, out, errors)
+    }
+}
+
+/// Does a command on the program of a file.
+fn on_file<C: ProgramCommand, F: Files, W: Write + Drop, E: Write>(
+    alloc: Global,
+    command: &C,
+    files: &F,
+    words: &FileWords<'_>,
+    out: BufWriter<W>,
+    errors: &mut E,
+) -> (u8, W)
+    ensures { let inputs = text_alone (F.bytes files.now words.now.program.now) in
+        let old = writer_contents W.contents out in
+        IsRun (C.command command.now) C.Answer.failed inputs words.now.explain
+        old (W.contents result.1)
+        (E.contents errors.old) (E.contents errors.new) result.0 }
+{
+    let (path, explains) = (words.program, words.explain);
+    run_on_program(alloc, command, files, path, explains, out, errors)
+}
+
+/// Does a command on the program of a file and a trace of it.
+fn on_trace<C: PairCommand, F: Files, W: Write + Drop, E: Write>(
+    alloc: Global,
+    command: &C,
+    files: &F,
+    words: &TraceWords<'_>,
+    out: BufWriter<W>,
+    errors: &mut E,
+) -> (u8, W)
+    ensures { let inputs = pair_of_files (C.limit command.now)
+        (F.bytes files.now words.now.program.now) (F.bytes files.now words.now.trace.now) in
+        let old = writer_contents W.contents out in
+        IsRun (C.command command.now) report_failed inputs words.now.explain
+        old (W.contents result.1)
+        (E.contents errors.old) (E.contents errors.new) result.0 }
+{
+    let (path, trace, explains) = (words.program, words.trace, words.explain);
+    run_on_pair(alloc, command, files, path, trace, explains, out, errors)
+}
+
+/// Drives the program of a file by the schedule of another.
+fn drive_as_asked<F: Files, W: Write + Drop, E: Write>(
+    alloc: Global,
+    files: &F,
+    words: &DriveWords<'_>,
+    out: BufWriter<W>,
+    errors: &mut E,
+) -> (u8, W)
+    ensures { let old = writer_contents W.contents out in
+        IsDriveDone (F.bytes files.now) words.now old (W.contents result.1)
+        (E.contents errors.old) (E.contents errors.new) result.0 }
+{
+    let start = &words.start;
+    let (path, schedule, explains) = (words.program, words.schedule, words.explain);
+    run_on_pair(
+        alloc,
+        &Drive { start },
+        files,
+        path,
+        schedule,
+        explains,
+        out,
+        errors,
+    )
+}
+
+/// Which calls are shown, and how.
+fn view_options(words: &ShowWords<'_>, has_colour: bool) -> ViewOptions
+    ensures { result ≡ view_options words.now has_colour }
+{
+    ViewOptions {
+        thread: words.thread,
+        last: words.last,
+        has_colour,
+    }
+}
+
+/// Shows the trace of a file.
+fn show_as_asked<F: Files, W: Write + Drop, E: Write>(
+    alloc: Global,
+    files: &F,
+    has_colour: bool,
+    words: &ShowWords<'_>,
+    out: BufWriter<W>,
+    errors: &mut E,
+) -> (u8, W)
+    ensures { let old = writer_contents W.contents out in
+        IsShowDone (F.bytes files.now) has_colour words.now old (W.contents result.1)
+        (E.contents errors.old) (E.contents errors.new) result.0 }
+{
+    let options = view_options(words, has_colour);
+    let (path, trace, explains) = (words.program, words.trace, words.explain);
+    run_on_pair(
+        alloc,
+        &Show { options },
+        files,
+        path,
+        trace,
+        explains,
+        out,
+        errors,
+    )
+}
+
+/// Does a task, and answers the exit status and the output.
+pub fn do_task<
+    F: Files,
+    T: Threads + Wait + Clock + Sync,
+    R: Read + Drop,
+    W: Write + Drop,
+    E: Write,
+>(
+    alloc: Global,
+    threads: &T,
+    files: &F,
+    input: R,
+    has_colour: bool,
+    task: &Task<'_>,
+    out: BufWriter<W>,
+    errors: &mut E,
+) -> (u8, W)
+    ensures { let old = writer_contents W.contents out in
+        IsTaskDone (F.bytes files.now) (R.remaining input) has_colour old (W.contents result.1)
+        (E.contents errors.old) (E.contents errors.new) result.0 task.now }
+{
+    match task {
+        Task::Bundle => run_on_bundle(alloc, input, out, errors),
+        Task::Check(words) => on_file(alloc, &Check, files, words, out, errors),
+        Task::Code(words) => on_file(alloc, &Code, files, words, out, errors),
+        Task::Drive(words) => drive_as_asked(alloc, files, words, out, errors),
+        Task::Run(words) => run_as_asked(alloc, threads, files, words, out, errors),
+        Task::Replay(words) => on_trace(alloc, &Replay, files, words, out, errors),
+        Task::Show(words) => show_as_asked(alloc, files, has_colour, words, out, errors),
+        Task::Migrate(words) => on_trace(alloc, &Migrate, files, words, out, errors),
+    }
+}

@@ -1,0 +1,68 @@
+//! A run whose words ask for help or the version, or for nothing that there is.
+ghost use Rattle.std.specs.IoError.{error_kind};
+ghost use Rattle.clap.specs.Words.{kind_of};
+ghost use Rattle.std.specs.Prelude.{◌≡◌, MatchResult};
+ghost use Rattle.bp_commands.specs.declared.faults.Fault.{Fault};
+ghost use Rattle.btrun.specs.Statuses.{HasFaultLine, IsWordsStatus, IsWordsLine, IsUnreadStatus, IsUnreadLine};
+
+use bp_commands::{Fault, end};
+use bp_words::not_text;
+use clap::Error;
+use clap::error::ErrorKind;
+use std::io::{self, Write};
+
+/// The exit status of a fault in the use of the program.
+const USAGE_STATUS: u8 = 2;
+
+/// Ends a run by the help or the version that was printed, or was not.
+fn end_printed<E: Write>(printed: &io::Result<()>, errors: &mut E) -> u8
+    ensures status { MatchResult printed.now (λ _. result ≡ 0) (λ _. result ≡ 3) }
+    ensures line { MatchResult printed.now
+        (λ _. E.contents errors.new ≡ E.contents errors.old)
+        (λ _. HasFaultLine Fault.Write (E.contents errors.old) (E.contents errors.new)) }
+{
+    match printed {
+        Ok(()) => end(&Ok::<(), Fault>(()), errors),
+        Err(_) => end(&Err::<(), Fault>(Fault::Write), errors),
+    }
+}
+
+/// Ends a run for want of memory.
+pub fn refuse_memory<E: Write>(errors: &mut E) -> u8
+    ensures status { result ≡ 3 }
+    ensures line { HasFaultLine Fault.Memory (E.contents errors.old) (E.contents errors.new) }
+{
+    end(&Err::<(), Fault>(Fault::Memory), errors)
+}
+
+/// Prints the fault of the words on standard error, or the help or the version on standard output.
+/// Where that is not what happened, our line is in `errors`.
+pub fn tell<E: Write>(rt: &HostRuntime, error: &Error, errors: &mut E) -> u8
+    ensures status { IsWordsStatus (kind_of error.now) result }
+    ensures line { IsWordsLine (kind_of error.now) (E.contents errors.old) (E.contents errors.new) }
+{
+    match error.kind() {
+        ErrorKind::OutOfMemory => refuse_memory(errors),
+        ErrorKind::DisplayHelp | ErrorKind::DisplayVersion => end_printed(&error.print(rt), errors),
+        _ => {
+            // Where standard error fails, the status still reports the fault.
+            let _ = error.print(rt);
+            USAGE_STATUS
+        }
+    }
+}
+
+/// Refuses words that were not read: one is not UTF-8, or memory was refused.
+pub fn refuse_words<E: Write>(rt: &HostRuntime, error: &io::Error, errors: &mut E) -> u8
+    ensures status { IsUnreadStatus (error_kind error.now) result }
+    ensures line { let kind = error_kind error.now in
+        IsUnreadLine kind (E.contents errors.old) (E.contents errors.new) }
+{
+    if matches!(error.kind(), io::ErrorKind::OutOfMemory) {
+        return refuse_memory(errors);
+    }
+    match not_text(rt.alloc()) {
+        Ok(error) => tell(rt, &error, errors),
+        Err(_) => refuse_memory(errors),
+    }
+}
