@@ -15,7 +15,7 @@ check_line p = concat (
     ∷ codes " " ∷ decimal (length p.globals)
     ∷ codes "\n" ∷ [])
 
--- the text is that of a lawful program, of which this is written
+-- the text is that of a lawful program, and this is written of it
 pub record IsOfProgram (text_of : Program → List ℕ) (text written : List ℕ) : Type 0 where
   pub program : Program
   pub lawful : IsLawfulText text program

@@ -13,7 +13,7 @@ abbrev pub rest_of
 rest_of unopened remaining None = unopened
 rest_of unopened remaining (Some file) = remaining file
 
--- the inputs of a command on a program of a file and an input of another, of which this is left
+-- the inputs of a command on the program of one file and the input of another; this is left of them
 abbrev pub pair_of_files
     : ℕ → Option (List ℕ) → Option (List ℕ) → Option (List ℕ) × Option (List ℕ) → Inputs Pair
 pair_of_files limit text input left = text_and limit text left.0 input left.1
@@ -28,8 +28,8 @@ abbrev pub IsExplained
 IsExplained true (Err f) told new = Grows told new
 IsExplained explains done told new = new ≡ told
 
--- The command was given inputs of which some was left. The output and standard error have these
--- bytes before and after the run. A fault is explained or not.
+-- The command was given inputs, and may have left some of them unread. The output and standard
+-- error have these bytes before and after the run. A fault is explained or not.
 module _
     {L X R : Type 0} (command : Command X R) (failed : R → Bool) (inputs : L → Inputs X)
     (explains : Bool) (old new errors_old errors_new : Option (List ℕ)) where

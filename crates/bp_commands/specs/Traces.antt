@@ -44,7 +44,7 @@ pub record IsTraceOf
   pub version : Version
   pub is : IsTrace t version s h trace
 
--- the trace is that of a legal history of the program, of which this is written
+-- the trace is that of a legal history of the program, and this is written of it
 module _ (is_text : TextRule) where
   pub record IsOfTrace (given : Pair) (written : List ℕ) : Type 0 where
     pub program : Program
@@ -58,7 +58,7 @@ module _ (is_text : TextRule) where
     pub trace : IsOfTrace given written
     pub reported : IsReport trace.setup trace.history report
 
--- the text is that of a lawful program, of which the other is no trace
+-- the text is that of a lawful program, and the other text is no trace of it
 pub record IsNoTrace (given : Pair) (f : Fault) : Type 0 where
   pub program : Program
   pub lawful : IsLawfulText given.text program

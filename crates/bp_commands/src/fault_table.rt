@@ -159,8 +159,8 @@ impl Fault {
         }
     }
 
-    /// The exit status of a run that the fault ended, by its number: 3 for memory, devices and workers
-    /// that do not start, 2 for any other.
+    /// The exit status of a run that the fault ended, by its number: 3 for memory, devices, the
+    /// output and workers that do not start, 2 for any other.
     pub fn status(&self) -> u8
         ensures { result ≡ status_of self.now }
     {

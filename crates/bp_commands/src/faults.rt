@@ -10,8 +10,8 @@ use bp_trace::{DriveFault, MigrateFault, ReplayFault};
 use std::alloc::AllocError;
 use thiserror::Error;
 
-/// Why a command is refused: the first of these that applies, `Memory` aside. Whichever library
-/// reports it, refused memory is one value, and so are a failed write and an input that is too long.
+/// Why a command is refused: the first of these that applies, `Memory` aside. Refused memory is one
+/// value, whichever library reports it. So are a failed write and an input that is too long.
 #[derive(Debug, Drop, PartialEq, Eq, Error)]
 pub enum Fault {
     /// An input could not be read.

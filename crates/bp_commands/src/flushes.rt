@@ -1,11 +1,11 @@
-//! The end of a command that wrote through a buffer.
+//! What follows a command that wrote through a buffer.
 ghost use Rattle.std.specs.Io.Buffered.{writer_contents};
 ghost use Rattle.bp_commands.specs.Flushes.{IsFlushed};
 
 use crate::faults::Fault;
 use std::io::{BufWriter, Write};
 
-/// Hands on what a buffer holds behind a command's answer, and gives back the output.
+/// Flushes a buffer after a command's answer, and gives back the output.
 pub fn flushed<T: Drop, W: Write + Drop>(
     done: Result<T, Fault>,
     out: BufWriter<W>,

@@ -89,7 +89,7 @@ pub struct Source<R> {
 }
 
 impl<R> Source<R> {
-    /// The input of this reader, of which nothing was read.
+    /// The input of this reader, before anything is read.
     pub fn new(alloc: Global, reader: R) -> Source<R>
         ensures { result.reader ≡ reader }
     {

@@ -1,4 +1,4 @@
-//! The limits of a session, and what it starts from where nothing is given.
+//! The limits of a session, and the defaults of what it starts from.
 
 /// The most guest threads of a session, which has at least one.
 pub const MAX_THREADS: usize = 64;
@@ -9,9 +9,9 @@ pub const MAX_CALLS: u32 = 100_000;
 /// The most frames of a thread's stack.
 pub const MAX_FRAMES: usize = 1024;
 
-/// The procedure with which a thread begins where none is given.
+/// The default entry procedure of a thread.
 pub const DEFAULT_ENTRY: &str = "main";
-/// Contexts that are allowed where no number is given.
+/// The default bound on contexts.
 pub const DEFAULT_CONTEXTS: u32 = 2;
-/// Calls that each thread may make where no number is given.
+/// The default bound on the calls of each thread.
 pub const DEFAULT_CALLS: u32 = 1000;

@@ -18,7 +18,7 @@ use std::marker::Model;
 pub struct Start {
     /// The name of the procedure with which each guest thread begins, thread 0 first: 1 to 64.
     pub entries: Vec<String>,
-    /// The initial bit of each global in order of declaration. If there are none, all are 0.
+    /// The initial bit of each global in order of declaration. If `None`, all are 0.
     pub init: Option<Vec<bool>>,
     /// How many contexts are allowed: at most 1,000.
     pub contexts: u32,
@@ -45,7 +45,7 @@ fn has_few_globals(code: &Code)
 }
 
 impl Start {
-    /// One thread that begins with `main`, all globals 0, 2 contexts, and 1,000 calls of the thread.
+    /// One thread that begins with `main`, all globals 0, 2 contexts, and 1,000 calls a thread.
     pub fn defaults(alloc: Global) -> Result<Start, AllocError>
         ensures { IfOk result (λ s. s ≡ default_start) }
     {

@@ -1,8 +1,8 @@
-//! What a run by real threads starts from where nothing is given.
+//! The defaults of a run by real threads.
 
-/// Calls that a worker makes in a turn where no number is given.
+/// The default number of calls in a worker's turn.
 pub const DEFAULT_TURN: u32 = 1;
-/// The seed of a run where none is given.
+/// The default seed.
 pub const DEFAULT_SEED: u64 = 42;
-/// Calls that the ring of a run holds where no number is given.
+/// The default number of calls that the ring holds.
 pub const DEFAULT_RING: u32 = 1024;

@@ -57,8 +57,8 @@ pub record IsDriven (t : Program) (s : SetupOf) (schedule : List ℕ) (h : List 
   pub legal : IsLegal t s h
   pub lines : schedule ≡ schedule_text (lines_of_history h)
 
--- Why a schedule does not drive a program: the first that applies. Nothing is said of when memory is
--- refused.
+-- Why a schedule does not drive a program: the first that applies. Nothing is said of when memory
+-- is refused.
 module _ (t : Program) (s : SetupOf) (schedule : List ℕ) where
   abbrev IsShort : Type 0
   IsShort = length schedule ≤ MAX_SCHEDULE

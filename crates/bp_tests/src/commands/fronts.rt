@@ -7,7 +7,7 @@ use crate::devices::Short;
 use bp_commands::{Check, Code, Drive, Migrate, PairCommand, ProgramCommand};
 use std::alloc::{AllocError, Global};
 
-/// A writer with room for so many bytes.
+/// A writer with room for `room` bytes.
 fn short(alloc: Global, room: usize) -> Short {
     Short {
         taken: Vec::new(alloc),

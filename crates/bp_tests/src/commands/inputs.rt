@@ -2,7 +2,7 @@
 use bp_commands::read_whole;
 use std::alloc::{AllocError, Global};
 
-/// How many bytes are read of so many spaces where the limit is ten, or none where there are more.
+/// How many bytes are read of `count` spaces if the limit is ten; `None` if there are more.
 fn spaces_read(alloc: Global, count: usize) -> Result<Option<usize>, AllocError> {
     let text = vec![in alloc; b' '; count]?;
     let mut input = text.as_slice();

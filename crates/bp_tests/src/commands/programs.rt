@@ -38,7 +38,7 @@ fn lists_texts(rt: HostRuntime) {
     );
 }
 
-/// How much is left of a text of so many spaces, once it is refused as too long.
+/// How many bytes are left of a text of `count` spaces after it is refused as too long.
 fn left_of(alloc: Global, count: usize) -> Result<Option<usize>, Fail> {
     let text = vec![in alloc; b' '; count]?;
     let mut program = Source::new(alloc, text.as_slice());

@@ -46,7 +46,7 @@ impl<'a> Files for Pages<'a> {
     }
 }
 
-/// A buffer in front of a writer with room for so many bytes.
+/// A buffer in front of a writer with room for `room` bytes.
 fn buffer(alloc: Global, room: usize) -> io::Result<BufWriter<Short>> {
     let taken = Vec::new(alloc);
     BufWriter::new(alloc, Short { taken, room })

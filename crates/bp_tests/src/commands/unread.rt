@@ -7,7 +7,7 @@ use bp_commands::{
 use std::alloc::{AllocError, Global};
 use std::io::Read;
 
-/// Whether a reader that fails after so many reads is reported by a command, and nothing is written.
+/// Whether a command reports a reader that fails after `reads` reads, and writes nothing.
 fn is_unread<C: ProgramCommand>(alloc: Global, command: &C, reads: usize) -> bool {
     let mut out = Vec::new(alloc);
     let said = said_of_program(alloc, command, Broken { reads }, &mut out);
@@ -54,7 +54,7 @@ fn read_the_program_first(rt: HostRuntime) -> Result<(), AllocError> {
     Ok(())
 }
 
-/// Whether a bundle whose reader fails after so many reads is reported, and nothing is written.
+/// Whether a bundle whose reader fails after `reads` reads is reported, and nothing is written.
 fn is_unread_bundle(alloc: Global, reads: usize) -> bool {
     let mut bundle = Source::new(alloc, Broken { reads });
     let mut out = Vec::new(alloc);
