@@ -2,6 +2,8 @@
 use Rattle.std.specs.Prelude.{◌⊎◌, ℕ, List, ◌∷◌, ◌++◌, length}
 use Rattle.bp_tree.specs.Ast.{Program}
 use Rattle.bp_syntax.specs.Texts.{IsTextOf, IsRefusal}
+use Rattle.bp_syntax.specs.Tokens.{IsReal}
+use Rattle.bp_syntax.specs.declared.tokens.TokenKind.{TokenKind}
 use Rattle.bp_syntax.specs.declared.faults.ReadFault.TheVariants.{Syntax}
 
 -- the text is a program
@@ -16,3 +18,9 @@ BeginsProgram text = IsProgram text ⊎ IsRefusal text (Syntax (length text))
 -- a program begins with the front and, on the next line, the token
 abbrev pub MayFollow : List ℕ → List ℕ → Type 0
 MayFollow front token = BeginsProgram (front ++ 10 ∷ token)
+
+-- a program begins with the front and, on the next line, some token of this kind
+pub record MayFollowAs (front : List ℕ) (kind : TokenKind) : Type 0 where
+  pub token : List ℕ
+  pub real : IsReal (record { kind = kind; at = 0; text = token })
+  pub follows : MayFollow front token

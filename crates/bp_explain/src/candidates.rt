@@ -1,29 +1,10 @@
 //! The tokens with which a text may go on.
 ghost use Rattle.std.specs.Prelude.{◌≡◌, ◌↔◌, ◌++◌, ◌∷◌, IsTrue, IfOk, All};
 ghost use Rattle.bp_syntax.specs.declared.faults.ReadFault.TheVariants.{Syntax, Memory};
-ghost use Rattle.bp_explain.specs.Followers.{IsProgram, BeginsProgram, MayFollow};
+ghost use Rattle.bp_explain.specs.Followers.{IsProgram, BeginsProgram, MayFollow, MayFollowAs};
 
-use bp_syntax::{ReadFault, has_one_refusal, read};
+use bp_syntax::{ReadFault, TOKEN_KINDS, TokenKind, has_one_refusal, read, spelling_of};
 use std::alloc::{AllocError, Global};
-
-/// A word that stands for any name: it is no reserved word.
-pub(crate) const NAME: &str = "x";
-
-/// How many kinds of tokens there are.
-const KINDS: usize = 33;
-
-/// A token of each kind.
-const TOKENS: [&str; KINDS] = [
-    "decl", NAME, "begin", "end", "skip", "goto", "return", "if", "then", "else", "fi", "while",
-    "do", "od", "assert", "assume", "print", "0", "1", "?", "!", "(", ")", ",", ";", ":", ":=",
-    "|", "^", "&", "=", "!=", "=>",
-];
-
-/// Whether this is the spelling of a reserved word.
-pub(crate) fn is_reserved(word: &[u8]) -> bool {
-    let is_letter = word.first().is_some_and(|byte| byte.is_ascii_alphabetic());
-    is_letter && word != NAME.as_bytes() && TOKENS.iter().any(|token| token.as_bytes() == word)
-}
 
 /// Whether the fault is that of refused memory.
 fn is_memory(fault: &ReadFault) -> bool
@@ -77,17 +58,17 @@ fn may_follow(alloc: Global, front: &[u8], token: &str) -> Result<bool, AllocErr
     begins_program(alloc, text.as_slice())
 }
 
-/// The tokens that may follow the front, one of each kind.
-pub(crate) fn tokens_behind(alloc: Global, front: &[u8]) -> Result<Vec<&'static str>, AllocError>
-    ensures { IfOk result (λ v. All (λ token. MayFollow front.now token.now) v.items) }
+/// The kinds of the tokens that may follow the front.
+pub(crate) fn kinds_behind(alloc: Global, front: &[u8]) -> Result<Vec<TokenKind>, AllocError>
+    ensures { IfOk result (λ v. All (MayFollowAs front.now) v.items) }
 {
-    let mut tokens = Vec::new(alloc);
-    for token in TOKENS {
-        if may_follow(alloc, front, token)? {
-            tokens.push(token)?;
+    let mut kinds = Vec::new(alloc);
+    for kind in TOKEN_KINDS {
+        if may_follow(alloc, front, spelling_of(kind))? {
+            kinds.push(kind)?;
         }
     }
-    Ok(tokens)
+    Ok(kinds)
 }
 
 /// Whether the front is a program.

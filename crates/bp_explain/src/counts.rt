@@ -1,6 +1,6 @@
 //! How many arguments a call has, and how many variables and values an assignment.
 
-use crate::pieces::take_piece;
+use bp_syntax::take_piece;
 use bp_text::part_from;
 
 /// How many tokens and commas the own text of a statement has, up to its `;`.
@@ -41,11 +41,11 @@ fn tally_at(text: &[u8], at: usize) -> Tally {
     let mut tally = EMPTY;
     let mut rest = part_from(text, at);
     while let Some(piece) = take_piece(&mut rest) {
-        if piece.words == b";".as_slice() {
+        if piece.text == b";".as_slice() {
             return tally;
         }
-        if !piece.is_gap {
-            tally = with_token(tally, piece.words);
+        if !piece.is_gap() {
+            tally = with_token(tally, piece.text);
         }
     }
     tally

@@ -1,14 +1,14 @@
 //! What a writer may have meant by a token that is out of place.
 
-use crate::candidates::is_reserved;
 use crate::offers::Offer;
+use bp_syntax::{TokenKind, is_reserved, spelling_of};
 
 /// Whether a name is among the offers, and no reserved word.
 fn is_name_due(offers: &[Offer]) -> bool {
     let has_name = offers.iter().any(|offer| matches!(offer, Offer::Name));
     has_name
         && !offers.iter().any(|offer| match offer {
-            Offer::Token(token) => is_reserved(token.as_bytes()),
+            Offer::Token(kind) => is_reserved(spelling_of(*kind).as_bytes()),
             _ => false,
         })
 }
@@ -21,7 +21,7 @@ fn has_expression(offers: &[Offer]) -> bool {
 
 fn has_assignment(offers: &[Offer]) -> bool {
     offers.iter().any(|offer| match offer {
-        Offer::Token(token) => *token == ":=",
+        Offer::Token(kind) => *kind == TokenKind::Becomes,
         _ => false,
     })
 }

@@ -1,20 +1,42 @@
 //! What a text may go on with, in few words: where all tokens of a group may follow, they are named
 //! by the group's name.
 
-use crate::candidates::{NAME, may_end, tokens_behind};
+use crate::candidates::{kinds_behind, may_end};
 use crate::sentences::{push_all, push_quoted};
+use bp_syntax::{TokenKind, spelling_of};
 use std::alloc::{AllocError, Global};
 
 /// What begins a statement, where no limit is in the way.
-const STATEMENT: [&str; 9] = [
-    "skip", "goto", "return", "if", "while", "assert", "assume", "print", NAME,
+const STATEMENT: [TokenKind; 9] = [
+    TokenKind::Skip,
+    TokenKind::Goto,
+    TokenKind::Return,
+    TokenKind::If,
+    TokenKind::While,
+    TokenKind::Assert,
+    TokenKind::Assume,
+    TokenKind::Print,
+    TokenKind::Name,
 ];
 
 /// What begins an expression.
-const EXPRESSION: [&str; 5] = ["0", "1", "!", "(", NAME];
+const EXPRESSION: [TokenKind; 5] = [
+    TokenKind::Zero,
+    TokenKind::One,
+    TokenKind::Bang,
+    TokenKind::Open,
+    TokenKind::Name,
+];
 
 /// What stands between the two sides of an expression.
-const OPERATOR: [&str; 6] = ["|", "^", "&", "=", "!=", "=>"];
+const OPERATOR: [TokenKind; 6] = [
+    TokenKind::Bar,
+    TokenKind::Caret,
+    TokenKind::Ampersand,
+    TokenKind::Equal,
+    TokenKind::Differ,
+    TokenKind::Implies,
+];
 
 /// One thing that a text may go on with.
 #[derive(Clone, Copy, Debug)]
@@ -25,50 +47,50 @@ pub(crate) enum Offer {
     Name,
     /// Nothing more.
     End,
-    /// This token.
-    Token(&'static str),
+    /// The token of this kind.
+    Token(TokenKind),
 }
 
-fn has(tokens: &[&str], token: &str) -> bool {
-    tokens.iter().any(|other| *other == token)
+fn has(kinds: &[TokenKind], kind: TokenKind) -> bool {
+    kinds.iter().any(|other| *other == kind)
 }
 
-fn has_all(tokens: &[&str], group: &[&str]) -> bool {
-    group.iter().all(|token| has(tokens, token))
+fn has_all(kinds: &[TokenKind], group: &[TokenKind]) -> bool {
+    group.iter().all(|kind| has(kinds, *kind))
 }
 
 /// Offers the group by its name, in place of its tokens, where all of these are there.
 fn offer_group(
-    tokens: &mut Vec<&'static str>,
-    group: &[&'static str],
+    kinds: &mut Vec<TokenKind>,
+    group: &[TokenKind],
     offer: Offer,
     offers: &mut Vec<Offer>,
 ) -> Result<(), AllocError> {
-    if has_all(tokens.as_slice(), group) {
+    if has_all(kinds.as_slice(), group) {
         offers.push(offer)?;
-        tokens.retain(|token| !has(group, token));
+        kinds.retain(|kind| !has(group, *kind));
     }
     Ok(())
 }
 
 /// The offer of a token of its own.
-fn offer_of(token: &'static str) -> Offer {
-    if token == NAME {
+fn offer_of(kind: TokenKind) -> Offer {
+    if kind == TokenKind::Name {
         Offer::Name
     } else {
-        Offer::Token(token)
+        Offer::Token(kind)
     }
 }
 
 /// What may follow the front of a text.
 pub(crate) fn offers_behind(alloc: Global, front: &[u8]) -> Result<Vec<Offer>, AllocError> {
-    let mut tokens = tokens_behind(alloc, front)?;
+    let mut kinds = kinds_behind(alloc, front)?;
     let mut offers = Vec::new(alloc);
-    offer_group(&mut tokens, &STATEMENT, Offer::Statement, &mut offers)?;
-    offer_group(&mut tokens, &EXPRESSION, Offer::Expression, &mut offers)?;
-    offer_group(&mut tokens, &OPERATOR, Offer::Operator, &mut offers)?;
-    for token in tokens.as_slice() {
-        offers.push(offer_of(*token))?;
+    offer_group(&mut kinds, &STATEMENT, Offer::Statement, &mut offers)?;
+    offer_group(&mut kinds, &EXPRESSION, Offer::Expression, &mut offers)?;
+    offer_group(&mut kinds, &OPERATOR, Offer::Operator, &mut offers)?;
+    for kind in kinds.as_slice() {
+        offers.push(offer_of(*kind))?;
     }
     if may_end(alloc, front)? {
         offers.push(Offer::End)?;
@@ -94,7 +116,7 @@ fn push_offer(out: &mut Vec<u8>, offer: Offer) -> Result<(), AllocError> {
         Offer::Operator => push_all(out, &[b"an operator"]),
         Offer::Name => push_all(out, &[b"a name"]),
         Offer::End => push_all(out, &[b"the end of the text"]),
-        Offer::Token(token) => push_quoted(out, token.as_bytes()),
+        Offer::Token(kind) => push_quoted(out, spelling_of(kind).as_bytes()),
     }
 }
 

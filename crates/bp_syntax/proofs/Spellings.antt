@@ -1,48 +1,10 @@
 -- Each kind of token has a spelling.
-use Rattle.std.proofs.Common.{ℕ, List, refl, codes}
+use Rattle.std.proofs.Common.{◌≡◌, ℕ, List, refl, sym, subst}
 use Rattle.bp_syntax.specs.Tokens.{Token, IsReal}
+use Rattle.bp_syntax.specs.Spellings.{spelling, some_token}
 use Rattle.bp_syntax.specs.declared.tokens.TokenKind.{TokenKind}
 use Rattle.bp_syntax.specs.declared.tokens.TokenKind.TheVariants as kind
 use Rattle.bp_syntax.specs.declared.tokens.LexemeKind.TheVariants as lexeme
-
--- a spelling of each kind of token
-abbrev pub spelling : TokenKind → List ℕ
-spelling kind.Name = codes "a"
-spelling kind.Zero = codes "0"
-spelling kind.One = codes "1"
-spelling kind.Semicolon = codes ";"
-spelling kind.Comma = codes ","
-spelling kind.Open = codes "("
-spelling kind.Close = codes ")"
-spelling kind.Colon = codes ":"
-spelling kind.Bar = codes "|"
-spelling kind.Ampersand = codes "&"
-spelling kind.Caret = codes "^"
-spelling kind.Equal = codes "="
-spelling kind.Bang = codes "!"
-spelling kind.Question = codes "?"
-spelling kind.Becomes = codes ":="
-spelling kind.Differ = codes "!="
-spelling kind.Implies = codes "=>"
-spelling kind.Decl = codes "decl"
-spelling kind.Begin = codes "begin"
-spelling kind.End = codes "end"
-spelling kind.Skip = codes "skip"
-spelling kind.Goto = codes "goto"
-spelling kind.Return = codes "return"
-spelling kind.If = codes "if"
-spelling kind.Then = codes "then"
-spelling kind.Else = codes "else"
-spelling kind.Fi = codes "fi"
-spelling kind.While = codes "while"
-spelling kind.Do = codes "do"
-spelling kind.Od = codes "od"
-spelling kind.Assert = codes "assert"
-spelling kind.Print = codes "print"
-spelling kind.Assume = codes "assume"
-
-abbrev pub some_token : TokenKind → Token
-some_token k = record { kind = k; at = 0; text = spelling k }
 
 pub some_real : (k : TokenKind) → IsReal (some_token k)
 some_real kind.Name = record { lexeme = lexeme.Identifier; fits = refl; spells = refl }
@@ -78,3 +40,6 @@ some_real kind.Od = record { lexeme = lexeme.Identifier; fits = refl; spells = r
 some_real kind.Assert = record { lexeme = lexeme.Identifier; fits = refl; spells = refl }
 some_real kind.Print = record { lexeme = lexeme.Identifier; fits = refl; spells = refl }
 some_real kind.Assume = record { lexeme = lexeme.Identifier; fits = refl; spells = refl }
+
+pub real_spelling : (k : TokenKind) (text : List ℕ) → text ≡ spelling k → IsReal (record { kind = k; at = 0; text = text })
+real_spelling k text is = subst (λ s. IsReal (record { kind = k; at = 0; text = s })) (sym is) (some_real k)

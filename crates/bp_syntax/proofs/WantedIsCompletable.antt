@@ -7,7 +7,8 @@ use Rattle.bp_syntax.specs.Grammar.{name_of, one_name, no_names, of_or, of_xor, 
 use Rattle.bp_syntax.specs.Opens.{AllReal}
 use Rattle.bp_syntax.specs.ParserState.{Wanted, Complete, WordThen, NameThen, MoreNames, AnyNamesThen, UnThen, MoreOperands, MoreImplied, MoreExprs, AnyExprsThen, DeciderThen, FormThen, FormAfter, StmtThen, StmtAfter, MoreStmts, MoreDecls, MoreProcs}
 use Rattle.bp_syntax.specs.declared.tokens.TokenKind.TheVariants as kind
-use Rattle.bp_syntax.proofs.Spellings.{some_token, some_real}
+use Rattle.bp_syntax.specs.Spellings.{some_token}
+use Rattle.bp_syntax.proofs.Spellings.{some_real}
 use Rattle.bp_syntax.proofs.WantedPhrases.{Needs, complete, word, name, names, any_names, un, operands, implied, exprs, any_exprs, decider, form, form_after, stmt, stmt_after, stmts, decls, procs, no_more_names, no_more_exprs, no_more_stmts, no_more_operands, nothing_implied}
 
 pub record Completed (w : Wanted) : Type 0 where

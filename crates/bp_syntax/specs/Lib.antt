@@ -5,6 +5,8 @@ pub mod Faults
 pub mod Words
 pub mod Grammar
 pub mod Opens
+pub mod Pieces
+pub mod Spellings
 pub mod ParserState
 pub mod Nesting
 pub mod DepthCount

@@ -73,12 +73,17 @@ reserved_words =
     ∷ (codes "od", kind.Od) ∷ (codes "assert", kind.Assert) ∷ (codes "print", kind.Print)
     ∷ (codes "assume", kind.Assume) ∷ []
 
+-- the kind of the reserved word that the bytes are
+abbrev pub reserved_word : List ℕ → Option TokenKind
+reserved_word s = lookup (bytes_eq s) reserved_words
+
 -- the kind of an identifier: that of a reserved word, or else a name
 abbrev pub word_kind : List ℕ → TokenKind
-word_kind s = unwrap_or (lookup (bytes_eq s) reserved_words) kind.Name
+word_kind s = unwrap_or (reserved_word s) kind.Name
 
+-- whether the bytes are a reserved word
 abbrev pub is_reserved : List ℕ → Bool
-is_reserved s = is_some (lookup (bytes_eq s) reserved_words)
+is_reserved s = is_some (reserved_word s)
 
 -- the bytes are one lexeme of the kind
 abbrev pub fits : LexemeKind → List ℕ → Bool

@@ -8,13 +8,18 @@ mod lexer;
 pub mod limits;
 mod nesting;
 mod parser;
+mod pieces;
 mod reading;
 mod successions;
+mod token_kinds;
 mod tokens;
 mod trees;
 
 pub use bp_tree::{Block, Decider, Expr, Exprs, Form, Name, Names, Op, Proc, Procs, Stmt, Sub};
 pub use faults::ReadFault;
 pub use laws::{has_names_on_one_line, has_one_cut, has_one_refusal, has_one_tree};
+pub use pieces::{Piece, take_piece};
 pub use reading::read;
+pub use token_kinds::{TOKEN_KINDS, spelling_of};
+pub use tokens::{LexemeKind, TokenKind, is_reserved};
 pub use trees::Tree;

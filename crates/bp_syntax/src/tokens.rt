@@ -4,7 +4,7 @@ ghost use Rattle.bp_syntax.specs.Tokens as spelling;
 
 /// What the scan tells apart. Reserved words are identifiers here.
 #[derive(Clone, Copy, Debug, PartialEq, Eq)]
-pub(crate) enum LexemeKind {
+pub enum LexemeKind {
     White,
     Comment,
     Identifier,
@@ -15,7 +15,7 @@ pub(crate) enum LexemeKind {
 
 /// What a token is: a name, a constant, a symbol or a reserved word.
 #[derive(Clone, Copy, Debug, PartialEq, Eq)]
-pub(crate) enum TokenKind {
+pub enum TokenKind {
     Name,
     Zero,
     One,
@@ -140,29 +140,43 @@ pub(crate) fn long_symbol(b: u8, c: u8) -> Option<TokenKind>
     }
 }
 
+/// The kind of the reserved word that the bytes are.
+fn reserved_word(text: &[u8]) -> Option<TokenKind>
+    ensures { result ≡ spelling.reserved_word text.now }
+{
+    match text {
+        b"decl" => Some(TokenKind::Decl),
+        b"begin" => Some(TokenKind::Begin),
+        b"end" => Some(TokenKind::End),
+        b"skip" => Some(TokenKind::Skip),
+        b"goto" => Some(TokenKind::Goto),
+        b"return" => Some(TokenKind::Return),
+        b"if" => Some(TokenKind::If),
+        b"then" => Some(TokenKind::Then),
+        b"else" => Some(TokenKind::Else),
+        b"fi" => Some(TokenKind::Fi),
+        b"while" => Some(TokenKind::While),
+        b"do" => Some(TokenKind::Do),
+        b"od" => Some(TokenKind::Od),
+        b"assert" => Some(TokenKind::Assert),
+        b"print" => Some(TokenKind::Print),
+        b"assume" => Some(TokenKind::Assume),
+        _ => None,
+    }
+}
+
+/// Whether the bytes are a reserved word.
+pub fn is_reserved(text: &[u8]) -> bool
+    ensures { result ≡ spelling.is_reserved text.now }
+{
+    reserved_word(text).is_some()
+}
+
 /// The kind of an identifier: a reserved word, or a name.
 fn word_kind(text: &[u8]) -> TokenKind
     ensures { result ≡ spelling.word_kind text.now }
 {
-    match text {
-        b"decl" => TokenKind::Decl,
-        b"begin" => TokenKind::Begin,
-        b"end" => TokenKind::End,
-        b"skip" => TokenKind::Skip,
-        b"goto" => TokenKind::Goto,
-        b"return" => TokenKind::Return,
-        b"if" => TokenKind::If,
-        b"then" => TokenKind::Then,
-        b"else" => TokenKind::Else,
-        b"fi" => TokenKind::Fi,
-        b"while" => TokenKind::While,
-        b"do" => TokenKind::Do,
-        b"od" => TokenKind::Od,
-        b"assert" => TokenKind::Assert,
-        b"print" => TokenKind::Print,
-        b"assume" => TokenKind::Assume,
-        _ => TokenKind::Name,
-    }
+    reserved_word(text).unwrap_or(TokenKind::Name)
 }
 
 /// The kind of the token that a piece is. White and comments are no tokens.

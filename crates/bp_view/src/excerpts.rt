@@ -2,6 +2,7 @@
 ghost use Rattle.std.specs.Prelude.{◌≤◌, ◌<◌, length, IfOk, OnOk, MatchOption};
 ghost use Rattle.bp_text.specs.OneLine.{AddsOneLine, IsOneLine};
 
+use bp_syntax::{LexemeKind, Piece, take_piece};
 use bp_text::push_on_one_line;
 use std::alloc::{AllocError, Global};
 
@@ -11,88 +12,30 @@ pub(crate) const MAX_EXCERPT: usize = 60;
 /// What ends an excerpt that was cut.
 const CUT: &[u8] = b"..";
 
-fn is_white(byte: u8) -> bool {
-    matches!(byte, b' ' | b'\t' | b'\n' | b'\r')
-}
-
-fn is_word(byte: u8) -> bool {
-    byte.is_ascii_alphanumeric() || byte == b'_'
-}
-
-/// How much white a text begins with.
-fn white_size(text: &[u8]) -> usize
-    ensures { result ≤ length text.now }
-{
-    text.iter()
-        .position(|byte| !is_white(*byte))
-        .unwrap_or(text.len())
-}
-
-/// How many bytes has the word with which a text begins.
-fn word_size(text: &[u8]) -> usize
-    ensures { result ≤ length text.now }
-{
-    text.iter()
-        .position(|byte| !is_word(*byte))
-        .unwrap_or(text.len())
-}
-
-/// What a text begins with.
+/// What a piece is to an excerpt.
 #[derive(Clone, Copy, Debug, PartialEq, Eq)]
-pub(crate) enum Piece {
+pub(crate) enum Role {
     /// White or a comment.
     Gap,
-    /// A name, a reserved word or a constant.
+    /// A name or a reserved word.
     Word,
     /// What ends a statement's own text.
     End,
     Symbol,
 }
 
-/// The piece that a word is: two reserved words end a statement's own text.
-fn piece_of_word(word: &[u8]) -> Piece {
-    if word == b"then".as_slice() || word == b"do".as_slice() {
-        return Piece::End;
+/// What a piece is to an excerpt: `;` and two reserved words end a statement's own text.
+pub(crate) fn role_of(piece: Piece<'_>) -> Role {
+    if piece.is_gap() {
+        return Role::Gap;
     }
-    Piece::Word
-}
-
-/// How many bytes a comment has, or a braced name, which ends with this byte.
-fn size_through(text: &[u8], end: u8) -> usize
-    ensures { result ≤ length text.now }
-{
-    match text.iter().position(|byte| *byte == end) {
-        Some(at) => at + 1,
-        None => text.len(),
+    if matches!(piece.text, b";" | b"then" | b"do") {
+        return Role::End;
     }
-}
-
-/// What a text begins with, and how many bytes it has at least.
-fn measured_piece(text: &[u8], first: u8) -> (Piece, usize)
-    ensures { result.1 ≤ length text.now }
-{
-    match first {
-        b'/' if text.get(1) == Some(&b'/') => (Piece::Gap, size_through(text, b'\n')),
-        b'{' => (Piece::Word, size_through(text, b'}')),
-        _ if is_white(first) => (Piece::Gap, white_size(text)),
-        _ if is_word(first) => {
-            let size = word_size(text);
-            (piece_of_word(&text[..size]), size)
-        }
-        b';' => (Piece::End, 0),
-        _ => (Piece::Symbol, 0),
+    match piece.kind {
+        Some(LexemeKind::Identifier | LexemeKind::Braced) => Role::Word,
+        _ => Role::Symbol,
     }
-}
-
-/// Takes the first piece from a text: at least a byte, where there is one.
-pub(crate) fn take_piece<'a>(text: &mut &'a [u8]) -> Option<(Piece, &'a [u8])>
-    ensures { MatchOption result Unit (λ _. length text.new.now < length text.old.now) }
-{
-    let whole = *text;
-    let (piece, size) = measured_piece(whole, *whole.first()?);
-    let (bytes, rest) = whole.split_at(size.max(1));
-    *text = rest;
-    Some((piece, bytes))
 }
 
 /// A statement's own text: one line, and whether it decides by a choice bit.
@@ -102,7 +45,7 @@ pub(crate) struct Excerpt {
     pub(crate) reads_choice: bool,
 }
 
-/// Adds a piece, behind a space where there was a gap.
+/// Adds a piece, after a space where there was a gap.
 fn push_piece(words: &mut Vec<u8>, had_gap: bool, bytes: &[u8]) -> Result<(), AllocError>
     ensures { OnOk result (AddsOneLine words.old.items words.new.items) }
 {
@@ -112,16 +55,11 @@ fn push_piece(words: &mut Vec<u8>, had_gap: bool, bytes: &[u8]) -> Result<(), Al
 }
 
 /// Adds a piece, but for a gap.
-fn keep_piece(
-    words: &mut Vec<u8>,
-    piece: Piece,
-    had_gap: bool,
-    bytes: &[u8],
-) -> Result<(), AllocError>
+fn keep_piece(words: &mut Vec<u8>, piece: Piece<'_>, had_gap: bool) -> Result<(), AllocError>
     ensures { OnOk result (AddsOneLine words.old.items words.new.items) }
 {
-    if piece != Piece::Gap {
-        push_piece(words, had_gap, bytes)?;
+    if !piece.is_gap() {
+        push_piece(words, had_gap, piece.text)?;
     }
     Ok(())
 }
@@ -147,13 +85,13 @@ pub(crate) fn excerpt_of(alloc: Global, text: &[u8]) -> Result<Excerpt, AllocErr
     let mut reads_choice = false;
     let mut had_gap = false;
     let mut rest = text;
-    while let Some((piece, bytes)) = take_piece(&mut rest) {
-        if piece == Piece::End {
+    while let Some(piece) = take_piece(&mut rest) {
+        if role_of(piece) == Role::End {
             break;
         }
-        keep_piece(&mut words, piece, had_gap, bytes)?;
-        had_gap = piece == Piece::Gap;
-        reads_choice |= bytes == b"?".as_slice();
+        keep_piece(&mut words, piece, had_gap)?;
+        had_gap = piece.is_gap();
+        reads_choice |= piece.text == b"?".as_slice();
     }
     cut(&mut words)?;
     Ok(Excerpt {

@@ -1,9 +1,10 @@
 //! The end of a view: what the history comes to.
 use crate::changes::procedure_at;
-use crate::excerpts::{Piece, take_piece};
+use crate::excerpts::{Role, role_of};
 use crate::lines::Stage;
 use crate::variables::push_variable;
 use bp_machine::{Outcome, Session, Top};
+use bp_syntax::take_piece;
 use itoa::Buffer;
 use std::alloc::{AllocError, Global};
 
@@ -25,12 +26,13 @@ fn push_variables(
         return Ok(());
     };
     let mut rest = text;
-    while let Some((piece, bytes)) = take_piece(&mut rest) {
-        if piece == Piece::End {
+    while let Some(piece) = take_piece(&mut rest) {
+        let role = role_of(piece);
+        if role == Role::End {
             break;
         }
-        if piece == Piece::Word {
-            push_variable(view, stage.globals, proc, top.store, bytes)?;
+        if role == Role::Word {
+            push_variable(view, stage.globals, proc, top.store, piece.text)?;
         }
     }
     Ok(())
