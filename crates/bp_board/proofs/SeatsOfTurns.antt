@@ -3,9 +3,9 @@ use Rattle.std.proofs.Common.{◌≡◌, ℕ, ◌+◌, true, not, [], ◌∷◌,
 use Rattle.std.proofs.lemmas.Bool.{false≢true}
 use Rattle.bp_machine.specs.declared.calls.Reply.{Reply}
 use Rattle.bp_machine.specs.declared.calls.Reply.TheVariants.{Stepped}
-use Rattle.bp_machine.specs.declared.sessions.AskFault.{AskFault}
-use Rattle.bp_machine.specs.declared.sessions.AskFault.TheVariants.{Finished}
-use Rattle.bp_machine.specs.declared.sessions.AskFault.TheVariants as fault
+use Rattle.bp_machine.specs.declared.ask_faults.AskFault.{AskFault}
+use Rattle.bp_machine.specs.declared.ask_faults.AskFault.TheVariants.{Finished}
+use Rattle.bp_machine.specs.declared.ask_faults.AskFault.TheVariants as fault
 use Rattle.bp_machine.specs.Histories.{is_finished}
 use Rattle.bp_machine.specs.Replies.{is_last}
 use Rattle.bp_machine.proofs.OpenLines.{last_finishes}

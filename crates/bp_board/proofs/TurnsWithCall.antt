@@ -4,7 +4,7 @@ use Rattle.std.proofs.lemmas.List.{append-nil}
 use Rattle.std.proofs.lemmas.Bool.{false≢true}
 use Rattle.bp_machine.specs.declared.calls.Call.{Call}
 use Rattle.bp_machine.specs.declared.calls.Reply.TheVariants.{Stepped}
-use Rattle.bp_machine.specs.declared.sessions.AskFault.{AskFault}
+use Rattle.bp_machine.specs.declared.ask_faults.AskFault.{AskFault}
 use Rattle.bp_machine.specs.Histories.{is_finished}
 use Rattle.bp_board.specs.Asks.{IsShut, IsDeskRefusal}
 use Rattle.bp_board.specs.Desks.{DeskOf}

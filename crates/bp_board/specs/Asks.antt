@@ -4,8 +4,8 @@ use Rattle.bp_tree.specs.Ast.{Program}
 use Rattle.bp_code.specs.StandsFor.{StandsFor}
 use Rattle.bp_machine.specs.declared.calls.Call.{Call}
 use Rattle.bp_machine.specs.declared.calls.Reply.{Reply}
-use Rattle.bp_machine.specs.declared.sessions.AskFault.{AskFault}
-use Rattle.bp_machine.specs.declared.sessions.AskFault.TheVariants as fault
+use Rattle.bp_machine.specs.declared.ask_faults.AskFault.{AskFault}
+use Rattle.bp_machine.specs.declared.ask_faults.AskFault.TheVariants as fault
 use Rattle.bp_machine.specs.Histories.{is_finished}
 use Rattle.bp_machine.specs.Sessions.{IsNextCall, IsAskRefusal}
 use Rattle.bp_board.specs.Desks.{DeskOf}

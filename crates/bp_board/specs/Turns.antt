@@ -4,8 +4,8 @@ use Rattle.std.specs.List.{AllByRecursion}
 use Rattle.bp_machine.specs.declared.calls.Call.{Call}
 use Rattle.bp_machine.specs.declared.calls.Reply.{Reply}
 use Rattle.bp_machine.specs.declared.calls.Reply.TheVariants.{Stepped}
-use Rattle.bp_machine.specs.declared.sessions.AskFault.{AskFault}
-use Rattle.bp_machine.specs.declared.sessions.AskFault.TheVariants as fault
+use Rattle.bp_machine.specs.declared.ask_faults.AskFault.{AskFault}
+use Rattle.bp_machine.specs.declared.ask_faults.AskFault.TheVariants as fault
 use Rattle.bp_machine.specs.Histories.{is_finished}
 use Rattle.bp_board.specs.Asks.{IsDeskRefusal}
 use Rattle.bp_board.specs.Desks.{DeskOf}

@@ -6,8 +6,8 @@ use Rattle.bp_code.specs.declared.texts.ProgramFault.{ProgramFault}
 use Rattle.bp_code.specs.declared.texts.ProgramFault.TheVariants.{Read, Check}
 use Rattle.bp_code.specs.declared.texts.CodeFault.{CodeFault}
 use Rattle.bp_code.specs.declared.texts.CodeFault.TheVariants as code
-use Rattle.bp_machine.specs.declared.setups.SetupFault.{SetupFault}
-use Rattle.bp_machine.specs.declared.setups.SetupFault.TheVariants as setup
+use Rattle.bp_machine.specs.declared.setup_faults.SetupFault.{SetupFault}
+use Rattle.bp_machine.specs.declared.setup_faults.SetupFault.TheVariants as setup
 use Rattle.bp_trace.specs.declared.faults.DriveFault.{DriveFault}
 use Rattle.bp_trace.specs.declared.faults.DriveFault.TheVariants as drive
 use Rattle.bp_trace.specs.declared.replay_faults.ReplayFault.{ReplayFault}

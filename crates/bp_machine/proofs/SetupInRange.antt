@@ -12,9 +12,9 @@ use Rattle.bp_code.specs.Flat.{Flat}
 use Rattle.bp_code.specs.StandsFor.{StandsFor}
 use Rattle.bp_code.specs.Programs.{IsOfProgram}
 use Rattle.bp_check.proofs.LawsOfLawfulPrograms.{few_names}
-use Rattle.bp_machine.specs.declared.setups.SetupFault.{SetupFault}
+use Rattle.bp_machine.specs.declared.setup_faults.SetupFault.{SetupFault}
 use Rattle.bp_machine.proofs.ForEveryProgram.{is_untrue}
-use Rattle.bp_machine.specs.declared.setups.SetupFault.TheVariants.{Threads, InitLength, OutOfRange}
+use Rattle.bp_machine.specs.declared.setup_faults.SetupFault.TheVariants.{Threads, InitLength, OutOfRange}
 use Rattle.bp_machine.specs.declared.limits.TheConstants.{MAX_THREADS, MAX_CONTEXTS, MAX_CALLS}
 use Rattle.bp_machine.specs.Setups.{SetupOf, threads, entries_fault, fault_if, first_of, has_bad_threads, is_out_of_range, setup_fault, Fits, IsInRange}
 

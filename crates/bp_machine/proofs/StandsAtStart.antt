@@ -16,7 +16,7 @@ use Rattle.bp_code.specs.Steps.{bits_from}
 use Rattle.bp_code.specs.StandsFor.{StandsFor, valuation_of, variables, places_of}
 use Rattle.bp_code.specs.Alike.{ShowsStack}
 use Rattle.bp_code.proofs.HeadingsOfProcedures.{SameHeading, heading_of_procedure}
-use Rattle.bp_machine.specs.declared.setups.SetupFault.{SetupFault}
+use Rattle.bp_machine.specs.declared.setup_faults.SetupFault.{SetupFault}
 use Rattle.bp_machine.specs.ContextCounts.{IsCountOf}
 use Rattle.bp_machine.specs.Setups.{SetupOf, start, entry_fault, entries_fault, Fits}
 use Rattle.bp_machine.specs.declared.reports.Outcome.TheVariants.{Clean}

@@ -6,8 +6,8 @@ use Rattle.bp_code.specs.Flat.{Flat}
 use Rattle.bp_code.specs.StandsFor.{StandsFor}
 use Rattle.bp_machine.specs.declared.calls.Call.{Call}
 use Rattle.bp_machine.specs.declared.calls.Reply.TheVariants.{Stepped}
-use Rattle.bp_machine.specs.declared.sessions.AskFault.{AskFault}
-use Rattle.bp_machine.specs.declared.sessions.AskFault.TheVariants.{NoThread, Finished, Seeded, Unseeded, Memory, Busy}
+use Rattle.bp_machine.specs.declared.ask_faults.AskFault.{AskFault}
+use Rattle.bp_machine.specs.declared.ask_faults.AskFault.TheVariants.{NoThread, Finished, Seeded, Unseeded, Memory, Busy}
 use Rattle.bp_machine.specs.ChoiceBits.{ChoicesOf, IsAt}
 use Rattle.bp_machine.specs.SeededHistories.{HasSeededBits, IsBitOfCall}
 use Rattle.bp_machine.specs.Setups.{SetupOf, threads, IsInRange}

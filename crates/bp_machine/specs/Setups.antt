@@ -7,8 +7,8 @@ use Rattle.bp_code.specs.Configurations.{Configuration, procedure_named, start_o
 use Rattle.bp_code.specs.Flat.{Flat}
 use Rattle.bp_code.specs.StandsFor.{StandsFor}
 use Rattle.bp_machine.specs.declared.limits.TheConstants.{MAX_THREADS, MAX_CONTEXTS, MAX_CALLS}
-use Rattle.bp_machine.specs.declared.setups.SetupFault.{SetupFault}
-use Rattle.bp_machine.specs.declared.setups.SetupFault.TheVariants.{Threads, UnknownEntry, EntryHasFormals, InitLength, OutOfRange, Memory}
+use Rattle.bp_machine.specs.declared.setup_faults.SetupFault.{SetupFault}
+use Rattle.bp_machine.specs.declared.setup_faults.SetupFault.TheVariants.{Threads, UnknownEntry, EntryHasFormals, InitLength, OutOfRange, Memory}
 
 -- an entry procedure for each thread, a bit for each global, the contexts and the calls of a thread
 -- that are allowed, and the seed of the choice bits

@@ -1,6 +1,7 @@
 //! The sequential machine: setups, and sessions that answer the calls of guest threads.
 #![tactic(auto)]
 
+mod ask_faults;
 mod calls;
 mod choices;
 mod contexts;
@@ -10,6 +11,7 @@ pub mod limits;
 mod machine;
 mod reports;
 mod sessions;
+mod setup_faults;
 mod setup_words;
 mod setups;
 mod stacks;
@@ -17,6 +19,7 @@ mod starts;
 mod threads;
 pub mod tops;
 
+pub use ask_faults::AskFault;
 pub use calls::{Call, Reply};
 pub use choices::Choices;
 pub use histories::open_lines;
@@ -25,7 +28,8 @@ pub use laws::{
     steps_are_within,
 };
 pub use reports::{Outcome, Report};
-pub use sessions::{AskFault, Session};
-pub use setups::{Setup, SetupFault};
+pub use sessions::Session;
+pub use setup_faults::SetupFault;
+pub use setups::Setup;
 pub use starts::Start;
 pub use tops::Top;

@@ -7,7 +7,8 @@ ghost use Rattle.bp_machine.specs.declared.limits.TheConstants.{MAX_THREADS};
 ghost use Rattle.bp_machine.specs.Setups.{setup_of, entries_fault, setup_fault, IsSetupRefusal, FitsCode, IsInRange};
 
 use crate::limits::MAX_THREADS;
-use crate::setups::{Setup, SetupFault, fault_of_entry, fault_of_numbers};
+use crate::setup_faults::{SetupFault, fault_of_entry, fault_of_numbers};
+use crate::setups::Setup;
 use bp_code::Code;
 use std::alloc::{AllocError, Global};
 

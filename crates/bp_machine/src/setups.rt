@@ -1,66 +1,15 @@
 //! What a session starts from.
-ghost use Rattle.std.specs.Prelude.{◌≡◌, ◌⊎◌, ◌≤◌, ◌↔◌, IsTrue, ℕ, List, [], None, Some, map, length, slice_get, string_bytes, MatchResult, IfOk, option_map};
-ghost use Rattle.std.specs.Option.{option_copied};
+ghost use Rattle.std.specs.Prelude.{◌≡◌, ◌↔◌, IsTrue, None, map, slice_get, string_bytes, MatchResult, IfOk, option_map};
 ghost use Rattle.bp_tree.specs.Ast.{Program};
-ghost use Rattle.bp_code.specs.Configurations.{procedure_named};
 ghost use Rattle.bp_code.specs.StandsFor.{StandsFor};
-ghost use Rattle.bp_machine.specs.declared.limits.TheConstants.{MAX_THREADS};
-ghost use Rattle.bp_machine.specs.Setups.{SetupOf, setup_of, threads, entries_fault, entry_fault, first_of, number_faults, setup_fault, IsSetupRefusal, Fits, FitsCode, IsInRange, setup_fault_number, setup_fault_place};
+ghost use Rattle.bp_machine.specs.Setups.{setup_of, threads, setup_fault, IsSetupRefusal, Fits, FitsCode, IsInRange};
 
-use crate::limits::{MAX_CALLS, MAX_CONTEXTS, MAX_THREADS};
+mod equality;
+
+use crate::setup_faults::{SetupFault, fault_of_entries, fault_of_setup};
 use bp_code::Code;
-use std::alloc::{AllocError, AllocFailed, Global};
+use std::alloc::{AllocError, Global};
 use std::marker::Model;
-use thiserror::Error;
-
-/// Why a setup is refused: the first of these that applies.
-#[derive(Clone, Copy, Debug, PartialEq, Eq, Error)]
-pub enum SetupFault {
-    /// There are no threads, or more than 64.
-    #[error("there must be 1 to 64 guest threads")]
-    Threads,
-    /// The entry of this thread is no procedure of the program.
-    #[error("thread {0} begins with a procedure that is not there")]
-    UnknownEntry(u32),
-    /// The entry of this thread has formals.
-    #[error("thread {0} begins with a procedure that has formals")]
-    EntryHasFormals(u32),
-    /// There is not one initial bit for each global.
-    #[error("there must be one initial bit for each global")]
-    InitLength,
-    /// More than 1,000 contexts, no call, or more than 100,000 calls.
-    #[error("a number is out of its range")]
-    OutOfRange,
-    /// There was not enough memory.
-    #[error("out of memory")]
-    Memory,
-}
-
-impl SetupFault {
-    /// The number by which users know the fault.
-    pub fn number(&self) -> u32
-        ensures { result ≡ setup_fault_number self.now }
-    {
-        match self {
-            SetupFault::Threads => 31,
-            SetupFault::UnknownEntry(_) => 32,
-            SetupFault::EntryHasFormals(_) => 33,
-            SetupFault::InitLength => 34,
-            SetupFault::OutOfRange => 35,
-            SetupFault::Memory => 7,
-        }
-    }
-
-    /// The thread that the fault names, where it names one.
-    pub fn place(&self) -> Option<u32>
-        ensures { result ≡ setup_fault_place self.now }
-    {
-        match self {
-            SetupFault::UnknownEntry(thread) | SetupFault::EntryHasFormals(thread) => Some(*thread),
-            _ => None,
-        }
-    }
-}
 
 /// An entry procedure for each guest thread, a bit for each global, how many contexts and how many
 /// calls of a thread are allowed, and the seed of the choice bits, where they are not handed in.
@@ -87,78 +36,6 @@ impl Model for Setup {
         (setup_of (map string_bytes s.entries.items) s.init.items s.contexts s.calls s.seed) };
 }
 
-/// The fault of the entry of a thread.
-pub(crate) fn fault_of_entry(code: &Code, thread: u32, name: &[u8]) -> Option<SetupFault>
-    ensures { (t : Program)
-        → StandsFor code.now t
-        → result ≡ entry_fault thread (procedure_named t.procedures name.now) }
-{
-    match code.heading_of(name) {
-        None => Some(SetupFault::UnknownEntry(thread)),
-        Some(heading) if heading.formals() == 0 => None,
-        Some(_) => Some(SetupFault::EntryHasFormals(thread)),
-    }
-}
-
-/// The first fault of the entries.
-fn fault_of_entries(code: &Code, entries: &[String]) -> Option<SetupFault>
-    requires { length entries.now ≤ MAX_THREADS }
-    ensures { (t : Program)
-        → StandsFor code.now t
-        → result ≡ entries_fault t 0 (map string_bytes entries.now) }
-{
-    for (thread, name) in entries.iter().enumerate() {
-        let fault = fault_of_entry(code, thread as u32, name.as_bytes());
-        if fault.is_some() {
-            return fault;
-        }
-    }
-    None
-}
-
-/// The first fault of the initial bits and the numbers.
-pub(crate) fn fault_of_numbers(
-    code: &Code,
-    init: &[bool],
-    contexts: u64,
-    calls: u64,
-) -> Option<SetupFault>
-    ensures { let given = setup_of [] init.now contexts calls None in
-        (t : Program)
-        → StandsFor code.now t
-        → result ≡ first_of (number_faults t given) }
-{
-    if init.len() != code.globals() as usize {
-        return Some(SetupFault::InitLength);
-    }
-    if contexts > u64::from(MAX_CONTEXTS) || calls == 0 || calls > u64::from(MAX_CALLS) {
-        return Some(SetupFault::OutOfRange);
-    }
-    None
-}
-
-/// The first fault of a setup with these parts, apart from memory.
-fn fault_of_setup(
-    code: &Code,
-    entries: &[String],
-    init: &[bool],
-    contexts: u32,
-    calls: u32,
-) -> Option<SetupFault>
-    ensures { let given = setup_of (map string_bytes entries.now) init.now contexts calls None in
-        (t : Program)
-        → StandsFor code.now t
-        → result ≡ setup_fault t given }
-{
-    if entries.is_empty() || entries.len() > MAX_THREADS {
-        return Some(SetupFault::Threads);
-    }
-    if let Some(fault) = fault_of_entries(code, entries) {
-        return Some(fault);
-    }
-    fault_of_numbers(code, init, u64::from(contexts), u64::from(calls))
-}
-
 fn copies(alloc: Global, names: &[String]) -> Result<Vec<String>, AllocError>
     ensures { IfOk result (λ v. map string_bytes v.items ≡ map string_bytes names.now) }
 {
@@ -167,33 +44,6 @@ fn copies(alloc: Global, names: &[String]) -> Result<Vec<String>, AllocError>
         items.push(name.clone()?)?;
     }
     Ok(items)
-}
-
-/// Whether both seeds are there and equal, or neither is there.
-fn same_seeds(seed: Option<u64>, other: Option<u64>) -> bool
-    ensures { IsTrue result ↔ (seed ≡ other) }
-{
-    seed == other
-}
-
-fn same_bits(bits: &[bool], others: &[bool]) -> bool
-    ensures { IsTrue result ↔ (bits.now ≡ others.now) }
-{
-    bits == others
-}
-
-fn same_names(names: &[String], others: &[String]) -> bool
-    ensures { IsTrue result ↔ (map string_bytes names.now ≡ map string_bytes others.now) }
-{
-    if names.len() != others.len() {
-        return false;
-    }
-    for (i, name) in names.iter().enumerate() {
-        if name.as_str() != others[i].as_str() {
-            return false;
-        }
-    }
-    true
 }
 
 /// A setup of copies of these parts.
@@ -212,17 +62,6 @@ fn kept(
     let entries = copies(alloc, entries)?;
     let init = Vec::from_slice(alloc, init)?;
     Ok(Setup::of_parts(entries, init, contexts, calls, seed))
-}
-
-impl From<AllocError> for SetupFault {
-    ghost use Rattle.std.specs.Prelude.{◌≡◌};
-    ghost use Rattle.bp_machine.specs.declared.setups.SetupFault.{SetupFault};
-
-    ghost from_gives = { λ _ e. e ≡ SetupFault.Memory };
-
-    fn from(_: AllocError) -> SetupFault {
-        SetupFault::Memory
-    }
 }
 
 impl Setup {
@@ -354,18 +193,6 @@ impl Setup {
             && self.init.len() == code.globals() as usize
     }
 
-    /// Whether both hold the same arguments.
-    fn is_same(&self, other: &Setup) -> bool
-        ensures { IsTrue result ↔ (self.now ≡ other.now) }
-    {
-        if self.contexts != other.contexts || self.calls != other.calls {
-            return false;
-        }
-        same_seeds(self.seed, other.seed)
-            && same_bits(self.init.as_slice(), other.init.as_slice())
-            && same_names(self.entries.as_slice(), other.entries.as_slice())
-    }
-
     /// Copies the setup. Each session keeps a copy of its own.
     pub fn try_copy(&self) -> Result<Setup, AllocError>
         ensures { IfOk result (λ s. s ≡ self.now) }
@@ -379,29 +206,4 @@ impl Setup {
             self.seed,
         )
     }
-}
-
-impl PartialEq for Setup {
-    ghost use Rattle.std.specs.Prelude.{◌≡◌, IsTrue, ◌↔◌};
-    ghost use Rattle.std.specs.Cmp.{partial_equiv_from_equiv};
-    ghost use Rattle.bp_code.specs.Same.{same, same-equiv};
-    ghost use Rattle.bp_machine.specs.SessionCodes.{coded_setup};
-
-    ghost eq = { same coded_setup };
-
-    ghost laws = { partial_equiv_from_equiv (same-equiv coded_setup) };
-
-    fn eq(&self, other: &Setup) -> bool
-        ensures gives { result ≡ same coded_setup self.now other.now }
-        ensures equal { IsTrue result ↔ (self.now ≡ other.now) }
-    {
-        self.is_same(other)
-    }
-}
-
-impl Eq for Setup {
-    ghost use Rattle.bp_code.specs.Same.{same-equiv};
-    ghost use Rattle.bp_machine.specs.SessionCodes.{coded_setup};
-
-    ghost laws = { same-equiv coded_setup };
 }

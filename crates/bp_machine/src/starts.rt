@@ -7,7 +7,8 @@ ghost use Rattle.bp_machine.specs.Setups.{setup_fault, IsSetupRefusal, FitsCode,
 ghost use Rattle.bp_machine.specs.Starts.{default_start, setup_from};
 
 use crate::limits::{DEFAULT_CALLS, DEFAULT_CONTEXTS, DEFAULT_ENTRY};
-use crate::setups::{Setup, SetupFault};
+use crate::setup_faults::SetupFault;
+use crate::setups::Setup;
 use bp_check::limits::MAX_GLOBALS;
 use bp_code::Code;
 use std::alloc::{AllocError, Global};

@@ -2,8 +2,8 @@
 use Rattle.std.specs.Prelude.{◌≡◌, ◌<◌, ◌≤◌, ℕ, ◌==◌, Bool, true, ◌||◌, nat_lt, [], ◌∷◌, Option, None, Some, is_some}
 use Rattle.bp_tree.specs.Ast.{Program}
 use Rattle.bp_code.specs.Flat.{Flat}
-use Rattle.bp_machine.specs.declared.setups.SetupFault.{SetupFault}
-use Rattle.bp_machine.specs.declared.setups.SetupFault.TheVariants.{OutOfRange, Memory}
+use Rattle.bp_machine.specs.declared.setup_faults.SetupFault.{SetupFault}
+use Rattle.bp_machine.specs.declared.setup_faults.SetupFault.TheVariants.{OutOfRange, Memory}
 use Rattle.bp_machine.specs.Setups.{SetupOf, setup_fault, fault_if, first_of, FitsCode}
 use Rattle.bp_machine.specs.Starts.{StartOf, default_start, setup_from}
 use Rattle.bp_run.specs.declared.limits.TheConstants.{DEFAULT_TURN, DEFAULT_SEED, DEFAULT_RING}

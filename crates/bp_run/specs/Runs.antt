@@ -3,7 +3,7 @@ use Rattle.std.specs.Prelude.{◌≡◌, ℕ, List, Option, None}
 use Rattle.bp_tree.specs.Ast.{Program}
 use Rattle.bp_code.specs.LawfulTexts.{IsLawfulText, IsProgramRefusal}
 use Rattle.bp_machine.specs.declared.reports.Report.{Report}
-use Rattle.bp_machine.specs.declared.setups.SetupFault.{SetupFault}
+use Rattle.bp_machine.specs.declared.setup_faults.SetupFault.{SetupFault}
 use Rattle.bp_run.specs.declared.run_faults.RunFault.{RunFault}
 use Rattle.bp_run.specs.declared.run_faults.RunFault.TheVariants as fault
 use Rattle.bp_run.specs.Options.{OptionsOf, setup_under, options_fault, IsOptionsRefusal}

@@ -1,6 +1,6 @@
 -- Why a worker stops before its line is finished.
-use Rattle.bp_machine.specs.declared.sessions.AskFault.{AskFault}
-use Rattle.bp_machine.specs.declared.sessions.AskFault.TheVariants as fault
+use Rattle.bp_machine.specs.declared.ask_faults.AskFault.{AskFault}
+use Rattle.bp_machine.specs.declared.ask_faults.AskFault.TheVariants as fault
 
 -- memory was refused, or the line was finished already
 abbrev pub EndsWork : AskFault → Type 0

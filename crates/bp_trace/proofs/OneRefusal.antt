@@ -6,7 +6,7 @@ use Rattle.bp_syntax.specs.Texts.{HasText}
 use Rattle.bp_syntax.specs.declared.limits.TheConstants.{TEXT_LIMIT}
 use Rattle.bp_syntax.proofs.ShortNames.{short_names}
 use Rattle.bp_check.specs.Faults.{IsLawful}
-use Rattle.bp_machine.specs.declared.setups.SetupFault.{SetupFault}
+use Rattle.bp_machine.specs.declared.setup_faults.SetupFault.{SetupFault}
 use Rattle.bp_machine.proofs.NamesOfEntries.{entries_are_names}
 use Rattle.bp_machine.proofs.SetupInRange.{fits, few_threads, few_calls, range_of}
 use Rattle.bp_machine.specs.declared.calls.Call.{Call}

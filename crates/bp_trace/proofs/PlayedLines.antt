@@ -14,8 +14,8 @@ use Rattle.bp_machine.specs.Setups.{SetupOf, threads}
 use Rattle.bp_machine.specs.Histories.{is_finished, IsLegal}
 use Rattle.bp_machine.specs.Sessions.{SessionOf, Stands, StandsForAll, IsAskRefusal}
 use Rattle.bp_machine.proofs.ForEveryProgram.{is_true, is_false}
-use Rattle.bp_machine.specs.declared.sessions.AskFault.{AskFault}
-use Rattle.bp_machine.specs.declared.sessions.AskFault.TheVariants.{NoThread, Finished, Seeded, Unseeded, Memory, Busy}
+use Rattle.bp_machine.specs.declared.ask_faults.AskFault.{AskFault}
+use Rattle.bp_machine.specs.declared.ask_faults.AskFault.TheVariants.{NoThread, Finished, Seeded, Unseeded, Memory, Busy}
 use Rattle.bp_trace.specs.declared.faults.DriveFault.{DriveFault}
 use Rattle.bp_trace.specs.declared.faults.DriveFault.TheVariants as fault
 use Rattle.bp_trace.specs.declared.schedules.ScheduleLine.{ScheduleLine}

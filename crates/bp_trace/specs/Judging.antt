@@ -3,11 +3,11 @@ use Rattle.std.specs.Prelude.{◌≡◌, ◌≢◌, ◌⊎◌, ◌≤◌, ◌+�
 use Rattle.std.specs.Option.{option_map, option_to_list}
 use Rattle.bp_tree.specs.Ast.{Program}
 use Rattle.bp_machine.specs.declared.calls.Call.{Call}
-use Rattle.bp_machine.specs.declared.sessions.AskFault.{AskFault}
-use Rattle.bp_machine.specs.declared.sessions.AskFault.TheVariants as refused
+use Rattle.bp_machine.specs.declared.ask_faults.AskFault.{AskFault}
+use Rattle.bp_machine.specs.declared.ask_faults.AskFault.TheVariants as refused
 use Rattle.bp_code.specs.StandsFor.{StandsFor}
-use Rattle.bp_machine.specs.declared.setups.SetupFault.{SetupFault}
-use Rattle.bp_machine.specs.declared.setups.SetupFault.TheVariants as refused_setup
+use Rattle.bp_machine.specs.declared.setup_faults.SetupFault.{SetupFault}
+use Rattle.bp_machine.specs.declared.setup_faults.SetupFault.TheVariants as refused_setup
 use Rattle.bp_machine.specs.ContextCounts.{last_thread}
 use Rattle.bp_machine.specs.PrintedRows.{PrintedRow, printed_rows}
 use Rattle.bp_machine.specs.Sessions.{SessionOf, Stands}

@@ -2,9 +2,9 @@
 -- names.
 use Rattle.std.specs.Prelude.{◌≡◌, ℕ, ◌++◌, ◌∷◌, [], true, List}
 use Rattle.bp_machine.specs.declared.calls.Call.{Call}
-use Rattle.bp_machine.specs.declared.sessions.AskFault.{AskFault}
-use Rattle.bp_machine.specs.declared.sessions.AskFault.TheVariants.{NoThread, Finished}
-use Rattle.bp_machine.specs.declared.sessions.AskFault.TheVariants as refused
+use Rattle.bp_machine.specs.declared.ask_faults.AskFault.{AskFault}
+use Rattle.bp_machine.specs.declared.ask_faults.AskFault.TheVariants.{NoThread, Finished}
+use Rattle.bp_machine.specs.declared.ask_faults.AskFault.TheVariants as refused
 use Rattle.bp_machine.specs.Setups.{SetupOf}
 use Rattle.bp_machine.specs.Histories.{is_finished}
 use Rattle.bp_trace.specs.declared.faults.DriveFault.{DriveFault}

@@ -4,7 +4,7 @@ use Rattle.std.specs.Str.Parse.{AllDigits}
 use Rattle.bp_tree.specs.Ast.{Program}
 use Rattle.bp_machine.specs.declared.calls.Call.{Call}
 use Rattle.bp_machine.specs.declared.calls.Reply.{Reply}
-use Rattle.bp_machine.specs.declared.setups.SetupFault.{SetupFault}
+use Rattle.bp_machine.specs.declared.setup_faults.SetupFault.{SetupFault}
 use Rattle.bp_machine.specs.Setups.{SetupOf, threads, setup_fault}
 use Rattle.bp_machine.specs.ChoiceBits.{choice_bit}
 use Rattle.bp_machine.specs.ContextCounts.{last_thread}

@@ -1,6 +1,6 @@
 use Rattle.std.proofs.Common.{◌∙◌, sym, string_bytes}
 use Rattle.bp_machine.proofs.EntryFaults.{refused, fine}
-use Rattle.bp_machine.proofs.setups.fault_of_entries.Goals as goal
+use Rattle.bp_machine.proofs.setup_faults.fault_of_entries.Goals as goal
 
 pub returns-then-is_some : goal.returns-then-is_some
 returns-then-is_some c = λ t is.

@@ -1,7 +1,7 @@
 use Rattle.bp_code.specs.Same.{same, same-Decides}
 use Rattle.bp_code.proofs.SameAnswer.{same_answer}
 use Rattle.bp_machine.specs.SessionCodes.{coded_setup}
-use Rattle.bp_machine.proofs.setups.SetupPartialEq.eq.Goals as goal
+use Rattle.bp_machine.proofs.setups.equality.SetupPartialEq.eq.Goals as goal
 
 pub returns-clause-gives : goal.returns-clause-gives
 returns-clause-gives c =

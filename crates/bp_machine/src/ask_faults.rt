@@ -1,0 +1,58 @@
+//! Why a call is refused.
+ghost use Rattle.std.specs.Prelude.{◌≡◌};
+
+use std::alloc::AllocError;
+use thiserror::Error;
+
+/// Why a call is refused: the first of these that applies. The session is then as it was, and no
+/// choice bit is used.
+#[derive(Clone, Copy, Debug, PartialEq, Eq, Error)]
+pub enum AskFault {
+    /// There is no such thread.
+    #[error("there is no such thread")]
+    NoThread,
+    /// The thread makes no further call.
+    #[error("the thread has made its last call")]
+    Finished,
+    /// A choice bit was handed in, although the setup has a seed.
+    #[error("the choice bits are those of the seed")]
+    Seeded,
+    /// No choice bit was handed in, and the setup has no seed.
+    #[error("there is no seed for the choice bits")]
+    Unseeded,
+    /// There was not enough memory for a frame.
+    #[error("out of memory")]
+    Memory,
+    /// The ring to which calls are sent is full. No session answers this; a desk does.
+    #[error("the ring is full")]
+    Busy,
+}
+
+impl AskFault {
+    ghost use Rattle.bp_machine.specs.Sessions.{ask_fault_number};
+
+    /// The number by which users know the fault.
+    pub fn number(&self) -> u32
+        ensures { result ≡ ask_fault_number self.now }
+    {
+        match self {
+            AskFault::NoThread => 36,
+            AskFault::Finished => 37,
+            AskFault::Seeded => 38,
+            AskFault::Unseeded => 39,
+            AskFault::Memory => 7,
+            AskFault::Busy => 40,
+        }
+    }
+}
+
+impl From<AllocError> for AskFault {
+    ghost use Rattle.std.specs.Prelude.{◌≡◌};
+    ghost use Rattle.bp_machine.specs.declared.ask_faults.AskFault.{AskFault};
+
+    ghost from_gives = { λ _ e. e ≡ AskFault.Memory };
+
+    fn from(_: AllocError) -> AskFault {
+        AskFault::Memory
+    }
+}

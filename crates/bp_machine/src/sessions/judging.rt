@@ -1,0 +1,88 @@
+//! How a session judges a call before it makes it.
+ghost use Rattle.std.specs.Prelude.{◌≡◌, [], ℕ, List, Option, Some, IfOk, OnErr, MatchResult};
+ghost use Rattle.bp_tree.specs.Ast.{Program};
+ghost use Rattle.bp_code.specs.StandsFor.{StandsFor};
+ghost use Rattle.bp_machine.specs.declared.calls.Call.{Call as Answered};
+ghost use Rattle.bp_machine.specs.Sessions.{Stands, IsNextCall, IsAskRefusal, given_bit};
+ghost use Rattle.bp_machine.specs.KeptSessions.{IsKeptBit, IsBitRefusal, IsGiven, IsJudged, IsKeptRefusal};
+
+use crate::ask_faults::AskFault;
+use crate::calls::Call;
+use crate::sessions::{Prepared, Session};
+use bp_code::steps_alike;
+
+impl Session {
+    /// The choice bit of the next call of a thread, where this bit or none is handed in.
+    fn bit_of_call(&self, thread: u32, given: Option<bool>) -> Result<bool, AskFault>
+        ensures { MatchResult result
+            (IsKeptBit self.now.choices thread given)
+            (IsBitRefusal self.now.choices thread given) }
+    {
+        match (self.choices.get(thread as usize), given) {
+            (Some(choices), None) => Ok(choices.peek()),
+            (None, Some(bit)) => Ok(bit),
+            (Some(_), Some(_)) => Err(AskFault::Seeded),
+            (None, None) => Err(AskFault::Unseeded),
+        }
+    }
+
+    /// The bit that is handed in for a recorded call with this bit.
+    pub(super) fn given_bit(&self, bit: bool) -> Option<bool>
+        ensures { result ≡ given_bit self.now.setup bit }
+    {
+        if self.setup.seed().is_some() {
+            None
+        } else {
+            Some(bit)
+        }
+    }
+
+    /// What a call of the thread comes to, where this bit or none is handed in.
+    fn judged(&self, thread: u32, given: Option<bool>) -> Result<Prepared, AskFault>
+        ensures { MatchResult result
+            (IsJudged self.now thread given)
+            (IsKeptRefusal self.now thread given) }
+    {
+        let Some(guest) = self.machine.thread(thread) else {
+            return Err(AskFault::NoThread);
+        };
+        if guest.is_finished(self.setup.calls()) {
+            return Err(AskFault::Finished);
+        }
+        let bit = self.bit_of_call(thread, given)?;
+        let contexts = self.setup.contexts();
+        let transition = self.machine.judge(&self.code, contexts, thread, guest, bit);
+        let reply = transition.reply();
+        Ok(Prepared {
+            call: Call { thread, bit, reply },
+            transition,
+        })
+    }
+
+    /// Prepares a call of the thread, where this bit or none is handed in.
+    pub(super) fn prepare_given(
+        &mut self,
+        thread: u32,
+        given: Option<bool>,
+    ) -> Result<Call, AskFault>
+        ensures answer { (t : Program) (h : List Answered)
+            → StandsFor self.old.code t
+            → Stands t self.old h
+            → MatchResult result
+            (IsNextCall t self.old.setup h thread given)
+            (IsAskRefusal t self.old.setup h thread given) }
+        ensures asked { IfOk result (λ c. (c.thread ≡ thread) × IsGiven given c.bit) }
+        ensures stands { (t : Program) (h : List Answered)
+            → Stands t self.old h
+            → Stands t self.new h }
+        ensures ready { IfOk result (λ c. self.new.ready ≡ Some c) }
+        ensures kept { (self.new.code ≡ self.old.code) × (self.new.setup ≡ self.old.setup) }
+        ensures same { OnErr result (self.new ≡ self.old) }
+    {
+        steps_alike(&self.code);
+        let prepared = self.judged(thread, given)?;
+        self.machine.reserve(thread, prepared.transition)?;
+        self.prepared = Some(prepared);
+        Ok(prepared.call)
+    }
+}

@@ -1,0 +1,144 @@
+//! What a session tells of the machine after the calls that it answered.
+ghost use Rattle.std.specs.Prelude.{◌≡◌, ◌<◌, [], ℕ, List, slice_get, option_map, MatchOption, MatchResult};
+ghost use Rattle.bp_tree.specs.Ast.{Program};
+ghost use Rattle.bp_code.specs.StandsFor.{StandsFor};
+ghost use Rattle.bp_machine.specs.declared.calls.Call.{Call as Answered};
+ghost use Rattle.bp_machine.specs.Contexts.{IsLeastWithin};
+ghost use Rattle.bp_machine.specs.Answers.{stack_of};
+ghost use Rattle.bp_machine.specs.PrintedRows.{values_printed};
+ghost use Rattle.bp_machine.specs.Tops.{IsTop};
+ghost use Rattle.bp_machine.specs.Setups.{threads};
+ghost use Rattle.bp_machine.specs.Histories.{granted_threads, configuration_after, is_finished, open_lines};
+ghost use Rattle.bp_machine.specs.Reports.{IsReport};
+ghost use Rattle.bp_machine.specs.Sessions.{Stands, IsPrintRefusal};
+
+use crate::ask_faults::AskFault;
+use crate::reports::Report;
+use crate::sessions::Session;
+use crate::tops::Top;
+use bp_code::Store;
+
+impl Session {
+    /// Whether a thread makes no further call.
+    pub fn is_finished(&self, thread: u32) -> bool
+        requires { thread < threads self.now.setup }
+        ensures { (t : Program) (h : List Answered)
+            → Stands t self.now h
+            → result ≡ is_finished self.now.setup h thread }
+    {
+        match self.machine.thread(thread) {
+            None => true,
+            Some(guest) => guest.is_finished(self.setup.calls()),
+        }
+    }
+
+    /// The bit of a global, by its place in the declarations from 0.
+    pub fn global(&self, n: u32) -> Option<bool>
+        ensures { (t : Program) (h : List Answered)
+            → StandsFor self.now.code t
+            → Stands t self.now h
+            → let globals = (configuration_after t self.now.setup h).globals in
+            result ≡ option_map (λ e. e.1) (slice_get globals n) }
+    {
+        self.code.is_of_a_program();
+        if n >= self.code.globals() {
+            return None;
+        }
+        Some(self.machine.global(n as u8))
+    }
+
+    /// The least number of contexts that the steps so far are within.
+    pub fn contexts_used(&self) -> u32
+        ensures { (t : Program) (h : List Answered)
+            → Stands t self.now h
+            → IsLeastWithin result (granted_threads h) }
+    {
+        self.machine.contexts_used()
+    }
+
+    /// Whether an assertion failed.
+    pub fn is_failed(&self) -> bool
+        ensures { (t : Program) (h : List Answered)
+            → Stands t self.now h
+            → result ≡ (configuration_after t self.now.setup h).failed }
+    {
+        self.machine.is_failed()
+    }
+
+    /// How many threads may go on.
+    pub fn open_lines(&self) -> u32
+        ensures { (t : Program) (h : List Answered)
+            → Stands t self.now h
+            → result ≡ open_lines self.now.setup h }
+    {
+        self.machine.open_lines(self.setup.calls())
+    }
+
+    /// The report of the calls so far.
+    pub fn report(&self) -> Report
+        ensures { (t : Program) (h : List Answered)
+            → Stands t self.now h
+            → IsReport self.now.setup h result }
+    {
+        Report {
+            outcome: self.machine.outcome(),
+            calls: self.machine.calls(),
+            left_open: self.open_lines(),
+            contexts: self.contexts_used(),
+        }
+    }
+
+    /// The values that the next statement of a thread prints, where it is a `print`.
+    pub fn next_print(&self, thread: u32) -> Result<Option<Vec<bool>>, AskFault>
+        ensures { (t : Program) (h : List Answered)
+            → StandsFor self.now.code t
+            → Stands t self.now h
+            → let now = configuration_after t self.now.setup h in
+            let printed = values_printed now.globals (stack_of now thread) in
+            MatchResult result
+            (λ values.
+            (thread < threads self.now.setup) × (option_map (λ v. v.items) values ≡ printed))
+            (IsPrintRefusal self.now.setup thread printed) }
+    {
+        let Some(guest) = self.machine.thread(thread) else {
+            return Err(AskFault::NoThread);
+        };
+        let Some(top) = guest.stack().top() else {
+            return Ok(None);
+        };
+        let Some(instr) = self.code.get(top.number) else {
+            return Ok(None);
+        };
+        let store = Store {
+            globals: self.machine.globals(),
+            locals: top.locals,
+        };
+        let printed = instr.printed(*self.choices.allocator(), store)?;
+        Ok(printed)
+    }
+
+    /// Where a thread goes on: none where its stack is empty, or there is no such thread.
+    pub fn top(&self, thread: u32) -> Option<Top>
+        ensures { (t : Program) (h : List Answered)
+            → StandsFor self.now.code t
+            → Stands t self.now h
+            → let now = configuration_after t self.now.setup h in
+            MatchOption result (stack_of now thread ≡ []) (IsTop t now thread) }
+    {
+        let Some(guest) = self.machine.thread(thread) else {
+            return None;
+        };
+        let Some(top) = guest.stack().top() else {
+            return None;
+        };
+        let store = Store {
+            globals: self.machine.globals(),
+            locals: top.locals,
+        };
+        Some(Top {
+            number: top.number,
+            store,
+            depth: guest.stack().len(),
+        })
+    }
+}

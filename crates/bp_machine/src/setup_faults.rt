@@ -1,0 +1,144 @@
+//! Why a setup is refused.
+ghost use Rattle.std.specs.Prelude.{◌≡◌, ◌≤◌, [], None, map, length, string_bytes};
+ghost use Rattle.bp_tree.specs.Ast.{Program};
+ghost use Rattle.bp_code.specs.Configurations.{procedure_named};
+ghost use Rattle.bp_code.specs.StandsFor.{StandsFor};
+ghost use Rattle.bp_machine.specs.declared.limits.TheConstants.{MAX_THREADS};
+ghost use Rattle.bp_machine.specs.Setups.{setup_of, entries_fault, entry_fault, first_of, number_faults, setup_fault, setup_fault_number, setup_fault_place};
+
+use crate::limits::{MAX_CALLS, MAX_CONTEXTS, MAX_THREADS};
+use bp_code::Code;
+use std::alloc::AllocError;
+use thiserror::Error;
+
+/// Why a setup is refused: the first of these that applies.
+#[derive(Clone, Copy, Debug, PartialEq, Eq, Error)]
+pub enum SetupFault {
+    /// There are no threads, or more than 64.
+    #[error("there must be 1 to 64 guest threads")]
+    Threads,
+    /// The entry of this thread is no procedure of the program.
+    #[error("thread {0} begins with a procedure that is not there")]
+    UnknownEntry(u32),
+    /// The entry of this thread has formals.
+    #[error("thread {0} begins with a procedure that has formals")]
+    EntryHasFormals(u32),
+    /// There is not one initial bit for each global.
+    #[error("there must be one initial bit for each global")]
+    InitLength,
+    /// More than 1,000 contexts, no call, or more than 100,000 calls.
+    #[error("a number is out of its range")]
+    OutOfRange,
+    /// There was not enough memory.
+    #[error("out of memory")]
+    Memory,
+}
+
+impl SetupFault {
+    /// The number by which users know the fault.
+    pub fn number(&self) -> u32
+        ensures { result ≡ setup_fault_number self.now }
+    {
+        match self {
+            SetupFault::Threads => 31,
+            SetupFault::UnknownEntry(_) => 32,
+            SetupFault::EntryHasFormals(_) => 33,
+            SetupFault::InitLength => 34,
+            SetupFault::OutOfRange => 35,
+            SetupFault::Memory => 7,
+        }
+    }
+
+    /// The thread that the fault names, where it names one.
+    pub fn place(&self) -> Option<u32>
+        ensures { result ≡ setup_fault_place self.now }
+    {
+        match self {
+            SetupFault::UnknownEntry(thread) | SetupFault::EntryHasFormals(thread) => Some(*thread),
+            _ => None,
+        }
+    }
+}
+
+/// The fault of the entry of a thread.
+pub(crate) fn fault_of_entry(code: &Code, thread: u32, name: &[u8]) -> Option<SetupFault>
+    ensures { (t : Program)
+        → StandsFor code.now t
+        → result ≡ entry_fault thread (procedure_named t.procedures name.now) }
+{
+    match code.heading_of(name) {
+        None => Some(SetupFault::UnknownEntry(thread)),
+        Some(heading) if heading.formals() == 0 => None,
+        Some(_) => Some(SetupFault::EntryHasFormals(thread)),
+    }
+}
+
+/// The first fault of the entries.
+pub(crate) fn fault_of_entries(code: &Code, entries: &[String]) -> Option<SetupFault>
+    requires { length entries.now ≤ MAX_THREADS }
+    ensures { (t : Program)
+        → StandsFor code.now t
+        → result ≡ entries_fault t 0 (map string_bytes entries.now) }
+{
+    for (thread, name) in entries.iter().enumerate() {
+        let fault = fault_of_entry(code, thread as u32, name.as_bytes());
+        if fault.is_some() {
+            return fault;
+        }
+    }
+    None
+}
+
+/// The first fault of the initial bits and the numbers.
+pub(crate) fn fault_of_numbers(
+    code: &Code,
+    init: &[bool],
+    contexts: u64,
+    calls: u64,
+) -> Option<SetupFault>
+    ensures { let given = setup_of [] init.now contexts calls None in
+        (t : Program)
+        → StandsFor code.now t
+        → result ≡ first_of (number_faults t given) }
+{
+    if init.len() != code.globals() as usize {
+        return Some(SetupFault::InitLength);
+    }
+    if contexts > u64::from(MAX_CONTEXTS) || calls == 0 || calls > u64::from(MAX_CALLS) {
+        return Some(SetupFault::OutOfRange);
+    }
+    None
+}
+
+/// The first fault of a setup with these parts, apart from memory.
+pub(crate) fn fault_of_setup(
+    code: &Code,
+    entries: &[String],
+    init: &[bool],
+    contexts: u32,
+    calls: u32,
+) -> Option<SetupFault>
+    ensures { let given = setup_of (map string_bytes entries.now) init.now contexts calls None in
+        (t : Program)
+        → StandsFor code.now t
+        → result ≡ setup_fault t given }
+{
+    if entries.is_empty() || entries.len() > MAX_THREADS {
+        return Some(SetupFault::Threads);
+    }
+    if let Some(fault) = fault_of_entries(code, entries) {
+        return Some(fault);
+    }
+    fault_of_numbers(code, init, u64::from(contexts), u64::from(calls))
+}
+
+impl From<AllocError> for SetupFault {
+    ghost use Rattle.std.specs.Prelude.{◌≡◌};
+    ghost use Rattle.bp_machine.specs.declared.setup_faults.SetupFault.{SetupFault};
+
+    ghost from_gives = { λ _ e. e ≡ SetupFault.Memory };
+
+    fn from(_: AllocError) -> SetupFault {
+        SetupFault::Memory
+    }
+}
