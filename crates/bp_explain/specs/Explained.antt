@@ -1,8 +1,11 @@
 -- What explains a program, a trace and a schedule.
-use Rattle.std.specs.Prelude.{◌≡◌, ◌⊎◌, ℕ, List, [], map}
+use Rattle.std.specs.Prelude.{◌≡◌, ◌≢◌, ◌⊎◌, ℕ, List, [], map}
 use Rattle.bp_tree.specs.Ast.{Program}
 use Rattle.bp_code.specs.LawfulTexts.{IsLawfulText, IsProgramRefusal, program_fault_place}
+use Rattle.bp_syntax.specs.declared.faults.ReadFault.TheVariants as read
+use Rattle.bp_check.specs.declared.faults.CheckFault.TheVariants as check
 use Rattle.bp_code.specs.declared.texts.ProgramFault.{ProgramFault}
+use Rattle.bp_code.specs.declared.texts.ProgramFault.TheVariants.{Read, Check}
 use Rattle.bp_trace.specs.declared.faults.DriveFault.{DriveFault}
 use Rattle.bp_trace.specs.declared.faults.DriveFault.TheVariants as drive
 use Rattle.bp_trace.specs.declared.replay_faults.ReplayFault.{ReplayFault}
@@ -14,10 +17,16 @@ use Rattle.bp_text.specs.OneLine.{on_one_line}
 use Rattle.bp_explain.specs.Explanations.{file_line, number_line, place_line, Begins, IsExplanation}
 use Rattle.bp_text.specs.Excerpts.{ShowsFault}
 
+-- the fault is one of the text: memory may be refused for any text
+pub record IsOfText (fault : ProgramFault) : Type 0 where
+  pub read : fault ≢ Read read.Memory
+  pub checked : (at : ℕ) → fault ≢ Check check.Memory at
+
 -- the explanation of a text that is refused as a program: the fault's place, and its line with a
 -- caret below it
 pub record IsRefusalExplained (name text explained : List ℕ) : Type 0 where
   pub fault : ProgramFault
+  pub of_text : IsOfText fault
   pub refused : IsProgramRefusal text fault
   pub is :
       let place = program_fault_place fault in
@@ -46,6 +55,7 @@ trace_front name _ = map on_one_line name
 -- the explanation of a text that is refused as a trace
 pub record IsTraceRefusalExplained (t : Program) (name text explained : List ℕ) : Type 0 where
   pub fault : ReplayFault
+  pub of_text : fault ≢ replay.Memory
   pub refused : IsReplayRefusal t text fault
   pub begins : Begins (trace_front name fault) explained
 
