@@ -3,7 +3,10 @@ mod faults;
 mod runs;
 mod writing;
 
-use bp_trace::{lines_drive_again, no_two_have_one_text, pieces_are_fewest, refusals_are_single};
+use bp_trace::{
+    lines_drive_again, no_two_have_one_text, pieces_are_fewest, refusals_are_single,
+    schedules_have_one_refusal,
+};
 
 #[test]
 fn laws(_rt: HostRuntime) {
@@ -11,4 +14,5 @@ fn laws(_rt: HostRuntime) {
     pieces_are_fewest();
     no_two_have_one_text();
     refusals_are_single();
+    schedules_have_one_refusal();
 }

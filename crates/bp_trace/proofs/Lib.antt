@@ -18,6 +18,7 @@ mod OneMoreEntry
 mod OneRefusal
 mod OneRefusedCall
 mod OneRest
+mod OneScheduleRefusal
 mod OneText
 mod OtherCalls
 mod OwnEnds

@@ -52,7 +52,7 @@ module _ (x y : ScheduleLine) (a b : List ℕ) (few_x : x.thread < 100) (few_y :
   pub same_rest : a ≡ b
   same_rest = let ends = ends_alike in cc
 
-not_empty : (x : ScheduleLine) (more : List ℕ) → [] ≢ line_text x ++ more
+pub not_empty : (x : ScheduleLine) (more : List ℕ) → [] ≢ line_text x ++ more
 not_empty x more e =
     let none = ap length e in
     omega (arith, none, length-append (line_text x) more, length-append (decimal x.thread) (32 ∷ bit_digit x.bit ∷ 10 ∷ []))
@@ -71,7 +71,7 @@ same_answer t k c before i bit r q a b =
     cc
 
 module _ (t : Program) (s : SetupOf) where
-  same_call : (h : List Call) (x y : Call) → line_of_call x ≡ line_of_call y → IsAllowed t s h x → IsAllowed t s h y → x ≡ y
+  pub same_call : (h : List Call) (x y : Call) → line_of_call x ≡ line_of_call y → IsAllowed t s h x → IsAllowed t s h y → x ≡ y
   same_call h x y e p q =
       let thread : x.thread ≡ y.thread = ap (λ (z : ScheduleLine). z.thread) e in
       let bit : x.bit ≡ y.bit = ap (λ (z : ScheduleLine). z.bit) e in

@@ -15,7 +15,9 @@ use Rattle.bp_trace.specs.declared.versions.Version.{Version}
 use Rattle.bp_trace.specs.Replays.{IsTrace, IsReplayRefusal}
 use Rattle.bp_trace.specs.TraceText.{text_of}
 use Rattle.bp_trace.specs.Writable.{IsWritable}
-use Rattle.bp_trace.specs.Drives.{IsDriven, IsBadLine, IsAfterFinish}
+use Rattle.bp_trace.specs.declared.faults.DriveFault.{DriveFault}
+use Rattle.bp_trace.specs.declared.faults.DriveFault.TheVariants as drive
+use Rattle.bp_trace.specs.Drives.{IsDriven, IsBadLine, IsAfterFinish, IsScheduleRefusal}
 
 -- the schedule drives to this history, to no other, and no line of it is refused
 pub record DrivesTo (t : Program) (s : SetupOf) (schedule : List ℕ) (h : List Call) : Type 0 where
@@ -31,6 +33,27 @@ LinesDriveAgain =
     → IsInRange s
     → IsLegal t s h
     → DrivesTo t s (schedule_text (lines_of_history h)) h
+
+-- a schedule has at most one refusal beside memory
+abbrev pub OneScheduleRefusal : Type 0
+OneScheduleRefusal =
+    (t : Program) (s : SetupOf) (schedule : List ℕ) (f g : DriveFault)
+    → IsInRange s
+    → f ≢ drive.Memory
+    → g ≢ drive.Memory
+    → IsScheduleRefusal t s schedule f
+    → IsScheduleRefusal t s schedule g
+    → f ≡ g
+
+-- a schedule that is refused for anything but memory drives the program to no history
+abbrev pub RefusedDrivesNowhere : Type 0
+RefusedDrivesNowhere =
+    (t : Program) (s : SetupOf) (schedule : List ℕ) (h : List Call) (f : DriveFault)
+    → IsInRange s
+    → f ≢ drive.Memory
+    → IsScheduleRefusal t s schedule f
+    → IsDriven t s schedule h
+    → ⊥
 
 -- the pieces of a history are its calls, cut into the fewest lists of one thread each
 pub record AreItsPieces (h : List Call) : Type 0 where

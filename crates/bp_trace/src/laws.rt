@@ -1,10 +1,17 @@
 //! Laws of schedules and traces. These functions do nothing: their contracts are the laws.
-ghost use Rattle.bp_trace.specs.Laws.{LinesDriveAgain, NoTwoHaveOneText, OneRefusal, PiecesAreFewest, RefusedIsNoTrace};
+ghost use Rattle.bp_trace.specs.Laws.{LinesDriveAgain, NoTwoHaveOneText, OneRefusal, OneScheduleRefusal, PiecesAreFewest, RefusedDrivesNowhere, RefusedIsNoTrace};
 
 /// The lines of the calls of a legal history, each a thread and a choice bit, drive its program to
 /// that history: no other history is legal along them, and no line of them is refused.
 pub fn lines_drive_again()
     ensures { LinesDriveAgain }
+{}
+
+/// A schedule has at most one refusal beside memory, and one that is refused so drives its program
+/// to no history.
+pub fn schedules_have_one_refusal()
+    ensures one { OneScheduleRefusal }
+    ensures none { RefusedDrivesNowhere }
 {}
 
 /// The pieces of a history, which are the lines of its trace in version 2, are its calls, cut into
