@@ -5,7 +5,8 @@ use Rattle.std.proofs.KnownBytes.{Keeps-refl}
 use Rattle.bp_code.specs.Flat.{Flat}
 use Rattle.bp_code.specs.LawfulTexts.{IsProgramCode}
 use Rattle.bp_machine.specs.declared.reports.Report.{Report}
-use Rattle.bp_machine.specs.Setups.{SetupOf, setup_fault}
+use Rattle.bp_machine.specs.declared.setup_faults.SetupFault.{SetupFault}
+use Rattle.bp_machine.specs.Setups.{SetupOf, setup_fault, IsSetupRefusal}
 use Rattle.bp_machine.specs.Starts.{StartOf, setup_from}
 use Rattle.bp_trace.specs.declared.faults.DriveFault.{DriveFault}
 use Rattle.bp_trace.specs.declared.faults.DriveFault.TheVariants.{TooLong, Line, AfterFinish, Memory, Write}
@@ -13,7 +14,7 @@ use Rattle.bp_trace.specs.Drives.{IsPlayed, IsRefusal, IsScheduleRefusal}
 use Rattle.bp_trace.specs.TraceText.{trace_text}
 use Rattle.bp_commands.specs.Commands.{IsDoneWith, IsRefusedWith}
 use Rattle.bp_commands.specs.Drives.{drives, IsDriveRefused}
-use Rattle.bp_commands.specs.Faults.{fault_of_schedule}
+use Rattle.bp_commands.specs.Faults.{fault_of_schedule, fault_of_setup}
 use Rattle.bp_commands.specs.Given.{Pair}
 
 module _ (start : StartOf) (given : Pair) (c : Flat) (code : IsProgramCode given.text c) (s : SetupOf)
@@ -73,3 +74,18 @@ module _ (start : StartOf) (given : Pair) (c : Flat) (code : IsProgramCode given
 
   pub not_driven : (f : DriveFault) → IsRefusal code.program s given.input old new f → IsRefusedWith (drives start) old new given (fault_of_schedule f)
   not_driven f found = refused f (subst (λ x. IsRefusal code.program x given.input old new f) setup found)
+
+-- the program does not take the setup, and nothing is written
+pub setup_refused : (start : StartOf) (given : Pair) (c : Flat) (code : IsProgramCode given.text c) (out : Option (List ℕ)) (cause : SetupFault)
+    → IsSetupRefusal code.program (setup_from start None code.program) cause
+    → IsRefusedWith (drives start) out out given (fault_of_setup cause)
+setup_refused start given c code out cause why = inl (
+  Keeps-refl out,
+  inr (inl (record {
+    program = code.program;
+    lawful = code.of;
+    cause = cause;
+    why = why;
+    is = refl;
+  })),
+)
