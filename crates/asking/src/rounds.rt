@@ -82,6 +82,8 @@ fn desk_round<C: Calls, O: Ledger, R: Clock>(
     spent: &mut Spent,
 ) -> io::Result<()>
     requires named { IsNamed kit C.name C.parts O.name O.parts C.ring }
+    requires code { code.now ≡ C.code }
+    requires setup { setup.now ≡ C.setup }
     requires threads { kit.threads ≡ threads setup.now }
     requires fits { FitsCode code.now setup.now }
     requires seeded { is_some setup.now.seed ≡ true }
@@ -110,6 +112,8 @@ fn board_round<C: Calls, O: Ledger, R: Wait + Clock>(
     spent: &mut Spent,
 ) -> io::Result<()>
     requires named { IsNamed kit C.name C.parts O.name O.parts C.ring }
+    requires code { code.now ≡ C.code }
+    requires setup { setup.now ≡ C.setup }
     requires threads { kit.threads ≡ threads setup.now }
     requires fits { FitsCode code.now setup.now }
     requires seeded { is_some setup.now.seed ≡ true }

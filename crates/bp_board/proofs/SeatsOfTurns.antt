@@ -1,5 +1,5 @@
 -- What the seat says of a turn, from what the turn did at the desk.
-use Rattle.std.proofs.Common.{◌≡◌, ℕ, ◌+◌, true, not, [], ◌∷◌, ◌++◌, Result, Ok, Err, MatchResult, refl, sym, ◌∙◌, ap, subst, arith, append_assoc, inl, inr}
+use Rattle.std.proofs.Common.{◌≡◌, ◌≢◌, ℕ, ◌+◌, true, not, [], ◌∷◌, ◌++◌, Result, Ok, Err, MatchResult, refl, sym, ◌∙◌, ap, subst, arith, append_assoc, inl, inr}
 use Rattle.std.proofs.lemmas.Bool.{false≢true}
 use Rattle.bp_machine.specs.declared.calls.Reply.{Reply}
 use Rattle.bp_machine.specs.declared.calls.Reply.TheVariants.{Stepped}
@@ -22,6 +22,15 @@ desk_fault d seat fault.Busy refused = tt
 desk_fault d seat fault.NoThread refused = absurd refused
 desk_fault d seat fault.Seeded refused = absurd refused
 desk_fault d seat fault.Unseeded refused = absurd refused
+
+-- a seat is still open where its line is not refused as finished
+still_open : (d : DeskOf) (seat : SeatOf) (f : AskFault) → IsDeskRefusal d seat f → f ≢ fault.Finished → seat.is_open ≡ true
+still_open d seat fault.Finished refused other = absurd (other refl)
+still_open d seat fault.Memory refused other = refused.0.0
+still_open d seat fault.Busy refused other = refused.0.0
+still_open d seat fault.NoThread refused other = absurd refused
+still_open d seat fault.Seeded refused other = absurd refused
+still_open d seat fault.Unseeded refused other = absurd refused
 
 module _ (old new : DeskOf) (seat after : SeatOf) (n : ℕ) where
   pub seat_stays : (r : Result Reply AskFault) → MatchResult r (IsTurn old new seat after n) (IsCutTurn old new seat after n) → r ≡ Err Finished → after ≡ seat
@@ -62,5 +71,6 @@ module _ (old new : DeskOf) (seat after : SeatOf) (n : ℕ) where
         some = omega (arith, counted);
         fewer = omega (arith, counted, fewer);
         none = turn.none;
+        stays = still_open new after f turn.refused;
         why = desk_fault new after f turn.refused;
       }

@@ -39,14 +39,14 @@ module _ (x : SessionOf) (h : List Call) (i : ℕ) (of_some : IsOfProgram x.code
   unfinished call next = is_untrue x.code (is_finished x.setup h i) of_some (λ t is. subst (λ j. is_finished x.setup h j ≡ false) (next t is).thread (next t is).allowed.unfinished)
 
   -- the refusals of a session that has a seed, as those of a desk
-  pub desk_refusal : (calls : ℕ) (is_open : Bool) → is_open ≡ true → is_some x.setup.seed ≡ true → (f : AskFault) → ((t : Program) → StandsFor x.code t → IsAskRefusal t x.setup h i None f)
-      → IsDeskRefusal (desk_of x h) (seat_of i calls is_open) f
-  desk_refusal calls is_open e seed NoThread each = absurd (is_false x.code (Unit {0}) of_some (λ t is u. let few : threads x.setup ≤ i = each t is in absurd (omega (arith, few, within))) tt)
-  desk_refusal calls is_open e seed Finished each = inr (finished_when_refused Finished refl each)
-  desk_refusal calls is_open e seed Seeded each = absurd (is_false x.code (Unit {0}) of_some (λ t is u. absurd (false≢true (each t is).1)) tt)
-  desk_refusal calls is_open e seed Unseeded each = absurd (is_false x.code (Unit {0}) of_some (λ t is u. absurd (false≢true (sym (ap is_some (each t is).2) ∙ seed))) tt)
-  desk_refusal calls is_open e seed Memory each = ((e, is_untrue x.code (is_finished x.setup h i) of_some (λ t is. (each t is).0.1)), each)
-  desk_refusal calls is_open e seed Busy each = absurd (is_false x.code (Unit {0}) of_some (λ t is u. each t is) tt)
+  pub desk_refusal : (free calls : ℕ) (is_open : Bool) → is_open ≡ true → is_some x.setup.seed ≡ true → (f : AskFault) → ((t : Program) → StandsFor x.code t → IsAskRefusal t x.setup h i None f)
+      → IsDeskRefusal (desk_of x h free) (seat_of i calls is_open) f
+  desk_refusal free calls is_open e seed NoThread each = absurd (is_false x.code (Unit {0}) of_some (λ t is u. let few : threads x.setup ≤ i = each t is in absurd (omega (arith, few, within))) tt)
+  desk_refusal free calls is_open e seed Finished each = inr (finished_when_refused Finished refl each)
+  desk_refusal free calls is_open e seed Seeded each = absurd (is_false x.code (Unit {0}) of_some (λ t is u. absurd (false≢true (each t is).1)) tt)
+  desk_refusal free calls is_open e seed Unseeded each = absurd (is_false x.code (Unit {0}) of_some (λ t is u. absurd (false≢true (sym (ap is_some (each t is).2) ∙ seed))) tt)
+  desk_refusal free calls is_open e seed Memory each = ((e, is_untrue x.code (is_finished x.setup h i) of_some (λ t is. (each t is).0.1)), each)
+  desk_refusal free calls is_open e seed Busy each = absurd (is_false x.code (Unit {0}) of_some (λ t is u. each t is) tt)
 
   pub refused_where_shut : (is_open : Bool) → is_open ≡ true → (f : AskFault) → ((t : Program) → StandsFor x.code t → IsAskRefusal t x.setup h i None f) → (r : Result Reply AskFault) → r ≡ Err f → FinishedWhereShut x.setup h i is_open r
   refused_where_shut is_open e f each r is = (

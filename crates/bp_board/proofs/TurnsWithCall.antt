@@ -1,5 +1,5 @@
 -- Turns grow by one call, and are cut short before one.
-use Rattle.std.proofs.Common.{◌≡◌, ℕ, ◌+◌, ◌<◌, Bool, true, false, not, List, [], ◌∷◌, ◌++◌, length, refl, sym, ◌∙◌, ap, subst, arith, append_assoc, inl, inr}
+use Rattle.std.proofs.Common.{◌≡◌, ℕ, ◌+◌, ◌<◌, ◌≤◌, Bool, true, false, not, List, [], ◌∷◌, ◌++◌, length, refl, sym, ◌∙◌, ap, subst, arith, append_assoc, inl, inr}
 use Rattle.std.proofs.lemmas.List.{append-nil}
 use Rattle.std.proofs.lemmas.Bool.{false≢true}
 use Rattle.bp_machine.specs.declared.calls.Call.{Call}
@@ -24,6 +24,7 @@ pub cut_at_once : (d new : DeskOf) (seat after : SeatOf) (n : ℕ) (f : AskFault
 cut_at_once d new seat after n f some refused same_desk same_seat = rw (same_desk, same_seat) (record {
   steps = [];
   sent = sym (append-nil d.history);
+  room = omega arith;
   stepped = tt;
   fewer = some;
   none = λ e. refl;
@@ -41,11 +42,12 @@ still_open d seat is_open unfinished shut = elim shut [
 
 -- a later call that is refused
 pub cut_later : (old mid new : DeskOf) (seat between after : SeatOf) (n : ℕ) (f : AskFault) (cs : List Call)
-    → mid.history ≡ old.history ++ cs → AreSteps seat.thread cs → length cs < n → between.is_open ≡ true → is_finished mid.setup mid.history between.thread ≡ false
+    → mid.history ≡ old.history ++ cs → old.free ≤ mid.free + length cs → AreSteps seat.thread cs → length cs < n → between.is_open ≡ true → is_finished mid.setup mid.history between.thread ≡ false
     → IsDeskRefusal mid between f → new ≡ mid → after ≡ between → between.thread ≡ seat.thread → between.calls ≡ seat.calls + length cs → IsCutTurn old new seat after n f
-cut_later old mid new seat between after n f cs sent stepped fewer is_open unfinished refused same_desk same_seat own counted = rw (same_desk, same_seat) (record {
+cut_later old mid new seat between after n f cs sent room stepped fewer is_open unfinished refused same_desk same_seat own counted = rw (same_desk, same_seat) (record {
   steps = cs;
   sent = sent;
+  room = room;
   stepped = stepped;
   fewer = fewer;
   none = λ e. absurd (still_open mid between is_open unfinished (subst (IsDeskRefusal mid between) e refused));

@@ -12,14 +12,15 @@ use Rattle.bp_board.specs.Desks.{DeskOf}
 use Rattle.bp_board.specs.Seats.{SeatOf}
 
 -- One call of the seat's thread was sent: the one that the machine makes next, with the bit of the
--- seed and this reply. The seat counts it, and is open where the line is; it has counted no more
--- calls than were sent.
+-- seed and this reply. It takes one free place at most. The seat counts it, and is open where the
+-- line is; it has counted no more calls than were sent.
 pub record IsAsked (old new : DeskOf) (seat after : SeatOf) (reply : Reply) : Type 0 where
   pub call : Call
   pub next : (t : Program)
       → StandsFor old.code t
       → IsNextCall t old.setup old.history seat.thread None call
   pub sent : new.history ≡ old.history ++ call ∷ []
+  pub room : old.free ≤ new.free + 1
   pub thread : call.thread ≡ seat.thread
   pub answered : call.reply ≡ reply
   pub own : after.thread ≡ seat.thread
@@ -43,9 +44,9 @@ MayLackMemory d seat =
     → IsAskRefusal t d.setup d.history seat.thread None fault.Memory
 
 -- Why a call is refused: the line is finished, or the seat says so; else memory may be refused
--- where its step is a call; and the ring may be full. Nothing is said of when it is.
+-- where its step is a call; and the ring may be full where no place is known to be free.
 abbrev pub IsDeskRefusal : DeskOf → SeatOf → AskFault → Type 0
 IsDeskRefusal d seat fault.Finished = IsShut d seat
 IsDeskRefusal d seat fault.Memory = IsOpen d seat × MayLackMemory d seat
-IsDeskRefusal d seat fault.Busy = IsOpen d seat
+IsDeskRefusal d seat fault.Busy = IsOpen d seat × (d.free ≡ 0)
 IsDeskRefusal d seat f = ⊥

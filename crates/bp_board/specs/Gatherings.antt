@@ -1,5 +1,5 @@
 -- What a board is gathered to.
-use Rattle.std.specs.Prelude.{◌≡◌, ◌<◌, ◌==◌, ℕ, List, ◌++◌, length, Some}
+use Rattle.std.specs.Prelude.{◌≡◌, ◌<◌, ◌==◌, ◌↔◌, IsTrue, ℕ, Bool, List, ◌++◌, length, Some}
 use Rattle.std.specs.List.{sum_by, count_by}
 use Rattle.bp_tree.specs.Ast.{Program}
 use Rattle.bp_code.specs.Flat.{Flat}
@@ -9,8 +9,8 @@ use Rattle.bp_machine.specs.Histories.{IsLegal}
 use Rattle.bp_machine.specs.Reports.{IsReport}
 use Rattle.bp_machine.specs.SeededHistories.{HasSeededBits}
 use Rattle.bp_machine.specs.Setups.{SetupOf, threads}
-use Rattle.bp_board.specs.Desks.{DeskOf}
 use Rattle.bp_board.specs.Seats.{SeatOf, open_amount}
+use Rattle.bp_board.specs.Stopping.{HaveStopped}
 use Rattle.bp_board.specs.Taps.{TapOf}
 
 abbrev pub calls_of_seats : List SeatOf → ℕ
@@ -24,16 +24,20 @@ pub record AreOnePerThread (n : ℕ) (seats : List SeatOf) : Type 0 where
   pub many : length seats ≡ n
   pub each : (i : ℕ) → i < n → count_by (λ s. s.thread == i) seats ≡ 1
 
--- a desk of this code and setup, and the seats of its threads
-pub record AreOwn (d : DeskOf) (seats : List SeatOf) (code : Flat) (s : SetupOf) : Type 0 where
-  pub code_is : d.code ≡ code
-  pub setup_is : d.setup ≡ s
+-- a board of this code and setup, and the seats of its threads
+pub record AreOwn
+    (its_code : Flat) (its_setup : SetupOf) (seats : List SeatOf) (code : Flat) (s : SetupOf)
+    : Type 0 where
+  pub code_is : its_code ≡ code
+  pub setup_is : its_setup ≡ s
   pub one_each : AreOnePerThread (threads s) seats
 
 -- What was taken and what is left are one legal history, with the bits of the seed, which the
--- report and the seats are of; the tap gives what is left.
+-- report and the seats are of; the tap gives what is left. It is said whether each open line stands
+-- before a call.
 pub record IsGathered
     (t : Program) (s : SetupOf) (taken : List Call) (seats : List SeatOf) (tap : TapOf) (r : Report)
+    (has_stopped : Bool)
     : Type 0 where
   pub left : List Call
   pub rest : tap.rest ≡ Some left
@@ -44,3 +48,4 @@ pub record IsGathered
   pub one_each : AreOnePerThread (threads s) seats
   pub calls : calls_of_seats seats ≡ length (taken ++ left)
   pub open_are : open_seats seats ≡ r.left_open
+  pub stops : IsTrue has_stopped ↔ HaveStopped t s (taken ++ left)

@@ -22,6 +22,7 @@ pub record IsTurn (old new : DeskOf) (seat after : SeatOf) (n : ℕ) (reply : Re
   pub steps : List Call
   pub last : Call
   pub sent : new.history ≡ old.history ++ (steps ++ last ∷ [])
+  pub room : old.free ≤ new.free + (length steps + 1)
   pub stepped : AreSteps seat.thread steps
   pub thread : last.thread ≡ seat.thread
   pub answered : last.reply ≡ reply
@@ -38,6 +39,7 @@ pub record IsCutTurn (old new : DeskOf) (seat after : SeatOf) (n : ℕ) (f : Ask
     : Type 0 where
   pub steps : List Call
   pub sent : new.history ≡ old.history ++ steps
+  pub room : old.free ≤ new.free + length steps
   pub stepped : AreSteps seat.thread steps
   pub fewer : length steps < n
   pub none : f ≡ fault.Finished → after ≡ seat

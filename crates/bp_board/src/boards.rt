@@ -33,6 +33,8 @@ impl<C: Calls, O: Ledger> Board<C, O> {
         setup: &Setup,
     ) -> Result<(Board<C, O>, Vec<Seat<C, O>>, Tap<C>), AllocError>
         requires named { IsNamed kit C.name C.parts O.name O.parts C.ring }
+        requires code { code.now ≡ C.code }
+        requires setup { setup.now ≡ C.setup }
         requires threads { kit.threads ≡ threads setup.now }
         requires fits { FitsCode code.now setup.now }
         requires seeded { is_some setup.now.seed ≡ true }

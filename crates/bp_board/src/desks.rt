@@ -35,7 +35,7 @@ pub struct Desk<C: Calls, O: Ledger> {
 
 impl<C: Calls, O: Ledger> Model for Desk<C, O> {
     ghost use Rattle.std.specs.Prelude.{◌≡◌};
-    ghost use Rattle.rtrb.specs.Ring.{sent};
+    ghost use Rattle.rtrb.specs.Ring.{sent, known_free};
     ghost use Rattle.bp_machine.specs.Setups.{threads};
     ghost use Rattle.bp_board.specs.Desks.{DeskOf, desk_of, IsInBooks};
     ghost use Rattle.bp_board.specs.Rings.{producer_ring};
@@ -45,13 +45,15 @@ impl<C: Calls, O: Ledger> Model for Desk<C, O> {
 
     ghost coded = { coded_desk };
 
-    ghost view = { λ d. desk_of d.session (sent d.to) };
+    ghost view = { λ d. desk_of d.session (sent d.to) (known_free d.to) };
 
     ghost invariant = { λ d.
         IsInBooks d.session (sent d.to) d.made.total d.lines.total
         × (producer_ring d.to ≡ C.ring)
         × (threads d.session.setup ≡ C.parts)
-        × (threads d.session.setup ≡ O.parts) };
+        × (threads d.session.setup ≡ O.parts)
+        × (d.session.code ≡ C.code)
+        × (d.session.setup ≡ C.setup) };
 }
 
 impl<C: Calls, O: Ledger> Desk<C, O> {
@@ -64,10 +66,12 @@ impl<C: Calls, O: Ledger> Desk<C, O> {
         setup: &Setup,
     ) -> Result<(Desk<C, O>, Vec<Seat<C, O>>, Tap<C>), AllocError>
         requires named { IsNamed kit C.name C.parts O.name O.parts C.ring }
+        requires code { code.now ≡ C.code }
+        requires setup { setup.now ≡ C.setup }
         requires threads { kit.threads ≡ threads setup.now }
         requires fits { FitsCode code.now setup.now }
         requires seeded { is_some setup.now.seed ≡ true }
-        ensures desk { IfOk result (λ r. IsNewDesk code.now setup.now r.0) }
+        ensures desk { IfOk result (λ r. IsNewDesk code.now setup.now kit.free r.0) }
         ensures seats { IfOk result (λ r. AreNewSeats (threads setup.now) r.1.items) }
         ensures tap { IfOk result (λ r. (r.2.taken ≡ []) × (r.2.rest ≡ None)) }
     {
@@ -113,7 +117,7 @@ impl<C: Calls, O: Ledger> Desk<C, O> {
 
     /// Makes one call of the seat's thread, and sends it. At a refusal nothing is changed, and no
     /// choice bit is used: where the thread's line is finished, where memory is refused, or where
-    /// the ring is full.
+    /// the ring is full, which it is not while a place is known to be free.
     pub fn ask(&mut self, seat: &mut Seat<C, O>) -> Result<Reply, AskFault>
         ensures answer { MatchResult result
             (IsAsked self.old self.new seat.old seat.new)

@@ -1,17 +1,16 @@
 //! Gathering a board: the desk, the seats and the tap are joined once all work is done.
-ghost use Rattle.std.specs.Prelude.{◌≡◌, ◌≤◌, ◌<◌, ◌^◌, ◌↔◌, ◌==◌, List, IsTrue, IfOk, OnOk, OnErr, IfSome, IfNone, vec_len};
+ghost use Rattle.std.specs.Prelude.{◌≡◌, ◌+◌, ◌↔◌, ◌==◌, IsTrue, IfOk, OnOk, OnErr, vec_len, vec_capacity};
 ghost use Rattle.bp_machine.specs.declared.limits.TheConstants.{MAX_THREADS};
 ghost use Rattle.std.specs.List.{count_by};
 ghost use Rattle.bp_tree.specs.Ast.{Program};
 ghost use Rattle.bp_code.specs.StandsFor.{StandsFor};
-ghost use Rattle.bp_machine.specs.declared.calls.Call.{Call as Answered};
-ghost use Rattle.bp_board.specs.Desks.{desk_of};
 ghost use Rattle.bp_board.specs.Gatherings.{AreOnePerThread, AreOwn, IsGathered, calls_of_seats, open_seats};
 
 use crate::boards::Board;
 use crate::desks::Desk;
 use crate::ledgers::Calls;
 use crate::seats::Seat;
+use crate::stopping::have_stopped;
 use crate::taps::Tap;
 use bp_code::Code;
 use bp_machine::{Report, Session, Setup};
@@ -23,20 +22,22 @@ use thiserror::Error;
 #[error("the board is of another code or setup, or the seats are not its own")]
 pub struct Foreign;
 
-/// A gathered board: the tap, which gives what was not taken yet, and the report of the history.
+/// A gathered board: the seats, the tap, which gives what was not taken yet, the report of the
+/// history, and whether each line that is open stands before a call.
 #[derive(Drop)]
-pub struct Gathered<C: Calls> {
+pub struct Gathered<C: Calls, O: Ledger> {
+    pub seats: Vec<Seat<C, O>>,
     pub tap: Tap<C>,
     pub report: Report,
+    pub has_stopped: bool,
 }
 
-/// The shares of all seats, and what they add up to.
+/// Some seats, and the shares of others.
 #[derive(Drop)]
 struct Sums<C: Calls, O: Ledger> {
+    seats: Vec<Seat<C, O>>,
     made: Share<C>,
     lines: Share<O>,
-    calls: u64,
-    left_open: u32,
 }
 
 /// How many of the seats are of this thread.
@@ -69,8 +70,8 @@ fn are_own<C: Calls, O: Ledger>(
     code: &Code,
     setup: &Setup,
 ) -> bool
-    ensures { (h : List Answered)
-        → (IsTrue result ↔ AreOwn (desk_of session.now h) seats.now code.now setup.now) }
+    ensures { IsTrue result
+        ↔ AreOwn session.now.code session.now.setup seats.now code.now setup.now }
 {
     if session.code() != code {
         return false;
@@ -81,52 +82,89 @@ fn are_own<C: Calls, O: Ledger>(
     are_one_per_thread(seats, setup.threads())
 }
 
-/// Joins the shares of all seats; there is none where there is no seat.
-fn summed<C: Calls, O: Ledger>(mut seats: Vec<Seat<C, O>>, book: &mut Book<C>) -> Option<Sums<C, O>>
-    requires few { vec_len seats ≤ MAX_THREADS }
-    requires small { book.old.total < 2 ^ 32 }
-    ensures none { IfNone result (vec_len seats ≡ 0) }
-    ensures parts { IfSome result (λ s.
-        (s.made.parts ≡ vec_len seats) × (s.lines.parts ≡ vec_len seats)) }
-    ensures calls { IfSome result (λ s.
-        (s.made.amount ≡ s.calls) × (s.calls ≡ calls_of_seats seats.items)) }
-    ensures lines { IfSome result (λ s.
-        (s.lines.amount ≡ s.left_open) × (s.left_open ≡ open_seats seats.items)) }
-    ensures book { book.new.total ≡ book.old.total }
+/// Adds the shares of the seats to those beside them, looks what the books say of all, and gives
+/// each seat its own again.
+fn audited<C: Calls, O: Ledger>(
+    sums: Sums<C, O>,
+    made: &mut Book<C>,
+    lines: &mut Book<O>,
+) -> Sums<C, O>
+    requires made { sums.made.parts ≡ 0 → sums.made.amount ≡ 0 }
+    requires lines { sums.lines.parts ≡ 0 → sums.lines.amount ≡ 0 }
+    ensures seats { result.seats.items ≡ sums.seats.items }
+    ensures room { vec_capacity result.seats ≡ vec_capacity sums.seats }
+    ensures made { (result.made.parts ≡ sums.made.parts)
+        × (result.made.amount ≡ sums.made.amount) }
+    ensures lines { (result.lines.parts ≡ sums.lines.parts)
+        × (result.lines.amount ≡ sums.lines.amount) }
+    ensures books { (made.new.total ≡ made.old.total) × (lines.new.total ≡ lines.old.total) }
+    ensures calls { sums.made.parts + vec_len sums.seats ≡ C.parts
+        → sums.made.amount + calls_of_seats sums.seats.items ≡ made.old.total }
+    ensures left { sums.lines.parts + vec_len sums.seats ≡ O.parts
+        → sums.lines.amount + open_seats sums.seats.items ≡ lines.old.total }
 {
-    let Some(first) = seats.pop() else {
-        return None;
+    let Sums {
+        mut seats,
+        made: mut all_made,
+        lines: mut all_lines,
+    } = sums;
+    let Some(seat) = seats.pop() else {
+        made.audit(&mut all_made);
+        lines.audit(&mut all_lines);
+        return Sums {
+            seats,
+            made: all_made,
+            lines: all_lines,
+        };
     };
-    let mut sums = Sums {
-        made: first.made,
-        lines: first.line,
-        calls: first.calls,
-        left_open: u32::from(first.is_open),
+    let Seat {
+        thread,
+        calls,
+        is_open,
+        made: own_made,
+        line,
+    } = seat;
+    all_made.merge(own_made);
+    all_lines.merge(line);
+    let others = Sums {
+        seats,
+        made: all_made,
+        lines: all_lines,
     };
-    book.audit(&mut sums.made);
-    while let Some(seat) = seats.pop() {
-        sums.made.merge(seat.made);
-        sums.lines.merge(seat.line);
-        book.audit(&mut sums.made);
-        sums.calls += seat.calls;
-        sums.left_open += u32::from(seat.is_open);
+    let Sums {
+        mut seats,
+        made: mut all_made,
+        lines: mut all_lines,
+    } = audited(others, made, lines);
+    seats.push_reserved(Seat {
+        thread,
+        calls,
+        is_open,
+        made: all_made.split_off(1, calls),
+        line: all_lines.split_off(1, u64::from(is_open)),
+    });
+    Sums {
+        seats,
+        made: all_made,
+        lines: all_lines,
     }
-    Some(sums)
 }
 
 /// Joins a desk, the seats and the tap.
 fn joined<C: Calls, O: Ledger>(
     desk: Desk<C, O>,
-    seats: Vec<Seat<C, O>>,
+    mut seats: Vec<Seat<C, O>>,
     tap: Tap<C>,
     code: &Code,
     setup: &Setup,
-) -> Result<Gathered<C>, Foreign>
-    ensures own { OnOk result (AreOwn desk seats.items code.now setup.now) }
-    ensures foreign { OnErr result (AreOwn desk seats.items code.now setup.now → ⊥) }
+) -> Result<Gathered<C, O>, Foreign>
+    ensures own { OnOk result (AreOwn C.code C.setup seats.items code.now setup.now) }
+    ensures foreign { OnErr result (AreOwn C.code C.setup seats.items code.now setup.now → ⊥) }
+    ensures seats { IfOk result (λ g. g.seats.items ≡ seats.items) }
     ensures gathered { (t : Program)
         → StandsFor code.now t
-        → IfOk result (λ g. IsGathered t setup.now tap.taken seats.items g.tap g.report) }
+        → IfOk result (λ g.
+        IsGathered t setup.now tap.taken seats.items g.tap g.report g.has_stopped) }
 {
     let Desk {
         session,
@@ -139,11 +177,34 @@ fn joined<C: Calls, O: Ledger>(
     if !are_own(&session, seats.as_slice(), code, setup) {
         return Err(Foreign);
     }
-    let Some(mut sums) = summed(seats, &mut made) else {
+    let Some(seat) = seats.pop() else {
         return Err(Foreign);
     };
-    made.audit(&mut sums.made);
-    lines.audit(&mut sums.lines);
+    let Seat {
+        thread,
+        calls,
+        is_open,
+        made: own_made,
+        line,
+    } = seat;
+    let others = Sums {
+        seats,
+        made: own_made,
+        lines: line,
+    };
+    let Sums {
+        mut seats,
+        made: own_made,
+        lines: line,
+    } = audited(others, &mut made, &mut lines);
+    seats.push_reserved(Seat {
+        thread,
+        calls,
+        is_open,
+        made: own_made,
+        line,
+    });
+    let has_stopped = have_stopped(&session);
     let report = session.report();
     let Tap {
         mut from,
@@ -152,11 +213,17 @@ fn joined<C: Calls, O: Ledger>(
     } = tap;
     let left = Some(from.slots_beside(&mut to));
     let tap = Tap { from, left, of };
-    Ok(Gathered { tap, report })
+    Ok(Gathered {
+        seats,
+        tap,
+        report,
+        has_stopped,
+    })
 }
 
 /// Gathers a board once its workers are done: what was taken from the tap is a front of the
-/// history, and the tap that is given back has the rest. It takes no memory and waits for nobody.
+/// history, and the tap that is given back has the rest. The seats come back as they were. It takes
+/// no memory and waits for nobody.
 /// Where the desk has another code or setup, or the seats are not one for each thread, all is
 /// dropped.
 pub fn gather<C: Calls, O: Ledger>(
@@ -165,10 +232,13 @@ pub fn gather<C: Calls, O: Ledger>(
     tap: Tap<C>,
     code: &Code,
     setup: &Setup,
-) -> Result<Gathered<C>, Foreign>
-    ensures { (t : Program)
+) -> Result<Gathered<C, O>, Foreign>
+    ensures foreign { OnErr result (AreOwn C.code C.setup seats.items code.now setup.now → ⊥) }
+    ensures seats { IfOk result (λ g. g.seats.items ≡ seats.items) }
+    ensures gathered { (t : Program)
         → StandsFor code.now t
-        → IfOk result (λ g. IsGathered t setup.now tap.taken seats.items g.tap g.report) }
+        → IfOk result (λ g.
+        IsGathered t setup.now tap.taken seats.items g.tap g.report g.has_stopped) }
 {
     let Board { desk } = board;
     let desk = desk.into_inner();

@@ -37,7 +37,8 @@ impl Kit {
         requires few { threads ≤ MAX_THREADS }
         requires room { 0 < ring }
         requires within { ring ≤ MAX_RING }
-        ensures { IfOk result (λ k. k.threads ≡ threads) }
+        ensures threads { IfOk result (λ k. k.threads ≡ threads) }
+        ensures free { IfOk result (λ k. k.free ≡ ring) }
     {
         let (to, from) = RingBuffer::new(alloc, ring as usize)?;
         Ok(Kit {

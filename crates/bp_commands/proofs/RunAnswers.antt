@@ -10,7 +10,8 @@ use Rattle.bp_run.specs.Runs.{IsTracedRun, IsRunRefusal}
 use Rattle.bp_trace.specs.TraceText.{trace_text}
 use Rattle.bp_commands.specs.Commands.{IsDoneWith, IsRefusedWith}
 use Rattle.bp_commands.specs.Faults.{fault_of_run}
-use Rattle.bp_commands.specs.Runs.{runs, IsRunReport}
+use Rattle.bp_commands.specs.declared.faults.Fault.TheVariants.{Early}
+use Rattle.bp_commands.specs.Runs.{runs, IsRunReport, IsEarly}
 
 module _ (o : OptionsOf) (text : List ℕ) (old new : Option (List ℕ)) where
   pub done : (r : Report) → IsTracedRun o text old new r → IsDoneWith (runs o) old new text r
@@ -30,9 +31,7 @@ module _ (o : OptionsOf) (text : List ℕ) (old new : Option (List ℕ)) where
           steps = played.steps;
           within = played.within;
           failure = played.failure;
-          seats = played.seats;
-          one_each = played.one_each;
-          made = played.made;
+          stopped = played.stopped;
         };
       } in
       record { text = written; reports = reports; written = record { grown = played.written } }
@@ -47,8 +46,25 @@ module _ (o : OptionsOf) (text : List ℕ) (old new : Option (List ℕ)) where
   refused run.Memory found = inl (kept found.unwritten, inr (inr (inl (record { program = found.program; lawful = found.of; is = refl }))))
   refused run.Start found =
       inl (kept found.refused, inr (inr (inr (record { runnable = record { program = found.program; lawful = found.of; fine = found.fine }; is = refl }))))
-  refused run.Foreign found =
-      inr (inr (record { runnable = record { program = found.program; lawful = found.of; fine = found.fine }; is = refl }))
+  refused run.Early found =
+      let stopped = found.refused in
+      let written = trace_text (setup_under o found.program) stopped.history in
+      let early : IsEarly o text written Early = record {
+        stopped = record {
+          program = found.program;
+          of = found.of;
+          fine = found.fine;
+          refused = record {
+            history = stopped.history;
+            legal = stopped.legal;
+            seeded = stopped.seeded;
+            written = refl;
+            early = stopped.early;
+          };
+        };
+        is = refl;
+      } in
+      inr (inr (record { text = written; spoils = early; written = record { grown = stopped.written } }))
   refused run.Write found =
       let cut = found.refused in
       inr (inl (

@@ -22,5 +22,5 @@ bundles =
       Writes = λ bytes written. OfBundle (λ parts. drives.Writes parts written) bytes;
       Reports = λ bytes written r. OfBundle (λ parts. drives.Reports parts written r) bytes;
       Refuses = λ bytes f. (f ≡ Memory) ⊎ OfBundle (λ parts. drives.Refuses parts f) bytes;
-      Spoils = λ _ _. ⊥;
+      Spoils = λ _ _ _. ⊥;
     }

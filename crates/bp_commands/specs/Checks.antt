@@ -33,5 +33,5 @@ checks = record {
   Writes = IsOfProgram check_line;
   Reports = λ text written _. IsOfProgram check_line text written;
   Refuses = IsUnlawful;
-  Spoils = λ _ _. ⊥;
+  Spoils = λ _ _ _. ⊥;
 }

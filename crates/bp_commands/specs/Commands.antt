@@ -7,12 +7,12 @@ use Rattle.bp_commands.specs.declared.faults.Fault.TheVariants.{Write}
 use Rattle.bp_commands.specs.Given.{Inputs}
 
 -- A command: the texts that it may write of its inputs; what it reports where it has written one
--- whole; for which faults it refuses the inputs; and after which nothing is said of its output.
+-- whole; for which faults it refuses the inputs; and which faults come after a whole text.
 pub record Command (X R : Type 0) : Type 1 where
   pub Writes : X → List ℕ → Type 0
   pub Reports : X → List ℕ → R → Type 0
   pub Refuses : X → Fault → Type 0
-  pub Spoils : X → Fault → Type 0
+  pub Spoils : X → List ℕ → Fault → Type 0
 
 -- The bytes of the writer are those before and after the command.
 module _ {X R : Type 0} (command : Command X R) (old new : Option (List ℕ)) where
@@ -30,13 +30,19 @@ module _ {X R : Type 0} (command : Command X R) (old new : Option (List ℕ)) wh
       pub writes : command.Writes given text
       pub written : AppendsPart old new text
 
-    -- the inputs are refused, and nothing is written; or the writer refused; or the output is
-    -- spoilt
+    -- a text was written whole, and then refused
+    pub record IsSpoilt (f : Fault) : Type 0 where
+      pub text : List ℕ
+      pub spoils : command.Spoils given text f
+      pub written : AppendsAll old new text
+
+    -- the inputs are refused, and nothing is written; or the writer refused; or what was written
+    -- is refused
     abbrev pub IsRefusedWith : Fault → Type 0
     IsRefusedWith f =
         (Keeps old new × command.Refuses given f)
         ⊎ (((f ≡ Write) × IsCutShort)
-        ⊎ command.Spoils given f)
+        ⊎ IsSpoilt f)
 
   -- The inputs are those that the readers had.
   module _ (inputs : Inputs X) where

@@ -59,5 +59,5 @@ drives start = record {
   Writes = IsOfSchedule start;
   Reports = IsScheduleReport start;
   Refuses = IsDriveRefused start;
-  Spoils = λ _ _. ⊥;
+  Spoils = λ _ _ _. ⊥;
 }

@@ -100,13 +100,13 @@ fault_row (fault.Setup f) = setup_row f
 fault_row (fault.Schedule f) = schedule_row f
 fault_row (fault.Trace f) = trace_row f
 fault_row fault.Start = row 53 (codes "Start") Nothing
-fault_row fault.Foreign = row 52 (codes "Foreign") Nothing
+fault_row fault.Early = row 55 (codes "Early") Nothing
 fault_row fault.Write = write_row
 fault_row fault.Memory = memory_row
 
--- memory, a write, a foreign history, a worker's start, a device
+-- memory, a write, a worker's start, a device, a worker that stopped early
 abbrev pub is_of_the_machine : ℕ → Bool
-is_of_the_machine n = n == 7 || nat_le 51 n && nat_le n 54
+is_of_the_machine n = n == 7 || nat_le 51 n && nat_le n 55
 
 -- the exit status of a run that the fault ended
 abbrev pub status_of : Fault → ℕ

@@ -19,7 +19,7 @@ use Rattle.bp_run.specs.declared.run_faults.RunFault.TheVariants as run
 use Rattle.bp_commands.specs.declared.inputs.InputFault.{InputFault}
 use Rattle.bp_commands.specs.declared.inputs.InputFault.TheVariants as input
 use Rattle.bp_commands.specs.declared.faults.Fault.{Fault}
-use Rattle.bp_commands.specs.declared.faults.Fault.TheVariants.{Device, TooLong, Program, Setup, Schedule, Trace, Start, Foreign, Write, Memory}
+use Rattle.bp_commands.specs.declared.faults.Fault.TheVariants.{Device, TooLong, Program, Setup, Schedule, Trace, Start, Early, Write, Memory}
 
 -- an input beside the program, or a bundle
 abbrev pub fault_of_input : InputFault → Fault
@@ -65,6 +65,6 @@ abbrev pub fault_of_run : RunFault → Fault
 fault_of_run (run.Program f) = fault_of_program f
 fault_of_run (run.Setup f) = fault_of_setup f
 fault_of_run run.Start = Start
-fault_of_run run.Foreign = Foreign
+fault_of_run run.Early = Early
 fault_of_run run.Write = Write
 fault_of_run run.Memory = Memory

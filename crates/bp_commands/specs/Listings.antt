@@ -26,5 +26,5 @@ lists = record {
   Writes = IsOfProgram listing_of;
   Reports = λ text written _. IsOfProgram listing_of text written;
   Refuses = HasNoCode;
-  Spoils = λ _ _. ⊥;
+  Spoils = λ _ _ _. ⊥;
 }

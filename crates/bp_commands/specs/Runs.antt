@@ -7,11 +7,12 @@ use Rattle.bp_machine.specs.declared.reports.Report.{Report}
 use Rattle.bp_machine.specs.declared.setup_faults.SetupFault.{SetupFault}
 use Rattle.bp_machine.specs.Histories.{IsLegal}
 use Rattle.bp_machine.specs.SeededHistories.{HasSeededBits}
+use Rattle.bp_run.specs.declared.run_faults.RunFault.TheVariants as run
 use Rattle.bp_run.specs.Options.{OptionsOf, setup_under, options_fault, IsOptionsRefusal}
-use Rattle.bp_run.specs.Runs.{IsTracedRun}
+use Rattle.bp_run.specs.Runs.{IsTracedRun, IsRefusedInPlay}
 use Rattle.bp_trace.specs.TraceText.{trace_text}
 use Rattle.bp_commands.specs.declared.faults.Fault.{Fault}
-use Rattle.bp_commands.specs.declared.faults.Fault.TheVariants.{Start, Foreign, Memory}
+use Rattle.bp_commands.specs.declared.faults.Fault.TheVariants.{Start, Early, Memory}
 use Rattle.bp_commands.specs.Checks.{IsUnlawful}
 use Rattle.bp_commands.specs.Commands.{Command}
 use Rattle.bp_commands.specs.Faults.{fault_of_setup}
@@ -55,10 +56,10 @@ module _ (o : OptionsOf) (text : List ℕ) where
     pub runnable : IsRunnable
     pub is : f ≡ Start
 
-  -- the board gave up what is not of this run: nothing is said of what was written
-  pub record IsForeign (f : Fault) : Type 0 where
-    pub runnable : IsRunnable
-    pub is : f ≡ Foreign
+  -- what an empty output has after a run in which a worker stopped early: the trace of a history
+  pub record IsEarly (written : List ℕ) (f : Fault) : Type 0 where
+    pub stopped : IsRefusedInPlay o text (Some []) (Some written) run.Early
+    pub is : f ≡ Early
 
   abbrev pub IsRunRefused : Fault → Type 0
   IsRunRefused f =
@@ -73,5 +74,5 @@ runs o = record {
   Writes = IsOfRun o;
   Reports = IsRunReport o;
   Refuses = IsRunRefused o;
-  Spoils = IsForeign o;
+  Spoils = IsEarly o;
 }

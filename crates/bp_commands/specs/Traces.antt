@@ -72,7 +72,7 @@ on_trace is_text = record {
   Writes = IsOfTrace is_text;
   Reports = IsTraceReport is_text;
   Refuses = λ given f. HasNoCode given.text f ⊎ IsNoTrace given f;
-  Spoils = λ _ _. ⊥;
+  Spoils = λ _ _ _. ⊥;
 }
 
 -- it writes what the steps printed, and the outcome

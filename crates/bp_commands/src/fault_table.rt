@@ -153,19 +153,19 @@ impl Fault {
             Fault::Schedule(fault) => schedule_row(fault),
             Fault::Trace(fault) => trace_row(fault),
             Fault::Start => new_row(53, b"Start", Detail::Nothing),
-            Fault::Foreign => new_row(52, b"Foreign", Detail::Nothing),
+            Fault::Early => new_row(55, b"Early", Detail::Nothing),
             Fault::Write => write_row(),
             Fault::Memory => memory_row(),
         }
     }
 
     /// The exit status of a run that the fault ended, by its number: 3 for memory, devices, the
-    /// output and workers that do not start, 2 for any other.
+    /// output and workers that do not start or stop early, 2 for any other.
     pub fn status(&self) -> u8
         ensures { result ≡ status_of self.now }
     {
         match self.row().number {
-            7 | 51..=54 => 3,
+            7 | 51..=55 => 3,
             _ => 2,
         }
     }

@@ -35,9 +35,9 @@ pub enum Fault {
     /// A worker could not be started.
     #[error("a worker could not be started")]
     Start,
-    /// The board gave up what is not of its run.
-    #[error("the board is of another code or setup, or the seats are not its own")]
-    Foreign,
+    /// A worker stopped although its thread could go on. The trace is written.
+    #[error("a worker stopped before its thread was finished")]
+    Early,
     /// The output could not be written.
     #[error("the output could not be written")]
     Write,
@@ -183,7 +183,7 @@ impl From<RunFault> for Fault {
             RunFault::Program(fault) => Fault::from(fault),
             RunFault::Setup(fault) => Fault::from(fault),
             RunFault::Start => Fault::Start,
-            RunFault::Foreign => Fault::Foreign,
+            RunFault::Early => Fault::Early,
             RunFault::Write => Fault::Write,
             RunFault::Memory => Fault::Memory,
         }

@@ -5,13 +5,13 @@ use Rattle.bp_code.specs.declared.texts.CodeFault.{CodeFault}
 use Rattle.bp_code.specs.declared.texts.CodeFault.TheVariants as code
 use Rattle.bp_machine.specs.Setups as setups
 use Rattle.bp_run.specs.declared.run_faults.RunFault.{RunFault}
-use Rattle.bp_run.specs.declared.run_faults.RunFault.TheVariants.{Program, Setup, Start, Foreign, Write, Memory}
+use Rattle.bp_run.specs.declared.run_faults.RunFault.TheVariants.{Program, Setup, Start, Early, Write, Memory}
 
 abbrev pub run_fault_number : RunFault → ℕ
 run_fault_number (Program f) = program_fault_number f
 run_fault_number (Setup f) = setups.setup_fault_number f
 run_fault_number Start = 53
-run_fault_number Foreign = 52
+run_fault_number Early = 55
 run_fault_number Write = 51
 run_fault_number Memory = 7
 

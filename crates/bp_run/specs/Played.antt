@@ -11,18 +11,19 @@ use Rattle.bp_machine.specs.Histories.{IsLegal, configuration_after, granted_cal
 use Rattle.bp_machine.specs.Reports.{IsRealFailure, IsReport, IsRun}
 use Rattle.bp_machine.specs.SeededHistories.{HasSeededBits}
 use Rattle.bp_machine.specs.Setups.{SetupOf, start, threads}
-use Rattle.bp_board.specs.Gatherings.{AreOnePerThread, calls_of_seats}
+use Rattle.bp_board.specs.Gatherings.{AreOnePerThread, calls_of_seats, open_seats}
 use Rattle.bp_board.specs.Seats.{SeatOf}
+use Rattle.bp_board.specs.Stopping.{HaveStopped}
 use Rattle.bp_trace.specs.TraceText.{trace_text}
 use Rattle.bp_run.specs.declared.run_faults.RunFault.{RunFault}
-use Rattle.bp_run.specs.declared.run_faults.RunFault.TheVariants.{Start, Foreign, Write, Memory}
+use Rattle.bp_run.specs.declared.run_faults.RunFault.TheVariants.{Start, Early, Write, Memory}
 
 -- The bytes of the writer are those before and after the program t was played on the setup s.
 module _ (t : Program) (s : SetupOf) (old new : Option (List ℕ)) where
   -- The trace of one history was written, and the report is of it. The history is legal, and its
   -- choice bits are those of the seed. Its granted steps are a run of the program, within the
-  -- contexts that are allowed; a reported failure is a false assertion of that run. The workers
-  -- gave back one seat for each thread, and it has exactly the calls that they made.
+  -- contexts that are allowed; a reported failure is a false assertion of that run. Each line is
+  -- finished, or the next step of its thread is a call: only there is memory refused.
   pub record IsPlayed (r : Report) : Type 0 where
     pub history : List Call
     pub written : Appends old new (trace_text s history)
@@ -32,9 +33,24 @@ module _ (t : Program) (s : SetupOf) (old new : Option (List ℕ)) where
     pub steps : IsRun t (start t s) (granted_calls history) (configuration_after t s history)
     pub within : IsWithin s.contexts (granted_threads history)
     pub failure : (i : ℕ) → r.outcome ≡ Failed i → IsRealFailure t s history i
-    pub seats : List SeatOf
+    pub stopped : HaveStopped t s history
+
+  -- The same of a board whose seats came back so: one for each thread, and with exactly the calls
+  -- of the history and the lines that it leaves open.
+  pub record IsPlayedFrom (seats : List SeatOf) (r : Report) : Type 0 where
+    pub played : IsPlayed r
     pub one_each : AreOnePerThread (threads s) seats
-    pub made : calls_of_seats seats ≡ length history
+    pub made : calls_of_seats seats ≡ length played.history
+    pub left : open_seats seats ≡ r.left_open
+
+  -- the trace of one legal history was written, with the bits of the seed, and a worker ended
+  -- although the next step of its thread was no call
+  pub record IsEarly : Type 0 where
+    pub history : List Call
+    pub legal : IsLegal t s history
+    pub seeded : HasSeededBits s history
+    pub written : Appends old new (trace_text s history)
+    pub early : HaveStopped t s history → ⊥
 
   -- a proper prefix of the trace of one legal history was written, with the bits of the seed
   pub record IsCutTrace : Type 0 where
@@ -43,11 +59,10 @@ module _ (t : Program) (s : SetupOf) (old new : Option (List ℕ)) where
     pub seeded : HasSeededBits s history
     pub written : AppendsPart old new (trace_text s history)
 
-  -- why there is no report, and what was written; nothing is said of the bytes where the board is
-  -- another's
+  -- why there is no report, and what was written
   abbrev pub IsPlayRefusal : RunFault → Type 0
   IsPlayRefusal Start = new ≡ old
-  IsPlayRefusal Foreign = Unit {0}
+  IsPlayRefusal Early = IsEarly
   IsPlayRefusal Write = IsCutTrace
   IsPlayRefusal Memory = new ≡ old
   IsPlayRefusal f = ⊥

@@ -17,6 +17,6 @@ mod workers;
 pub use gates::{Gate, Open};
 pub use run_faults::RunFault;
 pub use run_options::RunOptions;
-pub use runner::run;
+pub use runner::{PlayedBoard, play, run};
 pub use spreads::Spread;
 pub use workers::work;

@@ -16,9 +16,9 @@ pub enum RunFault {
     /// A worker could not be started; those that were started have ended. Nothing is written.
     #[error("a worker could not be started")]
     Start,
-    /// The board gave up another code, setup or seats than those of this run.
-    #[error("the board is of another code or setup, or the seats are not its own")]
-    Foreign,
+    /// A worker ended although the next step of its thread takes no memory. The trace is written.
+    #[error("a worker stopped before its thread was finished")]
+    Early,
     /// A write failed. A proper prefix of the trace of a history is written.
     #[error("the output could not be written")]
     Write,
@@ -39,7 +39,7 @@ impl RunFault {
             RunFault::Program(fault) => fault.number(),
             RunFault::Setup(fault) => fault.number(),
             RunFault::Start => 53,
-            RunFault::Foreign => 52,
+            RunFault::Early => 55,
             RunFault::Write => 51,
             RunFault::Memory => 7,
         }
@@ -52,7 +52,7 @@ impl RunFault {
         match self {
             RunFault::Program(fault) => fault.place(),
             RunFault::Setup(fault) => fault.place(),
-            RunFault::Start | RunFault::Foreign | RunFault::Write | RunFault::Memory => None,
+            RunFault::Start | RunFault::Early | RunFault::Write | RunFault::Memory => None,
         }
     }
 }

@@ -1,12 +1,13 @@
 //! Running a program by real threads, one for each guest thread.
-ghost use Rattle.std.specs.Prelude.{◌≡◌, ◌≤◌, ◌<◌, true, false, is_some, IfOk, MatchResult};
+ghost use Rattle.std.specs.Prelude.{◌≡◌, ◌≤◌, ◌<◌, [], true, false, is_some, IfOk, MatchResult};
 ghost use Rattle.bp_tree.specs.Ast.{Program};
 ghost use Rattle.bp_code.specs.StandsFor.{StandsFor};
 ghost use Rattle.bp_machine.specs.Laws.{StepsAreARun, StepsAreWithin, FailuresAreReal};
 ghost use Rattle.bp_machine.specs.Setups.{threads, FitsCode};
 ghost use Rattle.bp_board.specs.declared.limits.TheConstants.{MAX_TURN, MAX_RING};
 ghost use Rattle.bp_board.specs.Kits.{IsNamed};
-ghost use Rattle.bp_run.specs.Played.{IsPlayed, IsPlayRefusal};
+ghost use Rattle.bp_board.specs.Gatherings.{AreOnePerThread};
+ghost use Rattle.bp_run.specs.Played.{IsPlayed, IsPlayedFrom, IsPlayRefusal};
 ghost use Rattle.bp_run.specs.Runs.{IsTracedRun, IsRunRefusal};
 
 use crate::gates::Gate;
@@ -15,7 +16,7 @@ use crate::run_faults::RunFault;
 use crate::run_options::RunOptions;
 use crate::scribes::write_rest;
 use crate::stages::{Staged, stage};
-use bp_board::{Board, Calls, Kit, gather};
+use bp_board::{Board, Calls, Gathered, Kit, Seat, Tap, gather};
 use bp_code::{Code, code_of};
 use bp_machine::{Report, Setup, failures_are_real, steps_are_a_run, steps_are_within};
 use std::alloc::{AllocError, Global};
@@ -26,14 +27,21 @@ use std::sync::ledger::Ledger;
 use std::thread::Threads;
 use std::time::Clock;
 
-/// The answer of a run, and the pen that wrote its trace.
+/// What playing a board came to: its seats, and the report of its history.
+#[derive(Drop)]
+pub struct PlayedBoard<C: Calls, O: Ledger> {
+    pub seats: Vec<Seat<C, O>>,
+    pub report: Report,
+}
+
+/// What playing a board answers, and the pen.
 #[derive(Drop)]
 struct Finished<'a, W> {
     answer: Result<Report, RunFault>,
     pen: Pen<'a, W>,
 }
 
-/// The answer of a run that is refused, with the pen as it was.
+/// The answer where playing is refused, with the pen as it was.
 fn refused<'a, W>(pen: Pen<'a, W>, fault: RunFault) -> Finished<'a, W>
     ensures same_reference { result.pen.out.ghost_name ≡ pen.entry.out.ghost_name }
     ensures answer { result.answer ≡ Err fault }
@@ -49,7 +57,8 @@ fn refused<'a, W>(pen: Pen<'a, W>, fault: RunFault) -> Finished<'a, W>
 pub(crate) fn kit_of(alloc: Global, setup: &Setup, options: &RunOptions) -> Result<Kit, AllocError>
     requires some { 0 < options.now.ring }
     requires within { options.now.ring ≤ MAX_RING }
-    ensures { IfOk result (λ k. k.threads ≡ threads setup.now) }
+    ensures threads { IfOk result (λ k. k.threads ≡ threads setup.now) }
+    ensures free { IfOk result (λ k. k.free ≡ options.now.ring) }
 {
     setup.is_in_range();
     Kit::new(alloc, setup.threads(), options.ring)
@@ -66,9 +75,138 @@ fn histories_keep_their_laws()
     failures_are_real();
 }
 
-/// Plays a setup at a board that is made of this kit.
-fn play<
+/// Plays a board with this pen. Where it answers a report, the seats that came back replace those
+/// of `back`.
+fn play_with<
     'a,
+    C: Calls + Send + Sync,
+    O: Ledger + Send + Sync,
+    G: Gate,
+    W: Write,
+    R: Threads + Wait + Clock + Sync,
+>(
+    rt: &R,
+    alloc: Global,
+    board: Board<C, O>,
+    seats: Vec<Seat<C, O>>,
+    tap: Tap<C>,
+    code: &Code,
+    setup: &Setup,
+    turn: u32,
+    gate: &G,
+    back: &mut Vec<Seat<C, O>>,
+    pen: Pen<'a, W>,
+) -> Finished<'a, W>
+    requires code { code.now ≡ C.code }
+    requires setup { setup.now ≡ C.setup }
+    requires seats { AreOnePerThread (threads setup.now) seats.items }
+    requires untaken { tap.taken ≡ [] }
+    requires turn { (0 < turn) × (turn ≤ MAX_TURN) }
+    requires fresh { pen.failed ≡ false }
+    ensures same_reference { result.pen.out.ghost_name ≡ pen.entry.out.ghost_name }
+    ensures answer { let old = W.contents pen.entry.out.now in
+        let new = W.contents result.pen.out.now in
+        (t : Program)
+        → StandsFor code.now t
+        → MatchResult result.answer
+        (IsPlayedFrom t setup.now old new back.new.items)
+        (IsPlayRefusal t setup.now old new) }
+{
+    histories_keep_their_laws();
+    code.is_of_a_program();
+    setup.is_in_range();
+    let (Ok(room), Ok(handles)) = (
+        Vec::with_capacity(alloc, seats.len()),
+        Vec::with_capacity(alloc, seats.len()),
+    ) else {
+        return refused(pen, RunFault::Memory);
+    };
+    let Staged {
+        mut pen,
+        tap,
+        seats,
+        all_started,
+    } = stage(
+        rt, setup, &board, seats, room, handles, tap, pen, turn, gate,
+    );
+    if !all_started {
+        return refused(pen, RunFault::Start);
+    }
+    let Ok(mut gathered) = gather(board, seats, tap, code, setup) else {
+        unreachable!()
+    };
+    write_rest(&mut pen, &mut gathered.tap);
+    pen.end(gathered.report.calls, gathered.report.left_open);
+    if pen.failed {
+        return refused(pen, RunFault::Write);
+    }
+    if !gathered.has_stopped {
+        return refused(pen, RunFault::Early);
+    }
+    let Gathered {
+        seats,
+        tap: _,
+        report,
+        has_stopped: _,
+    } = gathered;
+    *back = seats;
+    Finished {
+        answer: Ok(report),
+        pen,
+    }
+}
+
+/// Plays a board that was opened for this code and setup: one worker for each seat makes the calls
+/// of its thread, and the calling thread writes the trace while the workers run. It gives the seats
+/// back: they have made as many calls as the history that was written has.
+pub fn play<
+    C: Calls + Send + Sync,
+    O: Ledger + Send + Sync,
+    G: Gate,
+    W: Write,
+    R: Threads + Wait + Clock + Sync,
+>(
+    rt: &R,
+    alloc: Global,
+    board: Board<C, O>,
+    seats: Vec<Seat<C, O>>,
+    tap: Tap<C>,
+    code: &Code,
+    setup: &Setup,
+    turn: u32,
+    gate: &G,
+    out: &mut W,
+) -> Result<PlayedBoard<C, O>, RunFault>
+    requires code { code.now ≡ C.code }
+    requires setup { setup.now ≡ C.setup }
+    requires seats { AreOnePerThread (threads setup.now) seats.items }
+    requires untaken { tap.taken ≡ [] }
+    requires turn { (0 < turn) × (turn ≤ MAX_TURN) }
+    ensures { let old = W.contents out.old in
+        let new = W.contents out.new in
+        (t : Program)
+        → StandsFor code.now t
+        → MatchResult result
+        (λ p. IsPlayedFrom t setup.now old new p.seats.items p.report)
+        (IsPlayRefusal t setup.now old new) }
+{
+    let pen = Pen::new(out);
+    let mut back = Vec::new(alloc);
+    let answer = play_with(
+        rt, alloc, board, seats, tap, code, setup, turn, gate, &mut back, pen,
+    )
+    .answer;
+    match answer {
+        Ok(report) => Ok(PlayedBoard {
+            seats: back,
+            report,
+        }),
+        Err(fault) => Err(fault),
+    }
+}
+
+/// Opens a board of this kit, and plays it.
+fn open_and_play<
     C: Calls + Send + Sync,
     O: Ledger + Send + Sync,
     G: Gate,
@@ -82,57 +220,29 @@ fn play<
     setup: &Setup,
     turn: u32,
     gate: &G,
-    pen: Pen<'a, W>,
-) -> Finished<'a, W>
+    out: &mut W,
+) -> Result<Report, RunFault>
     requires named { IsNamed kit C.name C.parts O.name O.parts C.ring }
+    requires code { code.now ≡ C.code }
+    requires setup { setup.now ≡ C.setup }
     requires threads { kit.threads ≡ threads setup.now }
     requires fits { FitsCode code.now setup.now }
     requires seeded { is_some setup.now.seed ≡ true }
     requires turn { (0 < turn) × (turn ≤ MAX_TURN) }
-    requires fresh { pen.failed ≡ false }
-    ensures same_reference { result.pen.out.ghost_name ≡ pen.entry.out.ghost_name }
-    ensures answer { let old = W.contents pen.entry.out.now in
-        let new = W.contents result.pen.out.now in
+    ensures { let old = W.contents out.old in
+        let new = W.contents out.new in
         (t : Program)
         → StandsFor code.now t
-        → MatchResult result.answer
+        → MatchResult result
         (IsPlayed t setup.now old new)
         (IsPlayRefusal t setup.now old new) }
 {
-    histories_keep_their_laws();
-    code.is_of_a_program();
-    setup.is_in_range();
     let Ok((board, seats, tap)) = Board::<C, O>::open(alloc, kit, code, setup) else {
-        return refused(pen, RunFault::Memory);
+        return Err(RunFault::Memory);
     };
-    let (Ok(back), Ok(handles)) = (
-        Vec::with_capacity(alloc, seats.len()),
-        Vec::with_capacity(alloc, seats.len()),
-    ) else {
-        return refused(pen, RunFault::Memory);
-    };
-    let Staged {
-        mut pen,
-        tap,
-        seats,
-        all_started,
-    } = stage(
-        rt, setup, &board, seats, back, handles, tap, pen, turn, gate,
-    );
-    if !all_started {
-        return refused(pen, RunFault::Start);
-    }
-    let Ok(mut gathered) = gather(board, seats, tap, code, setup) else {
-        return refused(pen, RunFault::Foreign);
-    };
-    write_rest(&mut pen, &mut gathered.tap);
-    pen.end(gathered.report.calls, gathered.report.left_open);
-    if pen.failed {
-        return refused(pen, RunFault::Write);
-    }
-    Finished {
-        answer: Ok(gathered.report),
-        pen,
+    match play(rt, alloc, board, seats, tap, code, setup, turn, gate, out) {
+        Ok(played) => Ok(played.report),
+        Err(fault) => Err(fault),
     }
 }
 
@@ -161,7 +271,6 @@ pub fn run<G: Gate, W: Write, R: Threads + Wait + Clock + Sync>(
     let code = code_of(alloc, text)?;
     let setup = options.setup(alloc, &code)?;
     let kit = kit_of(alloc, &setup, options)?;
-    let pen = Pen::new(out);
     let turn = options.turn;
-    play::<Brand, Brand, G, W, R>(rt, alloc, kit, &code, &setup, turn, gate, pen).answer
+    open_and_play::<Brand, Brand, G, W, R>(rt, alloc, kit, &code, &setup, turn, gate, out)
 }

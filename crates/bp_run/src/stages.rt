@@ -1,5 +1,5 @@
 //! The stage of a run: a worker for each seat, and the scribe, at one board.
-ghost use Rattle.std.specs.Prelude.{◌≡◌, ◌≤◌, ◌<◌, ◌+◌, ◌∷◌, [], false, vec_len, vec_capacity};
+ghost use Rattle.std.specs.Prelude.{◌≡◌, ◌≤◌, ◌<◌, ◌+◌, ◌∷◌, [], false, true, map, vec_len, vec_capacity};
 ghost use Rattle.std.specs.Thread.{IsSync};
 ghost use Rattle.bp_board.specs.declared.limits.TheConstants.{MAX_TURN};
 ghost use Rattle.bp_machine.specs.declared.limits.TheConstants.{MAX_THREADS};
@@ -15,8 +15,23 @@ use std::io::Write;
 use std::sync::ledger::Ledger;
 use std::sync::{Mutex, Wait};
 use std::thread;
-use std::thread::{JoinHandle, Scope, Threads};
+use std::thread::{Promise, PromisedHandle, Scope, Threads};
 use std::time::Clock;
+
+/// The promise of a worker: it gives back a seat of this thread.
+#[derive(Drop)]
+pub(crate) struct OfThread {
+    pub thread: u32,
+}
+
+impl<C: Calls, O: Ledger> Promise<Seat<C, O>> for OfThread {
+    ghost use Rattle.std.specs.Prelude.{◌≡◌};
+
+    ghost kept_by = { λ p seat. seat.thread ≡ p.thread };
+}
+
+/// A worker that is to be joined.
+pub(crate) type Handle<C, O> = PromisedHandle<Seat<C, O>, OfThread>;
 
 /// What the scribe and the workers give back.
 #[derive(Drop)]
@@ -42,21 +57,30 @@ fn start_workers<
     board: &'s Board<C, O>,
     ended: &'s Mutex<u32>,
     seats: Vec<Seat<C, O>>,
-    handles: &mut Vec<JoinHandle<Seat<C, O>>>,
+    handles: &mut Vec<Handle<C, O>>,
     turn: u32,
     gate: &'s G,
 ) -> bool
     requires shared { IsSync R.row × IsSync G.row }
     requires some { 0 < turn }
     requires few { turn ≤ MAX_TURN }
-    requires room { vec_len handles.old + vec_len seats ≤ vec_capacity handles.old }
-    ensures { vec_len handles.new ≤ vec_len handles.old + vec_len seats }
+    requires no_handle { vec_len handles.old ≡ 0 }
+    requires room { vec_len seats ≤ vec_capacity handles.old }
+    ensures count { vec_len handles.new ≤ vec_len seats }
+    ensures threads { result ≡ true
+        → map (λ handle. handle.promise.thread) handles.new.items
+        ≡ map (λ seat. seat.thread) seats.items }
 {
     for seat in seats {
-        match scope.spawn(
+        let promise = OfThread {
+            thread: seat.thread(),
+        };
+        match scope.spawn_with(
+            promise,
             move || -> Seat<C, O>
                 requires some { 0 < turn }
                 requires few { turn ≤ MAX_TURN }
+                ensures { result.thread ≡ seat.thread }
             { worker(rt, board, ended, seat, turn, gate) },
         ) {
             Ok(handle) => handles.push_reserved(handle),
@@ -66,13 +90,16 @@ fn start_workers<
     true
 }
 
-/// Waits until the workers have ended, and adds the seats that they give back.
+/// Waits until the workers have ended, and gives back their seats in order.
 fn join_workers<C: Calls + Send, O: Ledger + Send, R: Threads>(
     rt: &R,
-    handles: Vec<JoinHandle<Seat<C, O>>>,
+    handles: Vec<Handle<C, O>>,
     mut back: Vec<Seat<C, O>>,
 ) -> Vec<Seat<C, O>>
-    requires { vec_len back + vec_len handles ≤ vec_capacity back }
+    requires no_seat { vec_len back ≡ 0 }
+    requires room { vec_len handles ≤ vec_capacity back }
+    ensures { map (λ seat. seat.thread) result.items
+        ≡ map (λ handle. handle.promise.thread) handles.items }
 {
     for handle in handles {
         back.push_reserved(handle.join(rt));
@@ -94,7 +121,7 @@ pub(crate) fn stage<
     board: &Board<C, O>,
     seats: Vec<Seat<C, O>>,
     back: Vec<Seat<C, O>>,
-    handles: Vec<JoinHandle<Seat<C, O>>>,
+    handles: Vec<Handle<C, O>>,
     tap: Tap<C>,
     pen: Pen<'a, W>,
     turn: u32,
@@ -112,6 +139,8 @@ pub(crate) fn stage<
     ensures same_reference { result.pen.out.ghost_name ≡ pen.entry.out.ghost_name }
     ensures written { IsStaged setup.now (W.contents pen.entry.out.now)
         (W.contents result.pen.out.now) result.pen.failed result.tap.taken result.all_started }
+    ensures seats { result.all_started ≡ true
+        → map (λ s. s.thread) result.seats.items ≡ map (λ s. s.thread) seats.items }
 {
     let ended = Mutex::new(0u32);
     let ended = &ended;
@@ -133,6 +162,9 @@ pub(crate) fn stage<
             ensures written { IsStaged setup.entry.now (W.contents pen.entry.out.now)
                 (W.contents result.pen.out.now) result.pen.failed result.tap.taken
                 result.all_started }
+            ensures seats { result.all_started ≡ true
+                → map (λ s. s.thread) result.seats.items
+                ≡ map (λ s. s.thread) seats.items }
         {
             let mut handles = handles;
             let mut pen = pen;

@@ -24,7 +24,7 @@ pub fn work<C: Calls, O: Ledger, G: Gate, R: Wait + Clock>(
     requires some { 0 < turn }
     requires few { turn ≤ MAX_TURN }
     ensures ok { OnOk result (seat.new.is_open ≡ false) }
-    ensures refused { IfErr result EndsWork }
+    ensures refused { IfErr result (EndsWork seat.new) }
     ensures thread { seat.new.thread ≡ seat.old.thread }
     ensures calls { seat.old.calls ≤ seat.new.calls }
 {

@@ -54,7 +54,7 @@ fn gives_statuses(rt: HostRuntime) {
     for fault in [
         Fault::Memory,
         Fault::Write,
-        Fault::Foreign,
+        Fault::Early,
         Fault::Start,
         Fault::Device,
     ] {
@@ -143,6 +143,10 @@ fn says_why_commands_are_refused(rt: HostRuntime) -> Result<(), AllocError> {
         ),
         (Fault::Trace(ReplayFault::NoEnd), "the trace has no end"),
         (Fault::Start, "a worker could not be started"),
+        (
+            Fault::Early,
+            "a worker stopped before its thread was finished",
+        ),
         (Fault::Write, "the output could not be written"),
         (Fault::Memory, "out of memory"),
     ] {

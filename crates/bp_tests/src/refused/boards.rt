@@ -92,6 +92,8 @@ fn desk_calls<C: Calls, O: Ledger>(
     made: &mut [Option<Call>],
 ) -> Result<bool, Fail>
     requires named { IsNamed kit C.name C.parts O.name O.parts C.ring }
+    requires code { code.now ≡ C.code }
+    requires setup { setup.now ≡ C.setup }
     requires threads { kit.threads ≡ threads setup.now }
     requires fits { FitsCode code.now setup.now }
     requires seeded { is_some setup.now.seed ≡ true }
@@ -138,6 +140,8 @@ fn board_calls<C: Calls, O: Ledger, R: Wait + Clock>(
     made: &mut [Option<Call>],
 ) -> Result<bool, Fail>
     requires named { IsNamed kit C.name C.parts O.name O.parts C.ring }
+    requires code { code.now ≡ C.code }
+    requires setup { setup.now ≡ C.setup }
     requires threads { kit.threads ≡ threads setup.now }
     requires fits { FitsCode code.now setup.now }
     requires seeded { is_some setup.now.seed ≡ true }

@@ -118,6 +118,8 @@ fn gathers<C: Calls, O: Ledger, R: Wait>(
     setup: &Setup,
 ) -> Result<(), Fail>
     requires named { IsNamed kit C.name C.parts O.name O.parts C.ring }
+    requires code { code.now ≡ C.code }
+    requires setup { setup.now ≡ C.setup }
     requires threads { kit.threads ≡ threads setup.now }
     requires fits { FitsCode code.now setup.now }
     requires seeded { is_some setup.now.seed ≡ true }

@@ -61,6 +61,8 @@ fn work_at<C: Calls, O: Ledger, G: Gate, R: Wait + Clock>(
     gate: &G,
 ) -> Option<(u64, u32)>
     requires named { IsNamed kit C.name C.parts O.name O.parts C.ring }
+    requires code { code.now ≡ C.code }
+    requires setup { setup.now ≡ C.setup }
     requires threads { kit.threads ≡ threads setup.now }
     requires fits { FitsCode code.now setup.now }
     requires seeded { is_some setup.now.seed ≡ true }

@@ -1,5 +1,5 @@
-use Rattle.std.proofs.Common.{◌≤◌, ◌+◌, vec_len, vec_capacity}
-use Rattle.std.specs.Vec.Iter.{into_iter_len}
+use Rattle.std.proofs.Common.{◌≡◌, ◌≤◌, ◌+◌, ◌++◌, map, vec_len, vec_capacity}
+use Rattle.std.specs.Vec.Iter.{into_iter_items, into_iter_len}
 use Rattle.bp_run.proofs.stages.join_workers.Given as goal
 
 abbrev pub invariant-loop-handle : goal.invariant-loop-handle
@@ -7,4 +7,5 @@ invariant-loop-handle g l = record {
   can : (goal.iterator-loop-handle g).can_next l.handle-iterator;
   ends : (goal.iterator-loop-handle g).is_finite l.handle-iterator;
   room : vec_len l.back + into_iter_len l.handle-iterator ≤ vec_capacity l.back;
+  threads : map (λ s. s.thread) l.back.items ++ map (λ h. h.promise.thread) (into_iter_items l.handle-iterator) ≡ map (λ h. h.promise.thread) l.fn.handles.items;
 }

@@ -4,5 +4,5 @@ use Rattle.bp_board.proofs.seats.Seat.TheSendSync.{the_send as seat_send}
 use Rattle.bp_run.proofs.BoardsCross.{board_sync}
 use Rattle.bp_run.proofs.stages.start_workers.Goals as goal
 
-pub spawn-requires-send-F : goal.spawn-requires-send-F
-spawn-requires-send-F g c = λ κs lives. search (sendable, crosses, board_sync, seat_send) depth 40 fits 10000
+pub spawn_with-requires-send-F : goal.spawn_with-requires-send-F
+spawn_with-requires-send-F g c = λ κs lives. search (sendable, crosses, board_sync, seat_send) depth 40 fits 10000

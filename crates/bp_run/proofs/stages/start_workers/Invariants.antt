@@ -1,5 +1,5 @@
-use Rattle.std.proofs.Common.{◌≤◌, ◌+◌, vec_len, vec_capacity}
-use Rattle.std.specs.Vec.Iter.{into_iter_len}
+use Rattle.std.proofs.Common.{◌≡◌, ◌≤◌, ◌+◌, ◌++◌, map, vec_len, vec_capacity}
+use Rattle.std.specs.Vec.Iter.{into_iter_items, into_iter_len}
 use Rattle.bp_run.proofs.stages.start_workers.Given as goal
 
 abbrev pub invariant-loop-seat : goal.invariant-loop-seat
@@ -7,5 +7,6 @@ invariant-loop-seat g l = record {
   can : (goal.iterator-loop-seat g).can_next l.seat-iterator;
   ends : (goal.iterator-loop-seat g).is_finite l.seat-iterator;
   room : vec_len l.handles + into_iter_len l.seat-iterator ≤ vec_capacity l.handles;
-  few : vec_len l.handles + into_iter_len l.seat-iterator ≤ vec_len l.fn.handles + vec_len l.fn.seats;
+  few : vec_len l.handles + into_iter_len l.seat-iterator ≤ vec_len l.fn.seats;
+  threads : map (λ h. h.promise.thread) l.handles.items ++ map (λ s. s.thread) (into_iter_items l.seat-iterator) ≡ map (λ s. s.thread) (into_iter_items l.initial.seat-iterator);
 }

@@ -1,7 +1,7 @@
 use Rattle.bp_tests.proofs.refused.without_memory.boards.Given as goal
 
 abbrev pub ghosts-gathers-C-Calls : goal.ghosts-gathers-C-Calls
-ghosts-gathers-C-Calls g a = record { ring = a.kit.ring }
+ghosts-gathers-C-Calls g a = record { ring = a.kit.ring; code = a.code.now; setup = a.setup.now }
 
 abbrev pub ghosts-gathers-C-Ledger : goal.ghosts-gathers-C-Ledger
 ghosts-gathers-C-Ledger g a = record { name = a.kit.calls; parts = a.kit.threads }
