@@ -1,7 +1,7 @@
 use Rattle.bp_tests.proofs.board.gathering.is_gathered.Given as goal
 
 abbrev pub ghosts-is_gathered_with-C-Calls : goal.ghosts-is_gathered_with-C-Calls
-ghosts-is_gathered_with-C-Calls a = record { ring = a.kit.ring; code = a.own_code.now; setup = a.own.now }
+ghosts-is_gathered_with-C-Calls a = record { ring = a.kit.ring; code = a.code.now; setup = a.setup.now }
 
 abbrev pub ghosts-is_gathered_with-C-Ledger : goal.ghosts-is_gathered_with-C-Ledger
 ghosts-is_gathered_with-C-Ledger a = record { name = a.kit.calls; parts = a.kit.threads }
