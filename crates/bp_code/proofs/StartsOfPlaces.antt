@@ -5,16 +5,16 @@ use Rattle.bp_tree.specs.Blocks.{block_of, statement_of}
 use Rattle.bp_tree.specs.Ast.{Name, Block, Done, Then, Statement, Skips, GoesTo, Returns, Assigns, Branches, Loops, Asserts, Assumes, Prints, Calls, Procedure}
 use Rattle.bp_code.specs.Continuations.{chain}
 use Rattle.bp_code.specs.StandsFor.{Place, places, places_in, places_of}
-use Rattle.bp_code.specs.Starts.{start_of, block_starts, inner_starts}
+use Rattle.bp_code.specs.Starts.{start_of_block, block_starts, inner_starts}
 use Rattle.bp_code.proofs.BlockItems.{block_item}
 use Rattle.bp_code.proofs.ListItems.{drop_item}
 
 abbrev pub starts : List Place → List (Option ℕ)
-starts ps = map (λ p. start_of p.left) ps
+starts ps = map (λ p. start_of_block p.left) ps
 
 pub starts-append : (ps qs : List Place) → starts (ps ++ qs) ≡ starts ps ++ starts qs
 starts-append [] qs = refl
-starts-append (p ∷ ps) qs = ap (λ xs. start_of p.left ∷ xs) (starts-append ps qs)
+starts-append (p ∷ ps) qs = ap (λ xs. start_of_block p.left ∷ xs) (starts-append ps qs)
 
 mutual
   pub starts_of_block : (p : Procedure) (b r : Block) → starts (places p b r) ≡ block_starts b

@@ -4,13 +4,13 @@ use Rattle.bp_tree.specs.Ast.{Block, Done, Then, Statement, Branches, Loops, Pro
 use Rattle.bp_code.specs.StandsFor.{places_of}
 
 -- the place of the statement that comes next, and none where nothing remains
-abbrev pub start_of : Block → Option ℕ
-start_of Done = None
-start_of (Then label at s t) = Some at
+abbrev pub start_of_block : Block → Option ℕ
+start_of_block Done = None
+start_of_block (Then label at s t) = Some at
 
 -- one for each instruction of the code that stands for the program
 abbrev pub starts_of : Program → List (Option ℕ)
-starts_of t = map (λ p. start_of p.left) (places_of t.procedures)
+starts_of t = map (λ p. start_of_block p.left) (places_of t.procedures)
 
 -- the same of the statements of a block, at any depth, and of those inside a statement
 abbrev mutual

@@ -31,6 +31,6 @@ pub use instrs::{Instr, Kind};
 pub use laws::steps_alike;
 pub use listing::list;
 pub use programs::compile;
-pub use starts::places;
+pub use starts::statement_starts;
 pub use stores::Store;
 pub use texts::{CodeFault, ProgramFault, code_of, lawful_program};

@@ -10,7 +10,7 @@ use Rattle.bp_machine.specs.Setups.{SetupOf, setup_fault, IsSetupRefusal}
 use Rattle.bp_machine.specs.Starts.{StartOf, setup_from}
 use Rattle.bp_trace.specs.declared.faults.DriveFault.{DriveFault}
 use Rattle.bp_trace.specs.declared.faults.DriveFault.TheVariants.{TooLong, Line, AfterFinish, Memory, Write}
-use Rattle.bp_trace.specs.Drives.{IsPlayed, IsRefusal, IsScheduleRefusal}
+use Rattle.bp_trace.specs.Drives.{DrivesTo, IsRefusal, IsScheduleRefusal}
 use Rattle.bp_trace.specs.TraceText.{trace_text}
 use Rattle.bp_commands.specs.Commands.{IsDoneWith, IsRefusedWith}
 use Rattle.bp_commands.specs.Drives.{drives, IsDriveRefused}
@@ -19,9 +19,9 @@ use Rattle.bp_commands.specs.Given.{Pair}
 
 module _ (start : StartOf) (given : Pair) (c : Flat) (code : IsProgramCode given.text c) (s : SetupOf)
     (setup : s ≡ setup_from start None code.program) (fine : setup_fault code.program (setup_from start None code.program) ≡ None) (old new : Option (List ℕ)) where
-  pub driven : (r : Report) → IsPlayed code.program s given.input old new r → IsDoneWith (drives start) old new given r
+  pub driven : (r : Report) → DrivesTo code.program s given.input old new r → IsDoneWith (drives start) old new given r
   driven r found =
-      let played = subst (λ x. IsPlayed code.program x given.input old new r) setup found in
+      let played = subst (λ x. DrivesTo code.program x given.input old new r) setup found in
       record {
         text = trace_text (setup_from start None code.program) played.history;
         reports = record {

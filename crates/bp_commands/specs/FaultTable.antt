@@ -130,8 +130,8 @@ place_of f = let r = fault_row f in detail_place r.detail
 abbrev pub wanted_of : Fault → Option Reply
 wanted_of f = let r = fault_row f in detail_wanted r.detail
 
-abbrev pub head_text : ℕ → List ℕ → List ℕ
-head_text n name = concat (codes "btrun: " ∷ decimal n ∷ codes " " ∷ name ∷ [])
+abbrev pub fault_head : ℕ → List ℕ → List ℕ
+fault_head n name = concat (codes "btrun: " ∷ decimal n ∷ codes " " ∷ name ∷ [])
 
 abbrev pub detail_text : Detail → List ℕ
 detail_text Nothing = []
@@ -142,7 +142,7 @@ detail_text (Wanted n r) =
     concat (codes " line " ∷ decimal n ∷ codes " wanted " ∷ (letter_of r ∷ []) ∷ [])
 
 abbrev pub row_line : RowOf → List ℕ
-row_line r = head_text r.number r.name ++ (detail_text r.detail ++ codes "\n")
+row_line r = fault_head r.number r.name ++ (detail_text r.detail ++ codes "\n")
 
 -- the line of a fault
 abbrev pub fault_line : Fault → List ℕ

@@ -1,7 +1,7 @@
 //! The lines that report faults.
 ghost use Rattle.std.specs.Prelude.{◌++◌};
 ghost use Rattle.bp_text.specs.Writing.{Writes};
-ghost use Rattle.bp_commands.specs.FaultTable.{detail_text, fault_line, head_text};
+ghost use Rattle.bp_commands.specs.FaultTable.{detail_text, fault_line, fault_head};
 
 use crate::fault_table::{Detail, Row};
 use crate::faults::Fault;
@@ -12,7 +12,7 @@ use std::io::Write;
 /// Writes the number and the name of a fault.
 fn put_head<W: Write>(row: Row, out: &mut W) -> Result<(), WriteFault>
     ensures { Writes (W.contents out.old) (W.contents out.new)
-        (head_text row.number row.name.now) result }
+        (fault_head row.number row.name.now) result }
 {
     let mut buffer = Buffer::new();
     let number = buffer.format(row.number).as_bytes();

@@ -1,8 +1,8 @@
 //! Sentences on a call of a trace that is not the machine's own, and on the end of a trace.
 
 use crate::sentences::{push_all, push_number};
-use crate::trace_heads::is_in_pieces;
-use crate::walks::{Stop, digit_of};
+use crate::trace_heads::is_version_two;
+use crate::walks::{Deviation, digit_of};
 use bp_machine::{Call, Reply, Report};
 use bp_text::{position_of, push_line, push_place};
 use std::alloc::AllocError;
@@ -21,10 +21,10 @@ fn reason(reply: Reply) -> &'static [u8] {
 }
 
 /// Adds a call as a trace of this version has it.
-fn push_call(out: &mut Vec<u8>, is_in_pieces: bool, call: Call) -> Result<(), AllocError> {
+fn push_call(out: &mut Vec<u8>, is_version_two: bool, call: Call) -> Result<(), AllocError> {
     let digit = [digit_of(call.bit)];
     let letter = [call.reply.letter()];
-    if is_in_pieces {
+    if is_version_two {
         return push_all(out, &[b"'", &digit, &letter, b"'"]);
     }
     push_all(out, &[b"'"])?;
@@ -75,7 +75,7 @@ fn push_due_call(
 ) -> Result<(), AllocError> {
     push_place(out, trace, at)?;
     push_all(out, &[b"expected "])?;
-    push_call(out, is_in_pieces(trace), own)?;
+    push_call(out, is_version_two(trace), own)?;
     push_all(out, &[b": ", why, b"\n"])
 }
 
@@ -93,14 +93,18 @@ fn push_finished(
 }
 
 /// Adds where the machine does not go on with a trace, and why.
-pub(crate) fn push_stop(out: &mut Vec<u8>, trace: &[u8], stop: Stop) -> Result<(), AllocError> {
-    match stop {
-        Stop::Bit(own, at) => {
+pub(crate) fn push_deviation(
+    out: &mut Vec<u8>,
+    trace: &[u8],
+    deviation: Deviation,
+) -> Result<(), AllocError> {
+    match deviation {
+        Deviation::Bit(own, at) => {
             let why = b"the choice bit is that of the seed".as_slice();
             push_due_call(out, trace, own, why, at)
         }
-        Stop::Reply(own, at) => push_due_call(out, trace, own, reason(own.reply), at),
-        Stop::Finished(thread, at) => push_finished(out, trace, thread, at),
-        Stop::End(report, at) => push_due_end(out, trace, report, at),
+        Deviation::Reply(own, at) => push_due_call(out, trace, own, reason(own.reply), at),
+        Deviation::Finished(thread, at) => push_finished(out, trace, thread, at),
+        Deviation::End(report, at) => push_due_end(out, trace, report, at),
     }
 }

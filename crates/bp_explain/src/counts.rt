@@ -1,6 +1,6 @@
 //! How many arguments a call has, and how many variables and values an assignment.
 
-use bp_syntax::take_piece;
+use bp_syntax::take_lexeme;
 use bp_text::part_from;
 
 /// How many tokens and commas the own text of a statement has, up to its `;`.
@@ -40,12 +40,12 @@ fn with_token(tally: Tally, token: &[u8]) -> Tally {
 fn tally_at(text: &[u8], at: usize) -> Tally {
     let mut tally = EMPTY;
     let mut rest = part_from(text, at);
-    while let Some(piece) = take_piece(&mut rest) {
-        if piece.text == b";".as_slice() {
+    while let Some(lexeme) = take_lexeme(&mut rest) {
+        if lexeme.text == b";".as_slice() {
             return tally;
         }
-        if !piece.is_gap() {
-            tally = with_token(tally, piece.text);
+        if !lexeme.is_gap() {
+            tally = with_token(tally, lexeme.text);
         }
     }
     tally

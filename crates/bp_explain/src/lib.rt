@@ -14,16 +14,16 @@ mod hints;
 mod line_sentences;
 mod numbers;
 mod offers;
-mod pieces;
 mod programs;
 mod read_sentences;
 mod schedules;
 mod sentences;
 mod setup_sentences;
+mod symbols;
 mod syntax_sentences;
+mod tokens_at;
 mod trace_heads;
 mod traces;
-mod turns;
 mod walks;
 
 pub use programs::explain_program;

@@ -2,7 +2,7 @@
 
 use crate::numbers::number_at_front;
 use crate::sentences::{push_all, push_count, push_number};
-use crate::trace_heads::{entry_count, is_in_pieces};
+use crate::trace_heads::{entry_count, is_version_two};
 use bp_text::{Line, line_of, push_line};
 use std::alloc::AllocError;
 
@@ -31,7 +31,7 @@ fn push_same_thread(out: &mut Vec<u8>, thread: u32) -> Result<(), AllocError> {
 
 /// Adds what a line behind the head of a trace may be.
 fn push_forms(out: &mut Vec<u8>, trace: &[u8]) -> Result<(), AllocError> {
-    let calls: &[u8] = if is_in_pieces(trace) {
+    let calls: &[u8] = if is_version_two(trace) {
         b"'0 1s0s', a thread and then the choice bit and the letter of the reply of each call"
     } else {
         b"'0 1 s', a thread, a choice bit and the letter of the reply"
@@ -56,7 +56,7 @@ fn push_sentence(
     }
     match thread {
         Some(thread) if thread as usize >= threads => push_no_thread(out, thread, threads),
-        Some(thread) if is_in_pieces(trace) && thread_of(before) == Some(thread) => {
+        Some(thread) if is_version_two(trace) && thread_of(before) == Some(thread) => {
             push_same_thread(out, thread)
         }
         _ if !line.is_ended => push_all(out, &[b"there is no line feed behind this line\n"]),

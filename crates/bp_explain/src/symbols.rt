@@ -18,21 +18,21 @@ fn take_byte<'a>(text: &mut &'a [u8]) -> Option<u8>
 
 /// The digit of a choice bit and the letter of a reply, as they stand on a line.
 #[derive(Clone, Copy, Debug)]
-pub(crate) struct Turn {
+pub(crate) struct Symbol {
     pub(crate) digit: u8,
     pub(crate) letter: u8,
     /// How many bytes of the line are behind the digit.
     pub(crate) behind_digit: usize,
 }
 
-/// Takes the first turn from what is left of a line.
-pub(crate) fn take_turn<'a>(text: &mut &'a [u8]) -> Option<Turn>
+/// Takes the first symbol from what is left of a line.
+pub(crate) fn take_symbol<'a>(text: &mut &'a [u8]) -> Option<Symbol>
     ensures { MatchOption result Unit (λ _. length text.new.now < length text.old.now) }
 {
     let digit = take_byte(text)?;
     let behind_digit = text.len();
     let letter = take_byte(text)?;
-    Some(Turn {
+    Some(Symbol {
         digit,
         letter,
         behind_digit,

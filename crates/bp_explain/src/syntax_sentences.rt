@@ -2,8 +2,8 @@
 
 use crate::hints::token_hint;
 use crate::offers::{Offer, offers_behind, push_offers};
-use crate::pieces::token_at;
 use crate::sentences::{push_all, push_quoted};
+use crate::tokens_at::token_at;
 use bp_text::part_before;
 use std::alloc::{AllocError, Global};
 

@@ -49,7 +49,7 @@ pub(crate) fn body_of(trace: &[u8]) -> &[u8] {
 }
 
 /// Whether the trace is of version 2.
-pub(crate) fn is_in_pieces(trace: &[u8]) -> bool {
+pub(crate) fn is_version_two(trace: &[u8]) -> bool {
     trace.starts_with(b"btrace 2\n")
 }
 

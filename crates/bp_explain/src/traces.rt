@@ -6,12 +6,12 @@ ghost use Rattle.bp_text.specs.OneLine.{on_one_line};
 ghost use Rattle.bp_explain.specs.Explanations.{number_line, Begins, IsPlain};
 ghost use Rattle.bp_explain.specs.Explained.{ExplainsTrace};
 
-use crate::call_sentences::push_stop;
+use crate::call_sentences::push_deviation;
 use crate::explanations::{about_line, explain_too_long};
 use crate::head_sentences::push_head;
 use crate::line_sentences::push_body_line;
 use crate::setup_sentences::{line_of_setup, push_setup};
-use crate::walks::{Stop, walk};
+use crate::walks::{Deviation, walk};
 use bp_code::Code;
 use bp_machine::SetupFault;
 use bp_text::position_of;
@@ -67,18 +67,19 @@ fn explain_call(
     ensures plain { IfOk result (λ v. IsPlain v.items) }
 {
     let mut body = Vec::new(alloc);
-    if let Some(stop) = walk(alloc, code, trace)? {
-        push_stop(&mut body, trace, stop)?;
+    if let Some(deviation) = walk(alloc, code, trace)? {
+        push_deviation(&mut body, trace, deviation)?;
     }
     about_line(alloc, name, number as usize, body.as_slice())
 }
 
 /// The line of a trace at which a walk stopped.
-fn line_of_stop(trace: &[u8], stop: Stop) -> usize {
-    match stop {
-        Stop::Bit(_, at) | Stop::Reply(_, at) | Stop::Finished(_, at) | Stop::End(_, at) => {
-            position_of(trace, at).line
-        }
+fn line_of_deviation(trace: &[u8], deviation: Deviation) -> usize {
+    match deviation {
+        Deviation::Bit(_, at)
+        | Deviation::Reply(_, at)
+        | Deviation::Finished(_, at)
+        | Deviation::End(_, at) => { position_of(trace, at).line }
     }
 }
 
@@ -89,9 +90,9 @@ fn explain_end(alloc: Global, code: &Code, name: &str, trace: &[u8]) -> Result<V
 {
     let mut body = Vec::new(alloc);
     let mut number = position_of(trace, trace.len()).line;
-    if let Some(stop) = walk(alloc, code, trace)? {
-        number = line_of_stop(trace, stop);
-        push_stop(&mut body, trace, stop)?;
+    if let Some(deviation) = walk(alloc, code, trace)? {
+        number = line_of_deviation(trace, deviation);
+        push_deviation(&mut body, trace, deviation)?;
     }
     about_line(alloc, name, number, body.as_slice())
 }

@@ -4,8 +4,8 @@ ghost use Rattle.std.specs.Prelude.{◌<◌, ◌≤◌, length};
 ghost use Rattle.bp_code.specs.StandsFor.{StandsFor};
 
 use crate::numbers::number_at_front;
+use crate::symbols::{Symbol, take_symbol};
 use crate::trace_heads::{body_of, setup_of};
-use crate::turns::{Turn, take_turn};
 use bp_code::Code;
 use bp_machine::{AskFault, Call, Report, Session};
 use bp_text::take_line;
@@ -13,7 +13,7 @@ use std::alloc::{AllocError, Global};
 
 /// Why a walk stops, and at which byte of the trace.
 #[derive(Clone, Copy, Debug)]
-pub(crate) enum Stop {
+pub(crate) enum Deviation {
     /// The machine's own call has another choice bit than this digit.
     Bit(Call, usize),
     /// The machine's own call has another reply than this letter.
@@ -34,9 +34,9 @@ pub(crate) fn digit_of(bit: bool) -> u8 {
 fn make_own_call(
     session: &mut Session,
     thread: u32,
-    turn: Turn,
+    symbol: Symbol,
 ) -> Result<Option<Call>, AllocError> {
-    match session.prepare_as_recorded(thread, turn.digit == b'1') {
+    match session.prepare_as_recorded(thread, symbol.digit == b'1') {
         Ok(own) => {
             session.commit(&own);
             Ok(Some(own))
@@ -46,51 +46,55 @@ fn make_own_call(
     }
 }
 
-/// Makes the calls of a line, whose turns end at this byte of the trace, up to the first that is
+/// Makes the calls of a line, whose symbols end at this byte of the trace, up to the first that is
 /// not the machine's.
 fn walk_line(
     session: &mut Session,
     thread: u32,
-    turns: &[u8],
+    symbols: &[u8],
     end: usize,
-) -> Result<Option<Stop>, AllocError> {
-    let mut rest = turns;
-    while let Some(turn) = take_turn(&mut rest) {
-        let digit_at = end.saturating_sub(turn.behind_digit).saturating_sub(1);
-        let Some(own) = make_own_call(session, thread, turn)? else {
-            return Ok(Some(Stop::Finished(thread, digit_at)));
+) -> Result<Option<Deviation>, AllocError> {
+    let mut rest = symbols;
+    while let Some(symbol) = take_symbol(&mut rest) {
+        let digit_at = end.saturating_sub(symbol.behind_digit).saturating_sub(1);
+        let Some(own) = make_own_call(session, thread, symbol)? else {
+            return Ok(Some(Deviation::Finished(thread, digit_at)));
         };
-        if digit_of(own.bit) != turn.digit {
-            return Ok(Some(Stop::Bit(own, digit_at)));
+        if digit_of(own.bit) != symbol.digit {
+            return Ok(Some(Deviation::Bit(own, digit_at)));
         }
-        if own.reply.letter() != turn.letter {
+        if own.reply.letter() != symbol.letter {
             let letter_at = end.saturating_sub(rest.len()).saturating_sub(1);
-            return Ok(Some(Stop::Reply(own, letter_at)));
+            return Ok(Some(Deviation::Reply(own, letter_at)));
         }
     }
     Ok(None)
 }
 
 /// Makes the calls of a trace, up to the first that is not the machine's.
-fn walk_calls(session: &mut Session, trace: &[u8]) -> Result<Stop, AllocError> {
+fn walk_calls(session: &mut Session, trace: &[u8]) -> Result<Deviation, AllocError> {
     let mut rest = body_of(trace);
     let mut at = trace.len().saturating_sub(rest.len());
     while let Some(line) = take_line(&mut rest) {
-        let Some((thread, turns)) = number_at_front(line.words) else {
-            return Ok(Stop::End(session.report(), at));
+        let Some((thread, symbols)) = number_at_front(line.words) else {
+            return Ok(Deviation::End(session.report(), at));
         };
         let end = at.saturating_add(line.words.len());
-        if let Some(stop) = walk_line(session, thread, turns, end)? {
-            return Ok(stop);
+        if let Some(deviation) = walk_line(session, thread, symbols, end)? {
+            return Ok(deviation);
         }
         at = trace.len().saturating_sub(rest.len());
     }
-    Ok(Stop::End(session.report(), at))
+    Ok(Deviation::End(session.report(), at))
 }
 
 /// Where the calls of a trace are no longer the machine's. There is no answer where the head says
 /// no setup of this code.
-pub(crate) fn walk(alloc: Global, code: &Code, trace: &[u8]) -> Result<Option<Stop>, AllocError> {
+pub(crate) fn walk(
+    alloc: Global,
+    code: &Code,
+    trace: &[u8],
+) -> Result<Option<Deviation>, AllocError> {
     let Some(setup) = setup_of(alloc, code, trace)? else {
         return Ok(None);
     };
@@ -98,6 +102,6 @@ pub(crate) fn walk(alloc: Global, code: &Code, trace: &[u8]) -> Result<Option<St
         return Ok(None);
     }
     let mut session = Session::new(alloc, code, &setup)?;
-    let stop = walk_calls(&mut session, trace)?;
-    Ok(Some(stop))
+    let deviation = walk_calls(&mut session, trace)?;
+    Ok(Some(deviation))
 }

@@ -123,7 +123,7 @@ unclosed b bs never (suc k) m lt e =
     let f = name_closes (drop k bs) m e in
     later bs (k + 1) (omega arith) never (closed_there (drop (k + 1) bs) f.0 (subst (λ l. is_braced_rest (take f.0 l) ≡ true) (drop-drop 1 k bs) f.1))
 
--- what is known of the braces stays known when a piece is taken
+-- what is known of the braces stays known when a lexeme is taken
 pub nameless_rest : (n m : ℕ) (s : List ℕ) → IsNameless n s → IsNameless (n - m) (drop m s)
 nameless_rest n m s h k j lt e = h (m + k) j (omega arith) (subst (λ l. fits lexeme.Braced (take j l) ≡ true) (drop-drop k m s) e)
 

@@ -7,7 +7,7 @@ use Rattle.bp_tree.specs.Ast.{Name, Expression, Decision, Block, Statement, Proc
 use Rattle.bp_tree.specs.Sizes.{block_size, size, procedures_size}
 use Rattle.bp_syntax.specs.Tokens.{Token, kind_of}
 use Rattle.bp_syntax.specs.declared.tokens.TokenKind.{TokenKind}
-use Rattle.bp_syntax.specs.Cut.{Piece, IsCut, ends, piece, open_brace, bad_byte, tokens_of, with_token}
+use Rattle.bp_syntax.specs.Cut.{Lexeme, IsCut, ends, fit, open_brace, bad_byte, tokens_of, with_token}
 use Rattle.bp_syntax.specs.Grammar.{IsNames, one_name, more_names, IsAnyNames, no_names, some_names, IsExpr, of_or, implication, IsOr, of_xor, disjunction, IsXor, of_and, exclusion, IsAnd, of_eq, conjunction, IsEq, of_un, equality, difference, IsUn, negation, of_atom, IsAtom, constant_0, constant_1, variable, brackets, IsExprs, one_expr, more_exprs, IsAnyExprs, no_exprs, some_exprs, IsDecider, choice, by_value, IsForm, skip, jump, returning, assignment, branch, loop, assertion, assumption, printing, call, IsStmt, labelled, unlabelled, IsStmts, one_stmt, more_stmts, IsDecl, decl, IsDecls, no_decl, more_decls, IsProc, proc, IsProcs, no_proc, more_procs, Derives, program, first_word, first_name}
 use Rattle.bp_syntax.specs.Texts.{IsTextOf, HasText}
 use Rattle.bp_syntax.specs.declared.limits.TheConstants.{TEXT_LIMIT}
@@ -107,9 +107,9 @@ one_token : (k : Option TokenKind) (at : ℕ) (bytes : List ℕ) (ts : List Toke
 one_token None at bytes ts = omega arith
 one_token (Some k) at bytes ts = omega arith
 
-tokens_fit : {at : ℕ} {s : List ℕ} {ps : List Piece} → IsCut at s ps → length (tokens_of ps) ≤ length s
+tokens_fit : {at : ℕ} {s : List ℕ} {ps : List Lexeme} → IsCut at s ps → length (tokens_of ps) ≤ length s
 tokens_fit ends = omega arith
-tokens_fit (piece {at = at} {n = n} {text = s} {kind = lexeme} {more = ps} longest rest) =
+tokens_fit (fit {at = at} {n = n} {text = s} {kind = lexeme} {more = ps} longest rest) =
     let some = longest.some in
     let within = longest.within in
     omega (arith, some, within, one_token (kind_of lexeme (take n s)) at (take n s) (tokens_of ps), tokens_fit rest, length-drop n s)

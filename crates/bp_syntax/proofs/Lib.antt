@@ -3,7 +3,7 @@ pub mod LongestLexeme
 pub mod OneCut
 pub mod TokensAreAscii
 pub mod ScanContinues
-pub mod FirstPieces
+pub mod FirstLexemes
 pub mod FirstTooMany
 pub mod FirstTooDeep
 pub mod Spellings

@@ -8,8 +8,8 @@ use Rattle.std.proofs.lemmas.Option.{slice_get_within, slice_get-get_or}
 use Rattle.bp_syntax.specs.Tokens.{is_white, is_letter, is_word_byte, is_comment_byte, constant, symbol, long_symbol, fits, whites, constants, symbols, long_symbols}
 use Rattle.bp_syntax.specs.Lexer.{run, comment, first_symbol, unbraced_lexeme, IsNameless, IsFirstLexeme}
 use Rattle.bp_syntax.specs.Cut.{IsLongest, NoneFits}
-use Rattle.bp_syntax.specs.declared.lexemes.Lexeme.{Lexeme}
-use Rattle.bp_syntax.specs.declared.lexemes.Lexeme.TheVariants as first
+use Rattle.bp_syntax.specs.declared.lexemes.FirstLexeme.{FirstLexeme}
+use Rattle.bp_syntax.specs.declared.lexemes.FirstLexeme.TheVariants as first
 use Rattle.bp_syntax.specs.declared.tokens.TokenKind.{TokenKind}
 use Rattle.bp_syntax.specs.declared.tokens.LexemeKind.{LexemeKind}
 use Rattle.bp_syntax.specs.declared.tokens.LexemeKind.TheVariants as lexeme
@@ -132,7 +132,7 @@ identifier b bs l =
     longest_of lexeme.Identifier b bs (run is_word_byte bs) (run_within is_word_byte bs) (ap (λ y. y && list_all is_word_byte (take (run is_word_byte bs) bs)) l ∙ run_fits is_word_byte bs)
     (λ m lt le e. run_stops is_word_byte bs m lt le (both_right _ _ e))
 
--- a piece of one byte
+-- a lexeme of one byte
 one_byte : (k : LexemeKind) (b : ℕ) (bs : List ℕ) → fits k (b ∷ []) ≡ true → ((c : ℕ) (r cs : List ℕ) → bs ≡ c ∷ cs → fits k (b ∷ c ∷ r) ≢ true) → IsLongest (b ∷ bs) k 1
 one_byte k b bs f never = longest_of k b bs 0 (omega arith) f (more bs never)
   where
@@ -150,7 +150,7 @@ two_bytes b c cs f = longest_of lexeme.Symbol b (c ∷ cs) 1 (omega arith) f (mo
     more [] (suc (suc m)) lt le e = absurd (omega arith)
     more (d ∷ ds) (suc (suc m)) lt le e = false≢true e
 
--- the piece that is answered is the longest, and none is where none fits
+-- the lexeme that is answered is the longest, and none is where none fits
 abbrev IsLongestAnswer : List ℕ → Option (LexemeKind × ℕ) → Type 0
 IsLongestAnswer s r = MatchOption r (NoneFits s) (λ p. IsLongest s p.0 p.1)
 
@@ -233,11 +233,11 @@ module _ (b : ℕ) (no_brace : (b == 123) ≡ false) where
   letter_by bs true l = identifier b bs l
   letter_by bs false l = white_by bs (is_white b) l refl
 
-  -- the code's answer is the longest piece
+  -- the code's answer is the longest lexeme
   unbraced_is : (bs : List ℕ) → IsLongestAnswer (b ∷ bs) (unbraced_lexeme b bs)
   unbraced_is bs = letter_by bs (is_letter b) refl
 
--- a text's longest piece, from its first byte and those after it
+-- a text's longest lexeme, from its first byte and those after it
 pub unbraced_longest : (s : List ℕ) (r : Option (LexemeKind × ℕ)) → 0 < length s → (get_or s 0 0 ≡ 123 → ⊥) → r ≡ unbraced_lexeme (get_or s 0 0) (take (length s - 1) (drop 1 s)) → IsLongestAnswer s r
 unbraced_longest [] r lt never e = absurd (omega arith)
 unbraced_longest (b ∷ bs) r lt never e =
@@ -278,11 +278,11 @@ other_first s lt never e =
     never cc
 
 -- each text that isn't empty begins in one of the ways
-has_front_braced : (bs : List ℕ) (o : Option ℕ) → slice_get bs (inside bs) ≡ o → (f : Lexeme) × IsFirstLexeme (123 ∷ bs) f
+has_front_braced : (bs : List ℕ) (o : Option ℕ) → slice_get bs (inside bs) ≡ o → (f : FirstLexeme) × IsFirstLexeme (123 ∷ bs) f
 has_front_braced bs None e = (first.OpenBrace (inside bs + 1), unclosed_front bs (inside bs) refl (λ h. let z : ⊥ = cc in z))
 has_front_braced bs (Some x) e =
     ⊎_elim
-    (λ h. (first.Piece lexeme.Braced (inside bs + 2), closed_name bs (inside bs) refl (e ∙ ap (λ y. Some y) h)))
+    (λ h. (first.Fits lexeme.Braced (inside bs + 2), closed_name bs (inside bs) refl (e ∙ ap (λ y. Some y) h)))
     (λ never. (first.OpenBrace (inside bs + 1), unclosed_front bs (inside bs) refl (λ h. never (let z : x ≡ 125 = cc in z))))
     (cases_eq x 125)
 
@@ -291,13 +291,13 @@ not_brace b e h =
     let same : b ≡ 123 = cc in
     false≢true (sym e ∙ ap (λ x. x == 123) same)
 
-has_front_by : (b : ℕ) (bs : List ℕ) (y : Bool) → (b == 123) ≡ y → (f : Lexeme) × IsFirstLexeme (b ∷ bs) f
-has_front_by b bs true e = subst (λ x. (f : Lexeme) × IsFirstLexeme (x ∷ bs) f) (sym (eqb-true b 123 e)) (has_front_braced bs (slice_get bs (inside bs)) refl)
-has_front_by b bs false e = of_piece (unbraced_lexeme b bs) (unbraced_is b e bs)
+has_front_by : (b : ℕ) (bs : List ℕ) (y : Bool) → (b == 123) ≡ y → (f : FirstLexeme) × IsFirstLexeme (b ∷ bs) f
+has_front_by b bs true e = subst (λ x. (f : FirstLexeme) × IsFirstLexeme (x ∷ bs) f) (sym (eqb-true b 123 e)) (has_front_braced bs (slice_get bs (inside bs)) refl)
+has_front_by b bs false e = of_found (unbraced_lexeme b bs) (unbraced_is b e bs)
   where
-    of_piece : (r : Option (LexemeKind × ℕ)) → IsLongestAnswer (b ∷ bs) r → (f : Lexeme) × IsFirstLexeme (b ∷ bs) f
-    of_piece None none = (first.BadByte, (none, not_brace b e))
-    of_piece (Some p) l = (first.Piece p.0 p.1, l)
+    of_found : (r : Option (LexemeKind × ℕ)) → IsLongestAnswer (b ∷ bs) r → (f : FirstLexeme) × IsFirstLexeme (b ∷ bs) f
+    of_found None none = (first.BadByte, (none, not_brace b e))
+    of_found (Some p) l = (first.Fits p.0 p.1, l)
 
-pub has_front : (b : ℕ) (bs : List ℕ) → (f : Lexeme) × IsFirstLexeme (b ∷ bs) f
+pub has_front : (b : ℕ) (bs : List ℕ) → (f : FirstLexeme) × IsFirstLexeme (b ∷ bs) f
 has_front b bs = has_front_by b bs (b == 123) refl

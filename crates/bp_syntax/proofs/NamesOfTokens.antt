@@ -3,7 +3,7 @@ use Rattle.std.proofs.Common.{◌≡◌, ℕ, ◌≤◌, List, [], ◌∷◌, �
 use Rattle.std.proofs.lemmas.List.{length-drop, length-take}
 use Rattle.bp_tree.specs.Ast.{Name, Expression, Decision, Block, Statement, Procedure, Program}
 use Rattle.bp_syntax.specs.Tokens.{Token, kind_of}
-use Rattle.bp_syntax.specs.Cut.{Piece, IsCut, ends, piece, open_brace, bad_byte, tokens_of, with_token}
+use Rattle.bp_syntax.specs.Cut.{Lexeme, IsCut, ends, fit, open_brace, bad_byte, tokens_of, with_token}
 use Rattle.bp_syntax.specs.Grammar.{name_of, IsNames, one_name, more_names, IsAnyNames, no_names, some_names, IsExpr, of_or, implication, IsOr, of_xor, disjunction, IsXor, of_and, exclusion, IsAnd, of_eq, conjunction, IsEq, of_un, equality, difference, IsUn, negation, of_atom, IsAtom, constant_0, constant_1, variable, brackets, IsExprs, one_expr, more_exprs, IsAnyExprs, no_exprs, some_exprs, IsDecider, choice, by_value, IsForm, skip, jump, returning, assignment, branch, loop, assertion, assumption, printing, call, IsStmt, labelled, unlabelled, IsStmts, one_stmt, more_stmts, decl, IsDecls, no_decl, more_decls, IsProc, proc, IsProcs, no_proc, more_procs, Derives, program, first_word, first_name}
 use Rattle.bp_syntax.specs.NamesIn.{EachName, NamesInExpression, NamesInExpressions, NamesInDecision, NamesInLabel, NamesInBlock, NamesInStatement, NamesInProcedure, NamesInProcedures, NamesInProgram}
 use Rattle.bp_syntax.specs.declared.tokens.TokenKind.{TokenKind}
@@ -138,9 +138,9 @@ longer n m [] h s = tt
 longer n m (x ∷ ts) h s = (λ is. let l = s.0 is in omega (arith, l, h), longer n m ts h s.1)
 
 -- no token is longer than its text
-pub tokens_short : {at : ℕ} {text : List ℕ} {ps : List Piece} → IsCut at text ps → EachNamed (IsShort (length text)) (tokens_of ps)
+pub tokens_short : {at : ℕ} {text : List ℕ} {ps : List Lexeme} → IsCut at text ps → EachNamed (IsShort (length text)) (tokens_of ps)
 tokens_short ends = tt
-tokens_short (piece {at = at} {n = n} {text = s} {kind = lexeme} {more = ps} longest rest) =
+tokens_short (fit {at = at} {n = n} {text = s} {kind = lexeme} {more = ps} longest rest) =
     one_token (kind_of lexeme (take n s)) at (length s) (take n s) (tokens_of ps) (omega (arith, length-take n s))
     (longer (length (drop n s)) (length s) (tokens_of ps) (omega (arith, length-drop n s)) (tokens_short rest))
 tokens_short (open_brace {b = b} {text = s} {more = ps} brace none rest) = longer (length s) (length (b ∷ s)) (tokens_of ps) (omega arith) (tokens_short rest)

@@ -5,7 +5,7 @@ use Rattle.std.proofs.lemmas.Result.{err_from_is_err_and}
 use Rattle.bp_tree.specs.Ast.{Program}
 use Rattle.bp_syntax.specs.declared.limits.TheConstants.{TEXT_LIMIT}
 use Rattle.bp_syntax.specs.Tokens.{Token, fits, kind_of}
-use Rattle.bp_syntax.specs.Cut.{Piece, IsCut, ends, piece, open_brace, bad_byte, first_bad_byte, first_open_brace, tokens_of, with_token, HasTokens, HasBadByte, HasOpenName}
+use Rattle.bp_syntax.specs.Cut.{Lexeme, IsCut, ends, fit, open_brace, bad_byte, first_bad_byte, first_open_brace, tokens_of, with_token, HasTokens, HasBadByte, HasOpenName}
 use Rattle.bp_syntax.specs.Lexer.{IsScanFault}
 use Rattle.bp_syntax.specs.Grammar.{Derives}
 use Rattle.bp_syntax.specs.Opens.{AllReal, Opens, BreaksAt, HasSyntaxFault}
@@ -27,16 +27,16 @@ use Rattle.bp_syntax.proofs.FirstTooDeep.{none_is_shallow, some_is_deep, shallow
 
 -- a text has one list of tokens
 pub same_tokens : (text : List ℕ) (ts us : List Token) → HasTokens text ts → HasTokens text us → ts ≡ us
-same_tokens text ts us a b = sym a.tokens ∙ ap tokens_of (one_cut 0 text a.pieces b.pieces a.cut b.cut) ∙ b.tokens
+same_tokens text ts us a b = sym a.tokens ∙ ap tokens_of (one_cut 0 text a.lexemes b.lexemes a.cut b.cut) ∙ b.tokens
 
 pub good_or_bad : (text : List ℕ) (ts : List Token) (at : ℕ) → HasTokens text ts → HasBadByte text at → ⊥
 good_or_bad text ts at a b =
-    let e : None ≡ Some at = sym a.good ∙ ap first_bad_byte (one_cut 0 text a.pieces b.pieces a.cut b.cut) ∙ b.bad in
+    let e : None ≡ Some at = sym a.good ∙ ap first_bad_byte (one_cut 0 text a.lexemes b.lexemes a.cut b.cut) ∙ b.bad in
     cc
 
 pub closed_or_open : (text : List ℕ) (ts : List Token) (at : ℕ) → HasTokens text ts → HasOpenName text at → ⊥
 closed_or_open text ts at a b =
-    let e : None ≡ Some at = sym a.closed ∙ ap first_open_brace (one_cut 0 text a.pieces b.pieces a.cut b.cut) ∙ b.unclosed in
+    let e : None ≡ Some at = sym a.closed ∙ ap first_open_brace (one_cut 0 text a.lexemes b.lexemes a.cut b.cut) ∙ b.unclosed in
     cc
 
 real_and : (k : LexemeKind) (o : Option TokenKind) (at : ℕ) (bytes : List ℕ) (ts : List Token) → fits k bytes ≡ true → kind_of k bytes ≡ o → AllReal ts → AllReal (with_token o at bytes ts)
@@ -44,9 +44,9 @@ real_and k None at bytes ts f e r = r
 real_and k (Some kd) at bytes ts f e r = (record { lexeme = k; fits = f; spells = e }, r)
 
 -- the tokens of a text are real
-pub all_real : {at : ℕ} {s : List ℕ} {ps : List Piece} → IsCut at s ps → AllReal (tokens_of ps)
+pub all_real : {at : ℕ} {s : List ℕ} {ps : List Lexeme} → IsCut at s ps → AllReal (tokens_of ps)
 all_real ends = tt
-all_real (piece {at = at} {n = n} {text = s} {kind = k} {more = ps} l c) = real_and k (kind_of k (take n s)) at (take n s) (tokens_of ps) l.is_lexeme refl (all_real c)
+all_real (fit {at = at} {n = n} {text = s} {kind = k} {more = ps} l c) = real_and k (kind_of k (take n s)) at (take n s) (tokens_of ps) l.is_lexeme refl (all_real c)
 all_real (open_brace none is c) = all_real c
 all_real (bad_byte none never c) = all_real c
 

@@ -78,17 +78,17 @@ one_syntax_fault text ts at place real (inr a) (inr b) = a.2 ∙ sym b.2
 
 bad_or_open : (text : List ℕ) (at place : ℕ) → HasBadByte text at → HasOpenName text place → ⊥
 bad_or_open text at place a b =
-    let e : Some at ≡ None = sym a.bad ∙ ap first_bad_byte (one_cut 0 text a.pieces b.pieces a.cut b.cut) ∙ b.good in
+    let e : Some at ≡ None = sym a.bad ∙ ap first_bad_byte (one_cut 0 text a.lexemes b.lexemes a.cut b.cut) ∙ b.good in
     cc
 
 one_bad_byte : (text : List ℕ) (at place : ℕ) → HasBadByte text at → HasBadByte text place → at ≡ place
 one_bad_byte text at place a b =
-    let e : Some at ≡ Some place = sym a.bad ∙ ap first_bad_byte (one_cut 0 text a.pieces b.pieces a.cut b.cut) ∙ b.bad in
+    let e : Some at ≡ Some place = sym a.bad ∙ ap first_bad_byte (one_cut 0 text a.lexemes b.lexemes a.cut b.cut) ∙ b.bad in
     cc
 
 one_open_name : (text : List ℕ) (at place : ℕ) → HasOpenName text at → HasOpenName text place → at ≡ place
 one_open_name text at place a b =
-    let e : Some at ≡ Some place = sym a.unclosed ∙ ap first_open_brace (one_cut 0 text a.pieces b.pieces a.cut b.cut) ∙ b.unclosed in
+    let e : Some at ≡ Some place = sym a.unclosed ∙ ap first_open_brace (one_cut 0 text a.lexemes b.lexemes a.cut b.cut) ∙ b.unclosed in
     cc
 
 real_tokens : (text : List ℕ) (ts : List Token) → HasTokens text ts → AllReal ts

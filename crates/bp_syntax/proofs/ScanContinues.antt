@@ -1,12 +1,12 @@
--- The cut of the rest continues the scan so far, also behind one more piece.
+-- The cut of the rest continues the scan so far, also behind one more lexeme.
 use Rattle.std.proofs.Common.{◌≡◌, ℕ, ◌+◌, List, [], ◌∷◌, ◌++◌, length, take, drop, Option, Some, None, refl, sym, ap, subst, ◌∙◌, arith, append_assoc, ◌<◌, ◌≢◌, ◌-◌, length-drop, slice_get}
 use Rattle.std.proofs.lemmas.List.{append-nil}
 use Rattle.bp_syntax.specs.Tokens.{kind_of, Token}
 use Rattle.bp_syntax.specs.Lexer.{IsNameless, IsFirstLexeme}
-use Rattle.bp_syntax.specs.declared.lexemes.Lexeme.TheVariants as first
+use Rattle.bp_syntax.specs.declared.lexemes.FirstLexeme.TheVariants as first
 use Rattle.bp_syntax.proofs.BracedNames.{nameless_rest}
 use Rattle.std.specs.Option.{option_or}
-use Rattle.bp_syntax.specs.Cut.{IsLongest, Piece, Fit, Brace, Bad, IsCut, piece, open_brace, bad_byte, ends, first_bad_byte, first_open_brace, tokens_of, with_token, NoneFits, HasTokens, HasBadByte, HasOpenName}
+use Rattle.bp_syntax.specs.Cut.{IsLongest, Lexeme, Fit, Brace, Bad, IsCut, fit, open_brace, bad_byte, ends, first_bad_byte, first_open_brace, tokens_of, with_token, NoneFits, HasTokens, HasBadByte, HasOpenName}
 use Rattle.bp_syntax.specs.declared.tokens.TokenKind.{TokenKind}
 use Rattle.bp_syntax.specs.declared.tokens.LexemeKind.{LexemeKind}
 use Rattle.bp_syntax.proofs.OneCut.{has_cut}
@@ -14,7 +14,7 @@ use Rattle.bp_syntax.proofs.OneCut.{has_cut}
 -- whatever the cut of the rest is, it goes on the tokens so far, and the first open brace
 pub record Continues (text : List ℕ) (at : ℕ) (rest : List ℕ) (ts : List Token) (brace : Option ℕ) : Type 0 where
   pub place : at + length rest ≡ length text
-  pub goes_on : (ps : List Piece) → IsCut at rest ps → (qs : List Piece) × IsCut 0 text qs × (first_bad_byte qs ≡ first_bad_byte ps) × (first_open_brace qs ≡ option_or brace (first_open_brace ps)) × (tokens_of qs ≡ ts ++ tokens_of ps)
+  pub goes_on : (ps : List Lexeme) → IsCut at rest ps → (qs : List Lexeme) × IsCut 0 text qs × (first_bad_byte qs ≡ first_bad_byte ps) × (first_open_brace qs ≡ option_or brace (first_open_brace ps)) × (tokens_of qs ≡ ts ++ tokens_of ps)
 
 token_before : (k : Option TokenKind) (at : ℕ) (bytes : List ℕ) (ts : List Token) → with_token k at bytes ts ≡ with_token k at bytes [] ++ ts
 token_before None at bytes ts = refl
@@ -34,7 +34,7 @@ starts text = record {
   goes_on = λ ps c. (ps, c, refl, refl, refl);
 }
 
--- what is known between two pieces
+-- what is known between two lexemes
 abbrev pub Known : List ℕ → ℕ → List ℕ → List Token → Option ℕ → ℕ → Type 0
 Known text at rest ts brace nameless = Continues text at rest ts brace × IsNameless nameless rest
 
@@ -51,15 +51,15 @@ one_more text at rest after ts us brace k len n m known l left is fewer = (
         omega (arith, length-drop len rest, ap length left);
     goes_on = λ ps c.
         let bytes = take len rest in
-        let g = known.0.goes_on (Fit k at bytes ∷ ps) (piece l (subst (λ s. IsCut (at + len) s ps) left c)) in
+        let g = known.0.goes_on (Fit k at bytes ∷ ps) (fit l (subst (λ s. IsCut (at + len) s ps) left c)) in
         (g.0, g.1, g.2, g.3, g.4 ∙ ap (λ x. ts ++ x) (token_before (kind_of k bytes) at bytes (tokens_of ps)) ∙ sym (append_assoc ts _ (tokens_of ps)) ∙ ap (λ x. x ++ tokens_of ps) (sym is));
   },
   nameless_after rest after n m len known.1 fewer left,
 )
 
--- the same where the values after the piece have names of their own
-pub piece_taken : (text : List ℕ) (at : ℕ) (rest after : List ℕ) (ts us : List Token) (brace next : Option ℕ) (k : LexemeKind) (size len n held m : ℕ) → Known text at rest ts brace n → IsLongest rest k size → len ≡ size → next ≡ brace → held ≡ n → after ≡ drop len rest → us ≡ ts ++ with_token (kind_of k (take size rest)) at (take size rest) [] → m ≡ held - len → Known text (at + len) after us next m
-piece_taken text at rest after ts us brace next k size len n held m known l same_len same_brace same_held left is fewer =
+-- the same where the values after the lexeme have names of their own
+pub lexeme_taken : (text : List ℕ) (at : ℕ) (rest after : List ℕ) (ts us : List Token) (brace next : Option ℕ) (k : LexemeKind) (size len n held m : ℕ) → Known text at rest ts brace n → IsLongest rest k size → len ≡ size → next ≡ brace → held ≡ n → after ≡ drop len rest → us ≡ ts ++ with_token (kind_of k (take size rest)) at (take size rest) [] → m ≡ held - len → Known text (at + len) after us next m
+lexeme_taken text at rest after ts us brace next k size len n held m known l same_len same_brace same_held left is fewer =
     let here : IsLongest rest k len = subst (IsLongest rest k) (sym same_len) l in
     let tokens = is ∙ ap (λ c. ts ++ with_token (kind_of k (take c rest)) at (take c rest) []) (sym same_len) in
     subst (λ o. Known text (at + len) after us o m) (sym same_brace)
@@ -86,31 +86,31 @@ brace_taken text at rest after ts us brace next count len held m so_far is one o
 
 -- the scan came to the end
 pub record IsWhole (text : List ℕ) (ts : List Token) (brace : Option ℕ) : Type 0 where
-  pub pieces : List Piece
-  pub cut : IsCut 0 text pieces
-  pub good : first_bad_byte pieces ≡ None
-  pub unclosed : first_open_brace pieces ≡ brace
-  pub tokens : tokens_of pieces ≡ ts
+  pub lexemes : List Lexeme
+  pub cut : IsCut 0 text lexemes
+  pub good : first_bad_byte lexemes ≡ None
+  pub unclosed : first_open_brace lexemes ≡ brace
+  pub tokens : tokens_of lexemes ≡ ts
 
 whole : (text : List ℕ) (at : ℕ) (rest : List ℕ) (ts : List Token) (brace : Option ℕ) → Continues text at rest ts brace → length rest ≡ 0 → IsWhole text ts brace
 whole text at [] ts brace so_far none =
     let g = so_far.goes_on [] ends in
-    record { pieces = g.0; cut = g.1; good = g.2; unclosed = g.3 ∙ or_none brace; tokens = g.4 ∙ append-nil ts }
+    record { lexemes = g.0; cut = g.1; good = g.2; unclosed = g.3 ∙ or_none brace; tokens = g.4 ∙ append-nil ts }
 whole text at (b ∷ bs) ts brace so_far none = absurd (omega arith)
 
 pub all_scanned : (text : List ℕ) (at : ℕ) (rest : List ℕ) (ts : List Token) (brace : Option ℕ) → Continues text at rest ts brace → length rest ≡ 0 → brace ≡ None → HasTokens text ts
 all_scanned text at rest ts brace so_far none is =
     let w = whole text at rest ts brace so_far none in
-    record { pieces = w.pieces; cut = w.cut; good = w.good; closed = w.unclosed ∙ is; tokens = w.tokens }
+    record { lexemes = w.lexemes; cut = w.cut; good = w.good; closed = w.unclosed ∙ is; tokens = w.tokens }
 
 pub open_there : (text : List ℕ) (at : ℕ) (rest : List ℕ) (ts : List Token) (brace : Option ℕ) (place : ℕ) → Continues text at rest ts brace → length rest ≡ 0 → brace ≡ Some place → HasOpenName text place
 open_there text at rest ts brace place so_far none is =
     let w = whole text at rest ts brace so_far none in
-    record { pieces = w.pieces; cut = w.cut; good = w.good; unclosed = w.unclosed ∙ is }
+    record { lexemes = w.lexemes; cut = w.cut; good = w.good; unclosed = w.unclosed ∙ is }
 
 pub bad_here : (text : List ℕ) (at : ℕ) (rest : List ℕ) (ts : List Token) (brace : Option ℕ) → Continues text at rest ts brace → 0 < length rest → NoneFits rest → slice_get rest 0 ≢ Some 123 → HasBadByte text at
 bad_here text at [] ts brace so_far some none never = absurd (omega arith)
 bad_here text at (b ∷ bs) ts brace so_far some none never =
     let c = has_cut (at + 1) bs in
     let g = so_far.goes_on (Bad at ∷ c.0) (bad_byte none (λ h. never (ap (λ x. Some x) h)) c.1) in
-    record { pieces = g.0; cut = g.1; bad = g.2 }
+    record { lexemes = g.0; cut = g.1; bad = g.2 }

@@ -42,25 +42,25 @@ closes_ascii (b ∷ []) h = ascii_cons b [] (byte_ascii b 125 h (omega arith)) n
 closes_ascii (b ∷ c ∷ bs) h = ascii_cons b (c ∷ bs) (braced_byte_ascii b (both_left _ _ h)) (closes_ascii (c ∷ bs) (both_right _ _ h))
 
 -- what is a token has ASCII bytes alone
-piece_ascii : (k : LexemeKind) (s : List ℕ) (kd : TokenKind) → fits k s ≡ true → kind_of k s ≡ Some kd → IsAscii s
-piece_ascii lexeme.White s kd h e = let z : ⊥ = cc in absurd z
-piece_ascii lexeme.Comment s kd h e = let z : ⊥ = cc in absurd z
-piece_ascii lexeme.Identifier [] kd h e = absurd (false≢true h)
-piece_ascii lexeme.Identifier (b ∷ bs) kd h e = ascii_cons b bs (letter_ascii b (both_left _ _ h)) (word_ascii bs (both_right _ _ h))
-piece_ascii lexeme.Braced [] kd h e = absurd (false≢true h)
-piece_ascii lexeme.Braced (b ∷ bs) kd h e = ascii_cons b bs (byte_ascii b 123 (both_left _ _ h) (omega arith)) (closes_ascii bs (both_right _ _ h))
-piece_ascii lexeme.Constant [] kd h e = absurd (false≢true h)
-piece_ascii lexeme.Constant (b ∷ []) kd h e = ascii_cons b [] (keyed (λ x. x < 128) b constants (omega arith, (omega arith, tt)) h) nil_ascii
-piece_ascii lexeme.Constant (b ∷ c ∷ bs) kd h e = absurd (false≢true h)
-piece_ascii lexeme.Symbol [] kd h e = absurd (false≢true h)
-piece_ascii lexeme.Symbol (b ∷ []) kd h e =
+lexeme_ascii : (k : LexemeKind) (s : List ℕ) (kd : TokenKind) → fits k s ≡ true → kind_of k s ≡ Some kd → IsAscii s
+lexeme_ascii lexeme.White s kd h e = let z : ⊥ = cc in absurd z
+lexeme_ascii lexeme.Comment s kd h e = let z : ⊥ = cc in absurd z
+lexeme_ascii lexeme.Identifier [] kd h e = absurd (false≢true h)
+lexeme_ascii lexeme.Identifier (b ∷ bs) kd h e = ascii_cons b bs (letter_ascii b (both_left _ _ h)) (word_ascii bs (both_right _ _ h))
+lexeme_ascii lexeme.Braced [] kd h e = absurd (false≢true h)
+lexeme_ascii lexeme.Braced (b ∷ bs) kd h e = ascii_cons b bs (byte_ascii b 123 (both_left _ _ h) (omega arith)) (closes_ascii bs (both_right _ _ h))
+lexeme_ascii lexeme.Constant [] kd h e = absurd (false≢true h)
+lexeme_ascii lexeme.Constant (b ∷ []) kd h e = ascii_cons b [] (keyed (λ x. x < 128) b constants (omega arith, (omega arith, tt)) h) nil_ascii
+lexeme_ascii lexeme.Constant (b ∷ c ∷ bs) kd h e = absurd (false≢true h)
+lexeme_ascii lexeme.Symbol [] kd h e = absurd (false≢true h)
+lexeme_ascii lexeme.Symbol (b ∷ []) kd h e =
     ascii_cons b [] (keyed (λ x. x < 128) b symbols (omega arith, (omega arith, (omega arith, (omega arith, (omega arith, (omega arith, (omega arith, (omega arith, (omega arith, (omega arith, (omega arith, tt))))))))))) h) nil_ascii
-piece_ascii lexeme.Symbol (b ∷ c ∷ []) kd h e =
+lexeme_ascii lexeme.Symbol (b ∷ c ∷ []) kd h e =
     let f = found (λ (p : ℕ × ℕ). nat_eq b p.0 && nat_eq c p.1) (λ p. (p.0 < 128) × (p.1 < 128)) long_symbols ((omega arith, omega arith), ((omega arith, omega arith), ((omega arith, omega arith), tt))) h in
     ascii_cons b (c ∷ []) (subst (λ x. x < 128) (sym (eqb-true b f.0.0 (both_left _ _ f.1))) f.2.0)
     (ascii_cons c [] (subst (λ x. x < 128) (sym (eqb-true c f.0.1 (both_right _ _ f.1))) f.2.1) nil_ascii)
-piece_ascii lexeme.Symbol (b ∷ c ∷ d ∷ bs) kd h e = absurd (false≢true h)
+lexeme_ascii lexeme.Symbol (b ∷ c ∷ d ∷ bs) kd h e = absurd (false≢true h)
 
 -- the bytes of a token are text
 pub token_is_text : (k : LexemeKind) (s : List ℕ) (kd : TokenKind) → fits k s ≡ true → kind_of k s ≡ Some kd → IsUtf8 s
-token_is_text k s kd h e = IsUtf8-from_ascii s (piece_ascii k s kd h e)
+token_is_text k s kd h e = IsUtf8-from_ascii s (lexeme_ascii k s kd h e)

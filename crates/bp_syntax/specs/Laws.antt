@@ -2,7 +2,7 @@
 use Rattle.std.specs.Prelude.{◌≡◌, ◌≢◌, ℕ, List, All}
 use Rattle.bp_tree.specs.Ast.{Program}
 use Rattle.bp_syntax.specs.Tokens.{Token, IsSpelled}
-use Rattle.bp_syntax.specs.Cut.{Piece, IsCut}
+use Rattle.bp_syntax.specs.Cut.{Lexeme, IsCut}
 use Rattle.bp_syntax.specs.Grammar.{Derives}
 use Rattle.bp_syntax.specs.Texts.{IsTextOf, IsRefusal}
 use Rattle.bp_syntax.specs.declared.faults.ReadFault.{ReadFault}
@@ -12,9 +12,9 @@ use Rattle.bp_syntax.specs.declared.faults.ReadFault.TheVariants.{Memory}
 abbrev pub OneCut : Type 0
 OneCut =
     (text : List ℕ)
-    → (pieces : List Piece)
-    × IsCut 0 text pieces
-    × ((others : List Piece) → IsCut 0 text others → others ≡ pieces)
+    → (lexemes : List Lexeme)
+    × IsCut 0 text lexemes
+    × ((others : List Lexeme) → IsCut 0 text others → others ≡ lexemes)
 
 -- a list of tokens has at most one tree
 abbrev pub OneTree : Type 0

@@ -4,12 +4,12 @@ use Rattle.bp_syntax.specs.Tokens.{is_white, is_letter, is_word_byte, is_comment
 use Rattle.bp_syntax.specs.Cut.{IsLongest, NoneFits, HasBadByte, HasOpenName}
 use Rattle.bp_syntax.specs.declared.faults.ReadFault.{ReadFault}
 use Rattle.bp_syntax.specs.declared.faults.ReadFault.TheVariants as fault
-use Rattle.bp_syntax.specs.declared.lexemes.Lexeme.{Lexeme}
-use Rattle.bp_syntax.specs.declared.lexemes.Lexeme.TheVariants as first
+use Rattle.bp_syntax.specs.declared.lexemes.FirstLexeme.{FirstLexeme}
+use Rattle.bp_syntax.specs.declared.lexemes.FirstLexeme.TheVariants as first
 use Rattle.bp_syntax.specs.declared.tokens.LexemeKind.{LexemeKind}
 use Rattle.bp_syntax.specs.declared.tokens.LexemeKind.TheVariants as lexeme
 
--- a piece of the kind, once begun, goes on with such bytes
+-- a lexeme of the kind, once begun, goes on with such bytes
 abbrev pub is_continuation : LexemeKind → ℕ → Bool
 is_continuation lexeme.Identifier b = is_word_byte b
 is_continuation lexeme.Comment b = is_comment_byte b
@@ -36,7 +36,7 @@ first_symbol b (c ∷ cs) =
     else if is_some (symbol b) then Some (lexeme.Symbol, 1)
     else None
 
--- the longest piece that b and then s begin with, where that is no braced name, and its length
+-- the longest lexeme that b and then s begin with, where that is no braced name, and its length
 abbrev pub unbraced_lexeme : ℕ → List ℕ → Option (LexemeKind × ℕ)
 unbraced_lexeme b s =
     if is_letter b then Some (lexeme.Identifier, suc (run is_word_byte s))
@@ -50,8 +50,8 @@ abbrev pub IsNameless : ℕ → List ℕ → Type 0
 IsNameless n s = (k m : ℕ) → k < n → fits lexeme.Braced (take m (drop k s)) ≢ true
 
 -- s begins so
-abbrev pub IsFirstLexeme : List ℕ → Lexeme → Type 0
-IsFirstLexeme s (first.Piece lexeme n) = IsLongest s lexeme n
+abbrev pub IsFirstLexeme : List ℕ → FirstLexeme → Type 0
+IsFirstLexeme s (first.Fits lexeme n) = IsLongest s lexeme n
 IsFirstLexeme s (first.OpenBrace n) =
     NoneFits s × (slice_get s 0 ≡ Some 123) × (0 < n) × IsNameless n s
 IsFirstLexeme s first.BadByte = NoneFits s × (slice_get s 0 ≢ Some 123)

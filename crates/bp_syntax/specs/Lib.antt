@@ -5,7 +5,7 @@ pub mod Faults
 pub mod Words
 pub mod Grammar
 pub mod Opens
-pub mod Pieces
+pub mod FirstLexemes
 pub mod Spellings
 pub mod ParserState
 pub mod Nesting

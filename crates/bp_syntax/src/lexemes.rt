@@ -7,18 +7,18 @@ use crate::tokens::{
     long_symbol, symbol,
 };
 
-/// What a text begins with: a piece of some kind, or a byte with which no piece begins.
+/// What a text begins with: a lexeme of some kind, or a byte with which no lexeme begins.
 #[derive(Clone, Copy, Debug, PartialEq, Eq)]
-pub(crate) enum Lexeme {
-    /// The longest piece that fits, and its length.
-    Piece(LexemeKind, usize),
+pub(crate) enum FirstLexeme {
+    /// The longest lexeme that fits, and its length.
+    Fits(LexemeKind, usize),
     /// A brace that begins no name. No name begins in this many bytes from it on.
     OpenBrace(usize),
-    /// Another byte with which no piece begins.
+    /// Another byte with which no lexeme begins.
     BadByte,
 }
 
-/// Whether a piece of the kind may continue with this byte after its first.
+/// Whether a lexeme of the kind may continue with this byte after its first.
 fn is_continuation(kind: LexemeKind, b: u8) -> bool
     ensures { result ≡ is_continuation kind b }
 {
@@ -30,7 +30,7 @@ fn is_continuation(kind: LexemeKind, b: u8) -> bool
     }
 }
 
-/// The number of bytes with which a piece of the kind goes on.
+/// The number of bytes with which a lexeme of the kind goes on.
 fn run(kind: LexemeKind, text: &[u8]) -> usize
     ensures value { result ≡ run (is_continuation kind) text.now }
     ensures within { result ≤ length text.now }
@@ -73,7 +73,7 @@ fn first_symbol(first: u8, rest: &[u8]) -> Option<(LexemeKind, usize)>
     }
 }
 
-/// The longest piece at the start of a text that begins with no brace, and its length.
+/// The longest lexeme at the start of a text that begins with no brace, and its length.
 fn unbraced_lexeme(first: u8, rest: &[u8]) -> Option<(LexemeKind, usize)>
     ensures { result ≡ unbraced_lexeme first rest.now }
 {
@@ -94,20 +94,20 @@ fn unbraced_lexeme(first: u8, rest: &[u8]) -> Option<(LexemeKind, usize)>
 }
 
 /// The lexeme that a brace begins, where these bytes follow it.
-fn braced_lexeme(rest: &[u8]) -> Lexeme
+fn braced_lexeme(rest: &[u8]) -> FirstLexeme
     ensures { IsFirstLexeme (123 ∷ rest.now) result }
 {
     let inside = run(LexemeKind::Braced, rest);
     if rest.get(inside).copied() == Some(b'}') {
-        Lexeme::Piece(LexemeKind::Braced, inside + 2)
+        FirstLexeme::Fits(LexemeKind::Braced, inside + 2)
     } else {
-        Lexeme::OpenBrace(inside + 1)
+        FirstLexeme::OpenBrace(inside + 1)
     }
 }
 
 /// The first lexeme of a text in whose first `nameless` bytes no braced name begins. So no byte is
 /// searched twice for the end of a name.
-pub(crate) fn first_lexeme(text: &[u8], nameless: usize) -> Lexeme
+pub(crate) fn first_lexeme(text: &[u8], nameless: usize) -> FirstLexeme
     requires some { 0 < length text.now }
     requires nameless { IsNameless nameless text.now }
     ensures { IsFirstLexeme text.now result }
@@ -115,14 +115,14 @@ pub(crate) fn first_lexeme(text: &[u8], nameless: usize) -> Lexeme
     let first = text[0];
     if first == b'{' {
         if nameless > 0 {
-            Lexeme::OpenBrace(nameless)
+            FirstLexeme::OpenBrace(nameless)
         } else {
             braced_lexeme(&text[1..])
         }
     } else {
         match unbraced_lexeme(first, &text[1..]) {
-            Some((kind, len)) => Lexeme::Piece(kind, len),
-            None => Lexeme::BadByte,
+            Some((kind, len)) => FirstLexeme::Fits(kind, len),
+            None => FirstLexeme::BadByte,
         }
     }
 }

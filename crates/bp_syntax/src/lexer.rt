@@ -6,7 +6,7 @@ ghost use Rattle.bp_syntax.specs.Lexer.{IsScanFault};
 ghost use Rattle.bp_syntax.specs.Views.{token_list};
 
 use crate::faults::ReadFault;
-use crate::lexemes::{Lexeme, first_lexeme};
+use crate::lexemes::{FirstLexeme, first_lexeme};
 use crate::limits::TEXT_LIMIT;
 use crate::tokens::{LexemeKind, Token, kind_of};
 use std::alloc::{AllocError, Global};
@@ -26,16 +26,16 @@ pub(crate) fn scan<'a>(alloc: Global, text: &'a [u8]) -> Result<Vec<Token<'a>>, 
     let mut nameless = 0;
     while !rest.is_empty() {
         let len = match first_lexeme(rest, nameless) {
-            Lexeme::Piece(kind, len) => {
+            FirstLexeme::Fits(kind, len) => {
                 push_token(&mut tokens, kind, at as u32, rest.split_at(len).0)?;
                 len
             }
-            Lexeme::OpenBrace(count) => {
+            FirstLexeme::OpenBrace(count) => {
                 first_open = first_open.or(Some(at as u32));
                 nameless = count;
                 1
             }
-            Lexeme::BadByte => return Err(ReadFault::BadByte(at as u32)),
+            FirstLexeme::BadByte => return Err(ReadFault::BadByte(at as u32)),
         };
         at += len;
         rest = rest.split_at(len).1;
@@ -47,7 +47,7 @@ pub(crate) fn scan<'a>(alloc: Global, text: &'a [u8]) -> Result<Vec<Token<'a>>, 
     }
 }
 
-/// Adds the token that a piece is, unless it is white or a comment.
+/// Adds the token that a lexeme is, unless it is white or a comment.
 fn push_token<'a>(
     tokens: &mut Vec<Token<'a>>,
     lexeme: LexemeKind,
@@ -61,7 +61,7 @@ fn push_token<'a>(
 {
     if let Some(kind) = kind_of(lexeme, text) {
         let Ok(text) = str::from_utf8(text) else {
-            // A piece that is a token has ASCII bytes alone.
+            // A lexeme that is a token has ASCII bytes alone.
             unreachable!()
         };
         tokens.push(Token { kind, at, text })?;

@@ -1,6 +1,7 @@
 //! Reads program texts: the lexer cuts a text into tokens, and the parser makes a tree of them.
 #![tactic(auto)]
 
+mod cut;
 mod faults;
 mod laws;
 mod lexemes;
@@ -8,7 +9,6 @@ mod lexer;
 pub mod limits;
 mod nesting;
 mod parser;
-mod pieces;
 mod reading;
 mod successions;
 mod token_kinds;
@@ -16,9 +16,9 @@ mod tokens;
 mod trees;
 
 pub use bp_tree::{Block, Decider, Expr, Exprs, Form, Name, Names, Op, Proc, Procs, Stmt, Sub};
+pub use cut::{Lexeme, take_lexeme};
 pub use faults::ReadFault;
 pub use laws::{has_names_on_one_line, has_one_cut, has_one_refusal, has_one_tree};
-pub use pieces::{Piece, take_piece};
 pub use reading::read;
 pub use token_kinds::{TOKEN_KINDS, spelling_of};
 pub use tokens::{LexemeKind, TokenKind, is_reserved};

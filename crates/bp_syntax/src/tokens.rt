@@ -179,7 +179,7 @@ fn word_kind(text: &[u8]) -> TokenKind
     reserved_word(text).unwrap_or(TokenKind::Name)
 }
 
-/// The kind of the token that a piece is. White and comments are no tokens.
+/// The kind of the token that a lexeme is. White and comments are no tokens.
 pub(crate) fn kind_of(kind: LexemeKind, text: &[u8]) -> Option<TokenKind>
     ensures { result ≡ spelling.kind_of kind text.now }
 {

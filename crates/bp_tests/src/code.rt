@@ -5,8 +5,8 @@ use crate::texts::code_of;
 use bp_check::{CheckFault, check};
 use bp_code::stores::{bit_at, with_bit, word_of};
 use bp_code::{
-    Code, Effect, Heading, Instr, Kind, ProgramFault, Store, compile, lawful_program, list, places,
-    steps_alike,
+    Code, Effect, Heading, Instr, Kind, ProgramFault, Store, compile, lawful_program, list,
+    statement_starts, steps_alike,
 };
 use bp_syntax::{ReadFault, read};
 use bp_text::{WriteFault, put, put_each};
@@ -171,10 +171,10 @@ fn takes_a_lawful_text(rt: HostRuntime) -> Result<(), Fail> {
     Ok(())
 }
 
-/// Whether the instructions of two procedures are those of the statements at these places.
+/// Whether the instructions of two procedures are those of the statements at these statement_starts.
 fn places_statements(alloc: Global) -> Result<bool, Fail> {
     let text = b"main() begin a: while (?) do skip; od end f() begin skip; end";
-    let starts = places(alloc, &lawful_program(alloc, text)?)?;
+    let starts = statement_starts(alloc, &lawful_program(alloc, text)?)?;
     Ok(starts.as_slice() == [Some(16), Some(29), None, Some(52), None].as_slice())
 }
 

@@ -8,14 +8,14 @@ use Rattle.bp_machine.specs.Replies.{letter_of}
 use Rattle.bp_machine.specs.ContextCounts.{last_thread}
 use Rattle.bp_trace.specs.declared.versions.Version.{Version}
 use Rattle.bp_trace.specs.declared.versions.Version.TheVariants.{One, Two}
-use Rattle.bp_trace.specs.Pieces.{Turn, Piece, call_of, piece_of, calls_of_piece, with_call, pieces_of}
+use Rattle.bp_trace.specs.Pieces.{Symbol, Piece, call_of, piece_of, calls_of_piece, with_call, pieces_of}
 use Rattle.bp_trace.specs.Schedules.{bit_digit}
-use Rattle.bp_trace.specs.TraceText.{call_line, turn_text, piece_line, calls_text}
+use Rattle.bp_trace.specs.TraceText.{call_line, symbol_text, piece_line, calls_text}
 use Rattle.bp_trace.specs.Replays.{line_count, IsBodyLine}
 use Rattle.bp_trace.proofs.PiecesAreFewest.{thread_of, cut}
 
 -- the calls of one piece are cut into it alone
-one_piece : (i : ℕ) (t : Turn) (ts : List Turn) → pieces_of (map (call_of i) (t ∷ ts)) ≡ record { thread = i; first = t; others = ts } ∷ []
+one_piece : (i : ℕ) (t : Symbol) (ts : List Symbol) → pieces_of (map (call_of i) (t ∷ ts)) ≡ record { thread = i; first = t; others = ts } ∷ []
 one_piece i t [] = refl
 one_piece i t (u ∷ us) =
     let same : (i == i) ≡ true = grind (arith, nat_tests) in
@@ -72,7 +72,7 @@ pub some_line : (v : Version) (n : ℕ) (last : Option ℕ) (line : List ℕ) (c
 some_line One n last line calls is_line =
     omega (arith, ap length is_line.is, length-append (decimal is_line.call.thread) (32 ∷ bit_digit is_line.call.bit ∷ 32 ∷ letter_of is_line.call.reply ∷ 10 ∷ []))
 some_line Two n last line calls is_line =
-    omega (arith, ap length is_line.is, length-append (decimal is_line.piece.thread) (32 ∷ (flat_map turn_text (is_line.piece.first ∷ is_line.piece.others) ++ codes "\n")))
+    omega (arith, ap length is_line.is, length-append (decimal is_line.piece.thread) (32 ∷ (flat_map symbol_text (is_line.piece.first ∷ is_line.piece.others) ++ codes "\n")))
 
 -- what is behind the line is behind the calls with those of the line
 pub behind_line : (v : Version) (n : ℕ) (h : List Call) (line : List ℕ) (calls : List Call) (more : List ℕ)

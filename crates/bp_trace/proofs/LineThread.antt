@@ -5,7 +5,7 @@ use Rattle.bp_machine.specs.declared.calls.Call.{Call}
 use Rattle.bp_machine.specs.ContextCounts.{last_thread}
 use Rattle.bp_trace.specs.declared.versions.Version.{Version}
 use Rattle.bp_trace.specs.declared.versions.Version.TheVariants.{One, Two}
-use Rattle.bp_trace.specs.Pieces.{Turn, call_of, Piece, calls_of_piece}
+use Rattle.bp_trace.specs.Pieces.{Symbol, call_of, Piece, calls_of_piece}
 use Rattle.bp_trace.specs.Replays.{IsBodyLine}
 use Rattle.bp_trace.proofs.PiecesAreFewest.{thread_of}
 
@@ -19,12 +19,12 @@ pub record HasThread (n : ℕ) (calls : List Call) : Type 0 where
   pub below : thread < n
   pub are : AreOfThread thread calls
 
-turns_of : (i : ℕ) (ts : List Turn) → AllByRecursion (λ (x : Call). x.thread ≡ i) (map (call_of i) ts)
-turns_of i [] = tt
-turns_of i (t ∷ ts) = (refl, turns_of i ts)
+symbols_of : (i : ℕ) (ts : List Symbol) → AllByRecursion (λ (x : Call). x.thread ≡ i) (map (call_of i) ts)
+symbols_of i [] = tt
+symbols_of i (t ∷ ts) = (refl, symbols_of i ts)
 
 pub piece_thread : (p : Piece) → AreOfThread p.thread (calls_of_piece p)
-piece_thread p = record { some = λ e. absurd (cc); each = (refl, turns_of p.thread p.others) }
+piece_thread p = record { some = λ e. absurd (cc); each = (refl, symbols_of p.thread p.others) }
 
 pub line_thread : (v : Version) (n : ℕ) (last : Option ℕ) (line : List ℕ) (calls : List Call) → IsBodyLine n last line calls v → HasThread n calls
 line_thread One n last line calls b = record {

@@ -2,7 +2,7 @@
 use Rattle.std.proofs.Common.{◌≡◌, ◌≢◌, ℕ, List, [], ◌∷◌, ◌++◌, Option, None, Some, refl, sym, ap, ◌∙◌, arith, append_assoc, codes, decimal}
 use Rattle.std.proofs.lemmas.List.{append_cancel_left}
 use Rattle.bp_trace.specs.Heads.{field_line}
-use Rattle.bp_trace.specs.HeadReading.{IsCut, IsFieldAt, HasNoField, HasNoEntry, IsNoInit, HasNoInit, HasNoNumber, IsSeed, HasNoSeed}
+use Rattle.bp_trace.specs.HeadReading.{BeginsWithLine, IsFieldAt, HasNoField, HasNoEntry, IsNoInit, HasNoInit, HasNoNumber, IsSeed, HasNoSeed}
 use Rattle.bp_text.specs.Decimals.{IsNoNumber}
 use Rattle.bp_trace.specs.TraceText.{init_digits, seed_word}
 use Rattle.bp_trace.specs.Writable.{Without}
@@ -26,7 +26,7 @@ module _ (word text : List ℕ) where
     pub no_line : Without 10 behind → HasNoField word text
     no_line none = λ value rest p e. no_cut behind value rest none (append_cancel_left word _ _ (sym is ∙ e ∙ field_then value rest))
 
-    pub has_field : (value rest : List ℕ) → IsCut behind value rest → IsFieldAt word text value rest
+    pub has_field : (value rest : List ℕ) → BeginsWithLine behind value rest → IsFieldAt word text value rest
     has_field value rest p = record { value_is = p.line_is; parts = is ∙ ap (λ t. word ++ t) p.parts ∙ sym (field_then value rest) }
 
   pub no_field_no_number : HasNoField word text → HasNoNumber word text

@@ -10,7 +10,7 @@ use Rattle.bp_machine.specs.Setups.{SetupOf, threads}
 use Rattle.bp_trace.specs.declared.versions.Version.{Version}
 use Rattle.bp_trace.specs.declared.replay_faults.ReplayFault.{ReplayFault}
 use Rattle.bp_trace.specs.declared.replay_faults.ReplayFault.TheVariants as fault
-use Rattle.bp_trace.specs.Replays.{IsPlayable, IsBodyLine, IsEndLine, HasOtherEnd, HasMoreBehind, IsRefusedAmong, HasNoLine, HasRefusedCall, IsRestRefused}
+use Rattle.bp_trace.specs.Replays.{IsPlayable, IsBodyLine, IsEndLine, HasOtherEnd, HasMoreBehind, IsRefusedAmong, HasNoNextLine, HasRefusedCall, IsRestRefused}
 use Rattle.bp_trace.specs.TraceText.{end_line}
 use Rattle.bp_trace.proofs.GrowsByLine.{some_line}
 use Rattle.bp_trace.proofs.OneHistoryBehind.{Stops}
@@ -40,7 +40,7 @@ module _ (t : Program) (v : Version) (s : SetupOf) (few : threads s ≤ MAX_THRE
   Refused f =
       ((f ≡ fault.NoEnd) × (x ≡ []))
       ⊎ (((f ≡ fault.EndCount) × HasOtherEnd own x)
-      ⊎ (((f ≡ fault.Line n) × HasNoLine t v s h n x)
+      ⊎ (((f ≡ fault.Line n) × HasNoNextLine t v s h n x)
       ⊎ (((f ≡ fault.Line (n + 1)) × HasMoreBehind own x)
       ⊎ HasRefusedCall t v s h n x f)))
 

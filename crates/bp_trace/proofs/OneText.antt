@@ -13,11 +13,11 @@ use Rattle.bp_trace.specs.Schedules.{bit_digit}
 use Rattle.bp_machine.specs.Histories.{open_lines}
 use Rattle.bp_trace.specs.declared.versions.Version.{Version}
 use Rattle.bp_trace.specs.declared.versions.Version.TheVariants.{One, Two}
-use Rattle.bp_trace.specs.Pieces.{Turn, Piece, pieces_of, calls_of_pieces}
-use Rattle.bp_trace.specs.TraceText.{version_line, entry_line, init_digits, init_line, seed_word, limit_lines, setup_lines, head_text, call_line, turn_text, piece_line, calls_text, end_line, text_of}
+use Rattle.bp_trace.specs.Pieces.{Symbol, Piece, pieces_of, calls_of_pieces}
+use Rattle.bp_trace.specs.TraceText.{version_line, entry_line, init_digits, init_line, seed_word, limit_lines, setup_lines, head_text, call_line, symbol_text, piece_line, calls_text, end_line, text_of}
 use Rattle.bp_trace.proofs.PieceThreads.{pieces_threads}
 use Rattle.bp_trace.proofs.PiecesAreFewest.{pieces_whole}
-use Rattle.bp_trace.specs.BodyReading.{HasNoPair}
+use Rattle.bp_trace.specs.BodyReading.{HasNoSymbol}
 use Rattle.bp_trace.specs.Writable.{Without, IsWritable}
 use Rattle.bp_trace.proofs.Cuts.{same_head, one_cut, decimal_without, one_number, number_begins}
 
@@ -229,38 +229,38 @@ calls_alike (c ∷ h) (d ∷ g) x y p q e =
 
 -- ---- the pieces
 
--- turns that no other turn is behind
-pub turns_alike : (ts us : List Turn) (x y : List ℕ) → HasNoPair x → HasNoPair y → flat_map turn_text ts ++ x ≡ flat_map turn_text us ++ y → (ts ≡ us) × (x ≡ y)
-turns_alike [] [] x y p q e = (refl, e)
-turns_alike [] (u ∷ us) x y p q e = absurd (p u.bit u.reply (flat_map turn_text us ++ y) e)
-turns_alike (t ∷ ts) [] x y p q e = absurd (q t.bit t.reply (flat_map turn_text ts ++ x) (sym e))
-turns_alike (t ∷ ts) (u ∷ us) x y p q e =
+-- symbols that no other symbol is behind
+pub symbols_alike : (ts us : List Symbol) (x y : List ℕ) → HasNoSymbol x → HasNoSymbol y → flat_map symbol_text ts ++ x ≡ flat_map symbol_text us ++ y → (ts ≡ us) × (x ≡ y)
+symbols_alike [] [] x y p q e = (refl, e)
+symbols_alike [] (u ∷ us) x y p q e = absurd (p u.bit u.reply (flat_map symbol_text us ++ y) e)
+symbols_alike (t ∷ ts) [] x y p q e = absurd (q t.bit t.reply (flat_map symbol_text ts ++ x) (sym e))
+symbols_alike (t ∷ ts) (u ∷ us) x y p q e =
     let bit = same_head _ _ _ _ e in
     let letter = same_head _ _ _ _ bit.1 in
-    let rest = turns_alike ts us x y p q letter.1 in
+    let rest = symbols_alike ts us x y p q letter.1 in
     let bits = one_digit t.bit u.bit bit.0 in
     let replies = one_letter t.reply u.reply letter.0 in
     let same : t ≡ u = λ i. record { bit = bits i; reply = replies i } in
     (cc (same, rest.0), rest.1)
 
-pub no_pair_at_end : (rest : List ℕ) → HasNoPair (10 ∷ rest)
-no_pair_at_end rest b r more e = omega (arith, digit_high b, (same_head 10 (bit_digit b) rest (letter_of r ∷ more) e).0)
+pub no_symbol_at_end : (rest : List ℕ) → HasNoSymbol (10 ∷ rest)
+no_symbol_at_end rest b r more e = omega (arith, digit_high b, (same_head 10 (bit_digit b) rest (letter_of r ∷ more) e).0)
 
-pub piece_then : (p : Piece) (rest : List ℕ) → piece_line p ++ rest ≡ decimal p.thread ++ 32 ∷ (flat_map turn_text (p.first ∷ p.others) ++ 10 ∷ rest)
+pub piece_then : (p : Piece) (rest : List ℕ) → piece_line p ++ rest ≡ decimal p.thread ++ 32 ∷ (flat_map symbol_text (p.first ∷ p.others) ++ 10 ∷ rest)
 piece_then p rest =
-    append_assoc (decimal p.thread) _ rest ∙ ap (λ t. decimal p.thread ++ 32 ∷ t) (append_assoc (flat_map turn_text (p.first ∷ p.others)) (codes "\n") rest)
+    append_assoc (decimal p.thread) _ rest ∙ ap (λ t. decimal p.thread ++ 32 ∷ t) (append_assoc (flat_map symbol_text (p.first ∷ p.others)) (codes "\n") rest)
 
 same_piece : (p q : Piece) → p.thread ≡ q.thread → p.first ∷ p.others ≡ q.first ∷ q.others → p ≡ q
-same_piece p q thread turns =
-    let heads = same_head p.first q.first p.others q.others turns in
+same_piece p q thread symbols =
+    let heads = same_head p.first q.first p.others q.others symbols in
     λ i. record { thread = thread i; first = heads.0 i; others = heads.1 i }
 
 -- one line of a piece begins a text
 pub one_piece_line : (c d : Piece) (x y : List ℕ) → c.thread < 2 ^ 64 → d.thread < 2 ^ 64 → piece_line c ++ x ≡ piece_line d ++ y → (c ≡ d) × (x ≡ y)
 one_piece_line c d x y p q e =
     let thread = one_number 32 (omega arith) c.thread d.thread _ _ p q (sym (piece_then c x) ∙ e ∙ piece_then d y) in
-    let turns = turns_alike (c.first ∷ c.others) (d.first ∷ d.others) (10 ∷ x) (10 ∷ y) (no_pair_at_end x) (no_pair_at_end y) thread.1 in
-    (same_piece c d thread.0 turns.0, (same_head 10 10 x y turns.1).1)
+    let symbols = symbols_alike (c.first ∷ c.others) (d.first ∷ d.others) (10 ∷ x) (10 ∷ y) (no_symbol_at_end x) (no_symbol_at_end y) thread.1 in
+    (same_piece c d thread.0 symbols.0, (same_head 10 10 x y symbols.1).1)
 
 pieces_alike : (ps qs : List Piece) (x y : List ℕ) → AllByRecursion (λ (p : Piece). p.thread < 2 ^ 64) ps → AllByRecursion (λ (p : Piece). p.thread < 2 ^ 64) qs
     → flat_map piece_line ps ++ (101 ∷ x) ≡ flat_map piece_line qs ++ (101 ∷ y) → (ps ≡ qs) × (x ≡ y)

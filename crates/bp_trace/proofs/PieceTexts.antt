@@ -3,12 +3,12 @@ use Rattle.std.proofs.Common.{◌≡◌, ℕ, ◌+◌, ◌<◌, ◌==◌, Bool, 
 use Rattle.std.proofs.lemmas.Bool.Decides.{nat_tests}
 use Rattle.std.proofs.lemmas.List.{append-nil, take_more}
 use Rattle.bp_machine.specs.declared.calls.Call.{Call}
-use Rattle.bp_trace.specs.Pieces.{Piece, turn_of, piece_of, with_call, pieces_of}
-use Rattle.bp_trace.specs.TraceText.{turn_text, piece_line}
-use Rattle.bp_trace.specs.TurnTexts.{turn_behind, turns_behind, last_of}
+use Rattle.bp_trace.specs.Pieces.{Piece, symbol_of, piece_of, with_call, pieces_of}
+use Rattle.bp_trace.specs.TraceText.{symbol_text, piece_line}
+use Rattle.bp_trace.specs.SymbolTexts.{symbol_behind, symbols_behind, last_of}
 
-abbrev turns_text : Piece → List ℕ
-turns_text p = flat_map turn_text (p.first ∷ p.others)
+abbrev symbols_text : Piece → List ℕ
+symbols_text p = flat_map symbol_text (p.first ∷ p.others)
 
 abbrev pieces_text : List Piece → List ℕ
 pieces_text ps = flat_map piece_line ps
@@ -19,33 +19,33 @@ record Begins (y : Call) (ys : List Call) : Type 0 where
   rest : List Piece
   is : pieces_of (y ∷ ys) ≡ piece ∷ rest
   thread : piece.thread ≡ y.thread
-  body : turns_text piece ++ (10 ∷ pieces_text rest) ≡ turn_text (turn_of y) ++ (turns_behind (Some y.thread) ys ++ codes "\n")
+  body : symbols_text piece ++ (10 ∷ pieces_text rest) ≡ symbol_text (symbol_of y) ++ (symbols_behind (Some y.thread) ys ++ codes "\n")
 
 assoc4 : (a b c d : List ℕ) → ((a ++ b) ++ c) ++ d ≡ a ++ (b ++ (c ++ d))
 assoc4 a b c d = append_assoc (a ++ b) c d ∙ append_assoc a b (c ++ d)
 
 -- a call behind one of its thread
 goes_on : (x y : Call) (ys : List Call) → (x.thread == y.thread) ≡ true
-    → turn_text (turn_of y) ++ (turns_behind (Some y.thread) ys ++ codes "\n") ≡ turns_behind (Some x.thread) (y ∷ ys) ++ codes "\n"
+    → symbol_text (symbol_of y) ++ (symbols_behind (Some y.thread) ys ++ codes "\n") ≡ symbols_behind (Some x.thread) (y ∷ ys) ++ codes "\n"
 goes_on x y ys e =
-    sym (append_assoc (turn_text (turn_of y)) (turns_behind (Some y.thread) ys) (codes "\n"))
-    ∙ ap (λ b. ((cond b [] (codes "\n" ++ (decimal y.thread ++ codes " ")) ++ turn_text (turn_of y)) ++ turns_behind (Some y.thread) ys) ++ codes "\n") (sym e)
+    sym (append_assoc (symbol_text (symbol_of y)) (symbols_behind (Some y.thread) ys) (codes "\n"))
+    ∙ ap (λ b. ((cond b [] (codes "\n" ++ (decimal y.thread ++ codes " ")) ++ symbol_text (symbol_of y)) ++ symbols_behind (Some y.thread) ys) ++ codes "\n") (sym e)
 
 -- a call behind one of another thread
 breaks : (x y : Call) (ys : List Call) → (x.thread == y.thread) ≡ false
-    → 10 ∷ (decimal y.thread ++ 32 ∷ (turn_text (turn_of y) ++ (turns_behind (Some y.thread) ys ++ codes "\n"))) ≡ turns_behind (Some x.thread) (y ∷ ys) ++ codes "\n"
+    → 10 ∷ (decimal y.thread ++ 32 ∷ (symbol_text (symbol_of y) ++ (symbols_behind (Some y.thread) ys ++ codes "\n"))) ≡ symbols_behind (Some x.thread) (y ∷ ys) ++ codes "\n"
 breaks x y ys e =
     ap (λ t. 10 ∷ t)
-    (sym (assoc4 (decimal y.thread ++ 32 ∷ []) (turn_text (turn_of y)) (turns_behind (Some y.thread) ys) (codes "\n") ∙ append_assoc (decimal y.thread) (32 ∷ []) _))
-    ∙ ap (λ b. ((cond b [] (codes "\n" ++ (decimal y.thread ++ codes " ")) ++ turn_text (turn_of y)) ++ turns_behind (Some y.thread) ys) ++ codes "\n") (sym e)
+    (sym (assoc4 (decimal y.thread ++ 32 ∷ []) (symbol_text (symbol_of y)) (symbols_behind (Some y.thread) ys) (codes "\n") ∙ append_assoc (decimal y.thread) (32 ∷ []) _))
+    ∙ ap (λ b. ((cond b [] (codes "\n" ++ (decimal y.thread ++ codes " ")) ++ symbol_text (symbol_of y)) ++ symbols_behind (Some y.thread) ys) ++ codes "\n") (sym e)
 
 -- the line of the first piece and those behind it
 next_line : (y : Call) (ys : List Call) (b : Begins y ys)
-    → piece_line b.piece ++ pieces_text b.rest ≡ decimal y.thread ++ 32 ∷ (turn_text (turn_of y) ++ (turns_behind (Some y.thread) ys ++ codes "\n"))
+    → piece_line b.piece ++ pieces_text b.rest ≡ decimal y.thread ++ 32 ∷ (symbol_text (symbol_of y) ++ (symbols_behind (Some y.thread) ys ++ codes "\n"))
 next_line y ys b =
-    append_assoc (decimal b.piece.thread) (32 ∷ (turns_text b.piece ++ codes "\n")) (pieces_text b.rest)
-    ∙ ap (λ t. decimal b.piece.thread ++ 32 ∷ t) (append_assoc (turns_text b.piece) (codes "\n") (pieces_text b.rest) ∙ b.body)
-    ∙ ap (λ n. decimal n ++ 32 ∷ (turn_text (turn_of y) ++ (turns_behind (Some y.thread) ys ++ codes "\n"))) b.thread
+    append_assoc (decimal b.piece.thread) (32 ∷ (symbols_text b.piece ++ codes "\n")) (pieces_text b.rest)
+    ∙ ap (λ t. decimal b.piece.thread ++ 32 ∷ t) (append_assoc (symbols_text b.piece) (codes "\n") (pieces_text b.rest) ∙ b.body)
+    ∙ ap (λ n. decimal n ++ 32 ∷ (symbol_text (symbol_of y) ++ (symbols_behind (Some y.thread) ys ++ codes "\n"))) b.thread
 
 begins : (y : Call) (ys : List Call) → Begins y ys
 begins y [] = record { piece = piece_of y []; rest = []; is = refl; thread = refl; body = refl }
@@ -62,8 +62,8 @@ begins x (y ∷ ys) = go (begins y ys) (x.thread == (begins y ys).piece.thread) 
           is = ap (with_call x) b.is ∙ ap (λ t. cond t (piece_of x (b.piece.first ∷ b.piece.others) ∷ b.rest) (piece_of x [] ∷ b.piece ∷ b.rest)) e;
           thread = refl;
           body =
-              append_assoc (turn_text (turn_of x)) (turns_text b.piece) (10 ∷ pieces_text b.rest)
-              ∙ ap (λ t. turn_text (turn_of x) ++ t) (b.body ∙ goes_on x y ys goes);
+              append_assoc (symbol_text (symbol_of x)) (symbols_text b.piece) (10 ∷ pieces_text b.rest)
+              ∙ ap (λ t. symbol_text (symbol_of x) ++ t) (b.body ∙ goes_on x y ys goes);
         }
 
     -- another thread begins
@@ -73,7 +73,7 @@ begins x (y ∷ ys) = go (begins y ys) (x.thread == (begins y ys).piece.thread) 
       rest = b.piece ∷ b.rest;
       is = ap (with_call x) b.is ∙ ap (λ t. cond t (piece_of x (b.piece.first ∷ b.piece.others) ∷ b.rest) (piece_of x [] ∷ b.piece ∷ b.rest)) e;
       thread = refl;
-      body = ap (λ t. turn_text (turn_of x) ++ 10 ∷ t) (next_line y ys b) ∙ ap (λ t. turn_text (turn_of x) ++ t) (breaks x y ys (ap (λ n. x.thread == n) (sym b.thread) ∙ e));
+      body = ap (λ t. symbol_text (symbol_of x) ++ 10 ∷ t) (next_line y ys b) ∙ ap (λ t. symbol_text (symbol_of x) ++ t) (breaks x y ys (ap (λ n. x.thread == n) (sym b.thread) ∙ e));
     }
 
     go : (b : Begins y ys) (t : Bool) → (x.thread == b.piece.thread) ≡ t → Begins x (y ∷ ys)
@@ -81,33 +81,33 @@ begins x (y ∷ ys) = go (begins y ys) (x.thread == (begins y ys).piece.thread) 
     go b false e = other b e
 
 -- the text of the pieces is that of the calls one by one, and the end of the last line
-pieces_are_turns : (x : Call) (xs : List Call) → flat_map piece_line (pieces_of (x ∷ xs)) ≡ turns_behind None (x ∷ xs) ++ codes "\n"
-pieces_are_turns x xs =
+pieces_are_symbols : (x : Call) (xs : List Call) → flat_map piece_line (pieces_of (x ∷ xs)) ≡ symbols_behind None (x ∷ xs) ++ codes "\n"
+pieces_are_symbols x xs =
     let b = begins x xs in
     ap pieces_text b.is
     ∙ next_line x xs b
-    ∙ sym (assoc4 (decimal x.thread ++ 32 ∷ []) (turn_text (turn_of x)) (turns_behind (Some x.thread) xs) (codes "\n") ∙ append_assoc (decimal x.thread) (32 ∷ []) _)
+    ∙ sym (assoc4 (decimal x.thread ++ 32 ∷ []) (symbol_text (symbol_of x)) (symbols_behind (Some x.thread) xs) (codes "\n") ∙ append_assoc (decimal x.thread) (32 ∷ []) _)
 
-pub some_pieces : (h : List Call) → 0 < length h → flat_map piece_line (pieces_of h) ≡ turns_behind None h ++ codes "\n"
+pub some_pieces : (h : List Call) → 0 < length h → flat_map piece_line (pieces_of h) ≡ symbols_behind None h ++ codes "\n"
 some_pieces [] some = absurd (omega arith)
-some_pieces (x ∷ xs) some = pieces_are_turns x xs
+some_pieces (x ∷ xs) some = pieces_are_symbols x xs
 
 -- one more call at the end
-turns-append : (last : Option ℕ) (h : List Call) (x : Call) → turns_behind last (h ++ x ∷ []) ≡ turns_behind last h ++ turn_behind (last_of last h) x
-turns-append last [] x = append-nil (turn_behind last x)
-turns-append last (y ∷ ys) x =
-    ap (λ t. turn_behind last y ++ t) (turns-append (Some y.thread) ys x)
-    ∙ sym (append_assoc (turn_behind last y) (turns_behind (Some y.thread) ys) (turn_behind (last_of (Some y.thread) ys) x))
+symbols-append : (last : Option ℕ) (h : List Call) (x : Call) → symbols_behind last (h ++ x ∷ []) ≡ symbols_behind last h ++ symbol_behind (last_of last h) x
+symbols-append last [] x = append-nil (symbol_behind last x)
+symbols-append last (y ∷ ys) x =
+    ap (λ t. symbol_behind last y ++ t) (symbols-append (Some y.thread) ys x)
+    ∙ sym (append_assoc (symbol_behind last y) (symbols_behind (Some y.thread) ys) (symbol_behind (last_of (Some y.thread) ys) x))
 
 last-append : (last : Option ℕ) (h : List Call) (x : Call) → last_of last (h ++ x ∷ []) ≡ Some x.thread
 last-append last [] x = refl
 last-append last (y ∷ ys) x = last-append (Some y.thread) ys x
 
-turns-split : (last : Option ℕ) (h k : List Call) → turns_behind last (h ++ k) ≡ turns_behind last h ++ turns_behind (last_of last h) k
-turns-split last [] k = refl
-turns-split last (y ∷ ys) k =
-    ap (λ t. turn_behind last y ++ t) (turns-split (Some y.thread) ys k)
-    ∙ sym (append_assoc (turn_behind last y) (turns_behind (Some y.thread) ys) (turns_behind (last_of (Some y.thread) ys) k))
+symbols-split : (last : Option ℕ) (h k : List Call) → symbols_behind last (h ++ k) ≡ symbols_behind last h ++ symbols_behind (last_of last h) k
+symbols-split last [] k = refl
+symbols-split last (y ∷ ys) k =
+    ap (λ t. symbol_behind last y ++ t) (symbols-split (Some y.thread) ys k)
+    ∙ sym (append_assoc (symbol_behind last y) (symbols_behind (Some y.thread) ys) (symbols_behind (last_of (Some y.thread) ys) k))
 
 module _ (h : List Call) (i : ℕ) (d : Call) (within : i < length h) where
   abbrev x : Call
@@ -117,13 +117,13 @@ module _ (h : List Call) (i : ℕ) (d : Call) (within : i < length h) where
   rest_is = rw (add-one) (drop-cons h i d within)
 
   -- the calls before the i-th, the i-th and the others
-  pub turns_at : turns_behind None h ≡ turns_behind None (take i h) ++ (turn_behind (last_of None (take i h)) x ++ turns_behind (Some x.thread) (drop (i + 1) h))
-  turns_at =
-      subst (λ ys. turns_behind None ys ≡ turns_behind None (take i h) ++ (turn_behind (last_of None (take i h)) x ++ turns_behind (Some x.thread) (drop (i + 1) h))) (take-append-drop i h)
-      (turns-split None (take i h) (drop i h) ∙ ap (λ ys. turns_behind None (take i h) ++ turns_behind (last_of None (take i h)) ys) rest_is)
+  pub symbols_at : symbols_behind None h ≡ symbols_behind None (take i h) ++ (symbol_behind (last_of None (take i h)) x ++ symbols_behind (Some x.thread) (drop (i + 1) h))
+  symbols_at =
+      subst (λ ys. symbols_behind None ys ≡ symbols_behind None (take i h) ++ (symbol_behind (last_of None (take i h)) x ++ symbols_behind (Some x.thread) (drop (i + 1) h))) (take-append-drop i h)
+      (symbols-split None (take i h) (drop i h) ∙ ap (λ ys. symbols_behind None (take i h) ++ symbols_behind (last_of None (take i h)) ys) rest_is)
 
-  pub turns_more : turns_behind None (take (i + 1) h) ≡ turns_behind None (take i h) ++ turn_behind (last_of None (take i h)) x
-  turns_more = ap (turns_behind None) (take_more h i d within) ∙ turns-append None (take i h) x
+  pub symbols_more : symbols_behind None (take (i + 1) h) ≡ symbols_behind None (take i h) ++ symbol_behind (last_of None (take i h)) x
+  symbols_more = ap (symbols_behind None) (take_more h i d within) ∙ symbols-append None (take i h) x
 
   pub last_more : Some x.thread ≡ last_of None (take (i + 1) h)
   last_more = sym (ap (last_of None) (take_more h i d within) ∙ last-append None (take i h) x)

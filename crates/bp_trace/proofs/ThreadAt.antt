@@ -5,7 +5,7 @@ use Rattle.bp_trace.proofs.Cuts.{one_number}
 use Rattle.bp_trace.proofs.OneText.{call_then}
 use Rattle.bp_machine.specs.declared.limits.TheConstants.{MAX_THREADS}
 use Rattle.bp_trace.specs.ScheduleReading.{number_at}
-use Rattle.bp_trace.specs.TraceReading.{IsThreadAt, HasNoThread, IsTurnAt, HasNoTurn, IsCallAt, HasNoCall}
+use Rattle.bp_trace.specs.TraceReading.{IsThreadAt, HasNoThread, IsTailAt, HasNoTail, IsCallAt, HasNoCall}
 use Rattle.bp_trace.proofs.ScheduleLineAt.{reads_back, front, drop_front}
 
 pub drop_more : (xs : List ℕ) (byte : ℕ) (ys : List ℕ) → drop (length xs + 1) (xs ++ byte ∷ ys) ≡ ys
@@ -52,11 +52,11 @@ module _ (n : ℕ) (text : List ℕ) where
     pub within_text : length (decimal t) + 1 ≤ length text
     within_text = let whole = ap length at.2 in omega (arith, whole, length-append (decimal t) (32 ∷ at.0))
 
-    pub no_turn_no_call : HasNoTurn (drop (length (decimal t) + 1) text) → HasNoCall n text
-    no_turn_no_call none = λ x more below e.
+    pub no_tail_no_call : HasNoTail (drop (length (decimal t) + 1) text) → HasNoCall n text
+    no_tail_no_call none = λ x more below e.
         let same = one_thread x.thread _ below (e ∙ call_then x more) in
         none x.bit x.reply more (behind ∙ same.1)
 
-    pub turn_is_call : (bit : Bool) (reply : Reply) → IsTurnAt (drop (length (decimal t) + 1) text) (bit, reply) → IsCallAt n text (record { thread = t; bit = bit; reply = reply })
-    turn_is_call bit reply turn =
-        (turn.0, at.1, at.2 ∙ ap (λ r. decimal t ++ 32 ∷ r) (sym behind ∙ turn.1) ∙ sym (call_then (record { thread = t; bit = bit; reply = reply }) turn.0))
+    pub tail_is_call : (bit : Bool) (reply : Reply) → IsTailAt (drop (length (decimal t) + 1) text) (bit, reply) → IsCallAt n text (record { thread = t; bit = bit; reply = reply })
+    tail_is_call bit reply tail =
+        (tail.0, at.1, at.2 ∙ ap (λ r. decimal t ++ 32 ∷ r) (sym behind ∙ tail.1) ∙ sym (call_then (record { thread = t; bit = bit; reply = reply }) tail.0))

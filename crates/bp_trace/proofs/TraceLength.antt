@@ -16,8 +16,8 @@ use Rattle.bp_trace.specs.declared.limits.TheConstants.{MAX_TRACE}
 use Rattle.bp_trace.specs.declared.versions.Version.{Version}
 use Rattle.bp_trace.specs.declared.versions.Version.TheVariants.{One, Two}
 use Rattle.bp_trace.specs.Schedules.{bit_digit}
-use Rattle.bp_trace.specs.Pieces.{Turn, Piece, calls_of_piece, calls_of_pieces, pieces_of, call_of}
-use Rattle.bp_trace.specs.TraceText.{version_line, entry_line, init_digits, init_line, seed_word, limit_lines, setup_lines, head_text, call_line, turn_text, piece_line, calls_text, end_line, text_of}
+use Rattle.bp_trace.specs.Pieces.{Symbol, Piece, calls_of_piece, calls_of_pieces, pieces_of, call_of}
+use Rattle.bp_trace.specs.TraceText.{version_line, entry_line, init_digits, init_line, seed_word, limit_lines, setup_lines, head_text, call_line, symbol_text, piece_line, calls_text, end_line, text_of}
 use Rattle.bp_trace.proofs.PieceThreads.{pieces_threads}
 use Rattle.bp_trace.proofs.PiecesAreFewest.{pieces_whole}
 use Rattle.bp_trace.proofs.ScheduleLength.{few_digits}
@@ -48,21 +48,21 @@ calls_short n (x ∷ xs) few (below, all) =
     let whole = length-append (call_line x) (flat_map call_line xs) in
     omega (arith, digits, line, whole, calls_short n xs few all)
 
-turns_length : (ts : List Turn) → length (flat_map turn_text ts) ≡ 2 * length ts
-turns_length [] = refl
-turns_length (t ∷ ts) = omega (arith, turns_length ts)
+symbols_length : (ts : List Symbol) → length (flat_map symbol_text ts) ≡ 2 * length ts
+symbols_length [] = refl
+symbols_length (t ∷ ts) = omega (arith, symbols_length ts)
 
 pieces_short : (ps : List Piece) → AllByRecursion (λ (p : Piece). p.thread < 100) ps → length (flat_map piece_line ps) ≤ 7 * length (calls_of_pieces ps)
 pieces_short [] each = omega arith
 pieces_short (p ∷ ps) each =
-    let turns = p.first ∷ p.others in
+    let symbols = p.first ∷ p.others in
     let digits = few_digits p.thread each.0 in
-    let ended = length-append (flat_map turn_text turns) (codes "\n") in
-    let line = length-append (decimal p.thread) (32 ∷ (flat_map turn_text turns ++ codes "\n")) in
+    let ended = length-append (flat_map symbol_text symbols) (codes "\n") in
+    let line = length-append (decimal p.thread) (32 ∷ (flat_map symbol_text symbols ++ codes "\n")) in
     let whole = length-append (piece_line p) (flat_map piece_line ps) in
     let calls = length-append (calls_of_piece p) (calls_of_pieces ps) in
-    let count = length-map turns (call_of p.thread) in
-    omega (arith, digits, ended, line, whole, calls, count, turns_length turns, pieces_short ps each.1)
+    let count = length-map symbols (call_of p.thread) in
+    omega (arith, digits, ended, line, whole, calls, count, symbols_length symbols, pieces_short ps each.1)
 
 few_threads : (n : ℕ) (h : List Call) → n ≤ MAX_THREADS → AllBelow n h → AllByRecursion (λ (x : Call). x.thread < 100) h
 few_threads n [] few all = tt

@@ -6,27 +6,27 @@ use Rattle.bp_machine.specs.declared.calls.Reply.{Reply}
 use Rattle.bp_machine.specs.Replies.{letter_of}
 use Rattle.bp_trace.specs.declared.versions.Version.{Version}
 use Rattle.bp_trace.specs.Schedules.{bit_digit}
-use Rattle.bp_trace.specs.Pieces.{Turn, call_of}
-use Rattle.bp_trace.specs.TraceText.{turn_text}
+use Rattle.bp_trace.specs.Pieces.{Symbol, call_of}
+use Rattle.bp_trace.specs.TraceText.{symbol_text}
 use Rattle.bp_trace.specs.Replays.{IsBodyLine}
 
 -- this bit and the letter of this reply begin the text
-abbrev pub IsPairAt : List ℕ → Bool × Reply → Type 0
-IsPairAt text x = (more : List ℕ) × (text ≡ bit_digit x.0 ∷ letter_of x.1 ∷ more)
+abbrev pub IsSymbolAt : List ℕ → Bool × Reply → Type 0
+IsSymbolAt text x = (more : List ℕ) × (text ≡ bit_digit x.0 ∷ letter_of x.1 ∷ more)
 
 -- no bit and no letter of a reply do
-abbrev pub HasNoPair : List ℕ → Type 0
-HasNoPair text = (b : Bool) (r : Reply) (more : List ℕ) → text ≢ bit_digit b ∷ letter_of r ∷ more
+abbrev pub HasNoSymbol : List ℕ → Type 0
+HasNoSymbol text = (b : Bool) (r : Reply) (more : List ℕ) → text ≢ bit_digit b ∷ letter_of r ∷ more
 
--- the turns at the front of the text have this size, and no other turn is behind them; the calls
+-- the symbols at the front of the text have this size, and no other symbol is behind them; the calls
 -- that they are for this thread were added
-pub record HasTurns (i : ℕ) (text : List ℕ) (old new : List Call) (size : ℕ) : Type 0 where
-  pub turns : List Turn
+pub record HasSymbols (i : ℕ) (text : List ℕ) (old new : List Call) (size : ℕ) : Type 0 where
+  pub symbols : List Symbol
   pub more : List ℕ
-  pub added : new ≡ old ++ map (call_of i) turns
-  pub begins : text ≡ flat_map turn_text turns ++ more
-  pub size_is : size ≡ length (flat_map turn_text turns)
-  pub ends : HasNoPair more
+  pub added : new ≡ old ++ map (call_of i) symbols
+  pub begins : text ≡ flat_map symbol_text symbols ++ more
+  pub size_is : size ≡ length (flat_map symbol_text symbols)
+  pub ends : HasNoSymbol more
 
 -- a line of calls of this size begins the text, and these are its calls
 pub record IsBodyLineAt

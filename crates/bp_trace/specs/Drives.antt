@@ -29,7 +29,7 @@ drive_fault_place (AfterFinish n) = Some n
 drive_fault_place f = None
 
 -- a legal history makes the calls of the lines before the n-th, which begins the rest
-pub record Reaches
+pub record DrivesUpTo
     (t : Program) (s : SetupOf) (schedule : List ℕ) (n : ℕ) (rest : List ℕ) : Type 0 where
   pub history : List Call
   pub legal : IsLegal t s history
@@ -39,14 +39,14 @@ pub record Reaches
 -- the n-th line is no line of a thread of the setup
 pub record IsBadLine (t : Program) (s : SetupOf) (schedule : List ℕ) (n : ℕ) : Type 0 where
   pub rest : List ℕ
-  pub reached : Reaches t s schedule n rest
+  pub reached : DrivesUpTo t s schedule n rest
   pub some : rest ≢ []
   pub bad : HasNoLine (threads s) rest
 
 -- the n-th line is one of a thread whose line is finished
 pub record IsAfterFinish (t : Program) (s : SetupOf) (schedule : List ℕ) (n : ℕ) : Type 0 where
   pub rest : List ℕ
-  pub reached : Reaches t s schedule n rest
+  pub reached : DrivesUpTo t s schedule n rest
   pub line : ScheduleLine
   pub begins : IsLineAt (threads s) rest line
   pub finished : is_finished s reached.history line.thread ≡ true
@@ -77,7 +77,7 @@ module _ (t : Program) (s : SetupOf) (schedule : List ℕ) where
   IsRefusal old new f = (new ≡ old) × IsScheduleRefusal f
 
 -- the schedule drives the program to a history, which is written and reported
-pub record IsPlayed
+pub record DrivesTo
     (t : Program) (s : SetupOf) (schedule : List ℕ) (old new : Option (List ℕ)) (r : Report)
     : Type 0 where
   pub history : List Call

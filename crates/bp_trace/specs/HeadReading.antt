@@ -12,7 +12,7 @@ use Rattle.bp_trace.specs.TraceText.{version_line, entry_line, init_digits, init
 use Rattle.bp_trace.specs.Writable.{Without}
 
 -- the text is this line, a line feed and the rest
-pub record IsCut (text line rest : List ℕ) : Type 0 where
+pub record BeginsWithLine (text line rest : List ℕ) : Type 0 where
   pub line_is : Without 10 line
   pub parts : text ≡ line ++ 10 ∷ rest
 

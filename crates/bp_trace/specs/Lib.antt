@@ -15,5 +15,5 @@ pub mod ScheduleReading
 pub mod Schedules
 pub mod TraceReading
 pub mod TraceText
-pub mod TurnTexts
+pub mod SymbolTexts
 pub mod Writable

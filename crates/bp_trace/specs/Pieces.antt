@@ -4,21 +4,21 @@ use Rattle.bp_machine.specs.declared.calls.Call.{Call}
 use Rattle.bp_machine.specs.declared.calls.Reply.{Reply}
 
 -- a choice bit and the reply to it
-pub record Turn : Type 0 where
+pub record Symbol : Type 0 where
   pub bit : Bool
   pub reply : Reply
 
 -- successive calls of one thread, at least one
 pub record Piece : Type 0 where
   pub thread : ℕ
-  pub first : Turn
-  pub others : List Turn
+  pub first : Symbol
+  pub others : List Symbol
 
-abbrev pub turn_of : Call → Turn
-turn_of x = record { bit = x.bit; reply = x.reply }
+abbrev pub symbol_of : Call → Symbol
+symbol_of x = record { bit = x.bit; reply = x.reply }
 
-abbrev pub call_of : ℕ → Turn → Call
-call_of i turn = record { thread = i; bit = turn.bit; reply = turn.reply }
+abbrev pub call_of : ℕ → Symbol → Call
+call_of i symbol = record { thread = i; bit = symbol.bit; reply = symbol.reply }
 
 abbrev pub calls_of_piece : Piece → List Call
 calls_of_piece p = map (call_of p.thread) (p.first ∷ p.others)
@@ -26,8 +26,8 @@ calls_of_piece p = map (call_of p.thread) (p.first ∷ p.others)
 abbrev pub calls_of_pieces : List Piece → List Call
 calls_of_pieces ps = flat_map calls_of_piece ps
 
-abbrev pub piece_of : Call → List Turn → Piece
-piece_of x others = record { thread = x.thread; first = turn_of x; others = others }
+abbrev pub piece_of : Call → List Symbol → Piece
+piece_of x others = record { thread = x.thread; first = symbol_of x; others = others }
 
 -- a call and then the pieces: it belongs to the first of them where that is of its thread
 abbrev pub with_call : Call → List Piece → List Piece

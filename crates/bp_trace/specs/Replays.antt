@@ -143,7 +143,7 @@ module _
       IsBodyLine (threads s) (last_thread (map (λ x. x.thread) h)) line calls v
 
   -- no line that may follow begins the rest
-  pub record HasNoLine : Type 0 where
+  pub record HasNoNextLine : Type 0 where
     pub some : rest ≢ []
     pub calls : (line : List ℕ) (calls : List Call) (more : List ℕ)
         → IsNextLine line calls
@@ -166,7 +166,7 @@ module _
   IsRestRefused fault.NoEnd = rest ≡ []
   IsRestRefused fault.EndCount = HasOtherEnd own_end rest
   IsRestRefused (fault.Line m) =
-      ((m ≡ n) × HasNoLine) ⊎ ((m ≡ n + 1) × HasMoreBehind own_end rest)
+      ((m ≡ n) × HasNoNextLine) ⊎ ((m ≡ n + 1) × HasMoreBehind own_end rest)
   IsRestRefused f = HasRefusedCall f
 
 -- Each refusal, the first that applies. Nothing is said of when memory is refused, but that nothing

@@ -2,8 +2,8 @@
 -- names.
 use Rattle.std.specs.Prelude.{if◌then◌else◌, ◌==◌, ℕ, Bool, true, false, List, [], ◌∷◌, ◌++◌, Option, None, Some, codes, decimal}
 use Rattle.bp_machine.specs.declared.calls.Call.{Call}
-use Rattle.bp_trace.specs.Pieces.{turn_of}
-use Rattle.bp_trace.specs.TraceText.{turn_text}
+use Rattle.bp_trace.specs.Pieces.{symbol_of}
+use Rattle.bp_trace.specs.TraceText.{symbol_text}
 
 -- the thread of a line, behind the end of the line before it
 abbrev pub line_start : Bool → ℕ → List ℕ
@@ -15,13 +15,13 @@ abbrev pub opening : Option ℕ → ℕ → List ℕ
 opening None i = line_start true i
 opening (Some l) i = if l == i then [] else line_start false i
 
-abbrev pub turn_behind : Option ℕ → Call → List ℕ
-turn_behind last x = opening last x.thread ++ turn_text (turn_of x)
+abbrev pub symbol_behind : Option ℕ → Call → List ℕ
+symbol_behind last x = opening last x.thread ++ symbol_text (symbol_of x)
 
 -- the calls behind one of this thread, without the end of the last line
-abbrev pub turns_behind : Option ℕ → List Call → List ℕ
-turns_behind last [] = []
-turns_behind last (x ∷ xs) = turn_behind last x ++ turns_behind (Some x.thread) xs
+abbrev pub symbols_behind : Option ℕ → List Call → List ℕ
+symbols_behind last [] = []
+symbols_behind last (x ∷ xs) = symbol_behind last x ++ symbols_behind (Some x.thread) xs
 
 -- the thread of the last call, or this one where there is none
 abbrev pub last_of : Option ℕ → List Call → Option ℕ

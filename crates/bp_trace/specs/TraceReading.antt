@@ -21,12 +21,12 @@ abbrev pub HasNoThread : ℕ → List ℕ → Type 0
 HasNoThread n text = (i : ℕ) (more : List ℕ) → i < n → text ≢ decimal i ++ 32 ∷ more
 
 -- this bit, a space, the letter of this reply and a line feed begin the text
-abbrev pub IsTurnAt : List ℕ → Bool × Reply → Type 0
-IsTurnAt text x =
+abbrev pub IsTailAt : List ℕ → Bool × Reply → Type 0
+IsTailAt text x =
     (more : List ℕ) × (text ≡ bit_digit x.0 ∷ 32 ∷ letter_of x.1 ∷ 10 ∷ more)
 
-abbrev pub HasNoTurn : List ℕ → Type 0
-HasNoTurn text =
+abbrev pub HasNoTail : List ℕ → Type 0
+HasNoTail text =
     (b : Bool) (r : Reply) (more : List ℕ) → text ≢ bit_digit b ∷ 32 ∷ letter_of r ∷ 10 ∷ more
 
 -- the line of this call of a thread below n begins the text

@@ -8,7 +8,7 @@ use Rattle.bp_machine.specs.Replies.{letter_of}
 use Rattle.bp_trace.specs.declared.versions.Version.{Version}
 use Rattle.bp_trace.specs.declared.versions.Version.TheVariants.{One, Two}
 use Rattle.bp_trace.specs.Schedules.{bit_digit}
-use Rattle.bp_trace.specs.Pieces.{Turn, Piece, pieces_of}
+use Rattle.bp_trace.specs.Pieces.{Symbol, Piece, pieces_of}
 
 abbrev pub entry_line : List ℕ → List ℕ
 entry_line name = codes "entry " ++ (name ++ codes "\n")
@@ -54,13 +54,13 @@ end_line calls left_open = concat (
     ∷ codes "\n" ∷ [])
 
 -- the choice bit and the letter of the reply
-abbrev pub turn_text : Turn → List ℕ
-turn_text x = bit_digit x.bit ∷ letter_of x.reply ∷ []
+abbrev pub symbol_text : Symbol → List ℕ
+symbol_text x = bit_digit x.bit ∷ letter_of x.reply ∷ []
 
--- the thread, and its turns with nothing between them
+-- the thread, and its symbols with nothing between them
 abbrev pub piece_line : Piece → List ℕ
 piece_line p =
-    decimal p.thread ++ 32 ∷ (flat_map turn_text (p.first ∷ p.others) ++ codes "\n")
+    decimal p.thread ++ 32 ∷ (flat_map symbol_text (p.first ∷ p.others) ++ codes "\n")
 
 -- a line for each call, or one for each piece
 abbrev pub calls_text : Version → List Call → List ℕ

@@ -1,7 +1,7 @@
 //! The lines of calls in a trace of either version.
 ghost use Rattle.std.specs.Prelude.{◌≡◌, ◌≤◌, [], IfOk, MatchOption};
 ghost use Rattle.bp_machine.specs.declared.limits.TheConstants.{MAX_THREADS};
-ghost use Rattle.bp_trace.specs.BodyReading.{HasNoPair, IsPairAt, HasTurns, HasNoBodyLine, IsBodyLineAt};
+ghost use Rattle.bp_trace.specs.BodyReading.{HasNoSymbol, IsSymbolAt, HasSymbols, HasNoBodyLine, IsBodyLineAt};
 
 use crate::schedules::{digit_count, text_from};
 use crate::trace_lines::{bit_of, call_at, has_byte, reply_of, thread_at};
@@ -11,7 +11,7 @@ use std::alloc::AllocError;
 
 /// The bit and the reply that begin the text, with nothing between them.
 fn pair_at(text: &[u8]) -> Option<(bool, Reply)>
-    ensures { MatchOption result (HasNoPair text.now) (IsPairAt text.now) }
+    ensures { MatchOption result (HasNoSymbol text.now) (IsSymbolAt text.now) }
 {
     let (Some(digit), Some(letter)) = (text.first(), text.get(1)) else {
         return None;
@@ -24,8 +24,8 @@ fn pair_at(text: &[u8]) -> Option<(bool, Reply)>
 
 /// Adds the calls of a thread for the pairs at the front of the text, and answers how many bytes
 /// these have.
-fn read_turns(thread: u32, text: &[u8], calls: &mut Vec<Call>) -> Result<usize, AllocError>
-    ensures { IfOk result (HasTurns thread text.now calls.old.items calls.new.items) }
+fn read_symbols(thread: u32, text: &[u8], calls: &mut Vec<Call>) -> Result<usize, AllocError>
+    ensures { IfOk result (HasSymbols thread text.now calls.old.items calls.new.items) }
 {
     let mut size = 0;
     while let Some((bit, reply)) = pair_at(text_from(text, size)) {
@@ -74,9 +74,9 @@ fn read_piece(
     if last == Some(thread) {
         return Ok(None);
     }
-    let turns = text_from(text, digit_count(thread) + 1);
-    let size = read_turns(thread, turns, calls)?;
-    if size > 0 && has_byte(b'\n', turns, size) {
+    let symbols = text_from(text, digit_count(thread) + 1);
+    let size = read_symbols(thread, symbols, calls)?;
+    if size > 0 && has_byte(b'\n', symbols, size) {
         Ok(Some(digit_count(thread) + size + 2))
     } else {
         Ok(None)

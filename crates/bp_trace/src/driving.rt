@@ -8,7 +8,7 @@ ghost use Rattle.bp_machine.specs.Setups.{FitsCode};
 ghost use Rattle.bp_machine.specs.Sessions.{StandsForAll};
 ghost use Rattle.bp_trace.specs.declared.limits.TheConstants.{MAX_SCHEDULE};
 ghost use Rattle.bp_trace.specs.Schedules.{schedule_text, lines_of_history};
-ghost use Rattle.bp_trace.specs.Drives.{IsPlayed, IsRefusal};
+ghost use Rattle.bp_trace.specs.Drives.{DrivesTo, IsRefusal};
 ghost use Rattle.bp_trace.specs.LinePlays.{drive_fault_of, IsAdded, IsLineRefusal};
 
 use crate::faults::DriveFault;
@@ -107,7 +107,7 @@ pub fn drive<W: Write>(
     ensures { (t : Program)
         → StandsFor code.now t
         → MatchResult result
-        (IsPlayed t setup.now schedule.now (W.contents out.old) (W.contents out.new))
+        (DrivesTo t setup.now schedule.now (W.contents out.old) (W.contents out.new))
         (IsRefusal t setup.now schedule.now (W.contents out.old) (W.contents out.new)) }
 {
     if schedule.len() > MAX_SCHEDULE {

@@ -4,7 +4,7 @@ ghost use Rattle.bp_trace.specs.declared.limits.TheConstants.{MAX_TRACE};
 ghost use Rattle.bp_trace.specs.Schedules.{bit_digit};
 ghost use Rattle.bp_trace.specs.TraceText.{version_line, init_digits, init_line};
 ghost use Rattle.bp_trace.specs.Writable.{Without};
-ghost use Rattle.bp_trace.specs.HeadReading.{IsCut, HasNoFront, IsFieldAt, HasNoField, HasNoVersion, IsEntryAt, HasNoEntry, AreEntriesAt, AreNoBits, IsNoInit, HasNoInit, IsNumberAt, HasNoNumber, IsSeedAt, HasNoSeed, IsHeadOf, IsHeadRefusal};
+ghost use Rattle.bp_trace.specs.HeadReading.{BeginsWithLine, HasNoFront, IsFieldAt, HasNoField, HasNoVersion, IsEntryAt, HasNoEntry, AreEntriesAt, AreNoBits, IsNoInit, HasNoInit, IsNumberAt, HasNoNumber, IsSeedAt, HasNoSeed, IsHeadOf, IsHeadRefusal};
 
 use crate::replay_faults::ReplayFault;
 use crate::trace_lines::bit_of;
@@ -32,7 +32,7 @@ pub(crate) struct Head<'a> {
 fn cut_line(text: &[u8]) -> Option<(&[u8], &[u8])>
     ensures { MatchOption result
         (Without 10 text.now)
-        (λ p. IsCut text.now p.0.now p.1.now) }
+        (λ p. BeginsWithLine text.now p.0.now p.1.now) }
 {
     let Some(place) = text.iter().position(|byte| *byte == b'\n') else {
         return None;

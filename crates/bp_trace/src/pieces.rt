@@ -1,9 +1,9 @@
 //! Writing the calls of a history by its pieces.
 ghost use Rattle.std.specs.Prelude.{None, flat_map};
 ghost use Rattle.bp_text.specs.Writing.{Writes};
-ghost use Rattle.bp_trace.specs.Pieces.{pieces_of, turn_of};
-ghost use Rattle.bp_trace.specs.TraceText.{piece_line, turn_text};
-ghost use Rattle.bp_trace.specs.TurnTexts.{line_start, opening, turn_behind, turns_behind};
+ghost use Rattle.bp_trace.specs.Pieces.{pieces_of, symbol_of};
+ghost use Rattle.bp_trace.specs.TraceText.{piece_line, symbol_text};
+ghost use Rattle.bp_trace.specs.SymbolTexts.{line_start, opening, symbol_behind, symbols_behind};
 
 use crate::traces::bit_digit;
 use bp_machine::Call;
@@ -38,21 +38,21 @@ fn write_opening<W: Write>(last: Option<u32>, thread: u32, out: &mut W) -> Resul
 }
 
 /// Writes a call behind one of this thread, or behind none.
-fn write_turn<W: Write>(last: Option<u32>, call: &Call, out: &mut W) -> Result<(), WriteFault>
-    ensures { Writes (W.contents out.old) (W.contents out.new) (turn_behind last call.now) result }
+fn write_symbol<W: Write>(last: Option<u32>, call: &Call, out: &mut W) -> Result<(), WriteFault>
+    ensures { Writes (W.contents out.old) (W.contents out.new) (symbol_behind last call.now) result }
 {
     write_opening(last, call.thread, out)?;
     put(out, &[bit_digit(call.bit), call.reply.letter()])
 }
 
 /// Writes the calls of a history without the end of the last line.
-fn write_turns<W: Write>(history: &[Call], out: &mut W) -> Result<(), WriteFault>
+fn write_symbols<W: Write>(history: &[Call], out: &mut W) -> Result<(), WriteFault>
     ensures { Writes (W.contents out.old) (W.contents out.new)
-        (turns_behind None history.now) result }
+        (symbols_behind None history.now) result }
 {
     let mut last = None;
     for call in history {
-        write_turn(last, call, out)?;
+        write_symbol(last, call, out)?;
         last = Some(call.thread);
     }
     Ok(())
@@ -66,6 +66,6 @@ pub(crate) fn write_pieces<W: Write>(history: &[Call], out: &mut W) -> Result<()
     if history.is_empty() {
         return Ok(());
     }
-    write_turns(history, out)?;
+    write_symbols(history, out)?;
     put(out, b"\n")
 }

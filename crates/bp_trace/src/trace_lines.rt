@@ -4,7 +4,7 @@ ghost use Rattle.bp_machine.specs.declared.limits.TheConstants.{MAX_THREADS};
 ghost use Rattle.bp_machine.specs.declared.calls.Reply.{Reply as Answer};
 ghost use Rattle.bp_machine.specs.Replies.{letter_of};
 ghost use Rattle.bp_trace.specs.Schedules.{bit_digit};
-ghost use Rattle.bp_trace.specs.TraceReading.{BeginsWithSpace, HasNoSpace, IsThreadAt, HasNoThread, IsTurnAt, HasNoTurn, IsCallAt, HasNoCall};
+ghost use Rattle.bp_trace.specs.TraceReading.{BeginsWithSpace, HasNoSpace, IsThreadAt, HasNoThread, IsTailAt, HasNoTail, IsCallAt, HasNoCall};
 
 use crate::schedules::{digit_count, number_at, text_from};
 use bp_machine::{Call, Reply};
@@ -74,8 +74,8 @@ pub(crate) fn thread_at(threads: u32, text: &[u8]) -> Option<u32>
 
 /// The bit and the reply that begin the text, with a space between them and a line feed behind
 /// them.
-fn turn_at(text: &[u8]) -> Option<(bool, Reply)>
-    ensures { MatchOption result (HasNoTurn text.now) (IsTurnAt text.now) }
+fn tail_at(text: &[u8]) -> Option<(bool, Reply)>
+    ensures { MatchOption result (HasNoTail text.now) (IsTailAt text.now) }
 {
     let (Some(digit), Some(letter)) = (text.first(), text.get(2)) else {
         return None;
@@ -97,7 +97,7 @@ pub(crate) fn call_at(threads: u32, text: &[u8]) -> Option<Call>
     let Some(thread) = thread_at(threads, text) else {
         return None;
     };
-    match turn_at(text_from(text, digit_count(thread) + 1)) {
+    match tail_at(text_from(text, digit_count(thread) + 1)) {
         None => None,
         Some((bit, reply)) => Some(Call { thread, bit, reply }),
     }

@@ -15,7 +15,7 @@ use Rattle.bp_trace.specs.declared.replay_faults.ReplayFault.TheVariants as faul
 use Rattle.bp_trace.specs.Replays.{IsPlayable}
 use Rattle.bp_view.specs.declared.views.ViewFault.{ViewFault}
 use Rattle.bp_view.specs.declared.views.ViewFault.TheVariants as view
-use Rattle.bp_view.specs.Views.{view_fault_of, IsCallRefusal, IsViewRefusal}
+use Rattle.bp_view.specs.Views.{view_fault_of, IsPlayRefusal, IsViewRefusal}
 use Rattle.bp_trace.proofs.LinesDriveAgain.{same_answer}
 use Rattle.bp_trace.proofs.PlayableFronts.{next_allowed, not_refused}
 
@@ -57,7 +57,7 @@ module _ (t : Program) (s : SetupOf) (h : List Call) (x : Call) where
         let reply = same_answer t s.contexts (configuration_after t s h) (granted_threads h) x.thread x.bit own.reply x.reply other (next_allowed t s h x g playable).answers in
         λ i. record { thread = next.thread i; bit = bit i; reply = reply i }
 
-  pub refusal_is : (f : AskFault) → IsAskRefusal t s h x.thread (given_bit s x.bit) f → IsCallRefusal t s h x (view_fault_of f)
+  pub refusal_is : (f : AskFault) → IsAskRefusal t s h x.thread (given_bit s x.bit) f → IsPlayRefusal t s h x (view_fault_of f)
   refusal_is Memory r = tt
   refusal_is NoThread r = λ g playable. is_asked g playable NoThread r (λ e. cc)
   refusal_is Finished r = λ g playable. is_asked g playable Finished r (λ e. cc)
@@ -67,7 +67,7 @@ module _ (t : Program) (s : SetupOf) (h : List Call) (x : Call) where
 
 -- so a history with a call that is refused may not be played
 pub history_refused : (t : Program) (s : SetupOf) (calls : List Call) (n : ℕ) (d : Call) (f : ViewFault)
-    → n < length calls → IsCallRefusal t s (take n calls) (get_or calls n d) f → IsViewRefusal t s calls f
+    → n < length calls → IsPlayRefusal t s (take n calls) (get_or calls n d) f → IsViewRefusal t s calls f
 history_refused t s calls n d view.Memory within r = tt
 history_refused t s calls n d view.Foreign within r = λ playable.
     let whole : calls ≡ take n calls ++ get_or calls n d ∷ drop (suc n) calls =

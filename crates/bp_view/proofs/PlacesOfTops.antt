@@ -4,7 +4,7 @@ use Rattle.std.specs.Prelude.{option_map, IfSome, MatchOption}
 use Rattle.std.proofs.lemmas.Option.{slice_get-map, slice_get_past, slice_get-get_or}
 use Rattle.bp_tree.specs.Ast.{Program}
 use Rattle.bp_code.specs.Configurations.{Frame, Configuration}
-use Rattle.bp_code.specs.Starts.{start_of, starts_of}
+use Rattle.bp_code.specs.Starts.{start_of_block, starts_of}
 use Rattle.bp_code.specs.StandsFor.{places_of, place}
 use Rattle.bp_machine.specs.declared.tops.Top.{Top}
 use Rattle.bp_machine.specs.Answers.{stack_of}
@@ -23,6 +23,6 @@ got_scene (Some x) scenes n e h = let within : n < length scenes = grind arith i
 module _ (t : Program) (text : List ℕ) (c : Configuration) (i : ℕ) (scenes : List Scene) (are : AreScenes text (starts_of t) scenes) where
   pub place_of_top : (x : Top) → IsTop t c i x → place_of_scene (slice_get scenes x.number) ≡ place_text text (start_on_stack (stack_of c i))
   place_of_top x is =
-      let start : slice_get (starts_of t) x.number ≡ Some (start_of is.frame.left) =
-      slice_get-map (λ p. start_of p.left) (places_of t.procedures) x.number ∙ ap (option_map (λ p. start_of p.left)) is.next in
-      place_at text (starts_of t) scenes x.number (start_of is.frame.left) are start ∙ ap (λ s. place_text text (start_on_stack s)) (sym is.stack)
+      let start : slice_get (starts_of t) x.number ≡ Some (start_of_block is.frame.left) =
+      slice_get-map (λ p. start_of_block p.left) (places_of t.procedures) x.number ∙ ap (option_map (λ p. start_of_block p.left)) is.next in
+      place_at text (starts_of t) scenes x.number (start_of_block is.frame.left) are start ∙ ap (λ s. place_text text (start_on_stack s)) (sym is.stack)

@@ -1,7 +1,7 @@
 -- The line of a call.
 use Rattle.std.specs.Prelude.{if◌then◌else◌, ◌≡◌, ◌==◌, not, ◌&&◌, ℕ, suc, Bool, false, List, [], ◌∷◌, ◌++◌, Option, None, Some, MatchOption, length, codes, decimal}
 use Rattle.bp_tree.specs.Ast.{Program}
-use Rattle.bp_code.specs.Starts.{start_of}
+use Rattle.bp_code.specs.Starts.{start_of_block}
 use Rattle.bp_code.specs.Configurations.{Frame}
 use Rattle.bp_machine.specs.declared.calls.Call.{Call}
 use Rattle.bp_machine.specs.declared.calls.Reply.{Reply}
@@ -114,7 +114,7 @@ pub record AddsLine (w : Widths) (coloured : Bool) (f : Fields) (r : Reply) (old
 -- thread i has a statement that comes next
 abbrev pub start_on_stack : List Frame → Option ℕ
 start_on_stack [] = None
-start_on_stack (f ∷ fs) = start_of f.left
+start_on_stack (f ∷ fs) = start_of_block f.left
 
 -- the step is one of another thread than the last
 abbrev pub is_other : Option ℕ → ℕ → Bool

@@ -30,18 +30,18 @@ is_shown o count n i = is_of_thread o.thread i && is_late o.last count n
 module _
     (t : Program) (text : List ℕ) (s : SetupOf) (o : ViewOptions) (w : Widths) (count : ℕ) where
   -- the line of the call x after the history h
-  pub record IsCallLine (h : List Call) (x : Call) (line : List ℕ) : Type 0 where
+  pub record IsViewLine (h : List Call) (x : Call) (line : List ℕ) : Type 0 where
     pub fields : Fields
     pub fields_are : AreFields t text s h x fields
     pub is : IsLineWith w o.has_colour fields x.reply line
 
   -- that line where it is shown, else nothing
-  abbrev pub IsCallLineIf : Bool → List Call → Call → List ℕ → Type 0
-  IsCallLineIf true h x line = IsCallLine h x line
-  IsCallLineIf false h x line = line ≡ []
+  abbrev pub IsViewLineIf : Bool → List Call → Call → List ℕ → Type 0
+  IsViewLineIf true h x line = IsViewLine h x line
+  IsViewLineIf false h x line = line ≡ []
 
   abbrev pub IsShownLine : List Call → Call → List ℕ → Type 0
-  IsShownLine h x line = IsCallLineIf (is_shown o count (suc (length h)) x.thread) h x line
+  IsShownLine h x line = IsViewLineIf (is_shown o count (suc (length h)) x.thread) h x line
 
   pub record AddsShown (h : List Call) (x : Call) (old new : List ℕ) : Type 0 where
     pub line : List ℕ
@@ -81,9 +81,9 @@ view_fault_of ask.Memory = Memory
 view_fault_of f = Foreign
 
 -- why the call x is no line behind the history h: no history that begins so may be played
-abbrev pub IsCallRefusal : Program → SetupOf → List Call → Call → ViewFault → Type 0
-IsCallRefusal t s h x Foreign = (behind : List Call) → IsPlayable t s (h ++ x ∷ behind) → ⊥
-IsCallRefusal t s h x Memory = Unit {0}
+abbrev pub IsPlayRefusal : Program → SetupOf → List Call → Call → ViewFault → Type 0
+IsPlayRefusal t s h x Foreign = (behind : List Call) → IsPlayable t s (h ++ x ∷ behind) → ⊥
+IsPlayRefusal t s h x Memory = Unit {0}
 
 -- why there is no view: the program's machine does not play the history
 abbrev pub IsViewRefusal : Program → SetupOf → List Call → ViewFault → Type 0

@@ -2,7 +2,7 @@
 ghost use Rattle.std.specs.Prelude.{◌≤◌, ◌<◌, length, IfOk, OnOk, MatchOption};
 ghost use Rattle.bp_text.specs.OneLine.{AddsOneLine, IsOneLine};
 
-use bp_syntax::{LexemeKind, Piece, take_piece};
+use bp_syntax::{Lexeme, LexemeKind, take_lexeme};
 use bp_text::push_on_one_line;
 use std::alloc::{AllocError, Global};
 
@@ -12,7 +12,7 @@ pub(crate) const MAX_EXCERPT: usize = 60;
 /// What ends an excerpt that was cut.
 const CUT: &[u8] = b"..";
 
-/// What a piece is to an excerpt.
+/// What a lexeme is to an excerpt.
 #[derive(Clone, Copy, Debug, PartialEq, Eq)]
 pub(crate) enum Role {
     /// White or a comment.
@@ -24,15 +24,15 @@ pub(crate) enum Role {
     Symbol,
 }
 
-/// What a piece is to an excerpt: `;` and two reserved words end a statement's own text.
-pub(crate) fn role_of(piece: Piece<'_>) -> Role {
-    if piece.is_gap() {
+/// What a lexeme is to an excerpt: `;` and two reserved words end a statement's own text.
+pub(crate) fn role_of(lexeme: Lexeme<'_>) -> Role {
+    if lexeme.is_gap() {
         return Role::Gap;
     }
-    if matches!(piece.text, b";" | b"then" | b"do") {
+    if matches!(lexeme.text, b";" | b"then" | b"do") {
         return Role::End;
     }
-    match piece.kind {
+    match lexeme.kind {
         Some(LexemeKind::Identifier | LexemeKind::Braced) => Role::Word,
         _ => Role::Symbol,
     }
@@ -45,8 +45,8 @@ pub(crate) struct Excerpt {
     pub(crate) reads_choice: bool,
 }
 
-/// Adds a piece, after a space where there was a gap.
-fn push_piece(words: &mut Vec<u8>, had_gap: bool, bytes: &[u8]) -> Result<(), AllocError>
+/// Adds a lexeme, after a space where there was a gap.
+fn push_lexeme(words: &mut Vec<u8>, had_gap: bool, bytes: &[u8]) -> Result<(), AllocError>
     ensures { OnOk result (AddsOneLine words.old.items words.new.items) }
 {
     push_on_one_line(words, if had_gap { b" " } else { b"" })?;
@@ -54,12 +54,12 @@ fn push_piece(words: &mut Vec<u8>, had_gap: bool, bytes: &[u8]) -> Result<(), Al
     Ok(())
 }
 
-/// Adds a piece, but for a gap.
-fn keep_piece(words: &mut Vec<u8>, piece: Piece<'_>, had_gap: bool) -> Result<(), AllocError>
+/// Adds a lexeme, but for a gap.
+fn keep_lexeme(words: &mut Vec<u8>, lexeme: Lexeme<'_>, had_gap: bool) -> Result<(), AllocError>
     ensures { OnOk result (AddsOneLine words.old.items words.new.items) }
 {
-    if !piece.is_gap() {
-        push_piece(words, had_gap, piece.text)?;
+    if !lexeme.is_gap() {
+        push_lexeme(words, had_gap, lexeme.text)?;
     }
     Ok(())
 }
@@ -85,13 +85,13 @@ pub(crate) fn excerpt_of(alloc: Global, text: &[u8]) -> Result<Excerpt, AllocErr
     let mut reads_choice = false;
     let mut had_gap = false;
     let mut rest = text;
-    while let Some(piece) = take_piece(&mut rest) {
-        if role_of(piece) == Role::End {
+    while let Some(lexeme) = take_lexeme(&mut rest) {
+        if role_of(lexeme) == Role::End {
             break;
         }
-        keep_piece(&mut words, piece, had_gap)?;
-        had_gap = piece.is_gap();
-        reads_choice |= piece.text == b"?".as_slice();
+        keep_lexeme(&mut words, lexeme, had_gap)?;
+        had_gap = lexeme.is_gap();
+        reads_choice |= lexeme.text == b"?".as_slice();
     }
     cut(&mut words)?;
     Ok(Excerpt {

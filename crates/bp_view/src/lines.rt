@@ -33,7 +33,7 @@ pub(crate) struct Widths {
 
 /// What a view shows its calls of.
 #[derive(Clone, Copy)]
-pub(crate) struct Stage<'a> {
+pub(crate) struct Setting<'a> {
     pub(crate) scenes: &'a [Scene],
     pub(crate) globals: &'a [Name],
     pub(crate) procs: &'a [Proc],
@@ -84,10 +84,10 @@ fn colour_of(moment: &Moment) -> &'static [u8] {
 }
 
 /// What begins and what ends the line of a call, in colour where that is wanted.
-fn colours_of(stage: &Stage<'_>, moment: &Moment) -> (&'static [u8], &'static [u8])
-    ensures { stage.now.options.has_colour ≡ false → (result.0.now ≡ []) × (result.1.now ≡ []) }
+fn colours_of(setting: &Setting<'_>, moment: &Moment) -> (&'static [u8], &'static [u8])
+    ensures { setting.now.options.has_colour ≡ false → (result.0.now ≡ []) × (result.1.now ≡ []) }
 {
-    if !stage.options.has_colour {
+    if !setting.options.has_colour {
         return (b"", b"");
     }
     let colour = colour_of(moment);
@@ -177,15 +177,19 @@ fn push_choice(note: &mut Vec<u8>, scene: Option<&Scene>, call: &Call) -> Result
 }
 
 /// Adds the variables that a call changed.
-fn push_changed(note: &mut Vec<u8>, stage: &Stage<'_>, moment: &Moment) -> Result<(), AllocError>
+fn push_changed(
+    note: &mut Vec<u8>,
+    setting: &Setting<'_>,
+    moment: &Moment,
+) -> Result<(), AllocError>
     ensures { OnOk result (AddsOneLine note.old.items note.new.items) }
 {
     if let (Some(before), Some(after)) = (moment.before, moment.after) {
         push_changes(
             note,
-            stage.scenes,
-            stage.globals,
-            stage.procs,
+            setting.scenes,
+            setting.globals,
+            setting.procs,
             before,
             after,
         )?;
@@ -197,7 +201,7 @@ fn push_changed(note: &mut Vec<u8>, stage: &Stage<'_>, moment: &Moment) -> Resul
 /// the variables that the step changed.
 fn write_note(
     note: &mut Vec<u8>,
-    stage: &Stage<'_>,
+    setting: &Setting<'_>,
     scene: Option<&Scene>,
     moment: &Moment,
 ) -> Result<(), AllocError>
@@ -206,7 +210,7 @@ fn write_note(
     note.clear();
     push_choice(note, scene, &moment.call)?;
     push_bytes(note, reply_words(moment.call.reply))?;
-    push_changed(note, stage, moment)?;
+    push_changed(note, setting, moment)?;
     Ok(())
 }
 
@@ -236,7 +240,7 @@ fn place_of<'a>(scene: Option<&'a Scene>) -> &'a [u8]
 fn push_call(
     line: &mut Vec<u8>,
     note: &mut Vec<u8>,
-    stage: &Stage<'_>,
+    setting: &Setting<'_>,
     scene: Option<&Scene>,
     moment: &Moment,
 ) -> Result<(), AllocError>
@@ -244,11 +248,11 @@ fn push_call(
     ensures { let place = place_of_scene (option_map (λ s. s.now) scene.entry) in
         let fields = fields_of moment.now place in
         OnOk result
-        (AddsCall stage.now.widths fields moment.now.call.reply line.old.items line.new.items) }
+        (AddsCall setting.now.widths fields moment.now.call.reply line.old.items line.new.items) }
 {
-    write_note(note, stage, scene, moment)?;
-    push_fields(line, stage.widths, moment, place_of(scene))?;
-    let size = line.len().saturating_add(stage.widths.words);
+    write_note(note, setting, scene, moment)?;
+    push_fields(line, setting.widths, moment, place_of(scene))?;
+    let size = line.len().saturating_add(setting.widths.words);
     push_scene(line, scene, moment.before)?;
     push_note(line, size, note)?;
     Ok(())
@@ -259,7 +263,7 @@ fn push_call(
 pub(crate) fn push_line(
     line: &mut Vec<u8>,
     note: &mut Vec<u8>,
-    stage: &Stage<'_>,
+    setting: &Setting<'_>,
     scene: Option<&Scene>,
     moment: &Moment,
 ) -> Result<(), AllocError>
@@ -267,13 +271,13 @@ pub(crate) fn push_line(
     ensures { let place = place_of_scene (option_map (λ s. s.now) scene.entry) in
         let fields = fields_of moment.now place in
         let reply = moment.now.call.reply in
-        let coloured = stage.now.options.has_colour in
+        let coloured = setting.now.options.has_colour in
         OnOk result
-        (AddsLine stage.now.widths coloured fields reply line.old.items line.new.items) }
+        (AddsLine setting.now.widths coloured fields reply line.old.items line.new.items) }
 {
-    let (opening, closing) = colours_of(stage, moment);
+    let (opening, closing) = colours_of(setting, moment);
     push_bytes(line, opening)?;
-    push_call(line, note, stage, scene, moment)?;
+    push_call(line, note, setting, scene, moment)?;
     push_bytes(line, closing)?;
     push_bytes(line, b"\n")?;
     Ok(())

@@ -1,10 +1,10 @@
 //! The end of a view: what the history comes to.
 use crate::changes::procedure_at;
 use crate::excerpts::{Role, role_of};
-use crate::lines::Stage;
+use crate::lines::Setting;
 use crate::variables::push_variable;
 use bp_machine::{Outcome, Session, Top};
-use bp_syntax::take_piece;
+use bp_syntax::take_lexeme;
 use itoa::Buffer;
 use std::alloc::{AllocError, Global};
 
@@ -18,21 +18,21 @@ fn push_count(view: &mut Vec<u8>, word: &[u8], count: u64) -> Result<(), AllocEr
 /// Adds the values of the variables of the statement with which the text begins.
 fn push_variables(
     view: &mut Vec<u8>,
-    stage: &Stage<'_>,
+    setting: &Setting<'_>,
     text: &[u8],
     top: Top,
 ) -> Result<(), AllocError> {
-    let Some(proc) = procedure_at(stage.scenes, stage.procs, top.number) else {
+    let Some(proc) = procedure_at(setting.scenes, setting.procs, top.number) else {
         return Ok(());
     };
     let mut rest = text;
-    while let Some(piece) = take_piece(&mut rest) {
-        let role = role_of(piece);
+    while let Some(lexeme) = take_lexeme(&mut rest) {
+        let role = role_of(lexeme);
         if role == Role::End {
             break;
         }
         if role == Role::Word {
-            push_variable(view, stage.globals, proc, top.store, piece.text)?;
+            push_variable(view, setting.globals, proc, top.store, lexeme.text)?;
         }
     }
     Ok(())
@@ -41,11 +41,11 @@ fn push_variables(
 /// Adds the statement that failed, its place and the values of its variables.
 fn push_failure(
     view: &mut Vec<u8>,
-    stage: &Stage<'_>,
+    setting: &Setting<'_>,
     text: &[u8],
     top: Top,
 ) -> Result<(), AllocError> {
-    let Some(scene) = stage.scenes.get(top.number as usize) else {
+    let Some(scene) = setting.scenes.get(top.number as usize) else {
         return Ok(());
     };
     view.extend_from_slice(b" at ")?;
@@ -57,7 +57,7 @@ fn push_failure(
     };
     let statement = text.get(start as usize..).unwrap_or(&[]);
     let mut values = Vec::new(*view.allocator());
-    push_variables(&mut values, stage, statement, top)?;
+    push_variables(&mut values, setting, statement, top)?;
     if !values.is_empty() {
         view.extend_from_slice(b"\nvalues")?;
         view.extend_from_slice(&values)?;
@@ -68,7 +68,7 @@ fn push_failure(
 /// Adds the outcome; that of a failed assertion with its statement.
 fn push_outcome(
     view: &mut Vec<u8>,
-    stage: &Stage<'_>,
+    setting: &Setting<'_>,
     text: &[u8],
     session: &Session,
     outcome: Outcome,
@@ -79,7 +79,7 @@ fn push_outcome(
             push_count(view, b"an assertion of thread ", u64::from(thread))?;
             view.extend_from_slice(b" failed")?;
             if let Some(top) = session.top(thread) {
-                push_failure(view, stage, text, top)?;
+                push_failure(view, setting, text, top)?;
             }
             Ok(())
         }
@@ -89,7 +89,7 @@ fn push_outcome(
 /// What the history comes to, behind an empty line.
 pub(crate) fn foot_of(
     alloc: Global,
-    stage: &Stage<'_>,
+    setting: &Setting<'_>,
     text: &[u8],
     session: &Session,
 ) -> Result<Vec<u8>, AllocError> {
@@ -99,7 +99,7 @@ pub(crate) fn foot_of(
     push_count(&mut foot, b" calls, contexts ", u64::from(report.contexts))?;
     push_count(&mut foot, b", open threads ", u64::from(report.left_open))?;
     foot.push(b'\n')?;
-    push_outcome(&mut foot, stage, text, session, report.outcome)?;
+    push_outcome(&mut foot, setting, text, session, report.outcome)?;
     foot.push(b'\n')?;
     Ok(foot)
 }

@@ -7,7 +7,7 @@ ghost use Rattle.bp_view.specs.Scenes.{AreScenes, IsScene};
 
 use crate::excerpts::{Excerpt, excerpt_of};
 use bp_check::Checked;
-use bp_code::places;
+use bp_code::statement_starts;
 use bp_text::{FIRST, Position, position_from, push_bytes, push_on_one_line};
 use bp_tree::Proc;
 use itoa::Buffer;
@@ -94,7 +94,7 @@ pub(crate) fn scenes_of(
     ensures { IfOk result (λ v. AreScenes text.now (starts_of checked.now) v.items) }
 {
     let procs = checked.tree().procs();
-    let starts = places(alloc, checked)?;
+    let starts = statement_starts(alloc, checked)?;
     let mut scenes = Vec::new(alloc);
     let mut at = 0;
     let mut position = FIRST;

@@ -16,10 +16,10 @@ ghost use Rattle.bp_machine.specs.Tops.{IsTop};
 ghost use Rattle.bp_view.specs.Lines.{is_other, start_on_stack, IsMomentOf};
 ghost use Rattle.bp_view.specs.Places.{place_text};
 ghost use Rattle.bp_view.specs.Scenes.{place_of_scene, AreOnOneLine, AreScenes, IsOnOneLine};
-ghost use Rattle.bp_view.specs.Views.{view_fault_of, AddsLines, AddsShown, IsCallRefusal, IsView, IsViewRefusal};
+ghost use Rattle.bp_view.specs.Views.{view_fault_of, AddsLines, AddsShown, IsPlayRefusal, IsView, IsViewRefusal};
 
 use crate::heads::head_of;
-use crate::lines::{MAX_INDENTS, Moment, Stage, Widths, push_line};
+use crate::lines::{MAX_INDENTS, Moment, Setting, Widths, push_line};
 use crate::options::ViewOptions;
 use crate::outcomes::foot_of;
 use crate::scenes::{Scene, scenes_of};
@@ -98,7 +98,7 @@ fn make(session: &mut Session, call: &Call) -> Result<(), ViewFault>
     ensures refused { (t : Program) (h : List Answered)
         → StandsFor session.old.code t
         → Stands t session.old h
-        → IfErr result (IsCallRefusal t session.old.setup h call.now) }
+        → IfErr result (IsPlayRefusal t session.old.setup h call.now) }
 {
     match session.prepare_as_recorded(call.thread, call.bit) {
         Ok(own) => {
@@ -166,7 +166,7 @@ fn moment_of(
     ensures refused { (t : Program) (h : List Answered)
         → StandsFor session.old.code t
         → Stands t session.old h
-        → IfErr result (IsCallRefusal t session.old.setup h call.now) }
+        → IfErr result (IsPlayRefusal t session.old.setup h call.now) }
 {
     let before = session.top(call.thread);
     make(session, call)?;
@@ -211,25 +211,25 @@ fn last_step(last: Option<u32>, call: &Call) -> Option<u32>
 fn push_shown(
     view: &mut Vec<u8>,
     note: &mut Vec<u8>,
-    stage: &Stage<'_>,
+    setting: &Setting<'_>,
     moment: &Moment,
 ) -> Result<(), AllocError>
-    requires { AreOnOneLine stage.now.scenes.now }
+    requires { AreOnOneLine setting.now.scenes.now }
     ensures { (t : Program) (text : List ℕ) (s : SetupOf) (h : List Answered) (x : Answered)
-        → AreScenes text (starts_of t) stage.now.scenes.now
+        → AreScenes text (starts_of t) setting.now.scenes.now
         → IsMomentOf t s h x moment.now
-        → let options = stage.now.options in
-        let w = stage.now.widths in
-        let count = stage.now.count in
+        → let options = setting.now.options in
+        let w = setting.now.widths in
+        let count = setting.now.count in
         OnOk result
         (AddsShown t text s options w count h x view.old.items view.new.items) }
 {
-    if stage
+    if setting
         .options
-        .shows(moment.call.thread, moment.number, stage.count)
+        .shows(moment.call.thread, moment.number, setting.count)
     {
-        let scene = scene_of(stage.scenes, moment.before);
-        push_line(view, note, stage, scene, moment)?;
+        let scene = scene_of(setting.scenes, moment.before);
+        push_line(view, note, setting, scene, moment)?;
     }
     Ok(())
 }
@@ -237,11 +237,11 @@ fn push_shown(
 /// Adds the lines of the calls that are shown.
 fn push_calls(
     view: &mut Vec<u8>,
-    stage: &Stage<'_>,
+    setting: &Setting<'_>,
     session: &mut Session,
     history: &[Call],
 ) -> Result<(), ViewFault>
-    requires { AreOnOneLine stage.now.scenes.now }
+    requires { AreOnOneLine setting.now.scenes.now }
     ensures kept { OnOk result
         ((session.new.code ≡ session.old.code) × (session.new.setup ≡ session.old.setup)) }
     ensures stands { (t : Program)
@@ -251,11 +251,11 @@ fn push_calls(
     ensures lines { (t : Program) (text : List ℕ)
         → StandsFor session.old.code t
         → Stands t session.old []
-        → AreScenes text (starts_of t) stage.now.scenes.now
+        → AreScenes text (starts_of t) setting.now.scenes.now
         → let s = session.old.setup in
-        let options = stage.now.options in
-        let w = stage.now.widths in
-        let count = stage.now.count in
+        let options = setting.now.options in
+        let w = setting.now.widths in
+        let count = setting.now.count in
         OnOk result (AddsLines t text s options w count history.now view.old.items view.new.items) }
     ensures refused { (t : Program)
         → StandsFor session.old.code t
@@ -266,26 +266,26 @@ fn push_calls(
     let mut last = None;
     for (n, call) in history.iter().enumerate() {
         let moment = moment_of(session, last, n as u64 + 1, call)?;
-        push_shown(view, &mut note, stage, &moment)?;
+        push_shown(view, &mut note, setting, &moment)?;
         last = last_step(last, call);
     }
     Ok(())
 }
 
-/// The stage of a view.
-fn stage_of<'a>(
+/// The setting of a view.
+fn setting_of<'a>(
     scenes: &'a [Scene],
     checked: &'a Checked,
     setup: &Setup,
     count: usize,
     options: ViewOptions,
-) -> Stage<'a>
+) -> Setting<'a>
     ensures scenes { result.scenes.now ≡ scenes.now }
     ensures count { result.count ≡ count }
     ensures options { result.options ≡ options }
 {
     let tree = checked.tree();
-    Stage {
+    Setting {
         scenes,
         globals: tree.globals(),
         procs: tree.procs(),
@@ -315,10 +315,10 @@ pub fn view(
 {
     let scenes = scenes_of(alloc, text, checked)?;
     let mut session = Session::new(alloc, code, setup)?;
-    let stage = stage_of(scenes.as_slice(), checked, setup, history.len(), options);
-    let mut view = head_of(alloc, setup, stage.globals)?;
-    push_calls(&mut view, &stage, &mut session, history)?;
-    let foot = foot_of(alloc, &stage, text, &session)?;
+    let setting = setting_of(scenes.as_slice(), checked, setup, history.len(), options);
+    let mut view = head_of(alloc, setup, setting.globals)?;
+    push_calls(&mut view, &setting, &mut session, history)?;
+    let foot = foot_of(alloc, &setting, text, &session)?;
     push_bytes(&mut view, &foot)?;
     Ok(view)
 }

@@ -147,20 +147,20 @@ IsOurs None = Unit {0}
 IsOurs (Some command) = IsNamed command.0
 
 -- what the command of this name asks for, with its arguments; a bundle is asked for without one
-abbrev pub IsAsked : Text → List Row → Task → Type 0
-IsAsked name rows Bundle = ⊥
-IsAsked name rows (Check words) = (name ≡ codes "check") × IsFileWordsOf rows words
-IsAsked name rows (Code words) = (name ≡ codes "code") × IsFileWordsOf rows words
-IsAsked name rows (Drive words) = (name ≡ codes "drive") × IsDriveOf rows words
-IsAsked name rows (Run words) = (name ≡ codes "run") × IsRunOf rows words
-IsAsked name rows (Replay words) = (name ≡ codes "replay") × IsTraceWordsOf rows words
-IsAsked name rows (Show words) = (name ≡ codes "show") × IsShowOf rows words
-IsAsked name rows (Migrate words) = (name ≡ codes "migrate") × IsTraceWordsOf rows words
+abbrev pub IsTaskOfCommand : Text → List Row → Task → Type 0
+IsTaskOfCommand name rows Bundle = ⊥
+IsTaskOfCommand name rows (Check words) = (name ≡ codes "check") × IsFileWordsOf rows words
+IsTaskOfCommand name rows (Code words) = (name ≡ codes "code") × IsFileWordsOf rows words
+IsTaskOfCommand name rows (Drive words) = (name ≡ codes "drive") × IsDriveOf rows words
+IsTaskOfCommand name rows (Run words) = (name ≡ codes "run") × IsRunOf rows words
+IsTaskOfCommand name rows (Replay words) = (name ≡ codes "replay") × IsTraceWordsOf rows words
+IsTaskOfCommand name rows (Show words) = (name ≡ codes "show") × IsShowOf rows words
+IsTaskOfCommand name rows (Migrate words) = (name ≡ codes "migrate") × IsTraceWordsOf rows words
 
 -- what the words ask for, by the command that they name
 abbrev pub IsTaskOf : Option (Text × List Row) → Task → Type 0
 IsTaskOf None task = task ≡ Bundle
-IsTaskOf (Some command) task = IsAsked command.0 command.1 task
+IsTaskOf (Some command) task = IsTaskOfCommand command.0 command.1 task
 
 -- why words are refused: as `clap` says, or else for their initial bits
 abbrev pub words_fault : List Text → Kinds

@@ -1,7 +1,7 @@
 use Rattle.std.proofs.Common.{sym, ◌∙◌, append-nil}
 use Rattle.bp_code.proofs.ListItems.{dropped_all}
 use Rattle.bp_code.proofs.StartsOfPlaces.{procs_more}
-use Rattle.bp_code.proofs.starts.places.Goals as goal
+use Rattle.bp_code.proofs.starts.statement_starts.Goals as goal
 
 pub loop-proc-preserved : goal.loop-proc-preserved
 loop-proc-preserved c =

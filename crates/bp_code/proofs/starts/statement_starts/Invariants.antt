@@ -1,7 +1,7 @@
 use Rattle.std.proofs.Common.{◌≡◌, ◌++◌, drop}
 use Rattle.bp_code.specs.StandsFor.{places_of}
 use Rattle.bp_code.proofs.StartsOfPlaces.{starts}
-use Rattle.bp_code.proofs.starts.places.Given as goal
+use Rattle.bp_code.proofs.starts.statement_starts.Given as goal
 
 abbrev pub invariant-loop-proc : goal.invariant-loop-proc
 invariant-loop-proc l =

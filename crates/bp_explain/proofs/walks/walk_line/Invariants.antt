@@ -1,5 +1,5 @@
 use Rattle.std.proofs.Common.{length}
 use Rattle.bp_explain.proofs.walks.walk_line.Given as goal
 
-abbrev pub decreases-loop-turn : goal.decreases-loop-turn
-decreases-loop-turn l = length l.rest
+abbrev pub decreases-loop-symbol : goal.decreases-loop-symbol
+decreases-loop-symbol l = length l.rest

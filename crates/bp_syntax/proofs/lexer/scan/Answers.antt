@@ -3,9 +3,9 @@ use Rattle.std.proofs.lemmas.Bool.{eqb-true}
 use Rattle.bp_syntax.specs.Cut.{with_token}
 use Rattle.bp_syntax.specs.Tokens.{kind_of}
 use Rattle.bp_syntax.specs.Views.{token_list}
-use Rattle.bp_syntax.proofs.ScanContinues.{piece_taken, brace_taken, all_scanned, open_there, bad_here}
+use Rattle.bp_syntax.proofs.ScanContinues.{lexeme_taken, brace_taken, all_scanned, open_there, bad_here}
 use Rattle.bp_syntax.proofs.lexer.scan.Goals as goal
-use Rattle.bp_syntax.proofs.lexer.scan.Goals.{in-Piece+in_ok-push_token-in-Piece, in-OpenBrace}
+use Rattle.bp_syntax.proofs.lexer.scan.Goals.{in-Fits+in_ok-push_token-in-Fits, in-OpenBrace}
 
 pub returns-in-BadByte : goal.returns-in-BadByte
 returns-in-BadByte c =
@@ -21,10 +21,10 @@ loop-rest-preserved c =
     let left = c.split_at-in-loop-rest.ensures.back in
     let fewer = c.saturating_sub-nameless.ensures in
     elim c.match-first_lexeme.branch [
-      | in-Piece+in_ok-push_token-in-Piece w ↦
-          let k = w.in-Piece.kind in
-          let us = ap (λ v. token_list v.items) w.tokens-is ∙ w.in_ok-push_token-in-Piece.ensures ∙ ap (λ s. ts ++ with_token (kind_of k s) at s []) w.split_at.ensures.front in
-          piece_taken text at rest _ ts _ c.loop-rest.first_open _ k w.in-Piece.len _ c.loop-rest.nameless _ _ c.loop-rest.invariant w.in-Piece.ensures w.len-is w.first_open-is w.nameless-is left us fewer
+      | in-Fits+in_ok-push_token-in-Fits w ↦
+          let k = w.in-Fits.kind in
+          let us = ap (λ v. token_list v.items) w.tokens-is ∙ w.in_ok-push_token-in-Fits.ensures ∙ ap (λ s. ts ++ with_token (kind_of k s) at s []) w.split_at.ensures.front in
+          lexeme_taken text at rest _ ts _ c.loop-rest.first_open _ k w.in-Fits.len _ c.loop-rest.nameless _ _ c.loop-rest.invariant w.in-Fits.ensures w.len-is w.first_open-is w.nameless-is left us fewer
       | in-OpenBrace w ↦
           brace_taken text at rest _ ts _ c.loop-rest.first_open _ w.in-OpenBrace.count _ _ _ c.loop-rest.invariant.0 w.in-OpenBrace.ensures w.len-is (w.first_open-is ∙ w.or-first_open.ensures) w.nameless-is left (ap (λ v. token_list v.items) w.tokens-is) fewer
     ]

@@ -9,18 +9,18 @@ returns-then-eq c = no_piece_of_last c.args.threads c.args.last c.args.text.now 
 
 pub returns-then-has_byte : goal.returns-then-has_byte
 returns-then-has_byte c =
-    let read = rw (c.requires.empty, c.text_from-turns.ensures, c.digit_count.ensures.value) at c.in_ok-size.ensures in
-    let ended = rw (c.text_from-turns.ensures, c.digit_count.ensures.value) at (c.has_byte.ensures.0 c.if-has_byte.true) in
+    let read = rw (c.requires.empty, c.text_from-symbols.ensures, c.digit_count.ensures.value) at c.in_ok-size.ensures in
+    let ended = rw (c.text_from-symbols.ensures, c.digit_count.ensures.value) at (c.has_byte.ensures.0 c.if-has_byte.true) in
     let other : c.args.last ≢ Some c.in-Some.thread = search rules in
-    rw c.digit_count-then-has_byte.ensures.value (has_piece c.args.threads c.args.last c.args.text.now c.requires.few c.in-Some.thread c.in-Some.ensures c.read_turns.new.calls.items c.in_ok-size.size read other c.if-size-gt0.true ended)
+    rw c.digit_count-then-has_byte.ensures.value (has_piece c.args.threads c.args.last c.args.text.now c.requires.few c.in-Some.thread c.in-Some.ensures c.read_symbols.new.calls.items c.in_ok-size.size read other c.if-size-gt0.true ended)
 
 pub returns-else-size-gt0 : goal.returns-else-size-gt0
 returns-else-size-gt0 c =
-    let read = rw (c.requires.empty, c.text_from-turns.ensures, c.digit_count.ensures.value) at c.in_ok-size.ensures in
-    no_piece c.args.threads c.args.last c.args.text.now c.requires.few c.in-Some.thread c.in-Some.ensures c.read_turns.new.calls.items c.in_ok-size.size read
+    let read = rw (c.requires.empty, c.text_from-symbols.ensures, c.digit_count.ensures.value) at c.in_ok-size.ensures in
+    no_piece c.args.threads c.args.last c.args.text.now c.requires.few c.in-Some.thread c.in-Some.ensures c.read_symbols.new.calls.items c.in_ok-size.size read
     (λ some ended. elim c.else-size-gt0.branch [
       | else-size-gt0-via-then-size-gt0+else-has_byte w ↦
-          let has = rw (c.text_from-turns.ensures, c.digit_count.ensures.value) at w.has_byte.ensures in
+          let has = rw (c.text_from-symbols.ensures, c.digit_count.ensures.value) at w.has_byte.ensures in
           false≢true (sym w.if-has_byte.false ∙ has.1 ended)
       | else-size-gt0-via-else-size-gt0 w ↦ absurd (omega (arith, some, w.if-size-gt0.false))
     ])

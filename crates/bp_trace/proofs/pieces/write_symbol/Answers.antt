@@ -1,10 +1,10 @@
-use Rattle.bp_trace.specs.Pieces.{turn_of}
-use Rattle.bp_trace.specs.TraceText.{turn_text}
-use Rattle.bp_trace.specs.TurnTexts.{opening}
+use Rattle.bp_trace.specs.Pieces.{symbol_of}
+use Rattle.bp_trace.specs.TraceText.{symbol_text}
+use Rattle.bp_trace.specs.SymbolTexts.{opening}
 use Rattle.bp_text.proofs.Appends.{writes_then}
-use Rattle.bp_trace.proofs.pieces.write_turn.Goals as goal
+use Rattle.bp_trace.proofs.pieces.write_symbol.Goals as goal
 
 pub returns : goal.returns
 returns g c =
-    let turn = rw (c.bit_digit.ensures, c.letter.ensures) at c.put.ensures in
-    writes_then _ _ _ (opening c.args.last c.args.call.now.thread) (turn_text (turn_of c.args.call.now)) _ c.in_ok-write_opening.ensures turn
+    let symbol = rw (c.bit_digit.ensures, c.letter.ensures) at c.put.ensures in
+    writes_then _ _ _ (opening c.args.last c.args.call.now.thread) (symbol_text (symbol_of c.args.call.now)) _ c.in_ok-write_opening.ensures symbol

@@ -1,5 +1,5 @@
 use Rattle.std.proofs.Common.{arith}
-use Rattle.bp_trace.proofs.ThreadAt.{no_thread_no_call, within_text, no_turn_no_call, turn_is_call}
+use Rattle.bp_trace.proofs.ThreadAt.{no_thread_no_call, within_text, no_tail_no_call, tail_is_call}
 use Rattle.bp_trace.proofs.trace_lines.call_at.Goals as goal
 
 pub returns-in_default : goal.returns-in_default
@@ -13,9 +13,9 @@ text_from-requires c =
 pub returns-in-None : goal.returns-in-None
 returns-in-None c =
     let none = rw (c.text_from.ensures, c.digit_count.ensures.value) at c.in-None.ensures in
-    no_turn_no_call c.args.threads c.args.text.now c.requires c.in-Some.thread c.in-Some.ensures none
+    no_tail_no_call c.args.threads c.args.text.now c.requires c.in-Some.thread c.in-Some.ensures none
 
-pub returns-in-Some-turn_at : goal.returns-in-Some-turn_at
-returns-in-Some-turn_at c =
-    let turn = rw (c.text_from.ensures, c.digit_count.ensures.value) at c.in-Some-turn_at.ensures in
-    turn_is_call c.args.threads c.args.text.now c.requires c.in-Some.thread c.in-Some.ensures c.in-Some-turn_at.bit c.in-Some-turn_at.reply turn
+pub returns-in-Some-tail_at : goal.returns-in-Some-tail_at
+returns-in-Some-tail_at c =
+    let tail = rw (c.text_from.ensures, c.digit_count.ensures.value) at c.in-Some-tail_at.ensures in
+    tail_is_call c.args.threads c.args.text.now c.requires c.in-Some.thread c.in-Some.ensures c.in-Some-tail_at.bit c.in-Some-tail_at.reply tail

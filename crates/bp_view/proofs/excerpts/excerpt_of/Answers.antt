@@ -2,4 +2,4 @@ use Rattle.bp_text.proofs.TextsOnOneLine.{one_line_after}
 use Rattle.bp_view.proofs.excerpts.excerpt_of.Goals as goal
 
 pub cut-requires : goal.cut-requires
-cut-requires c = c.loop-piece.invariant
+cut-requires c = c.loop-lexeme.invariant

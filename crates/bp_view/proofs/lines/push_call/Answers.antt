@@ -9,7 +9,7 @@ regrouped line fields words filled note = simp append_assoc
 pub returns : goal.returns
 returns c =
     let line = c.args.line.now.items in
-    let fields = fields_text c.args.stage.now.widths (fields_of c.args.moment.now c.place_of.result.now) in
+    let fields = fields_text c.args.setting.now.widths (fields_of c.args.moment.now c.place_of.result.now) in
     let words = c.in_ok-push_scene.ensures in
     let note = c.in_ok-push_note.ensures in
     let written = c.deref.result.now in
@@ -22,7 +22,7 @@ returns c =
       more_is = record {
         statement = statement;
         note = written;
-        is = ap (λ p. (fields_text c.args.stage.now.widths (fields_of c.args.moment.now p) ++ statement) ++ written) c.place_of.ensures;
+        is = ap (λ p. (fields_text c.args.setting.now.widths (fields_of c.args.moment.now p) ++ statement) ++ written) c.place_of.ensures;
         statement_is = one_line_append words.more note.statement words.one_line note.statement_is;
         note_is = subst (IsNote c.args.moment.now.call.reply) (sym c.deref.ensures.value) c.in_ok-write_note.ensures;
       };

@@ -1,5 +1,5 @@
 use Rattle.std.proofs.Common.{◌≡◌, ◌∙◌, ap, refl}
-use Rattle.bp_view.specs.Views.{IsCallRefusal}
+use Rattle.bp_view.specs.Views.{IsPlayRefusal}
 use Rattle.bp_view.proofs.ForeignCalls.{refusal_is, is_the_own}
 use Rattle.bp_view.proofs.views.make.Goals as goal
 

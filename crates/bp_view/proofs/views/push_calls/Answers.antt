@@ -47,8 +47,8 @@ loop-n-preserved c =
           let here = before.stands t is stands in
           let moment = c.in_ok-moment.ensures.is t h code here before.last (ap (λ k. k + 1) (sym size) ∙ omega arith) in
           let shown = c.in_ok-push_shown.ensures t text c.args.session.now.setup h x are (subst (λ s. IsMomentOf t s h x c.in_ok-moment.moment) before.setup moment) in
-          subst (λ g. AddsLines t text c.args.session.now.setup c.args.stage.now.options c.args.stage.now.widths c.args.stage.now.count g c.args.view.now.items c.push_shown.new.view.items) (sym more)
-          (one_more t text c.args.session.now.setup c.args.stage.now.options c.args.stage.now.widths c.args.stage.now.count h _ _ _ _ (before.lines t text is stands are) shown);
+          subst (λ g. AddsLines t text c.args.session.now.setup c.args.setting.now.options c.args.setting.now.widths c.args.setting.now.count g c.args.view.now.items c.push_shown.new.view.items) (sym more)
+          (one_more t text c.args.session.now.setup c.args.setting.now.options c.args.setting.now.widths c.args.setting.now.count h _ _ _ _ (before.lines t text is stands are) shown);
     }
 
 pub returns-in_err-moment-clause-refused : goal.returns-in_err-moment-clause-refused

@@ -18,6 +18,6 @@ invariant-loop-n l = record {
   lines : (t : Program) (text : List ℕ)
       → StandsFor l.initial.session.code t
       → Stands t l.initial.session []
-      → AreScenes text (starts_of t) l.stage.scenes.now
-      → AddsLines t text l.initial.session.setup l.stage.options l.stage.widths l.stage.count (take l.n l.history) l.initial.view.items l.view.items;
+      → AreScenes text (starts_of t) l.setting.scenes.now
+      → AddsLines t text l.initial.session.setup l.setting.options l.setting.widths l.setting.count (take l.n l.history) l.initial.view.items l.view.items;
 }

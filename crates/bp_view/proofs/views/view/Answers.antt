@@ -9,7 +9,7 @@ use Rattle.bp_view.proofs.views.view.Goals as goal
 
 pub push_calls-requires : goal.push_calls-requires
 push_calls-requires c =
-    rw (c.stage_of-stage.ensures.scenes ∙ c.as_slice.ensures.value) (all_words c.args.text.now (starts_of c.args.checked.now) c.in_ok-scenes.scenes.items c.in_ok-scenes.ensures)
+    rw (c.setting_of-setting.ensures.scenes ∙ c.as_slice.ensures.value) (all_words c.args.text.now (starts_of c.args.checked.now) c.in_ok-scenes.scenes.items c.in_ok-scenes.ensures)
 
 pub returns-in_err-push_calls : goal.returns-in_err-push_calls
 returns-in_err-push_calls c =
@@ -24,15 +24,15 @@ pub returns : goal.returns
 returns c =
     let t = c.args.checked.now in
     let text = c.args.text.now in
-    let stage = c.stage_of-stage.result in
+    let setting = c.setting_of-setting.result in
     let kept = c.in_ok-session.ensures.kept in
     let code : StandsFor c.in_ok-session.session.code t = rw kept.0 c.requires.code in
     let stands = c.in_ok-session.ensures.stands t c.requires.code in
-    let are : AreScenes text (starts_of t) stage.scenes.now = rw (c.stage_of-stage.ensures.scenes ∙ c.as_slice.ensures.value) c.in_ok-scenes.ensures in
+    let are : AreScenes text (starts_of t) setting.scenes.now = rw (c.setting_of-setting.ensures.scenes ∙ c.as_slice.ensures.value) c.in_ok-scenes.ensures in
     let lines = c.in_ok-push_calls.ensures.lines t text code stands are in
-    let here = rw (kept.1, c.stage_of-stage.ensures.options, c.stage_of-stage.ensures.count) at lines.lines_are in
+    let here = rw (kept.1, c.setting_of-setting.ensures.options, c.setting_of-setting.ensures.count) at lines.lines_are in
     record {
-      widths = stage.widths;
+      widths = setting.widths;
       head = c.in_ok-view.view.items;
       lines = lines.lines;
       foot = c.deref.result.now;
