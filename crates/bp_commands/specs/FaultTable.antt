@@ -84,11 +84,11 @@ trace_row replay.TooLong = long_row
 trace_row (replay.Head n) = row 41 (codes "Head") (Line n)
 trace_row (replay.Setup f) = setup_row f
 trace_row (replay.Line n) = row 42 (codes "Line") (Line n)
-trace_row (replay.AfterFinish n) = row 47 (codes "AfterFinish") (Line n)
-trace_row (replay.Bit n) = row 43 (codes "Bit") (Line n)
-trace_row (replay.Reply n wanted) = row 44 (codes "Reply") (Wanted n wanted)
-trace_row replay.NoEnd = row 45 (codes "NoEnd") Nothing
-trace_row replay.EndCount = row 46 (codes "EndCount") Nothing
+trace_row (replay.AfterFinish n made) = row 47 (codes "AfterFinish") (Line n)
+trace_row (replay.Bit n due) = row 43 (codes "Bit") (Line n)
+trace_row (replay.Reply n due) = row 44 (codes "Reply") (Wanted n due.call.reply)
+trace_row (replay.NoEnd counts) = row 45 (codes "NoEnd") Nothing
+trace_row (replay.EndCount n counts) = row 46 (codes "EndCount") Nothing
 trace_row replay.Memory = memory_row
 
 abbrev pub fault_row : Fault → RowOf

@@ -3,10 +3,11 @@ ghost use Rattle.bp_commands.specs.Files.{Grows, IsExplained};
 
 use crate::commands::PairCommand;
 use crate::faults::Fault;
-use bp_code::{ProgramFault, code_of};
+use bp_code::ProgramFault;
 use bp_explain::{explain_program, explain_schedule, explain_trace};
 use bp_syntax::ReadFault;
 use bp_text::put;
+use bp_trace::ReplayFault;
 use std::alloc::Global;
 use std::io::Write;
 
@@ -27,7 +28,9 @@ fn of_program(alloc: Global, fault: &Fault, program: Named<'_>) -> Option<Vec<u8
     match fault {
         // Such a text was not read whole.
         Fault::Program(ProgramFault::Read(ReadFault::TooLong)) => None,
-        Fault::Program(_) => any(explain_program(alloc, program.name, program.text).ok()?),
+        Fault::Program(fault) => {
+            any(explain_program(alloc, program.name, program.text, fault).ok()?)
+        }
         _ => None,
     }
 }
@@ -54,13 +57,12 @@ pub(crate) fn of_trace(
     program: Named<'_>,
     trace: Named<'_>,
 ) -> Option<Vec<u8>> {
-    match fault {
-        Fault::Trace(_) | Fault::Setup(_) => {
-            let code = code_of(alloc, program.text).ok()?;
-            any(explain_trace(alloc, &code, trace.name, trace.text).ok()?)
-        }
-        fault => of_program(alloc, fault, program),
-    }
+    let of_trace = match fault {
+        Fault::Trace(fault) => *fault,
+        Fault::Setup(fault) => ReplayFault::Setup(*fault),
+        fault => return of_program(alloc, fault, program),
+    };
+    any(explain_trace(alloc, program.text, trace.name, trace.text, &of_trace).ok()?)
 }
 
 /// Writes the explanation of a fault, or else the fault in a sentence.

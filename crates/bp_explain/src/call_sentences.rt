@@ -1,11 +1,17 @@
 //! Sentences on a call of a trace that is not the machine's own, and on the end of a trace.
 
+use crate::recorded_calls::{Recorded, recorded_call};
 use crate::sentences::{push_all, push_number};
 use crate::trace_heads::is_version_two;
-use crate::walks::{Deviation, digit_of};
-use bp_machine::{Call, Reply, Report};
-use bp_text::{position_of, push_line, push_place};
+use bp_machine::{Call, Reply};
+use bp_text::{push_line, push_place};
+use bp_trace::{Counts, Due};
 use std::alloc::AllocError;
+
+/// The digit of a choice bit.
+fn digit_of(bit: bool) -> u8 {
+    if bit { b'1' } else { b'0' }
+}
 
 /// Why the machine gives a reply.
 fn reason(reply: Reply) -> &'static [u8] {
@@ -32,40 +38,45 @@ fn push_call(out: &mut Vec<u8>, is_version_two: bool, call: Call) -> Result<(), 
     push_all(out, &[b" ", &digit, b" ", &letter, b"'"])
 }
 
-/// Adds the line that ends a trace of these calls.
-fn push_end_line(out: &mut Vec<u8>, report: Report) -> Result<(), AllocError> {
+/// Adds the line that ends a trace with these counts.
+fn push_end_line(out: &mut Vec<u8>, counts: Counts) -> Result<(), AllocError> {
     push_all(out, &[b"'end "])?;
-    push_number(out, report.calls as usize)?;
+    push_number(out, counts.calls as usize)?;
     push_all(out, &[b" "])?;
-    push_number(out, report.left_open as usize)?;
+    push_number(out, counts.left_open as usize)?;
     push_all(out, &[b"'"])
 }
 
-/// Adds that the end line is due, where this byte of a trace, or nothing more, stands.
-fn push_due_end(
+/// Adds that the end line on this line of a trace has to have these counts.
+pub(crate) fn push_other_end(
     out: &mut Vec<u8>,
     trace: &[u8],
-    report: Report,
-    at: usize,
+    counts: Counts,
+    number: usize,
 ) -> Result<(), AllocError> {
-    if at < trace.len() {
-        push_line(out, trace, position_of(trace, at).line)?;
-        push_all(out, &[b"expected "])?;
-        push_end_line(out, report)?;
-        return push_all(
-            out,
-            &[b": the number of calls, and of threads that may go on\n"],
-        );
-    }
+    push_line(out, trace, number)?;
+    push_all(out, &[b"expected "])?;
+    push_end_line(out, counts)?;
+    push_all(
+        out,
+        &[
+            b": the number of calls, and of threads that may go on
+",
+        ],
+    )
+}
+
+/// Adds that an end line with these counts has to follow a trace.
+pub(crate) fn push_no_end(out: &mut Vec<u8>, counts: Counts) -> Result<(), AllocError> {
     push_all(out, &[b"the trace ends here; expected "])?;
-    push_end_line(out, report)?;
-    if report.left_open > 0 {
+    push_end_line(out, counts)?;
+    if counts.left_open > 0 {
         push_all(out, &[b" or another line of calls"])?;
     }
     push_all(out, &[b"\n"])
 }
 
-/// Adds the call that was due at this byte of a trace, and why.
+/// Adds the machine's own call in place of that at this byte of a trace, and why it is due.
 fn push_due_call(
     out: &mut Vec<u8>,
     trace: &[u8],
@@ -79,32 +90,35 @@ fn push_due_call(
     push_all(out, &[b": ", why, b"\n"])
 }
 
-/// Adds that the thread of a call at this byte of a trace has made its last one.
-fn push_finished(
+/// Adds that a call of a trace has another choice bit than the seed.
+pub(crate) fn push_other_bit(out: &mut Vec<u8>, trace: &[u8], due: Due) -> Result<(), AllocError> {
+    let Some(Recorded { bit_at, .. }) = recorded_call(trace, due.calls) else {
+        return Ok(());
+    };
+    let why = b"the choice bit is that of the seed".as_slice();
+    push_due_call(out, trace, due.call, why, bit_at)
+}
+
+/// Adds that a call of a trace has another reply than the machine's own.
+pub(crate) fn push_other_reply(
     out: &mut Vec<u8>,
     trace: &[u8],
-    thread: u32,
-    at: usize,
+    due: Due,
 ) -> Result<(), AllocError> {
-    push_place(out, trace, at)?;
+    let Some(Recorded { reply_at, .. }) = recorded_call(trace, due.calls) else {
+        return Ok(());
+    };
+    push_due_call(out, trace, due.call, reason(due.call.reply), reply_at)
+}
+
+/// Adds that the thread of the call of a trace that has so many calls before it has made its last
+/// one.
+pub(crate) fn push_finished(out: &mut Vec<u8>, trace: &[u8], made: u64) -> Result<(), AllocError> {
+    let Some(Recorded { thread, bit_at, .. }) = recorded_call(trace, made) else {
+        return Ok(());
+    };
+    push_place(out, trace, bit_at)?;
     push_all(out, &[b"thread "])?;
     push_number(out, thread as usize)?;
     push_all(out, &[b" has made its last call before\n"])
-}
-
-/// Adds where the machine does not go on with a trace, and why.
-pub(crate) fn push_deviation(
-    out: &mut Vec<u8>,
-    trace: &[u8],
-    deviation: Deviation,
-) -> Result<(), AllocError> {
-    match deviation {
-        Deviation::Bit(own, at) => {
-            let why = b"the choice bit is that of the seed".as_slice();
-            push_due_call(out, trace, own, why, at)
-        }
-        Deviation::Reply(own, at) => push_due_call(out, trace, own, reason(own.reply), at),
-        Deviation::Finished(thread, at) => push_finished(out, trace, thread, at),
-        Deviation::End(report, at) => push_due_end(out, trace, report, at),
-    }
 }

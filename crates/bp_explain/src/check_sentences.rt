@@ -5,14 +5,14 @@ ghost use Rattle.bp_explain.specs.Explanations.{place_line, IsExplanation, IsPla
 ghost use Rattle.bp_text.specs.Excerpts.{ShowsFault};
 
 use crate::counts::{argument_count, side_counts};
-use crate::declared::{Role, first_named, first_procedure, procedure_around, role_at};
+use crate::declared::{Role, first_named, first_procedure, procedure_around, role_at, tree_of};
 use crate::explanations::explanation_of_place;
 use crate::heads::head_of_place;
 use crate::sentences::{push_all, push_count, push_number, push_quoted};
 use crate::tokens_at::token_at;
 use bp_check::CheckFault;
 use bp_check::limits::{MAX_GLOBALS, MAX_OWN_NAMES, MAX_PROCEDURES};
-use bp_syntax::{Tree, read};
+use bp_syntax::Tree;
 use bp_text::{excerpt_of, position_of};
 use bp_tree::Name;
 use std::alloc::{AllocError, Global};
@@ -206,15 +206,14 @@ pub(crate) fn explain_check(
         IsExplanation (place_line name.now text.now place) (ShowsFault text.now place) v.items) }
     ensures plain { IfOk result (λ v. IsPlain v.items) }
 {
-    let Ok(tree) = read(alloc, text) else {
-        // The text was read before, so it is memory that was refused.
-        return Err(AllocError);
-    };
+    let tree = tree_of(alloc, text)?;
     let place = place_of(fault, at);
     let head = head_of_place(alloc, name, text, place)?;
     let excerpt = excerpt_of(alloc, text, place)?;
     let mut sentence = Vec::new(alloc);
-    push_sentence(&mut sentence, text, &tree, fault, at as usize)?;
+    if let Some(tree) = &tree {
+        push_sentence(&mut sentence, text, tree, fault, at as usize)?;
+    }
     sentence.push(b'\n')?;
     explanation_of_place(
         alloc,

@@ -1,7 +1,17 @@
 //! What the name at a place of a program's text stands among.
 
-use bp_syntax::Tree;
+use bp_syntax::{ReadFault, Tree, read};
 use bp_tree::{Name, Proc};
+use std::alloc::{AllocError, Global};
+
+/// The tree of a text, where it has one.
+pub(crate) fn tree_of(alloc: Global, text: &[u8]) -> Result<Option<Tree>, AllocError> {
+    match read(alloc, text) {
+        Ok(tree) => Ok(Some(tree)),
+        Err(ReadFault::Memory) => Err(AllocError),
+        Err(_) => Ok(None),
+    }
+}
 
 /// The first of the names that is spelled so.
 pub(crate) fn first_named<'a>(names: &'a [Name], spelling: &[u8]) -> Option<&'a Name> {

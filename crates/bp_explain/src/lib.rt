@@ -16,6 +16,7 @@ mod numbers;
 mod offers;
 mod programs;
 mod read_sentences;
+mod recorded_calls;
 mod schedules;
 mod sentences;
 mod setup_sentences;
@@ -24,7 +25,6 @@ mod syntax_sentences;
 mod tokens_at;
 mod trace_heads;
 mod traces;
-mod walks;
 
 pub use programs::explain_program;
 pub use schedules::explain_schedule;

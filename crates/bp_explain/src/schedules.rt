@@ -41,43 +41,40 @@ fn push_finished(out: &mut Vec<u8>, line: Line<'_>) -> Result<(), AllocError> {
     push_all(out, &[b" has made its last call before\n"])
 }
 
-/// Explains that this line is none of the schedule.
+/// Adds this line of a schedule, and what is wrong with it.
+fn push_fault(
+    out: &mut Vec<u8>,
+    schedule: &[u8],
+    fault: &DriveFault,
+    number: u32,
+) -> Result<(), AllocError> {
+    push_line(out, schedule, number as usize)?;
+    let Some(line) = line_of(schedule, number as usize) else {
+        return Ok(());
+    };
+    match fault {
+        DriveFault::AfterFinish(_) => push_finished(out, line),
+        _ => push_line_sentence(out, line),
+    }
+}
+
+/// Explains what is wrong with this line of a schedule.
 fn explain_line(
     alloc: Global,
     name: &str,
     schedule: &[u8],
+    fault: &DriveFault,
     number: u32,
 ) -> Result<Vec<u8>, AllocError>
     ensures begins { IfOk result (λ v. Begins (number_line name.now number) v.items) }
     ensures plain { IfOk result (λ v. IsPlain v.items) }
 {
     let mut body = Vec::new(alloc);
-    push_line(&mut body, schedule, number as usize)?;
-    if let Some(line) = line_of(schedule, number as usize) {
-        push_line_sentence(&mut body, line)?;
-    }
+    push_fault(&mut body, schedule, fault, number)?;
     about_line(alloc, name, number as usize, body.as_slice())
 }
 
-/// Explains that the thread of this line has made its last call.
-fn explain_finished(
-    alloc: Global,
-    name: &str,
-    schedule: &[u8],
-    number: u32,
-) -> Result<Vec<u8>, AllocError>
-    ensures begins { IfOk result (λ v. Begins (number_line name.now number) v.items) }
-    ensures plain { IfOk result (λ v. IsPlain v.items) }
-{
-    let mut body = Vec::new(alloc);
-    push_line(&mut body, schedule, number as usize)?;
-    if let Some(line) = line_of(schedule, number as usize) {
-        push_finished(&mut body, line)?;
-    }
-    about_line(alloc, name, number as usize, body.as_slice())
-}
-
-/// Explains why a schedule is not played: a line `NAME:LINE`, that line of the schedule, and a
+/// Explains this fault of a schedule: a line `NAME:LINE`, that line of the schedule, and a
 /// sentence. A schedule that is too long has the line `NAME` and a sentence. Nothing is said of
 /// refused memory and of an output that failed. The only error is refused memory.
 pub fn explain_schedule(
@@ -91,8 +88,9 @@ pub fn explain_schedule(
 {
     match fault {
         DriveFault::TooLong => explain_too_long(alloc, name, b"schedule", MAX_SCHEDULE),
-        DriveFault::Line(number) => explain_line(alloc, name, schedule, *number),
-        DriveFault::AfterFinish(number) => explain_finished(alloc, name, schedule, *number),
+        DriveFault::Line(number) | DriveFault::AfterFinish(number) => {
+            explain_line(alloc, name, schedule, fault, *number)
+        }
         DriveFault::Memory | DriveFault::Write => Ok(Vec::new(alloc)),
     }
 }

@@ -1,10 +1,12 @@
 //! Sentences on the head of a trace that says no setup of the program.
+ghost use Rattle.bp_explain.specs.Explained.{IsSetupLine};
 
+use crate::declared::first_procedure;
 use crate::sentences::{push_all, push_count, push_number, push_quoted};
 use crate::trace_heads::{FIRST_ENTRY, entry_count, entry_of, init_line};
-use bp_code::Code;
 use bp_machine::SetupFault;
 use bp_machine::limits::{MAX_CALLS, MAX_CONTEXTS, MAX_THREADS};
+use bp_syntax::Tree;
 use bp_text::{line_of, number_of, part_from, push_line};
 use std::alloc::AllocError;
 
@@ -32,11 +34,13 @@ fn has_many_contexts(trace: &[u8]) -> bool {
 }
 
 /// The line of a trace that the fault is about.
-pub(crate) fn line_of_setup(trace: &[u8], fault: SetupFault) -> usize {
+pub(crate) fn line_of_setup(trace: &[u8], fault: SetupFault) -> usize
+    ensures { IsSetupLine fault result }
+{
     match fault {
         SetupFault::Threads | SetupFault::Memory => line_of_threads(trace),
         SetupFault::UnknownEntry(thread) | SetupFault::EntryHasFormals(thread) => {
-            (thread as usize).saturating_add(FIRST_ENTRY)
+            thread as usize + FIRST_ENTRY
         }
         SetupFault::InitLength => init_line(trace),
         SetupFault::OutOfRange if has_many_contexts(trace) => init_line(trace).saturating_add(1),
@@ -44,9 +48,9 @@ pub(crate) fn line_of_setup(trace: &[u8], fault: SetupFault) -> usize {
     }
 }
 
-fn push_formals(out: &mut Vec<u8>, code: &Code, entry: &[u8]) -> Result<(), AllocError> {
-    let formals = match code.heading_of(entry) {
-        Some(heading) => heading.formals() as usize,
+fn push_formals(out: &mut Vec<u8>, tree: &Tree, entry: &[u8]) -> Result<(), AllocError> {
+    let formals = match first_procedure(tree, entry) {
+        Some(proc) => proc.formals().len(),
         None => 0,
     };
     push_quoted(out, entry)?;
@@ -55,12 +59,12 @@ fn push_formals(out: &mut Vec<u8>, code: &Code, entry: &[u8]) -> Result<(), Allo
     push_all(out, &[b"; a thread begins with a procedure that has none"])
 }
 
-fn push_globals(out: &mut Vec<u8>, code: &Code) -> Result<(), AllocError> {
+fn push_globals(out: &mut Vec<u8>, tree: &Tree) -> Result<(), AllocError> {
     push_all(
         out,
         &[b"expected one initial bit for each global; the program has "],
     )?;
-    push_count(out, code.globals() as usize, b"global")
+    push_count(out, tree.globals().len(), b"global")
 }
 
 fn push_range(out: &mut Vec<u8>, trace: &[u8]) -> Result<(), AllocError> {
@@ -76,7 +80,7 @@ fn push_range(out: &mut Vec<u8>, trace: &[u8]) -> Result<(), AllocError> {
 /// Adds what is wrong with the setup.
 fn push_sentence(
     out: &mut Vec<u8>,
-    code: &Code,
+    tree: &Tree,
     trace: &[u8],
     fault: SetupFault,
 ) -> Result<(), AllocError> {
@@ -91,22 +95,23 @@ fn push_sentence(
             push_quoted(out, entry_of(trace, thread as usize))
         }
         SetupFault::EntryHasFormals(thread) => {
-            push_formals(out, code, entry_of(trace, thread as usize))
+            push_formals(out, tree, entry_of(trace, thread as usize))
         }
-        SetupFault::InitLength => push_globals(out, code),
+        SetupFault::InitLength => push_globals(out, tree),
         SetupFault::OutOfRange => push_range(out, trace),
         SetupFault::Memory => Ok(()),
     }
 }
 
-/// Adds the line of a trace's head that says no setup of this code, and what is wrong with it.
+/// Adds the line of a trace's head that says no setup of the program of this tree, and what is
+/// wrong with it.
 pub(crate) fn push_setup(
     out: &mut Vec<u8>,
-    code: &Code,
+    tree: &Tree,
     trace: &[u8],
     fault: SetupFault,
 ) -> Result<(), AllocError> {
     push_line(out, trace, line_of_setup(trace, fault))?;
-    push_sentence(out, code, trace, fault)?;
+    push_sentence(out, tree, trace, fault)?;
     push_all(out, &[b"\n"])
 }

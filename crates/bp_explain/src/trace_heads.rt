@@ -1,11 +1,6 @@
-//! The lines of a trace's head: which is which, and the setup that they say.
+//! The lines of a trace's head: which is which.
 
-use crate::sentences::{push_all, push_number};
-use bp_code::Code;
-use bp_machine::Setup;
 use bp_text::{line_of, part_before, part_from, take_line, text_from_line};
-use bp_trace::{ReplayFault, Replayed, replay};
-use std::alloc::{AllocError, Global};
 
 /// What begins an entry line.
 pub(crate) const ENTRY: &[u8] = b"entry ";
@@ -51,36 +46,4 @@ pub(crate) fn body_of(trace: &[u8]) -> &[u8] {
 /// Whether the trace is of version 2.
 pub(crate) fn is_version_two(trace: &[u8]) -> bool {
     trace.starts_with(b"btrace 2\n")
-}
-
-/// The trace of no call with the head of this one.
-fn trace_without_calls(alloc: Global, trace: &[u8]) -> Result<Vec<u8>, AllocError> {
-    let head_size = trace.len().saturating_sub(body_of(trace).len());
-    let mut text = Vec::new(alloc);
-    push_all(&mut text, &[part_before(trace, head_size), b"end 0 "])?;
-    // Before any call each line is open.
-    push_number(&mut text, entry_count(trace))?;
-    text.push(b'\n')?;
-    Ok(text)
-}
-
-/// The setup that the head of a trace says, where it is one of this code.
-pub(crate) fn setup_of(
-    alloc: Global,
-    code: &Code,
-    trace: &[u8],
-) -> Result<Option<Setup>, AllocError> {
-    let text = trace_without_calls(alloc, trace)?;
-    let replayed = match replay(alloc, code, text.as_slice()) {
-        Ok(replayed) => replayed,
-        Err(ReplayFault::Memory) => return Err(AllocError),
-        Err(_) => return Ok(None),
-    };
-    let Replayed {
-        setup,
-        history: _,
-        printed: _,
-        report: _,
-    } = replayed;
-    Ok(Some(setup))
 }

@@ -1,31 +1,18 @@
-//! Tests of `bp_code`: bits, instructions, codes and their copies, and writers that fail. The
-//! listings of programs are shown by the cases of the command `code`.
+//! Tests of `bp_code`: bits, instructions, codes and their copies. The listings of programs are
+//! shown by the cases of the command `code`.
+mod faults;
+mod listing;
 
 use crate::texts::code_of;
-use bp_check::{CheckFault, check};
+use bp_check::check;
 use bp_code::stores::{bit_at, with_bit, word_of};
 use bp_code::{
-    Code, Effect, Heading, Instr, Kind, ProgramFault, Store, compile, lawful_program, list,
-    statement_starts, steps_alike,
+    Code, Effect, Heading, Instr, Kind, Store, compile, lawful_program, statement_starts,
+    steps_alike,
 };
-use bp_syntax::{ReadFault, read};
-use bp_text::{WriteFault, put, put_each};
-use std::alloc::{AllocError, Global};
-use std::io::{self, ErrorKind, Write};
+use bp_syntax::read;
+use std::alloc::Global;
 use std::test::Fail;
-
-fn writes_an_end(alloc: Global) -> Result<bool, Fail> {
-    let mut out = Vec::new(alloc);
-    put(&mut out, b"end ")?;
-    put_each(&mut out, &[b"4 ", b"0\n"])?;
-    Ok(out.as_slice() == b"end 4 0\n".as_slice())
-}
-
-#[test]
-fn writes_pieces(rt: HostRuntime) -> Result<(), Fail> {
-    assert!(rt; writes_an_end(rt.alloc())?);
-    Ok(())
-}
 
 fn has_bits() -> bool {
     let word = word_of(&[false, true, true]);
@@ -200,135 +187,5 @@ fn copies_a_heading(alloc: Global) -> Result<bool, Fail> {
 #[test]
 fn heads_a_procedure(rt: HostRuntime) -> Result<(), Fail> {
     assert!(rt; copies_a_heading(rt.alloc())?);
-    Ok(())
-}
-
-/// Whether the fault has this number and this place, and is shown in these words.
-fn is_known(
-    alloc: Global,
-    fault: &ProgramFault,
-    number: u32,
-    place: u32,
-    words: &str,
-) -> Result<bool, AllocError> {
-    let shown = format!(in alloc; "{fault}")?;
-    Ok(fault.number() == number && fault.place() == Some(place) && shown.as_str() == words)
-}
-
-#[test]
-fn numbers_and_shows_faults(rt: HostRuntime) -> Result<(), Fail> {
-    for (fault, number, place, words) in [
-        (
-            ProgramFault::Read(ReadFault::Syntax(13)),
-            6,
-            13,
-            "syntax at 13",
-        ),
-        (
-            ProgramFault::Check(CheckFault::Limit, 663),
-            21,
-            663,
-            "there are more names than the limit at 663",
-        ),
-    ] {
-        assert!(rt; is_known(rt.alloc(), &fault, number, place, words)?);
-    }
-    Ok(())
-}
-
-fn is_shown(alloc: Global, fault: WriteFault) -> Result<bool, AllocError> {
-    let shown = format!(in alloc; "{fault}")?;
-    Ok(shown.as_str() == "the output could not be written")
-}
-
-#[test]
-fn shows_a_failed_write(rt: HostRuntime) -> Result<(), Fail> {
-    assert!(rt; is_shown(rt.alloc(), WriteFault::Write)?);
-    Ok(())
-}
-
-/// The program that calls itself once.
-const RECURSION: &[u8] = b"\
-    decl g;\n\
-    main() begin decl h; h := !g; A(g,h); skip; A(g,h); skip;\n  \
-    if (g) then R: skip; else skip; fi end\n\
-    A(a1,a2) begin if (a1) then A(a2,a1); else g := a2; fi end\n";
-
-/// Its listing.
-const LISTING_OF_RECURSION: &[u8] = b"\
-    proc main 0 1\n0 assign 1\n1 call 9 2\n2 skip 3\n\
-    3 call 9 4\n4 skip 5\n5 if 6 7\n6 skip 8\n7 skip 8\n\
-    8 return\nproc A 2 0\n9 if 10 11\n10 call 9 12\n\
-    11 assign 12\n12 return\n";
-
-fn lists_the_recursion(alloc: Global, code: &Code) -> Result<bool, Fail> {
-    let mut out = Vec::new(alloc);
-    list(code, &mut out)?;
-    Ok(out.as_slice() == LISTING_OF_RECURSION)
-}
-
-/// Whether the code of a copied tree, and a copy of that code, have the listing of the tree.
-fn lists_copies(alloc: Global) -> Result<bool, Fail> {
-    let tree = read(alloc, RECURSION)?.try_copy()?;
-    let Ok(checked) = check(alloc, tree) else {
-        return Ok(false);
-    };
-    let code = compile(alloc, &checked)?;
-    let copy = code.try_copy()?;
-    Ok(lists_the_recursion(alloc, &code)? && lists_the_recursion(alloc, &copy)?)
-}
-
-#[test]
-fn lists_copies_alike(rt: HostRuntime) -> Result<(), Fail> {
-    assert!(rt; lists_copies(rt.alloc())?);
-    Ok(())
-}
-
-/// A writer that takes so many bytes, one at a time, and then fails.
-#[derive(Drop)]
-struct Short {
-    taken: Vec<u8>,
-    room: usize,
-}
-
-impl Write for Short {
-    ghost use Rattle.std.specs.Prelude.{Some};
-
-    ghost contents = { λ s. Some s.taken.items };
-
-    fn write(&mut self, buf: &[u8]) -> io::Result<usize> {
-        if buf.is_empty() {
-            return Ok(0);
-        }
-        if self.taken.len() >= self.room {
-            return Err(io::Error::from(ErrorKind::StorageFull));
-        }
-        match self.taken.push(buf[0]) {
-            Ok(()) => Ok(1),
-            Err(_) => Err(io::Error::from(ErrorKind::OutOfMemory)),
-        }
-    }
-
-    fn flush(&mut self) -> io::Result<()> {
-        Ok(())
-    }
-}
-
-/// Whether a writer of so much room takes as much of the listing, and all of it where it has room.
-fn fills(alloc: Global, code: &Code, room: usize) -> bool {
-    let taken = Vec::new(alloc);
-    let mut out = Short { taken, room };
-    let is_listed = list(code, &mut out).is_ok();
-    is_listed == (room == LISTING_OF_RECURSION.len())
-        && out.taken.len() == room
-        && LISTING_OF_RECURSION.starts_with(out.taken.as_slice())
-}
-
-#[test]
-fn writes_a_prefix_of_a_listing(rt: HostRuntime) -> Result<(), Fail> {
-    let code = code_of(rt.alloc(), RECURSION)?;
-    for room in 0..=LISTING_OF_RECURSION.len() {
-        assert!(rt; fills(rt.alloc(), &code, room));
-    }
     Ok(())
 }

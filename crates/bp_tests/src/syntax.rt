@@ -1,12 +1,14 @@
 //! Tests of `bp_syntax`: trees of texts, and what a fault says of itself. Which texts are read, and
 //! at which place others are refused, is shown by the cases of the command `check`, and by
 //! `.ci/productions`.
+mod faults;
+mod operators;
 
 use bp_syntax::{
-    Decider, Expr, Form, Name, Op, Proc, ReadFault, Stmt, Tree, has_names_on_one_line, has_one_cut,
+    Decider, Expr, Form, Name, Proc, Stmt, Tree, has_names_on_one_line, has_one_cut,
     has_one_refusal, has_one_tree, read,
 };
-use std::alloc::{AllocError, Global};
+use std::alloc::Global;
 use std::test::Fail;
 
 fn is_name(name: &Name, text: &str, at: u32) -> bool {
@@ -113,89 +115,6 @@ fn is_variable(expr: &Expr, text: &str) -> bool {
     }
 }
 
-/// The operands of an operation with that operator.
-fn operands(expr: &Expr, wanted: Op) -> Option<(&Expr, &Expr)> {
-    match expr {
-        Expr::Binary(op, left, right) => {
-            if *op == wanted {
-                Some((left.get(), right.get()))
-            } else {
-                None
-            }
-        }
-        _ => None,
-    }
-}
-
-/// Whether the expressions are the names `a`, `b` and `c`.
-fn are_names(a: &Expr, b: &Expr, c: &Expr) -> bool {
-    is_variable(a, "a") && is_variable(b, "b") && is_variable(c, "c")
-}
-
-fn implies_to_the_right(expr: &Expr) -> Option<bool> {
-    let (a, rest) = operands(expr, Op::Implies)?;
-    let (b, c) = operands(rest, Op::Implies)?;
-    Some(are_names(a, b, c))
-}
-
-fn implies_in_brackets(expr: &Expr) -> Option<bool> {
-    let (both, c) = operands(expr, Op::Implies)?;
-    let (a, b) = operands(both, Op::Implies)?;
-    Some(are_names(a, b, c))
-}
-
-fn equals_to_the_left(expr: &Expr) -> Option<bool> {
-    let (both, c) = operands(expr, Op::Differ)?;
-    let (a, b) = operands(both, Op::Equal)?;
-    Some(are_names(a, b, c))
-}
-
-fn negates_the_left(expr: &Expr) -> Option<bool> {
-    let (left, b) = operands(expr, Op::Equal)?;
-    match left {
-        Expr::Not(a) => Some(is_variable(a.get(), "a") && is_variable(b, "b")),
-        _ => None,
-    }
-}
-
-fn binds_and_before_xor_before_or(expr: &Expr) -> Option<bool> {
-    let (a, rest) = operands(expr, Op::Or)?;
-    let (both, d) = operands(rest, Op::Xor)?;
-    let (b, c) = operands(both, Op::And)?;
-    Some(are_names(a, b, c) && is_variable(d, "d"))
-}
-
-/// Whether the values are grouped as the grammar says.
-fn are_grouped(values: &[Expr]) -> bool {
-    match values {
-        [implications, bracketed, equalities, negation, others] => {
-            implies_to_the_right(implications) == Some(true)
-                && implies_in_brackets(bracketed) == Some(true)
-                && equals_to_the_left(equalities) == Some(true)
-                && negates_the_left(negation) == Some(true)
-                && binds_and_before_xor_before_or(others) == Some(true)
-        }
-        _ => false,
-    }
-}
-
-fn prints_grouped_values(stmts: &[Stmt]) -> bool {
-    match stmts {
-        [print] => matches!(print.form(), Form::Print(values) if are_grouped(values.as_slice())),
-        _ => false,
-    }
-}
-
-#[test]
-fn binds_operators(rt: HostRuntime) -> Result<(), Fail> {
-    let tree = read(
-        rt.alloc(),
-        b"p() begin print (a => b => c, (a => b) => c, a = b != c, !a = b, a | b & c ^ d); end",
-    )?;
-    assert!(rt; prints_grouped_values(body(&tree)));
-    Ok(())
-}
-
 /// Two procedures, the first of which calls the second, which calls itself.
 const RECURSIVE: &[u8] = b"decl g;
 main() begin decl h; h := !g; A(g,h); skip; A(g,h); skip;
@@ -285,38 +204,5 @@ fn reads_all_statements(rt: HostRuntime) -> Result<(), Fail> {
         b"p() begin goto l; while (?) do return; od l: assume (0); print (1, a); p(); end",
     )?;
     assert!(rt; are_those(body(&tree)));
-    Ok(())
-}
-
-/// Whether the fault has this number and this place, and is shown in these words.
-fn is_known(
-    alloc: Global,
-    fault: &ReadFault,
-    number: u32,
-    place: Option<u32>,
-    words: &str,
-) -> Result<bool, AllocError> {
-    let shown = format!(in alloc; "{fault}")?;
-    Ok(fault.number() == number && fault.place() == place && shown.as_str() == words)
-}
-
-#[test]
-fn numbers_and_shows_faults(rt: HostRuntime) -> Result<(), Fail> {
-    for (fault, number, place, words) in [
-        (ReadFault::TooLong, 1, None, "the text is too long"),
-        (ReadFault::BadByte(18), 2, Some(18), "bad byte at 18"),
-        (ReadFault::OpenName(5), 3, Some(5), "open name at 5"),
-        (ReadFault::TooNested(845), 4, Some(845), "too nested at 845"),
-        (
-            ReadFault::TooManyTokens(2_070),
-            5,
-            Some(2_070),
-            "too many tokens at 2070",
-        ),
-        (ReadFault::Syntax(0), 6, Some(0), "syntax at 0"),
-        (ReadFault::Memory, 7, None, "out of memory"),
-    ] {
-        assert!(rt; is_known(rt.alloc(), &fault, number, place, words)?);
-    }
     Ok(())
 }

@@ -3,10 +3,20 @@ mod faults;
 mod runs;
 mod writing;
 
+use bp_machine::{Call, Reply};
 use bp_trace::{
     lines_drive_again, no_two_have_one_text, pieces_are_fewest, refusals_are_single,
     schedules_have_one_refusal,
 };
+
+/// A call of thread 0.
+const fn call(bit: bool, reply: Reply) -> Call {
+    Call {
+        thread: 0,
+        bit,
+        reply,
+    }
+}
 
 #[test]
 fn laws(_rt: HostRuntime) {

@@ -1,5 +1,5 @@
 -- What is behind the calls of a history is refused once, or is its end.
-use Rattle.std.proofs.Common.{◌≡◌, ℕ, ◌+◌, ◌≤◌, List, [], ◌∷◌, ◌++◌, length, map, refl, ap, sym, ◌∙◌, ◌⊎◌, inl, inr, subst, append_assoc, length-append, arith}
+use Rattle.std.proofs.Common.{◌≡◌, ℕ, ◌+◌, ◌≤◌, List, [], ◌∷◌, ◌++◌, length, map, ap, sym, ◌∙◌, ◌⊎◌, inl, inr, subst, append_assoc, length-append, arith}
 use Rattle.std.proofs.lemmas.List.{append-nil}
 use Rattle.bp_tree.specs.Ast.{Program}
 use Rattle.bp_machine.specs.declared.calls.Call.{Call}
@@ -10,7 +10,7 @@ use Rattle.bp_machine.specs.Setups.{SetupOf, threads}
 use Rattle.bp_trace.specs.declared.versions.Version.{Version}
 use Rattle.bp_trace.specs.declared.replay_faults.ReplayFault.{ReplayFault}
 use Rattle.bp_trace.specs.declared.replay_faults.ReplayFault.TheVariants as fault
-use Rattle.bp_trace.specs.Replays.{IsPlayable, IsBodyLine, IsEndLine, HasOtherEnd, HasMoreBehind, IsRefusedAmong, HasNoNextLine, HasRefusedCall, IsRestRefused}
+use Rattle.bp_trace.specs.Replays.{counts_of, IsPlayable, IsBodyLine, IsEndLine, HasOtherEnd, HasMoreBehind, IsRefusedAmong, HasNoNextLine, HasRefusedCall, IsRestRefused}
 use Rattle.bp_trace.specs.TraceText.{end_line}
 use Rattle.bp_trace.proofs.GrowsByLine.{some_line}
 use Rattle.bp_trace.proofs.OneHistoryBehind.{Stops}
@@ -38,20 +38,20 @@ module _ (t : Program) (v : Version) (s : SetupOf) (few : threads s ≤ MAX_THRE
   -- why it is refused
   abbrev pub Refused : ReplayFault → Type 0
   Refused f =
-      ((f ≡ fault.NoEnd) × (x ≡ []))
-      ⊎ (((f ≡ fault.EndCount) × HasOtherEnd own x)
+      ((f ≡ fault.NoEnd (counts_of s h)) × (x ≡ []))
+      ⊎ (((f ≡ fault.EndCount n (counts_of s h)) × HasOtherEnd own x)
       ⊎ (((f ≡ fault.Line n) × HasNoNextLine t v s h n x)
       ⊎ (((f ≡ fault.Line (n + 1)) × HasMoreBehind own x)
       ⊎ HasRefusedCall t v s h n x f)))
 
   pub refused : (f : ReplayFault) → IsRestRefused t v s h n x f → Refused f
-  refused fault.NoEnd r = inl (refl, r)
-  refused fault.EndCount r = inr (inl (refl, r))
+  refused (fault.NoEnd c) r = inl (ap fault.NoEnd r.1, r.0)
+  refused (fault.EndCount m c) r = inr (inl (λ i. fault.EndCount (r.0 i) (r.1 i), r.2))
   refused (fault.Line m) (inl r) = inr (inr (inl (ap fault.Line r.0, r.1)))
   refused (fault.Line m) (inr r) = inr (inr (inr (inl (ap fault.Line r.0, r.1))))
-  refused (fault.AfterFinish m) r = inr (inr (inr (inr r)))
-  refused (fault.Bit m) r = inr (inr (inr (inr r)))
-  refused (fault.Reply m w) r = inr (inr (inr (inr r)))
+  refused (fault.AfterFinish m made) r = inr (inr (inr (inr r)))
+  refused (fault.Bit m d) r = inr (inr (inr (inr r)))
+  refused (fault.Reply m d) r = inr (inr (inr (inr r)))
   refused fault.TooLong r = inr (inr (inr (inr r)))
   refused (fault.Head k) r = inr (inr (inr (inr r)))
   refused (fault.Setup g) r = inr (inr (inr (inr r)))

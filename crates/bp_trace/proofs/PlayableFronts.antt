@@ -1,17 +1,21 @@
 -- A history that may be played is played call by call: its fronts may be, and the call behind a front is refused by nothing.
-use Rattle.std.proofs.Common.{◌≡◌, ℕ, ◌==◌, zero, suc, Bool, true, false, cond, List, [], ◌∷◌, ◌++◌, length, Some, refl, ap, sym, ◌∙◌, ◌⊎◌, inl, inr, subst, append_assoc, arith}
+use Rattle.std.proofs.Common.{◌≡◌, ◌≢◌, ℕ, ◌==◌, zero, suc, Bool, true, false, cond, List, [], ◌∷◌, ◌++◌, length, Option, None, Some, is_some, refl, ap, sym, ◌∙◌, ◌⊎◌, inl, inr, subst, append_assoc, arith}
 use Rattle.std.specs.Prelude.{slice_get}
 use Rattle.std.proofs.lemmas.Bool.{false≢true}
 use Rattle.std.proofs.lemmas.Bool.Decides.{nat_tests}
 use Rattle.std.proofs.lemmas.List.{append-nil}
 use Rattle.bp_tree.specs.Ast.{Program}
 use Rattle.bp_machine.specs.declared.calls.Call.{Call}
-use Rattle.bp_machine.specs.declared.calls.Reply.{Reply}
+use Rattle.bp_machine.specs.Answers.{Answers}
+use Rattle.bp_machine.specs.ChoiceBits.{choice_bit}
 use Rattle.bp_machine.specs.Histories.{calls_of_thread, is_finished, configuration_after, granted_threads, IsAllowed, IsLegalAfter}
+use Rattle.bp_machine.specs.SeededHistories.{IsBitOfCall}
+use Rattle.bp_machine.specs.Sessions.{IsNextCall, given_bit}
 use Rattle.bp_machine.specs.Setups.{SetupOf}
+use Rattle.bp_trace.specs.declared.replay_faults.Due.{Due}
 use Rattle.bp_trace.specs.declared.replay_faults.ReplayFault.{ReplayFault}
 use Rattle.bp_trace.specs.declared.replay_faults.ReplayFault.TheVariants as fault
-use Rattle.bp_trace.specs.Replays.{IsPlayable, IsCallFault, HasOtherBit, IsOtherReply}
+use Rattle.bp_trace.specs.Replays.{IsPlayable, IsDue, IsCallFault}
 use Rattle.bp_trace.proofs.LinesDriveAgain.{same_answer}
 
 calls_behind : (i : ℕ) (h g : List Call) → calls_of_thread i (h ++ g) ≡ calls_of_thread i h ++ calls_of_thread i g
@@ -53,28 +57,62 @@ module _ (t : Program) (s : SetupOf) where
     seeded = λ seed has i n x at. playable.seeded seed has i n x (ap (λ cs. slice_get cs n) (calls_behind i h g) ∙ in_front (calls_of_thread i h) (calls_of_thread i g) n x at);
   }
 
+  -- the machine has one own call
+  module _ (h : List Call) (x : Call) where
+    bits_alike : (b : Bool) (u v : Bool) → IsBitOfCall s h x.thread (cond b None (Some x.bit)) u → IsBitOfCall s h x.thread (cond b None (Some x.bit)) v → u ≡ v
+    bits_alike true u v p q =
+        let one : p.seed ≡ q.seed = cc (p.has, q.has) in
+        p.is ∙ ap (λ k. choice_bit k x.thread (length (calls_of_thread x.thread h))) one ∙ sym q.is
+    bits_alike false u v p q = p.1 ∙ sym q.1
+
+    pub one_own : (a b : Call) → IsNextCall t s h x.thread (given_bit s x.bit) a → IsNextCall t s h x.thread (given_bit s x.bit) b → a ≡ b
+    one_own a b p q =
+        let now = configuration_after t s h in
+        let bit = bits_alike (is_some s.seed) a.bit b.bit p.bit q.bit in
+        let first = subst (λ i. Answers t s.contexts now (granted_threads h) i a.bit a.reply) p.thread p.allowed.answers in
+        let moved = subst (λ k. Answers t s.contexts now (granted_threads h) x.thread k a.reply) bit first in
+        let second = subst (λ i. Answers t s.contexts now (granted_threads h) i b.bit b.reply) q.thread q.allowed.answers in
+        let reply = same_answer t s.contexts now (granted_threads h) x.thread b.bit a.reply b.reply moved second in
+        λ i. record { thread = (p.thread ∙ sym q.thread) i; bit = bit i; reply = reply i }
+
   module _ (h : List Call) (x : Call) (g : List Call) (playable : IsPlayable t s (h ++ x ∷ g)) where
     pub next_allowed : IsAllowed t s h x
     next_allowed = (legal_behind [] h (x ∷ g) playable.legal).0
 
-    no_other_bit : (n : ℕ) → HasOtherBit t s h n x → ⊥
-    no_other_bit n other =
+    bit_of_seed : (seed : ℕ) → s.seed ≡ Some seed → x.bit ≡ choice_bit seed x.thread (length (calls_of_thread x.thread h))
+    bit_of_seed seed has =
         let calls = calls_behind x.thread h (x ∷ g) ∙ ap (λ cs. calls_of_thread x.thread h ++ cs) (own_first x g) in
         let at = ap (λ cs. slice_get cs (length (calls_of_thread x.thread h))) calls ∙ behind_front (calls_of_thread x.thread h) (calls_of_thread x.thread g) x in
-        other.other (playable.seeded other.seed other.has x.thread (length (calls_of_thread x.thread h)) x at)
+        playable.seeded seed has x.thread (length (calls_of_thread x.thread h)) x at
+
+    has_own_bit : (b : Bool) → s.seed ≡ None ⊎ ((seed : ℕ) × (s.seed ≡ Some seed)) → is_some s.seed ≡ b → IsBitOfCall s h x.thread (cond b None (Some x.bit)) x.bit
+    has_own_bit true (inl none) e = absurd (false≢true (sym (ap is_some none) ∙ e))
+    has_own_bit true (inr some) e = record { seed = some.0; has = some.1; is = bit_of_seed some.0 some.1 }
+    has_own_bit false (inl none) e = (none, refl)
+    has_own_bit false (inr some) e = absurd (false≢true (sym e ∙ ap is_some some.1))
+
+    seed_or_none : (o : Option ℕ) → (o ≡ None) ⊎ ((seed : ℕ) × (o ≡ Some seed))
+    seed_or_none None = inl refl
+    seed_or_none (Some seed) = inr (seed, refl)
+
+    -- it is the machine's own
+    pub is_next : IsNextCall t s h x.thread (given_bit s x.bit) x
+    is_next = record { thread = refl; bit = has_own_bit (is_some s.seed) (seed_or_none s.seed) refl; allowed = next_allowed }
+
+    pub own_is : (own : Call) → IsNextCall t s h x.thread (given_bit s x.bit) own → own ≡ x
+    own_is own next = one_own h x own x next is_next
 
     -- so the call is not refused
     pub not_refused : (n : ℕ) (f : ReplayFault) → IsCallFault t s h n x f → ⊥
-    not_refused n (fault.AfterFinish m) r = false≢true (sym next_allowed.unfinished ∙ r.1)
-    not_refused n (fault.Bit m) r = no_other_bit n r.2
-    not_refused n (fault.Reply m wanted) r =
-        r.1.other (same_answer t s.contexts (configuration_after t s h) (granted_threads h) x.thread x.bit wanted x.reply r.1.allowed.answers next_allowed.answers)
+    not_refused n (fault.AfterFinish m made) r = false≢true (sym next_allowed.unfinished ∙ r.2)
+    not_refused n (fault.Bit m due) r = r.2 (ap (λ (y : Call). y.bit) (own_is due.call r.1.own))
+    not_refused n (fault.Reply m due) r = r.3 (ap (λ (y : Call). y.reply) (own_is due.call r.1.own))
     not_refused n fault.TooLong r = r
     not_refused n (fault.Head k) r = r
     not_refused n (fault.Setup g) r = r
     not_refused n (fault.Line m) r = r
-    not_refused n fault.NoEnd r = r
-    not_refused n fault.EndCount r = r
+    not_refused n (fault.NoEnd c) r = r
+    not_refused n (fault.EndCount m c) r = r
     not_refused n fault.Memory r = r
 
   -- one call has one refusal
@@ -82,38 +120,44 @@ module _ (t : Program) (s : SetupOf) where
     finished_or_not : is_finished s h x.thread ≡ true → is_finished s h x.thread ≡ false → ⊥
     finished_or_not a b = false≢true (sym b ∙ a)
 
-    one_wanted : (a b : Reply) → IsOtherReply t s h n x a → IsOtherReply t s h n x b → a ≡ b
-    one_wanted a b p q = same_answer t s.contexts (configuration_after t s h) (granted_threads h) x.thread x.bit a b p.allowed.answers q.allowed.answers
+    one_due : (a b : Due) → IsDue t s h n x a → IsDue t s h n x b → a ≡ b
+    one_due a b p q = λ i. record { calls = (p.calls ∙ sym q.calls) i; call = one_own h x a.call b.call p.own q.own i }
+
+    due_is_open : (d : Due) → IsDue t s h n x d → is_finished s h x.thread ≡ false
+    due_is_open d p = subst (λ i. is_finished s h i ≡ false) p.own.thread p.own.allowed.unfinished
+
+    same_bit : (a b : Due) → IsDue t s h n x a → IsDue t s h n x b → a.call.bit ≡ b.call.bit
+    same_bit a b p q = ap (λ (d : Due). d.call.bit) (one_due a b p q)
 
     -- the three of them
     abbrev Refused : ReplayFault → Type 0
     Refused f =
-        ((f ≡ fault.AfterFinish n) × (is_finished s h x.thread ≡ true))
-        ⊎ (((f ≡ fault.Bit n) × (is_finished s h x.thread ≡ false) × HasOtherBit t s h n x)
-        ⊎ ((w : Reply) × (f ≡ fault.Reply n w) × IsOtherReply t s h n x w))
+        ((f ≡ fault.AfterFinish n (length h)) × (is_finished s h x.thread ≡ true))
+        ⊎ (((d : Due) × (f ≡ fault.Bit n d) × IsDue t s h n x d × (d.call.bit ≢ x.bit))
+        ⊎ ((d : Due) × (f ≡ fault.Reply n d) × IsDue t s h n x d × (d.call.bit ≡ x.bit)))
 
     refused : (f : ReplayFault) → IsCallFault t s h n x f → Refused f
-    refused (fault.AfterFinish m) p = inl (ap fault.AfterFinish p.0, p.1)
-    refused (fault.Bit m) p = inr (inl (ap fault.Bit p.0, p.1, p.2))
-    refused (fault.Reply m w) p = inr (inr (w, ap (λ k. fault.Reply k w) p.0, p.1))
+    refused (fault.AfterFinish m made) p = inl (λ i. fault.AfterFinish (p.0 i) (p.1 i), p.2)
+    refused (fault.Bit m d) p = inr (inl (d, ap (λ k. fault.Bit k d) p.0, p.1, p.2))
+    refused (fault.Reply m d) p = inr (inr (d, ap (λ k. fault.Reply k d) p.0, p.1, p.2))
     refused fault.TooLong p = absurd p
     refused (fault.Head k) p = absurd p
     refused (fault.Setup g) p = absurd p
     refused (fault.Line m) p = absurd p
-    refused fault.NoEnd p = absurd p
-    refused fault.EndCount p = absurd p
+    refused (fault.NoEnd c) p = absurd p
+    refused (fault.EndCount m c) p = absurd p
     refused fault.Memory p = absurd p
 
     one_refused : (f g : ReplayFault) → Refused f → Refused g → f ≡ g
     one_refused f g (inl p) (inl q) = p.0 ∙ sym q.0
-    one_refused f g (inl p) (inr (inl q)) = absurd (finished_or_not p.1 q.1)
-    one_refused f g (inl p) (inr (inr q)) = absurd (finished_or_not p.1 q.2.allowed.unfinished)
-    one_refused f g (inr (inl p)) (inl q) = absurd (finished_or_not q.1 p.1)
-    one_refused f g (inr (inl p)) (inr (inl q)) = p.0 ∙ sym q.0
-    one_refused f g (inr (inl p)) (inr (inr q)) = absurd (q.2.seeded p.2)
-    one_refused f g (inr (inr p)) (inl q) = absurd (finished_or_not q.1 p.2.allowed.unfinished)
-    one_refused f g (inr (inr p)) (inr (inl q)) = absurd (p.2.seeded q.2)
-    one_refused f g (inr (inr p)) (inr (inr q)) = p.1 ∙ ap (fault.Reply n) (one_wanted p.0 q.0 p.2 q.2) ∙ sym q.1
+    one_refused f g (inl p) (inr (inl q)) = absurd (finished_or_not p.1 (due_is_open q.0 q.2))
+    one_refused f g (inl p) (inr (inr q)) = absurd (finished_or_not p.1 (due_is_open q.0 q.2))
+    one_refused f g (inr (inl p)) (inl q) = absurd (finished_or_not q.1 (due_is_open p.0 p.2))
+    one_refused f g (inr (inl p)) (inr (inl q)) = p.1 ∙ ap (fault.Bit n) (one_due p.0 q.0 p.2 q.2) ∙ sym q.1
+    one_refused f g (inr (inl p)) (inr (inr q)) = absurd (p.3 (same_bit p.0 q.0 p.2 q.2 ∙ q.3))
+    one_refused f g (inr (inr p)) (inl q) = absurd (finished_or_not q.1 (due_is_open p.0 p.2))
+    one_refused f g (inr (inr p)) (inr (inl q)) = absurd (q.3 (same_bit q.0 p.0 q.2 p.2 ∙ p.3))
+    one_refused f g (inr (inr p)) (inr (inr q)) = p.1 ∙ ap (fault.Reply n) (one_due p.0 q.0 p.2 q.2) ∙ sym q.1
 
     pub one_call_fault : (f g : ReplayFault) → IsCallFault t s h n x f → IsCallFault t s h n x g → f ≡ g
     one_call_fault f g p q = one_refused f g (refused f p) (refused g q)

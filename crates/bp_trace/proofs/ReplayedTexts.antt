@@ -15,12 +15,12 @@ use Rattle.bp_trace.specs.declared.replay_faults.ReplayFault.{ReplayFault}
 use Rattle.bp_trace.specs.declared.replay_faults.ReplayFault.TheVariants as fault
 use Rattle.bp_trace.specs.declared.versions.Version.{Version}
 use Rattle.bp_trace.specs.declared.versions.Version.TheVariants.{One, Two}
-use Rattle.bp_trace.specs.EndReading.{IsEndRefusal}
+use Rattle.bp_trace.specs.EndReading.{counts, IsEndRefusal}
 use Rattle.bp_trace.specs.declared.heads.Head.{Head}
 use Rattle.bp_trace.specs.HeadReading.{setup_of_head, IsHeadOf}
 use Rattle.bp_trace.specs.Heads.{head_lines, HasHead}
 use Rattle.bp_trace.specs.Judging.{IsBody, IsBodyRefusal, HasRefusedBody, replay_fault_of_setup}
-use Rattle.bp_trace.specs.Replays.{IsPlayable, IsTrace, line_count, HasOtherEnd, HasMoreBehind, Reaches, IsRestRefused, HasRefusedRest, IsReplayRefusal}
+use Rattle.bp_trace.specs.Replays.{counts_of, IsPlayable, IsTrace, line_count, HasOtherEnd, HasMoreBehind, Reaches, IsRestRefused, HasRefusedRest, IsReplayRefusal}
 use Rattle.bp_trace.specs.TraceText.{version_line, entry_line, init_line, limit_lines, setup_lines, head_text, calls_text, end_line}
 use Rattle.bp_trace.proofs.WholeHead.{line_total}
 
@@ -84,15 +84,15 @@ module _ (t : Program) (text : List ℕ) (short : length text ≤ MAX_TRACE) (v 
 
     -- a call is refused
     call_refused : (f : ReplayFault) (r : HasRefusedBody t v s rest first f) → IsReplayRefusal t text f
-    call_refused (fault.AfterFinish m) r = (short, refused_rest r.history r.rest r.playable r.parts (fault.AfterFinish m) r.refused)
-    call_refused (fault.Bit m) r = (short, refused_rest r.history r.rest r.playable r.parts (fault.Bit m) r.refused)
-    call_refused (fault.Reply m w) r = (short, refused_rest r.history r.rest r.playable r.parts (fault.Reply m w) r.refused)
+    call_refused (fault.AfterFinish m made) r = (short, refused_rest r.history r.rest r.playable r.parts (fault.AfterFinish m made) r.refused)
+    call_refused (fault.Bit m d) r = (short, refused_rest r.history r.rest r.playable r.parts (fault.Bit m d) r.refused)
+    call_refused (fault.Reply m d) r = (short, refused_rest r.history r.rest r.playable r.parts (fault.Reply m d) r.refused)
     call_refused fault.TooLong r = absurd r.refused.among.refused
     call_refused (fault.Head k) r = absurd r.refused.among.refused
     call_refused (fault.Setup g) r = absurd r.refused.among.refused
     call_refused (fault.Line m) r = absurd r.refused.among.refused
-    call_refused fault.NoEnd r = absurd r.refused.among.refused
-    call_refused fault.EndCount r = absurd r.refused.among.refused
+    call_refused (fault.NoEnd c) r = absurd r.refused.among.refused
+    call_refused (fault.EndCount m c) r = absurd r.refused.among.refused
     call_refused fault.Memory r = absurd r.refused.among.refused
 
     pub body_refuses : (f : ReplayFault) → IsBodyRefusal t v s rest first f → IsReplayRefusal t text f
@@ -109,13 +109,17 @@ module _ (t : Program) (text : List ℕ) (short : length text ≤ MAX_TRACE) (v 
       own_is : end_line r.calls r.left_open ≡ end_line (length h) (open_lines s h)
       own_is = ap (λ n. end_line n r.left_open) report.calls ∙ ap (end_line (length h)) report.left_open
 
+      counts_are : counts r.calls r.left_open ≡ counts_of s h
+      counts_are = λ i. record { calls = report.calls i; left_open = report.left_open i }
+
       at_end : (f : ReplayFault) → IsRestRefused t v s h (first + line_count v h) behind f → HasRefusedRest t text f
       at_end f q = refused_rest h behind playable body.parts f q
 
       -- what is behind the calls is refused
       pub end_refuses : (f : ReplayFault) → IsEndRefusal behind r.calls r.left_open b.line f → IsReplayRefusal t text f
-      end_refuses fault.NoEnd q = (short, at_end fault.NoEnd q)
-      end_refuses fault.EndCount q = (short, at_end fault.EndCount (subst (λ own. HasOtherEnd own behind) own_is q))
+      end_refuses (fault.NoEnd c) q = (short, at_end (fault.NoEnd c) (q.0, q.1 ∙ counts_are))
+      end_refuses (fault.EndCount m c) q =
+          (short, at_end (fault.EndCount m c) (q.0 ∙ body.number, q.1 ∙ counts_are, subst (λ own. HasOtherEnd own behind) own_is q.2))
       end_refuses (fault.Line m) (inl q) =
           (short, at_end (fault.Line m) (inl (q.0 ∙ body.number, record { some = q.1.some; calls = body.ends; ends = q.1.ends })))
       end_refuses (fault.Line m) (inr q) =
@@ -123,9 +127,9 @@ module _ (t : Program) (text : List ℕ) (short : length text ≤ MAX_TRACE) (v 
       end_refuses fault.TooLong q = absurd q
       end_refuses (fault.Head k) q = absurd q
       end_refuses (fault.Setup g) q = absurd q
-      end_refuses (fault.AfterFinish m) q = absurd q
-      end_refuses (fault.Bit m) q = absurd q
-      end_refuses (fault.Reply m w) q = absurd q
+      end_refuses (fault.AfterFinish m made) q = absurd q
+      end_refuses (fault.Bit m d) q = absurd q
+      end_refuses (fault.Reply m d) q = absurd q
       end_refuses fault.Memory q = absurd q
 
       -- the end is behind the calls, alone

@@ -1,5 +1,6 @@
 -- How the line that ends a trace is read: a device of the reader, which no public clause names.
 use Rattle.std.specs.Prelude.{◌≡◌, ◌≢◌, ◌⊎◌, ◌<◌, ℕ, ◌+◌, List, [], ◌∷◌, ◌++◌, length}
+use Rattle.bp_trace.specs.declared.replay_faults.Counts.{Counts}
 use Rattle.bp_trace.specs.declared.replay_faults.ReplayFault.{ReplayFault}
 use Rattle.bp_trace.specs.declared.replay_faults.ReplayFault.TheVariants as fault
 use Rattle.bp_trace.specs.TraceText.{end_line}
@@ -39,6 +40,10 @@ pub record HasOtherLine (text : List ℕ) : Type 0 where
   pub some : text ≢ []
   pub ends : HasNoEnd text
 
+-- what an end counts
+abbrev pub counts : ℕ → ℕ → Counts
+counts calls left_open = record { calls = calls; left_open = left_open }
+
 -- Why what is behind the calls of a trace is refused, where line n is due: it is not the end of so
 -- many calls and open lines, alone.
 module _ (rest : List ℕ) (calls left_open n : ℕ) where
@@ -46,8 +51,8 @@ module _ (rest : List ℕ) (calls left_open n : ℕ) where
   own = end_line calls left_open
 
   abbrev pub IsEndRefusal : ReplayFault → Type 0
-  IsEndRefusal fault.NoEnd = rest ≡ []
-  IsEndRefusal fault.EndCount = HasOtherEnd own rest
+  IsEndRefusal (fault.NoEnd c) = (rest ≡ []) × (c ≡ counts calls left_open)
+  IsEndRefusal (fault.EndCount m c) = (m ≡ n) × (c ≡ counts calls left_open) × HasOtherEnd own rest
   IsEndRefusal (fault.Line m) =
       ((m ≡ n) × HasOtherLine rest) ⊎ ((m ≡ n + 1) × HasMoreBehind own rest)
   IsEndRefusal f = ⊥

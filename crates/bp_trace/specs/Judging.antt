@@ -19,6 +19,7 @@ use Rattle.bp_trace.specs.declared.versions.Version.{Version}
 use Rattle.bp_trace.specs.TraceText.{calls_text}
 use Rattle.bp_trace.specs.BodyReading.{HasNoBodyLine}
 use Rattle.bp_trace.specs.Replayed.{row_of}
+use Rattle.bp_trace.specs.declared.replay_faults.Due.{Due}
 use Rattle.bp_trace.specs.declared.replay_faults.ReplayFault.{ReplayFault}
 use Rattle.bp_trace.specs.declared.replay_faults.ReplayFault.TheVariants as fault
 use Rattle.bp_trace.specs.Replays.{IsPlayable, line_count, IsCallFault, IsRefusedAmong, HasRefusedCall}
@@ -27,22 +28,27 @@ use Rattle.bp_trace.specs.Replays.{IsPlayable, line_count, IsCallFault, IsRefuse
 abbrev pub rows_of : Option Printed → List PrintedRow
 rows_of row = option_to_list (option_map row_of row)
 
--- the refusal of a call on the line n, of a thread that is there
-abbrev pub replay_fault_of : AskFault → ℕ → ReplayFault
-replay_fault_of refused.Memory n = fault.Memory
-replay_fault_of f n = fault.AfterFinish n
+-- the refusal of a call on the line n after so many calls, of a thread that is there
+abbrev pub replay_fault_of : AskFault → ℕ → ℕ → ReplayFault
+replay_fault_of refused.Memory n made = fault.Memory
+replay_fault_of f n made = fault.AfterFinish n made
 
 -- the machine's call has the bit and the reply of the trace's
 pub record IsOwnAs (own x : Call) : Type 0 where
   pub bit : own.bit ≡ x.bit
   pub reply : own.reply ≡ x.reply
 
--- another bit, or another reply
-abbrev pub IsMismatch : Call → Call → ℕ → ReplayFault → Type 0
-IsMismatch own x n (fault.Bit m) = (m ≡ n) × (own.bit ≢ x.bit)
-IsMismatch own x n (fault.Reply m wanted) =
-    (m ≡ n) × (own.bit ≡ x.bit) × (wanted ≡ own.reply) × (own.reply ≢ x.reply)
-IsMismatch own x n f = ⊥
+-- another bit, or another reply, after so many calls
+module _ (own x : Call) (n made : ℕ) where
+  pub record IsDueCall (due : Due) : Type 0 where
+    pub calls : due.calls ≡ made
+    pub call : due.call ≡ own
+
+  abbrev pub IsMismatch : ReplayFault → Type 0
+  IsMismatch (fault.Bit m due) = (m ≡ n) × IsDueCall due × (own.bit ≢ x.bit)
+  IsMismatch (fault.Reply m due) =
+      (m ≡ n) × IsDueCall due × (own.bit ≡ x.bit) × (own.reply ≢ x.reply)
+  IsMismatch f = ⊥
 
 -- why a call on the line n is refused after h
 abbrev pub IsCallRefusal : Program → SetupOf → List Call → ℕ → Call → ReplayFault → Type 0

@@ -11,11 +11,11 @@ replay_fault_number fault.TooLong = 48
 replay_fault_number (fault.Head k) = 41
 replay_fault_number (fault.Setup f) = setup_fault_number f
 replay_fault_number (fault.Line k) = 42
-replay_fault_number (fault.AfterFinish k) = 47
-replay_fault_number (fault.Bit k) = 43
-replay_fault_number (fault.Reply k r) = 44
-replay_fault_number fault.NoEnd = 45
-replay_fault_number fault.EndCount = 46
+replay_fault_number (fault.AfterFinish k made) = 47
+replay_fault_number (fault.Bit k due) = 43
+replay_fault_number (fault.Reply k due) = 44
+replay_fault_number (fault.NoEnd counts) = 45
+replay_fault_number (fault.EndCount k counts) = 46
 replay_fault_number fault.Memory = 7
 
 -- the line of the trace, or the thread of the setup, that a fault names
@@ -23,12 +23,12 @@ abbrev pub replay_fault_place : ReplayFault → Option ℕ
 replay_fault_place (fault.Head k) = Some k
 replay_fault_place (fault.Setup f) = setup_fault_place f
 replay_fault_place (fault.Line k) = Some k
-replay_fault_place (fault.AfterFinish k) = Some k
-replay_fault_place (fault.Bit k) = Some k
-replay_fault_place (fault.Reply k r) = Some k
+replay_fault_place (fault.AfterFinish k made) = Some k
+replay_fault_place (fault.Bit k due) = Some k
+replay_fault_place (fault.Reply k due) = Some k
 replay_fault_place f = None
 
 -- the reply that was wanted
 abbrev pub wanted_reply : ReplayFault → Option Reply
-wanted_reply (fault.Reply k r) = Some r
+wanted_reply (fault.Reply k due) = Some due.call.reply
 wanted_reply f = None

@@ -1,16 +1,17 @@
 -- What a text is to a replay: the trace of a legal history, or what refuses it.
-use Rattle.std.specs.Prelude.{◌≡◌, ◌≢◌, ◌⊎◌, ◌<◌, ◌≤◌, ℕ, ◌+◌, true, false, List, [], ◌∷◌, ◌++◌, Option, None, Some, length, map, codes, slice_index}
+use Rattle.std.specs.Prelude.{◌≡◌, ◌≢◌, ◌⊎◌, ◌<◌, ◌≤◌, ℕ, ◌+◌, true, List, [], ◌∷◌, ◌++◌, Option, None, Some, length, map, codes, slice_index}
 use Rattle.std.specs.Str.Parse.{AllDigits}
 use Rattle.bp_tree.specs.Ast.{Program}
 use Rattle.bp_machine.specs.declared.calls.Call.{Call}
-use Rattle.bp_machine.specs.declared.calls.Reply.{Reply}
 use Rattle.bp_machine.specs.declared.setup_faults.SetupFault.{SetupFault}
 use Rattle.bp_machine.specs.Setups.{SetupOf, threads, setup_fault}
-use Rattle.bp_machine.specs.ChoiceBits.{choice_bit}
 use Rattle.bp_machine.specs.ContextCounts.{last_thread}
-use Rattle.bp_machine.specs.Histories.{calls_of_thread, is_finished, open_lines, IsAllowed, IsLegal}
+use Rattle.bp_machine.specs.Histories.{is_finished, open_lines, IsLegal}
 use Rattle.bp_machine.specs.SeededHistories.{HasSeededBits}
+use Rattle.bp_machine.specs.Sessions.{IsNextCall, given_bit}
 use Rattle.bp_trace.specs.declared.limits.TheConstants.{MAX_TRACE}
+use Rattle.bp_trace.specs.declared.replay_faults.Counts.{Counts}
+use Rattle.bp_trace.specs.declared.replay_faults.Due.{Due}
 use Rattle.bp_trace.specs.declared.replay_faults.ReplayFault.{ReplayFault}
 use Rattle.bp_trace.specs.declared.replay_faults.ReplayFault.TheVariants as fault
 use Rattle.bp_trace.specs.declared.versions.Version.{Version}
@@ -90,24 +91,21 @@ module _ (own rest : List ℕ) where
     pub begins : rest ≡ own ++ more
     pub some : more ≢ []
 
--- Why a call is refused on line n after the history h: its thread has made its last call; else its
--- bit is not that of the seed; else the machine's reply is another one, which was wanted.
+-- Why the call x is refused on line n after the history h: its thread has made its last call; else
+-- the machine's own call, which has the bit of the seed where there is one, has another bit; else
+-- it has another reply.
 module _ (t : Program) (s : SetupOf) (h : List Call) (n : ℕ) (x : Call) where
-  -- the bit is not that of the seed
-  pub record HasOtherBit : Type 0 where
-    pub seed : ℕ
-    pub has : s.seed ≡ Some seed
-    pub other : x.bit ≢ choice_bit seed x.thread (length (calls_of_thread x.thread h))
-
-  pub record IsOtherReply (wanted : Reply) : Type 0 where
-    pub allowed : IsAllowed t s h (record { thread = x.thread; bit = x.bit; reply = wanted })
-    pub seeded : HasOtherBit → ⊥
-    pub other : wanted ≢ x.reply
+  -- the machine's own call of the thread, after those of h
+  pub record IsDue (due : Due) : Type 0 where
+    pub calls : due.calls ≡ length h
+    pub own : IsNextCall t s h x.thread (given_bit s x.bit) due.call
 
   abbrev pub IsCallFault : ReplayFault → Type 0
-  IsCallFault (fault.AfterFinish m) = (m ≡ n) × (is_finished s h x.thread ≡ true)
-  IsCallFault (fault.Bit m) = (m ≡ n) × (is_finished s h x.thread ≡ false) × HasOtherBit
-  IsCallFault (fault.Reply m wanted) = (m ≡ n) × IsOtherReply wanted
+  IsCallFault (fault.AfterFinish m made) =
+      (m ≡ n) × (made ≡ length h) × (is_finished s h x.thread ≡ true)
+  IsCallFault (fault.Bit m due) = (m ≡ n) × IsDue due × (due.call.bit ≢ x.bit)
+  IsCallFault (fault.Reply m due) =
+      (m ≡ n) × IsDue due × (due.call.bit ≡ x.bit) × (due.call.reply ≢ x.reply)
   IsCallFault f = ⊥
 
 -- one of the calls of line n is refused, after h and those before it
@@ -132,6 +130,10 @@ pub record Reaches
   pub playable : IsPlayable t s h
   pub parts : text ≡ head_text v s ++ (calls_text v h ++ rest)
   pub number : n ≡ length (head_lines v s) + line_count v h + 1
+
+-- what the end of a history counts
+abbrev pub counts_of : SetupOf → List Call → Counts
+counts_of s h = record { calls = length h; left_open = open_lines s h }
 
 -- Why the rest is refused: it is empty; it begins with no line that is due; with one whose calls
 -- are refused; with the end of another history; or with the end, and something behind it.
@@ -163,8 +165,9 @@ module _
   own_end = end_line (length h) (open_lines s h)
 
   abbrev pub IsRestRefused : ReplayFault → Type 0
-  IsRestRefused fault.NoEnd = rest ≡ []
-  IsRestRefused fault.EndCount = HasOtherEnd own_end rest
+  IsRestRefused (fault.NoEnd counts) = (rest ≡ []) × (counts ≡ counts_of s h)
+  IsRestRefused (fault.EndCount m counts) =
+      (m ≡ n) × (counts ≡ counts_of s h) × HasOtherEnd own_end rest
   IsRestRefused (fault.Line m) =
       ((m ≡ n) × HasNoNextLine) ⊎ ((m ≡ n + 1) × HasMoreBehind own_end rest)
   IsRestRefused f = HasRefusedCall f

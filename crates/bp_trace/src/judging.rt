@@ -1,5 +1,5 @@
 //! Judging the calls of a trace, one after the other.
-ghost use Rattle.std.specs.Prelude.{◌≡◌, ◌<◌, ◌++◌, ◌∷◌, [], List, Some, IfOk, IfErr, OnOk, MatchResult, map};
+ghost use Rattle.std.specs.Prelude.{◌≡◌, ◌<◌, ◌++◌, ◌∷◌, [], List, Some, IfOk, IfErr, OnOk, length, map};
 ghost use Rattle.bp_tree.specs.Ast.{Program};
 ghost use Rattle.bp_code.specs.StandsFor.{StandsFor};
 ghost use Rattle.bp_machine.specs.declared.calls.Call.{Call as Answered};
@@ -11,7 +11,7 @@ ghost use Rattle.bp_machine.specs.Sessions.{Stands};
 ghost use Rattle.bp_trace.specs.Replayed.{row_of};
 ghost use Rattle.bp_trace.specs.Judging.{rows_of, replay_fault_of, IsOwnAs, IsMismatch, IsCallRefusal};
 
-use crate::replay_faults::ReplayFault;
+use crate::replay_faults::{Due, ReplayFault};
 use bp_machine::{AskFault, Call, Reply, Session};
 use std::alloc::AllocError;
 
@@ -44,29 +44,43 @@ fn keep(played: &mut Played, call: Call, row: Option<Printed>) -> Result<(), All
     Ok(())
 }
 
-/// The refusal of a call on the `n`-th line, of a thread that is there.
-fn replay_fault_of(fault: AskFault, n: u32) -> ReplayFault
-    ensures { result ≡ replay_fault_of fault n }
+/// How many calls a session has made.
+fn call_count(session: &Session) -> u64
+    ensures { (t : Program) (h : List Answered) → Stands t session.now h → result ≡ length h }
+{
+    session.report().calls
+}
+
+/// The refusal of a call on the `n`-th line after so many calls, of a thread that is there.
+fn replay_fault_of(fault: AskFault, n: u32, made: u64) -> ReplayFault
+    ensures { result ≡ replay_fault_of fault n made }
 {
     match fault {
         AskFault::Memory => ReplayFault::Memory,
-        _ => ReplayFault::AfterFinish(n),
+        _ => ReplayFault::AfterFinish(n, made),
     }
 }
 
-/// Whether the call is the machine's own.
-fn matched(own: &Call, call: &Call, n: u32) -> Result<(), ReplayFault>
-    ensures { MatchResult result
-        (λ _. IsOwnAs own.now call.now)
-        (IsMismatch own.now call.now n) }
+/// Whether the call is the machine's own, which comes after those that the session has made.
+fn matched(session: &Session, own: &Call, call: &Call, n: u32) -> Result<(), ReplayFault>
+    ensures own { OnOk result (IsOwnAs own.now call.now) }
+    ensures other { (t : Program) (h : List Answered)
+        → Stands t session.now h
+        → IfErr result (IsMismatch own.now call.now n (length h)) }
 {
-    if own.bit != call.bit {
-        return Err(ReplayFault::Bit(n));
+    let is_same_bit = own.bit == call.bit;
+    if is_same_bit && own.reply == call.reply {
+        return Ok(());
     }
-    if own.reply != call.reply {
-        return Err(ReplayFault::Reply(n, own.reply));
+    let due = Due {
+        calls: call_count(session),
+        call: *own,
+    };
+    if is_same_bit {
+        Err(ReplayFault::Reply(n, due))
+    } else {
+        Err(ReplayFault::Bit(n, due))
     }
-    Ok(())
 }
 
 /// What a call prints, where its step is granted and at a `print`.
@@ -122,9 +136,9 @@ pub(crate) fn judge(
 {
     let own = match session.prepare_as_recorded(call.thread, call.bit) {
         Ok(own) => own,
-        Err(fault) => return Err(replay_fault_of(fault, n)),
+        Err(fault) => return Err(replay_fault_of(fault, n, call_count(session))),
     };
-    matched(&own, call, n)?;
+    matched(session, &own, call, n)?;
     let Ok(row) = row_of_call(session, call) else {
         return Err(ReplayFault::Memory);
     };

@@ -30,7 +30,7 @@ pub use laws::{
 };
 pub use migrate_faults::MigrateFault;
 pub use migrating::migrate;
-pub use replay_faults::ReplayFault;
+pub use replay_faults::{Counts, Due, ReplayFault};
 pub use replaying::{Replayed, replay};
 pub use schedules::ScheduleLine;
 pub use traces::{write_call, write_end, write_head, write_trace, write_trace2};

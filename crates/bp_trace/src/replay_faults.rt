@@ -1,8 +1,24 @@
 //! Why a text is no trace.
 
-use bp_machine::{Reply, SetupFault};
+use bp_machine::{Call, Reply, SetupFault};
 use std::alloc::AllocError;
 use thiserror::Error;
+
+/// The machine's own call, which is due where a trace has another one.
+#[derive(Clone, Copy, Debug, PartialEq, Eq)]
+pub struct Due {
+    /// How many calls the trace has before.
+    pub calls: u64,
+    pub call: Call,
+}
+
+/// What the end line of a trace has to count.
+#[derive(Clone, Copy, Debug, PartialEq, Eq)]
+pub struct Counts {
+    pub calls: u64,
+    /// How many threads may make another call.
+    pub left_open: u32,
+}
 
 /// Why a text is no trace of a program: the first of these that applies. Lines are counted from 1.
 #[derive(Clone, Copy, Debug, PartialEq, Eq, Error)]
@@ -20,21 +36,22 @@ pub enum ReplayFault {
     /// end.
     #[error("line {0} of the trace is not a line of calls or the end")]
     Line(u32),
-    /// The thread of this line has made its last call.
+    /// The thread of a call on this line has made its last one. The trace has so many calls before.
     #[error("line {0} of the trace is of a thread that has made its last call")]
-    AfterFinish(u32),
-    /// The choice bit of a call on this line is not that of the seed.
+    AfterFinish(u32, u64),
+    /// The choice bit of a call on this line is not that of the seed, which the machine's own call
+    /// has.
     #[error("line {0} of the trace has another choice bit than the seed")]
-    Bit(u32),
-    /// The machine's reply to a call on this line is another one, which was wanted.
+    Bit(u32, Due),
+    /// The machine's own call has another reply than a call on this line.
     #[error("line {0} of the trace has another reply than the machine")]
-    Reply(u32, Reply),
-    /// There is no end line.
+    Reply(u32, Due),
+    /// There is no end line. It has to count this.
     #[error("the trace has no end")]
-    NoEnd,
-    /// The end line has other numbers than the history.
+    NoEnd(Counts),
+    /// This line is an end, but does not count this.
     #[error("the end of the trace counts other calls or open lines")]
-    EndCount,
+    EndCount(u32, Counts),
     /// There was not enough memory.
     #[error("out of memory")]
     Memory,
@@ -53,11 +70,11 @@ impl ReplayFault {
             ReplayFault::Head(_) => 41,
             ReplayFault::Setup(fault) => fault.number(),
             ReplayFault::Line(_) => 42,
-            ReplayFault::AfterFinish(_) => 47,
-            ReplayFault::Bit(_) => 43,
+            ReplayFault::AfterFinish(_, _) => 47,
+            ReplayFault::Bit(_, _) => 43,
             ReplayFault::Reply(_, _) => 44,
-            ReplayFault::NoEnd => 45,
-            ReplayFault::EndCount => 46,
+            ReplayFault::NoEnd(_) => 45,
+            ReplayFault::EndCount(_, _) => 46,
             ReplayFault::Memory => 7,
         }
     }
@@ -69,8 +86,8 @@ impl ReplayFault {
         match self {
             ReplayFault::Head(line)
             | ReplayFault::Line(line)
-            | ReplayFault::AfterFinish(line)
-            | ReplayFault::Bit(line)
+            | ReplayFault::AfterFinish(line, _)
+            | ReplayFault::Bit(line, _)
             | ReplayFault::Reply(line, _) => Some(*line),
             ReplayFault::Setup(fault) => fault.place(),
             _ => None,
@@ -82,7 +99,7 @@ impl ReplayFault {
         ensures { result ≡ wanted_reply self.now }
     {
         match self {
-            ReplayFault::Reply(_, wanted) => Some(*wanted),
+            ReplayFault::Reply(_, due) => Some(due.call.reply),
             _ => None,
         }
     }

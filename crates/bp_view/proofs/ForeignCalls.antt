@@ -1,29 +1,18 @@
 -- A call of a history that may be played is the machine's own, and is refused for want of memory alone.
-use Rattle.std.proofs.Common.{◌≡◌, ◌≢◌, ◌∙◌, ℕ, ◌<◌, Bool, true, false, List, ◌∷◌, ◌++◌, Option, None, Some, is_some, cond, refl, ap, sym, subst, arith, suc, take, drop, drop-cons, length, get_or}
+use Rattle.std.proofs.Common.{◌≡◌, ◌≢◌, ◌∙◌, ℕ, ◌<◌, Bool, true, false, List, ◌∷◌, ◌++◌, None, Some, is_some, cond, refl, ap, sym, subst, arith, suc, take, drop, drop-cons, length, get_or}
 use Rattle.std.proofs.lemmas.Bool.{false≢true}
 use Rattle.std.proofs.lemmas.List.{take-append-drop}
 use Rattle.bp_tree.specs.Ast.{Program}
 use Rattle.bp_machine.specs.declared.calls.Call.{Call}
 use Rattle.bp_machine.specs.declared.ask_faults.AskFault.{AskFault}
 use Rattle.bp_machine.specs.declared.ask_faults.AskFault.TheVariants.{NoThread, Finished, Seeded, Unseeded, Memory, Busy}
-use Rattle.bp_machine.specs.Answers.{Answers}
-use Rattle.bp_machine.specs.Histories.{configuration_after, granted_threads}
-use Rattle.bp_machine.specs.SeededHistories.{IsBitOfCall}
-use Rattle.bp_machine.specs.Sessions.{IsAskRefusal, IsNextCall, given_bit}
+use Rattle.bp_machine.specs.Sessions.{IsAskRefusal, given_bit}
 use Rattle.bp_machine.specs.Setups.{SetupOf}
-use Rattle.bp_trace.specs.declared.replay_faults.ReplayFault.TheVariants as fault
 use Rattle.bp_trace.specs.Replays.{IsPlayable}
-use Rattle.bp_view.specs.declared.views.ViewFault.{ViewFault}
-use Rattle.bp_view.specs.declared.views.ViewFault.TheVariants as view
+use Rattle.bp_view.specs.declared.view_faults.ViewFault.{ViewFault}
+use Rattle.bp_view.specs.declared.view_faults.ViewFault.TheVariants as view
 use Rattle.bp_view.specs.Views.{view_fault_of, IsPlayRefusal, IsViewRefusal}
-use Rattle.bp_trace.proofs.LinesDriveAgain.{same_answer}
-use Rattle.bp_trace.proofs.PlayableFronts.{next_allowed, not_refused}
-
-not_other : (a b : Bool) → (a ≢ b → ⊥) → a ≡ b
-not_other true true never = refl
-not_other false false never = refl
-not_other true false never = absurd (never (λ e. false≢true (sym e)))
-not_other false true never = absurd (never false≢true)
+use Rattle.bp_trace.proofs.PlayableFronts.{next_allowed}
 
 not_given : (b bit : Bool) → b ≡ true → is_some (cond b None (Some bit)) ≡ true → ⊥
 not_given true bit e given = false≢true given
@@ -43,19 +32,6 @@ module _ (t : Program) (s : SetupOf) (h : List Call) (x : Call) where
     is_asked Unseeded r other = given_there (is_some s.seed) x.bit (ap is_some r.2) r.1
     is_asked Memory r other = other refl
     is_asked Busy r other = r
-
-    same_bit : (own : Bool) (b : Bool) → IsBitOfCall s h x.thread (cond b None (Some x.bit)) own → own ≡ x.bit
-    same_bit own true r = r.is ∙ sym (not_other x.bit _ (λ other. not_refused t s h x g playable 0 (fault.Bit 0) (refl, (next_allowed t s h x g playable).unfinished, record { seed = r.seed; has = r.has; other = other })))
-    same_bit own false r = r.1
-
-    -- and it is that one
-    pub is_the_own : (own : Call) → IsNextCall t s h x.thread (given_bit s x.bit) own → own ≡ x
-    is_the_own own next =
-        let bit = same_bit own.bit (is_some s.seed) next.bit in
-        let one = subst (λ i. Answers t s.contexts (configuration_after t s h) (granted_threads h) i own.bit own.reply) next.thread next.allowed.answers in
-        let other = subst (λ b. Answers t s.contexts (configuration_after t s h) (granted_threads h) x.thread b own.reply) bit one in
-        let reply = same_answer t s.contexts (configuration_after t s h) (granted_threads h) x.thread x.bit own.reply x.reply other (next_allowed t s h x g playable).answers in
-        λ i. record { thread = next.thread i; bit = bit i; reply = reply i }
 
   pub refusal_is : (f : AskFault) → IsAskRefusal t s h x.thread (given_bit s x.bit) f → IsPlayRefusal t s h x (view_fault_of f)
   refusal_is Memory r = tt

@@ -1,5 +1,5 @@
 -- The lines of a history with one more call.
-use Rattle.std.proofs.Common.{◌≡◌, ◌∙◌, ℕ, suc, List, [], ◌∷◌, ◌++◌, Option, None, Some, Bool, true, false, cond, length, ap, sym, refl, subst, append_assoc, append-nil}
+use Rattle.std.proofs.Common.{◌≡◌, ◌∙◌, ℕ, List, [], ◌∷◌, ◌++◌, Some, Bool, true, false, cond, ap, sym, refl, subst, append_assoc, append-nil}
 use Rattle.bp_tree.specs.Ast.{Program}
 use Rattle.bp_machine.specs.declared.calls.Call.{Call}
 use Rattle.bp_machine.specs.ContextCounts.{last_thread}
@@ -7,9 +7,10 @@ use Rattle.bp_machine.specs.Histories.{granted_threads}
 use Rattle.bp_machine.specs.Replies.{is_granted}
 use Rattle.bp_machine.specs.Setups.{SetupOf}
 use Rattle.bp_machine.proofs.HistoryWithCall.{granted_threads-append}
-use Rattle.bp_view.specs.declared.lines.Widths.{Widths}
+use Rattle.bp_view.specs.declared.settings.Widths.{Widths}
 use Rattle.bp_view.specs.declared.options.ViewOptions.{ViewOptions}
-use Rattle.bp_view.specs.Views.{IsShownLine, AreLines, AddsShown, AddsLines}
+use Rattle.bp_view.specs.Lines.{Adds}
+use Rattle.bp_view.specs.Views.{IsShownLine, AreLines}
 
 last-append : (ts : List ℕ) (i : ℕ) → last_thread (ts ++ i ∷ []) ≡ Some i
 last-append [] i = refl
@@ -33,12 +34,12 @@ module _ (t : Program) (text : List ℕ) (s : SetupOf) (o : ViewOptions) (w : Wi
       let further = lines_then (h ++ y ∷ []) ys x more line others (subst (λ g. IsShownLine t text s o w count g x line) (sym (append_assoc h (y ∷ []) ys)) is) in
       (first, more ++ line, ap (λ z. z ++ line) e ∙ append_assoc first more line, is_first, further)
 
-  pub one_more : (h : List Call) (x : Call) (a b c : List ℕ) → AddsLines t text s o w count h a b → AddsShown t text s o w count h x b c → AddsLines t text s o w count (h ++ x ∷ []) a c
+  pub one_more : (h : List Call) (x : Call) (a b c : List ℕ) → Adds (AreLines t text s o w count [] h) a b → Adds (IsShownLine t text s o w count h x) b c → Adds (AreLines t text s o w count [] (h ++ x ∷ [])) a c
   one_more h x a b c all one = record {
-    lines = all.lines ++ one.line;
-    is = one.is ∙ ap (λ y. y ++ one.line) all.is ∙ append_assoc a all.lines one.line;
-    lines_are = lines_then [] h x all.lines one.line all.lines_are one.line_is;
+    more = all.more ++ one.more;
+    is = one.is ∙ ap (λ y. y ++ one.more) all.is ∙ append_assoc a all.more one.more;
+    more_are = lines_then [] h x all.more one.more all.more_are one.more_are;
   }
 
-  pub no_lines : (a : List ℕ) → AddsLines t text s o w count [] a a
-  no_lines a = record { lines = []; is = sym (append-nil a); lines_are = refl }
+  pub no_lines : (a : List ℕ) → Adds (AreLines t text s o w count [] []) a a
+  no_lines a = record { more = []; is = sym (append-nil a); more_are = refl }

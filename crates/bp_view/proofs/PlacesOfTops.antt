@@ -1,11 +1,11 @@
 -- The scene of a thread's next statement has its place.
-use Rattle.std.proofs.Common.{◌≡◌, ◌∙◌, ℕ, List, [], ◌∷◌, Option, None, Some, Bor, length, nat_lt, is_some, slice_get, get_or, ap, sym, arith, map, ◌<◌, ◌≤◌}
-use Rattle.std.specs.Prelude.{option_map, IfSome, MatchOption}
+use Rattle.std.proofs.Common.{◌≡◌, ◌∙◌, ℕ, List, Option, None, Some, Bor, length, nat_lt, is_some, slice_get, get_or, ap, sym, arith, ◌<◌, ◌≤◌}
+use Rattle.std.specs.Prelude.{option_map, IfSome}
 use Rattle.std.proofs.lemmas.Option.{slice_get-map, slice_get_past, slice_get-get_or}
 use Rattle.bp_tree.specs.Ast.{Program}
-use Rattle.bp_code.specs.Configurations.{Frame, Configuration}
+use Rattle.bp_code.specs.Configurations.{Configuration}
 use Rattle.bp_code.specs.Starts.{start_of_block, starts_of}
-use Rattle.bp_code.specs.StandsFor.{places_of, place}
+use Rattle.bp_code.specs.StandsFor.{places_of}
 use Rattle.bp_machine.specs.declared.tops.Top.{Top}
 use Rattle.bp_machine.specs.Answers.{stack_of}
 use Rattle.bp_machine.specs.Tops.{IsTop}

@@ -1,5 +1,5 @@
 -- One scene more.
-use Rattle.std.proofs.Common.{◌≡◌, ℕ, List, [], ◌∷◌, ◌++◌, zero, suc, Option, None, Some, slice_get, unwrap_or, is_some, ◌<◌, ◌+◌, take, length, get_or, ap, refl, ◌∙◌}
+use Rattle.std.proofs.Common.{◌≡◌, ℕ, List, [], ◌∷◌, ◌++◌, zero, suc, Option, Some, slice_get, unwrap_or, is_some, ◌<◌, ◌+◌, take, length, get_or, ap, ◌∙◌}
 use Rattle.std.proofs.lemmas.Bool.{false≢true}
 use Rattle.std.proofs.lemmas.List.{take_more}
 use Rattle.bp_view.specs.declared.scenes.Scene.{Scene}

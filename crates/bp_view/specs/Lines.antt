@@ -14,10 +14,16 @@ use Rattle.bp_machine.specs.Replies.{is_granted}
 use Rattle.bp_machine.specs.Setups.{SetupOf}
 use Rattle.bp_machine.specs.Tops.{IsTop}
 use Rattle.bp_text.specs.Columns.{at_left, at_right}
-use Rattle.bp_view.specs.declared.lines.Moment.{Moment}
-use Rattle.bp_view.specs.declared.lines.Widths.{Widths}
+use Rattle.bp_view.specs.declared.moments.Moment.{Moment}
+use Rattle.bp_view.specs.declared.settings.Widths.{Widths}
 use Rattle.bp_text.specs.OneLine.{IsOneLine}
 use Rattle.bp_view.specs.Places.{place_text}
+
+-- the new bytes are the old ones, and then such bytes
+pub record Adds (Are : List ℕ → Type 0) (old new : List ℕ) : Type 0 where
+  pub more : List ℕ
+  pub is : new ≡ old ++ more
+  pub more_are : Are more
 
 -- what is said of a reply
 abbrev pub reply_words : Reply → List ℕ
@@ -76,10 +82,10 @@ pub record IsNote (r : Reply) (note : List ℕ) : Type 0 where
   pub choice_is : IsOneLine choice
   pub changes_are : IsOneLine changes
 
--- the new bytes are the old ones, a text on one line, and the note
-pub record AddsColumns (note old new : List ℕ) : Type 0 where
+-- a text on one line, and the note
+pub record IsBefore (note text : List ℕ) : Type 0 where
   pub statement : List ℕ
-  pub is : new ≡ old ++ statement ++ note
+  pub is : text ≡ statement ++ note
   pub statement_is : IsOneLine statement
 
 -- a call: the fields in columns of these widths, the statement, and the note of the reply
@@ -90,11 +96,6 @@ pub record IsCallText (w : Widths) (f : Fields) (r : Reply) (text : List ℕ) : 
   pub statement_is : IsOneLine statement
   pub note_is : IsNote r note
 
-pub record AddsCall (w : Widths) (f : Fields) (r : Reply) (old new : List ℕ) : Type 0 where
-  pub more : List ℕ
-  pub is : new ≡ old ++ more
-  pub more_is : IsCallText w f r more
-
 -- a line: the text of a call, between the signs of a colour where colours are wanted
 pub record IsLineWith (w : Widths) (coloured : Bool) (f : Fields) (r : Reply) (line : List ℕ)
     : Type 0 where
@@ -104,12 +105,6 @@ pub record IsLineWith (w : Widths) (coloured : Bool) (f : Fields) (r : Reply) (l
   pub is : line ≡ opening ++ text ++ closing ++ codes "\n"
   pub text_is : IsCallText w f r text
   pub plain : coloured ≡ false → (opening ≡ []) × (closing ≡ [])
-
-pub record AddsLine (w : Widths) (coloured : Bool) (f : Fields) (r : Reply) (old new : List ℕ)
-    : Type 0 where
-  pub more : List ℕ
-  pub is : new ≡ old ++ more
-  pub more_is : IsLineWith w coloured f r more
 
 -- thread i has a statement that comes next
 abbrev pub start_on_stack : List Frame → Option ℕ

@@ -1,5 +1,5 @@
 -- How a view prints where a statement begins.
-use Rattle.std.specs.Prelude.{ℕ, List, [], ◌∷◌, ◌++◌, Option, None, Some, codes, decimal}
+use Rattle.std.specs.Prelude.{ℕ, List, ◌++◌, Option, None, Some, codes, decimal}
 use Rattle.bp_text.specs.declared.positions.Position.{Position}
 use Rattle.bp_text.specs.Positions.{position_at}
 

@@ -1,14 +1,14 @@
 -- The view of a history of a program: a line for each of its calls that is shown.
-use Rattle.std.specs.Prelude.{◌≡◌, ◌==◌, ◌-◌, ◌&&◌, ℕ, suc, Bool, true, false, nat_lt, List, [], ◌∷◌, ◌++◌, Option, None, Some, length, codes}
+use Rattle.std.specs.Prelude.{◌≡◌, ◌==◌, ◌-◌, ◌&&◌, ℕ, suc, Bool, true, false, nat_lt, List, [], ◌∷◌, ◌++◌, Option, None, Some, length}
 use Rattle.bp_tree.specs.Ast.{Program}
 use Rattle.bp_machine.specs.declared.calls.Call.{Call}
 use Rattle.bp_machine.specs.declared.ask_faults.AskFault.{AskFault}
 use Rattle.bp_machine.specs.declared.ask_faults.AskFault.TheVariants as ask
 use Rattle.bp_machine.specs.Setups.{SetupOf}
 use Rattle.bp_trace.specs.Replays.{IsPlayable}
-use Rattle.bp_view.specs.declared.lines.Widths.{Widths}
-use Rattle.bp_view.specs.declared.views.ViewFault.{ViewFault}
-use Rattle.bp_view.specs.declared.views.ViewFault.TheVariants.{Foreign, Memory}
+use Rattle.bp_view.specs.declared.settings.Widths.{Widths}
+use Rattle.bp_view.specs.declared.view_faults.ViewFault.{ViewFault}
+use Rattle.bp_view.specs.declared.view_faults.ViewFault.TheVariants.{Foreign, Memory}
 use Rattle.bp_view.specs.declared.options.ViewOptions.{ViewOptions}
 use Rattle.bp_view.specs.Lines.{Fields, AreFields, IsLineWith}
 
@@ -43,11 +43,6 @@ module _
   abbrev pub IsShownLine : List Call → Call → List ℕ → Type 0
   IsShownLine h x line = IsViewLineIf (is_shown o count (suc (length h)) x.thread) h x line
 
-  pub record AddsShown (h : List Call) (x : Call) (old new : List ℕ) : Type 0 where
-    pub line : List ℕ
-    pub is : new ≡ old ++ line
-    pub line_is : IsShownLine h x line
-
   -- the lines of these calls after the history h, one behind the other
   abbrev pub AreLines : List Call → List Call → List ℕ → Type 0
   AreLines h [] lines = lines ≡ []
@@ -57,12 +52,6 @@ module _
       × (lines ≡ line ++ more)
       × IsShownLine h x line
       × AreLines (h ++ x ∷ []) xs more
-
-  -- the new bytes are the old ones and the lines of these calls, from the first
-  pub record AddsLines (calls : List Call) (old new : List ℕ) : Type 0 where
-    pub lines : List ℕ
-    pub is : new ≡ old ++ lines
-    pub lines_are : AreLines [] calls lines
 
 -- the head, a line for each call of the history that is shown, and what the history comes to
 pub record IsView

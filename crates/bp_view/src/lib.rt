@@ -5,11 +5,15 @@ mod changes;
 mod excerpts;
 mod heads;
 mod lines;
+mod moments;
 mod options;
 mod outcomes;
 mod scenes;
+mod settings;
 mod variables;
+mod view_faults;
 mod views;
 
 pub use options::ViewOptions;
-pub use views::{ViewFault, view};
+pub use view_faults::ViewFault;
+pub use views::view;

@@ -3,59 +3,19 @@ ghost use Rattle.std.specs.Prelude.{◌≡◌, ◌++◌, [], false, codes, decim
 ghost use Rattle.bp_text.specs.Columns.{at_right};
 ghost use Rattle.bp_text.specs.OneLine.{AddsOneLine, IsOneLine};
 ghost use Rattle.bp_view.specs.Scenes.{place_of_scene, IsOnOneLine};
-ghost use Rattle.bp_view.specs.Lines.{reply_words, context_text, fields_of, fields_text, IsNote, AddsCall, AddsColumns, AddsLine};
+ghost use Rattle.bp_view.specs.Lines.{reply_words, context_text, fields_of, fields_text, Adds, IsBefore, IsCallText, IsLineWith, IsNote};
 
 use crate::changes::push_changes;
-use crate::options::ViewOptions;
+use crate::moments::Moment;
 use crate::scenes::Scene;
+use crate::settings::{MAX_INDENTS, Setting, Widths};
 use bp_machine::{Call, Reply, Top};
 use bp_text::{push_bytes, push_left, push_on_one_line, push_right, push_spaces};
-use bp_tree::{Name, Proc};
 use itoa::Buffer;
 use std::alloc::AllocError;
 
-/// A statement is moved to the right by two columns for each frame of the stack, for so many frames
-/// at most.
-pub(crate) const MAX_INDENTS: usize = 8;
-
 /// What ends a line in colour.
 const PLAIN: &[u8] = b"\x1b[0m";
-
-/// How wide the columns are.
-#[derive(Clone, Copy, Debug, PartialEq, Eq)]
-pub(crate) struct Widths {
-    pub(crate) number: usize,
-    pub(crate) thread: usize,
-    pub(crate) context: usize,
-    pub(crate) place: usize,
-    pub(crate) words: usize,
-}
-
-/// What a view shows its calls of.
-#[derive(Clone, Copy)]
-pub(crate) struct Setting<'a> {
-    pub(crate) scenes: &'a [Scene],
-    pub(crate) globals: &'a [Name],
-    pub(crate) procs: &'a [Proc],
-    pub(crate) widths: Widths,
-    /// How many calls the history has.
-    pub(crate) count: u64,
-    pub(crate) options: ViewOptions,
-}
-
-/// A call of a history, and what was before and after it.
-#[derive(Clone, Copy)]
-pub(crate) struct Moment {
-    /// Its place in the history, from 1.
-    pub(crate) number: u64,
-    pub(crate) call: Call,
-    /// The context in which its step is; none where it made none.
-    pub(crate) context: Option<u32>,
-    /// Whether another thread made the step before.
-    pub(crate) is_switch: bool,
-    pub(crate) before: Option<Top>,
-    pub(crate) after: Option<Top>,
-}
 
 /// What is said of a reply.
 fn reply_words(reply: Reply) -> &'static [u8]
@@ -217,7 +177,7 @@ fn write_note(
 /// Adds what a call comes to, behind spaces that fill the line to this size; no spaces where there
 /// is nothing to add.
 fn push_note(line: &mut Vec<u8>, size: usize, note: &[u8]) -> Result<(), AllocError>
-    ensures { OnOk result (AddsColumns note.now line.old.items line.new.items) }
+    ensures { OnOk result (Adds (IsBefore note.now) line.old.items line.new.items) }
 {
     if !note.is_empty() {
         push_spaces(line, size.saturating_sub(line.len()))?;
@@ -247,8 +207,8 @@ fn push_call(
     requires { IsOnOneLine (option_map (λ s. s.now) scene) }
     ensures { let place = place_of_scene (option_map (λ s. s.now) scene.entry) in
         let fields = fields_of moment.now place in
-        OnOk result
-        (AddsCall setting.now.widths fields moment.now.call.reply line.old.items line.new.items) }
+        let is_text = IsCallText setting.now.widths fields moment.now.call.reply in
+        OnOk result (Adds is_text line.old.items line.new.items) }
 {
     write_note(note, setting, scene, moment)?;
     push_fields(line, setting.widths, moment, place_of(scene))?;
@@ -270,10 +230,9 @@ pub(crate) fn push_line(
     requires { IsOnOneLine (option_map (λ s. s.now) scene) }
     ensures { let place = place_of_scene (option_map (λ s. s.now) scene.entry) in
         let fields = fields_of moment.now place in
-        let reply = moment.now.call.reply in
         let coloured = setting.now.options.has_colour in
-        OnOk result
-        (AddsLine setting.now.widths coloured fields reply line.old.items line.new.items) }
+        let is_line = IsLineWith setting.now.widths coloured fields moment.now.call.reply in
+        OnOk result (Adds is_line line.old.items line.new.items) }
 {
     let (opening, closing) = colours_of(setting, moment);
     push_bytes(line, opening)?;

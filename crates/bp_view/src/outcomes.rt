@@ -1,7 +1,7 @@
 //! The end of a view: what the history comes to.
 use crate::changes::procedure_at;
 use crate::excerpts::{Role, role_of};
-use crate::lines::Setting;
+use crate::settings::Setting;
 use crate::variables::push_variable;
 use bp_machine::{Outcome, Session, Top};
 use bp_syntax::take_lexeme;

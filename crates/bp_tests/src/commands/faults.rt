@@ -3,10 +3,10 @@ use crate::devices::Short;
 use bp_check::CheckFault;
 use bp_code::ProgramFault;
 use bp_commands::{Fault, InputFault, end, show_fault};
-use bp_machine::{Reply, SetupFault};
+use bp_machine::{Call, Reply, SetupFault};
 use bp_syntax::ReadFault;
 use bp_text::WriteFault;
-use bp_trace::{DriveFault, ReplayFault};
+use bp_trace::{Counts, DriveFault, Due, ReplayFault};
 use std::alloc::{AllocError, Global};
 use std::fmt::Display;
 
@@ -15,11 +15,25 @@ const LINES: &[u8] = b"\
     btrun: 11 TwiceGlobal at 5\nbtrun: 32 UnknownEntry thread 0\nbtrun: 1 TooLong\n\
     btrun: 42 Line line 3\nbtrun: 48 TooLong\nbtrun: 54 Device\nbtrun: 7 Memory\n";
 
+const DUE: Due = Due {
+    calls: 3,
+    call: Call {
+        thread: 0,
+        bit: false,
+        reply: Reply::Stepped,
+    },
+};
+
+const COUNTS: Counts = Counts {
+    calls: 3,
+    left_open: 1,
+};
+
 /// The lines of faults, one of each kind of place.
 fn lines(alloc: Global) -> Result<Vec<u8>, WriteFault> {
     let mut out = Vec::new(alloc);
     for fault in [
-        Fault::Trace(ReplayFault::Reply(7, Reply::Stepped)),
+        Fault::Trace(ReplayFault::Reply(7, DUE)),
         Fault::Program(ProgramFault::Read(ReadFault::Syntax(13))),
         Fault::Program(ProgramFault::Check(CheckFault::TwiceGlobal, 5)),
         Fault::Setup(SetupFault::UnknownEntry(0)),
@@ -47,7 +61,7 @@ fn gives_statuses(rt: HostRuntime) {
         Fault::Program(ProgramFault::Read(ReadFault::TooLong)),
         Fault::Setup(SetupFault::UnknownEntry(0)),
         Fault::Schedule(DriveFault::AfterFinish(2)),
-        Fault::Trace(ReplayFault::NoEnd),
+        Fault::Trace(ReplayFault::NoEnd(COUNTS)),
     ] {
         assert_eq!(rt; fault.status(), 2);
     }
@@ -141,7 +155,10 @@ fn says_why_commands_are_refused(rt: HostRuntime) -> Result<(), AllocError> {
             Fault::Schedule(DriveFault::AfterFinish(2)),
             "line 2 of the schedule is of a thread that has made its last call",
         ),
-        (Fault::Trace(ReplayFault::NoEnd), "the trace has no end"),
+        (
+            Fault::Trace(ReplayFault::NoEnd(COUNTS)),
+            "the trace has no end",
+        ),
         (Fault::Start, "a worker could not be started"),
         (
             Fault::Early,

@@ -2,6 +2,7 @@
 use super::is_wanted;
 use bp_code::{Code, code_of};
 use bp_explain::explain_trace;
+use bp_trace::replay;
 use std::alloc::Global;
 use std::test::Fail;
 
@@ -168,7 +169,10 @@ fn explained(alloc: Global, code: &Code, head: &[u8], lines: &[u8]) -> Result<Ve
     let mut trace = Vec::new(alloc);
     trace.extend_from_slice(head)?;
     trace.extend_from_slice(lines)?;
-    Ok(explain_trace(alloc, code, "t", trace.as_slice())?)
+    match replay(alloc, code, &trace) {
+        Ok(_) => Ok(Vec::new(alloc)),
+        Err(fault) => Ok(explain_trace(alloc, PROGRAM, "t", &trace, &fault)?),
+    }
 }
 
 /// Whether the rows have their explanations.

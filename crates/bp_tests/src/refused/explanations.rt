@@ -1,8 +1,11 @@
 //! Explanations: a refusal of memory gives none.
-use super::ready::code;
 use super::{tell, wants};
+use bp_check::CheckFault;
+use bp_code::ProgramFault;
 use bp_explain::{explain_program, explain_schedule, explain_trace};
-use bp_trace::DriveFault;
+use bp_machine::{Call, Reply};
+use bp_syntax::ReadFault;
+use bp_trace::{DriveFault, Due, ReplayFault};
 use std::alloc::{AllocError, Global};
 use std::test::Fail;
 
@@ -10,6 +13,23 @@ const PROGRAM: &[u8] = b"decl x; main() begin x := 1; end";
 
 const TRACE: &[u8] =
     b"btrace 1\nentry main\ninit 0\ncontexts 2\ncalls 9\nseed none\n0 0 s\n0 0 b\n";
+
+/// The faults of the two programs and of the trace.
+const TOKEN: ProgramFault = ProgramFault::Read(ReadFault::Syntax(21));
+
+const NAME: ProgramFault = ProgramFault::Check(CheckFault::UnknownProcedure, 13);
+
+const REPLY: ReplayFault = ReplayFault::Reply(
+    8,
+    Due {
+        calls: 1,
+        call: Call {
+            thread: 0,
+            bit: false,
+            reply: Reply::Stepped,
+        },
+    },
+);
 
 /// What explains that no statement begins where an expression is due, that a procedure is not
 /// there, that a call has another reply, and that a line is none of a schedule.
@@ -24,9 +44,9 @@ const WANTED: [&[u8]; 4] = [
 /// The explanation of this number.
 fn explanation(alloc: Global, number: usize) -> Result<Result<Vec<u8>, AllocError>, Fail> {
     let explained = match number {
-        0 => explain_program(alloc, "f", b"decl x; main() begin := 1; end"),
-        1 => explain_program(alloc, "f", b"main() begin f(); end"),
-        2 => explain_trace(alloc, &code(alloc, PROGRAM)?, "f", TRACE),
+        0 => explain_program(alloc, "f", b"decl x; main() begin := 1; end", &TOKEN),
+        1 => explain_program(alloc, "f", b"main() begin f(); end", &NAME),
+        2 => explain_trace(alloc, PROGRAM, "f", TRACE, &REPLY),
         _ => explain_schedule(alloc, "f", b"0 2\n", &DriveFault::Line(1)),
     };
     Ok(explained)

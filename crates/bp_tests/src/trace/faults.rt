@@ -1,9 +1,23 @@
 //! The numbers, places and words of faults.
 
-use bp_machine::{Reply, SetupFault};
-use bp_trace::{DriveFault, MigrateFault, ReplayFault};
+use bp_machine::{Call, Reply, SetupFault};
+use bp_trace::{Counts, DriveFault, Due, MigrateFault, ReplayFault};
 use std::alloc::{AllocError, Global};
 use std::test::Fail;
+
+const DUE: Due = Due {
+    calls: 4,
+    call: Call {
+        thread: 1,
+        bit: true,
+        reply: Reply::Ended,
+    },
+};
+
+const COUNTS: Counts = Counts {
+    calls: 4,
+    left_open: 0,
+};
 
 /// Whether the fault of a schedule has this number and place, and is shown in these words.
 fn is_drive_fault(
@@ -68,26 +82,26 @@ const FAULTS: [Row; 11] = [
         "line 7 of the trace is not a line of calls or the end",
     ),
     (
-        ReplayFault::AfterFinish(9),
+        ReplayFault::AfterFinish(9, 4),
         47,
         Some(9),
         "line 9 of the trace is of a thread that has made its last call",
     ),
     (
-        ReplayFault::Bit(8),
+        ReplayFault::Bit(8, DUE),
         43,
         Some(8),
         "line 8 of the trace has another choice bit than the seed",
     ),
     (
-        ReplayFault::Reply(10, Reply::Ended),
+        ReplayFault::Reply(10, DUE),
         44,
         Some(10),
         "line 10 of the trace has another reply than the machine",
     ),
-    (ReplayFault::NoEnd, 45, None, "the trace has no end"),
+    (ReplayFault::NoEnd(COUNTS), 45, None, "the trace has no end"),
     (
-        ReplayFault::EndCount,
+        ReplayFault::EndCount(11, COUNTS),
         46,
         None,
         "the end of the trace counts other calls or open lines",
@@ -98,7 +112,7 @@ const FAULTS: [Row; 11] = [
 /// The reply that a fault wants.
 fn wanted_by(fault: ReplayFault) -> Option<Reply> {
     match fault {
-        ReplayFault::Reply(_, wanted) => Some(wanted),
+        ReplayFault::Reply(_, due) => Some(due.call.reply),
         _ => None,
     }
 }

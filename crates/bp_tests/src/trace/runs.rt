@@ -3,10 +3,11 @@
 ghost use Rattle.std.specs.Prelude.{◌≡◌, None, IfOk};
 ghost use Rattle.bp_machine.specs.Setups.{FitsCode};
 
+use super::call;
 use crate::texts::{code_of, names};
 use bp_code::Code;
 use bp_machine::{Call, Outcome, Reply, Report, Setup};
-use bp_trace::{Printed, Replayed, drive, migrate, replay};
+use bp_trace::{Counts, Due, Printed, ReplayFault, Replayed, drive, migrate, replay};
 use std::alloc::Global;
 use std::test::Fail;
 
@@ -46,15 +47,6 @@ fn is_driven(alloc: Global) -> Result<bool, Fail> {
 fn driven_program(rt: HostRuntime) -> Result<(), Fail> {
     assert!(rt; is_driven(rt.alloc())?);
     Ok(())
-}
-
-/// A call of thread 0.
-const fn call(bit: bool, reply: Reply) -> Call {
-    Call {
-        thread: 0,
-        bit,
-        reply,
-    }
 }
 
 /// The calls of the traces.
@@ -115,5 +107,62 @@ fn migrated_traces(rt: HostRuntime) -> Result<(), Fail> {
     for text in [ONE, TWO] {
         assert!(rt; is_migrated(rt.alloc(), text)?);
     }
+    Ok(())
+}
+
+/// The head of a trace of the swap, without a seed.
+const HEAD: &str = "btrace 1\nentry main\ninit 10\ncontexts 2\ncalls 1000\nseed none\n";
+
+/// The same with a seed, whose first bit of thread 0 is 1.
+const SEEDED: &str = "btrace 1\nentry main\ninit 10\ncontexts 2\ncalls 1000\nseed 42\n";
+
+/// The fault of the trace with this head and these lines.
+fn fault_of(alloc: Global, head: &str, lines: &str) -> Result<Option<ReplayFault>, Fail> {
+    let code = code_of(alloc, SWAP)?;
+    let mut text = Vec::new(alloc);
+    text.extend_from_slice(head.as_bytes())?;
+    text.extend_from_slice(lines.as_bytes())?;
+    match replay(alloc, &code, &text) {
+        Ok(_) => Ok(None),
+        Err(fault) => Ok(Some(fault)),
+    }
+}
+
+/// The call of thread 0 that is due after so many calls.
+const fn due(calls: u64, bit: bool, reply: Reply) -> Due {
+    Due {
+        calls,
+        call: call(bit, reply),
+    }
+}
+
+const fn counts(calls: u64, left_open: u32) -> Counts {
+    Counts { calls, left_open }
+}
+
+#[test]
+fn refused_traces_say_what_is_due(rt: HostRuntime) -> Result<(), Fail> {
+    let all = "0 0 s\n0 1 s\n0 0 s\n0 0 e\n";
+    for (head, lines, wanted) in [
+        (
+            HEAD,
+            "0 0 s\n0 0 e\n",
+            ReplayFault::Reply(8, due(1, false, Reply::Stepped)),
+        ),
+        (
+            SEEDED,
+            "0 0 s\n",
+            ReplayFault::Bit(7, due(0, true, Reply::Stepped)),
+        ),
+        (HEAD, "0 0 s\n", ReplayFault::NoEnd(counts(1, 1))),
+    ] {
+        assert_eq!(rt; fault_of(rt.alloc(), head, lines)?, Some(wanted));
+    }
+    let finished = format!(in rt.alloc(); "{all}0 0 e\n")?;
+    let wanted = ReplayFault::AfterFinish(11, 4);
+    assert_eq!(rt; fault_of(rt.alloc(), HEAD, &finished)?, Some(wanted));
+    let ended = format!(in rt.alloc(); "{all}end 4 1\n")?;
+    let wanted = ReplayFault::EndCount(11, counts(4, 0));
+    assert_eq!(rt; fault_of(rt.alloc(), HEAD, &ended)?, Some(wanted));
     Ok(())
 }

@@ -1,5 +1,6 @@
 //! The texts of traces.
 
+use super::call;
 use crate::texts::{code_of, names};
 use bp_machine::{Call, Reply, Setup};
 use bp_trace::{write_call, write_end, write_head, write_trace, write_trace2};
@@ -18,15 +19,6 @@ fn setup_of(alloc: Global) -> Result<Setup, Fail> {
         10,
         Some(42),
     )?)
-}
-
-/// A call of thread 0.
-const fn call(bit: bool, reply: Reply) -> Call {
-    Call {
-        thread: 0,
-        bit,
-        reply,
-    }
 }
 
 /// The calls of the traces.

@@ -1,4 +1,3 @@
-use Rattle.bp_text.proofs.TextsOnOneLine.{one_line_after}
 use Rattle.bp_view.proofs.excerpts.excerpt_of.Goals as goal
 
 pub cut-requires : goal.cut-requires

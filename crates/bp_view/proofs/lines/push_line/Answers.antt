@@ -16,12 +16,12 @@ returns c =
           ∙ ap (λ x. x ++ (10 ∷ [])) (c.in_ok-push_bytes-2.ensures
           ∙ ap (λ x. x ++ closing) (call.is ∙ ap (λ x. x ++ more) c.in_ok-push_bytes.ensures))
           ∙ regrouped c.args.line.now.items opening more closing (10 ∷ []);
-      more_is = record {
+      more_are = record {
         opening = opening;
         text = more;
         closing = closing;
         is = refl;
-        text_is = call.more_is;
+        text_is = call.more_are;
         plain = c.colours_of.ensures;
       };
     }

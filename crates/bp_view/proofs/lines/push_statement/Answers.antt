@@ -1,4 +1,3 @@
-use Rattle.std.proofs.Common.{◌∙◌}
 use Rattle.bp_text.proofs.TextsOnOneLine.{adds_then, adds_these, one_line_spaces}
 use Rattle.bp_view.proofs.lines.push_statement.Goals as goal
 

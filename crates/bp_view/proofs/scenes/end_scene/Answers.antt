@@ -1,4 +1,4 @@
-use Rattle.std.proofs.Common.{◌≡◌, ◌∙◌, ◌++◌, [], ◌∷◌, ap}
+use Rattle.std.proofs.Common.{◌∙◌, ◌++◌, [], ◌∷◌, ap}
 use Rattle.bp_text.proofs.TextsOnOneLine.{one_line_after}
 use Rattle.bp_view.proofs.scenes.end_scene.Goals as goal
 

@@ -1,13 +1,13 @@
-use Rattle.std.proofs.Common.{◌≡◌, ◌∙◌, ◌++◌, ◌∷◌, [], ap, sym, refl, subst, take, length, get_or, arith, suc, ◌+◌, false, List, drop}
-use Rattle.std.proofs.lemmas.List.{take_all, take_more, length-take-le}
+use Rattle.std.proofs.Common.{◌∙◌, [], ap, sym, refl, subst, take, get_or, arith, ◌+◌, false}
+use Rattle.std.proofs.lemmas.List.{take_more, length-take-le}
 use Rattle.bp_code.specs.StandsFor.{StandsFor}
 use Rattle.bp_machine.specs.ContextCounts.{last_thread}
 use Rattle.bp_machine.specs.Histories.{granted_threads}
 use Rattle.bp_machine.specs.Sessions.{Stands}
 use Rattle.bp_machine.specs.declared.calls.Call.{Call}
 use Rattle.bp_machine.specs.declared.calls.Reply.TheVariants.{Stopped}
-use Rattle.bp_view.specs.Lines.{IsMomentOf}
-use Rattle.bp_view.specs.Views.{AddsLines, AddsShown}
+use Rattle.bp_view.specs.Lines.{Adds, IsMomentOf}
+use Rattle.bp_view.specs.Views.{AreLines}
 use Rattle.std.proofs.lemmas.Result.{err_from_is_err_and}
 use Rattle.bp_view.proofs.ForeignCalls.{history_refused}
 use Rattle.bp_view.proofs.LinesOfCalls.{one_more, no_lines}
@@ -22,7 +22,7 @@ loop-n-init c = record {
   setup = refl;
   last = refl;
   stands = λ t is stands. stands;
-  lines = λ t text is stands are. no_lines t text _ _ _ _ _;
+  lines = λ t text is stands are. no_lines t text c.args.session.now.setup c.args.setting.now.options c.args.setting.now.widths c.args.setting.now.count _;
 }
 
 pub loop-n-preserved : goal.loop-n-preserved
@@ -47,7 +47,7 @@ loop-n-preserved c =
           let here = before.stands t is stands in
           let moment = c.in_ok-moment.ensures.is t h code here before.last (ap (λ k. k + 1) (sym size) ∙ omega arith) in
           let shown = c.in_ok-push_shown.ensures t text c.args.session.now.setup h x are (subst (λ s. IsMomentOf t s h x c.in_ok-moment.moment) before.setup moment) in
-          subst (λ g. AddsLines t text c.args.session.now.setup c.args.setting.now.options c.args.setting.now.widths c.args.setting.now.count g c.args.view.now.items c.push_shown.new.view.items) (sym more)
+          subst (λ g. Adds (AreLines t text c.args.session.now.setup c.args.setting.now.options c.args.setting.now.widths c.args.setting.now.count [] g) c.args.view.now.items c.push_shown.new.view.items) (sym more)
           (one_more t text c.args.session.now.setup c.args.setting.now.options c.args.setting.now.widths c.args.setting.now.count h _ _ _ _ (before.lines t text is stands are) shown);
     }
 

@@ -6,7 +6,8 @@ use Rattle.bp_machine.specs.ContextCounts.{last_thread}
 use Rattle.bp_machine.specs.Histories.{granted_threads}
 use Rattle.bp_machine.specs.Sessions.{Stands}
 use Rattle.bp_view.specs.Scenes.{AreScenes}
-use Rattle.bp_view.specs.Views.{AddsLines}
+use Rattle.bp_view.specs.Lines.{Adds}
+use Rattle.bp_view.specs.Views.{AreLines}
 use Rattle.bp_view.proofs.views.push_calls.Given as goal
 
 abbrev pub invariant-loop-n : goal.invariant-loop-n
@@ -19,5 +20,5 @@ invariant-loop-n l = record {
       → StandsFor l.initial.session.code t
       → Stands t l.initial.session []
       → AreScenes text (starts_of t) l.setting.scenes.now
-      → AddsLines t text l.initial.session.setup l.setting.options l.setting.widths l.setting.count (take l.n l.history) l.initial.view.items l.view.items;
+      → Adds (AreLines t text l.initial.session.setup l.setting.options l.setting.widths l.setting.count [] (take l.n l.history)) l.initial.view.items l.view.items;
 }

@@ -1,7 +1,4 @@
-use Rattle.std.proofs.Common.{◌≡◌, ◌∙◌, ap, option_map, codes, sym}
-use Rattle.bp_machine.specs.Answers.{stack_of}
-use Rattle.bp_view.specs.Lines.{start_on_stack}
-use Rattle.bp_view.specs.Places.{place_text}
+use Rattle.std.proofs.Common.{◌∙◌, ap}
 use Rattle.bp_view.specs.Scenes.{place_of_scene}
 use Rattle.bp_view.proofs.PlacesOfTops.{got_scene, place_of_top}
 use Rattle.bp_view.proofs.SceneLists.{words_at}

@@ -1,9 +1,8 @@
-use Rattle.std.proofs.Common.{◌≡◌, ◌∙◌, ◌++◌, List, [], ap, sym, subst, length}
+use Rattle.std.proofs.Common.{◌∙◌, ◌++◌, ap}
 use Rattle.std.proofs.lemmas.Result.{err_from_is_err_and}
 use Rattle.bp_code.specs.StandsFor.{StandsFor}
 use Rattle.bp_code.specs.Starts.{starts_of}
-use Rattle.bp_view.specs.Scenes.{AreScenes, AreOnOneLine}
-use Rattle.bp_view.specs.Views.{AddsLines, AreLines, IsViewRefusal}
+use Rattle.bp_view.specs.Scenes.{AreScenes}
 use Rattle.bp_view.proofs.SceneLists.{all_words}
 use Rattle.bp_view.proofs.views.view.Goals as goal
 
@@ -30,11 +29,11 @@ returns c =
     let stands = c.in_ok-session.ensures.stands t c.requires.code in
     let are : AreScenes text (starts_of t) setting.scenes.now = rw (c.setting_of-setting.ensures.scenes ∙ c.as_slice.ensures.value) c.in_ok-scenes.ensures in
     let lines = c.in_ok-push_calls.ensures.lines t text code stands are in
-    let here = rw (kept.1, c.setting_of-setting.ensures.options, c.setting_of-setting.ensures.count) at lines.lines_are in
+    let here = rw (kept.1, c.setting_of-setting.ensures.options, c.setting_of-setting.ensures.count) at lines.more_are in
     record {
       widths = setting.widths;
       head = c.in_ok-view.view.items;
-      lines = lines.lines;
+      lines = lines.more;
       foot = c.deref.result.now;
       is = c.in_ok-push_bytes.ensures ∙ ap (λ x. x ++ c.deref.result.now) lines.is;
       lines_are = here;

@@ -1,0 +1,142 @@
+//! The calls of a history, each with what was before and after it.
+ghost use Rattle.std.specs.Prelude.{◌≡◌, ◌≢◌, ◌++◌, ◌∷◌, [], suc, List, true, false, length, IfErr, IfOk, OnOk, MatchOption};
+ghost use Rattle.bp_tree.specs.Ast.{Program};
+ghost use Rattle.bp_code.specs.StandsFor.{StandsFor};
+ghost use Rattle.bp_machine.specs.declared.calls.Call.{Call as Answered};
+ghost use Rattle.bp_machine.specs.ContextCounts.{last_thread};
+ghost use Rattle.bp_machine.specs.Contexts.{IsLeastWithin};
+ghost use Rattle.bp_machine.specs.Histories.{granted_threads};
+ghost use Rattle.bp_machine.specs.Replies.{is_granted};
+ghost use Rattle.bp_machine.specs.Sessions.{Stands};
+ghost use Rattle.bp_view.specs.Lines.{is_other, IsMomentOf};
+ghost use Rattle.bp_view.specs.Views.{IsPlayRefusal};
+
+use crate::view_faults::{ViewFault, view_fault_of};
+use bp_machine::{Call, Reply, Session, Top};
+
+/// A call of a history, and what was before and after it.
+#[derive(Clone, Copy)]
+pub(crate) struct Moment {
+    /// Its place in the history, from 1.
+    pub(crate) number: u64,
+    pub(crate) call: Call,
+    /// The context in which its step is; none where it made none.
+    pub(crate) context: Option<u32>,
+    /// Whether another thread made the step before.
+    pub(crate) is_switch: bool,
+    pub(crate) before: Option<Top>,
+    pub(crate) after: Option<Top>,
+}
+
+/// Whether the call is the machine's own.
+fn is_own(own: Call, call: Call) -> bool
+    ensures own { result ≡ true → own ≡ call }
+    ensures other { result ≡ false → own ≢ call }
+{
+    own.thread == call.thread && own.bit == call.bit && own.reply == call.reply
+}
+
+/// Makes a call of a history, which is the machine's own.
+fn make(session: &mut Session, call: &Call) -> Result<(), ViewFault>
+    ensures stands { (t : Program) (h : List Answered)
+        → StandsFor session.old.code t
+        → Stands t session.old h
+        → OnOk result (Stands t session.new (h ++ call.now ∷ [])) }
+    ensures kept { OnOk result
+        ((session.new.code ≡ session.old.code) × (session.new.setup ≡ session.old.setup)) }
+    ensures refused { (t : Program) (h : List Answered)
+        → StandsFor session.old.code t
+        → Stands t session.old h
+        → IfErr result (IsPlayRefusal t session.old.setup h call.now) }
+{
+    match session.prepare_as_recorded(call.thread, call.bit) {
+        Ok(own) => {
+            if !is_own(own, *call) {
+                return Err(ViewFault::Foreign);
+            }
+            session.commit(&own);
+            Ok(())
+        }
+        Err(fault) => Err(view_fault_of(fault)),
+    }
+}
+
+/// Whether a call made a step.
+fn is_step(reply: Reply) -> bool
+    ensures { result ≡ is_granted reply }
+{
+    matches!(reply, Reply::Stepped | Reply::Failed)
+}
+
+/// Whether this thread is another one than the last.
+fn is_other(last: Option<u32>, thread: u32) -> bool
+    ensures { result ≡ is_other last thread }
+{
+    match last {
+        Some(last) => last != thread,
+        None => false,
+    }
+}
+
+/// The context of the last call's step, where it made one.
+fn context_of(session: &Session, reply: Reply) -> Option<u32>
+    ensures { (t : Program) (h : List Answered)
+        → Stands t session.now h
+        → MatchOption result
+        (is_granted reply ≡ false)
+        (λ n. (is_granted reply ≡ true) × IsLeastWithin n (granted_threads h)) }
+{
+    if is_step(reply) {
+        return Some(session.contexts_used());
+    }
+    None
+}
+
+/// Makes the next call of a history: what was before and after it, where this thread made the step
+/// before.
+pub(crate) fn moment_of(
+    session: &mut Session,
+    last: Option<u32>,
+    number: u64,
+    call: &Call,
+) -> Result<Moment, ViewFault>
+    ensures stands { (t : Program) (h : List Answered)
+        → StandsFor session.old.code t
+        → Stands t session.old h
+        → OnOk result (Stands t session.new (h ++ call.now ∷ [])) }
+    ensures kept { OnOk result
+        ((session.new.code ≡ session.old.code) × (session.new.setup ≡ session.old.setup)) }
+    ensures is { (t : Program) (h : List Answered)
+        → StandsFor session.old.code t
+        → Stands t session.old h
+        → last ≡ last_thread (granted_threads h)
+        → number ≡ suc (length h)
+        → IfOk result (IsMomentOf t session.old.setup h call.now) }
+    ensures refused { (t : Program) (h : List Answered)
+        → StandsFor session.old.code t
+        → Stands t session.old h
+        → IfErr result (IsPlayRefusal t session.old.setup h call.now) }
+{
+    let before = session.top(call.thread);
+    make(session, call)?;
+    Ok(Moment {
+        number,
+        call: *call,
+        context: context_of(session, call.reply),
+        is_switch: is_step(call.reply) && is_other(last, call.thread),
+        before,
+        after: session.top(call.thread),
+    })
+}
+
+/// The thread of the last step, with that of one more call.
+pub(crate) fn last_step(last: Option<u32>, call: &Call) -> Option<u32>
+    ensures { (h : List Answered)
+        → last ≡ last_thread (granted_threads h)
+        → result ≡ last_thread (granted_threads (h ++ call.now ∷ [])) }
+{
+    if is_step(call.reply) {
+        return Some(call.thread);
+    }
+    last
+}
