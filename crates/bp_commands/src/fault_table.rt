@@ -132,7 +132,11 @@ fn trace_row(fault: &ReplayFault) -> Row
         ReplayFault::Line(line) => new_row(42, b"Line", Detail::Line(*line)),
         ReplayFault::AfterFinish(line, _) => new_row(47, b"AfterFinish", Detail::Line(*line)),
         ReplayFault::Bit(line, _) => new_row(43, b"Bit", Detail::Line(*line)),
-        ReplayFault::Reply(line, due) => new_row(44, b"Reply", Detail::Wanted(*line, due.call.reply)),
+        ReplayFault::Reply(line, due) => new_row(
+            44,
+            b"Reply",
+            Detail::Wanted(*line, due.call.reply),
+        ),
         ReplayFault::NoEnd(_) => new_row(45, b"NoEnd", Detail::Nothing),
         ReplayFault::EndCount(_, _) => new_row(46, b"EndCount", Detail::Nothing),
         ReplayFault::Memory => memory_row(),

@@ -11,7 +11,6 @@ use bp_code::{Code, CodeFault, compile, lawful_program};
 use bp_machine::Report;
 use bp_text::put;
 use bp_trace::limits::MAX_TRACE;
-use bp_trace::replay;
 use bp_view::{ViewOptions, view};
 use std::alloc::Global;
 use std::io::Write;
@@ -55,13 +54,9 @@ impl PairCommand for Show {
         out: &mut W,
     ) -> Result<Report, Fault> {
         let (checked, code) = program_of(alloc, text)?;
-        let replayed = replay(alloc, &code, trace)?;
-        let (setup, history) = (&replayed.setup, &replayed.history);
-        let Ok(shown) = view(alloc, text, &checked, &code, setup, history, self.options) else {
-            return Err(Fault::Memory);
-        };
+        let (shown, report) = view(alloc, text, &checked, &code, trace, self.options)?;
         put(out, &shown)?;
-        Ok(replayed.report)
+        Ok(report)
     }
 
     fn explain(

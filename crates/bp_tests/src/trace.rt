@@ -1,6 +1,7 @@
 //! Tests of `bp_trace`.
 mod faults;
 mod runs;
+mod watching;
 mod writing;
 
 use bp_machine::{Call, Reply};

@@ -1,8 +1,7 @@
-//! Views of histories.
+//! Views of traces.
 
 use bp_code::{compile, lawful_program};
 use bp_text::{Position, position_of};
-use bp_trace::replay;
 use bp_view::{ViewOptions, view};
 use std::alloc::Global;
 use std::test::Fail;
@@ -54,20 +53,8 @@ fn view_of(
         return Err(Fail::from("no program"));
     };
     let code = compile(alloc, &checked)?;
-    let Ok(replayed) = replay(alloc, &code, trace) else {
-        return Err(Fail::from("no trace"));
-    };
-    let setup = &replayed.setup;
-    match view(
-        alloc,
-        text,
-        &checked,
-        &code,
-        setup,
-        &replayed.history,
-        options,
-    ) {
-        Ok(shown) => Ok(shown),
+    match view(alloc, text, &checked, &code, trace, options) {
+        Ok((shown, _)) => Ok(shown),
         Err(_) => Err(Fail::from("no view")),
     }
 }

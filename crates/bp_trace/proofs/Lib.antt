@@ -7,6 +7,7 @@ mod GrowsByLine
 mod HeadStopsAt
 mod InitBits
 mod Joined
+mod EndCounts
 mod LineThread
 pub mod LinesDriveAgain
 mod LinesOfHistory
@@ -21,7 +22,7 @@ mod OneRest
 mod OneScheduleRefusal
 mod OneText
 mod OtherCalls
-mod OwnEnds
+pub mod OwnEnds
 mod PieceTexts
 mod PieceThreads
 mod PiecesAreFewest

@@ -99,7 +99,7 @@ module _ (t : Program) (text : List ℕ) (short : length text ≤ MAX_TRACE) (v 
     body_refuses f (inl memory) = subst (IsReplayRefusal t text) (sym memory) short
     body_refuses f (inr r) = call_refused f r
 
-    module _ (b : Body) (body : IsBody v s rest first b) (playable : IsPlayable t s b.played.history.items) (r : Report) (report : IsReport s b.played.history.items r) where
+    module _ {O : Type 0} (b : Body O) (body : IsBody v s rest first b) (playable : IsPlayable t s b.played.history.items) (r : Report) (report : IsReport s b.played.history.items r) where
       abbrev h : List Call
       h = b.played.history.items
 

@@ -4,7 +4,13 @@ use Rattle.bp_trace.specs.declared.replay_faults.Counts.{Counts}
 use Rattle.bp_trace.specs.declared.replay_faults.ReplayFault.{ReplayFault}
 use Rattle.bp_trace.specs.declared.replay_faults.ReplayFault.TheVariants as fault
 use Rattle.bp_trace.specs.TraceText.{end_line}
+use Rattle.bp_trace.specs.Writable.{Without}
 use Rattle.bp_trace.specs.Replays.{IsDecimal, IsEndLine, HasOtherEnd, HasMoreBehind}
+
+-- the text is this word, the byte, which the word does not have, and the rest
+pub record IsCutAt (byte : ℕ) (text word rest : List ℕ) : Type 0 where
+  pub word_is : Without byte word
+  pub parts : text ≡ word ++ byte ∷ rest
 
 -- the byte is no decimal digit
 abbrev pub IsNoDigit : ℕ → Type 0

@@ -1,5 +1,5 @@
 -- How a replay judges a call: a device, which no public clause names.
-use Rattle.std.specs.Prelude.{◌≡◌, ◌≢◌, ◌⊎◌, ◌≤◌, ◌+◌, ◌++◌, ℕ, List, Option, length, map, drop}
+use Rattle.std.specs.Prelude.{◌≡◌, ◌≢◌, ◌⊎◌, ◌≤◌, ◌+◌, ◌++◌, ℕ, List, [], Option, length, map, drop}
 use Rattle.std.specs.Option.{option_map, option_to_list}
 use Rattle.bp_tree.specs.Ast.{Program}
 use Rattle.bp_machine.specs.declared.calls.Call.{Call}
@@ -55,12 +55,38 @@ abbrev pub IsCallRefusal : Program → SetupOf → List Call → ℕ → Call �
 IsCallRefusal t s h n x f = (f ≡ fault.Memory) ⊎ IsCallFault t s h n x f
 
 -- the session stands after the calls that were played, and these are the rows that they print
-abbrev pub ArePlayed : SessionOf → Played → Type 0
+abbrev pub ArePlayed : {O : Type 0} → SessionOf → Played O → Type 0
 ArePlayed x p =
     (t : Program)
     → StandsFor x.code t
     → Stands t x p.history.items
     × (map row_of p.printed.items ≡ printed_rows t x.setup p.history.items)
+
+-- what was seen of the calls that were played stays seen with the new ones
+abbrev pub Watches
+    : {O : Type 0}
+    → (O → O → Program → SetupOf → List Call → Type 0)
+    → Program
+    → SetupOf
+    → Played O
+    → Played O
+    → Type 0
+Watches {O} sees t s old new =
+    (first : O)
+    → sees first old.watcher t s old.history.items
+    → sees first new.watcher t s new.history.items
+
+-- a watcher that has begun with this setup sees all calls that are played
+abbrev pub WatchesAll
+    : {O : Type 0}
+    → (O → O → Program → SetupOf → List Call → Type 0)
+    → Program
+    → SetupOf
+    → O
+    → Played O
+    → Type 0
+WatchesAll {O} sees t s begun p =
+    (first : O) → sees first begun t s [] → sees first p.watcher t s p.history.items
 
 -- why the calls of the line n are refused after h
 abbrev pub IsLineRefused :
@@ -68,7 +94,9 @@ abbrev pub IsLineRefused :
 IsLineRefused t s h n calls f = (f ≡ fault.Memory) ⊎ IsRefusedAmong t s h n calls f
 
 -- the lines of the calls that were played begin the text, and no line of calls is behind them
-pub record IsBody (v : Version) (s : SetupOf) (text : List ℕ) (first : ℕ) (b : Body) : Type 0 where
+pub record IsBody
+    {O : Type 0} (v : Version) (s : SetupOf) (text : List ℕ) (first : ℕ) (b : Body O)
+    : Type 0 where
   pub within : b.size ≤ length text
   pub parts : text ≡ calls_text v b.played.history.items ++ drop b.size text
   pub number : b.line ≡ first + line_count v b.played.history.items

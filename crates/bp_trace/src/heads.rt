@@ -42,7 +42,7 @@ fn cut_line(text: &[u8]) -> Option<(&[u8], &[u8])>
 }
 
 /// What is behind the word, where the word begins the text.
-fn behind<'a>(text: &'a [u8], word: &[u8]) -> Option<&'a [u8]>
+pub(crate) fn behind<'a>(text: &'a [u8], word: &[u8]) -> Option<&'a [u8]>
     ensures { MatchOption result
         (HasNoFront word.now text.now)
         (λ rest. text.now ≡ word.now ++ rest.now) }

@@ -12,6 +12,7 @@ ghost use Rattle.bp_trace.specs.Replayed.{row_of};
 ghost use Rattle.bp_trace.specs.Judging.{rows_of, replay_fault_of, IsOwnAs, IsMismatch, IsCallRefusal};
 
 use crate::replay_faults::{Due, ReplayFault};
+use crate::watchers::Watcher;
 use bp_machine::{AskFault, Call, Reply, Session};
 use std::alloc::AllocError;
 
@@ -22,20 +23,26 @@ pub struct Printed {
     pub values: Vec<bool>,
 }
 
-/// The calls of a trace so far, and what they printed.
+/// The calls of a trace so far, what they printed, and who watches them.
 #[derive(Drop)]
-pub(crate) struct Played {
+pub(crate) struct Played<O: Watcher + Drop> {
     pub(crate) history: Vec<Call>,
     pub(crate) printed: Vec<Printed>,
+    pub(crate) watcher: O,
 }
 
 /// Keeps a call and what it printed.
-fn keep(played: &mut Played, call: Call, row: Option<Printed>) -> Result<(), AllocError>
+fn keep<O: Watcher + Drop>(
+    played: &mut Played<O>,
+    call: Call,
+    row: Option<Printed>,
+) -> Result<(), AllocError>
     ensures history { OnOk result
         (played.new.history.items ≡ played.old.history.items ++ call ∷ []) }
     ensures printed { OnOk result
         (map row_of played.new.printed.items
         ≡ map row_of played.old.printed.items ++ rows_of row) }
+    ensures watcher { OnOk result (played.new.watcher ≡ played.old.watcher) }
 {
     played.history.push(call)?;
     if let Some(row) = row {
@@ -109,11 +116,11 @@ fn row_of_call(session: &Session, call: &Call) -> Result<Option<Printed>, AskFau
 }
 
 /// Judges a call on the `n`-th line of a trace, of a thread that is there, and keeps it.
-pub(crate) fn judge(
+pub(crate) fn judge<O: Watcher + Drop>(
     session: &mut Session,
     call: &Call,
     n: u32,
-    played: &mut Played,
+    played: &mut Played<O>,
 ) -> Result<(), ReplayFault>
     requires thread { call.now.thread < threads session.old.setup }
     ensures stands { (t : Program) (h : List Answered)
@@ -128,6 +135,11 @@ pub(crate) fn judge(
         → let rows = rows_of_call (configuration_after t session.old.setup h) call.now in
         OnOk result
         (map row_of played.new.printed.items ≡ map row_of played.old.printed.items ++ rows) }
+    ensures watched { (first : O) (t : Program) (h : List Answered)
+        → StandsFor session.old.code t
+        → Stands t session.old h
+        → O.sees first played.old.watcher t session.old.setup h
+        → OnOk result (O.sees first played.new.watcher t session.old.setup (h ++ call.now ∷ [])) }
     ensures kept { (session.new.code ≡ session.old.code) × (session.new.setup ≡ session.old.setup) }
     ensures refused { (t : Program) (h : List Answered)
         → StandsFor session.old.code t
@@ -143,6 +155,6 @@ pub(crate) fn judge(
         return Err(ReplayFault::Memory);
     };
     keep(played, *call, row)?;
-    session.commit(&own);
+    played.watcher.make(session, &own)?;
     Ok(())
 }

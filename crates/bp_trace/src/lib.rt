@@ -4,6 +4,7 @@
 
 mod body_lines;
 mod driving;
+mod end_counts;
 mod end_lines;
 mod faults;
 mod heads;
@@ -20,8 +21,10 @@ mod schedules;
 mod trace_lines;
 mod traces;
 mod versions;
+mod watchers;
 
 pub use driving::drive;
+pub use end_counts::calls_at_end;
 pub use faults::DriveFault;
 pub use judging::Printed;
 pub use laws::{
@@ -31,7 +34,8 @@ pub use laws::{
 pub use migrate_faults::MigrateFault;
 pub use migrating::migrate;
 pub use replay_faults::{Counts, Due, ReplayFault};
-pub use replaying::{Replayed, replay};
+pub use replaying::{Replayed, Watched, replay, replay_watched};
 pub use schedules::ScheduleLine;
 pub use traces::{write_call, write_end, write_head, write_trace, write_trace2};
 pub use versions::Version;
+pub use watchers::{Unwatched, Watcher};

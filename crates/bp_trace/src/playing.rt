@@ -6,20 +6,21 @@ ghost use Rattle.bp_code.specs.StandsFor.{StandsFor};
 ghost use Rattle.bp_machine.specs.ContextCounts.{last_thread};
 ghost use Rattle.bp_machine.specs.Setups.{threads};
 ghost use Rattle.bp_machine.specs.Sessions.{StandsForAll};
-ghost use Rattle.bp_trace.specs.Judging.{ArePlayed, IsBody, IsBodyRefusal, IsLineRefused};
+ghost use Rattle.bp_trace.specs.Judging.{ArePlayed, IsBody, IsBodyRefusal, IsLineRefused, Watches, WatchesAll};
 
 use crate::body_lines::body_line_at;
 use crate::judging::{Played, judge};
 use crate::replay_faults::ReplayFault;
 use crate::schedules::text_from;
 use crate::versions::Version;
+use crate::watchers::Watcher;
 use bp_machine::{Call, Session, Setup};
 use std::alloc::Global;
 
 /// The calls of a trace, how many bytes their lines have, and the number of the line behind them.
 #[derive(Drop)]
-pub(crate) struct Body {
-    pub(crate) played: Played,
+pub(crate) struct Body<O: Watcher + Drop> {
+    pub(crate) played: Played<O>,
     pub(crate) size: usize,
     pub(crate) line: u32,
 }
@@ -35,15 +36,18 @@ fn last_thread(history: &[Call]) -> Option<u32>
 }
 
 /// Judges the calls of the `n`-th line of a trace, one after the other.
-fn judge_line(
+fn judge_line<O: Watcher + Drop>(
     session: &mut Session,
     calls: &[Call],
     n: u32,
-    played: &mut Played,
+    played: &mut Played<O>,
 ) -> Result<(), ReplayFault>
     requires threads { AllByRecursion (λ x. x.thread < threads session.old.setup) calls.now }
     requires played { ArePlayed session.old played.old }
     ensures played { OnOk result (ArePlayed session.new played.new) }
+    ensures watched { (t : Program)
+        → StandsFor session.old.code t
+        → OnOk result (Watches O.sees t session.old.setup played.old played.new) }
     ensures history { OnOk result
         (played.new.history.items ≡ played.old.history.items ++ calls.now) }
     ensures kept { (session.new.code ≡ session.old.code) × (session.new.setup ≡ session.old.setup) }
@@ -58,19 +62,24 @@ fn judge_line(
     Ok(())
 }
 
-/// Plays the lines of calls that begin the text, the first of which has this number.
-pub(crate) fn play(
+/// Plays the lines of calls that begin the text, the first of which has this number. The watcher
+/// has begun with the setup.
+pub(crate) fn play<O: Watcher + Drop>(
     alloc: Global,
     session: &mut Session,
     setup: &Setup,
     version: Version,
     text: &[u8],
     first: u32,
-) -> Result<Body, ReplayFault>
+    watcher: O,
+) -> Result<Body<O>, ReplayFault>
     requires stands { StandsForAll session.old [] }
     requires setup { session.old.setup ≡ setup.now }
     requires lines { first + length text.now < 2 ^ 32 }
     ensures played { IfOk result (λ b. ArePlayed session.new b.played) }
+    ensures watched { (t : Program)
+        → StandsFor session.old.code t
+        → IfOk result (λ b. WatchesAll O.sees t setup.now watcher b.played) }
     ensures body { IfOk result (IsBody version setup.now text.now first) }
     ensures kept { (session.new.code ≡ session.old.code) × (session.new.setup ≡ setup.now) }
     ensures refused { (t : Program)
@@ -81,6 +90,7 @@ pub(crate) fn play(
     let mut played = Played {
         history: Vec::new(alloc),
         printed: Vec::new(alloc),
+        watcher,
     };
     let mut calls = Vec::new(alloc);
     let mut size = 0;

@@ -1,4 +1,3 @@
-pub mod ForeignCalls
 pub mod LinesOfCalls
 pub mod PlacesOfTops
 pub mod SceneLists

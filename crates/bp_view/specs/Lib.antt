@@ -1,3 +1,4 @@
+pub mod OneLineProps
 pub mod Lines
 pub mod Places
 pub mod Scenes

@@ -1,16 +1,19 @@
 -- The view of a history of a program: a line for each of its calls that is shown.
 use Rattle.std.specs.Prelude.{◌≡◌, ◌==◌, ◌-◌, ◌&&◌, ℕ, suc, Bool, true, false, nat_lt, List, [], ◌∷◌, ◌++◌, Option, None, Some, length}
 use Rattle.bp_tree.specs.Ast.{Program}
+use Rattle.bp_code.specs.Starts.{starts_of}
 use Rattle.bp_machine.specs.declared.calls.Call.{Call}
-use Rattle.bp_machine.specs.declared.ask_faults.AskFault.{AskFault}
-use Rattle.bp_machine.specs.declared.ask_faults.AskFault.TheVariants as ask
+use Rattle.bp_machine.specs.declared.reports.Report.{Report}
+use Rattle.bp_machine.specs.ContextCounts.{last_thread}
+use Rattle.bp_machine.specs.Histories.{granted_threads}
 use Rattle.bp_machine.specs.Setups.{SetupOf}
-use Rattle.bp_trace.specs.Replays.{IsPlayable}
+use Rattle.bp_trace.specs.declared.replaying.Replayed.{Replayed}
+use Rattle.bp_trace.specs.Replayed.{IsReplayed}
 use Rattle.bp_view.specs.declared.settings.Widths.{Widths}
-use Rattle.bp_view.specs.declared.view_faults.ViewFault.{ViewFault}
-use Rattle.bp_view.specs.declared.view_faults.ViewFault.TheVariants.{Foreign, Memory}
+use Rattle.bp_view.specs.declared.writers.ViewWriter.{ViewWriter}
 use Rattle.bp_view.specs.declared.options.ViewOptions.{ViewOptions}
-use Rattle.bp_view.specs.Lines.{Fields, AreFields, IsLineWith}
+use Rattle.bp_view.specs.Lines.{Adds, Fields, AreFields, IsLineWith}
+use Rattle.bp_view.specs.Scenes.{AreScenes}
 
 -- calls of thread i are shown
 abbrev pub is_of_thread : Option ℕ → ℕ → Bool
@@ -64,17 +67,26 @@ pub record IsView
   pub is : view ≡ head ++ lines ++ foot
   pub lines_are : AreLines t text s o widths (length h) [] h lines
 
--- why there is no view, where a call is refused
-abbrev pub view_fault_of : AskFault → ViewFault
-view_fault_of ask.Memory = Memory
-view_fault_of f = Foreign
+-- the view of the history of a trace of the program, and its report
+pub record IsViewOfTrace
+    (t : Program) (text trace : List ℕ) (o : ViewOptions) (view : List ℕ) (report : Report)
+    : Type 0 where
+  pub replayed : Replayed
+  pub is : IsReplayed t trace replayed
+  pub view_is : IsView t text replayed.setup replayed.history.items o view
+  pub report_is : report ≡ replayed.report
 
--- why the call x is no line behind the history h: no history that begins so may be played
-abbrev pub IsPlayRefusal : Program → SetupOf → List Call → Call → ViewFault → Type 0
-IsPlayRefusal t s h x Foreign = (behind : List Call) → IsPlayable t s (h ++ x ∷ behind) → ⊥
-IsPlayRefusal t s h x Memory = Unit {0}
-
--- why there is no view: the program's machine does not play the history
-abbrev pub IsViewRefusal : Program → SetupOf → List Call → ViewFault → Type 0
-IsViewRefusal t s h Foreign = IsPlayable t s h → ⊥
-IsViewRefusal t s h Memory = Unit {0}
+-- A device: the writer has the lines of the calls of a history, after some head, in the setting
+-- that it had at first, but for the widths.
+pub record Shows
+    (t : Program) (s : SetupOf) (h : List Call) (first now : ViewWriter) : Type 0 where
+  pub scenes : now.setting.scenes.now ≡ first.setting.scenes.now
+  pub options : now.setting.options ≡ first.setting.options
+  pub count : now.setting.count ≡ first.setting.count
+  pub last : now.last ≡ last_thread (granted_threads h)
+  pub made : now.made ≡ length h
+  pub head : List ℕ
+  pub lines : (text : List ℕ)
+      → AreScenes text (starts_of t) now.setting.scenes.now
+      → Adds (AreLines t text s now.setting.options now.setting.widths now.setting.count [] h)
+      head now.view.items

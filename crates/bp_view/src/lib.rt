@@ -10,10 +10,11 @@ mod options;
 mod outcomes;
 mod scenes;
 mod settings;
+mod shown;
 mod variables;
-mod view_faults;
 mod views;
+mod watching;
+mod writers;
 
 pub use options::ViewOptions;
-pub use view_faults::ViewFault;
 pub use views::view;

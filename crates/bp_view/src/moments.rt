@@ -1,5 +1,5 @@
 //! The calls of a history, each with what was before and after it.
-ghost use Rattle.std.specs.Prelude.{◌≡◌, ◌≢◌, ◌++◌, ◌∷◌, [], suc, List, true, false, length, IfErr, IfOk, OnOk, MatchOption};
+ghost use Rattle.std.specs.Prelude.{◌≡◌, ◌++◌, ◌∷◌, [], suc, List, Some, true, false, length, MatchOption};
 ghost use Rattle.bp_tree.specs.Ast.{Program};
 ghost use Rattle.bp_code.specs.StandsFor.{StandsFor};
 ghost use Rattle.bp_machine.specs.declared.calls.Call.{Call as Answered};
@@ -9,9 +9,7 @@ ghost use Rattle.bp_machine.specs.Histories.{granted_threads};
 ghost use Rattle.bp_machine.specs.Replies.{is_granted};
 ghost use Rattle.bp_machine.specs.Sessions.{Stands};
 ghost use Rattle.bp_view.specs.Lines.{is_other, IsMomentOf};
-ghost use Rattle.bp_view.specs.Views.{IsPlayRefusal};
 
-use crate::view_faults::{ViewFault, view_fault_of};
 use bp_machine::{Call, Reply, Session, Top};
 
 /// A call of a history, and what was before and after it.
@@ -26,39 +24,6 @@ pub(crate) struct Moment {
     pub(crate) is_switch: bool,
     pub(crate) before: Option<Top>,
     pub(crate) after: Option<Top>,
-}
-
-/// Whether the call is the machine's own.
-fn is_own(own: Call, call: Call) -> bool
-    ensures own { result ≡ true → own ≡ call }
-    ensures other { result ≡ false → own ≢ call }
-{
-    own.thread == call.thread && own.bit == call.bit && own.reply == call.reply
-}
-
-/// Makes a call of a history, which is the machine's own.
-fn make(session: &mut Session, call: &Call) -> Result<(), ViewFault>
-    ensures stands { (t : Program) (h : List Answered)
-        → StandsFor session.old.code t
-        → Stands t session.old h
-        → OnOk result (Stands t session.new (h ++ call.now ∷ [])) }
-    ensures kept { OnOk result
-        ((session.new.code ≡ session.old.code) × (session.new.setup ≡ session.old.setup)) }
-    ensures refused { (t : Program) (h : List Answered)
-        → StandsFor session.old.code t
-        → Stands t session.old h
-        → IfErr result (IsPlayRefusal t session.old.setup h call.now) }
-{
-    match session.prepare_as_recorded(call.thread, call.bit) {
-        Ok(own) => {
-            if !is_own(own, *call) {
-                return Err(ViewFault::Foreign);
-            }
-            session.commit(&own);
-            Ok(())
-        }
-        Err(fault) => Err(view_fault_of(fault)),
-    }
 }
 
 /// Whether a call made a step.
@@ -92,41 +57,37 @@ fn context_of(session: &Session, reply: Reply) -> Option<u32>
     None
 }
 
-/// Makes the next call of a history: what was before and after it, where this thread made the step
-/// before.
+/// Makes the call that the session is prepared for: what was before and after it, where this thread
+/// made the step before.
 pub(crate) fn moment_of(
     session: &mut Session,
     last: Option<u32>,
     number: u64,
     call: &Call,
-) -> Result<Moment, ViewFault>
+) -> Moment
+    requires { session.old.ready ≡ Some call.now }
     ensures stands { (t : Program) (h : List Answered)
         → StandsFor session.old.code t
         → Stands t session.old h
-        → OnOk result (Stands t session.new (h ++ call.now ∷ [])) }
-    ensures kept { OnOk result
-        ((session.new.code ≡ session.old.code) × (session.new.setup ≡ session.old.setup)) }
+        → Stands t session.new (h ++ call.now ∷ []) }
+    ensures kept { (session.new.code ≡ session.old.code) × (session.new.setup ≡ session.old.setup) }
     ensures is { (t : Program) (h : List Answered)
         → StandsFor session.old.code t
         → Stands t session.old h
         → last ≡ last_thread (granted_threads h)
         → number ≡ suc (length h)
-        → IfOk result (IsMomentOf t session.old.setup h call.now) }
-    ensures refused { (t : Program) (h : List Answered)
-        → StandsFor session.old.code t
-        → Stands t session.old h
-        → IfErr result (IsPlayRefusal t session.old.setup h call.now) }
+        → IsMomentOf t session.old.setup h call.now result }
 {
     let before = session.top(call.thread);
-    make(session, call)?;
-    Ok(Moment {
+    session.commit(call);
+    Moment {
         number,
         call: *call,
         context: context_of(session, call.reply),
         is_switch: is_step(call.reply) && is_other(last, call.thread),
         before,
         after: session.top(call.thread),
-    })
+    }
 }
 
 /// The thread of the last step, with that of one more call.

@@ -35,29 +35,37 @@ pub(crate) struct Setting<'a> {
     pub(crate) options: ViewOptions,
 }
 
-/// The widths of the columns, where statements are moved for so many frames.
-fn widths_of(scenes: &[Scene], setup: &Setup, calls: usize, frames: usize) -> Widths {
+/// The widths before the setup is known.
+const NO_WIDTHS: Widths = Widths {
+    number: 0,
+    thread: 0,
+    context: 0,
+    place: 0,
+    words: 0,
+};
+
+/// The widths of the columns of a view with this setting, in this setup.
+pub(crate) fn widths_of(setting: &Setting<'_>, setup: &Setup) -> Widths {
     let mut place = 1;
     let mut words = 0;
-    for scene in scenes {
+    for scene in setting.scenes {
         place = place.max(scene.place.len());
         words = words.max(scene.excerpt.words.len());
     }
     Widths {
-        number: digits(calls as u64),
+        number: digits(setting.count),
         thread: digits(u64::from(setup.threads())),
         context: digits(u64::from(setup.contexts())),
         place,
-        words: words.saturating_add(2 * frames.min(MAX_INDENTS)),
+        words: words.saturating_add(2 * setting.procs.len().min(MAX_INDENTS)),
     }
 }
 
-/// The setting of a view.
+/// The setting of a view of so many calls, before the setup is known.
 pub(crate) fn setting_of<'a>(
     scenes: &'a [Scene],
     checked: &'a Checked,
-    setup: &Setup,
-    count: usize,
+    count: u64,
     options: ViewOptions,
 ) -> Setting<'a>
     ensures scenes { result.scenes.now ≡ scenes.now }
@@ -69,8 +77,8 @@ pub(crate) fn setting_of<'a>(
         scenes,
         globals: tree.globals(),
         procs: tree.procs(),
-        widths: widths_of(scenes, setup, count, tree.procs().len()),
-        count: count as u64,
+        widths: NO_WIDTHS,
+        count,
         options,
     }
 }

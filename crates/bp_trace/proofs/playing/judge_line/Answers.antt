@@ -5,7 +5,7 @@ use Rattle.bp_trace.proofs.PlayedCalls.{line_refused, playable_of, played_more, 
 use Rattle.bp_trace.proofs.playing.judge_line.Goals as goal
 
 pub returns-in_err-judge-clause-refused : goal.returns-in_err-judge-clause-refused
-returns-in_err-judge-clause-refused c = λ t is.
+returns-in_err-judge-clause-refused g c = λ t is.
     let p = err_from_is_err_and c.from_residual.result c.from_residual.ensures.1 in
     let before = c.loop-call.invariant in
     let is_kept = subst (λ k. StandsFor k t) (sym before.code) is in
@@ -15,7 +15,7 @@ returns-in_err-judge-clause-refused c = λ t is.
     rw (p.1, p.2) (line_refused t c.args.session.now.setup c.args.played.now.history.items c.loop-call.played.history.items c.args.calls.now c.loop-call.call-index _ c.loop-call-test.true before.history c.args.n c.in_err-judge.field-0.0 playable refused)
 
 pub loop-call-preserved : goal.loop-call-preserved
-loop-call-preserved c =
+loop-call-preserved g c =
     let before = c.loop-call.invariant in
     let after = c.in_ok-judge.ensures in
     record {
@@ -26,6 +26,11 @@ loop-call-preserved c =
             rw (sym after.history) at (after.stands t c.loop-call.played.history.items is_kept old.0),
             rw (sym c.judge.ensures.kept.1) at (played_more t c.loop-call.session.setup c.loop-call.played.history.items c.judge.new.played.history.items _ _ _ after.history old.1 rows),
           );
+      watched = λ t is first seen.
+          let is_kept = subst (λ k. StandsFor k t) (sym before.code) is in
+          let stands = (before.played t is_kept).0 in
+          let now = rw (sym before.setup) at (before.watched t is first seen) in
+          rw (sym after.history, before.setup) at (after.watched first t c.loop-call.played.history.items is_kept stands now);
       history = history_more c.args.played.now.history.items c.loop-call.played.history.items c.judge.new.played.history.items c.args.calls.now c.loop-call.call-index _ c.loop-call-test.true before.history after.history;
       code = c.judge.ensures.kept.0 ∙ before.code;
       setup = c.judge.ensures.kept.1 ∙ before.setup;

@@ -6,7 +6,7 @@ use Rattle.bp_trace.proofs.PlayedCalls.{playable_of, next_within, next_parts, ne
 use Rattle.bp_trace.proofs.playing.play.Goals as goal
 
 pub returns-in_default-clause-body : goal.returns-in_default-clause-body
-returns-in_default-clause-body c =
+returns-in_default-clause-body g c =
     let before = c.loop-calls.invariant in
     let none = rw (c.in_default.is, c.threads.ensures, c.last_thread-last.ensures, c.as_slice.ensures.value, c.text_from-rest.ensures) at c.in_ok-found.ensures in
     record {
@@ -18,13 +18,13 @@ returns-in_default-clause-body c =
     }
 
 pub judge_line-requires-clause-threads : goal.judge_line-requires-clause-threads
-judge_line-requires-clause-threads c =
+judge_line-requires-clause-threads g c =
     let at = rw (c.in-Some.is, c.threads.ensures, c.last_thread-last.ensures, c.as_slice.ensures.value, c.text_from-rest.ensures) at c.in_ok-found.ensures in
     let below = line_below c.args.version _ _ at.line c.body_line_at.new.calls.items at.is_line in
     rw (sym (c.loop-calls.invariant.setup ∙ c.requires.setup), sym c.as_slice-in-loop-calls.ensures.value) at below
 
 pub returns-in_err-judge_line-clause-refused : goal.returns-in_err-judge_line-clause-refused
-returns-in_err-judge_line-clause-refused c = λ t is.
+returns-in_err-judge_line-clause-refused g c = λ t is.
     let before = c.loop-calls.invariant in
     let p = err_from_is_err_and c.from_residual-in_err-judge_line.result c.from_residual-in_err-judge_line.ensures.1 in
     let at = rw (c.in-Some.is, c.threads.ensures, c.last_thread-last.ensures, c.as_slice.ensures.value, c.text_from-rest.ensures) at c.in_ok-found.ensures in
@@ -36,7 +36,7 @@ returns-in_err-judge_line-clause-refused c = λ t is.
     t c.args.setup.now refl playable c.body_line_at.new.calls.items c.in-Some.more at c.in_err-judge_line.field-0.0 refused)
 
 pub loop-calls-preserved : goal.loop-calls-preserved
-loop-calls-preserved c =
+loop-calls-preserved g c =
     let before = c.loop-calls.invariant in
     let at = rw (c.in-Some.is, c.threads.ensures, c.last_thread-last.ensures, c.as_slice.ensures.value, c.text_from-rest.ensures) at c.in_ok-found.ensures in
     let after = rw c.as_slice-in-loop-calls.ensures.value at c.in_ok-judge_line.ensures.history in
@@ -45,6 +45,11 @@ loop-calls-preserved c =
     let calls = c.body_line_at.new.calls.items in
     record {
       played = c.in_ok-judge_line.ensures.played;
+      watched = λ t is first begun.
+          let is_kept = subst (λ k. StandsFor k t) (sym before.code) is in
+          let same = before.setup ∙ c.requires.setup in
+          let seen = rw same at (c.in_ok-judge_line.ensures.watched t is_kept first) in
+          seen (before.watched t is first begun);
       within = next_within c.args.version _ c.args.first c.args.text.now old c.loop-calls.size c.loop-calls.line before.within before.parts before.number calls new c.in-Some.more at after;
       parts = next_parts c.args.version _ c.args.first c.args.text.now old c.loop-calls.size c.loop-calls.line before.within before.parts before.number calls new c.in-Some.more at after;
       number = next_number c.args.version _ c.args.first c.args.text.now old c.loop-calls.size c.loop-calls.line before.within before.parts before.number calls new c.in-Some.more at after;

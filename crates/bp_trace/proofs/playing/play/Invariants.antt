@@ -1,12 +1,15 @@
 use Rattle.std.proofs.Common.{◌≡◌, ◌≤◌, ◌-◌, ◌+◌, ◌++◌, length, drop}
-use Rattle.bp_trace.specs.Judging.{ArePlayed}
+use Rattle.bp_tree.specs.Ast.{Program}
+use Rattle.bp_code.specs.StandsFor.{StandsFor}
+use Rattle.bp_trace.specs.Judging.{ArePlayed, WatchesAll}
 use Rattle.bp_trace.specs.Replays.{line_count}
 use Rattle.bp_trace.specs.TraceText.{calls_text}
 use Rattle.bp_trace.proofs.playing.play.Given as goal
 
 abbrev pub invariant-loop-calls : goal.invariant-loop-calls
-invariant-loop-calls l = record {
+invariant-loop-calls g l = record {
   played : ArePlayed l.session l.played;
+  watched : (t : Program) → StandsFor l.fn.session.code t → WatchesAll g.O.Watcher.sees t l.setup l.fn.watcher l.played;
   within : l.size ≤ length l.text;
   parts : l.text ≡ calls_text l.version l.played.history.items ++ drop l.size l.text;
   number : l.line ≡ l.first + line_count l.version l.played.history.items;
@@ -16,4 +19,4 @@ invariant-loop-calls l = record {
 }
 
 abbrev pub decreases-loop-calls : goal.decreases-loop-calls
-decreases-loop-calls l = length l.text - l.size
+decreases-loop-calls g l = length l.text - l.size

@@ -1,40 +1,37 @@
-use Rattle.std.proofs.Common.{◌∙◌, ◌++◌, ap}
-use Rattle.std.proofs.lemmas.Result.{err_from_is_err_and}
-use Rattle.bp_code.specs.StandsFor.{StandsFor}
+use Rattle.std.proofs.Common.{◌≡◌, ◌∙◌, ◌++◌, Some, length, sym, ap, refl, subst}
 use Rattle.bp_code.specs.Starts.{starts_of}
 use Rattle.bp_view.specs.Scenes.{AreScenes}
+use Rattle.bp_view.specs.Views.{AreLines}
 use Rattle.bp_view.proofs.SceneLists.{all_words}
 use Rattle.bp_view.proofs.views.view.Goals as goal
 
-pub push_calls-requires : goal.push_calls-requires
-push_calls-requires c =
-    rw (c.setting_of-setting.ensures.scenes ∙ c.as_slice.ensures.value) (all_words c.args.text.now (starts_of c.args.checked.now) c.in_ok-scenes.scenes.items c.in_ok-scenes.ensures)
-
-pub returns-in_err-push_calls : goal.returns-in_err-push_calls
-returns-in_err-push_calls c =
-    let p = err_from_is_err_and c.from_residual-in_err-push_calls.result c.from_residual-in_err-push_calls.ensures.1 in
-    let kept = c.in_ok-session.ensures.kept in
-    let code : StandsFor c.in_ok-session.session.code c.args.checked.now = rw kept.0 c.requires.code in
-    let stands = c.in_ok-session.ensures.stands c.args.checked.now c.requires.code in
-    let refused = rw kept.1 at (c.in_err-push_calls.ensures.refused c.args.checked.now code stands) in
-    rw (p.1, p.2) refused
+pub invariant_of-writer : goal.invariant_of-writer
+invariant_of-writer c = record {
+  words = rw (c.setting_of.ensures.scenes ∙ c.as_slice.ensures.value) (all_words c.args.text.now (starts_of c.args.checked.now) c.in_ok-scenes.scenes.items c.in_ok-scenes.ensures);
+}
 
 pub returns : goal.returns
 returns c =
     let t = c.args.checked.now in
     let text = c.args.text.now in
-    let setting = c.setting_of-setting.result in
-    let kept = c.in_ok-session.ensures.kept in
-    let code : StandsFor c.in_ok-session.session.code t = rw kept.0 c.requires.code in
-    let stands = c.in_ok-session.ensures.stands t c.requires.code in
-    let are : AreScenes text (starts_of t) setting.scenes.now = rw (c.setting_of-setting.ensures.scenes ∙ c.as_slice.ensures.value) c.in_ok-scenes.ensures in
-    let lines = c.in_ok-push_calls.ensures.lines t text code stands are in
-    let here = rw (kept.1, c.setting_of-setting.ensures.options, c.setting_of-setting.ensures.count) at lines.more_are in
+    let w = c.in_ok-replayed.ensures t c.requires in
+    let r = c.in_ok-replayed.field-0.replayed in
+    let setting = c.in_ok-replayed.field-0.watcher.setting in
+    let are : AreScenes text (starts_of t) setting.scenes.now = rw (w.seen.scenes ∙ c.setting_of.ensures.scenes ∙ c.as_slice.ensures.value) c.in_ok-scenes.ensures in
+    let lines = w.seen.lines text are in
+    let counted = c.calls_at_end-count.ensures t w.replayed.version r.setup r.history.items c.is_in_range.ensures w.replayed.trace in
+    let count : setting.count ≡ length r.history.items = w.seen.count ∙ c.setting_of.ensures.count ∙ counted in
+    let here = rw (count, w.seen.options, c.setting_of.ensures.options) at lines.more_are in
     record {
-      widths = setting.widths;
-      head = c.in_ok-view.view.items;
-      lines = lines.more;
-      foot = c.deref.result.now;
-      is = c.in_ok-push_bytes.ensures ∙ ap (λ x. x ++ c.deref.result.now) lines.is;
-      lines_are = here;
+      replayed = r;
+      is = w.replayed;
+      view_is = record {
+        widths = setting.widths;
+        head = w.seen.head;
+        lines = lines.more;
+        foot = c.deref.result.now;
+        is = c.in_ok-push_bytes.ensures ∙ ap (λ x. x ++ c.deref.result.now) lines.is;
+        lines_are = here;
+      };
+      report_is = refl;
     }

@@ -2,7 +2,7 @@ use Rattle.std.proofs.Common.{◌∙◌, ap}
 use Rattle.bp_view.specs.Scenes.{place_of_scene}
 use Rattle.bp_view.proofs.PlacesOfTops.{got_scene, place_of_top}
 use Rattle.bp_view.proofs.SceneLists.{words_at}
-use Rattle.bp_view.proofs.views.scene_of.Goals as goal
+use Rattle.bp_view.proofs.shown.scene_of.Goals as goal
 
 pub returns-in-Some-clause-scene : goal.returns-in-Some-clause-scene
 returns-in-Some-clause-scene c = λ t text d i are is.

@@ -1,0 +1,65 @@
+//! Watching a replay.
+
+use crate::texts::code_of;
+use bp_machine::{Call, Session, Setup};
+use bp_trace::{Watched, Watcher, calls_at_end, replay_watched};
+use std::alloc::AllocError;
+use std::test::Fail;
+
+/// A watcher that counts the calls that it makes.
+#[derive(Drop)]
+struct Counter {
+    begun: bool,
+    calls: u64,
+}
+
+impl Watcher for Counter {
+    ghost sees = { λ _ _ _ _ _. Unit {0} };
+
+    fn begin(&mut self, _setup: &Setup) -> Result<(), AllocError> {
+        self.begun = true;
+        self.calls = 0;
+        Ok(())
+    }
+
+    fn make(&mut self, session: &mut Session, call: &Call) -> Result<(), AllocError> {
+        session.commit(call);
+        self.calls = self.calls.saturating_add(1);
+        Ok(())
+    }
+}
+
+const PROGRAM: &[u8] = b"main() begin skip; end";
+
+const TRACE: &[u8] =
+    b"btrace 1\nentry main\ninit -\ncontexts 1\ncalls 9\nseed none\n0 0 s\n0 0 s\n0 0 e\nend 3 0\n";
+
+#[test]
+fn watchers_make_each_call(rt: HostRuntime) -> Result<(), Fail> {
+    let code = code_of(rt.alloc(), PROGRAM)?;
+    let counter = Counter {
+        begun: false,
+        calls: 5,
+    };
+    let Ok(watched) = replay_watched(rt.alloc(), &code, TRACE, counter) else {
+        return Err(Fail::from("no trace"));
+    };
+    let Watched {
+        replayed,
+        session,
+        watcher,
+    } = watched;
+    assert!(rt; watcher.begun);
+    assert_eq!(rt; watcher.calls, 3);
+    assert_eq!(rt; replayed.history.len(), 3);
+    assert_eq!(rt; session.open_lines(), 0);
+    Ok(())
+}
+
+#[test]
+fn ends_count_their_calls(rt: HostRuntime) {
+    assert_eq!(rt; calls_at_end(TRACE), 3);
+    assert_eq!(rt; calls_at_end(b"0 0s1s\nend 17 2\n"), 17);
+    assert_eq!(rt; calls_at_end(b"0 0 s\n"), 0);
+    assert_eq!(rt; calls_at_end(b""), 0);
+}

@@ -1,0 +1,53 @@
+//! Watching a replay: each call is made by a watcher, which may look at the session before and
+//! after it.
+ghost use Rattle.std.specs.Prelude.{◌≡◌, ◌++◌, ◌∷◌, [], List, Some, OnOk};
+ghost use Rattle.bp_tree.specs.Ast.{Program};
+ghost use Rattle.bp_code.specs.StandsFor.{StandsFor};
+ghost use Rattle.bp_machine.specs.declared.calls.Call.{Call as Answered};
+ghost use Rattle.bp_machine.specs.Sessions.{Stands};
+ghost use Rattle.bp_machine.specs.Setups.{SetupOf};
+
+use bp_machine::{Call, Session, Setup};
+use std::alloc::AllocError;
+
+/// Who makes the calls of a replay.
+pub trait Watcher {
+    /// What it has seen of a history of a program under a setup, and what it was at first.
+    ghost sees: { Self → Self → Program → SetupOf → List Answered → Type 0 };
+
+    /// Begins with the setup, before any call.
+    fn begin(&mut self, setup: &Setup) -> Result<(), AllocError>
+        ensures { (t : Program) → OnOk result (sees self.old self.new t setup.now []) };
+
+    /// Makes the call that the session is prepared for.
+    fn make(&mut self, session: &mut Session, call: &Call) -> Result<(), AllocError>
+        requires { session.old.ready ≡ Some call.now }
+        ensures stands { (t : Program) (h : List Answered)
+            → StandsFor session.old.code t
+            → Stands t session.old h
+            → OnOk result (Stands t session.new (h ++ call.now ∷ [])) }
+        ensures kept { (session.new.code ≡ session.old.code)
+            × (session.new.setup ≡ session.old.setup) }
+        ensures sees { (first : Self) (t : Program) (h : List Answered)
+            → StandsFor session.old.code t
+            → Stands t session.old h
+            → sees first self.old t session.old.setup h
+            → OnOk result (sees first self.new t session.old.setup (h ++ call.now ∷ [])) };
+}
+
+/// A watcher that only makes the calls.
+#[derive(Clone, Copy, Debug, Drop)]
+pub struct Unwatched;
+
+impl Watcher for Unwatched {
+    ghost sees = { λ _ _ _ _ _. Unit {0} };
+
+    fn begin(&mut self, _setup: &Setup) -> Result<(), AllocError> {
+        Ok(())
+    }
+
+    fn make(&mut self, session: &mut Session, call: &Call) -> Result<(), AllocError> {
+        session.commit(call);
+        Ok(())
+    }
+}

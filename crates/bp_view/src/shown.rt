@@ -1,0 +1,62 @@
+//! The lines of the calls that are shown.
+ghost use Rattle.std.specs.Prelude.{◌≡◌, [], ℕ, List, option_map, OnOk, MatchOption};
+ghost use Rattle.bp_tree.specs.Ast.{Program};
+ghost use Rattle.bp_code.specs.Configurations.{Configuration};
+ghost use Rattle.bp_code.specs.Starts.{starts_of};
+ghost use Rattle.bp_machine.specs.declared.calls.Call.{Call as Answered};
+ghost use Rattle.bp_machine.specs.Answers.{stack_of};
+ghost use Rattle.bp_machine.specs.Setups.{SetupOf};
+ghost use Rattle.bp_machine.specs.Tops.{IsTop};
+ghost use Rattle.bp_view.specs.Lines.{start_on_stack, Adds, IsMomentOf};
+ghost use Rattle.bp_view.specs.Places.{place_text};
+ghost use Rattle.bp_view.specs.Scenes.{place_of_scene, AreOnOneLine, AreScenes, IsOnOneLine};
+ghost use Rattle.bp_view.specs.Views.{IsShownLine};
+
+use crate::lines::push_line;
+use crate::moments::Moment;
+use crate::scenes::Scene;
+use crate::settings::Setting;
+use bp_machine::Top;
+use std::alloc::AllocError;
+
+/// The scene of what is at the top of a stack.
+fn scene_of<'a>(scenes: &'a [Scene], top: Option<Top>) -> Option<&'a Scene>
+    ensures scene { (t : Program) (text : List ℕ) (c : Configuration) (i : ℕ)
+        → AreScenes text (starts_of t) scenes.now
+        → MatchOption top (stack_of c i ≡ []) (IsTop t c i)
+        → place_of_scene (option_map (λ s. s.now) result)
+        ≡ place_text text (start_on_stack (stack_of c i)) }
+    ensures words { AreOnOneLine scenes.now → IsOnOneLine (option_map (λ s. s.now) result) }
+{
+    match top {
+        Some(top) => scenes.get(top.number as usize),
+        None => None,
+    }
+}
+
+/// Adds the line of a call, where it is shown. The note is room for what the call comes to.
+pub(crate) fn push_shown(
+    view: &mut Vec<u8>,
+    note: &mut Vec<u8>,
+    setting: &Setting<'_>,
+    moment: &Moment,
+) -> Result<(), AllocError>
+    requires { AreOnOneLine setting.now.scenes.now }
+    ensures { (t : Program) (text : List ℕ) (s : SetupOf) (h : List Answered) (x : Answered)
+        → AreScenes text (starts_of t) setting.now.scenes.now
+        → IsMomentOf t s h x moment.now
+        → let options = setting.now.options in
+        let w = setting.now.widths in
+        let count = setting.now.count in
+        OnOk result
+        (Adds (IsShownLine t text s options w count h x) view.old.items view.new.items) }
+{
+    if setting
+        .options
+        .shows(moment.call.thread, moment.number, setting.count)
+    {
+        let scene = scene_of(setting.scenes, moment.before);
+        push_line(view, note, setting, scene, moment)?;
+    }
+    Ok(())
+}

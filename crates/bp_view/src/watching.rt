@@ -1,0 +1,34 @@
+//! Writing a view while its trace is replayed.
+use crate::heads::head_of;
+use crate::moments::{last_step, moment_of};
+use crate::settings::widths_of;
+use crate::shown::push_shown;
+use crate::writers::ViewWriter;
+use bp_machine::{Call, Session, Setup};
+use bp_trace::Watcher;
+use std::alloc::AllocError;
+
+impl<'a> Watcher for ViewWriter<'a> {
+    ghost use Rattle.bp_view.specs.Views.{Shows};
+
+    ghost sees = { λ first now t s h. Shows t s h first now };
+
+    fn begin(&mut self, setup: &Setup) -> Result<(), AllocError> {
+        let head = head_of(*self.view.allocator(), setup, self.setting.globals)?;
+        self.view = head;
+        self.setting.widths = widths_of(&self.setting, setup);
+        self.last = None;
+        self.made = 0;
+        Ok(())
+    }
+
+    fn make(&mut self, session: &mut Session, call: &Call) -> Result<(), AllocError> {
+        session.setup().is_in_range();
+        let number = self.made.saturating_add(1);
+        let moment = moment_of(session, self.last, number, call);
+        push_shown(&mut self.view, &mut self.note, &self.setting, &moment)?;
+        self.last = last_step(self.last, call);
+        self.made = number;
+        Ok(())
+    }
+}

@@ -1,0 +1,20 @@
+//! A view that is being written.
+ghost use Rattle.bp_view.specs.Scenes.{AreOnOneLine};
+ghost use Rattle.bp_view.specs.OneLineProps.{scenes_on_one_line};
+
+use crate::settings::Setting;
+
+/// A view so far.
+#[derive(Drop)]
+pub(crate) struct ViewWriter<'a> {
+    pub(crate) view: Vec<u8>,
+    /// Room for what a call comes to.
+    pub(crate) note: Vec<u8>,
+    pub(crate) setting: Setting<'a>,
+    /// The thread of the last step.
+    pub(crate) last: Option<u32>,
+    /// How many calls there were.
+    pub(crate) made: u64,
+
+    ghost words: { AreOnOneLine setting.scenes.now } by { scenes_on_one_line setting.scenes.now },
+}
