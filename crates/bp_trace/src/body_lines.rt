@@ -10,7 +10,7 @@ use bp_machine::{Call, Reply};
 use std::alloc::AllocError;
 
 /// The bit and the reply that begin the text, with nothing between them.
-fn pair_at(text: &[u8]) -> Option<(bool, Reply)>
+fn symbol_at(text: &[u8]) -> Option<(bool, Reply)>
     ensures { MatchOption result (HasNoSymbol text.now) (IsSymbolAt text.now) }
 {
     let (Some(digit), Some(letter)) = (text.first(), text.get(1)) else {
@@ -22,13 +22,13 @@ fn pair_at(text: &[u8]) -> Option<(bool, Reply)>
     }
 }
 
-/// Adds the calls of a thread for the pairs at the front of the text, and answers how many bytes
+/// Adds the calls of a thread for the symbols at the front of the text, and answers how many bytes
 /// these have.
 fn read_symbols(thread: u32, text: &[u8], calls: &mut Vec<Call>) -> Result<usize, AllocError>
     ensures { IfOk result (HasSymbols thread text.now calls.old.items calls.new.items) }
 {
     let mut size = 0;
-    while let Some((bit, reply)) = pair_at(text_from(text, size)) {
+    while let Some((bit, reply)) = symbol_at(text_from(text, size)) {
         calls.push(Call { thread, bit, reply })?;
         size += 2;
     }
