@@ -31,12 +31,6 @@ pub lines_beyond : (is : List Instruction) (n end : ℕ) → length is ≤ n →
 lines_beyond is n end past =
     lines_past is n end past ∙ sym (lines_past is (n + 1) end (omega arith))
 
--- none are left
-pub lines_ended : (is : List Instruction) (n end : ℕ) → end ≤ n → lines_between is n end ≡ []
-lines_ended is n end over =
-    let count : end - n ≡ 0 = omega arith in
-    ap (λ k. instruction_lines n (take k (drop n is))) count
-
 -- the lines of the n-th procedure, and those behind it
 pub procedures_next : (is : List Instruction) (hs : List Heading) (n : ℕ) (h : Heading) → n < length hs → h ≡ get_or hs n h
     → procedure_lines is (drop n hs) ≡ heading_line h ++ (lines_between is h.entry (end_before is (drop (n + 1) hs)) ++ procedure_lines is (drop (n + 1) hs))

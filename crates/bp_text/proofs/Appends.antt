@@ -26,9 +26,6 @@ pub record HasRest (a b : Option (List ℕ)) (text rest : List ℕ) : Type 0 whe
   pub grown : Appends a b done
   pub is : text ≡ done ++ rest
 
-pub rest_at_start : (a : Option (List ℕ)) (text : List ℕ) → HasRest a a text text
-rest_at_start a text = record { done = []; grown = Appends-nil a; is = refl }
-
 -- the next piece was written
 pub rest_after : (a b c : Option (List ℕ)) (text t u : List ℕ) → HasRest a b text (t ++ u) → AppendsAll b c t → HasRest a c text u
 rest_after a b c text t u h p = record {
@@ -40,7 +37,3 @@ rest_after a b c text t u h p = record {
 -- a part of the next piece was written
 pub part_of_rest : (a b c : Option (List ℕ)) (text t u : List ℕ) → HasRest a b text (t ++ u) → AppendsPart b c t → AppendsPart a c text
 part_of_rest a b c text t u h p = subst (AppendsPart a c) (sym h.is) (AppendsPart_within a b c h.done t u h.grown p)
-
--- nothing is left
-pub all_of_rest : (a b : Option (List ℕ)) (text : List ℕ) → HasRest a b text [] → AppendsAll a b text
-all_of_rest a b text h = record { grown = subst (Appends a b) (sym (h.is ∙ append-nil h.done)) h.grown }

@@ -14,9 +14,6 @@ adds_then a b c first second = record {
   one_line = one_line_append first.more second.more first.one_line second.one_line;
 }
 
-pub adds_none : (a : List ℕ) → AddsOneLine a a
-adds_none a = record { more = []; is = sym (append-nil a); one_line = tt }
-
 pub adds_these : (a b xs : List ℕ) → b ≡ a ++ xs → IsOneLine xs → AddsOneLine a b
 adds_these a b xs is line = record { more = xs; is = is; one_line = line }
 

@@ -73,9 +73,3 @@ some_line One n last line calls is_line =
     omega (arith, ap length is_line.is, length-append (decimal is_line.call.thread) (32 ∷ bit_digit is_line.call.bit ∷ 32 ∷ letter_of is_line.call.reply ∷ 10 ∷ []))
 some_line Two n last line calls is_line =
     omega (arith, ap length is_line.is, length-append (decimal is_line.piece.thread) (32 ∷ (flat_map symbol_text (is_line.piece.first ∷ is_line.piece.others) ++ codes "\n")))
-
--- what is behind the line is behind the calls with those of the line
-pub behind_line : (v : Version) (n : ℕ) (h : List Call) (line : List ℕ) (calls : List Call) (more : List ℕ)
-    → IsBodyLine n (last_thread (map thread_of h)) line calls v → calls_text v h ++ (line ++ more) ≡ calls_text v (h ++ calls) ++ more
-behind_line v n h line calls more is_line =
-    sym (append_assoc (calls_text v h) line more) ∙ ap (λ t. t ++ more) (sym (text_grows v n h line calls is_line))

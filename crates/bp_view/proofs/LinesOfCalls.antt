@@ -40,6 +40,3 @@ module _ (t : Program) (text : List ℕ) (s : SetupOf) (o : ViewOptions) (w : Wi
     is = one.is ∙ ap (λ y. y ++ one.more) all.is ∙ append_assoc a all.more one.more;
     more_are = lines_then [] h x all.more one.more all.more_are one.more_are;
   }
-
-  pub no_lines : (a : List ℕ) → Adds (AreLines t text s o w count [] []) a a
-  no_lines a = record { more = []; is = sym (append-nil a); more_are = refl }
