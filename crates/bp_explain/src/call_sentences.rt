@@ -111,7 +111,7 @@ pub(crate) fn push_other_reply(
     push_due_call(out, trace, due.call, reason(due.call.reply), reply_at)
 }
 
-/// Adds that the thread of the call of a trace that has so many calls before it has made its last
+/// Adds that the call after the first `made` calls of a trace is of a thread that has made its last
 /// one.
 pub(crate) fn push_finished(out: &mut Vec<u8>, trace: &[u8], made: u64) -> Result<(), AllocError> {
     let Some(Recorded { thread, bit_at, .. }) = recorded_call(trace, made) else {

@@ -14,8 +14,8 @@ pub(crate) struct Recorded {
     pub(crate) reply_at: usize,
 }
 
-/// The call on a line of this thread that has so many calls before it there, and else how many of
-/// them are before the next line. The symbols of the line end at this byte of the trace.
+/// The call of a line that has `before` calls in front of it there. If the line is too short, how
+/// many of them remain for the next line. The symbols of the line end at byte `end` of the trace.
 fn call_on_line(thread: u32, symbols: &[u8], end: usize, before: u64) -> Result<Recorded, u64> {
     let mut rest = symbols;
     let mut before = before;
@@ -32,7 +32,7 @@ fn call_on_line(thread: u32, symbols: &[u8], end: usize, before: u64) -> Result<
     Err(before)
 }
 
-/// The call of a trace that has so many calls before it.
+/// The call of a trace that follows the first `before` calls.
 pub(crate) fn recorded_call(trace: &[u8], before: u64) -> Option<Recorded> {
     let mut rest = body_of(trace);
     let mut before = before;

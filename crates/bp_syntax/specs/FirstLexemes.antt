@@ -16,7 +16,8 @@ IsFirst None text size = NoneFits text × (size ≡ 1)
 
 -- the lexeme of this kind and these bytes begins the text, and then comes the rest: each cut of the
 -- rest becomes one of the text by this lexeme before it
-pub record TakesLexeme (text : List ℕ) (kind : Option LexemeKind) (bytes rest : List ℕ) : Type 0 where
+pub record TakesLexeme (text : List ℕ) (kind : Option LexemeKind) (bytes rest : List ℕ)
+    : Type 0 where
   pub size : ℕ
   pub some : 0 < size
   pub within : size ≤ length text

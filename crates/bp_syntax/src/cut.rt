@@ -9,7 +9,7 @@ use crate::tokens::LexemeKind;
 /// A lexeme of a text: the longest that fits at its place, or one byte where none fits.
 #[derive(Clone, Copy, Debug)]
 pub struct Lexeme<'a> {
-    /// The kind of the lexeme. There is none for a byte with which no lexeme begins.
+    /// The kind of the lexeme, and `None` for a byte that begins no lexeme.
     pub kind: Option<LexemeKind>,
     pub text: &'a [u8],
 }

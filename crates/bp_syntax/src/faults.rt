@@ -12,7 +12,7 @@ pub enum ReadFault {
     /// The text has more bytes than `TEXT_LIMIT`.
     #[error("the text is too long")]
     TooLong,
-    /// The first byte but `{` with which no lexeme of the language begins.
+    /// The first byte, other than `{`, that begins no lexeme.
     #[error("bad byte at {0}")]
     BadByte(u32),
     /// The first `{` that begins no braced name.

@@ -7,14 +7,14 @@ use crate::tokens::{
     long_symbol, symbol,
 };
 
-/// What a text begins with: a lexeme of some kind, or a byte with which no lexeme begins.
+/// What a text begins with: a lexeme of some kind, or a byte that begins none.
 #[derive(Clone, Copy, Debug, PartialEq, Eq)]
 pub(crate) enum FirstLexeme {
     /// The longest lexeme that fits, and its length.
     Fits(LexemeKind, usize),
     /// A brace that begins no name. No name begins in this many bytes from it on.
     OpenBrace(usize),
-    /// Another byte with which no lexeme begins.
+    /// Another byte that begins no lexeme.
     BadByte,
 }
 
@@ -30,7 +30,7 @@ fn is_continuation(kind: LexemeKind, b: u8) -> bool
     }
 }
 
-/// The number of bytes with which a lexeme of the kind goes on.
+/// How many further bytes continue a lexeme of the kind.
 fn run(kind: LexemeKind, text: &[u8]) -> usize
     ensures value { result ≡ run (is_continuation kind) text.now }
     ensures within { result ≤ length text.now }

@@ -158,7 +158,7 @@ fn takes_a_lawful_text(rt: HostRuntime) -> Result<(), Fail> {
     Ok(())
 }
 
-/// Whether the instructions of two procedures are those of the statements at these statement_starts.
+/// Whether the instructions of two procedures are those of the statements that begin here.
 fn places_statements(alloc: Global) -> Result<bool, Fail> {
     let text = b"main() begin a: while (?) do skip; od end f() begin skip; end";
     let starts = statement_starts(alloc, &lawful_program(alloc, text)?)?;

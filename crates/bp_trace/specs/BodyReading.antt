@@ -18,7 +18,7 @@ IsSymbolAt text x = (more : List ℕ) × (text ≡ bit_digit x.0 ∷ letter_of x
 abbrev pub HasNoSymbol : List ℕ → Type 0
 HasNoSymbol text = (b : Bool) (r : Reply) (more : List ℕ) → text ≢ bit_digit b ∷ letter_of r ∷ more
 
--- the symbols at the front of the text have this size, and no other symbol is behind them; the calls
+-- the symbols at the front of the text have this size, and no other follows them; the calls
 -- that they are for this thread were added
 pub record HasSymbols (i : ℕ) (text : List ℕ) (old new : List Call) (size : ℕ) : Type 0 where
   pub symbols : List Symbol

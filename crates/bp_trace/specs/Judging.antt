@@ -28,7 +28,7 @@ use Rattle.bp_trace.specs.Replays.{IsPlayable, line_count, IsCallFault, IsRefuse
 abbrev pub rows_of : Option Printed → List PrintedRow
 rows_of row = option_to_list (option_map row_of row)
 
--- the refusal of a call on the line n after so many calls, of a thread that is there
+-- the refusal of a call on the line n, where this many calls were made before; its thread exists
 abbrev pub replay_fault_of : AskFault → ℕ → ℕ → ReplayFault
 replay_fault_of refused.Memory n made = fault.Memory
 replay_fault_of f n made = fault.AfterFinish n made
@@ -38,7 +38,7 @@ pub record IsOwnAs (own x : Call) : Type 0 where
   pub bit : own.bit ≡ x.bit
   pub reply : own.reply ≡ x.reply
 
--- another bit, or another reply, after so many calls
+-- another bit, or another reply, where this many calls were made before
 module _ (own x : Call) (n made : ℕ) where
   pub record IsDueCall (due : Due) : Type 0 where
     pub calls : due.calls ≡ made

@@ -58,7 +58,7 @@ fn call_count(session: &Session) -> u64
     session.report().calls
 }
 
-/// The refusal of a call on the `n`-th line after so many calls, of a thread that is there.
+/// The refusal of a call on the `n`-th line, where `made` calls were made before. Its thread exists.
 fn replay_fault_of(fault: AskFault, n: u32, made: u64) -> ReplayFault
     ensures { result ≡ replay_fault_of fault n made }
 {

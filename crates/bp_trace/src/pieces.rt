@@ -39,7 +39,8 @@ fn write_opening<W: Write>(last: Option<u32>, thread: u32, out: &mut W) -> Resul
 
 /// Writes a call behind one of this thread, or behind none.
 fn write_symbol<W: Write>(last: Option<u32>, call: &Call, out: &mut W) -> Result<(), WriteFault>
-    ensures { Writes (W.contents out.old) (W.contents out.new) (symbol_behind last call.now) result }
+    ensures { Writes (W.contents out.old) (W.contents out.new)
+        (symbol_behind last call.now) result }
 {
     write_opening(last, call.thread, out)?;
     put(out, &[bit_digit(call.bit), call.reply.letter()])

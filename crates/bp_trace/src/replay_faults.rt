@@ -36,7 +36,7 @@ pub enum ReplayFault {
     /// end.
     #[error("line {0} of the trace is not a line of calls or the end")]
     Line(u32),
-    /// The thread of a call on this line has made its last one. The trace has so many calls before.
+    /// The thread of a call on this line has made its last one. The number counts the calls before.
     #[error("line {0} of the trace is of a thread that has made its last call")]
     AfterFinish(u32, u64),
     /// The choice bit of a call on this line is not that of the seed, which the machine's own call

@@ -12,4 +12,6 @@ one_line [] = Unit-prop
 one_line (b ∷ bs) = ×_prop (Prim.hlevel props) (one_line bs)
 
 pub scenes_on_one_line : (scenes : List Scene) → IsProp (AreOnOneLine scenes)
-scenes_on_one_line scenes = AllByRecursion-prop (λ (s : Scene). IsOneLine s.excerpt.words.items) (λ s. one_line s.excerpt.words.items) scenes
+scenes_on_one_line scenes =
+    AllByRecursion-prop (λ (s : Scene). IsOneLine s.excerpt.words.items)
+    (λ s. one_line s.excerpt.words.items) scenes

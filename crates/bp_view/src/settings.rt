@@ -1,5 +1,5 @@
-//! What the lines of a view have in common: the program's scenes and names, and how wide the columns
-//! are.
+//! What the lines of a view have in common: the program's scenes and names, and the widths of the
+//! columns.
 ghost use Rattle.std.specs.Prelude.{◌≡◌};
 
 use crate::options::ViewOptions;
@@ -61,7 +61,7 @@ pub(crate) fn widths_of(setting: &Setting<'_>, setup: &Setup) -> Widths {
     }
 }
 
-/// The setting of a view of so many calls, before the setup is known.
+/// The setting of a view of `count` calls, before the setup is known.
 pub(crate) fn setting_of<'a>(
     scenes: &'a [Scene],
     checked: &'a Checked,

@@ -128,7 +128,7 @@ fn fault_of(alloc: Global, head: &str, lines: &str) -> Result<Option<ReplayFault
     }
 }
 
-/// The call of thread 0 that is due after so many calls.
+/// The call of thread 0 that is due after `calls` calls.
 const fn due(calls: u64, bit: bool, reply: Reply) -> Due {
     Due {
         calls,
