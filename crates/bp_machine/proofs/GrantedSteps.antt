@@ -86,7 +86,7 @@ module _ (t : Program) (s : SetupOf) where
       let same = configuration_after-append t s h x ∙ ap (λ g. cond g (unwrap_or (configuration_after_step t (configuration_after t s h) x.thread x.bit (stack_of (configuration_after t s h) x.thread)) (configuration_after t s h)) (configuration_after t s h)) b in
       subst (λ c. IsRun t c (granted_calls xs) (configuration_after t s ((h ++ x ∷ []) ++ xs))) same rest
 
-  run_from : (h xs : List Call) → IsLegalAfter t s h xs → IsRun t (configuration_after t s h) (granted_calls xs) (configuration_after t s (h ++ xs))
+  pub run_from : (h xs : List Call) → IsLegalAfter t s h xs → IsRun t (configuration_after t s h) (granted_calls xs) (configuration_after t s (h ++ xs))
   run_from h [] legal = rw (append-nil h) (ends (configuration_after t s h))
   run_from h (x ∷ xs) (allowed, rest) =
       rw (← append_assoc h (x ∷ []) xs) (one h x xs (is_granted x.reply) refl allowed (run_from (h ++ x ∷ []) xs rest))

@@ -95,7 +95,7 @@ module _ (t : Program) (s : SetupOf) where
           let few = subst (λ j. length (calls_of_thread j p) < s.calls) same (room p x.thread allowed.unfinished) in
           omega (arith, is, few)
 
-  bounded : (p xs : List Call) → IsLegalAfter t s p xs → ((i : ℕ) → length (calls_of_thread i p) ≤ s.calls) → (i : ℕ) → length (calls_of_thread i (p ++ xs)) ≤ s.calls
+  pub bounded : (p xs : List Call) → IsLegalAfter t s p xs → ((i : ℕ) → length (calls_of_thread i p) ≤ s.calls) → (i : ℕ) → length (calls_of_thread i (p ++ xs)) ≤ s.calls
   bounded p [] legal each i = rw (append-nil p) (each i)
   bounded p (x ∷ xs) (allowed, rest) each i =
       rw (← append_assoc p (x ∷ []) xs) (bounded (p ++ x ∷ []) xs rest (next p x allowed each) i)

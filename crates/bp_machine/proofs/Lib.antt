@@ -1,9 +1,11 @@
 pub mod CallsOfThread
 pub mod ContextCounts
+pub mod ContextFronts
 pub mod EffectSizes
 pub mod EntryFaults
 pub mod ForEveryProgram
 pub mod GrantedSteps
+pub mod HistoriesAreRuns
 pub mod HistoryWithCall
 pub mod LegalLength
 pub mod NamesOfEntries
@@ -14,6 +16,8 @@ pub mod OwnNames
 pub mod PreparedSessions
 pub mod PrintsAlike
 pub mod RealFailures
+pub mod RepliesToSteps
+pub mod RunsAreHistories
 pub mod SeededWithCall
 pub mod SessionAnswers
 pub mod SetupInRange
@@ -24,6 +28,7 @@ pub mod StandsAfterCall
 pub mod StandsAfterTransition
 pub mod StandsAtStart
 pub mod StateAfterTransition
+pub mod StepsOfRuns
 pub mod TransitionIsAnswer
 pub mod WordsOfChoices
 pub mod ZerosNotGiven

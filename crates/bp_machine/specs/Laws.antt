@@ -1,10 +1,12 @@
 -- Laws of histories.
 use Rattle.std.specs.Prelude.{◌≡◌, ◌≤◌, ◌*◌, ℕ, List, length}
 use Rattle.bp_tree.specs.Ast.{Program}
+use Rattle.bp_code.specs.Configurations.{Configuration}
 use Rattle.bp_code.specs.Flat.{Flat}
 use Rattle.bp_code.specs.StandsFor.{StandsFor}
 use Rattle.bp_machine.specs.declared.calls.Call.{Call}
 use Rattle.bp_machine.specs.declared.reports.Outcome.TheVariants.{Failed}
+use Rattle.bp_machine.specs.BoundedRuns.{IsBoundedRun, history_of_run, IsHistoryOfSteps, HasBoundedRun}
 use Rattle.bp_machine.specs.Contexts.{IsWithin}
 use Rattle.bp_machine.specs.Setups.{SetupOf, start, threads, FitsCode}
 use Rattle.bp_machine.specs.Histories.{configuration_after, granted_threads, granted_calls, IsLegal}
@@ -24,6 +26,20 @@ StepsAreWithin =
     (t : Program) (s : SetupOf) (h : List Call)
     → IsLegal t s h
     → IsWithin s.contexts (granted_threads h)
+
+-- a run within the bounds of a setup is a legal history, with the replies of its steps
+abbrev pub RunsAreHistories : Type 0
+RunsAreHistories =
+    (t : Program) (s : SetupOf) (steps : List Call) (d : Configuration)
+    → IsBoundedRun t s steps d
+    → IsHistoryOfSteps t s (history_of_run steps d.failed) d
+
+-- and the granted calls of a legal history are such a run, with these replies
+abbrev pub HistoriesAreRuns : Type 0
+HistoriesAreRuns =
+    (t : Program) (s : SetupOf) (h : List Call)
+    → IsLegal t s h
+    → HasBoundedRun t s h
 
 -- a reported failure is a false assertion
 abbrev pub FailuresAreReal : Type 0

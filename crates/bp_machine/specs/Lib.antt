@@ -1,4 +1,5 @@
 pub mod Answers
+pub mod BoundedRuns
 pub mod ChoiceBits
 pub mod ContextCounts
 pub mod Contexts

@@ -1,5 +1,5 @@
 //! Laws of histories. These functions do nothing: their contracts are the laws.
-ghost use Rattle.bp_machine.specs.Laws.{StepsAreARun, StepsAreWithin, FailuresAreReal, HistoriesAreShort, OneCodeOneMeaning};
+ghost use Rattle.bp_machine.specs.Laws.{StepsAreARun, StepsAreWithin, RunsAreHistories, HistoriesAreRuns, FailuresAreReal, HistoriesAreShort, OneCodeOneMeaning};
 
 /// The granted steps of a legal history are a run of the program.
 pub fn steps_are_a_run()
@@ -9,6 +9,17 @@ pub fn steps_are_a_run()
 /// The granted steps of a legal history are within the contexts that its setup allows.
 pub fn steps_are_within()
     ensures { StepsAreWithin }
+{}
+
+/// The runs of a program within the bounds of a setup are exactly the granted calls of its legal
+/// histories. Such a run is moves, one after the other, from the start of the setup: within its
+/// contexts, with at most as many steps of each thread as it may make calls, and with room for a
+/// frame at each call of a procedure. With the replies of its steps it is a legal history, which
+/// leads where the run does; and the granted calls of each legal history are such a run, with these
+/// replies.
+pub fn runs_are_histories()
+    ensures each { RunsAreHistories }
+    ensures back { HistoriesAreRuns }
 {}
 
 /// Where the outcome of a legal history is a failure, its last granted step is at an assertion of

@@ -1,0 +1,158 @@
+-- A run within the bounds of a setup is a legal history.
+use Rattle.std.proofs.Common.{◌≡◌, ◌≢◌, ◌+◌, ◌<◌, ◌≤◌, ◌==◌, ℕ, Bool, true, false, cond, ◌||◌, nat_le, List, [], ◌∷◌, ◌++◌, length, Some, refl, ap, sym, ◌∙◌, subst, arith, append_assoc, length-append, inl, inr}
+use Rattle.std.specs.Prelude.{map}
+use Rattle.std.proofs.lemmas.Bool.Decides.{nat_tests}
+use Rattle.bp_tree.specs.Ast.{Program}
+use Rattle.bp_code.specs.Configurations.{Configuration}
+use Rattle.bp_machine.specs.declared.calls.Call.{Call}
+use Rattle.bp_machine.specs.Answers.{configuration_after_call}
+use Rattle.bp_machine.specs.BoundedRuns.{EachHasRoom, IsBoundedRun, reply_of_step, history_of_run, IsHistoryOfSteps}
+use Rattle.bp_machine.specs.Contexts.{IsWithin}
+use Rattle.bp_machine.specs.Histories.{configuration_after_calls, configuration_after, granted_threads, granted_calls, calls_of_thread, ends_with_last, is_finished, IsAllowed, IsLegalAfter, IsLegal}
+use Rattle.bp_machine.specs.Replies.{is_granted, is_last}
+use Rattle.bp_machine.specs.Reports.{IsRun}
+use Rattle.bp_machine.specs.Reports as reports
+use Rattle.bp_machine.specs.Setups.{SetupOf, threads, start}
+use Rattle.bp_machine.proofs.ContextFronts.{within_front}
+use Rattle.bp_machine.proofs.HistoryWithCall.{configuration_after-append, granted_threads-append, calls_of_thread-same, calls_of_thread-other, ends_with_last-append}
+use Rattle.bp_machine.proofs.RepliesToSteps.{reply_granted, reply_told, goes_there, reply_before}
+use Rattle.bp_machine.proofs.StandsAfterCall.{same_or_not}
+use Rattle.bp_machine.proofs.StepsOfRuns.{FirstStep, first_step, ended, move_keeps, thread_below, stacks_at_start}
+
+-- the thread of a call
+abbrev thread_of : Call → ℕ
+thread_of x = x.thread
+
+counts_one : (x : Call) (xs : List Call) (i : ℕ) → x.thread ≡ i → length (calls_of_thread i (x ∷ xs)) ≡ length (calls_of_thread i xs) + 1
+counts_one x xs i e =
+    let same : (x.thread == i) ≡ true = grind (arith, nat_tests) in
+    ap (λ b. length (cond b (x ∷ calls_of_thread i xs) (calls_of_thread i xs))) same ∙ omega arith
+
+counts_none : (x : Call) (xs : List Call) (i : ℕ) → x.thread ≢ i → length (calls_of_thread i (x ∷ xs)) ≡ length (calls_of_thread i xs)
+counts_none x xs i n =
+    let other : (x.thread == i) ≡ false = grind (arith, nat_tests) in
+    ap (λ b. length (cond b (x ∷ calls_of_thread i xs) (calls_of_thread i xs))) other
+
+unfinished : (s : SetupOf) (h : List Call) (i : ℕ) → ends_with_last (calls_of_thread i h) ≡ false → length (calls_of_thread i h) < s.calls → is_finished s h i ≡ false
+unfinished s h i no_last few =
+    let less : nat_le s.calls (length (calls_of_thread i h)) ≡ false = grind (arith, nat_tests) in
+    ap (λ b. b || nat_le s.calls (length (calls_of_thread i h))) no_last ∙ less
+
+module _ (t : Program) (s : SetupOf) where
+  -- the calls p are made, no line is finished, and the steps xs are to come
+  record Stands (p xs : List Call) (e : Configuration) : Type 0 where
+    open_lines : (i : ℕ) → ends_with_last (calls_of_thread i p) ≡ false
+    run : IsRun t (configuration_after t s p) xs e
+    contexts : IsWithin s.contexts (granted_threads p ++ map thread_of xs)
+    calls : (i : ℕ) → length (calls_of_thread i p) + length (calls_of_thread i xs) ≤ s.calls
+    room : EachHasRoom t (configuration_after t s p) xs
+    stacks : length (configuration_after t s p).stacks ≡ threads s
+
+  module _ (p : List Call) (x : Call) (xs : List Call) (e : Configuration) (now : Stands p (x ∷ xs) e) where
+    -- the first of them, with its reply
+    abbrev made : Call
+    made = record x { reply = reply_of_step xs e.failed }
+
+    first : FirstStep t (configuration_after t s p) x xs e
+    first = first_step now.run
+
+    arrives : configuration_after t s (p ++ made ∷ []) ≡ first.next
+    arrives =
+        configuration_after-append t s p made
+        ∙ goes_there t (configuration_after t s p) x.thread x.bit first.next made.reply (reply_granted xs e.failed) first.move
+
+    reply_is : reply_of_step [] first.next.failed ≡ made.reply
+    reply_is = reply_before t first.next xs e first.rest
+
+    granted_is : granted_threads (p ++ made ∷ []) ≡ granted_threads p ++ x.thread ∷ []
+    granted_is = granted_threads-append p made ∙ ap (λ g. granted_threads p ++ cond g (x.thread ∷ []) []) (reply_granted xs e.failed)
+
+    all_threads : granted_threads p ++ map thread_of (x ∷ xs) ≡ (granted_threads p ++ x.thread ∷ []) ++ map thread_of xs
+    all_threads = sym (append_assoc (granted_threads p) (x.thread ∷ []) (map thread_of xs))
+
+    fits_here : IsWithin s.contexts (granted_threads p ++ x.thread ∷ [])
+    fits_here = within_front s.contexts (granted_threads p ++ x.thread ∷ []) (map thread_of xs) (subst (λ ts. IsWithin s.contexts ts) all_threads now.contexts)
+
+    allowed : IsAllowed t s p made
+    allowed =
+        let below = thread_below t (configuration_after t s p) x.thread x.bit first.next first.move in
+        let one = counts_one x xs x.thread refl in
+        let few = now.calls x.thread in
+        let stacks = now.stacks in
+        record {
+          thread = omega (arith, below, stacks);
+          unfinished = unfinished s p x.thread (now.open_lines x.thread) (omega (arith, one, few));
+          answers = record {
+            fits = true;
+            decides = (λ _. fits_here, λ _. refl);
+            is = reply_told t (configuration_after t s p) x.thread x.bit first.next first.move (now.room [] x xs (configuration_after t s p) refl (reports.ends (configuration_after t s p))) ∙ ap Some reply_is;
+          };
+        }
+
+    counts_next : (i : ℕ) → length (calls_of_thread i (p ++ made ∷ [])) + length (calls_of_thread i xs) ≤ s.calls
+    counts_next i = elim (same_or_not x.thread i) [
+      | inl same ↦
+          let made_is = ap length (calls_of_thread-same p made i same) in
+          let one = counts_one x xs i same in
+          let few = now.calls i in
+          omega (arith, made_is, length-append (calls_of_thread i p) (made ∷ []), one, few)
+      | inr other ↦
+          let made_is = ap length (calls_of_thread-other p made i other) in
+          let none = counts_none x xs i other in
+          let few = now.calls i in
+          omega (arith, made_is, none, few)
+    ]
+
+    opens_next : is_last made.reply ≡ false → (i : ℕ) → ends_with_last (calls_of_thread i (p ++ made ∷ [])) ≡ false
+    opens_next goes_on i = elim (same_or_not x.thread i) [
+      | inl same ↦ ap ends_with_last (calls_of_thread-same p made i same) ∙ ends_with_last-append (calls_of_thread i p) made ∙ goes_on
+      | inr other ↦ ap ends_with_last (calls_of_thread-other p made i other) ∙ now.open_lines i
+    ]
+
+    room_next : EachHasRoom t first.next xs
+    room_next before y later d split run =
+        now.room (x ∷ before) y later d (ap (λ zs. x ∷ zs) split) (reports.moves (configuration_after t s p) x first.next before d first.move run)
+
+    next : is_last made.reply ≡ false → Stands (p ++ made ∷ []) xs e
+    next goes_on = record {
+      open_lines = opens_next goes_on;
+      run = subst (λ d. IsRun t d xs e) (sym arrives) first.rest;
+      contexts = subst (λ ts. IsWithin s.contexts (ts ++ map thread_of xs)) (sym granted_is) (subst (λ ts. IsWithin s.contexts ts) all_threads now.contexts);
+      calls = counts_next;
+      room = subst (λ d. EachHasRoom t d xs) (sym arrives) room_next;
+      stacks = ap (λ (d : Configuration). length d.stacks) arrives ∙ move_keeps t (configuration_after t s p) x.thread x.bit first.next first.move ∙ now.stacks;
+    }
+
+  legal_from : (p xs : List Call) (e : Configuration) → Stands p xs e → IsLegalAfter t s p (history_of_run xs e.failed)
+  legal_from p [] e now = tt
+  legal_from p (x ∷ []) e now = (allowed p x [] e now, tt)
+  legal_from p (x ∷ y ∷ ys) e now =
+      (allowed p x (y ∷ ys) e now, legal_from (p ++ made p x (y ∷ ys) e now ∷ []) (y ∷ ys) e (next p x (y ∷ ys) e now refl))
+
+  leads_from : (c : Configuration) (xs : List Call) (e : Configuration) → IsRun t c xs e → configuration_after_calls t c (history_of_run xs e.failed) ≡ e
+  leads_from c [] e run = ended run
+  leads_from c (x ∷ xs) e run =
+      let first = first_step run in
+      ap (λ d. configuration_after_calls t d (history_of_run xs e.failed))
+      (goes_there t c x.thread x.bit first.next (reply_of_step xs e.failed) (reply_granted xs e.failed) first.move)
+      ∙ leads_from first.next xs e first.rest
+
+granted_from : (xs : List Call) (failed : Bool) → granted_calls (history_of_run xs failed) ≡ history_of_run xs failed
+granted_from [] failed = refl
+granted_from (x ∷ xs) failed =
+    ap (λ b. cond b (record x { reply = reply_of_step xs failed } ∷ granted_calls (history_of_run xs failed)) (granted_calls (history_of_run xs failed))) (reply_granted xs failed)
+    ∙ ap (λ ys. record x { reply = reply_of_step xs failed } ∷ ys) (granted_from xs failed)
+
+pub run_is_history : (t : Program) (s : SetupOf) (steps : List Call) (d : Configuration) → IsBoundedRun t s steps d → IsHistoryOfSteps t s (history_of_run steps d.failed) d
+run_is_history t s steps d run = record {
+  legal = legal_from t s [] steps d (record {
+    open_lines = λ i. refl;
+    run = run.run;
+    contexts = run.contexts;
+    calls = λ i. let few = run.calls i in omega (arith, few);
+    room = run.room;
+    stacks = stacks_at_start t s;
+  });
+  granted = granted_from steps d.failed;
+  leads = leads_from t s (start t s) steps d run.run;
+}
