@@ -30,6 +30,7 @@ pub mod PlayableFronts
 mod PlayedCalls
 mod PlayedLines
 mod ReplayedTexts
+mod RunsDriveToHistories
 mod ScheduleLength
 mod ScheduleLineAt
 mod ThreadAt

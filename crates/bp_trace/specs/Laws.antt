@@ -1,9 +1,11 @@
 -- Laws of schedules and traces.
 use Rattle.std.specs.Prelude.{◌≡◌, ◌≢◌, ℕ, List, length, map}
 use Rattle.bp_tree.specs.Ast.{Program}
+use Rattle.bp_code.specs.Configurations.{Configuration}
 use Rattle.bp_syntax.specs.Texts.{HasText}
 use Rattle.bp_check.specs.Faults.{IsLawful}
 use Rattle.bp_machine.specs.declared.calls.Call.{Call}
+use Rattle.bp_machine.specs.BoundedRuns.{IsBoundedRun, history_of_run}
 use Rattle.bp_machine.specs.Contexts.{IsLeastWithin}
 use Rattle.bp_machine.specs.Setups.{SetupOf, IsInRange}
 use Rattle.bp_machine.specs.Histories.{IsLegal}
@@ -33,6 +35,15 @@ LinesDriveAgain =
     → IsInRange s
     → IsLegal t s h
     → DrivesTo t s (schedule_text (lines_of_history h)) h
+
+-- the lines of the steps of a run within the bounds of a setup drive its program to the history of
+-- the run
+abbrev pub RunsDriveToHistories : Type 0
+RunsDriveToHistories =
+    (t : Program) (s : SetupOf) (steps : List Call) (d : Configuration)
+    → IsInRange s
+    → IsBoundedRun t s steps d
+    → DrivesTo t s (schedule_text (lines_of_history steps)) (history_of_run steps d.failed)
 
 -- a schedule has at most one refusal beside memory
 abbrev pub OneScheduleRefusal : Type 0

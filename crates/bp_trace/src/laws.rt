@@ -1,10 +1,18 @@
 //! Laws of schedules and traces. These functions do nothing: their contracts are the laws.
-ghost use Rattle.bp_trace.specs.Laws.{LinesDriveAgain, NoTwoHaveOneText, OneRefusal, OneScheduleRefusal, PiecesAreFewest, RefusedDrivesNowhere, RefusedIsNoTrace};
+ghost use Rattle.bp_trace.specs.Laws.{LinesDriveAgain, NoTwoHaveOneText, OneRefusal, OneScheduleRefusal, PiecesAreFewest, RefusedDrivesNowhere, RefusedIsNoTrace, RunsDriveToHistories};
 
 /// The lines of the calls of a legal history, each a thread and a choice bit, drive its program to
 /// that history: no other history is legal along them, and no line of them is refused.
 pub fn lines_drive_again()
     ensures { LinesDriveAgain }
+{}
+
+/// The threads and choice bits of the steps of a run, a line for each, drive its program to the
+/// history of the run, where the run is within the bounds of the setup and the setup within its
+/// limits. That history is legal and leads where the run does, by `runs_are_histories` of
+/// `bp_machine`.
+pub fn runs_drive_to_histories()
+    ensures { RunsDriveToHistories }
 {}
 
 /// A schedule has at most one refusal beside memory, and one that is refused so drives its program

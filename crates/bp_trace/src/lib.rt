@@ -29,7 +29,7 @@ pub use faults::DriveFault;
 pub use judging::Printed;
 pub use laws::{
     lines_drive_again, no_two_have_one_text, pieces_are_fewest, refusals_are_single,
-    schedules_have_one_refusal,
+    runs_drive_to_histories, schedules_have_one_refusal,
 };
 pub use migrate_faults::MigrateFault;
 pub use migrating::migrate;
