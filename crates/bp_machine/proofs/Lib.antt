@@ -1,3 +1,4 @@
+pub mod CallsAtOnce
 pub mod CallsOfThread
 pub mod ContextCounts
 pub mod ContextFronts

@@ -1,12 +1,14 @@
 -- Code and program print alike, and a session prints what its thread's code does.
-use Rattle.std.proofs.Common.{◌≡◌, ℕ, Bool, List, [], ◌∷◌, Option, None, Some, refl, ap, sym, ◌∙◌}
+use Rattle.std.proofs.Common.{◌≡◌, ◌≢◌, ℕ, Bool, true, false, List, [], ◌∷◌, Option, None, Some, is_some, refl, ap, sym, ◌∙◌}
 use Rattle.std.specs.Prelude.{slice_get}
 use Rattle.bp_tree.specs.Ast.{Block, Done, Then, Skips, GoesTo, Returns, Assigns, Branches, Loops, Asserts, Assumes, Prints, Calls, Procedure, Program}
 use Rattle.bp_code.specs.Bits.{bits_of}
 use Rattle.bp_code.specs.Effects.{Store}
 use Rattle.bp_code.specs.Values.{Valuation}
 use Rattle.bp_code.specs.Configurations.{Frame}
-use Rattle.bp_code.specs.Flat.{Flat, Instruction}
+use Rattle.bp_code.specs.Flat.{Flat, Instruction, Skip, Goto, Return, Assign, If, While, Assert, Assume, Print, Call as CallsTo}
+use Rattle.bp_code.specs.Kinds.{instruction_kind}
+use Rattle.bp_code.specs.declared.instrs.Kind.TheVariants as kind
 use Rattle.bp_code.specs.Steps.{Bits, Activation}
 use Rattle.bp_code.specs.Prints.{printed_values}
 use Rattle.bp_code.specs.StandsFor.{StandsFor, Place, Does, places_of, named_store, valuation_of}
@@ -25,6 +27,31 @@ use Rattle.bp_machine.specs.States.{State, StandsAfter, activations}
 abbrev pub printed_at : Option Instruction → Store Bits → Option (List Bool)
 printed_at (Some i) store = printed_values store i
 printed_at None store = None
+
+-- only an instruction of the kind of a print prints
+pub print_prints : (i : Instruction) (w : Store Bits) → instruction_kind i ≡ kind.Print → true ≡ is_some (printed_values w i)
+print_prints (Skip m) w e = absurd cc
+print_prints (Goto m) w e = absurd cc
+print_prints Return w e = absurd cc
+print_prints (Assign slots fs m) w e = absurd cc
+print_prints (If test m other) w e = absurd cc
+print_prints (While test m other) w e = absurd cc
+print_prints (Assert test m) w e = absurd cc
+print_prints (Assume test m) w e = absurd cc
+print_prints (Print fs m) w e = refl
+print_prints (CallsTo callee fs m) w e = absurd cc
+
+pub other_prints_nothing : (i : Instruction) (w : Store Bits) → instruction_kind i ≢ kind.Print → false ≡ is_some (printed_values w i)
+other_prints_nothing (Skip m) w e = refl
+other_prints_nothing (Goto m) w e = refl
+other_prints_nothing Return w e = refl
+other_prints_nothing (Assign slots fs m) w e = refl
+other_prints_nothing (If test m other) w e = refl
+other_prints_nothing (While test m other) w e = refl
+other_prints_nothing (Assert test m) w e = refl
+other_prints_nothing (Assume test m) w e = refl
+other_prints_nothing (Print fs m) w e = absurd (e refl)
+other_prints_nothing (CallsTo callee fs m) w e = refl
 
 -- what the next instruction of a stack prints
 abbrev pub printed_here : List Instruction → Bits → List Activation → Option (List Bool)

@@ -73,7 +73,7 @@ fn first_choices(alloc: Global, setup: &Setup) -> Result<Vec<Choices>, AllocErro
 }
 
 /// Draws the next bit of a thread, where there are choices.
-fn draw(choices: &mut Vec<Choices>, thread: usize)
+pub(crate) fn draw(choices: &mut Vec<Choices>, thread: usize)
     ensures { AreDrawn thread choices.old.items choices.new.items }
 {
     if thread < choices.len() {
@@ -125,9 +125,7 @@ impl Session {
         ensures kept { (self.new.code ≡ self.old.code) × (self.new.setup ≡ self.old.setup) }
         ensures same { OnErr result (self.new ≡ self.old) }
     {
-        let call = self.prepare(thread)?;
-        self.commit(&call);
-        Ok(call)
+        self.make_given(thread, None)
     }
 
     /// Makes a call of a thread with this choice bit, where the setup has no seed. Only a step that
@@ -148,9 +146,32 @@ impl Session {
         ensures kept { (self.new.code ≡ self.old.code) × (self.new.setup ≡ self.old.setup) }
         ensures same { OnErr result (self.new ≡ self.old) }
     {
-        let call = self.prepare_with(thread, bit)?;
-        self.commit(&call);
-        Ok(call)
+        self.make_given(thread, Some(bit))
+    }
+
+    /// Makes the machine's own call of the thread of a recorded call: with the bit of the seed where
+    /// the setup has one, else with the bit that was recorded. Only a step that is a call takes
+    /// memory.
+    pub fn ask_as_recorded(&mut self, thread: u32, bit: bool) -> Result<Call, AskFault>
+        ensures answer { (t : Program) (h : List Answered)
+            → StandsFor self.old.code t
+            → Stands t self.old h
+            → let given = given_bit self.old.setup bit in
+            MatchResult result
+            (IsNextCall t self.old.setup h thread given)
+            (IsAskRefusal t self.old.setup h thread given) }
+        ensures asked { let given = given_bit self.old.setup bit in
+            IfOk result (λ c. (c.thread ≡ thread) × IsGiven given c.bit) }
+        ensures stands { (t : Program) (h : List Answered)
+            → StandsFor self.old.code t
+            → Stands t self.old h
+            → IfOk result (λ c. Stands t self.new (h ++ c ∷ [])) }
+        ensures unready { OnOk result (self.new.ready ≡ None) }
+        ensures kept { (self.new.code ≡ self.old.code) × (self.new.setup ≡ self.old.setup) }
+        ensures same { OnErr result (self.new ≡ self.old) }
+    {
+        let given = self.given_bit(bit);
+        self.make_given(thread, given)
     }
 
     /// Takes the memory for the next call of a thread, and answers the call that `ask` would
@@ -190,29 +211,6 @@ impl Session {
         ensures same { OnErr result (self.new ≡ self.old) }
     {
         self.prepare_given(thread, Some(bit))
-    }
-
-    /// Prepares the machine's own call of the thread of a recorded call: with the bit of the seed
-    /// where the setup has one, else with the bit that was recorded.
-    pub fn prepare_as_recorded(&mut self, thread: u32, bit: bool) -> Result<Call, AskFault>
-        ensures answer { (t : Program) (h : List Answered)
-            → StandsFor self.old.code t
-            → Stands t self.old h
-            → let given = given_bit self.old.setup bit in
-            MatchResult result
-            (IsNextCall t self.old.setup h thread given)
-            (IsAskRefusal t self.old.setup h thread given) }
-        ensures asked { let given = given_bit self.old.setup bit in
-            IfOk result (λ c. (c.thread ≡ thread) × IsGiven given c.bit) }
-        ensures stands { (t : Program) (h : List Answered)
-            → Stands t self.old h
-            → Stands t self.new h }
-        ensures ready { IfOk result (λ c. self.new.ready ≡ Some c) }
-        ensures kept { (self.new.code ≡ self.old.code) × (self.new.setup ≡ self.old.setup) }
-        ensures same { OnErr result (self.new ≡ self.old) }
-    {
-        let given = self.given_bit(bit);
-        self.prepare_given(thread, given)
     }
 
     /// Makes the call that the session is prepared for.

@@ -7,6 +7,7 @@ pub mod Judging
 pub mod Laws
 pub mod LinePlays
 pub mod Migrations
+pub mod OwnCalls
 pub mod Pieces
 pub mod ReplayFaults
 pub mod Replayed

@@ -8,7 +8,7 @@ use Rattle.bp_machine.specs.Setups.{SetupOf, threads, setup_fault}
 use Rattle.bp_machine.specs.ContextCounts.{last_thread}
 use Rattle.bp_machine.specs.Histories.{is_finished, open_lines, IsLegal}
 use Rattle.bp_machine.specs.SeededHistories.{HasSeededBits}
-use Rattle.bp_machine.specs.Sessions.{IsNextCall, given_bit}
+use Rattle.bp_trace.specs.OwnCalls.{IsOwnCall}
 use Rattle.bp_trace.specs.declared.limits.TheConstants.{MAX_TRACE}
 use Rattle.bp_trace.specs.declared.replay_faults.Counts.{Counts}
 use Rattle.bp_trace.specs.declared.replay_faults.Due.{Due}
@@ -98,7 +98,7 @@ module _ (t : Program) (s : SetupOf) (h : List Call) (n : ℕ) (x : Call) where
   -- the machine's own call of the thread, after those of h
   pub record IsDue (due : Due) : Type 0 where
     pub calls : due.calls ≡ length h
-    pub own : IsNextCall t s h x.thread (given_bit s x.bit) due.call
+    pub own : IsOwnCall t s h x due.call
 
   abbrev pub IsCallFault : ReplayFault → Type 0
   IsCallFault (fault.AfterFinish m made) =

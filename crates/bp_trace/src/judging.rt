@@ -51,13 +51,6 @@ fn keep<O: Watcher + Drop>(
     Ok(())
 }
 
-/// How many calls a session has made.
-fn call_count(session: &Session) -> u64
-    ensures { (t : Program) (h : List Answered) → Stands t session.now h → result ≡ length h }
-{
-    session.report().calls
-}
-
 /// The refusal of a call on the `n`-th line, where `made` calls were made before. Its thread exists.
 fn replay_fault_of(fault: AskFault, n: u32, made: u64) -> ReplayFault
     ensures { result ≡ replay_fault_of fault n made }
@@ -68,19 +61,17 @@ fn replay_fault_of(fault: AskFault, n: u32, made: u64) -> ReplayFault
     }
 }
 
-/// Whether the call is the machine's own, which comes after those that the session has made.
-fn matched(session: &Session, own: &Call, call: &Call, n: u32) -> Result<(), ReplayFault>
+/// Whether the call on the `n`-th line is the machine's own, where `made` calls were made before.
+fn matched(own: &Call, call: &Call, n: u32, made: u64) -> Result<(), ReplayFault>
     ensures own { OnOk result (IsOwnAs own.now call.now) }
-    ensures other { (t : Program) (h : List Answered)
-        → Stands t session.now h
-        → IfErr result (IsMismatch own.now call.now n (length h)) }
+    ensures other { IfErr result (IsMismatch own.now call.now n made) }
 {
     let is_same_bit = own.bit == call.bit;
     if is_same_bit && own.reply == call.reply {
         return Ok(());
     }
     let due = Due {
-        calls: call_count(session),
+        calls: made,
         call: *own,
     };
     if is_same_bit {
@@ -103,7 +94,7 @@ fn row_of_call(session: &Session, call: &Call) -> Result<Option<Printed>, AskFau
         → call.now.thread < threads session.now.setup
         → IfErr result (λ f. f ≡ AskFault.Memory) }
 {
-    if !matches!(call.reply, Reply::Stepped | Reply::Failed) {
+    if !matches!(call.reply, Reply::Stepped | Reply::Failed) || !session.is_at_print(call.thread) {
         return Ok(None);
     }
     let Some(values) = session.next_print(call.thread)? else {
@@ -144,17 +135,18 @@ pub(crate) fn judge<O: Watcher + Drop>(
     ensures refused { (t : Program) (h : List Answered)
         → StandsFor session.old.code t
         → Stands t session.old h
+        → h ≡ played.old.history.items
         → IfErr result (IsCallRefusal t session.old.setup h n call.now) }
 {
-    let own = match session.prepare_as_recorded(call.thread, call.bit) {
-        Ok(own) => own,
-        Err(fault) => return Err(replay_fault_of(fault, n, call_count(session))),
-    };
-    matched(session, &own, call, n)?;
+    let made = played.history.len() as u64;
     let Ok(row) = row_of_call(session, call) else {
         return Err(ReplayFault::Memory);
     };
+    let own = match played.watcher.make(session, call) {
+        Ok(own) => own,
+        Err(fault) => return Err(replay_fault_of(fault, n, made)),
+    };
+    matched(&own, call, n, made)?;
     keep(played, *call, row)?;
-    played.watcher.make(session, &own)?;
     Ok(())
 }

@@ -1,13 +1,14 @@
 //! Watching a replay: each call is made by a watcher, which may look at the session before and
 //! after it.
-ghost use Rattle.std.specs.Prelude.{◌≡◌, ◌++◌, ◌∷◌, [], List, Some, OnOk};
+ghost use Rattle.std.specs.Prelude.{◌≡◌, ◌++◌, ◌∷◌, [], List, IfOk, OnOk, MatchResult};
 ghost use Rattle.bp_tree.specs.Ast.{Program};
 ghost use Rattle.bp_code.specs.StandsFor.{StandsFor};
 ghost use Rattle.bp_machine.specs.declared.calls.Call.{Call as Answered};
 ghost use Rattle.bp_machine.specs.Sessions.{Stands};
 ghost use Rattle.bp_machine.specs.Setups.{SetupOf};
+ghost use Rattle.bp_trace.specs.OwnCalls.{IsOwnCall, IsOwnRefusal};
 
-use bp_machine::{Call, Session, Setup};
+use bp_machine::{AskFault, Call, Session, Setup};
 use std::alloc::AllocError;
 
 /// Who makes the calls of a replay.
@@ -19,20 +20,26 @@ pub trait Watcher {
     fn begin(&mut self, setup: &Setup) -> Result<(), AllocError>
         ensures { (t : Program) → OnOk result (sees self.old self.new t setup.now []) };
 
-    /// Makes the call that the session is prepared for.
-    fn make(&mut self, session: &mut Session, call: &Call) -> Result<(), AllocError>
-        requires { session.old.ready ≡ Some call.now }
+    /// Makes the machine's own call for a recorded one: of its thread, and with its bit where the
+    /// setup has no seed. It may also be refused memory of its own, after the call was made.
+    fn make(&mut self, session: &mut Session, recorded: &Call) -> Result<Call, AskFault>
+        ensures answer { (t : Program) (h : List Answered)
+            → StandsFor session.old.code t
+            → Stands t session.old h
+            → MatchResult result
+            (IsOwnCall t session.old.setup h recorded.now)
+            (IsOwnRefusal t session.old.setup h recorded.now) }
         ensures stands { (t : Program) (h : List Answered)
             → StandsFor session.old.code t
             → Stands t session.old h
-            → OnOk result (Stands t session.new (h ++ call.now ∷ [])) }
+            → IfOk result (λ own. Stands t session.new (h ++ own ∷ [])) }
         ensures kept { (session.new.code ≡ session.old.code)
             × (session.new.setup ≡ session.old.setup) }
         ensures sees { (first : Self) (t : Program) (h : List Answered)
             → StandsFor session.old.code t
             → Stands t session.old h
             → sees first self.old t session.old.setup h
-            → OnOk result (sees first self.new t session.old.setup (h ++ call.now ∷ [])) };
+            → IfOk result (λ own. sees first self.new t session.old.setup (h ++ own ∷ [])) };
 }
 
 /// A watcher that only makes the calls.
@@ -46,8 +53,7 @@ impl Watcher for Unwatched {
         Ok(())
     }
 
-    fn make(&mut self, session: &mut Session, call: &Call) -> Result<(), AllocError> {
-        session.commit(call);
-        Ok(())
+    fn make(&mut self, session: &mut Session, recorded: &Call) -> Result<Call, AskFault> {
+        session.ask_as_recorded(recorded.thread, recorded.bit)
     }
 }

@@ -1,5 +1,5 @@
 //! The calls of a history, each with what was before and after it.
-ghost use Rattle.std.specs.Prelude.{◌≡◌, ◌++◌, ◌∷◌, [], suc, List, Some, true, false, length, MatchOption};
+ghost use Rattle.std.specs.Prelude.{◌≡◌, ◌++◌, ◌∷◌, [], suc, List, Some, true, false, length, MatchOption, IfOk, MatchResult};
 ghost use Rattle.bp_tree.specs.Ast.{Program};
 ghost use Rattle.bp_code.specs.StandsFor.{StandsFor};
 ghost use Rattle.bp_machine.specs.declared.calls.Call.{Call as Answered};
@@ -8,9 +8,10 @@ ghost use Rattle.bp_machine.specs.Contexts.{IsLeastWithin};
 ghost use Rattle.bp_machine.specs.Histories.{granted_threads};
 ghost use Rattle.bp_machine.specs.Replies.{is_granted};
 ghost use Rattle.bp_machine.specs.Sessions.{Stands};
+ghost use Rattle.bp_trace.specs.OwnCalls.{IsOwnCall, IsOwnRefusal};
 ghost use Rattle.bp_view.specs.Lines.{is_other, IsMomentOf};
 
-use bp_machine::{Call, Reply, Session, Top};
+use bp_machine::{AskFault, Call, Reply, Session, Top};
 
 /// A call of a history, and what was before and after it.
 #[derive(Clone, Copy)]
@@ -57,37 +58,42 @@ fn context_of(session: &Session, reply: Reply) -> Option<u32>
     None
 }
 
-/// Makes the call that the session is prepared for: what was before and after it, where this thread
+/// Makes the machine's own call for a recorded one: what was before and after it, where this thread
 /// made the step before.
 pub(crate) fn moment_of(
     session: &mut Session,
     last: Option<u32>,
     number: u64,
-    call: &Call,
-) -> Moment
-    requires { session.old.ready ≡ Some call.now }
+    recorded: &Call,
+) -> Result<Moment, AskFault>
+    ensures answer { (t : Program) (h : List Answered)
+        → StandsFor session.old.code t
+        → Stands t session.old h
+        → MatchResult result
+        (λ m. IsOwnCall t session.old.setup h recorded.now m.call)
+        (IsOwnRefusal t session.old.setup h recorded.now) }
     ensures stands { (t : Program) (h : List Answered)
         → StandsFor session.old.code t
         → Stands t session.old h
-        → Stands t session.new (h ++ call.now ∷ []) }
+        → IfOk result (λ m. Stands t session.new (h ++ m.call ∷ [])) }
     ensures kept { (session.new.code ≡ session.old.code) × (session.new.setup ≡ session.old.setup) }
     ensures is { (t : Program) (h : List Answered)
         → StandsFor session.old.code t
         → Stands t session.old h
         → last ≡ last_thread (granted_threads h)
         → number ≡ suc (length h)
-        → IsMomentOf t session.old.setup h call.now result }
+        → IfOk result (λ m. IsMomentOf t session.old.setup h m.call m) }
 {
-    let before = session.top(call.thread);
-    session.commit(call);
-    Moment {
+    let before = session.top(recorded.thread);
+    let call = session.ask_as_recorded(recorded.thread, recorded.bit)?;
+    Ok(Moment {
         number,
-        call: *call,
+        call,
         context: context_of(session, call.reply),
         is_switch: is_step(call.reply) && is_other(last, call.thread),
         before,
         after: session.top(call.thread),
-    }
+    })
 }
 
 /// The thread of the last step, with that of one more call.

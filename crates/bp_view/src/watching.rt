@@ -4,7 +4,7 @@ use crate::moments::{last_step, moment_of};
 use crate::settings::widths_of;
 use crate::shown::push_shown;
 use crate::writers::ViewWriter;
-use bp_machine::{Call, Session, Setup};
+use bp_machine::{AskFault, Call, Session, Setup};
 use bp_trace::Watcher;
 use std::alloc::AllocError;
 
@@ -22,13 +22,13 @@ impl<'a> Watcher for ViewWriter<'a> {
         Ok(())
     }
 
-    fn make(&mut self, session: &mut Session, call: &Call) -> Result<(), AllocError> {
+    fn make(&mut self, session: &mut Session, recorded: &Call) -> Result<Call, AskFault> {
         session.setup().is_in_range();
         let number = self.made.saturating_add(1);
-        let moment = moment_of(session, self.last, number, call);
+        let moment = moment_of(session, self.last, number, recorded)?;
         push_shown(&mut self.view, &mut self.note, &self.setting, &moment)?;
-        self.last = last_step(self.last, call);
+        self.last = last_step(self.last, &moment.call);
         self.made = number;
-        Ok(())
+        Ok(moment.call)
     }
 }

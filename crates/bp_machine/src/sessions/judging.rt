@@ -1,5 +1,5 @@
 //! How a session judges a call before it makes it.
-ghost use Rattle.std.specs.Prelude.{◌≡◌, [], ℕ, List, Option, Some, IfOk, OnErr, MatchResult};
+ghost use Rattle.std.specs.Prelude.{◌≡◌, ◌++◌, ◌∷◌, [], ℕ, List, Option, None, Some, IfOk, OnOk, OnErr, MatchResult};
 ghost use Rattle.bp_tree.specs.Ast.{Program};
 ghost use Rattle.bp_code.specs.StandsFor.{StandsFor};
 ghost use Rattle.bp_machine.specs.declared.calls.Call.{Call as Answered};
@@ -8,7 +8,7 @@ ghost use Rattle.bp_machine.specs.KeptSessions.{IsKeptBit, IsBitRefusal, IsGiven
 
 use crate::ask_faults::AskFault;
 use crate::calls::Call;
-use crate::sessions::{Prepared, Session};
+use crate::sessions::{Prepared, Session, draw};
 use bp_code::steps_alike;
 
 impl Session {
@@ -84,5 +84,30 @@ impl Session {
         self.machine.reserve(thread, prepared.transition)?;
         self.prepared = Some(prepared);
         Ok(prepared.call)
+    }
+    /// Makes a call of the thread, where this bit or none is handed in.
+    pub(super) fn make_given(&mut self, thread: u32, given: Option<bool>) -> Result<Call, AskFault>
+        ensures answer { (t : Program) (h : List Answered)
+            → StandsFor self.old.code t
+            → Stands t self.old h
+            → MatchResult result
+            (IsNextCall t self.old.setup h thread given)
+            (IsAskRefusal t self.old.setup h thread given) }
+        ensures asked { IfOk result (λ c. (c.thread ≡ thread) × IsGiven given c.bit) }
+        ensures stands { (t : Program) (h : List Answered)
+            → StandsFor self.old.code t
+            → Stands t self.old h
+            → IfOk result (λ c. Stands t self.new (h ++ c ∷ [])) }
+        ensures unready { OnOk result (self.new.ready ≡ None) }
+        ensures kept { (self.new.code ≡ self.old.code) × (self.new.setup ≡ self.old.setup) }
+        ensures same { OnErr result (self.new ≡ self.old) }
+    {
+        steps_alike(&self.code);
+        let made = self.judged(thread, given)?;
+        self.machine.reserve(thread, made.transition)?;
+        self.prepared = None;
+        self.machine.make(thread, made.transition);
+        draw(&mut self.choices, thread as usize);
+        Ok(made.call)
     }
 }

@@ -1,5 +1,5 @@
 //! What a session tells of the machine after the calls that it answered.
-ghost use Rattle.std.specs.Prelude.{◌≡◌, ◌<◌, [], ℕ, List, slice_get, option_map, MatchOption, MatchResult};
+ghost use Rattle.std.specs.Prelude.{◌≡◌, ◌<◌, [], ℕ, List, slice_get, option_map, is_some, length, MatchOption, MatchResult};
 ghost use Rattle.bp_tree.specs.Ast.{Program};
 ghost use Rattle.bp_code.specs.StandsFor.{StandsFor};
 ghost use Rattle.bp_machine.specs.declared.calls.Call.{Call as Answered};
@@ -8,7 +8,7 @@ ghost use Rattle.bp_machine.specs.Answers.{stack_of};
 ghost use Rattle.bp_machine.specs.PrintedRows.{values_printed};
 ghost use Rattle.bp_machine.specs.Tops.{IsTop};
 ghost use Rattle.bp_machine.specs.Setups.{threads};
-ghost use Rattle.bp_machine.specs.Histories.{granted_threads, configuration_after, is_finished, open_lines};
+ghost use Rattle.bp_machine.specs.Histories.{calls_of_thread, granted_threads, configuration_after, is_finished, open_lines};
 ghost use Rattle.bp_machine.specs.Reports.{IsReport};
 ghost use Rattle.bp_machine.specs.Sessions.{Stands, IsPrintRefusal};
 
@@ -16,7 +16,7 @@ use crate::ask_faults::AskFault;
 use crate::reports::Report;
 use crate::sessions::Session;
 use crate::tops::Top;
-use bp_code::Store;
+use bp_code::{Kind, Store};
 
 impl Session {
     /// Whether a thread makes no further call.
@@ -29,6 +29,19 @@ impl Session {
         match self.machine.thread(thread) {
             None => true,
             Some(guest) => guest.is_finished(self.setup.calls()),
+        }
+    }
+
+    /// How many calls a thread has made.
+    pub fn calls_of(&self, thread: u32) -> u32
+        ensures { (t : Program) (h : List Answered)
+            → Stands t self.now h
+            → thread < threads self.now.setup
+            → result ≡ length (calls_of_thread thread h) }
+    {
+        match self.machine.thread(thread) {
+            None => 0,
+            Some(guest) => guest.calls(),
         }
     }
 
@@ -86,6 +99,26 @@ impl Session {
             left_open: self.open_lines(),
             contexts: self.contexts_used(),
         }
+    }
+
+    /// Whether the next statement of a thread is a `print`.
+    pub fn is_at_print(&self, thread: u32) -> bool
+        ensures { (t : Program) (h : List Answered)
+            → StandsFor self.now.code t
+            → Stands t self.now h
+            → let now = configuration_after t self.now.setup h in
+            result ≡ is_some (values_printed now.globals (stack_of now thread)) }
+    {
+        let Some(guest) = self.machine.thread(thread) else {
+            return false;
+        };
+        let Some(top) = guest.stack().top() else {
+            return false;
+        };
+        let Some(instr) = self.code.get(top.number) else {
+            return false;
+        };
+        matches!(instr.kind(), Kind::Print)
     }
 
     /// The values that the next statement of a thread prints, where it is a `print`.

@@ -1,7 +1,7 @@
 //! Watching a replay.
 
 use crate::texts::code_of;
-use bp_machine::{Call, Session, Setup};
+use bp_machine::{AskFault, Call, Session, Setup};
 use bp_trace::{Watched, Watcher, calls_at_end, replay_watched};
 use std::alloc::AllocError;
 use std::test::Fail;
@@ -22,10 +22,10 @@ impl Watcher for Counter {
         Ok(())
     }
 
-    fn make(&mut self, session: &mut Session, call: &Call) -> Result<(), AllocError> {
-        session.commit(call);
+    fn make(&mut self, session: &mut Session, recorded: &Call) -> Result<Call, AskFault> {
+        let call = session.ask_as_recorded(recorded.thread, recorded.bit)?;
         self.calls = self.calls.saturating_add(1);
-        Ok(())
+        Ok(call)
     }
 }
 

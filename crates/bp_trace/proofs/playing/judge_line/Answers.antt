@@ -1,4 +1,4 @@
-use Rattle.std.proofs.Common.{◌∙◌, sym, subst}
+use Rattle.std.proofs.Common.{◌∙◌, refl, sym, subst}
 use Rattle.std.proofs.lemmas.Result.{err_from_is_err_and}
 use Rattle.bp_code.specs.StandsFor.{StandsFor}
 use Rattle.bp_trace.proofs.PlayedCalls.{line_refused, playable_of, played_more, history_more}
@@ -11,7 +11,7 @@ returns-in_err-judge-clause-refused g c = λ t is.
     let is_kept = subst (λ k. StandsFor k t) (sym before.code) is in
     let stands = (before.played t is_kept).0 in
     let playable = playable_of t c.loop-call.session c.args.session.now.setup c.loop-call.played.history.items before.setup stands in
-    let refused = rw before.setup at (c.in_err-judge.ensures.refused t c.loop-call.played.history.items is_kept stands) in
+    let refused = rw before.setup at (c.in_err-judge.ensures.refused t c.loop-call.played.history.items is_kept stands refl) in
     rw (p.1, p.2) (line_refused t c.args.session.now.setup c.args.played.now.history.items c.loop-call.played.history.items c.args.calls.now c.loop-call.call-index _ c.loop-call-test.true before.history c.args.n c.in_err-judge.field-0.0 playable refused)
 
 pub loop-call-preserved : goal.loop-call-preserved
