@@ -33,9 +33,14 @@ IsReplayText text t s h written = written ≡ shown_text (printed_rows t s h) (o
 abbrev pub IsMigrationText : TextRule
 IsMigrationText text t s h written = written ≡ trace_text_2 s h
 
--- the view of a history with these options
-abbrev pub IsViewText : ViewOptions → TextRule
-IsViewText o text t s h written = IsView t text s h o written
+-- the view of a history with these options, whose foot says its report
+pub record IsViewText
+    (o : ViewOptions) (text : List ℕ) (t : Program) (s : SetupOf) (h : List Call)
+    (written : List ℕ)
+    : Type 0 where
+  pub report : Report
+  pub reported : IsReport s h report
+  pub is : IsView t text s h report o written
 
 -- the text has this lawful program, and the trace is that of a legal history of it
 pub record IsTraceOf

@@ -1,3 +1,5 @@
 pub mod LinesOfCalls
+pub mod LongestPlaces
+pub mod PartsOfHeads
 pub mod PlacesOfTops
 pub mod SceneLists

@@ -1,5 +1,9 @@
+pub mod Colours
+pub mod Heads
 pub mod OneLineProps
 pub mod Lines
+pub mod Outcomes
 pub mod Places
 pub mod Scenes
 pub mod Views
+pub mod Widths

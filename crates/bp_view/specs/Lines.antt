@@ -1,5 +1,5 @@
 -- The line of a call.
-use Rattle.std.specs.Prelude.{if◌then◌else◌, ◌≡◌, ◌==◌, not, ◌&&◌, ℕ, suc, Bool, false, List, [], ◌∷◌, ◌++◌, Option, None, Some, MatchOption, length, codes, decimal}
+use Rattle.std.specs.Prelude.{if◌then◌else◌, ◌≡◌, ◌==◌, not, ◌&&◌, ◌-◌, ℕ, suc, Bool, false, List, [], ◌∷◌, ◌++◌, Option, None, Some, MatchOption, length, codes, decimal}
 use Rattle.bp_tree.specs.Ast.{Program}
 use Rattle.bp_code.specs.Starts.{start_of_block}
 use Rattle.bp_code.specs.Configurations.{Frame}
@@ -13,10 +13,12 @@ use Rattle.bp_machine.specs.Histories.{configuration_after, granted_threads}
 use Rattle.bp_machine.specs.Replies.{is_granted}
 use Rattle.bp_machine.specs.Setups.{SetupOf}
 use Rattle.bp_machine.specs.Tops.{IsTop}
-use Rattle.bp_text.specs.Columns.{at_left, at_right}
+use Rattle.bp_text.specs.Columns.{at_left, at_right, spaces}
+use Rattle.bp_view.specs.declared.colours.Colour.{Colour}
 use Rattle.bp_view.specs.declared.moments.Moment.{Moment}
 use Rattle.bp_view.specs.declared.settings.Widths.{Widths}
 use Rattle.bp_text.specs.OneLine.{IsOneLine}
+use Rattle.bp_view.specs.Colours.{in_colour}
 use Rattle.bp_view.specs.Places.{place_text}
 
 -- the new bytes are the old ones, and then such bytes
@@ -74,37 +76,46 @@ fields_of m place =
       place = place;
     }
 
--- a note of a reply: its words between texts on one line
-pub record IsNote (r : Reply) (note : List ℕ) : Type 0 where
-  pub choice : List ℕ
+-- a statement that comes next was tried: it made a step, or its assumption was 0
+abbrev pub is_tried : Reply → Bool
+is_tried Stepped = Bool.true
+is_tried Failed = Bool.true
+is_tried Blocked = Bool.true
+is_tried r = false
+
+-- the choice bit of a call whose statement reads one, where it was tried
+abbrev pub choice_text : (reads : Bool) → Call → List ℕ
+choice_text reads x =
+    if reads && is_tried x.reply then if x.bit then codes " ?=1" else codes " ?=0"
+    else []
+
+-- a note of a call: its choice bit where its statement reads one, the words of its reply, and a
+-- text on one line
+pub record IsNote (x : Call) (note : List ℕ) : Type 0 where
+  pub reads : Bool
   pub changes : List ℕ
-  pub is : note ≡ choice ++ reply_words r ++ changes
-  pub choice_is : IsOneLine choice
+  pub is : note ≡ choice_text reads x ++ reply_words x.reply ++ changes
   pub changes_are : IsOneLine changes
 
--- a text on one line, and the note
-pub record IsBefore (note text : List ℕ) : Type 0 where
-  pub statement : List ℕ
-  pub is : text ≡ statement ++ note
-  pub statement_is : IsOneLine statement
+-- a note after so many spaces; no space is left where there is no note
+abbrev pub after_room : ℕ → List ℕ → List ℕ
+after_room room [] = []
+after_room room (b ∷ bs) = spaces room ++ b ∷ bs
 
--- a call: the fields in columns of these widths, the statement, and the note of the reply
-pub record IsCallText (w : Widths) (f : Fields) (r : Reply) (text : List ℕ) : Type 0 where
+-- a call: the fields in columns of these widths, the statement, and after its column the note
+pub record IsCallText (w : Widths) (f : Fields) (x : Call) (text : List ℕ) : Type 0 where
   pub statement : List ℕ
   pub note : List ℕ
-  pub is : text ≡ fields_text w f ++ statement ++ note
+  pub is : text ≡ fields_text w f ++ statement ++ after_room (w.words - length statement) note
   pub statement_is : IsOneLine statement
-  pub note_is : IsNote r note
+  pub note_is : IsNote x note
 
--- a line: the text of a call, between the signs of a colour where colours are wanted
-pub record IsLineWith (w : Widths) (coloured : Bool) (f : Fields) (r : Reply) (line : List ℕ)
+-- a line: the text of a call, in a colour
+pub record IsLineWith (w : Widths) (colour : Colour) (f : Fields) (x : Call) (line : List ℕ)
     : Type 0 where
-  pub opening : List ℕ
   pub text : List ℕ
-  pub closing : List ℕ
-  pub is : line ≡ opening ++ text ++ closing ++ codes "\n"
-  pub text_is : IsCallText w f r text
-  pub plain : coloured ≡ false → (opening ≡ []) × (closing ≡ [])
+  pub is : line ≡ in_colour colour text ++ codes "\n"
+  pub text_is : IsCallText w f x text
 
 -- thread i has a statement that comes next
 abbrev pub start_on_stack : List Frame → Option ℕ

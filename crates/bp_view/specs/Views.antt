@@ -1,5 +1,5 @@
 -- The view of a history of a program: a line for each of its calls that is shown.
-use Rattle.std.specs.Prelude.{◌≡◌, ◌==◌, ◌-◌, ◌&&◌, ℕ, suc, Bool, true, false, nat_lt, List, [], ◌∷◌, ◌++◌, Option, None, Some, length}
+use Rattle.std.specs.Prelude.{◌≡◌, ◌==◌, ◌-◌, ◌&&◌, ℕ, suc, Bool, true, false, nat_lt, List, [], ◌∷◌, ◌++◌, Option, None, Some, length, map}
 use Rattle.bp_tree.specs.Ast.{Program}
 use Rattle.bp_code.specs.Starts.{starts_of}
 use Rattle.bp_machine.specs.declared.calls.Call.{Call}
@@ -12,8 +12,13 @@ use Rattle.bp_trace.specs.Replayed.{IsReplayed}
 use Rattle.bp_view.specs.declared.settings.Widths.{Widths}
 use Rattle.bp_view.specs.declared.writers.ViewWriter.{ViewWriter}
 use Rattle.bp_view.specs.declared.options.ViewOptions.{ViewOptions}
+use Rattle.bp_view.specs.Colours.{colour_of}
+use Rattle.bp_view.specs.Heads.{view_head}
 use Rattle.bp_view.specs.Lines.{Adds, Fields, AreFields, IsLineWith}
+use Rattle.bp_view.specs.Outcomes.{IsFoot}
+use Rattle.bp_view.specs.Places.{place_text}
 use Rattle.bp_view.specs.Scenes.{AreScenes}
+use Rattle.bp_view.specs.Widths.{AreWidths}
 
 -- calls of thread i are shown
 abbrev pub is_of_thread : Option ℕ → ℕ → Bool
@@ -36,7 +41,7 @@ module _
   pub record IsViewLine (h : List Call) (x : Call) (line : List ℕ) : Type 0 where
     pub fields : Fields
     pub fields_are : AreFields t text s h x fields
-    pub is : IsLineWith w o.has_colour fields x.reply line
+    pub is : IsLineWith w (colour_of o.has_colour x.reply fields.switch) fields x line
 
   -- that line where it is shown, else nothing
   abbrev pub IsViewLineIf : Bool → List Call → Call → List ℕ → Type 0
@@ -58,13 +63,15 @@ module _
 
 -- the head, a line for each call of the history that is shown, and what the history comes to
 pub record IsView
-    (t : Program) (text : List ℕ) (s : SetupOf) (h : List Call) (o : ViewOptions) (view : List ℕ)
+    (t : Program) (text : List ℕ) (s : SetupOf) (h : List Call) (r : Report) (o : ViewOptions)
+    (view : List ℕ)
     : Type 0 where
   pub widths : Widths
-  pub head : List ℕ
+  pub widths_are : AreWidths s (length h) (map (place_text text) (starts_of t)) widths
   pub lines : List ℕ
   pub foot : List ℕ
-  pub is : view ≡ head ++ lines ++ foot
+  pub is : view ≡ view_head t.globals s ++ lines ++ foot
+  pub foot_is : IsFoot r foot
   pub lines_are : AreLines t text s o widths (length h) [] h lines
 
 -- the view of the history of a trace of the program, and its report
@@ -73,20 +80,23 @@ pub record IsViewOfTrace
     : Type 0 where
   pub replayed : Replayed
   pub is : IsReplayed t trace replayed
-  pub view_is : IsView t text replayed.setup replayed.history.items o view
+  pub view_is : IsView t text replayed.setup replayed.history.items report o view
   pub report_is : report ≡ replayed.report
 
--- A device: the writer has the lines of the calls of a history, after some head, in the setting
+-- A device: the writer has the lines of the calls of a history, after the head, in the setting
 -- that it had at first, but for the widths.
 pub record Shows
     (t : Program) (s : SetupOf) (h : List Call) (first now : ViewWriter) : Type 0 where
   pub scenes : now.setting.scenes.now ≡ first.setting.scenes.now
+  pub globals : now.setting.globals.now ≡ first.setting.globals.now
   pub options : now.setting.options ≡ first.setting.options
   pub count : now.setting.count ≡ first.setting.count
+  pub widths :
+      let places = map (λ x. x.place.items) now.setting.scenes.now in
+      AreWidths s now.setting.count places now.setting.widths
   pub last : now.last ≡ last_thread (granted_threads h)
   pub made : now.made ≡ length h
-  pub head : List ℕ
   pub lines : (text : List ℕ)
       → AreScenes text (starts_of t) now.setting.scenes.now
       → Adds (AreLines t text s now.setting.options now.setting.widths now.setting.count [] h)
-      head now.view.items
+      (view_head now.setting.globals.now s) now.view.items

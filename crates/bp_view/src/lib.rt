@@ -2,6 +2,7 @@
 #![tactic(auto)]
 
 mod changes;
+mod colours;
 mod excerpts;
 mod heads;
 mod lines;

@@ -1,21 +1,20 @@
 //! The line of a call.
-ghost use Rattle.std.specs.Prelude.{◌≡◌, ◌++◌, [], false, codes, decimal, option_map, OnOk};
+ghost use Rattle.std.specs.Prelude.{◌≡◌, ◌++◌, codes, decimal, option_map, OnOk};
 ghost use Rattle.bp_text.specs.Columns.{at_right};
 ghost use Rattle.bp_text.specs.OneLine.{AddsOneLine, IsOneLine};
+ghost use Rattle.bp_view.specs.Colours.{colour_of};
 ghost use Rattle.bp_view.specs.Scenes.{place_of_scene, IsOnOneLine};
-ghost use Rattle.bp_view.specs.Lines.{reply_words, context_text, fields_of, fields_text, Adds, IsBefore, IsCallText, IsLineWith, IsNote};
+ghost use Rattle.bp_view.specs.Lines.{reply_words, is_tried, choice_text, context_text, fields_of, fields_text, after_room, Adds, IsCallText, IsLineWith, IsNote};
 
 use crate::changes::push_changes;
+use crate::colours::Colour;
 use crate::moments::Moment;
 use crate::scenes::Scene;
 use crate::settings::{MAX_INDENTS, Setting, Widths};
 use bp_machine::{Call, Reply, Top};
-use bp_text::{push_bytes, push_left, push_on_one_line, push_right, push_spaces};
+use bp_text::{push_bytes, push_left, push_right, push_spaces};
 use itoa::Buffer;
 use std::alloc::AllocError;
-
-/// What ends a line in colour.
-const PLAIN: &[u8] = b"\x1b[0m";
 
 /// What is said of a reply.
 fn reply_words(reply: Reply) -> &'static [u8]
@@ -30,28 +29,6 @@ fn reply_words(reply: Reply) -> &'static [u8]
         Reply::Failed => b" failed",
         Reply::Stepped => b"",
     }
-}
-
-/// The colour of a call: a failure is red, a switch is yellow.
-fn colour_of(moment: &Moment) -> &'static [u8] {
-    if moment.call.reply == Reply::Failed {
-        return b"\x1b[31m";
-    }
-    if moment.is_switch {
-        return b"\x1b[33m";
-    }
-    b""
-}
-
-/// What begins and what ends the line of a call, in colour where that is wanted.
-fn colours_of(setting: &Setting<'_>, moment: &Moment) -> (&'static [u8], &'static [u8])
-    ensures { setting.now.options.has_colour ≡ false → (result.0.now ≡ []) × (result.1.now ≡ []) }
-{
-    if !setting.options.has_colour {
-        return (b"", b"");
-    }
-    let colour = colour_of(moment);
-    (colour, if colour.is_empty() { b"" } else { PLAIN })
 }
 
 /// Adds the number of a context at the right of a field, and a sign where there is none.
@@ -122,16 +99,20 @@ fn push_scene(
     Ok(())
 }
 
-/// Adds the choice bit of a call, where its step reads it.
-fn push_choice(note: &mut Vec<u8>, scene: Option<&Scene>, call: &Call) -> Result<(), AllocError>
-    ensures { OnOk result (AddsOneLine note.old.items note.new.items) }
+/// Whether the statement that came next was tried.
+fn is_tried(reply: Reply) -> bool
+    ensures { result ≡ is_tried reply }
 {
-    let Some(scene) = scene else {
-        return Ok(());
-    };
-    let is_read = matches!(call.reply, Reply::Stepped | Reply::Failed | Reply::Blocked);
-    if scene.excerpt.reads_choice && is_read {
-        push_on_one_line(note, if call.bit { b" ?=1" } else { b" ?=0" })?;
+    matches!(reply, Reply::Stepped | Reply::Failed | Reply::Blocked)
+}
+
+/// Adds the choice bit of a call whose statement reads one, where it was tried.
+fn push_choice(note: &mut Vec<u8>, reads_choice: bool, call: &Call) -> Result<(), AllocError>
+    ensures { OnOk result
+        (note.new.items ≡ note.old.items ++ choice_text reads_choice call.now) }
+{
+    if reads_choice && is_tried(call.reply) {
+        push_bytes(note, if call.bit { b" ?=1" } else { b" ?=0" })?;
     }
     Ok(())
 }
@@ -157,6 +138,14 @@ fn push_changed(
     Ok(())
 }
 
+/// Whether the statement of a scene reads a choice bit.
+fn reads_choice(scene: Option<&Scene>) -> bool {
+    match scene {
+        Some(scene) => scene.excerpt.reads_choice,
+        None => false,
+    }
+}
+
 /// Writes what a call comes to: the choice bit where it is read, the reply where it is no step, and
 /// the variables that the step changed.
 fn write_note(
@@ -165,24 +154,24 @@ fn write_note(
     scene: Option<&Scene>,
     moment: &Moment,
 ) -> Result<(), AllocError>
-    ensures { OnOk result (IsNote moment.now.call.reply note.new.items) }
+    ensures { OnOk result (IsNote moment.now.call note.new.items) }
 {
     note.clear();
-    push_choice(note, scene, &moment.call)?;
+    push_choice(note, reads_choice(scene), &moment.call)?;
     push_bytes(note, reply_words(moment.call.reply))?;
     push_changed(note, setting, moment)?;
     Ok(())
 }
 
-/// Adds what a call comes to, behind spaces that fill the line to this size; no spaces where there
-/// is nothing to add.
-fn push_note(line: &mut Vec<u8>, size: usize, note: &[u8]) -> Result<(), AllocError>
-    ensures { OnOk result (Adds (IsBefore note.now) line.old.items line.new.items) }
+/// Adds what a call comes to after so many spaces; no space where there is nothing to add.
+fn push_note(line: &mut Vec<u8>, room: usize, note: &[u8]) -> Result<(), AllocError>
+    ensures { OnOk result (line.new.items ≡ line.old.items ++ after_room room note.now) }
 {
-    if !note.is_empty() {
-        push_spaces(line, size.saturating_sub(line.len()))?;
-        push_bytes(line, note)?;
+    if note.is_empty() {
+        return Ok(());
     }
+    push_spaces(line, room)?;
+    push_bytes(line, note)?;
     Ok(())
 }
 
@@ -207,14 +196,15 @@ fn push_call(
     requires { IsOnOneLine (option_map (λ s. s.now) scene) }
     ensures { let place = place_of_scene (option_map (λ s. s.now) scene.entry) in
         let fields = fields_of moment.now place in
-        let is_text = IsCallText setting.now.widths fields moment.now.call.reply in
+        let is_text = IsCallText setting.now.widths fields moment.now.call in
         OnOk result (Adds is_text line.old.items line.new.items) }
 {
     write_note(note, setting, scene, moment)?;
     push_fields(line, setting.widths, moment, place_of(scene))?;
-    let size = line.len().saturating_add(setting.widths.words);
+    let start = line.len();
     push_scene(line, scene, moment.before)?;
-    push_note(line, size, note)?;
+    let size = line.len().saturating_sub(start);
+    push_note(line, setting.widths.words.saturating_sub(size), note)?;
     Ok(())
 }
 
@@ -230,14 +220,16 @@ pub(crate) fn push_line(
     requires { IsOnOneLine (option_map (λ s. s.now) scene) }
     ensures { let place = place_of_scene (option_map (λ s. s.now) scene.entry) in
         let fields = fields_of moment.now place in
-        let coloured = setting.now.options.has_colour in
-        let is_line = IsLineWith setting.now.widths coloured fields moment.now.call.reply in
+        let wanted = setting.now.options.has_colour in
+        let colour = colour_of wanted moment.now.call.reply moment.now.is_switch in
+        let is_line = IsLineWith setting.now.widths colour fields moment.now.call in
         OnOk result (Adds is_line line.old.items line.new.items) }
 {
-    let (opening, closing) = colours_of(setting, moment);
-    push_bytes(line, opening)?;
+    let has_colour = setting.options.has_colour;
+    let colour = Colour::of(has_colour, moment.call.reply, moment.is_switch);
+    push_bytes(line, colour.opening())?;
     push_call(line, note, setting, scene, moment)?;
-    push_bytes(line, closing)?;
+    push_bytes(line, colour.closing())?;
     push_bytes(line, b"\n")?;
     Ok(())
 }

@@ -1,18 +1,24 @@
 //! The end of a view: what the history comes to.
+ghost use Rattle.std.specs.Prelude.{◌≡◌, ◌++◌, OnOk, IfOk};
+ghost use Rattle.bp_view.specs.Outcomes.{count_text, counts_line, failure_text, IsOutcomeText, IsFoot};
+
 use crate::changes::procedure_at;
 use crate::excerpts::{Role, role_of};
 use crate::settings::Setting;
 use crate::variables::push_variable;
-use bp_machine::{Outcome, Session, Top};
+use bp_machine::{Outcome, Report, Session, Top};
 use bp_syntax::take_lexeme;
+use bp_text::push_bytes;
 use itoa::Buffer;
 use std::alloc::{AllocError, Global};
 
-/// Adds a number behind a word.
-fn push_count(view: &mut Vec<u8>, word: &[u8], count: u64) -> Result<(), AllocError> {
+/// Adds a number after its words.
+fn push_count(view: &mut Vec<u8>, words: &[u8], count: u64) -> Result<(), AllocError>
+    ensures { OnOk result (view.new.items ≡ view.old.items ++ count_text words.now count) }
+{
     let mut buffer = Buffer::new();
-    view.extend_from_slice(word)?;
-    view.extend_from_slice(buffer.format(count).as_bytes())
+    push_bytes(view, words)?;
+    push_bytes(view, buffer.format(count).as_bytes())
 }
 
 /// Adds the values of the variables of the statement with which the text begins.
@@ -65,41 +71,79 @@ fn push_failure(
     Ok(())
 }
 
-/// Adds the outcome; that of a failed assertion with its statement.
-fn push_outcome(
-    view: &mut Vec<u8>,
+/// What is said of the statement of a thread that failed.
+fn failed_statement(
+    alloc: Global,
+    setting: &Setting<'_>,
+    text: &[u8],
+    session: &Session,
+    thread: u32,
+) -> Result<Vec<u8>, AllocError> {
+    let mut words = Vec::new(alloc);
+    if let Some(top) = session.top(thread) {
+        push_failure(&mut words, setting, text, top)?;
+    }
+    Ok(words)
+}
+
+/// Adds that an assertion of a thread failed, and what is said of its statement.
+fn push_failed(view: &mut Vec<u8>, thread: u32, statement: &[u8]) -> Result<(), AllocError>
+    ensures { OnOk result
+        (view.new.items ≡ view.old.items ++ failure_text thread statement.now) }
+{
+    push_count(view, b"an assertion of thread ", u64::from(thread))?;
+    push_bytes(view, b" failed")?;
+    push_bytes(view, statement)?;
+    Ok(())
+}
+
+/// The outcome; that of a failed assertion with its statement.
+fn outcome_of(
+    alloc: Global,
     setting: &Setting<'_>,
     text: &[u8],
     session: &Session,
     outcome: Outcome,
-) -> Result<(), AllocError> {
+) -> Result<Vec<u8>, AllocError>
+    ensures { IfOk result (λ v. IsOutcomeText outcome v.items) }
+{
+    let mut words = Vec::new(alloc);
     match outcome {
-        Outcome::Clean => view.extend_from_slice(b"no assertion failed"),
+        Outcome::Clean => push_bytes(&mut words, b"no assertion failed")?,
         Outcome::Failed { thread } => {
-            push_count(view, b"an assertion of thread ", u64::from(thread))?;
-            view.extend_from_slice(b" failed")?;
-            if let Some(top) = session.top(thread) {
-                push_failure(view, setting, text, top)?;
-            }
-            Ok(())
+            let statement = failed_statement(alloc, setting, text, session, thread)?;
+            push_failed(&mut words, thread, &statement)?;
         }
     }
+    Ok(words)
 }
 
-/// What the history comes to, behind an empty line.
+/// Adds the counts of a report, after an empty line.
+fn push_counts(view: &mut Vec<u8>, report: Report) -> Result<(), AllocError>
+    ensures { OnOk result (view.new.items ≡ view.old.items ++ counts_line report) }
+{
+    push_count(view, b"\n", report.calls)?;
+    push_count(view, b" calls, contexts ", u64::from(report.contexts))?;
+    push_count(view, b", open threads ", u64::from(report.left_open))?;
+    push_bytes(view, b"\n")?;
+    Ok(())
+}
+
+/// What the history comes to: the report, and of a failed assertion its statement, as the session
+/// has it.
 pub(crate) fn foot_of(
     alloc: Global,
     setting: &Setting<'_>,
     text: &[u8],
     session: &Session,
-) -> Result<Vec<u8>, AllocError> {
-    let report = session.report();
+    report: Report,
+) -> Result<Vec<u8>, AllocError>
+    ensures { IfOk result (λ v. IsFoot report v.items) }
+{
+    let outcome = outcome_of(alloc, setting, text, session, report.outcome)?;
     let mut foot = Vec::new(alloc);
-    push_count(&mut foot, b"\n", report.calls)?;
-    push_count(&mut foot, b" calls, contexts ", u64::from(report.contexts))?;
-    push_count(&mut foot, b", open threads ", u64::from(report.left_open))?;
-    foot.push(b'\n')?;
-    push_outcome(&mut foot, setting, text, session, report.outcome)?;
-    foot.push(b'\n')?;
+    push_counts(&mut foot, report)?;
+    push_bytes(&mut foot, &outcome)?;
+    push_bytes(&mut foot, b"\n")?;
     Ok(foot)
 }

@@ -1,6 +1,7 @@
 //! What the lines of a view have in common: the program's scenes and names, and the widths of the
 //! columns.
-ghost use Rattle.std.specs.Prelude.{◌≡◌};
+ghost use Rattle.std.specs.Prelude.{◌≡◌, map, max};
+ghost use Rattle.bp_view.specs.Widths.{longest, AreWidths};
 
 use crate::options::ViewOptions;
 use crate::scenes::Scene;
@@ -44,20 +45,38 @@ const NO_WIDTHS: Widths = Widths {
     words: 0,
 };
 
-/// The widths of the columns of a view with this setting, in this setup.
-pub(crate) fn widths_of(setting: &Setting<'_>, setup: &Setup) -> Widths {
-    let mut place = 1;
-    let mut words = 0;
-    for scene in setting.scenes {
-        place = place.max(scene.place.len());
-        words = words.max(scene.excerpt.words.len());
+/// The length of the longest place that is printed, and 1 at least.
+fn longest_place(scenes: &[Scene]) -> usize
+    ensures { result ≡ max 1 (longest (map (λ s. s.place.items) scenes.now)) }
+{
+    let mut longest: usize = 1;
+    for scene in scenes {
+        longest = longest.max(scene.place.len());
     }
+    longest
+}
+
+/// The length of the longest statement that is printed.
+fn longest_words(scenes: &[Scene]) -> usize {
+    let mut longest = 0;
+    for scene in scenes {
+        longest = longest.max(scene.excerpt.words.len());
+    }
+    longest
+}
+
+/// The widths of the columns of a view with this setting, in this setup.
+pub(crate) fn widths_of(setting: &Setting<'_>, setup: &Setup) -> Widths
+    ensures { let places = map (λ s. s.place.items) setting.now.scenes.now in
+        AreWidths setup.now setting.now.count places result }
+{
+    let indents = 2 * setting.procs.len().min(MAX_INDENTS);
     Widths {
         number: digits(setting.count),
         thread: digits(u64::from(setup.threads())),
         context: digits(u64::from(setup.contexts())),
-        place,
-        words: words.saturating_add(2 * setting.procs.len().min(MAX_INDENTS)),
+        place: longest_place(setting.scenes),
+        words: longest_words(setting.scenes).saturating_add(indents),
     }
 }
 
@@ -69,6 +88,7 @@ pub(crate) fn setting_of<'a>(
     options: ViewOptions,
 ) -> Setting<'a>
     ensures scenes { result.scenes.now ≡ scenes.now }
+    ensures globals { result.globals.now ≡ checked.now.globals }
     ensures count { result.count ≡ count }
     ensures options { result.options ≡ options }
 {

@@ -52,7 +52,7 @@ pub fn view(
         watcher,
     } = replay_watched(alloc, code, trace, writer)?;
     replayed.setup.is_in_range();
-    let foot = foot_of(alloc, &watcher.setting, text, &session)?;
+    let foot = foot_of(alloc, &watcher.setting, text, &session, replayed.report)?;
     let mut view = watcher.view;
     push_bytes(&mut view, &foot)?;
     Ok((view, replayed.report))

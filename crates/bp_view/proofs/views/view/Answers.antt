@@ -1,7 +1,8 @@
-use Rattle.std.proofs.Common.{◌≡◌, ◌∙◌, ◌++◌, Some, length, sym, ap, refl, subst}
+use Rattle.std.proofs.Common.{◌≡◌, ◌∙◌, ◌++◌, length, ap, refl}
 use Rattle.bp_code.specs.Starts.{starts_of}
+use Rattle.bp_view.specs.Heads.{view_head}
 use Rattle.bp_view.specs.Scenes.{AreScenes}
-use Rattle.bp_view.specs.Views.{AreLines}
+use Rattle.bp_view.proofs.LongestPlaces.{places_are}
 use Rattle.bp_view.proofs.SceneLists.{all_words}
 use Rattle.bp_view.proofs.views.view.Goals as goal
 
@@ -27,10 +28,13 @@ returns c =
       is = w.replayed;
       view_is = record {
         widths = setting.widths;
-        head = w.seen.head;
+        widths_are = rw (places_are text (starts_of t) setting.scenes.now are, count) at w.seen.widths;
         lines = lines.more;
         foot = c.deref.result.now;
-        is = c.in_ok-push_bytes.ensures ∙ ap (λ x. x ++ c.deref.result.now) lines.is;
+        is = c.in_ok-push_bytes.ensures
+            ∙ ap (λ x. x ++ c.deref.result.now) lines.is
+            ∙ ap (λ g. (view_head g r.setup ++ lines.more) ++ c.deref.result.now) (w.seen.globals ∙ c.setting_of.ensures.globals);
+        foot_is = rw c.deref.ensures.value c.in_ok-foot.ensures;
         lines_are = here;
       };
       report_is = refl;

@@ -17,11 +17,12 @@ returns-clause-sees c = λ first t h is stands shows.
     let number : c.saturating_add-number.result ≡ suc (length h) = omega (arith, c.saturating_add-number.ensures, shows.made, long, one, other) in
     record {
       scenes = shows.scenes;
+      globals = shows.globals;
       options = shows.options;
+      widths = shows.widths;
       count = shows.count;
       last = c.last_step-self.ensures h shows.last;
       made = number ∙ omega (arith, length-append h (x ∷ []));
-      head = shows.head;
       lines = λ text are.
           let moment = c.in_ok-moment.ensures.is t h is stands shows.last number in
           let shown = c.in_ok-push_shown.ensures t text s h x are moment in
