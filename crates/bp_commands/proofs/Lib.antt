@@ -1,5 +1,7 @@
 mod Answered
 mod Driven
+mod ExplainedRuns
+mod FirstLines
 mod FirstSeparator
 mod Migrated
 mod RunAnswers

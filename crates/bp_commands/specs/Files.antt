@@ -1,9 +1,9 @@
 -- A run of a command, from its inputs to the exit status, and what it leaves on both streams.
-use Rattle.std.specs.Prelude.{ℕ, List, Option, None, Some, Result, Bool, true, Err, ◌≡◌}
-use Rattle.std.specs.Io.KnownBytes.{Appends}
+use Rattle.std.specs.Prelude.{ℕ, List, Option, None, Some, Result, Bool}
 use Rattle.bp_commands.specs.declared.faults.Fault.{Fault}
 use Rattle.bp_commands.specs.Commands.{Command, Answers}
 use Rattle.bp_commands.specs.Ends.{Ends}
+use Rattle.bp_commands.specs.Explanations.{ExplainsRead, IsTold}
 use Rattle.bp_commands.specs.Flushes.{IsFlushed}
 use Rattle.bp_commands.specs.Given.{Inputs, Pair, text_and}
 
@@ -18,21 +18,13 @@ abbrev pub pair_of_files
     : ℕ → Option (List ℕ) → Option (List ℕ) → Option (List ℕ) × Option (List ℕ) → Inputs Pair
 pair_of_files limit text input left = text_and limit text left.0 input left.1
 
--- known bytes stay, and others may follow them
-abbrev pub Grows : Option (List ℕ) → Option (List ℕ) → Type 0
-Grows old new = (more : List ℕ) × Appends old new more
-
--- further lines follow that of a fault, where it is to be explained
-abbrev pub IsExplained
-    : {R : Type 0} → Bool → Result R Fault → Option (List ℕ) → Option (List ℕ) → Type 0
-IsExplained true (Err f) told new = Grows told new
-IsExplained explains done told new = new ≡ told
-
 -- The command was given inputs, and may have left some of them unread. The output and standard
--- error have these bytes before and after the run. A fault is explained or not.
+-- error have these bytes before and after the run. Where a refusal is to be explained, these lines
+-- explain one of the inputs.
 module _
     {L X R : Type 0} (command : Command X R) (failed : R → Bool) (inputs : L → Inputs X)
-    (explains : Bool) (old new errors_old errors_new : Option (List ℕ)) where
+    (Explains : X → Fault → List ℕ → Type 0) (asked : Bool)
+    (old new errors_old errors_new : Option (List ℕ)) where
   pub record IsRun (status : ℕ) : Type 0 where
     pub left : L
     pub held : Option (List ℕ)
@@ -42,4 +34,4 @@ module _
     pub flushed : IsFlushed done held final new
     pub told : Option (List ℕ)
     pub ends : Ends failed final status errors_old told
-    pub explained : IsExplained explains final told errors_new
+    pub explained : IsTold asked (ExplainsRead (inputs left) Explains) final told errors_new

@@ -4,6 +4,7 @@ pub mod Checks
 pub mod Commands
 pub mod Drives
 pub mod Ends
+pub mod Explanations
 pub mod FaultTable
 pub mod Faults
 pub mod Files

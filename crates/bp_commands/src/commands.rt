@@ -2,10 +2,12 @@
 ghost use Rattle.std.specs.Prelude.{◌≡◌, List, ℕ};
 ghost use Rattle.bp_machine.specs.declared.reports.Report.{Report};
 ghost use Rattle.bp_commands.specs.Commands.{Answers, AnswersOf, Command};
-ghost use Rattle.bp_commands.specs.Given.{bundle_alone, text_alone, text_and, Pair};
+ghost use Rattle.bp_commands.specs.declared.explanations.Beside.{Beside};
+ghost use Rattle.bp_commands.specs.Explanations.{AreReadOr};
+ghost use Rattle.bp_commands.specs.Given.{text_alone, text_and, Pair};
 
 use crate::ends::Ended;
-use crate::explanations::Named;
+use crate::explanations::Beside;
 use crate::faults::Fault;
 use crate::inputs::{Source, read_pair, read_text};
 use bp_machine::Report;
@@ -36,6 +38,8 @@ pub trait PairCommand {
 
     ghost limit: { Self → ℕ };
 
+    ghost beside: { Self → Beside };
+
     /// How many bytes the input beside the program has at most.
     fn limit(&self) -> usize
         ensures { result ≡ limit self.now };
@@ -51,14 +55,9 @@ pub trait PairCommand {
         ensures { let given : Pair = record { text = text.now; input = input.now } in
             AnswersOf (command self.now) given (W.contents out.old) (W.contents out.new) result };
 
-    /// Explains a fault, for people. There may be no explanation.
-    fn explain(
-        &self,
-        alloc: Global,
-        fault: &Fault,
-        program: Named<'_>,
-        input: Named<'_>,
-    ) -> Option<Vec<u8>>;
+    /// What the input beside the program is.
+    fn beside(&self) -> Beside
+        ensures { result ≡ beside self.now };
 }
 
 /// Reads a program text, and does a command on it. At most 65,537 bytes are read.
@@ -68,9 +67,12 @@ pub fn do_on_program<C: ProgramCommand, R: Read, W: Write>(
     program: &mut Source<R>,
     out: &mut W,
 ) -> Result<C::Answer, Fault>
-    ensures { let inputs = text_alone
+    ensures answers { let inputs = text_alone
         (R.remaining program.old.reader) (R.remaining program.new.reader) in
         Answers (C.command command.now) inputs (W.contents out.old) (W.contents out.new) result }
+    ensures holds { let inputs = text_alone
+        (R.remaining program.old.reader) (R.remaining program.new.reader) in
+        AreReadOr inputs program.new.bytes.items result }
 {
     read_text(alloc, program)?;
     command.apply(alloc, &program.bytes, out)
@@ -85,10 +87,18 @@ pub fn do_on_pair<C: PairCommand, R: Read, S: Read, W: Write>(
     input: &mut Source<S>,
     out: &mut W,
 ) -> Result<Report, Fault>
-    ensures { let inputs = text_and (C.limit command.now)
+    ensures answers { let inputs = text_and (C.limit command.now)
         (R.remaining program.old.reader) (R.remaining program.new.reader)
         (S.remaining input.old.reader) (S.remaining input.new.reader) in
         Answers (C.command command.now) inputs (W.contents out.old) (W.contents out.new) result }
+    ensures holds { let inputs = text_and (C.limit command.now)
+        (R.remaining program.old.reader) (R.remaining program.new.reader)
+        (S.remaining input.old.reader) (S.remaining input.new.reader) in
+        let given : Pair = record {
+          text = program.new.bytes.items;
+          input = input.new.bytes.items;
+        } in
+        AreReadOr inputs given result }
 {
     read_pair(alloc, command.limit(), program, input)?;
     command.apply(alloc, &program.bytes, &input.bytes, out)

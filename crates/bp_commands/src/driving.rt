@@ -1,6 +1,6 @@
 //! The command `drive`.
 use crate::commands::PairCommand;
-use crate::explanations::{Named, of_schedule};
+use crate::explanations::Beside;
 use crate::faults::Fault;
 use bp_code::code_of;
 use bp_machine::{Report, Start};
@@ -17,12 +17,15 @@ pub struct Drive<'a> {
 }
 
 impl PairCommand for Drive<'_> {
+    ghost use Rattle.bp_commands.specs.declared.explanations.Beside.{Beside};
     ghost use Rattle.bp_trace.specs.declared.limits.TheConstants.{MAX_SCHEDULE};
     ghost use Rattle.bp_commands.specs.Drives.{drives};
 
     ghost command = { λ d. drives d.start.now };
 
     ghost limit = { λ _. MAX_SCHEDULE };
+
+    ghost beside = { λ _. Beside.Schedule };
 
     fn limit(&self) -> usize {
         MAX_SCHEDULE
@@ -40,13 +43,7 @@ impl PairCommand for Drive<'_> {
         Ok(drive(alloc, &code, &setup, schedule, out)?)
     }
 
-    fn explain(
-        &self,
-        alloc: Global,
-        fault: &Fault,
-        program: Named<'_>,
-        schedule: Named<'_>,
-    ) -> Option<Vec<u8>> {
-        of_schedule(alloc, fault, program, schedule)
+    fn beside(&self) -> Beside {
+        Beside::Schedule
     }
 }

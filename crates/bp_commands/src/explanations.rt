@@ -1,111 +1,176 @@
 //! What `--explain` adds after the line of a fault, for people.
-ghost use Rattle.bp_commands.specs.Files.{Grows, IsExplained};
+ghost use Rattle.std.specs.Prelude.{◌≡◌, ◌⊎◌, ◌++◌, ◌∷◌, [], ℕ, List, IfSome, MatchOption, Ok};
+ghost use Rattle.bp_commands.specs.Ends.{HasLine};
+ghost use Rattle.bp_commands.specs.Explanations.{ExplainsInput, ExplainsPair, ExplainsText, IsInWords, IsTold};
+ghost use Rattle.bp_commands.specs.Given.{Pair};
 
-use crate::commands::PairCommand;
 use crate::faults::Fault;
 use bp_code::ProgramFault;
 use bp_explain::{explain_program, explain_schedule, explain_trace};
 use bp_syntax::ReadFault;
-use bp_text::put;
+use bp_text::{first_line, put, put_each};
 use bp_trace::ReplayFault;
-use std::alloc::Global;
+use std::alloc::{AllocError, Global};
 use std::io::Write;
 
 /// A text that a command has read, and the name of its file.
 #[derive(Clone, Copy)]
-pub struct Named<'a> {
-    pub name: &'a str,
-    pub text: &'a [u8],
+pub(crate) struct Named<'a> {
+    pub(crate) name: &'a str,
+    pub(crate) text: &'a [u8],
 }
 
-/// The lines, if there are any.
-fn any(lines: Vec<u8>) -> Option<Vec<u8>> {
-    if lines.is_empty() { None } else { Some(lines) }
+/// What stands beside the program of a command on two files.
+#[derive(Clone, Copy, Debug, PartialEq, Eq)]
+pub enum Beside {
+    Schedule,
+    Trace,
+}
+
+/// The lines, if there are any and memory was there for them.
+fn any(lines: Result<Vec<u8>, AllocError>) -> Option<Vec<u8>>
+    ensures { IfSome result (λ v. lines ≡ Ok v) }
+{
+    match lines {
+        Ok(lines) if !lines.is_empty() => Some(lines),
+        _ => None,
+    }
 }
 
 /// The explanation of a fault of a program.
-fn of_program(alloc: Global, fault: &Fault, program: Named<'_>) -> Option<Vec<u8>> {
+fn of_program(alloc: Global, fault: &Fault, program: Named<'_>) -> Option<Vec<u8>>
+    ensures { IfSome result (λ v.
+        ExplainsText program.entry.name.now program.entry.text.now fault.now v.items) }
+{
     match fault {
         // Such a text was not read whole.
         Fault::Program(ProgramFault::Read(ReadFault::TooLong)) => None,
-        Fault::Program(fault) => {
-            any(explain_program(alloc, program.name, program.text, fault).ok()?)
+        Fault::Program(fault) => any(explain_program(alloc, program.name, program.text, fault)),
+        _ => None,
+    }
+}
+
+/// The explanation of a fault of the schedule or the trace beside a program.
+fn of_input(
+    alloc: Global,
+    beside: Beside,
+    fault: &Fault,
+    program: Named<'_>,
+    input: Named<'_>,
+) -> Option<Vec<u8>>
+    ensures { IfSome result (λ v.
+        ExplainsInput beside input.entry.name.now input.entry.text.now fault.now v.items) }
+{
+    match (beside, fault) {
+        (Beside::Schedule, Fault::Schedule(fault)) => {
+            any(explain_schedule(alloc, input.name, input.text, fault))
+        }
+        (Beside::Trace, Fault::Trace(fault)) => {
+            any(explain_trace(alloc, program.text, input.name, input.text, fault))
+        }
+        (Beside::Trace, Fault::Setup(fault)) => {
+            let fault = ReplayFault::Setup(*fault);
+            any(explain_trace(alloc, program.text, input.name, input.text, &fault))
         }
         _ => None,
     }
 }
 
-/// The explanation of a fault of a schedule, or of its program.
-pub(crate) fn of_schedule(
+/// The explanation of a fault of a program or of what stands beside it.
+fn of_pair(
     alloc: Global,
+    beside: Beside,
     fault: &Fault,
     program: Named<'_>,
-    schedule: Named<'_>,
-) -> Option<Vec<u8>> {
-    match fault {
-        Fault::Schedule(fault) => {
-            any(explain_schedule(alloc, schedule.name, schedule.text, fault).ok()?)
-        }
-        fault => of_program(alloc, fault, program),
+    input: Named<'_>,
+) -> Option<Vec<u8>>
+    ensures { let given : Pair =
+        record { text = program.entry.text.now; input = input.entry.text.now } in
+        IfSome result (λ v. ExplainsPair beside program.entry.name.now input.entry.name.now
+        given fault.now v.items) }
+{
+    match of_program(alloc, fault, program) {
+        Some(lines) => Some(lines),
+        None => of_input(alloc, beside, fault, program, input),
     }
 }
 
-/// The explanation of a fault of a trace, or of its program.
-pub(crate) fn of_trace(
-    alloc: Global,
-    fault: &Fault,
-    program: Named<'_>,
-    trace: Named<'_>,
-) -> Option<Vec<u8>> {
-    let of_trace = match fault {
-        Fault::Trace(fault) => *fault,
-        Fault::Setup(fault) => ReplayFault::Setup(*fault),
-        fault => return of_program(alloc, fault, program),
-    };
-    any(explain_trace(alloc, program.text, trace.name, trace.text, &of_trace).ok()?)
+/// Writes a fault in its words, on one line.
+fn put_words<E: Write>(words: &[u8], errors: &mut E)
+    ensures { (lines : List ℕ) × IsInWords lines
+        × HasLine lines (E.contents errors.old) (E.contents errors.new) }
+{
+    // Where standard error fails, the status still reports the fault.
+    let _ = put_each(errors, &[first_line(words), b"\n"]);
+}
+
+/// Writes the fault in a sentence.
+fn put_sentence<E: Write>(alloc: Global, fault: &Fault, errors: &mut E)
+    ensures { (lines : List ℕ) × IsInWords lines
+        × HasLine lines (E.contents errors.old) (E.contents errors.new) }
+{
+    match format!(in alloc; "{fault}") {
+        Ok(sentence) => put_words(sentence.as_bytes(), errors),
+        Err(_) => put_words(b"out of memory", errors),
+    }
+}
+
+/// Writes these lines.
+fn put_lines<E: Write>(lines: &[u8], errors: &mut E)
+    ensures { HasLine lines.now (E.contents errors.old) (E.contents errors.new) }
+{
+    // Where standard error fails, the status still reports the fault.
+    let _ = put(errors, lines);
 }
 
 /// Writes the explanation of a fault, or else the fault in a sentence.
 fn put_explanation<E: Write>(alloc: Global, lines: Option<Vec<u8>>, fault: &Fault, errors: &mut E)
-    ensures { Grows (E.contents errors.old) (E.contents errors.new) }
+    ensures { MatchOption lines
+        ((words : List ℕ) × IsInWords words
+        × HasLine words (E.contents errors.old) (E.contents errors.new))
+        (λ v. HasLine v.items (E.contents errors.old) (E.contents errors.new)) }
 {
-    // Where standard error fails, the status still reports the fault.
-    let _ = match (lines, format!(in alloc; "{fault}\n")) {
-        (Some(lines), _) => put(errors, &lines),
-        (None, Ok(sentence)) => put(errors, sentence.as_bytes()),
-        (None, Err(_)) => put(errors, b"out of memory\n"),
-    };
+    match lines {
+        Some(lines) => put_lines(&lines, errors),
+        None => put_sentence(alloc, fault, errors),
+    }
 }
 
 /// Explains the refusal of a command on a program, where that is asked for.
 pub(crate) fn explain_on_program<T, E: Write>(
     alloc: Global,
-    explains: bool,
+    asked: bool,
     done: &Result<T, Fault>,
     program: Named<'_>,
     errors: &mut E,
 )
-    ensures { IsExplained explains done.now (E.contents errors.old) (E.contents errors.new) }
+    ensures { IsTold asked (ExplainsText program.entry.name.now program.entry.text.now)
+        done.now (E.contents errors.old) (E.contents errors.new) }
 {
-    if let (true, Err(fault)) = (explains, done) {
-        put_explanation(alloc, of_program(alloc, fault, program), fault, errors);
+    if let (true, Err(fault)) = (asked, done) {
+        let lines = of_program(alloc, fault, program);
+        put_explanation(alloc, lines, fault, errors);
     }
 }
 
 /// Explains the refusal of a command on a program and an input beside it, where that is asked for.
-pub(crate) fn explain_on_pair<C: PairCommand, T, E: Write>(
+pub(crate) fn explain_on_pair<T, E: Write>(
     alloc: Global,
-    command: &C,
-    explains: bool,
+    beside: Beside,
+    asked: bool,
     done: &Result<T, Fault>,
     program: Named<'_>,
     input: Named<'_>,
     errors: &mut E,
 )
-    ensures { IsExplained explains done.now (E.contents errors.old) (E.contents errors.new) }
+    ensures { let given : Pair =
+        record { text = program.entry.text.now; input = input.entry.text.now } in
+        IsTold asked
+        (ExplainsPair beside program.entry.name.now input.entry.name.now given)
+        done.now (E.contents errors.old) (E.contents errors.new) }
 {
-    if let (true, Err(fault)) = (explains, done) {
-        let lines = command.explain(alloc, fault, program, input);
+    if let (true, Err(fault)) = (asked, done) {
+        let lines = of_pair(alloc, beside, fault, program, input);
         put_explanation(alloc, lines, fault, errors);
     }
 }

@@ -30,7 +30,7 @@ pub use coding::Code;
 pub use commands::{PairCommand, ProgramCommand, do_on_pair, do_on_program};
 pub use driving::Drive;
 pub use ends::{Ended, end};
-pub use explanations::Named;
+pub use explanations::Beside;
 pub use fault_lines::show_fault;
 pub use fault_table::{Detail, Row};
 pub use faults::Fault;

@@ -1,6 +1,6 @@
 //! The command `migrate`.
 use crate::commands::PairCommand;
-use crate::explanations::{Named, of_trace};
+use crate::explanations::Beside;
 use crate::faults::Fault;
 use bp_code::code_of;
 use bp_machine::Report;
@@ -14,12 +14,15 @@ use std::io::Write;
 pub struct Migrate;
 
 impl PairCommand for Migrate {
+    ghost use Rattle.bp_commands.specs.declared.explanations.Beside.{Beside};
     ghost use Rattle.bp_trace.specs.declared.limits.TheConstants.{MAX_TRACE};
     ghost use Rattle.bp_commands.specs.Traces.{migrates};
 
     ghost command = { λ _. migrates };
 
     ghost limit = { λ _. MAX_TRACE };
+
+    ghost beside = { λ _. Beside.Trace };
 
     fn limit(&self) -> usize {
         MAX_TRACE
@@ -36,13 +39,7 @@ impl PairCommand for Migrate {
         Ok(migrate(alloc, &code, trace, out)?)
     }
 
-    fn explain(
-        &self,
-        alloc: Global,
-        fault: &Fault,
-        program: Named<'_>,
-        trace: Named<'_>,
-    ) -> Option<Vec<u8>> {
-        of_trace(alloc, fault, program, trace)
+    fn beside(&self) -> Beside {
+        Beside::Trace
     }
 }

@@ -1,6 +1,6 @@
 //! The command `replay`.
 use crate::commands::PairCommand;
-use crate::explanations::{Named, of_trace};
+use crate::explanations::Beside;
 use crate::faults::Fault;
 use crate::replay_lines::show_replay;
 use bp_code::code_of;
@@ -15,12 +15,15 @@ use std::io::Write;
 pub struct Replay;
 
 impl PairCommand for Replay {
+    ghost use Rattle.bp_commands.specs.declared.explanations.Beside.{Beside};
     ghost use Rattle.bp_trace.specs.declared.limits.TheConstants.{MAX_TRACE};
     ghost use Rattle.bp_commands.specs.Traces.{replays};
 
     ghost command = { λ _. replays };
 
     ghost limit = { λ _. MAX_TRACE };
+
+    ghost beside = { λ _. Beside.Trace };
 
     fn limit(&self) -> usize {
         MAX_TRACE
@@ -39,13 +42,7 @@ impl PairCommand for Replay {
         Ok(replayed.report)
     }
 
-    fn explain(
-        &self,
-        alloc: Global,
-        fault: &Fault,
-        program: Named<'_>,
-        trace: Named<'_>,
-    ) -> Option<Vec<u8>> {
-        of_trace(alloc, fault, program, trace)
+    fn beside(&self) -> Beside {
+        Beside::Trace
     }
 }

@@ -1,6 +1,7 @@
 //! The command `run`. It is no `ProgramCommand`, since what starts threads is known of a function's
 //! own parameters alone.
 ghost use Rattle.bp_commands.specs.Commands.{Answers, AnswersOf};
+ghost use Rattle.bp_commands.specs.Explanations.{AreReadOr};
 ghost use Rattle.bp_commands.specs.Given.{text_alone};
 ghost use Rattle.bp_commands.specs.Runs.{runs};
 
@@ -39,9 +40,12 @@ pub fn run_program<G: Gate, R: Read, W: Write, T: Threads + Wait + Clock + Sync>
     program: &mut Source<R>,
     out: &mut W,
 ) -> Result<Report, Fault>
-    ensures { let inputs = text_alone
+    ensures answers { let inputs = text_alone
         (R.remaining program.old.reader) (R.remaining program.new.reader) in
         Answers (runs options.now) inputs (W.contents out.old) (W.contents out.new) result }
+    ensures holds { let inputs = text_alone
+        (R.remaining program.old.reader) (R.remaining program.new.reader) in
+        AreReadOr inputs program.new.bytes.items result }
 {
     read_text(alloc, program)?;
     run_text(alloc, threads, options, gate, &program.bytes, out)

@@ -4,7 +4,7 @@ ghost use Rattle.bp_code.specs.LawfulTexts.{IsCodeRefusal, IsLawfulText};
 ghost use Rattle.bp_code.specs.StandsFor.{StandsFor};
 
 use crate::commands::PairCommand;
-use crate::explanations::{Named, of_trace};
+use crate::explanations::Beside;
 use crate::faults::Fault;
 use bp_check::Checked;
 use bp_code::{Code, CodeFault, compile, lawful_program};
@@ -35,12 +35,15 @@ pub struct Show {
 }
 
 impl PairCommand for Show {
+    ghost use Rattle.bp_commands.specs.declared.explanations.Beside.{Beside};
     ghost use Rattle.bp_trace.specs.declared.limits.TheConstants.{MAX_TRACE};
     ghost use Rattle.bp_commands.specs.Traces.{shows};
 
     ghost command = { λ s. shows s.options };
 
     ghost limit = { λ _. MAX_TRACE };
+
+    ghost beside = { λ _. Beside.Trace };
 
     fn limit(&self) -> usize {
         MAX_TRACE
@@ -59,13 +62,7 @@ impl PairCommand for Show {
         Ok(report)
     }
 
-    fn explain(
-        &self,
-        alloc: Global,
-        fault: &Fault,
-        program: Named<'_>,
-        trace: Named<'_>,
-    ) -> Option<Vec<u8>> {
-        of_trace(alloc, fault, program, trace)
+    fn beside(&self) -> Beside {
+        Beside::Trace
     }
 }

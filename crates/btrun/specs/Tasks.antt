@@ -3,7 +3,9 @@ use Rattle.std.specs.Prelude.{ℕ, Bool, false, List, Option}
 use Rattle.bp_commands.specs.Bundles.{bundles}
 use Rattle.bp_commands.specs.Checks.{checks}
 use Rattle.bp_commands.specs.Drives.{drives}
+use Rattle.bp_commands.specs.declared.explanations.Beside.TheVariants.{Schedule, Trace}
 use Rattle.bp_commands.specs.Ends.{never, report_failed}
+use Rattle.bp_commands.specs.Explanations.{ExplainsPair, ExplainsText}
 use Rattle.bp_commands.specs.Files.{pair_of_files, IsRun}
 use Rattle.bp_commands.specs.Given.{bundle_alone, text_alone}
 use Rattle.bp_commands.specs.Listings.{lists}
@@ -32,7 +34,8 @@ abbrev pub IsRunDone
     → Type 0
 IsRunDone bytes words old new errors_old errors_new status =
     let inputs = text_alone (bytes words.program.now) in
-    IsRun (runs words.options) report_failed inputs words.explain
+    IsRun (runs words.options) report_failed inputs
+    (ExplainsText words.program.now) words.explain
     old new errors_old errors_new status
 
 -- the program of a file is driven by the schedule of another, as these words ask for
@@ -43,7 +46,8 @@ abbrev pub IsDriveDone
 IsDriveDone bytes words old new errors_old errors_new status =
     let inputs = pair_of_files MAX_SCHEDULE
     (bytes words.program.now) (bytes words.schedule.now) in
-    IsRun (drives words.start) report_failed inputs words.explain
+    IsRun (drives words.start) report_failed inputs
+    (ExplainsPair Schedule words.program.now words.schedule.now) words.explain
     old new errors_old errors_new status
 
 -- the trace of a file is shown, as these words ask for
@@ -53,7 +57,8 @@ abbrev pub IsShowDone
     → Type 0
 IsShowDone bytes has_colour words old new errors_old errors_new status =
     let inputs = pair_of_files MAX_TRACE (bytes words.program.now) (bytes words.trace.now) in
-    IsRun (shows (view_options words has_colour)) report_failed inputs words.explain
+    IsRun (shows (view_options words has_colour)) report_failed inputs
+    (ExplainsPair Trace words.program.now words.trace.now) words.explain
     old new errors_old errors_new status
 
 -- The files have these bytes by their paths, and so has standard input. The output and standard
@@ -63,20 +68,27 @@ module _
     (old new errors_old errors_new : Option (List ℕ)) (status : ℕ) where
   abbrev pub IsTaskDone : Task → Type 0
   IsTaskDone Bundle =
-      IsRun bundles report_failed (bundle_alone input) false old new errors_old errors_new status
+      IsRun bundles report_failed (bundle_alone input) (λ _ _ _. ⊥) false
+      old new errors_old errors_new status
   IsTaskDone (Check words) =
       let inputs = text_alone (bytes words.program.now) in
-      IsRun checks never inputs words.explain old new errors_old errors_new status
+      IsRun checks never inputs (ExplainsText words.program.now) words.explain
+      old new errors_old errors_new status
   IsTaskDone (Code words) =
       let inputs = text_alone (bytes words.program.now) in
-      IsRun lists never inputs words.explain old new errors_old errors_new status
+      IsRun lists never inputs (ExplainsText words.program.now) words.explain
+      old new errors_old errors_new status
   IsTaskDone (Drive words) = IsDriveDone bytes words old new errors_old errors_new status
   IsTaskDone (Run words) = IsRunDone bytes words old new errors_old errors_new status
   IsTaskDone (Replay words) =
       let inputs = pair_of_files MAX_TRACE (bytes words.program.now) (bytes words.trace.now) in
-      IsRun replays report_failed inputs words.explain old new errors_old errors_new status
+      IsRun replays report_failed inputs
+      (ExplainsPair Trace words.program.now words.trace.now) words.explain
+      old new errors_old errors_new status
   IsTaskDone (Show words) =
       IsShowDone bytes has_colour words old new errors_old errors_new status
   IsTaskDone (Migrate words) =
       let inputs = pair_of_files MAX_TRACE (bytes words.program.now) (bytes words.trace.now) in
-      IsRun migrates report_failed inputs words.explain old new errors_old errors_new status
+      IsRun migrates report_failed inputs
+      (ExplainsPair Trace words.program.now words.trace.now) words.explain
+      old new errors_old errors_new status

@@ -2,6 +2,7 @@
 ghost use Rattle.std.specs.Io.Buffered.{writer_contents};
 ghost use Rattle.std.specs.Prelude.{◌≡◌};
 ghost use Rattle.bp_commands.specs.Ends.{report_failed};
+ghost use Rattle.bp_commands.specs.Explanations.{ExplainsPair, ExplainsText};
 ghost use Rattle.bp_commands.specs.Files.{pair_of_files, IsRun};
 ghost use Rattle.bp_commands.specs.Given.{text_alone};
 ghost use Rattle.btrun.specs.Tasks.{view_options, IsDriveDone, IsRunDone, IsShowDone, IsTaskDone};
@@ -79,7 +80,8 @@ fn on_file<C: ProgramCommand, F: Files, W: Write + Drop, E: Write>(
 ) -> (u8, W)
     ensures { let inputs = text_alone (F.bytes files.now words.now.program.now) in
         let old = writer_contents W.contents out in
-        IsRun (C.command command.now) C.Answer.failed inputs words.now.explain
+        IsRun (C.command command.now) C.Answer.failed inputs
+        (ExplainsText words.now.program.now) words.now.explain
         old (W.contents result.1)
         (E.contents errors.old) (E.contents errors.new) result.0 }
 {
@@ -99,7 +101,9 @@ fn on_trace<C: PairCommand, F: Files, W: Write + Drop, E: Write>(
     ensures { let inputs = pair_of_files (C.limit command.now)
         (F.bytes files.now words.now.program.now) (F.bytes files.now words.now.trace.now) in
         let old = writer_contents W.contents out in
-        IsRun (C.command command.now) report_failed inputs words.now.explain
+        IsRun (C.command command.now) report_failed inputs
+        (ExplainsPair (C.beside command.now) words.now.program.now words.now.trace.now)
+        words.now.explain
         old (W.contents result.1)
         (E.contents errors.old) (E.contents errors.new) result.0 }
 {

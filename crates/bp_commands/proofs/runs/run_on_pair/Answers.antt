@@ -1,22 +1,33 @@
+use Rattle.std.proofs.Common.{ℕ, List, Option}
 use Rattle.std.specs.Io.Buffered.{writer_contents}
-use Rattle.bp_commands.specs.Files.{rest_of}
+use Rattle.bp_commands.specs.Explanations.{ExplainsPair, AreReadOr}
+use Rattle.bp_commands.specs.Files.{rest_of, pair_of_files}
+use Rattle.bp_commands.specs.Given.{Pair}
+use Rattle.bp_commands.proofs.ExplainedRuns.{tells, pair_unread}
 use Rattle.bp_commands.proofs.runs.run_on_pair.Goals as goal
 
 pub returns : goal.returns
 returns g c =
     let program = c.do_on_pair-done.new.program.reader in
     let input = c.do_on_pair-done.new.input.reader in
+    let path = c.args.path.now in
+    let input_path = c.args.input_path.now in
+    let left : Option (List ℕ) × Option (List ℕ) = (
+      rest_of (g.F.Files.bytes program.files.now program.path.now) g.F.Input.Read.remaining program.file,
+      rest_of (g.F.Files.bytes input.files.now input.path.now) g.F.Input.Read.remaining input.file,
+    ) in
+    let given : Pair = record { text = c.do_on_pair-done.new.program.bytes.items; input = c.do_on_pair-done.new.input.bytes.items } in
+    let kind = g.C.PairCommand.beside c.args.command.now in
+    let inputs = pair_of_files (g.C.PairCommand.limit c.args.command.now) (g.F.Files.bytes c.args.files.now path) (g.F.Files.bytes c.args.files.now input_path) left in
+    let holds : AreReadOr inputs given c.do_on_pair-done.result = rw (← c.source-program.ensures, ← c.source-input.ensures) c.do_on_pair-done.ensures.holds in
     record {
-      left = (
-        rest_of (g.F.Files.bytes program.files.now program.path.now) g.F.Input.Read.remaining program.file,
-        rest_of (g.F.Files.bytes input.files.now input.path.now) g.F.Input.Read.remaining input.file,
-      );
+      left = left;
       held = writer_contents g.W.Write.contents c.do_on_pair-done.new.out;
       done = c.do_on_pair-done.result;
-      answers = rw (← c.source-program.ensures, ← c.source-input.ensures) c.do_on_pair-done.ensures;
+      answers = rw (← c.source-program.ensures, ← c.source-input.ensures) c.do_on_pair-done.ensures.answers;
       final = c.flushed-done.result.0;
       flushed = c.flushed-done.ensures;
       told = g.E.Write.contents c.end-status.new.errors;
       ends = c.end-status.ensures;
-      explained = c.explain_on_pair.ensures;
+      explained = tells inputs (ExplainsPair kind path input_path) (pair_unread kind path input_path _ _ _ _ _) given c.args.explains _ _ _ _ _ _ holds c.flushed-done.ensures (rw (c.beside-beside.ensures, c.deref.ensures.value, c.deref-2.ensures.value) at c.explain_on_pair.ensures);
     }

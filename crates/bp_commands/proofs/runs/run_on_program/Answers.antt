@@ -1,0 +1,26 @@
+use Rattle.std.specs.Io.Buffered.{writer_contents}
+use Rattle.bp_commands.specs.Explanations.{ExplainsText, AreReadOr}
+use Rattle.bp_commands.specs.Files.{rest_of}
+use Rattle.bp_commands.specs.Given.{text_alone}
+use Rattle.bp_commands.proofs.ExplainedRuns.{tells, text_unread}
+use Rattle.bp_commands.proofs.runs.run_on_program.Goals as goal
+
+pub returns : goal.returns
+returns g c =
+    let program = c.do_on_program-done.new.program.reader in
+    let path = c.args.path.now in
+    let text = c.do_on_program-done.new.program.bytes.items in
+    let left = rest_of (g.F.Files.bytes program.files.now program.path.now) g.F.Input.Read.remaining program.file in
+    let inputs = text_alone (g.F.Files.bytes c.args.files.now path) left in
+    let holds : AreReadOr inputs text c.do_on_program-done.result = rw (← c.source-program.ensures) c.do_on_program-done.ensures.holds in
+    record {
+      left = left;
+      held = writer_contents g.W.Write.contents c.do_on_program-done.new.out;
+      done = c.do_on_program-done.result;
+      answers = rw (← c.source-program.ensures) c.do_on_program-done.ensures.answers;
+      final = c.flushed-done.result.0;
+      flushed = c.flushed-done.ensures;
+      told = g.E.Write.contents c.end-status.new.errors;
+      ends = c.end-status.ensures;
+      explained = tells inputs (ExplainsText path) (text_unread path _ _) text c.args.explains _ _ _ _ _ _ holds c.flushed-done.ensures (rw c.deref.ensures.value at c.explain_on_program.ensures);
+    }
