@@ -6,9 +6,9 @@ use Rattle.std.proofs.lemmas.List.Folds.{concat-append}
 use Rattle.bp_machine.specs.Setups.{SetupOf, setup_of}
 use Rattle.bp_trace.specs.declared.versions.Version.{Version}
 use Rattle.bp_trace.specs.declared.versions.Version.TheVariants.{One}
-use Rattle.bp_trace.specs.Heads.{field_line, setting_lines, IsEntryName, HasHead, BeginsHead, HeadStops}
+use Rattle.bp_trace.specs.Heads.{IsEntryName, HasHead, BeginsHead, HeadStops}
 use Rattle.bp_trace.specs.HeadReading.{HasNoVersion, HasNoEntry, AreEntriesAt, HasNoInit, HasNoNumber, HasNoSeed}
-use Rattle.bp_trace.specs.TraceText.{version_line, entry_line, init_line, seed_word}
+use Rattle.bp_trace.specs.TraceText.{version_line, entry_line, init_line, field_line, seed_word, setting_lines}
 use Rattle.bp_trace.proofs.Cuts.{same_head}
 
 abbrev pub contexts_line : ℕ → List ℕ

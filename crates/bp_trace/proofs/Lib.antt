@@ -5,6 +5,7 @@ mod Cuts
 mod EndLineAt
 mod GrowsByLine
 mod HeadStopsAt
+mod HeadTexts
 mod InitBits
 mod Joined
 mod EndCounts

@@ -1,10 +1,9 @@
 -- A line of a word has one value.
 use Rattle.std.proofs.Common.{◌≡◌, ◌≢◌, ℕ, List, [], ◌∷◌, ◌++◌, Option, None, Some, refl, sym, ap, ◌∙◌, arith, append_assoc, codes, decimal}
 use Rattle.std.proofs.lemmas.List.{append_cancel_left}
-use Rattle.bp_trace.specs.Heads.{field_line}
 use Rattle.bp_trace.specs.HeadReading.{BeginsWithLine, IsFieldAt, HasNoField, HasNoEntry, IsNoInit, HasNoInit, HasNoNumber, IsSeed, HasNoSeed}
 use Rattle.bp_text.specs.Decimals.{IsNoNumber}
-use Rattle.bp_trace.specs.TraceText.{init_digits, seed_word}
+use Rattle.bp_trace.specs.TraceText.{init_digits, field_line, seed_word}
 use Rattle.bp_trace.specs.Writable.{Without}
 use Rattle.bp_trace.proofs.Cuts.{one_cut, decimal_without}
 use Rattle.bp_trace.proofs.OneText.{init_without, seed_without}

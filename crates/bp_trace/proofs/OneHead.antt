@@ -1,4 +1,4 @@
--- A text has one head, or stops to be one at one line.
+-- A text has one head, or stops being one at one line.
 use Rattle.std.proofs.Common.{rules, ◌≡◌, ◌≢◌, ℕ, ◌+◌, ◌<◌, List, [], ◌∷◌, ◌++◌, length, map, flat_map, refl, sym, ap, subst, ◌∙◌, arith, append_assoc, codes, decimal}
 use Rattle.std.specs.List.{AllByRecursion, concat}
 use Rattle.std.proofs.lemmas.List.{append-nil, length-append}
@@ -6,26 +6,12 @@ use Rattle.std.proofs.lemmas.List.Folds.{concat-append}
 use Rattle.bp_machine.specs.Setups.{SetupOf}
 use Rattle.bp_trace.specs.declared.versions.Version.{Version}
 use Rattle.bp_trace.specs.declared.versions.Version.TheVariants.{One, Two}
-use Rattle.bp_trace.specs.Heads.{field_line, setting_lines, head_lines, IsEntryName, HasHead, BeginsHead, HeadStops}
-use Rattle.bp_trace.specs.TraceText.{version_line, entry_line, init_digits, init_line, seed_word, limit_lines, head_text}
+use Rattle.bp_trace.specs.Heads.{IsEntryName, HasHead, BeginsHead, HeadStops}
+use Rattle.bp_trace.specs.TraceText.{version_line, entry_line, field_line, init_digits, init_line, seed_word, setting_lines, head_lines, head_text}
 use Rattle.bp_trace.specs.Writable.{Without}
 use Rattle.bp_trace.proofs.AllOfBoth.{all_of_both, all_of_first, one_between}
 use Rattle.bp_trace.proofs.Cuts.{one_cut, decimal_without}
 use Rattle.bp_trace.proofs.OneText.{HasLines, heads_alike, init_without, seed_without}
-
--- ---- the text of a head is that of its lines
-
-entries_joined : (es : List (List ℕ)) → concat (map entry_line es) ≡ flat_map entry_line es
-entries_joined [] = refl
-entries_joined (n ∷ es) = ap (λ t. entry_line n ++ t) (entries_joined es)
-
-settings_joined : (s : SetupOf) → concat (setting_lines s) ≡ init_line s.init ++ limit_lines s
-settings_joined s = ap (λ t. init_line s.init ++ t) (simp append_assoc)
-
-pub head_joined : (v : Version) (s : SetupOf) → concat (head_lines v s) ≡ head_text v s
-head_joined v s =
-    ap (λ t. version_line v ++ t)
-    (concat-append (map entry_line s.entries) (setting_lines s) ∙ ap (λ t. t ++ concat (setting_lines s)) (entries_joined s.entries) ∙ ap (λ t. flat_map entry_line s.entries ++ t) (settings_joined s))
 
 names_without : (es : List (List ℕ)) → AllByRecursion IsEntryName es → AllByRecursion (Without 10) es
 names_without [] p = tt
@@ -147,8 +133,7 @@ module _ (v : Version) (s : SetupOf) (has : HasHead s) where
 
       texts : head_text b.version b.setup ++ [] ≡ head_text v s ++ concat (more ++ line ∷ b.more)
       texts =
-          append-nil (head_text b.version b.setup) ∙ sym (head_joined b.version b.setup) ∙ ap concat lines ∙ concat-append (head_lines v s) (more ++ line ∷ b.more)
-          ∙ ap (λ t. t ++ concat (more ++ line ∷ b.more)) (head_joined v s)
+          append-nil (head_text b.version b.setup) ∙ ap concat lines ∙ concat-append (head_lines v s) (more ++ line ∷ b.more)
 
       nothing : [] ≡ concat more ++ concat (line ∷ b.more)
       nothing = (one_head b.version v b.setup s [] (concat (more ++ line ∷ b.more)) b.has has texts).2 ∙ concat-append more (line ∷ b.more)
@@ -170,7 +155,7 @@ module _ (v : Version) (s : SetupOf) (has : HasHead s) where
 
   stops_nowhere : (rest : List ℕ) (k : ℕ) → HeadStops (head_text v s ++ rest) k → ⊥
   stops_nowhere rest k p =
-      go (fork (head_lines v s) p.front rest p.rest (head_is_lines v s has) (front_lines _ k p) (ap (λ t. t ++ rest) (head_joined v s) ∙ p.parts))
+      go (fork (head_lines v s) p.front rest p.rest (head_is_lines v s has) (front_lines _ k p) p.parts)
     where
       go : Fork (head_lines v s) p.front rest p.rest → ⊥
       go (second more e f) = none_follows more p.due (subst (λ (ls : List (List ℕ)). BeginsHead (ls ++ p.due ∷ [])) e p.begins)

@@ -17,10 +17,10 @@ use Rattle.bp_trace.specs.declared.replay_faults.ReplayFault.{ReplayFault}
 use Rattle.bp_trace.specs.declared.replay_faults.ReplayFault.TheVariants as fault
 use Rattle.bp_trace.specs.declared.versions.Version.{Version}
 use Rattle.bp_trace.specs.declared.limits.TheConstants.{MAX_TRACE}
-use Rattle.bp_trace.specs.Heads.{head_lines, HasHead, HeadStops}
+use Rattle.bp_trace.specs.Heads.{HasHead, HeadStops}
 use Rattle.bp_trace.specs.Laws.{OneRefusal, RefusedIsNoTrace}
 use Rattle.bp_trace.specs.Replays.{IsTrace, line_count, Reaches, HasRefusedSetup, HasRefusedRest, IsReplayRefusal, IsEndLine, IsRestRefused}
-use Rattle.bp_trace.specs.TraceText.{head_text, calls_text, end_line}
+use Rattle.bp_trace.specs.TraceText.{head_lines, head_text, calls_text, end_line}
 use Rattle.bp_trace.proofs.OneHead.{one_head, one_head_stop, whole_head_stops_nowhere}
 use Rattle.bp_trace.proofs.OneText.{front_cut}
 use Rattle.bp_trace.proofs.OwnEnds.{own_end}

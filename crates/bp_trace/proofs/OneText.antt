@@ -14,7 +14,8 @@ use Rattle.bp_machine.specs.Histories.{open_lines}
 use Rattle.bp_trace.specs.declared.versions.Version.{Version}
 use Rattle.bp_trace.specs.declared.versions.Version.TheVariants.{One, Two}
 use Rattle.bp_trace.specs.Pieces.{Symbol, Piece, pieces_of, calls_of_pieces}
-use Rattle.bp_trace.specs.TraceText.{version_line, entry_line, init_digits, init_line, seed_word, limit_lines, setup_lines, head_text, call_line, symbol_text, piece_line, calls_text, end_line, text_of}
+use Rattle.bp_trace.specs.TraceText.{version_line, entry_line, init_digits, init_line, seed_word, head_text, call_line, symbol_text, piece_line, calls_text, end_line, text_of}
+use Rattle.bp_trace.proofs.HeadTexts.{limits_text, setup_text, head_joined}
 use Rattle.bp_trace.proofs.PieceThreads.{pieces_threads}
 use Rattle.bp_trace.proofs.PiecesAreFewest.{pieces_whole}
 use Rattle.bp_trace.specs.BodyReading.{HasNoSymbol}
@@ -123,7 +124,7 @@ one_seed (Some m) None p q e = absurd (no_word m (p m refl) e)
 one_seed (Some m) (Some n) p q e = ap Some (decimal_injective m n (p m refl) (q n refl) e)
 
 limits_then : (s : SetupOf) (rest : List ℕ)
-    → limit_lines s ++ rest ≡ codes "contexts " ++ (decimal s.contexts ++ 10 ∷ (codes "calls " ++ (decimal s.calls ++ 10 ∷ (codes "seed " ++ (seed_word s.seed ++ 10 ∷ rest)))))
+    → limits_text s ++ rest ≡ codes "contexts " ++ (decimal s.contexts ++ 10 ∷ (codes "calls " ++ (decimal s.calls ++ 10 ∷ (codes "seed " ++ (seed_word s.seed ++ 10 ∷ rest)))))
 limits_then s rest =
     ap (λ t. codes "contexts " ++ t)
     (
@@ -156,7 +157,7 @@ record SameLimits (s r : SetupOf) (x y : List ℕ) : Type 0 where
   rest : x ≡ y
 
 module _ (s r : SetupOf) (p : HasLines s) (q : HasLines r) where
-  limits_alike : (x y : List ℕ) → limit_lines s ++ x ≡ limit_lines r ++ y → SameLimits s r x y
+  limits_alike : (x y : List ℕ) → limits_text s ++ x ≡ limits_text r ++ y → SameLimits s r x y
   limits_alike x y e =
       let contexts = one_number 10 (omega arith) s.contexts r.contexts _ _ p.contexts q.contexts (front_cut (codes "contexts ") _ _ (sym (limits_then s x) ∙ e ∙ limits_then r y)) in
       let calls = one_number 10 (omega arith) s.calls r.calls _ _ p.calls q.calls (front_cut (codes "calls ") _ _ contexts.1) in
@@ -176,24 +177,27 @@ module _ (s r : SetupOf) (p : HasLines s) (q : HasLines r) where
       ∙ ap (λ n. setup_of r.entries r.init r.contexts n s.seed) same.calls
       ∙ ap (λ o. setup_of r.entries r.init r.contexts r.calls o) same.seed
 
-  setups_alike : (x y : List ℕ) → setup_lines s ++ x ≡ setup_lines r ++ y → (s ≡ r) × (x ≡ y)
+  setups_alike : (x y : List ℕ) → setup_text s ++ x ≡ setup_text r ++ y → (s ≡ r) × (x ≡ y)
   setups_alike x y e =
-      let left = append_assoc (flat_map entry_line s.entries) (init_line s.init ++ limit_lines s) x in
-      let right = append_assoc (flat_map entry_line r.entries) (init_line r.init ++ limit_lines r) y in
+      let left = append_assoc (flat_map entry_line s.entries) (init_line s.init ++ limits_text s) x in
+      let right = append_assoc (flat_map entry_line r.entries) (init_line r.init ++ limits_text r) y in
       let entries = entries_alike s.entries r.entries _ _ p.names q.names (sym left ∙ e ∙ right) in
       let inits = ap (λ t. 105 ∷ t) entries.1 in
-      let init = init_alike s.init r.init (limit_lines s ++ x) (limit_lines r ++ y) (sym (append_assoc (init_line s.init) (limit_lines s) x) ∙ inits ∙ append_assoc (init_line r.init) (limit_lines r) y) in
+      let init = init_alike s.init r.init (limits_text s ++ x) (limits_text r ++ y) (sym (append_assoc (init_line s.init) (limits_text s) x) ∙ inits ∙ append_assoc (init_line r.init) (limits_text r) y) in
       let limits = limits_alike x y init.1 in
       (same_setup entries.0 init.0 x y limits, limits.rest)
 
-  behind_version : (v w : Version) (x y : List ℕ) → head_text v s ++ x ≡ head_text w r ++ y → version_line v ++ (setup_lines s ++ x) ≡ version_line w ++ (setup_lines r ++ y)
-  behind_version v w x y e = sym (append_assoc (version_line v) (setup_lines s) x) ∙ e ∙ append_assoc (version_line w) (setup_lines r) y
+  behind_version : (v w : Version) (x y : List ℕ) → head_text v s ++ x ≡ head_text w r ++ y → version_line v ++ (setup_text s ++ x) ≡ version_line w ++ (setup_text r ++ y)
+  behind_version v w x y e =
+      sym (append_assoc (version_line v) (setup_text s) x) ∙ ap (λ u. u ++ x) (sym (head_joined v s)) ∙ e
+      ∙ ap (λ u. u ++ y) (head_joined w r)
+      ∙ append_assoc (version_line w) (setup_text r) y
 
   pub heads_alike : (v w : Version) (x y : List ℕ) → head_text v s ++ x ≡ head_text w r ++ y → (v ≡ w) × (s ≡ r) × (x ≡ y)
   heads_alike v w x y e =
       let both = behind_version v w x y e in
       let version = version_first v w _ _ both in
-      let setups = setups_alike x y (front_cut (version_line v) _ _ (both ∙ ap (λ u. version_line u ++ (setup_lines r ++ y)) (sym version))) in
+      let setups = setups_alike x y (front_cut (version_line v) _ _ (both ∙ ap (λ u. version_line u ++ (setup_text r ++ y)) (sym version))) in
       (version, setups.0, setups.1)
 
 -- ---- the calls

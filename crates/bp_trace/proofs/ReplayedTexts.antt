@@ -18,10 +18,11 @@ use Rattle.bp_trace.specs.declared.versions.Version.TheVariants.{One, Two}
 use Rattle.bp_trace.specs.EndReading.{counts, IsEndRefusal}
 use Rattle.bp_trace.specs.declared.heads.Head.{Head}
 use Rattle.bp_trace.specs.HeadReading.{setup_of_head, IsHeadOf}
-use Rattle.bp_trace.specs.Heads.{head_lines, HasHead}
+use Rattle.bp_trace.specs.Heads.{HasHead}
 use Rattle.bp_trace.specs.Judging.{IsBody, IsBodyRefusal, HasRefusedBody, replay_fault_of_setup}
 use Rattle.bp_trace.specs.Replays.{counts_of, IsPlayable, IsTrace, line_count, HasOtherEnd, HasMoreBehind, Reaches, IsRestRefused, HasRefusedRest, IsReplayRefusal}
-use Rattle.bp_trace.specs.TraceText.{version_line, entry_line, init_line, limit_lines, setup_lines, head_text, calls_text, end_line}
+use Rattle.bp_trace.specs.TraceText.{version_line, entry_line, init_line, head_lines, head_text, calls_text, end_line}
+use Rattle.bp_trace.proofs.HeadTexts.{limits_text, setup_text, head_joined}
 use Rattle.bp_trace.proofs.WholeHead.{line_total}
 
 -- ---- each line of a head has a byte
@@ -36,8 +37,8 @@ version_long Two = refl
 
 pub lines_within : (v : Version) (s : SetupOf) → length (head_lines v s) ≤ length (head_text v s)
 lines_within v s =
-    let whole = length-append (version_line v) (setup_lines s) in
-    let setup = length-append (flat_map entry_line s.entries) (init_line s.init ++ limit_lines s) in
+    let whole = ap length (head_joined v s) ∙ length-append (version_line v) (setup_text s) in
+    let setup = length-append (flat_map entry_line s.entries) (init_line s.init ++ limits_text s) in
     omega (arith, line_total v s, whole, setup, version_long v, entries_long s.entries)
 
 -- a head that begins the text, for the setup that it says

@@ -1,5 +1,5 @@
 -- The trace of a legal history is short enough to be replayed.
-use Rattle.std.proofs.Common.{◌≡◌, ℕ, zero, suc, ◌+◌, ◌*◌, ◌<◌, ◌≤◌, ◌^◌, Bool, true, false, cond, List, [], ◌∷◌, ◌++◌, length, flat_map, Option, None, Some, refl, ap, arith, length-append, codes, decimal}
+use Rattle.std.proofs.Common.{◌≡◌, ◌∙◌, ℕ, zero, suc, ◌+◌, ◌*◌, ◌<◌, ◌≤◌, ◌^◌, Bool, true, false, cond, List, [], ◌∷◌, ◌++◌, length, flat_map, Option, None, Some, refl, ap, arith, length-append, codes, decimal}
 use Rattle.std.specs.List.{AllByRecursion}
 use Rattle.std.proofs.Math.Nat.{mul-le-mul_left, mul-le-mul_right}
 use Rattle.std.proofs.lemmas.List.{length-map}
@@ -17,7 +17,8 @@ use Rattle.bp_trace.specs.declared.versions.Version.{Version}
 use Rattle.bp_trace.specs.declared.versions.Version.TheVariants.{One, Two}
 use Rattle.bp_trace.specs.Schedules.{bit_digit}
 use Rattle.bp_trace.specs.Pieces.{Symbol, Piece, calls_of_piece, calls_of_pieces, pieces_of, call_of}
-use Rattle.bp_trace.specs.TraceText.{version_line, entry_line, init_digits, init_line, seed_word, limit_lines, setup_lines, head_text, call_line, symbol_text, piece_line, calls_text, end_line, text_of}
+use Rattle.bp_trace.specs.TraceText.{version_line, entry_line, init_digits, init_line, seed_word, head_text, call_line, symbol_text, piece_line, calls_text, end_line, text_of}
+use Rattle.bp_trace.proofs.HeadTexts.{limits_text, setup_text, head_joined}
 use Rattle.bp_trace.proofs.PieceThreads.{pieces_threads}
 use Rattle.bp_trace.proofs.PiecesAreFewest.{pieces_whole}
 use Rattle.bp_trace.proofs.ScheduleLength.{few_digits}
@@ -95,7 +96,7 @@ module _ (t : Program) (v : Version) (s : SetupOf) (h : List Call) (range : IsIn
       let other = mul-le-mul_left MAX_THREADS range.calls in
       omega (arith, calls, one, other)
 
-  limits_short : length (limit_lines s) ≤ 100
+  limits_short : length (limits_text s) ≤ 100
   limits_short =
       let contexts = number_short s.contexts (omega (arith, range.contexts)) in
       let calls = number_short s.calls (omega (arith, range.calls)) in
@@ -105,14 +106,14 @@ module _ (t : Program) (v : Version) (s : SetupOf) (h : List Call) (range : IsIn
       let first = length-append (decimal s.contexts) (codes "\ncalls " ++ (decimal s.calls ++ (codes "\nseed " ++ (seed_word s.seed ++ codes "\n")))) in
       omega (arith, contexts, calls, word, last, middle, first)
 
-  setup_short : length (setup_lines s) ≤ 4200000
+  setup_short : length (setup_text s) ≤ 4200000
   setup_short =
       let entries = entries_short s.entries names in
       let many = mul-le-mul_right 65543 range.few in
       let digits = init_short s.init in
       let init = length-append (init_digits s.init) (codes "\n") in
-      let both = length-append (init_line s.init) (limit_lines s) in
-      let whole = length-append (flat_map entry_line s.entries) (init_line s.init ++ limit_lines s) in
+      let both = length-append (init_line s.init) (limits_text s) in
+      let whole = length-append (flat_map entry_line s.entries) (init_line s.init ++ limits_text s) in
       omega (arith, entries, many, digits, init, both, whole, range.bits, limits_short)
 
   end_short : length (end_line (length h) (open_lines s h)) ≤ 50
@@ -125,7 +126,7 @@ module _ (t : Program) (v : Version) (s : SetupOf) (h : List Call) (range : IsIn
 
   pub trace_short : length (text_of v s h) < MAX_TRACE
   trace_short =
-      let head = length-append (version_line v) (setup_lines s) in
+      let head = ap length (head_joined v s) ∙ length-append (version_line v) (setup_text s) in
       let body = length-append (calls_text v h) (end_line (length h) (open_lines s h)) in
       let whole = length-append (head_text v s) (calls_text v h ++ end_line (length h) (open_lines s h)) in
       omega (arith, version_short v, head, body, whole, setup_short, end_short, history_short v (threads s) h range.few (all_below t s h legal), few_calls)

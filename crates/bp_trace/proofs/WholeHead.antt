@@ -3,14 +3,12 @@ use Rattle.std.proofs.Common.{◌≡◌, ℕ, ◌+◌, ◌-◌, List, ◌++◌, 
 use Rattle.std.proofs.lemmas.List.{length-append, length-map}
 use Rattle.bp_machine.specs.Setups.{SetupOf}
 use Rattle.bp_trace.specs.declared.versions.Version.{Version}
-use Rattle.bp_trace.specs.Heads.{setting_lines, head_lines}
-use Rattle.bp_trace.specs.TraceText.{entry_line, head_text}
+use Rattle.bp_trace.specs.TraceText.{entry_line, setting_lines, head_lines, head_text}
 use Rattle.bp_trace.proofs.HeadStopsAt.{AreLinesAt, lines_join}
-use Rattle.bp_trace.proofs.OneHead.{head_joined}
 
 module _ (text : List ℕ) (v : Version) (s : SetupOf) (rest : List ℕ) (p : AreLinesAt text v s.entries (setting_lines s) rest) where
   pub whole_text : text ≡ head_text v s ++ rest
-  whole_text = p.parts ∙ sym (lines_join v s.entries (setting_lines s) rest) ∙ ap (λ t. t ++ rest) (head_joined v s)
+  whole_text = p.parts ∙ sym (lines_join v s.entries (setting_lines s) rest)
 
   pub whole_size : length text - length rest ≡ length (head_text v s)
   whole_size = omega (arith, ap length whole_text, length-append (head_text v s) rest)

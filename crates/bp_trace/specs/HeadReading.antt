@@ -6,9 +6,9 @@ use Rattle.bp_trace.specs.declared.heads.Head.{Head}
 use Rattle.bp_trace.specs.declared.replay_faults.ReplayFault.{ReplayFault}
 use Rattle.bp_trace.specs.declared.replay_faults.ReplayFault.TheVariants as fault
 use Rattle.bp_trace.specs.declared.versions.Version.{Version}
-use Rattle.bp_trace.specs.Heads.{field_line, head_lines, IsEntryName, HasHead, HeadStops}
+use Rattle.bp_trace.specs.Heads.{IsEntryName, HasHead, HeadStops}
 use Rattle.bp_trace.specs.Schedules.{bit_digit}
-use Rattle.bp_trace.specs.TraceText.{version_line, entry_line, init_digits, init_line, seed_word, head_text}
+use Rattle.bp_trace.specs.TraceText.{version_line, entry_line, init_digits, init_line, field_line, seed_word, head_lines, head_text}
 use Rattle.bp_trace.specs.Writable.{Without}
 
 -- the text is this line, a line feed and the rest

@@ -1,26 +1,10 @@
--- Heads of traces: their lines, and where a text stops to be one.
-use Rattle.std.specs.Prelude.{◌≡◌, ◌≢◌, ◌<◌, ◌^◌, ℕ, ◌+◌, List, [], ◌∷◌, ◌++◌, Some, length, map, codes, decimal}
+-- Heads of traces: which setups have one, and where a text stops being one.
+use Rattle.std.specs.Prelude.{◌≡◌, ◌≢◌, ◌<◌, ◌^◌, ℕ, ◌+◌, List, [], ◌∷◌, ◌++◌, Some, length}
 use Rattle.std.specs.List.{AllByRecursion, concat}
 use Rattle.bp_machine.specs.Setups.{SetupOf}
 use Rattle.bp_trace.specs.declared.versions.Version.{Version}
-use Rattle.bp_trace.specs.TraceText.{version_line, entry_line, init_line, seed_word}
+use Rattle.bp_trace.specs.TraceText.{head_lines}
 use Rattle.bp_trace.specs.Writable.{Without}
-
--- a word, a number or a word, and a line feed
-abbrev pub field_line : List ℕ → List ℕ → List ℕ
-field_line word value = word ++ (value ++ codes "\n")
-
--- the lines behind the entries
-abbrev pub setting_lines : SetupOf → List (List ℕ)
-setting_lines s =
-    init_line s.init
-    ∷ field_line (codes "contexts ") (decimal s.contexts)
-    ∷ field_line (codes "calls ") (decimal s.calls)
-    ∷ field_line (codes "seed ") (seed_word s.seed)
-    ∷ []
-
-abbrev pub head_lines : Version → SetupOf → List (List ℕ)
-head_lines v s = version_line v ∷ (map entry_line s.entries ++ setting_lines s)
 
 -- a name that an entry line can hold
 pub record IsEntryName (name : List ℕ) : Type 0 where
@@ -43,7 +27,7 @@ pub record BeginsHead (lines : List (List ℕ)) : Type 0 where
   pub is : head_lines version setup ≡ lines ++ more
 
 -- the first lines of the text begin a head and are none yet, and no line that may follow them
--- follows: line k is not as it is due, or is not there
+-- follows: line k is malformed or missing
 pub record HeadStops (text : List ℕ) (k : ℕ) : Type 0 where
   pub front : List (List ℕ)
   pub rest : List ℕ

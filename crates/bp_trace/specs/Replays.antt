@@ -16,9 +16,9 @@ use Rattle.bp_trace.specs.declared.replay_faults.ReplayFault.{ReplayFault}
 use Rattle.bp_trace.specs.declared.replay_faults.ReplayFault.TheVariants as fault
 use Rattle.bp_trace.specs.declared.versions.Version.{Version}
 use Rattle.bp_trace.specs.declared.versions.Version.TheVariants.{One, Two}
-use Rattle.bp_trace.specs.Heads.{head_lines, HasHead, HeadStops}
+use Rattle.bp_trace.specs.Heads.{HasHead, HeadStops}
 use Rattle.bp_trace.specs.Pieces.{Piece, pieces_of, calls_of_piece}
-use Rattle.bp_trace.specs.TraceText.{head_text, call_line, piece_line, calls_text, end_line, text_of}
+use Rattle.bp_trace.specs.TraceText.{head_lines, head_text, call_line, piece_line, calls_text, end_line, text_of}
 
 -- the history is legal, and has the bits of the seed where there is one
 pub record IsPlayable (t : Program) (s : SetupOf) (h : List Call) : Type 0 where

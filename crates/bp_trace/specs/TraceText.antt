@@ -25,22 +25,31 @@ seed_word (Some n) = decimal n
 abbrev pub init_line : List Bool → List ℕ
 init_line bs = codes "init " ++ (init_digits bs ++ codes "\n")
 
-abbrev pub limit_lines : SetupOf → List ℕ
-limit_lines s = concat (
-    codes "contexts " ∷ decimal s.contexts
-    ∷ codes "\ncalls " ∷ decimal s.calls
-    ∷ codes "\nseed " ∷ seed_word s.seed
-    ∷ codes "\n" ∷ [])
+-- a word, its value, and a line feed
+abbrev pub field_line : List ℕ → List ℕ → List ℕ
+field_line word value = word ++ (value ++ codes "\n")
+
+abbrev pub limit_lines : SetupOf → List (List ℕ)
+limit_lines s =
+    field_line (codes "contexts ") (decimal s.contexts)
+    ∷ field_line (codes "calls ") (decimal s.calls)
+    ∷ field_line (codes "seed ") (seed_word s.seed)
+    ∷ []
+
+-- the lines after the entries
+abbrev pub setting_lines : SetupOf → List (List ℕ)
+setting_lines s = init_line s.init ∷ limit_lines s
 
 abbrev pub version_line : Version → List ℕ
 version_line One = codes "btrace 1\n"
 version_line Two = codes "btrace 2\n"
 
-abbrev pub setup_lines : SetupOf → List ℕ
-setup_lines s = flat_map entry_line s.entries ++ (init_line s.init ++ limit_lines s)
+-- the lines of a head
+abbrev pub head_lines : Version → SetupOf → List (List ℕ)
+head_lines v s = version_line v ∷ (map entry_line s.entries ++ setting_lines s)
 
 abbrev pub head_text : Version → SetupOf → List ℕ
-head_text v s = version_line v ++ setup_lines s
+head_text v s = concat (head_lines v s)
 
 -- the thread, the choice bit and the letter of the reply
 abbrev pub call_line : Call → List ℕ

@@ -1,5 +1,6 @@
 //! Writing the text of a trace.
 ghost use Rattle.std.specs.Prelude.{◌≡◌, ◌≤◌, map, flat_map, length};
+ghost use Rattle.std.specs.List.{concat};
 ghost use Rattle.bp_check.specs.declared.limits.TheConstants.{MAX_GLOBALS};
 ghost use Rattle.bp_text.specs.Writing.{Writes};
 ghost use Rattle.bp_machine.specs.Histories.{open_lines};
@@ -71,7 +72,7 @@ fn write_init<W: Write>(setup: &Setup, out: &mut W) -> Result<(), WriteFault>
 
 /// Writes the lines of the contexts and calls that are allowed, and of the seed.
 fn write_limits<W: Write>(setup: &Setup, out: &mut W) -> Result<(), WriteFault>
-    ensures { Writes (W.contents out.old) (W.contents out.new) (limit_lines setup.now) result }
+    ensures { Writes (W.contents out.old) (W.contents out.new) (concat (limit_lines setup.now)) result }
 {
     let mut first = Buffer::new();
     let mut second = Buffer::new();

@@ -1,0 +1,32 @@
+-- The text of a head: its entries, its initial bits and its limits, one after the other.
+use Rattle.std.proofs.Common.{◌≡◌, ℕ, List, [], ◌∷◌, ◌++◌, map, flat_map, refl, ap, ◌∙◌, append_assoc, codes, decimal}
+use Rattle.std.specs.List.{concat}
+use Rattle.std.proofs.lemmas.List.Folds.{concat-append}
+use Rattle.bp_machine.specs.Setups.{SetupOf}
+use Rattle.bp_trace.specs.declared.versions.Version.{Version}
+use Rattle.bp_trace.specs.TraceText.{version_line, entry_line, init_line, seed_word, limit_lines, setting_lines, head_text}
+
+abbrev pub limits_text : SetupOf → List ℕ
+limits_text s = concat (
+    codes "contexts " ∷ decimal s.contexts
+    ∷ codes "\ncalls " ∷ decimal s.calls
+    ∷ codes "\nseed " ∷ seed_word s.seed
+    ∷ codes "\n" ∷ [])
+
+abbrev pub setup_text : SetupOf → List ℕ
+setup_text s = flat_map entry_line s.entries ++ (init_line s.init ++ limits_text s)
+
+entries_joined : (es : List (List ℕ)) → concat (map entry_line es) ≡ flat_map entry_line es
+entries_joined [] = refl
+entries_joined (n ∷ es) = ap (λ t. entry_line n ++ t) (entries_joined es)
+
+pub limits_joined : (s : SetupOf) → concat (limit_lines s) ≡ limits_text s
+limits_joined s = simp append_assoc
+
+pub head_parts : (v : Version) (s : SetupOf) → head_text v s ≡ version_line v ++ (flat_map entry_line s.entries ++ (init_line s.init ++ concat (limit_lines s)))
+head_parts v s =
+    ap (λ t. version_line v ++ t)
+    (concat-append (map entry_line s.entries) (setting_lines s) ∙ ap (λ t. t ++ concat (setting_lines s)) (entries_joined s.entries))
+
+pub head_joined : (v : Version) (s : SetupOf) → head_text v s ≡ version_line v ++ setup_text s
+head_joined v s = head_parts v s ∙ ap (λ t. version_line v ++ (flat_map entry_line s.entries ++ (init_line s.init ++ t))) (limits_joined s)
