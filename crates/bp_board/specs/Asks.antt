@@ -1,5 +1,5 @@
 -- What a call at a desk comes to.
-use Rattle.std.specs.Prelude.{◌≡◌, ◌⊎◌, ◌≤◌, ◌+◌, false, true, [], ◌∷◌, ◌++◌, None, length, not}
+use Rattle.std.specs.Prelude.{◌≡◌, ◌⊎◌, ℕ, ◌≤◌, ◌+◌, false, true, List, [], ◌∷◌, ◌++◌, None, length, not}
 use Rattle.bp_tree.specs.Ast.{Program}
 use Rattle.bp_code.specs.StandsFor.{StandsFor}
 use Rattle.bp_machine.specs.declared.calls.Call.{Call}
@@ -7,9 +7,16 @@ use Rattle.bp_machine.specs.declared.calls.Reply.{Reply}
 use Rattle.bp_machine.specs.declared.ask_faults.AskFault.{AskFault}
 use Rattle.bp_machine.specs.declared.ask_faults.AskFault.TheVariants as fault
 use Rattle.bp_machine.specs.Histories.{is_finished}
-use Rattle.bp_machine.specs.Sessions.{IsNextCall, IsAskRefusal}
+use Rattle.bp_machine.specs.Sessions.{HasOpenLine, IsNextCall, IsAskRefusal}
+use Rattle.bp_machine.specs.Setups.{SetupOf}
 use Rattle.bp_board.specs.Desks.{DeskOf}
 use Rattle.bp_board.specs.Seats.{SeatOf}
+
+-- Why a call of thread i is not made and sent after the history h: the machine refuses it, or the
+-- ring is full although the thread's line is open.
+abbrev pub IsSendRefusal : Program → SetupOf → List Call → ℕ → AskFault → Type 0
+IsSendRefusal t s h i fault.Busy = HasOpenLine s h i
+IsSendRefusal t s h i f = IsAskRefusal t s h i None f
 
 -- One call of the seat's thread was sent: the one that the machine makes next, with the bit of the
 -- seed and this reply. It takes one free place at most. The seat counts it, and is open where the

@@ -13,10 +13,11 @@ ghost use Rattle.bp_board.specs.Turns.{IsTurn, IsCutTurn};
 use crate::kits::Kit;
 use crate::ledgers::Calls;
 use crate::seats::Seat;
+use crate::sending::send;
 use crate::taps::Tap;
 use bp_code::Code;
 use bp_machine::{AskFault, Call, Reply, Session, Setup};
-use rtrb::{Producer, PushError};
+use rtrb::Producer;
 use std::alloc::{AllocError, Global};
 use std::marker::Model;
 use std::sync::ledger::{Book, Ledger};
@@ -131,11 +132,7 @@ impl<C: Calls, O: Ledger> Desk<C, O> {
         if !seat.is_open {
             return Err(AskFault::Finished);
         }
-        let call = self.session.prepare(seat.thread)?;
-        if let Err(PushError::Full(_)) = self.to.push(call) {
-            return Err(AskFault::Busy);
-        }
-        self.session.commit(&call);
+        let call = send(&mut self.session, &mut self.to, seat.thread)?;
         self.made.add(&mut seat.made, 1);
         self.made.audit(&mut seat.made);
         seat.calls += 1;

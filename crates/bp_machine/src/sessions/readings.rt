@@ -10,7 +10,7 @@ ghost use Rattle.bp_machine.specs.Tops.{IsTop};
 ghost use Rattle.bp_machine.specs.Setups.{threads};
 ghost use Rattle.bp_machine.specs.Histories.{calls_of_thread, granted_threads, configuration_after, is_finished, open_lines};
 ghost use Rattle.bp_machine.specs.Reports.{IsReport};
-ghost use Rattle.bp_machine.specs.Sessions.{Stands, IsPrintRefusal};
+ghost use Rattle.bp_machine.specs.Sessions.{Stands, IsInOrder, IsPrintRefusal};
 
 use crate::ask_faults::AskFault;
 use crate::reports::Report;
@@ -19,6 +19,14 @@ use crate::tops::Top;
 use bp_code::{Kind, Store};
 
 impl Session {
+    /// The law that a session stands at each moment after a legal history of some program that its
+    /// code stands for, in its setup and with the bits of its seed.
+    pub fn is_in_order(&self)
+        ensures { IsInOrder self.now }
+    {
+        let _ = &self.setup;
+    }
+
     /// Whether a thread makes no further call.
     pub fn is_finished(&self, thread: u32) -> bool
         requires { thread < threads self.now.setup }
