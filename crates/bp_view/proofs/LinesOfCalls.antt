@@ -1,5 +1,11 @@
 -- The lines of a history with one more call.
-use Rattle.std.proofs.Common.{◌≡◌, ◌∙◌, ℕ, List, [], ◌∷◌, ◌++◌, Some, Bool, true, false, cond, ap, sym, refl, subst, append_assoc, append-nil}
+use Rattle.std.proofs.Common.{◌≡◌, ◌∙◌, ◌⊎◌, inl, inr, ℕ, ◌+◌, ◌<◌, ◌≤◌, List, [], ◌∷◌, ◌++◌, Some, Bool, true, false, cond, length, take, get_or, slice_get, ap, sym, refl, subst, append_assoc, append-nil, arith}
+use Rattle.std.specs.List.{concat}
+use Rattle.std.proofs.Math.Seq.{take-append_seam, get_or-append_seam}
+use Rattle.std.proofs.lemmas.Bool.{cases_lt}
+use Rattle.std.proofs.lemmas.List.{length-append, take-append-le, get_or_append_left}
+use Rattle.std.proofs.lemmas.List.Folds.{concat-append}
+use Rattle.std.proofs.lemmas.Option.{slice_get_within, slice_get-get_or, get_or_from_slice_get}
 use Rattle.bp_tree.specs.Ast.{Program}
 use Rattle.bp_machine.specs.declared.calls.Call.{Call}
 use Rattle.bp_machine.specs.ContextCounts.{last_thread}
@@ -25,18 +31,58 @@ last_after h x = ap last_thread (granted_threads-append h x) ∙ by_reply (is_gr
     by_reply true = last-append (granted_threads h) x.thread
     by_reply false = ap last_thread (append-nil (granted_threads h))
 
-module _ (t : Program) (text : List ℕ) (s : SetupOf) (o : ViewOptions) (w : Widths) (count : ℕ) where
-  lines_then : (h xs : List Call) (x : Call) (lines line : List ℕ) → AreLines t text s o w count h xs lines → IsShownLine t text s o w count (h ++ xs) x line → AreLines t text s o w count h (xs ++ x ∷ []) (lines ++ line)
-  lines_then h [] x lines line are is =
-      let here : IsShownLine t text s o w count h x line = subst (λ g. IsShownLine t text s o w count g x line) (append-nil h) is in
-      (line, [], ap (λ y. y ++ line) are ∙ sym (append-nil line), here, refl)
-  lines_then h (y ∷ ys) x lines line (first, more, e, is_first, others) is =
-      let further = lines_then (h ++ y ∷ []) ys x more line others (subst (λ g. IsShownLine t text s o w count g x line) (sym (append_assoc h (y ∷ []) ys)) is) in
-      (first, more ++ line, ap (λ z. z ++ line) e ∙ append_assoc first more line, is_first, further)
+-- an element of a list with one more is one of the list, or that one
+module _ {A : Type 0} (xs : List A) (y : A) (k : ℕ) (z : A) (at : slice_get (xs ++ y ∷ []) k ≡ Some z) where
+  found : get_or (xs ++ y ∷ []) k z ≡ z
+  found = get_or_from_slice_get (xs ++ y ∷ []) k z z at
 
-  pub one_more : (h : List Call) (x : Call) (a b c : List ℕ) → Adds (AreLines t text s o w count [] h) a b → Adds (IsShownLine t text s o w count h x) b c → Adds (AreLines t text s o w count [] (h ++ x ∷ [])) a c
+  within : k < length xs + 1
+  within = omega (arith, slice_get_within (xs ++ y ∷ []) k z at, length-append xs (y ∷ []))
+
+  one_before : k < length xs → slice_get xs k ≡ Some z
+  one_before p = slice_get-get_or xs k z p ∙ ap Some (sym (get_or_append_left xs (y ∷ []) z k p) ∙ found)
+
+  one_last : k ≡ length xs → y ≡ z
+  one_last p = sym (get_or-append_seam xs y [] z) ∙ ap (λ n. get_or (xs ++ y ∷ []) n z) (sym p) ∙ found
+
+module _ (t : Program) (text : List ℕ) (s : SetupOf) (o : ViewOptions) (w : Widths) (count : ℕ) where
+  abbrev Shown : List Call → Call → List ℕ → Type 0
+  Shown h x line = IsShownLine t text s o w count h x line
+
+  pub no_lines : AreLines t text s o w count [] []
+  no_lines = record {
+    each = [];
+    count_is = refl;
+    is = refl;
+    shown = λ k x line at of_line. let within = slice_get_within [] k x at in absurd (omega (arith, within));
+  }
+
+  module _ (h : List Call) (lines : List ℕ) (are : AreLines t text s o w count h lines) (x : Call) (line : List ℕ) (is : Shown h x line) where
+    shown_then : (k : ℕ) (y : Call) (l : List ℕ) → slice_get (h ++ x ∷ []) k ≡ Some y → slice_get (are.each ++ line ∷ []) k ≡ Some l → Shown (take k (h ++ x ∷ [])) y l
+    shown_then k y l e f = by_place (cases_lt k (length h))
+      where
+        by_place : (k < length h) ⊎ (length h ≤ k) → Shown (take k (h ++ x ∷ [])) y l
+        by_place (inl p) =
+            let front = take-append-le k h (x ∷ []) (omega (arith, p)) in
+            let own = are.shown k y l (one_before h x k y e p) (one_before are.each line k l f (omega (arith, p, are.count_is))) in
+            subst (λ g. Shown g y l) (sym front) own
+        by_place (inr p) =
+            let same : k ≡ length h = omega (arith, p, within h x k y e) in
+            let front = ap (λ n. take n (h ++ x ∷ [])) same ∙ take-append_seam h (x ∷ []) in
+            let of_line = subst (λ z. Shown h x z) (one_last are.each line k l f (same ∙ sym are.count_is)) is in
+            subst (λ g. Shown g y l) (sym front) (subst (λ z. Shown h z l) (one_last h x k y e same) of_line)
+
+    lines_then : AreLines t text s o w count (h ++ x ∷ []) (lines ++ line)
+    lines_then = record {
+      each = are.each ++ line ∷ [];
+      count_is = omega (arith, are.count_is, length-append are.each (line ∷ []), length-append h (x ∷ []));
+      is = ap (λ z. z ++ line) are.is ∙ ap (λ z. concat are.each ++ z) (sym (append-nil line)) ∙ sym (concat-append are.each (line ∷ []));
+      shown = shown_then;
+    }
+
+  pub one_more : (h : List Call) (x : Call) (a b c : List ℕ) → Adds (AreLines t text s o w count h) a b → Adds (Shown h x) b c → Adds (AreLines t text s o w count (h ++ x ∷ [])) a c
   one_more h x a b c all one = record {
     more = all.more ++ one.more;
     is = one.is ∙ ap (λ y. y ++ one.more) all.is ∙ append_assoc a all.more one.more;
-    more_are = lines_then [] h x all.more one.more all.more_are one.more_are;
+    more_are = lines_then h all.more all.more_are x one.more one.more_are;
   }

@@ -1,5 +1,6 @@
 -- The view of a history of a program: a line for each of its calls that is shown.
-use Rattle.std.specs.Prelude.{◌≡◌, ◌==◌, ◌-◌, ◌&&◌, ℕ, suc, Bool, true, false, nat_lt, List, [], ◌∷◌, ◌++◌, Option, None, Some, length, map}
+use Rattle.std.specs.Prelude.{◌≡◌, ◌==◌, ◌-◌, ◌&&◌, ℕ, suc, Bool, true, false, nat_lt, List, [], ◌∷◌, ◌++◌, Option, None, Some, length, map, take, slice_get}
+use Rattle.std.specs.List.{concat}
 use Rattle.bp_tree.specs.Ast.{Program}
 use Rattle.bp_code.specs.Starts.{starts_of}
 use Rattle.bp_machine.specs.declared.calls.Call.{Call}
@@ -51,15 +52,16 @@ module _
   abbrev pub IsShownLine : List Call → Call → List ℕ → Type 0
   IsShownLine h x line = IsViewLineIf (is_shown o count (suc (length h)) x.thread) h x line
 
-  -- the lines of these calls after the history h, one behind the other
-  abbrev pub AreLines : List Call → List Call → List ℕ → Type 0
-  AreLines h [] lines = lines ≡ []
-  AreLines h (x ∷ xs) lines =
-      (line : List ℕ)
-      × (more : List ℕ)
-      × (lines ≡ line ++ more)
-      × IsShownLine h x line
-      × AreLines (h ++ x ∷ []) xs more
+  -- The lines of a history, one after the other: line k is that of call k, after the k calls before
+  -- it.
+  pub record AreLines (h : List Call) (lines : List ℕ) : Type 0 where
+    pub each : List (List ℕ)
+    pub count_is : length each ≡ length h
+    pub is : lines ≡ concat each
+    pub shown : (k : ℕ) (x : Call) (line : List ℕ)
+        → slice_get h k ≡ Some x
+        → slice_get each k ≡ Some line
+        → IsShownLine (take k h) x line
 
 -- the head, a line for each call of the history that is shown, and what the history comes to
 pub record IsView
@@ -72,7 +74,7 @@ pub record IsView
   pub foot : List ℕ
   pub is : view ≡ view_head t.globals s ++ lines ++ foot
   pub foot_is : IsFoot r foot
-  pub lines_are : AreLines t text s o widths (length h) [] h lines
+  pub lines_are : AreLines t text s o widths (length h) h lines
 
 -- the view of the history of a trace of the program, and its report
 pub record IsViewOfTrace
@@ -98,5 +100,5 @@ pub record Shows
   pub made : now.made ≡ length h
   pub lines : (text : List ℕ)
       → AreScenes text (starts_of t) now.setting.scenes.now
-      → Adds (AreLines t text s now.setting.options now.setting.widths now.setting.count [] h)
+      → Adds (AreLines t text s now.setting.options now.setting.widths now.setting.count h)
       (view_head now.setting.globals.now s) now.view.items
