@@ -68,9 +68,8 @@ def yardstick(source, command, runs):
     return worst(plain, 0, runs)
 
 
-def main():
-    program = os.path.abspath(sys.argv[1] if len(sys.argv) > 1 else "crates/btrun/out/btrun")
-    runs = int(sys.argv[2]) if len(sys.argv) > 2 else 5
+def measured_parts(program, runs):
+    """The bytes of the schedule; and seconds and megabytes of each part, and of the plain program if it is there."""
     source = os.path.join(os.path.dirname(os.path.abspath(__file__)), "plain", "drive.rs")
     with tempfile.TemporaryDirectory() as folder:
         os.chdir(folder)
@@ -83,9 +82,6 @@ def main():
         played = worst([program, "drive", "p.bp", "bad.txt", *words], 2, runs)
         whole = worst([program, "drive", "p.bp", "s.txt", *words], 0, runs)
         plain = yardstick(source, [program, "drive", "p.bp", "s.txt", *words], runs)
-    count = THREADS * ROUNDS * CALLS
-    print("%d lines, %d bytes" % (count, size))
-    print("%-22s %7s %7s %17s" % ("", "seconds", "MB", "nanoseconds/line"))
     kinds = {
         "read": read,
         "read and played": played,
@@ -93,6 +89,16 @@ def main():
     }
     if plain:
         kinds["plain Rust"] = plain
+    return size, kinds
+
+
+def main():
+    program = os.path.abspath(sys.argv[1] if len(sys.argv) > 1 else "crates/btrun/out/btrun")
+    runs = int(sys.argv[2]) if len(sys.argv) > 2 else 5
+    size, kinds = measured_parts(program, runs)
+    count = THREADS * ROUNDS * CALLS
+    print("%d lines, %d bytes" % (count, size))
+    print("%-22s %7s %7s %17s" % ("", "seconds", "MB", "nanoseconds/line"))
     for kind, (spent, memory) in kinds.items():
         print("%-22s %7.2f %7.0f %17.1f" % (kind, spent, memory, spent * 1e9 / count))
 

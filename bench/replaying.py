@@ -66,10 +66,8 @@ def measured_version(program, trace, has_yardstick, runs):
     return kinds
 
 
-def main():
-    program = os.path.abspath(sys.argv[1] if len(sys.argv) > 1 else "crates/btrun/out/btrun")
-    runs = int(sys.argv[2]) if len(sys.argv) > 2 else 5
-    count = THREADS * ROUNDS * CALLS
+def measured_versions(program, runs):
+    """Of each version the bytes of its trace, and seconds and megabytes of each kind of run."""
     with tempfile.TemporaryDirectory() as folder:
         os.chdir(folder)
         write("p.bp", [PROGRAM])
@@ -81,9 +79,15 @@ def main():
             "2.txt": save("2.txt", [program, "migrate", "p.bp", "1.txt"]),
         }
         has_yardstick = build_yardstick()
-        tables = {name: measured_version(program, name, has_yardstick, runs) for name in sizes}
-    for version, (name, kinds) in enumerate(tables.items(), 1):
-        print("version %d: %d calls, %d bytes" % (version, count, sizes[name]))
+        return [(size, measured_version(program, name, has_yardstick, runs)) for name, size in sizes.items()]
+
+
+def main():
+    program = os.path.abspath(sys.argv[1] if len(sys.argv) > 1 else "crates/btrun/out/btrun")
+    runs = int(sys.argv[2]) if len(sys.argv) > 2 else 5
+    count = THREADS * ROUNDS * CALLS
+    for version, (size, kinds) in enumerate(measured_versions(program, runs), 1):
+        print("version %d: %d calls, %d bytes" % (version, count, size))
         print("%-22s %7s %7s %17s" % ("", "seconds", "MB", "nanoseconds/call"))
         for kind, (spent, memory) in kinds.items():
             print("%-22s %7.2f %7.0f %17.1f" % (kind, spent, memory, spent * 1e9 / count))

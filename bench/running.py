@@ -41,12 +41,11 @@ def measured(command):
     return passed, usage.ru_utime + usage.ru_stime, usage.ru_maxrss / 1024, int(last[1])
 
 
-def row(name, command, runs):
-    """Prints the medians of some runs."""
+def medians(command, runs):
+    """The medians of some runs, and that of the nanoseconds of a call."""
     results = [measured(command) for _ in range(runs)]
-    passed, spent, memory, calls = (statistics.median(column) for column in zip(*results))
     each = statistics.median(one[0] * 1e9 / one[3] for one in results)
-    print("%-24s %8.2f %10.2f %6.1f %10d %9.0f" % (name, passed, spent, memory, calls, each), flush=True)
+    return *(statistics.median(column) for column in zip(*results)), each
 
 
 def own(program, kind, calls, turn):
@@ -65,9 +64,8 @@ def check(program, kind, command):
     subprocess.run([program, "replay", kind + ".bp", "trace"], check=True, stdout=subprocess.DEVNULL)
 
 
-def main():
-    program = os.path.abspath(sys.argv[1] if len(sys.argv) > 1 else "crates/btrun/out/btrun")
-    runs = int(sys.argv[2]) if len(sys.argv) > 2 else 5
+def measured_kinds(program, runs):
+    """The name and the medians of each kind of run, as they come."""
     source = os.path.join(os.path.dirname(os.path.abspath(__file__)), "plain", "run.rs")
     has_plain = shutil.which("rustc") is not None
     with tempfile.TemporaryDirectory() as folder:
@@ -77,7 +75,6 @@ def main():
                 file.write(text)
         if has_plain:
             subprocess.run(["rustc", "--edition", "2021", "-O", "-o", "plain", source], check=True)
-        print("%-24s %8s %10s %6s %10s %9s" % ("", "seconds", "processor", "MB", "calls", "ns/call"))
         for kind in PROGRAMS:
             for turn in (1, 8, 64) if kind == "steps" else (1,):
                 commands = {"btrun": lambda calls: own(program, kind, calls, turn)}
@@ -85,8 +82,16 @@ def main():
                     commands["plain Rust"] = lambda calls: plain(kind, calls, turn)
                 for name, command in commands.items():
                     check(program, kind, command(100_000))
-                    row("%s, turn %d, %s" % (kind, turn, name), command(100_000), runs)
-                row("%s, turn %d, a tenth" % (kind, turn), own(program, kind, 10_000, turn), runs)
+                    yield "%s, turn %d, %s" % (kind, turn, name), medians(command(100_000), runs)
+                yield "%s, turn %d, a tenth" % (kind, turn), medians(own(program, kind, 10_000, turn), runs)
+
+
+def main():
+    program = os.path.abspath(sys.argv[1] if len(sys.argv) > 1 else "crates/btrun/out/btrun")
+    runs = int(sys.argv[2]) if len(sys.argv) > 2 else 5
+    print("%-24s %8s %10s %6s %10s %9s" % ("", "seconds", "processor", "MB", "calls", "ns/call"))
+    for name, figures in measured_kinds(program, runs):
+        print("%-24s %8.2f %10.2f %6.1f %10d %9.0f" % (name, *figures), flush=True)
 
 
 if __name__ == "__main__":

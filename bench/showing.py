@@ -25,10 +25,8 @@ def schedule():
             yield b"%d 1\n" % thread * PIECE
 
 
-def main():
-    here = os.path.dirname(os.path.abspath(__file__))
-    words = sys.argv[1:] or [os.path.join(here, "../crates/btrun/out/btrun")]
-    program, runs = os.path.abspath(words[0]), int(words[1]) if len(words) > 1 else 25
+def measured_commands(program, runs):
+    """Of each command the middle time and the most megabytes."""
     with tempfile.TemporaryDirectory() as room:
         os.chdir(room)
         with open("p.bp", "wb") as file:
@@ -45,12 +43,20 @@ def main():
         for _ in range(runs):
             for name, command in commands.items():
                 found[name].append(measured(command))
-        replay = statistics.median(spent for _, spent, _ in found["replay"])
         for name, results in found.items():
             assert all(status == 0 for status, _, _ in results), (name, results)
             seconds = statistics.median(spent for _, spent, _ in results)
-            megabytes = max(used for _, _, used in results)
-            print("%-16s %6.3f s %6.0f MB %6.1f times replay" % (name, seconds, megabytes, seconds / replay))
+            yield name, seconds, max(used for _, _, used in results)
+
+
+def main():
+    here = os.path.dirname(os.path.abspath(__file__))
+    words = sys.argv[1:] or [os.path.join(here, "../crates/btrun/out/btrun")]
+    program, runs = os.path.abspath(words[0]), int(words[1]) if len(words) > 1 else 25
+    replay = None
+    for name, seconds, megabytes in measured_commands(program, runs):
+        replay = replay or seconds
+        print("%-16s %6.3f s %6.0f MB %6.1f times replay" % (name, seconds, megabytes, seconds / replay))
 
 
 if __name__ == "__main__":
