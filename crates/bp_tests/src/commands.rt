@@ -4,10 +4,12 @@ mod faults;
 mod fronts;
 mod inputs;
 mod lines;
+mod pages;
 mod pairs;
 mod programs;
 mod run;
 mod runs;
+mod single_runs;
 mod unread;
 
 use crate::texts::names;

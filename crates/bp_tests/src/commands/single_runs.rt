@@ -1,0 +1,106 @@
+//! Runs of the commands on one text: what is printed, the line on standard error, the exit status.
+use super::RECURSIVE;
+use super::pages::{End, Page, Pages, buffer, failed_assertion, failed_write, is_end, refusal};
+use crate::texts::repeated;
+use bp_commands::{Check, Code, run_on_bundle, run_on_program};
+use std::alloc::Global;
+use std::io;
+
+/// Whether checking the program of a file of this name, over a writer with room for six bytes, ends
+/// so.
+fn check_ends(
+    alloc: Global,
+    text: &[u8],
+    path: &str,
+    explains: bool,
+    end: End<'_>,
+) -> io::Result<bool> {
+    let pages = Pages {
+        program: text,
+        input: b"",
+    };
+    let mut errors = Vec::new(alloc);
+    let out = buffer(alloc, 6)?;
+    let (status, out) = run_on_program(alloc, &Check, &pages, path, explains, out, &mut errors);
+    Ok(is_end(status, &out, &errors, end))
+}
+
+const BAD: &[u8] = b"main() begin end";
+
+#[test]
+fn ends_checks(rt: HostRuntime) -> io::Result<()> {
+    let alloc = rt.alloc();
+    assert!(rt; check_ends(alloc, BAD, "p", false, refusal(b"btrun: 6 Syntax at 13\n"))?);
+    let unread = End {
+        status: 3,
+        printed: b"",
+        errors: b"btrun: 54 Device\n",
+    };
+    assert!(rt; check_ends(alloc, BAD, "q", false, unread)?);
+    assert!(rt; check_ends(alloc, RECURSIVE, "p", false, failed_write(b"ok 2 1"))?);
+    Ok(())
+}
+
+#[test]
+fn explains_where_it_is_asked_for(rt: HostRuntime) -> io::Result<()> {
+    let explained = refusal(
+        b"btrun: 6 Syntax at 13\np:1:14\n    main() begin end\n                 ^\n\
+        expected a statement or 'decl', not 'end'\n",
+    );
+    assert!(rt; check_ends(rt.alloc(), BAD, "p", true, explained)?);
+    let unread = End {
+        status: 3,
+        printed: b"",
+        errors: b"btrun: 54 Device\nthe file could not be read\n",
+    };
+    assert!(rt; check_ends(rt.alloc(), BAD, "q", true, unread)?);
+    Ok(())
+}
+
+/// Whether a listing with a name of 10,000 bytes goes through the buffer, and ends well.
+fn lists_a_long_name(alloc: Global) -> io::Result<bool> {
+    let text = repeated(alloc, b"", b"n", 10_000, b"() begin skip; end")?;
+    let listing = repeated(alloc, b"proc ", b"n", 10_000, b" 0 0\n0 skip 1\n1 return\n")?;
+    let pages = Pages {
+        program: &text,
+        input: b"",
+    };
+    let mut errors = Vec::new(alloc);
+    let out = buffer(alloc, 20_000)?;
+    let (status, out) = run_on_program(alloc, &Code, &pages, "p", false, out, &mut errors);
+    let end = End {
+        status: 0,
+        printed: &listing,
+        errors: b"",
+    };
+    Ok(is_end(status, &out, &errors, end))
+}
+
+#[test]
+fn hands_on_a_long_name(rt: HostRuntime) -> io::Result<()> {
+    assert!(rt; lists_a_long_name(rt.alloc())?);
+    Ok(())
+}
+
+const FAILING: &[u8] = b"main() begin assert (?); end\n%\n0 0\n";
+
+const FAILING_TRACE: &[u8] = b"\
+    btrace 1\nentry main\ninit -\ncontexts 2\ncalls 1000\n\
+    seed none\n0 0 f\nend 1 0\n";
+
+/// Whether driving a bundle over a writer with so much room ends so.
+fn bundle_ends(alloc: Global, room: usize, end: End<'_>) -> io::Result<bool> {
+    let mut errors = Vec::new(alloc);
+    let bundle = Page { bytes: FAILING };
+    let (status, out) = run_on_bundle(alloc, bundle, buffer(alloc, room)?, &mut errors);
+    Ok(is_end(status, &out, &errors, end))
+}
+
+#[test]
+fn ends_bundles(rt: HostRuntime) -> io::Result<()> {
+    let alloc = rt.alloc();
+    assert!(rt; bundle_ends(alloc, 0, failed_write(b""))?);
+    assert!(rt; bundle_ends(alloc, 20, failed_write(&FAILING_TRACE[..20]))?);
+    assert!(rt; bundle_ends(alloc, FAILING_TRACE.len(), failed_assertion(FAILING_TRACE))?);
+    Ok(())
+}
