@@ -11,7 +11,7 @@ use Rattle.bp_code.specs.Steps.{Activation, activation, InstructionEffect}
 abbrev pub effect_of : Store → Effect → List Activation → InstructionEffect
 effect_of s (Continues m after) below =
     effects.Leaves (bits_of after.globals) (activation m (bits_of after.locals) ∷ below)
-effect_of s (Enters c l m) below =
+effect_of s (Enters c m l) below =
     let caller = activation m (bits_of s.locals) in
     effects.Leaves (bits_of s.globals) (activation c (bits_of l) ∷ caller ∷ below)
 effect_of s Returns below = effects.Leaves (bits_of s.globals) below

@@ -20,6 +20,7 @@ pub struct Assignment {
 
 impl Assignment {
     /// The store after it: all right sides are evaluated before the first target is written.
+    #[inline(always)]
     pub fn store_after(&self, store: Store) -> Store
         ensures { let bits = formula_values (store_of store) self.now.values in
             store_of result ≡ with_slots (store_of store) self.now.targets bits }

@@ -20,8 +20,8 @@ pub enum Effect {
     /// at `callee`.
     Enters {
         callee: u32,
-        locals: u128,
         next: u32,
+        locals: u128,
     },
     /// The topmost frame is taken off.
     Returns,
@@ -34,6 +34,7 @@ pub enum Effect {
 impl Instr {
     /// The effect of this instruction on its thread, where it sees this store and the choice bit is
     /// this one.
+    #[inline(always)]
     pub fn effect(&self, store: Store, bit: bool) -> Effect
         ensures { let now = store_of store in
             (below : List Activation)
@@ -63,8 +64,8 @@ impl Instr {
             }
             Action::Call(call) => Effect::Enters {
                 callee: call.callee,
-                locals: call.arguments.word(store),
                 next: call.next,
+                locals: call.arguments.word(store),
             },
         }
     }

@@ -65,17 +65,17 @@ module _ (c : Flat) (t : Program) (alike : StepsAlike c t) (s : SetupOf) (x : St
 
   -- the sizes of the stacks before and after the step of a call
   sizes : (cal loc m : ℕ) (own : List ActivationRecord) (f : Frame) (fs stack : List Frame) → ShowsStack t (activations own) (f ∷ fs)
-      → ShowsStack t (activations (stack_after (Enters cal loc m) own)) stack → length stack ≡ length fs + 2
+      → ShowsStack t (activations (stack_after (Enters cal m loc) own)) stack → length stack ≡ length fs + 2
   sizes cal loc m [] f fs stack shows shown = absurd shows
   sizes cal loc m (a ∷ rest) f fs stack shows shown =
-      let after = shown_length t (activations (stack_after (Enters cal loc m) (a ∷ rest))) stack shown in
+      let after = shown_length t (activations (stack_after (Enters cal m loc) (a ∷ rest))) stack shown in
       let before = shown_length t (activations rest) fs shows.1 in
       omega (arith, after, before)
 
   -- the step of a call is a granted step at a call statement
-  pub enters : (cal loc m : ℕ) → IsTransition c.instructions x s.contexts i guest bit (Steps (Enters cal loc m)) → IsCallStep t s h i bit
+  pub enters : (cal loc m : ℕ) → IsTransition c.instructions x s.contexts i guest bit (Steps (Enters cal m loc)) → IsCallStep t s h i bit
   enters cal loc m is =
-      let a = answer (Steps (Enters cal loc m)) is in
+      let a = answer (Steps (Enters cal m loc)) is in
       let (going, f, fs, stack_is, told) = a.comes in
       let (g, stack, effect_is, worth, shown) = told in
       let shows = subst (λ S. ShowsStack t (activations guest.stack) S) stack_is (stands.thread i guest has).stack in
@@ -84,7 +84,7 @@ module _ (c : Flat) (t : Program) (alike : StepsAlike c t) (s : SetupOf) (x : St
         below = fs;
         stack = stack_is;
         calls = is_a_call t.procedures now.globals f fs bit f.left g stack effect_is (sizes cal loc m guest.stack f fs stack shows shown);
-        steps = (allowed (Steps (Enters cal loc m)) is).answers;
+        steps = (allowed (Steps (Enters cal m loc)) is).answers;
       }
 
   pub call_step : (v : Transition) → IsCallTransition v → IsTransition c.instructions x s.contexts i guest bit v → IsCallStep t s h i bit
@@ -93,7 +93,7 @@ module _ (c : Flat) (t : Program) (alike : StepsAlike c t) (s : SetupOf) (x : St
   call_step (Steps d) call is = by_effect d call is
     where
       by_effect : (d : Effect) → IsEntering d → IsTransition c.instructions x s.contexts i guest bit (Steps d) → IsCallStep t s h i bit
-      by_effect (Enters cal loc m) call is = enters cal loc m is
+      by_effect (Enters cal m loc) call is = enters cal loc m is
       by_effect (Continues m w) call is = absurd call
       by_effect Returns call is = absurd call
       by_effect instr.Fails call is = absurd call

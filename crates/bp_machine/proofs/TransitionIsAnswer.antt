@@ -62,13 +62,13 @@ module _ (t : Program) (g : Valuation) (f : Frame) (fs : List Frame) (bit : Bool
       let size = shown_length t stack s shown in
       let plain = not_call t.procedures g f fs bit f.left h s is (omega (arith, size, below_length)) in
       record { reply = not_full _ full _ _ plain ∙ ap reply_to_effect is; tells = (h, s, is, worth, shown) }
-  by_effect (Enters c locals m) true same =
+  by_effect (Enters c m locals) true same =
       let stack : List Activation = record { number = c; locals = bits_of locals } ∷ record { number = m; locals = bits_of top.locals } ∷ activations rest in
       let (h, s, is, worth, shown) = same_leaves t (bits_of gw) stack (effect t.procedures f.left g f fs bit) same in
       let size = shown_length t stack s shown in
       let call = is_a_call t.procedures g f fs bit f.left h s is (omega (arith, size, below_length)) in
       record { reply = ap (λ b. cond (b && true) (Some Full) (reply_to_effect (effect t.procedures f.left g f fs bit))) call; tells = refl }
-  by_effect (Enters c locals m) false same =
+  by_effect (Enters c m locals) false same =
       let stack : List Activation = record { number = c; locals = bits_of locals } ∷ record { number = m; locals = bits_of top.locals } ∷ activations rest in
       let (h, s, is, worth, shown) = same_leaves t (bits_of gw) stack (effect t.procedures f.left g f fs bit) same in
       let size = shown_length t stack s shown in

@@ -35,7 +35,7 @@ pub record IsEffectOf (i : Instruction) (s : Store) (bit : Bool) (d : Effect) : 
 
 -- what an effect comes to, where the stack may be full
 abbrev pub transition_of : Effect → Bool → Transition
-transition_of (Enters c locals m) full = if full then Stays Full else Steps (Enters c locals m)
+transition_of (Enters c m locals) full = if full then Stays Full else Steps (Enters c m locals)
 transition_of instr.Fails full = Fails
 transition_of instr.Blocks full = Stays Blocked
 transition_of d full = Steps d
@@ -76,7 +76,7 @@ abbrev pub stack_after : Effect → List ActivationRecord → List ActivationRec
 stack_after d [] = []
 stack_after (Continues m w) (f ∷ fs) = record { number = m; locals = w.locals } ∷ fs
 stack_after Returns (f ∷ fs) = fs
-stack_after (Enters c locals m) (f ∷ fs) =
+stack_after (Enters c m locals) (f ∷ fs) =
     record { number = c; locals = locals } ∷ record { number = m; locals = f.locals } ∷ fs
 stack_after d (f ∷ fs) = f ∷ fs
 
@@ -145,7 +145,7 @@ pub record IsOver (s : SetupOf) (x : State) (i : ℕ) : Type 0 where
 
 -- the frame that the effect puts on a stack fits where there is room for so many
 abbrev pub FitsIn : ℕ → Effect → Type 0
-FitsIn room (Enters c locals m) = 0 < room
+FitsIn room (Enters c m locals) = 0 < room
 FitsIn room d = Unit {0}
 
 -- the same of a transition
@@ -160,7 +160,7 @@ HasRoom rooms i v =
 
 -- the effect is that of a call
 abbrev pub IsEntering : Effect → Type 0
-IsEntering (Enters c locals m) = Unit {0}
+IsEntering (Enters c m locals) = Unit {0}
 IsEntering d = ⊥
 
 -- the transition is the step of a call

@@ -48,6 +48,7 @@ impl Model for Machine {
 }
 
 /// What an effect comes to, where the stack may be full.
+#[inline(always)]
 fn transition_of(effect: Effect, is_full: bool) -> Transition
     ensures { result ≡ transition_of effect is_full }
 {
@@ -66,6 +67,7 @@ fn transition_of(effect: Effect, is_full: bool) -> Transition
 }
 
 /// What a call of a thread with this stack comes to.
+#[inline(always)]
 fn transition_on(code: &Code, globals: u128, fits: bool, stack: &Stack, bit: bool) -> Transition
     ensures { IsTransitionOn code.now.instructions globals bit fits stack.now.frames result }
 {
@@ -189,6 +191,7 @@ impl Machine {
     }
 
     /// What a call of the thread results in, if `contexts` contexts are allowed.
+    #[inline(always)]
     pub(crate) fn judge(
         &self,
         code: &Code,
@@ -208,6 +211,7 @@ impl Machine {
     }
 
     /// Makes room for the frame of a call's step; without memory the machine stays.
+    #[inline(always)]
     pub(crate) fn reserve(&mut self, thread: u32, transition: Transition) -> Result<(), AllocError>
         requires { thread < length self.old.state.threads }
         ensures state { self.new.state ≡ self.old.state }
@@ -220,6 +224,7 @@ impl Machine {
     }
 
     /// Makes a call of the thread, for whose frame there is room.
+    #[inline(always)]
     pub(crate) fn make(&mut self, thread: u32, transition: Transition)
         requires within { thread < length self.old.state.threads }
         requires calls { (guest : GuestThreadOf)

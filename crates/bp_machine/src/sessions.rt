@@ -109,6 +109,7 @@ impl Session {
 
     /// Makes a call of a thread with the choice bit of the setup's seed. Only a step that is a call
     /// takes memory.
+    #[inline(always)]
     pub fn ask(&mut self, thread: u32) -> Result<Call, AskFault>
         ensures answer { (t : Program) (h : List Answered)
             → StandsFor self.old.code t
@@ -130,6 +131,7 @@ impl Session {
 
     /// Makes a call of a thread with this choice bit, where the setup has no seed. Only a step that
     /// is a call takes memory.
+    #[inline(always)]
     pub fn ask_with(&mut self, thread: u32, bit: bool) -> Result<Call, AskFault>
         ensures answer { (t : Program) (h : List Answered)
             → StandsFor self.old.code t
@@ -152,6 +154,7 @@ impl Session {
     /// Makes the machine's own call of the thread of a recorded call: with the bit of the seed where
     /// the setup has one, else with the bit that was recorded. Only a step that is a call takes
     /// memory.
+    #[inline(always)]
     pub fn ask_as_recorded(&mut self, thread: u32, bit: bool) -> Result<Call, AskFault>
         ensures answer { (t : Program) (h : List Answered)
             → StandsFor self.old.code t

@@ -86,6 +86,7 @@ impl Stack {
     }
 
     /// Makes room for the frame of a step. Only a call has one; without memory the stack stays.
+    #[inline(always)]
     pub(crate) fn reserve(&mut self, effect: Effect) -> Result<(), AllocError>
         ensures frames { self.new.frames ≡ self.old.frames }
         ensures ok { OnOk result (FitsIn self.new.room effect) }
@@ -99,6 +100,7 @@ impl Stack {
     }
 
     /// Makes a step, for whose frame there is room.
+    #[inline(always)]
     pub(crate) fn make(&mut self, effect: Effect)
         requires { FitsIn self.old.room effect }
         ensures { self.new.frames ≡ stack_after effect self.old.frames }
@@ -116,8 +118,8 @@ impl Stack {
             }
             Effect::Enters {
                 callee,
-                locals,
                 next,
+                locals,
             } => enter(
                 &mut self.frames,
                 ActivationRecord {

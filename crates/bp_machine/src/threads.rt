@@ -86,6 +86,7 @@ impl GuestThread {
     }
 
     /// Makes room for the frame of a call's step; without memory the thread stays.
+    #[inline(always)]
     pub(crate) fn reserve(&mut self, transition: Transition) -> Result<(), AllocError>
         ensures guest { self.new.guest ≡ self.old.guest }
         ensures ok { OnOk result (TransitionFitsIn self.new.room transition) }
@@ -99,6 +100,7 @@ impl GuestThread {
     }
 
     /// Makes a call, for whose frame there is room.
+    #[inline(always)]
     pub(crate) fn make(&mut self, transition: Transition)
         requires calls { self.old.guest.calls + 1 < 2 ^ 32 }
         requires room { TransitionFitsIn self.old.room transition }

@@ -24,6 +24,7 @@ fn symbol_at(text: &[u8]) -> Option<(bool, Reply)>
 
 /// Adds the calls of a thread for the symbols at the front of the text, and answers how many bytes
 /// these have.
+#[inline(always)]
 fn read_symbols(thread: u32, text: &[u8], calls: &mut Vec<Call>) -> Result<usize, AllocError>
     ensures { IfOk result (HasSymbols thread text.now calls.old.items calls.new.items) }
 {
@@ -36,6 +37,7 @@ fn read_symbols(thread: u32, text: &[u8], calls: &mut Vec<Call>) -> Result<usize
 }
 
 /// Reads the line of a call that begins the text.
+#[inline(always)]
 fn read_call(
     threads: u32,
     last: Option<u32>,
@@ -56,6 +58,7 @@ fn read_call(
 }
 
 /// Reads the line of a piece that begins the text, behind a call of the thread `last`.
+#[inline(always)]
 fn read_piece(
     threads: u32,
     last: Option<u32>,
@@ -86,6 +89,7 @@ fn read_piece(
 /// Reads the line of calls that begins the text, behind a call of the thread `last`, or behind the
 /// head, into `calls`, which drops what it held; and answers how many bytes the line has. There is
 /// no answer where there is no such line; what `calls` then holds is not said.
+#[inline(always)]
 pub(crate) fn body_line_at(
     version: Version,
     threads: u32,

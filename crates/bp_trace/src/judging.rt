@@ -82,6 +82,7 @@ fn matched(own: &Call, call: &Call, n: u32, made: u64) -> Result<(), ReplayFault
 }
 
 /// What a call prints, where its step is granted and at a `print`.
+#[inline(always)]
 fn row_of_call(session: &Session, call: &Call) -> Result<Option<Printed>, AskFault>
     ensures row { (t : Program) (h : List Answered)
         → StandsFor session.now.code t
@@ -107,6 +108,7 @@ fn row_of_call(session: &Session, call: &Call) -> Result<Option<Printed>, AskFau
 }
 
 /// Judges a call on the `n`-th line of a trace, of a thread that is there, and keeps it.
+#[inline(always)]
 pub(crate) fn judge<O: Watcher + Drop>(
     session: &mut Session,
     call: &Call,

@@ -36,6 +36,7 @@ fn last_thread(history: &[Call]) -> Option<u32>
 }
 
 /// Judges the calls of the `n`-th line of a trace, one after the other.
+#[inline(always)]
 fn judge_line<O: Watcher + Drop>(
     session: &mut Session,
     calls: &[Call],

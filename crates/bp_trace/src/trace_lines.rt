@@ -90,6 +90,7 @@ fn tail_at(text: &[u8]) -> Option<(bool, Reply)>
 }
 
 /// The call of a thread below this number whose line begins the text.
+#[inline(always)]
 pub(crate) fn call_at(threads: u32, text: &[u8]) -> Option<Call>
     requires { threads ≤ MAX_THREADS }
     ensures { MatchOption result (HasNoCall threads text.now) (IsCallAt threads text.now) }

@@ -38,6 +38,7 @@ impl Session {
     }
 
     /// What a call of the thread comes to, where this bit or none is handed in.
+    #[inline(always)]
     fn judged(&self, thread: u32, given: Option<bool>) -> Result<Prepared, AskFault>
         ensures { MatchResult result
             (IsJudged self.now thread given)
@@ -86,6 +87,7 @@ impl Session {
         Ok(prepared.call)
     }
     /// Makes a call of the thread, where this bit or none is handed in.
+    #[inline(always)]
     pub(super) fn make_given(&mut self, thread: u32, given: Option<bool>) -> Result<Call, AskFault>
         ensures answer { (t : Program) (h : List Answered)
             → StandsFor self.old.code t
