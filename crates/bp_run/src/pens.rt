@@ -1,5 +1,5 @@
 //! The pen of a scribe: a writer, and whether it has failed.
-ghost use Rattle.std.specs.Prelude.{◌≡◌, [], false};
+ghost use Rattle.std.specs.Prelude.{◌≡◌, [], false, true};
 ghost use Rattle.bp_trace.specs.TraceText.{head_text, call_line, end_line};
 ghost use Rattle.bp_trace.specs.declared.versions.Version.TheVariants.{One};
 ghost use Rattle.bp_run.specs.Inks.{Inks};
@@ -36,6 +36,7 @@ impl<'a, W: Write> Pen<'a, W> {
         ensures same_reference { self.new.out.ghost_name ≡ self.old.out.ghost_name }
         ensures inks { Inks (W.contents self.old.out.now) self.old.failed
             (W.contents self.new.out.now) self.new.failed (head_text One setup.now) }
+        ensures wet { self.old.failed ≡ false → self.new.is_wet ≡ true }
     {
         if !self.failed {
             self.failed = write_head(setup, self.out).is_err();
@@ -47,6 +48,7 @@ impl<'a, W: Write> Pen<'a, W> {
         ensures same_reference { self.new.out.ghost_name ≡ self.old.out.ghost_name }
         ensures inks { Inks (W.contents self.old.out.now) self.old.failed
             (W.contents self.new.out.now) self.new.failed (call_line call.now) }
+        ensures wet { self.old.failed ≡ false → self.new.is_wet ≡ true }
     {
         if !self.failed {
             self.failed = write_call(call, self.out).is_err();
@@ -59,6 +61,7 @@ impl<'a, W: Write> Pen<'a, W> {
         ensures same_reference { self.new.out.ghost_name ≡ self.old.out.ghost_name }
         ensures inks { Inks (W.contents self.old.out.now) self.old.failed
             (W.contents self.new.out.now) self.new.failed (end_line calls left_open) }
+        ensures wet { self.old.failed ≡ false → self.new.is_wet ≡ true }
     {
         if !self.failed {
             self.failed = write_end(calls, left_open, self.out).is_err();
@@ -71,6 +74,7 @@ impl<'a, W: Write> Pen<'a, W> {
         ensures same_reference { self.new.out.ghost_name ≡ self.old.out.ghost_name }
         ensures inks { Inks (W.contents self.old.out.now) self.old.failed
             (W.contents self.new.out.now) self.new.failed [] }
+        ensures dry { self.new.is_wet ≡ false }
     {
         if self.is_wet && !self.failed {
             // A flush that fails takes no byte back; what is lost the next write meets.
