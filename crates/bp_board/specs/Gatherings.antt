@@ -1,11 +1,11 @@
 -- What a board is gathered to.
-use Rattle.std.specs.Prelude.{◌≡◌, ◌<◌, ◌==◌, ◌↔◌, IsTrue, ℕ, Bool, List, ◌++◌, length, Some}
-use Rattle.std.specs.List.{sum_by, count_by}
+use Rattle.std.specs.Prelude.{◌≡◌, ◌<◌, ◌==◌, ◌↔◌, IsTrue, ℕ, Bool, List, ◌++◌, length, not, Some}
+use Rattle.std.specs.List.{sum_by, count_by, All}
 use Rattle.bp_tree.specs.Ast.{Program}
 use Rattle.bp_code.specs.Flat.{Flat}
 use Rattle.bp_machine.specs.declared.calls.Call.{Call}
 use Rattle.bp_machine.specs.declared.reports.Report.{Report}
-use Rattle.bp_machine.specs.Histories.{IsLegal}
+use Rattle.bp_machine.specs.Histories.{calls_of_thread, is_finished, IsLegal}
 use Rattle.bp_machine.specs.Reports.{IsReport}
 use Rattle.bp_machine.specs.SeededHistories.{HasSeededBits}
 use Rattle.bp_machine.specs.Setups.{SetupOf, threads}
@@ -24,6 +24,16 @@ pub record AreOnePerThread (n : ℕ) (seats : List SeatOf) : Type 0 where
   pub many : length seats ≡ n
   pub each : (i : ℕ) → i < n → count_by (λ s. s.thread == i) seats ≡ 1
 
+-- the seat has counted the calls of its thread in the history, and is open exactly where the line
+-- of its thread is not finished
+pub record IsSeatOf (s : SetupOf) (h : List Call) (seat : SeatOf) : Type 0 where
+  pub calls : seat.calls ≡ length (calls_of_thread seat.thread h)
+  pub line : seat.is_open ≡ not (is_finished s h seat.thread)
+
+-- each of the seats agrees with the history
+abbrev pub AreSeatsOf : SetupOf → List Call → List SeatOf → Type 0
+AreSeatsOf s h seats = All (IsSeatOf s h) seats
+
 -- a board of this code and setup, and the seats of its threads
 pub record AreOwn
     (its_code : Flat) (its_setup : SetupOf) (seats : List SeatOf) (code : Flat) (s : SetupOf)
@@ -33,11 +43,12 @@ pub record AreOwn
   pub one_each : AreOnePerThread (threads s) seats
 
 -- What was taken and what is left are one legal history, with the bits of the seed, which the
--- report and the seats are of; the tap gives what is left. It is said whether each open line stands
--- before a call.
+-- report is of; the tap gives what is left. The seats are one for each thread, and together they
+-- have its calls and its open lines. It is said whether each open line stands before a call, and
+-- whether each seat agrees with the history.
 pub record IsGathered
     (t : Program) (s : SetupOf) (taken : List Call) (seats : List SeatOf) (tap : TapOf) (r : Report)
-    (has_stopped : Bool)
+    (has_stopped agree : Bool)
     : Type 0 where
   pub left : List Call
   pub rest : tap.rest ≡ Some left
@@ -49,3 +60,4 @@ pub record IsGathered
   pub calls : calls_of_seats seats ≡ length (taken ++ left)
   pub open_are : open_seats seats ≡ r.left_open
   pub stops : IsTrue has_stopped ↔ HaveStopped t s (taken ++ left)
+  pub agreement : IsTrue agree ↔ AreSeatsOf s (taken ++ left) seats

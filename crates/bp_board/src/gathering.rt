@@ -6,6 +6,7 @@ ghost use Rattle.bp_tree.specs.Ast.{Program};
 ghost use Rattle.bp_code.specs.StandsFor.{StandsFor};
 ghost use Rattle.bp_board.specs.Gatherings.{AreOnePerThread, AreOwn, IsGathered, calls_of_seats, open_seats};
 
+use crate::agreement::agree;
 use crate::boards::Board;
 use crate::desks::Desk;
 use crate::ledgers::Calls;
@@ -23,13 +24,15 @@ use thiserror::Error;
 pub struct Foreign;
 
 /// A gathered board: the seats, the tap, which gives what was not taken yet, the report of the
-/// history, and whether each line that is open stands before a call.
+/// history, whether each line that is open stands before a call, and whether each seat agrees with
+/// the machine on the calls of its thread, and on whether its line is finished.
 #[derive(Drop)]
 pub struct Gathered<C: Calls, O: Ledger> {
     pub seats: Vec<Seat<C, O>>,
     pub tap: Tap<C>,
     pub report: Report,
     pub has_stopped: bool,
+    pub agree: bool,
 }
 
 /// Some seats, and the shares of others.
@@ -164,7 +167,7 @@ fn joined<C: Calls, O: Ledger>(
     ensures gathered { (t : Program)
         → StandsFor code.now t
         → IfOk result (λ g.
-        IsGathered t setup.now tap.taken seats.items g.tap g.report g.has_stopped) }
+        IsGathered t setup.now tap.taken seats.items g.tap g.report g.has_stopped g.agree) }
 {
     let Desk {
         session,
@@ -204,6 +207,7 @@ fn joined<C: Calls, O: Ledger>(
         made: own_made,
         line,
     });
+    let agree = agree(&session, seats.as_slice());
     let has_stopped = have_stopped(&session);
     let report = session.report();
     let Tap {
@@ -218,6 +222,7 @@ fn joined<C: Calls, O: Ledger>(
         tap,
         report,
         has_stopped,
+        agree,
     })
 }
 
@@ -238,7 +243,7 @@ pub fn gather<C: Calls, O: Ledger>(
     ensures gathered { (t : Program)
         → StandsFor code.now t
         → IfOk result (λ g.
-        IsGathered t setup.now tap.taken seats.items g.tap g.report g.has_stopped) }
+        IsGathered t setup.now tap.taken seats.items g.tap g.report g.has_stopped g.agree) }
 {
     let Board { desk } = board;
     let desk = desk.into_inner();

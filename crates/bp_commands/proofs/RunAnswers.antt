@@ -54,11 +54,14 @@ module _ (o : OptionsOf) (text : List ℕ) (old new : Option (List ℕ)) where
           program = found.program;
           of = found.of;
           fine = found.fine;
+          seats = found.seats;
           refused = record {
             history = stopped.history;
             legal = stopped.legal;
             seeded = stopped.seeded;
             written = refl;
+            one_each = stopped.one_each;
+            made = stopped.made;
             early = stopped.early;
           };
         };

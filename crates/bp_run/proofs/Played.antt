@@ -1,18 +1,16 @@
 -- What playing a setup comes to, from what the stage, the gathering and the rest promise.
-use Rattle.std.proofs.Common.{◌≡◌, ◌≤◌, ℕ, length, is_some, Bool, true, false, List, [], ◌++◌, Option, Some, sym, ◌∙◌, ap, subst, append_assoc}
+use Rattle.std.proofs.Common.{◌≡◌, ℕ, length, is_some, Bool, true, false, List, [], ◌++◌, Option, Some, sym, ◌∙◌, ap, subst, append_assoc}
 use Rattle.std.proofs.lemmas.List.{append-nil}
-use Rattle.std.proofs.lemmas.Bool.{false≢true}
 use Rattle.std.proofs.lemmas.Option.{same_Some}
 use Rattle.bp_tree.specs.Ast.{Program}
 use Rattle.bp_text.specs.Writing.{AppendsAll}
 use Rattle.bp_machine.specs.declared.calls.Call.{Call}
-use Rattle.bp_machine.specs.declared.limits.TheConstants.{MAX_THREADS}
 use Rattle.bp_machine.specs.declared.reports.Report.{Report}
 use Rattle.bp_machine.specs.Histories.{open_lines}
 use Rattle.bp_machine.specs.Laws.{StepsAreARun, StepsAreWithin, FailuresAreReal}
 use Rattle.bp_machine.specs.Setups.{SetupOf}
 use Rattle.bp_board.specs.Gatherings.{IsGathered}
-use Rattle.bp_board.specs.Seats.{SeatOf, AreNewSeats, new_seat}
+use Rattle.bp_board.specs.Seats.{SeatOf}
 use Rattle.bp_board.specs.Taps.{TapOf}
 use Rattle.bp_trace.specs.declared.versions.Version.TheVariants.{One}
 use Rattle.bp_trace.specs.TraceText.{head_text, end_line, trace_text}
@@ -22,11 +20,11 @@ use Rattle.bp_run.specs.Played.{IsPlayedFrom, IsEarly, IsCutTrace}
 use Rattle.bp_run.proofs.Inks.{inks_then}
 use Rattle.bp_run.proofs.Scribing.{lines_append}
 
-pub has_rest : (t : Program) (s : SetupOf) (taken : List Call) (seats : List SeatOf) (tap : TapOf) (r : Report) (b : Bool) → IsGathered t s taken seats tap r b → is_some tap.rest ≡ true
-has_rest t s taken seats tap r b g = ap is_some g.rest
+pub has_rest : (t : Program) (s : SetupOf) (taken : List Call) (seats : List SeatOf) (tap : TapOf) (r : Report) (b a : Bool) → IsGathered t s taken seats tap r b a → is_some tap.rest ≡ true
+has_rest t s taken seats tap r b a g = ap is_some g.rest
 
-module _ (t : Program) (s : SetupOf) (old c1 c2 c3 : Option (List ℕ)) (f1 f2 f3 : Bool) (taken : List Call) (rest_now : Option (List Call)) (seats : List SeatOf) (tap : TapOf) (r : Report) (has_stopped : Bool)
-    (staged : IsInked old c1 f1 (head_text One s ++ lines_of taken)) (g : IsGathered t s taken seats tap r has_stopped) (rest : IsRestScribed c1 f1 c2 f2 tap.rest rest_now) (all : rest_now ≡ Some [])
+module _ (t : Program) (s : SetupOf) (old c1 c2 c3 : Option (List ℕ)) (f1 f2 f3 : Bool) (taken : List Call) (rest_now : Option (List Call)) (seats : List SeatOf) (tap : TapOf) (r : Report) (has_stopped agree : Bool)
+    (staged : IsInked old c1 f1 (head_text One s ++ lines_of taken)) (g : IsGathered t s taken seats tap r has_stopped agree) (rest : IsRestScribed c1 f1 c2 f2 tap.rest rest_now) (all : rest_now ≡ Some [])
     (ended : Inks c2 f2 c3 f3 (end_line r.calls r.left_open)) where
   -- what was left is what was gathered to be left
   same : rest.more ≡ g.left
@@ -52,8 +50,8 @@ module _ (t : Program) (s : SetupOf) (old c1 c2 c3 : Option (List ℕ)) (f1 f2 f
       subst (λ w. IsInked old c3 f3 w) bytes
       (inks_then c1 c2 c3 f1 f2 f3 (lines_of rest.more) (end_line r.calls r.left_open) rest.inks ended old (head_text One s ++ lines_of taken) staged)
 
-  pub played : StepsAreARun → StepsAreWithin → FailuresAreReal → f3 ≡ false → has_stopped ≡ true → IsPlayedFrom t s old c3 seats r
-  played run within real fine stopped =
+  pub played : StepsAreARun → StepsAreWithin → FailuresAreReal → f3 ≡ false → has_stopped ≡ true → agree ≡ true → IsPlayedFrom t s old c3 seats r
+  played run within real fine stopped alike =
       let all_written : AppendsAll old c3 (trace_text s (taken ++ g.left)) = subst (λ b. IsInked old c3 b (trace_text s (taken ++ g.left))) fine inked in record {
         played = record {
           history = taken ++ g.left;
@@ -67,18 +65,21 @@ module _ (t : Program) (s : SetupOf) (old c1 c2 c3 : Option (List ℕ)) (f1 f2 f
           stopped = g.stops.0 stopped;
         };
         one_each = g.one_each;
+        agree = g.agreement.0 alike;
         made = g.calls;
         left = g.open_are;
       }
 
-  pub early : f3 ≡ false → has_stopped ≡ false → IsEarly t s old c3
-  early fine goes_on =
+  pub early : f3 ≡ false → (has_stopped ≡ true → agree ≡ true → ⊥) → IsEarly t s old c3 seats
+  early fine one_fails =
       let all_written : AppendsAll old c3 (trace_text s (taken ++ g.left)) = subst (λ b. IsInked old c3 b (trace_text s (taken ++ g.left))) fine inked in record {
         history = taken ++ g.left;
         legal = g.legal;
         seeded = g.seeded;
         written = all_written.grown;
-        early = λ all. false≢true (sym goes_on ∙ g.stops.1 all);
+        one_each = g.one_each;
+        made = g.calls;
+        early = λ stopped alike. one_fails (g.stops.1 stopped) (g.agreement.1 alike);
       }
 
   pub cut : f3 ≡ true → IsCutTrace t s old c3

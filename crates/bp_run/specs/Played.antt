@@ -11,7 +11,7 @@ use Rattle.bp_machine.specs.Histories.{IsLegal, configuration_after, granted_cal
 use Rattle.bp_machine.specs.Reports.{IsRealFailure, IsReport, IsRun}
 use Rattle.bp_machine.specs.SeededHistories.{HasSeededBits}
 use Rattle.bp_machine.specs.Setups.{SetupOf, start, threads}
-use Rattle.bp_board.specs.Gatherings.{AreOnePerThread, calls_of_seats, open_seats}
+use Rattle.bp_board.specs.Gatherings.{AreOnePerThread, AreSeatsOf, calls_of_seats, open_seats}
 use Rattle.bp_board.specs.Seats.{SeatOf}
 use Rattle.bp_board.specs.Stopping.{HaveStopped}
 use Rattle.bp_trace.specs.TraceText.{trace_text}
@@ -35,22 +35,27 @@ module _ (t : Program) (s : SetupOf) (old new : Option (List ℕ)) where
     pub failure : (i : ℕ) → r.outcome ≡ Failed i → IsRealFailure t s history i
     pub stopped : HaveStopped t s history
 
-  -- The same of a board whose seats came back so: one for each thread, and with exactly the calls
-  -- of the history and the lines that it leaves open.
+  -- The same of a board whose seats came back so: one for each thread, which has counted the
+  -- calls of its thread in the history, and is open exactly where its line is not finished. So
+  -- together they have exactly the calls of the history and the lines that it leaves open.
   pub record IsPlayedFrom (seats : List SeatOf) (r : Report) : Type 0 where
     pub played : IsPlayed r
     pub one_each : AreOnePerThread (threads s) seats
+    pub agree : AreSeatsOf s played.history seats
     pub made : calls_of_seats seats ≡ length played.history
     pub left : open_seats seats ≡ r.left_open
 
-  -- the trace of one legal history was written, with the bits of the seed, and a worker ended
-  -- although the next step of its thread was no call
-  pub record IsEarly : Type 0 where
+  -- The trace of one legal history was written, with the bits of the seed, and one seat for each
+  -- thread came back. A worker ended although the next step of its thread was no call, or a seat
+  -- does not agree with the history on its thread.
+  pub record IsEarly (seats : List SeatOf) : Type 0 where
     pub history : List Call
     pub legal : IsLegal t s history
     pub seeded : HasSeededBits s history
     pub written : Appends old new (trace_text s history)
-    pub early : HaveStopped t s history → ⊥
+    pub one_each : AreOnePerThread (threads s) seats
+    pub made : calls_of_seats seats ≡ length history
+    pub early : HaveStopped t s history → AreSeatsOf s history seats → ⊥
 
   -- a proper prefix of the trace of one legal history was written, with the bits of the seed
   pub record IsCutTrace : Type 0 where
@@ -60,9 +65,9 @@ module _ (t : Program) (s : SetupOf) (old new : Option (List ℕ)) where
     pub written : AppendsPart old new (trace_text s history)
 
   -- why there is no report, and what was written
-  abbrev pub IsPlayRefusal : RunFault → Type 0
-  IsPlayRefusal Start = new ≡ old
-  IsPlayRefusal Early = IsEarly
-  IsPlayRefusal Write = IsCutTrace
-  IsPlayRefusal Memory = new ≡ old
-  IsPlayRefusal f = ⊥
+  abbrev pub IsPlayRefusal : List SeatOf → RunFault → Type 0
+  IsPlayRefusal seats Start = new ≡ old
+  IsPlayRefusal seats Early = IsEarly seats
+  IsPlayRefusal seats Write = IsCutTrace
+  IsPlayRefusal seats Memory = new ≡ old
+  IsPlayRefusal seats f = ⊥

@@ -2,6 +2,7 @@
 use Rattle.std.specs.Prelude.{◌≡◌, ℕ, List, Option, None}
 use Rattle.bp_tree.specs.Ast.{Program}
 use Rattle.bp_code.specs.LawfulTexts.{IsLawfulText, IsProgramRefusal}
+use Rattle.bp_board.specs.Seats.{SeatOf}
 use Rattle.bp_machine.specs.declared.reports.Report.{Report}
 use Rattle.bp_machine.specs.declared.setup_faults.SetupFault.{SetupFault}
 use Rattle.bp_run.specs.declared.run_faults.RunFault.{RunFault}
@@ -27,12 +28,13 @@ module _ (o : OptionsOf) (text : List ℕ) (old new : Option (List ℕ)) where
     pub unwritten : new ≡ old
 
   -- the text is that of a lawful program, for which the options have no fault, and playing it was
-  -- refused
+  -- refused, from some seats
   pub record IsRefusedInPlay (f : RunFault) : Type 0 where
     pub program : Program
     pub of : IsLawfulText text program
     pub fine : options_fault o program ≡ None
-    pub refused : IsPlayRefusal program (setup_under o program) old new f
+    pub seats : List SeatOf
+    pub refused : IsPlayRefusal program (setup_under o program) old new seats f
 
   -- the text is that of a lawful program, and memory was refused before a worker was started
   pub record LacksMemory : Type 0 where

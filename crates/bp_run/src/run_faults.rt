@@ -16,7 +16,8 @@ pub enum RunFault {
     /// A worker could not be started; those that were started have ended. Nothing is written.
     #[error("a worker could not be started")]
     Start,
-    /// A worker ended although the next step of its thread takes no memory. The trace is written.
+    /// A worker ended although the next step of its thread takes no memory, or its seat does not
+    /// agree with the machine on its thread. The trace is written.
     #[error("a worker stopped before its thread was finished")]
     Early,
     /// A write failed. A proper prefix of the trace of a history is written.

@@ -1,5 +1,5 @@
 //! Running a program by real threads, one for each guest thread.
-ghost use Rattle.std.specs.Prelude.{◌≡◌, ◌≤◌, ◌<◌, [], true, false, is_some, IfOk, MatchResult};
+ghost use Rattle.std.specs.Prelude.{◌≡◌, ◌≤◌, ◌<◌, [], List, true, false, is_some, IfOk, MatchResult};
 ghost use Rattle.bp_tree.specs.Ast.{Program};
 ghost use Rattle.bp_code.specs.StandsFor.{StandsFor};
 ghost use Rattle.bp_machine.specs.Laws.{StepsAreARun, StepsAreWithin, FailuresAreReal};
@@ -7,6 +7,7 @@ ghost use Rattle.bp_machine.specs.Setups.{threads, FitsCode};
 ghost use Rattle.bp_board.specs.declared.limits.TheConstants.{MAX_TURN, MAX_RING};
 ghost use Rattle.bp_board.specs.Kits.{IsNamed};
 ghost use Rattle.bp_board.specs.Gatherings.{AreOnePerThread};
+ghost use Rattle.bp_board.specs.Seats.{SeatOf};
 ghost use Rattle.bp_run.specs.Played.{IsPlayed, IsPlayedFrom, IsPlayRefusal};
 ghost use Rattle.bp_run.specs.Runs.{IsTracedRun, IsRunRefusal};
 
@@ -27,11 +28,12 @@ use std::sync::ledger::Ledger;
 use std::thread::Threads;
 use std::time::Clock;
 
-/// What playing a board came to: its seats, and the report of its history.
+/// What playing a board came to: the seats that came back, and the report of its history, or why
+/// there is none. No seat comes back where playing was refused before the head was written.
 #[derive(Drop)]
 pub struct PlayedBoard<C: Calls, O: Ledger> {
     pub seats: Vec<Seat<C, O>>,
-    pub report: Report,
+    pub answer: Result<Report, RunFault>,
 }
 
 /// What playing a board answers, and the pen.
@@ -75,8 +77,7 @@ fn histories_keep_their_laws()
     failures_are_real();
 }
 
-/// Plays a board with this pen. Where it answers a report, the seats that came back replace those
-/// of `back`.
+/// Plays a board with this pen. Once the board is gathered, its seats replace those of `back`.
 fn play_with<
     'a,
     C: Calls + Send + Sync,
@@ -110,7 +111,7 @@ fn play_with<
         → StandsFor code.now t
         → MatchResult result.answer
         (IsPlayedFrom t setup.now old new back.new.items)
-        (IsPlayRefusal t setup.now old new) }
+        (IsPlayRefusal t setup.now old new back.new.items) }
 {
     histories_keep_their_laws();
     code.is_of_a_program();
@@ -136,20 +137,22 @@ fn play_with<
         unreachable!()
     };
     write_rest(&mut pen, &mut gathered.tap);
-    pen.end(gathered.report.calls, gathered.report.left_open);
-    if pen.failed {
-        return refused(pen, RunFault::Write);
-    }
-    if !gathered.has_stopped {
-        return refused(pen, RunFault::Early);
-    }
     let Gathered {
         seats,
         tap: _,
         report,
-        has_stopped: _,
+        has_stopped,
+        agree,
     } = gathered;
     *back = seats;
+    pen.end(report.calls, report.left_open);
+    if pen.failed {
+        return refused(pen, RunFault::Write);
+    }
+    // The seats of the workers should always agree. Only their sums are proved to.
+    if !has_stopped || !agree {
+        return refused(pen, RunFault::Early);
+    }
     Finished {
         answer: Ok(report),
         pen,
@@ -158,7 +161,8 @@ fn play_with<
 
 /// Plays a board that was opened for this code and setup: one worker for each seat makes the calls
 /// of its thread, and the calling thread writes the trace while the workers run. It gives the seats
-/// back: they have made as many calls as the history that was written has.
+/// back: each has made as many calls as the history that was written has of its thread. Where one
+/// has not, or stopped too early, playing is refused once the trace is written.
 pub fn play<
     C: Calls + Send + Sync,
     O: Ledger + Send + Sync,
@@ -176,7 +180,7 @@ pub fn play<
     turn: u32,
     gate: &G,
     out: &mut W,
-) -> Result<PlayedBoard<C, O>, RunFault>
+) -> PlayedBoard<C, O>
     requires code { code.now ≡ C.code }
     requires setup { setup.now ≡ C.setup }
     requires seats { AreOnePerThread (threads setup.now) seats.items }
@@ -186,9 +190,9 @@ pub fn play<
         let new = W.contents out.new in
         (t : Program)
         → StandsFor code.now t
-        → MatchResult result
-        (λ p. IsPlayedFrom t setup.now old new p.seats.items p.report)
-        (IsPlayRefusal t setup.now old new) }
+        → MatchResult result.answer
+        (IsPlayedFrom t setup.now old new result.seats.items)
+        (IsPlayRefusal t setup.now old new result.seats.items) }
 {
     let pen = Pen::new(out);
     let mut back = Vec::new(alloc);
@@ -196,12 +200,9 @@ pub fn play<
         rt, alloc, board, seats, tap, code, setup, turn, gate, &mut back, pen,
     )
     .answer;
-    match answer {
-        Ok(report) => Ok(PlayedBoard {
-            seats: back,
-            report,
-        }),
-        Err(fault) => Err(fault),
+    PlayedBoard {
+        seats: back,
+        answer,
     }
 }
 
@@ -235,15 +236,12 @@ fn open_and_play<
         → StandsFor code.now t
         → MatchResult result
         (IsPlayed t setup.now old new)
-        (IsPlayRefusal t setup.now old new) }
+        (λ f. (seats : List SeatOf) × IsPlayRefusal t setup.now old new seats f) }
 {
     let Ok((board, seats, tap)) = Board::<C, O>::open(alloc, kit, code, setup) else {
         return Err(RunFault::Memory);
     };
-    match play(rt, alloc, board, seats, tap, code, setup, turn, gate, out) {
-        Ok(played) => Ok(played.report),
-        Err(fault) => Err(fault),
-    }
+    play(rt, alloc, board, seats, tap, code, setup, turn, gate, out).answer
 }
 
 /// Runs the program of a text under these options, and writes the trace: one worker for each guest
