@@ -5,6 +5,7 @@
 mod boards;
 mod commands;
 mod explanations;
+mod no_memory;
 mod ready;
 mod runs;
 mod sessions;

@@ -22,7 +22,7 @@ fn skips(threads: u32) -> Numbers {
 }
 
 /// Looks at the word until it has this value, and gives way in between: whether it was seen.
-fn comes_to(word: &AtomicU64, value: u64) -> bool {
+pub(super) fn comes_to(word: &AtomicU64, value: u64) -> bool {
     for _ in 0..1_000_000u32 {
         if word.load(Ordering::SeqCst) == value {
             return true;
@@ -111,7 +111,7 @@ impl Gate for Behind {
 }
 
 /// The first byte of each call line of a trace.
-fn threads_of(alloc: Global, trace: &[u8]) -> Result<Vec<u8>, AllocError> {
+pub(super) fn threads_of(alloc: Global, trace: &[u8]) -> Result<Vec<u8>, AllocError> {
     let mut threads = Vec::new(alloc);
     for line in trace.split(|byte| *byte == b'\n') {
         if line.len() == 5 {
@@ -145,11 +145,11 @@ fn a_worker_waits_for_another(rt: HostRuntime) -> Result<(), AllocError> {
     Ok(())
 }
 
-/// A writer that raises a flag once it is flushed with the head of the trace and its first call
-/// line.
+/// A writer that raises a flag once it is flushed with so many bytes.
 #[derive(Drop)]
 struct Flagged<'a> {
     taken: Vec<u8>,
+    wanted: usize,
     flag: &'a AtomicU64,
 }
 
@@ -163,23 +163,24 @@ impl<'a> Write for Flagged<'a> {
     }
 
     fn flush(&mut self) -> io::Result<()> {
-        if self.taken.len() >= 61 {
+        if self.taken.len() == self.wanted {
             self.flag.store(1, Ordering::SeqCst);
         }
         Ok(())
     }
 }
 
-/// A gate that waits for the flag ahead of the second call.
+/// A gate that waits for the flag ahead of the call of this number.
 #[derive(Drop)]
 struct Reader<'a> {
+    call: u64,
     flag: &'a AtomicU64,
     missed: AtomicU64,
 }
 
 impl<'a> Gate for Reader<'a> {
     fn before(&self, _thread: u32, call: u64) {
-        if call == 1 && !comes_to(self.flag, 1) {
+        if call == self.call && !comes_to(self.flag, 1) {
             self.missed.store(1, Ordering::SeqCst);
         }
     }
@@ -187,18 +188,22 @@ impl<'a> Gate for Reader<'a> {
     fn after(&self, _thread: u32, _reply: Reply) {}
 }
 
-/// Whether the first call is written and handed on before the second is made.
+/// Whether so many bytes are written and handed on before the call of this number is made.
 fn is_written_while_running<R: Threads + Wait + Clock + Sync>(
     rt: &R,
     alloc: Global,
+    wanted: usize,
+    call: u64,
 ) -> Result<bool, AllocError> {
     let flag = AtomicU64::new(0);
     let gate = Reader {
+        call,
         flag: &flag,
         missed: AtomicU64::new(0),
     };
     let mut out = Flagged {
         taken: Vec::new(alloc),
+        wanted,
         flag: &flag,
     };
     let options = options(alloc, Numbers { turn: 1, ..ONE })?;
@@ -210,8 +215,17 @@ fn is_written_while_running<R: Threads + Wait + Clock + Sync>(
     )
 }
 
+/// How many bytes the head of the trace has.
+const HEAD: usize = 55;
+
+#[test]
+fn the_head_is_written_before_a_call_is_made(rt: HostRuntime) -> Result<(), AllocError> {
+    assert!(&rt; is_written_while_running(&rt, rt.alloc(), HEAD, 0)?);
+    Ok(())
+}
+
 #[test]
 fn calls_are_written_while_workers_run(rt: HostRuntime) -> Result<(), AllocError> {
-    assert!(&rt; is_written_while_running(&rt, rt.alloc())?);
+    assert!(&rt; is_written_while_running(&rt, rt.alloc(), HEAD + 6, 1)?);
     Ok(())
 }

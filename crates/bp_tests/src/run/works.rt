@@ -20,17 +20,31 @@ use std::sync::ledger::Ledger;
 use std::test::Fail;
 use std::time::Clock;
 
+/// The digits that are noted of the nine calls of the loop, by turns of so many calls.
+pub(super) const LOOP_DIGITS: [(u32, u64); 3] = [(1, 11_121_314_151_617_182), (3, 13_162), (64, 2)];
+
 /// A gate that notes a digit each time: ahead of a turn the number of calls, and behind it 1 for
 /// Stepped, 2 for Ended and 3 for another reply.
 #[derive(Drop)]
-struct Notes {
+pub(super) struct Notes {
     digits: AtomicU64,
 }
 
 impl Notes {
+    /// A gate that has noted nothing.
+    pub(super) fn new() -> Notes {
+        Notes {
+            digits: AtomicU64::new(0),
+        }
+    }
+
+    /// The digits so far, as one number.
+    pub(super) fn digits(&self) -> u64 {
+        self.digits.load(Ordering::SeqCst)
+    }
+
     fn note(&self, digit: u64) {
-        let digits = self.digits.load(Ordering::SeqCst);
-        let more = digits.wrapping_mul(10).wrapping_add(digit);
+        let more = self.digits().wrapping_mul(10).wrapping_add(digit);
         self.digits.store(more, Ordering::SeqCst);
     }
 }
@@ -115,16 +129,14 @@ fn work_of<G: Gate, R: Wait + Clock>(
 
 /// Whether the work on the loop by turns of so many calls is noted with these digits.
 fn is_noted<R: Wait + Clock>(rt: &R, alloc: Global, turn: u32, digits: u64) -> Result<bool, Fail> {
-    let gate = Notes {
-        digits: AtomicU64::new(0),
-    };
+    let gate = Notes::new();
     let done = work_of(rt, alloc, LOOP, Numbers { turn, ..ONE }, &gate)?;
-    Ok(done == Some((9, 0)) && gate.digits.load(Ordering::SeqCst) == digits)
+    Ok(done == Some((9, 0)) && gate.digits() == digits)
 }
 
 #[test]
 fn works_by_turns(rt: HostRuntime) -> Result<(), Fail> {
-    for (turn, digits) in [(1, 11_121_314_151_617_182), (3, 13_162), (64, 2)] {
+    for (turn, digits) in LOOP_DIGITS {
         assert!(&rt; is_noted(&rt, rt.alloc(), turn, digits)?);
     }
     Ok(())
