@@ -1,5 +1,5 @@
 -- What a run tells of a fault explains it in the inputs that were read.
-use Rattle.std.proofs.Common.{◌≡◌, ◌⊎◌, ℕ, List, Bool, true, false, Option, Result, Ok, Err, refl, sym, subst, inl, inr}
+use Rattle.std.proofs.Common.{◌≡◌, ◌⊎◌, ℕ, List, Bool, true, false, Option, Result, Ok, Err, refl, subst, inl, inr}
 use Rattle.bp_commands.specs.declared.explanations.Beside.{Beside}
 use Rattle.bp_commands.specs.declared.explanations.Beside.TheVariants as beside
 use Rattle.bp_commands.specs.declared.inputs.InputFault.{InputFault}
@@ -7,7 +7,7 @@ use Rattle.bp_commands.specs.declared.inputs.InputFault.TheVariants as input
 use Rattle.bp_commands.specs.declared.faults.Fault.{Fault}
 use Rattle.bp_commands.specs.Explanations.{ExplainsText, ExplainsInput, ExplainsPair, IsInWords, IsTold, AreReadOr, ExplainsRead}
 use Rattle.bp_commands.specs.Faults.{fault_of_input, fault_of_text}
-use Rattle.bp_commands.specs.Flushes.{IsFlushed, without_end}
+use Rattle.bp_commands.specs.Flushes.{IsFlushed}
 use Rattle.bp_commands.specs.Given.{Inputs, Pair, IsTextUnread, IsPairUnread}
 
 module _ {X R : Type 0} (inputs : Inputs X) (Explains : X → Fault → List ℕ → Type 0)

@@ -1,7 +1,6 @@
 mod Answered
 mod Driven
 mod ExplainedRuns
-mod FirstLines
 mod FirstSeparator
 mod Migrated
 mod RunAnswers

@@ -25,7 +25,8 @@ abbrev pub ExplainsInput : Beside → List ℕ → List ℕ → Fault → List �
 ExplainsInput beside.Trace name trace (Trace f) lines = ExplainsTrace name trace f lines
 ExplainsInput beside.Trace name trace (Setup f) lines =
     ExplainsTrace name trace (replay.Setup f) lines
-ExplainsInput beside.Schedule name schedule (Schedule f) lines = ExplainsSchedule name f lines
+ExplainsInput beside.Schedule name schedule (Schedule f) lines =
+    ExplainsSchedule name schedule f lines
 ExplainsInput kind name input f lines = ⊥
 
 -- these lines explain a fault of either

@@ -1,4 +1,4 @@
--- What an explanation begins with, and which bytes it has.
+-- The parts of an explanation, and which bytes it has.
 use Rattle.std.specs.Prelude.{if◌then◌else◌, ◌≡◌, ◌==◌, ◌||◌, ◌&&◌, nat_le, ℕ, Bool, true, List, [], ◌∷◌, ◌++◌, Option, None, Some, All, map, decimal}
 use Rattle.bp_text.specs.declared.positions.Position.{Position}
 use Rattle.bp_text.specs.OneLine.{on_one_line}
@@ -38,14 +38,7 @@ abbrev pub place_line : List ℕ → List ℕ → Option ℕ → List ℕ
 place_line name text None = file_line name
 place_line name text (Some at) = position_line name (position_at text at)
 
--- the text begins with these bytes, as they are shown
-pub record Begins (front text : List ℕ) : Type 0 where
-  pub rest : List ℕ
-  pub is : text ≡ map shown front ++ rest
-
--- the text is this head, an excerpt that shows something, and a sentence, as they are shown
-pub record IsExplanation (head : List ℕ) (Shows : List ℕ → Type 0) (text : List ℕ) : Type 0 where
-  pub excerpt : List ℕ
+-- the text is this head, this excerpt, and a sentence, as they are shown
+pub record IsExplanation (head excerpt text : List ℕ) : Type 0 where
   pub sentence : List ℕ
   pub is : text ≡ map shown head ++ map shown excerpt ++ map shown sentence
-  pub shows : Shows excerpt

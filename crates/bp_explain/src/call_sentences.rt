@@ -4,7 +4,6 @@ use crate::recorded_calls::{Recorded, recorded_call};
 use crate::sentences::{push_all, push_number};
 use crate::trace_heads::is_version_two;
 use bp_machine::{Call, Reply};
-use bp_text::{push_line, push_place};
 use bp_trace::{Counts, Due};
 use std::alloc::AllocError;
 
@@ -47,22 +46,13 @@ fn push_end_line(out: &mut Vec<u8>, counts: Counts) -> Result<(), AllocError> {
     push_all(out, &[b"'"])
 }
 
-/// Adds that the end line on this line of a trace has to have these counts.
-pub(crate) fn push_other_end(
-    out: &mut Vec<u8>,
-    trace: &[u8],
-    counts: Counts,
-    number: usize,
-) -> Result<(), AllocError> {
-    push_line(out, trace, number)?;
+/// Adds that the end line of a trace has to have these counts.
+pub(crate) fn push_other_end(out: &mut Vec<u8>, counts: Counts) -> Result<(), AllocError> {
     push_all(out, &[b"expected "])?;
     push_end_line(out, counts)?;
     push_all(
         out,
-        &[
-            b": the number of calls, and of threads that may go on
-",
-        ],
+        &[b": the number of calls, and of threads that may go on\n"],
     )
 }
 
@@ -76,15 +66,8 @@ pub(crate) fn push_no_end(out: &mut Vec<u8>, counts: Counts) -> Result<(), Alloc
     push_all(out, &[b"\n"])
 }
 
-/// Adds the machine's own call in place of that at this byte of a trace, and why it is due.
-fn push_due_call(
-    out: &mut Vec<u8>,
-    trace: &[u8],
-    own: Call,
-    why: &[u8],
-    at: usize,
-) -> Result<(), AllocError> {
-    push_place(out, trace, at)?;
+/// Adds the machine's own call in place of that of a trace, and why it is due.
+fn push_due_call(out: &mut Vec<u8>, trace: &[u8], own: Call, why: &[u8]) -> Result<(), AllocError> {
     push_all(out, &[b"expected "])?;
     push_call(out, is_version_two(trace), own)?;
     push_all(out, &[b": ", why, b"\n"])
@@ -92,11 +75,8 @@ fn push_due_call(
 
 /// Adds that a call of a trace has another choice bit than the seed.
 pub(crate) fn push_other_bit(out: &mut Vec<u8>, trace: &[u8], due: Due) -> Result<(), AllocError> {
-    let Some(Recorded { bit_at, .. }) = recorded_call(trace, due.calls) else {
-        return Ok(());
-    };
     let why = b"the choice bit is that of the seed".as_slice();
-    push_due_call(out, trace, due.call, why, bit_at)
+    push_due_call(out, trace, due.call, why)
 }
 
 /// Adds that a call of a trace has another reply than the machine's own.
@@ -105,19 +85,15 @@ pub(crate) fn push_other_reply(
     trace: &[u8],
     due: Due,
 ) -> Result<(), AllocError> {
-    let Some(Recorded { reply_at, .. }) = recorded_call(trace, due.calls) else {
-        return Ok(());
-    };
-    push_due_call(out, trace, due.call, reason(due.call.reply), reply_at)
+    push_due_call(out, trace, due.call, reason(due.call.reply))
 }
 
 /// Adds that the call after the first `made` calls of a trace is of a thread that has made its last
 /// one.
 pub(crate) fn push_finished(out: &mut Vec<u8>, trace: &[u8], made: u64) -> Result<(), AllocError> {
-    let Some(Recorded { thread, bit_at, .. }) = recorded_call(trace, made) else {
+    let Some(Recorded { thread, .. }) = recorded_call(trace, made) else {
         return Ok(());
     };
-    push_place(out, trace, bit_at)?;
     push_all(out, &[b"thread "])?;
     push_number(out, thread as usize)?;
     push_all(out, &[b" has made its last call before\n"])

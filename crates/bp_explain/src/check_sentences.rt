@@ -1,12 +1,12 @@
 //! Sentences on faults of a program whose text is in order.
 ghost use Rattle.std.specs.Prelude.{◌≡◌, IfOk};
 ghost use Rattle.bp_check.specs.Faults.{check_fault_place};
-ghost use Rattle.bp_explain.specs.Explanations.{place_line, IsExplanation, IsPlain};
-ghost use Rattle.bp_text.specs.Excerpts.{ShowsFault};
+ghost use Rattle.bp_explain.specs.Explained.{ExplainsPlace};
+ghost use Rattle.bp_explain.specs.Explanations.{IsPlain};
 
 use crate::counts::{argument_count, side_counts};
 use crate::declared::{Role, first_named, first_procedure, procedure_around, role_at, tree_of};
-use crate::explanations::explanation_of_place;
+use crate::explanations::explanation;
 use crate::heads::head_of_place;
 use crate::sentences::{push_all, push_count, push_number, push_quoted};
 use crate::tokens_at::token_at;
@@ -202,8 +202,7 @@ pub(crate) fn explain_check(
     at: u32,
 ) -> Result<Vec<u8>, AllocError>
     ensures is { IfOk result (λ v.
-        let place = check_fault_place fault at in
-        IsExplanation (place_line name.now text.now place) (ShowsFault text.now place) v.items) }
+        ExplainsPlace name.now text.now (check_fault_place fault at) v.items) }
     ensures plain { IfOk result (λ v. IsPlain v.items) }
 {
     let tree = tree_of(alloc, text)?;
@@ -215,7 +214,7 @@ pub(crate) fn explain_check(
         push_sentence(&mut sentence, text, tree, fault, at as usize)?;
     }
     sentence.push(b'\n')?;
-    explanation_of_place(
+    explanation(
         alloc,
         head.as_slice(),
         excerpt.as_slice(),

@@ -1,9 +1,11 @@
 //! Explanations put together: only characters that a terminal shows, and line ends.
 ghost use Rattle.std.specs.Prelude.{◌≡◌, ◌++◌, map, IfOk, OnOk};
-ghost use Rattle.bp_explain.specs.Explanations.{file_line, number_line, is_plain, shown, IsPlain, Begins};
+ghost use Rattle.bp_explain.specs.Explained.{ExplainsLength, ExplainsLine};
+ghost use Rattle.bp_explain.specs.Explanations.{number_line, is_plain, shown, IsExplanation, IsPlain};
 
 use crate::heads::{head_of_file, head_of_line};
 use crate::sentences::{push_all, push_number};
+use bp_text::push_line;
 use std::alloc::{AllocError, Global};
 
 /// Whether the byte is a line feed, or a character that a terminal shows in one column.
@@ -36,46 +38,53 @@ fn push_shown(out: &mut Vec<u8>, bytes: &[u8]) -> Result<(), AllocError>
     Ok(())
 }
 
-/// The explanation with this head and this body.
-pub(crate) fn explanation(alloc: Global, head: &[u8], body: &[u8]) -> Result<Vec<u8>, AllocError>
-    ensures parts { IfOk result (λ v. v.items ≡ map shown head.now ++ map shown body.now) }
-    ensures begins { IfOk result (λ v. Begins head.now v.items) }
-    ensures plain { IfOk result (λ v. IsPlain v.items) }
-{
-    let mut out = Vec::new(alloc);
-    push_shown(&mut out, head)?;
-    push_shown(&mut out, body)?;
-    Ok(out)
-}
-
 /// The explanation with this head, this excerpt and this sentence.
-pub(crate) fn explanation_of_place(
+pub(crate) fn explanation(
     alloc: Global,
     head: &[u8],
     excerpt: &[u8],
     sentence: &[u8],
 ) -> Result<Vec<u8>, AllocError>
-    ensures parts { IfOk result (λ v.
-        v.items ≡ map shown head.now ++ map shown excerpt.now ++ map shown sentence.now) }
+    ensures is { IfOk result (λ v. IsExplanation head.now excerpt.now v.items) }
     ensures plain { IfOk result (λ v. IsPlain v.items) }
 {
-    let mut out = explanation(alloc, head, excerpt)?;
+    let mut out = Vec::new(alloc);
+    push_shown(&mut out, head)?;
+    push_shown(&mut out, excerpt)?;
     push_shown(&mut out, sentence)?;
     Ok(out)
 }
 
-/// The explanation of a line of a file, which has this number and this body.
-pub(crate) fn about_line(
+/// The explanation of a line of a text, which has this number and is shown with this excerpt.
+pub(crate) fn about_excerpt(
     alloc: Global,
     name: &str,
     number: usize,
-    body: &[u8],
+    excerpt: &[u8],
+    sentence: &[u8],
 ) -> Result<Vec<u8>, AllocError>
-    ensures begins { IfOk result (λ v. Begins (number_line name.now number) v.items) }
+    ensures is { IfOk result (λ v.
+        IsExplanation (number_line name.now number) excerpt.now v.items) }
     ensures plain { IfOk result (λ v. IsPlain v.items) }
 {
     let head = head_of_line(alloc, name, number)?;
-    explanation(alloc, head.as_slice(), body)
+    explanation(alloc, head.as_slice(), excerpt, sentence)
+}
+
+/// The explanation of a line of a text, which has this number and is shown without a caret.
+pub(crate) fn about_line(
+    alloc: Global,
+    name: &str,
+    text: &[u8],
+    number: usize,
+    sentence: &[u8],
+) -> Result<Vec<u8>, AllocError>
+    ensures is { IfOk result (λ v. ExplainsLine name.now text.now number v.items) }
+    ensures plain { IfOk result (λ v. IsPlain v.items) }
+{
+    let mut excerpt = Vec::new(alloc);
+    push_line(&mut excerpt, text, number)?;
+    about_excerpt(alloc, name, number, excerpt.as_slice(), sentence)
 }
 
 /// Explains that a text of this kind is longer than the limit.
@@ -85,13 +94,13 @@ pub(crate) fn explain_too_long(
     kind: &[u8],
     limit: usize,
 ) -> Result<Vec<u8>, AllocError>
-    ensures begins { IfOk result (λ v. Begins (file_line name.now) v.items) }
+    ensures is { IfOk result (λ v. ExplainsLength name.now v.items) }
     ensures plain { IfOk result (λ v. IsPlain v.items) }
 {
-    let mut body = Vec::new(alloc);
-    push_all(&mut body, &[b"a ", kind, b" has at most "])?;
-    push_number(&mut body, limit)?;
-    push_all(&mut body, &[b" bytes\n"])?;
+    let mut sentence = Vec::new(alloc);
+    push_all(&mut sentence, &[b"a ", kind, b" has at most "])?;
+    push_number(&mut sentence, limit)?;
+    push_all(&mut sentence, &[b" bytes\n"])?;
     let head = head_of_file(alloc, name)?;
-    explanation(alloc, head.as_slice(), body.as_slice())
+    explanation(alloc, head.as_slice(), b"", sentence.as_slice())
 }

@@ -2,7 +2,7 @@
 
 use crate::sentences::push_all;
 use crate::trace_heads::init_line;
-use bp_text::{line_of, push_line};
+use bp_text::line_of;
 use std::alloc::AllocError;
 
 /// What is due on this line of a head, where the initial bits are due on that one.
@@ -19,10 +19,9 @@ fn due_on(number: usize, init: usize) -> &'static [u8] {
     }
 }
 
-/// Adds this line of a trace's head, and what is due in its place.
+/// Adds what is due in place of this line of a trace's head.
 pub(crate) fn push_head(out: &mut Vec<u8>, trace: &[u8], number: usize) -> Result<(), AllocError> {
     let due = due_on(number, init_line(trace));
-    push_line(out, trace, number)?;
     match line_of(trace, number) {
         None => push_all(out, &[b"the trace ends here; expected ", due, b"\n"]),
         Some(line) if line.is_ended => push_all(out, &[b"expected ", due, b"\n"]),

@@ -2,6 +2,7 @@
 //! there or what is wrong.
 #![tactic(auto)]
 
+mod call_excerpts;
 mod call_sentences;
 mod candidates;
 mod check_sentences;

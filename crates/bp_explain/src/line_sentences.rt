@@ -3,7 +3,7 @@
 use crate::numbers::number_at_front;
 use crate::sentences::{push_all, push_count, push_number};
 use crate::trace_heads::{entry_count, is_version_two};
-use bp_text::{Line, line_of, push_line};
+use bp_text::{Line, line_of};
 use std::alloc::AllocError;
 
 /// What begins the line that ends a trace.
@@ -64,14 +64,13 @@ fn push_sentence(
     }
 }
 
-/// Adds this line of a trace, which is no line of calls and no end, and what it should have been.
+/// Adds what this line of a trace should have been, which is no line of calls and no end.
 pub(crate) fn push_body_line(
     out: &mut Vec<u8>,
     trace: &[u8],
     number: usize,
 ) -> Result<(), AllocError> {
     let before = line_of(trace, number.saturating_sub(1));
-    push_line(out, trace, number)?;
     match line_of(trace, number) {
         Some(line) => push_sentence(out, trace, line, before),
         None => Ok(()),

@@ -1,10 +1,10 @@
 //! Sentences on faults of a text: what is wrong before the text is a tree.
 ghost use Rattle.std.specs.Prelude.{IfOk};
 ghost use Rattle.bp_syntax.specs.Faults.{read_fault_place};
-ghost use Rattle.bp_explain.specs.Explanations.{place_line, IsExplanation, IsPlain};
-ghost use Rattle.bp_text.specs.Excerpts.{ShowsFault};
+ghost use Rattle.bp_explain.specs.Explained.{ExplainsPlace};
+ghost use Rattle.bp_explain.specs.Explanations.{IsPlain};
 
-use crate::explanations::explanation_of_place;
+use crate::explanations::explanation;
 use crate::heads::head_of_place;
 use crate::sentences::{push_all, push_number, push_quoted};
 use crate::syntax_sentences::push_syntax;
@@ -102,8 +102,7 @@ pub(crate) fn explain_read(
     fault: &ReadFault,
 ) -> Result<Vec<u8>, AllocError>
     ensures is { IfOk result (λ v.
-        let place = read_fault_place fault.now in
-        IsExplanation (place_line name.now text.now place) (ShowsFault text.now place) v.items) }
+        ExplainsPlace name.now text.now (read_fault_place fault.now) v.items) }
     ensures plain { IfOk result (λ v. IsPlain v.items) }
 {
     let place = fault.place();
@@ -111,7 +110,7 @@ pub(crate) fn explain_read(
     let excerpt = excerpt_of(alloc, text, place)?;
     let mut sentence = Vec::new(alloc);
     push_sentence(alloc, &mut sentence, text, fault)?;
-    explanation_of_place(
+    explanation(
         alloc,
         head.as_slice(),
         excerpt.as_slice(),

@@ -1,12 +1,12 @@
 //! Explanations of the faults of schedules.
 ghost use Rattle.std.specs.Prelude.{IfOk};
-ghost use Rattle.bp_explain.specs.Explanations.{number_line, Begins, IsPlain};
-ghost use Rattle.bp_explain.specs.Explained.{ExplainsSchedule};
+ghost use Rattle.bp_explain.specs.Explained.{ExplainsLine, ExplainsSchedule};
+ghost use Rattle.bp_explain.specs.Explanations.{IsPlain};
 
 use crate::explanations::{about_line, explain_too_long};
 use crate::numbers::number_at_front;
 use crate::sentences::{push_all, push_number};
-use bp_text::{Line, line_of, push_line};
+use bp_text::{Line, line_of};
 use bp_trace::DriveFault;
 use bp_trace::limits::MAX_SCHEDULE;
 use std::alloc::{AllocError, Global};
@@ -41,14 +41,13 @@ fn push_finished(out: &mut Vec<u8>, line: Line<'_>) -> Result<(), AllocError> {
     push_all(out, &[b" has made its last call before\n"])
 }
 
-/// Adds this line of a schedule, and what is wrong with it.
-fn push_fault(
+/// Adds what is wrong with this line of a schedule.
+fn push_sentence(
     out: &mut Vec<u8>,
     schedule: &[u8],
     fault: &DriveFault,
     number: u32,
 ) -> Result<(), AllocError> {
-    push_line(out, schedule, number as usize)?;
     let Some(line) = line_of(schedule, number as usize) else {
         return Ok(());
     };
@@ -66,12 +65,12 @@ fn explain_line(
     fault: &DriveFault,
     number: u32,
 ) -> Result<Vec<u8>, AllocError>
-    ensures begins { IfOk result (λ v. Begins (number_line name.now number) v.items) }
+    ensures is { IfOk result (λ v. ExplainsLine name.now schedule.now number v.items) }
     ensures plain { IfOk result (λ v. IsPlain v.items) }
 {
-    let mut body = Vec::new(alloc);
-    push_fault(&mut body, schedule, fault, number)?;
-    about_line(alloc, name, number as usize, body.as_slice())
+    let mut sentence = Vec::new(alloc);
+    push_sentence(&mut sentence, schedule, fault, number)?;
+    about_line(alloc, name, schedule, number as usize, sentence.as_slice())
 }
 
 /// Explains this fault of a schedule: a line `NAME:LINE`, that line of the schedule, and a
@@ -83,7 +82,7 @@ pub fn explain_schedule(
     schedule: &[u8],
     fault: &DriveFault,
 ) -> Result<Vec<u8>, AllocError>
-    ensures explains { IfOk result (λ v. ExplainsSchedule name.now fault.now v.items) }
+    ensures explains { IfOk result (λ v. ExplainsSchedule name.now schedule.now fault.now v.items) }
     ensures plain { IfOk result (λ v. IsPlain v.items) }
 {
     match fault {

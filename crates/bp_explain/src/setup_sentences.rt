@@ -7,7 +7,7 @@ use crate::trace_heads::{FIRST_ENTRY, entry_count, entry_of, init_line};
 use bp_machine::SetupFault;
 use bp_machine::limits::{MAX_CALLS, MAX_CONTEXTS, MAX_THREADS};
 use bp_syntax::Tree;
-use bp_text::{line_of, number_of, part_from, push_line};
+use bp_text::{line_of, number_of, part_from};
 use std::alloc::AllocError;
 
 /// What begins the line of the contexts.
@@ -103,15 +103,13 @@ fn push_sentence(
     }
 }
 
-/// Adds the line of a trace's head that says no setup of the program of this tree, and what is
-/// wrong with it.
+/// Adds what is wrong with the head of a trace, which says no setup of the program of this tree.
 pub(crate) fn push_setup(
     out: &mut Vec<u8>,
     tree: &Tree,
     trace: &[u8],
     fault: SetupFault,
 ) -> Result<(), AllocError> {
-    push_line(out, trace, line_of_setup(trace, fault))?;
     push_sentence(out, tree, trace, fault)?;
     push_all(out, &[b"\n"])
 }

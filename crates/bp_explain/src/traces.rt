@@ -1,14 +1,14 @@
 //! Explanations of the faults of traces.
-ghost use Rattle.std.specs.Prelude.{◌≡◌, ℕ, length, IfOk};
-ghost use Rattle.bp_text.specs.Positions.{position_at};
-ghost use Rattle.bp_explain.specs.Explanations.{number_line, Begins, IsPlain};
-ghost use Rattle.bp_explain.specs.Explained.{ExplainsTrace, IsSetupLine};
+ghost use Rattle.std.specs.Prelude.{IfOk};
+ghost use Rattle.bp_explain.specs.Explained.{ExplainsLine, ExplainsNoEnd, ExplainsSetup, ExplainsTrace, PointsIntoLine};
+ghost use Rattle.bp_explain.specs.Explanations.{IsPlain};
 
+use crate::call_excerpts::excerpt_in_line;
 use crate::call_sentences::{
     push_finished, push_no_end, push_other_bit, push_other_end, push_other_reply,
 };
 use crate::declared::tree_of;
-use crate::explanations::{about_line, explain_too_long};
+use crate::explanations::{about_excerpt, about_line, explain_too_long};
 use crate::head_sentences::push_head;
 use crate::line_sentences::push_body_line;
 use crate::setup_sentences::{line_of_setup, push_setup};
@@ -26,15 +26,15 @@ fn explain_setup(
     trace: &[u8],
     fault: SetupFault,
 ) -> Result<Vec<u8>, AllocError>
-    ensures begins { IfOk result (λ v.
-        (n : ℕ) × IsSetupLine fault n × Begins (number_line name.now n) v.items) }
+    ensures is { IfOk result (λ v. ExplainsSetup name.now trace.now fault v.items) }
     ensures plain { IfOk result (λ v. IsPlain v.items) }
 {
-    let mut body = Vec::new(alloc);
+    let mut sentence = Vec::new(alloc);
     if let Some(tree) = &tree_of(alloc, program)? {
-        push_setup(&mut body, tree, trace, fault)?;
+        push_setup(&mut sentence, tree, trace, fault)?;
     }
-    about_line(alloc, name, line_of_setup(trace, fault), body.as_slice())
+    let number = line_of_setup(trace, fault);
+    about_line(alloc, name, trace, number, sentence.as_slice())
 }
 
 /// Explains that a trace has no end.
@@ -44,14 +44,13 @@ fn explain_no_end(
     trace: &[u8],
     counts: Counts,
 ) -> Result<Vec<u8>, AllocError>
-    ensures begins { let last = position_at trace.now (length trace.now) in
-        IfOk result (λ v. Begins (number_line name.now last.line) v.items) }
+    ensures is { IfOk result (λ v. ExplainsNoEnd name.now trace.now v.items) }
     ensures plain { IfOk result (λ v. IsPlain v.items) }
 {
-    let mut body = Vec::new(alloc);
-    push_no_end(&mut body, counts)?;
+    let mut sentence = Vec::new(alloc);
+    push_no_end(&mut sentence, counts)?;
     let last = position_of(trace, trace.len());
-    about_line(alloc, name, last.line, body.as_slice())
+    about_excerpt(alloc, name, last.line, b"", sentence.as_slice())
 }
 
 /// Adds what is wrong with the line of a trace that the fault names.
@@ -59,12 +58,7 @@ fn push_line_fault(out: &mut Vec<u8>, trace: &[u8], fault: &ReplayFault) -> Resu
     match fault {
         ReplayFault::Head(line) => push_head(out, trace, *line as usize),
         ReplayFault::Line(line) => push_body_line(out, trace, *line as usize),
-        ReplayFault::AfterFinish(_, made) => push_finished(out, trace, *made),
-        ReplayFault::Bit(_, due) => push_other_bit(out, trace, *due),
-        ReplayFault::Reply(_, due) => push_other_reply(out, trace, *due),
-        ReplayFault::EndCount(line, counts) => {
-            push_other_end(out, trace, *counts, *line as usize)
-        }
+        ReplayFault::EndCount(_, counts) => push_other_end(out, *counts),
         _ => Ok(()),
     }
 }
@@ -77,17 +71,51 @@ fn explain_line(
     fault: &ReplayFault,
     number: u32,
 ) -> Result<Vec<u8>, AllocError>
-    ensures begins { IfOk result (λ v. Begins (number_line name.now number) v.items) }
+    ensures is { IfOk result (λ v. ExplainsLine name.now trace.now number v.items) }
     ensures plain { IfOk result (λ v. IsPlain v.items) }
 {
-    let mut body = Vec::new(alloc);
-    push_line_fault(&mut body, trace, fault)?;
-    about_line(alloc, name, number as usize, body.as_slice())
+    let mut sentence = Vec::new(alloc);
+    push_line_fault(&mut sentence, trace, fault)?;
+    about_line(alloc, name, trace, number as usize, sentence.as_slice())
+}
+
+/// Adds what is wrong with the call of a trace that the fault names.
+fn push_call_fault(out: &mut Vec<u8>, trace: &[u8], fault: &ReplayFault) -> Result<(), AllocError> {
+    match fault {
+        ReplayFault::AfterFinish(_, made) => push_finished(out, trace, *made),
+        ReplayFault::Bit(_, due) => push_other_bit(out, trace, *due),
+        ReplayFault::Reply(_, due) => push_other_reply(out, trace, *due),
+        _ => Ok(()),
+    }
+}
+
+/// Explains what is wrong with a call on this line of a trace.
+fn explain_call(
+    alloc: Global,
+    name: &str,
+    trace: &[u8],
+    fault: &ReplayFault,
+    number: u32,
+) -> Result<Vec<u8>, AllocError>
+    ensures is { IfOk result (λ v. PointsIntoLine name.now trace.now number v.items) }
+    ensures plain { IfOk result (λ v. IsPlain v.items) }
+{
+    let mut sentence = Vec::new(alloc);
+    push_call_fault(&mut sentence, trace, fault)?;
+    let excerpt = excerpt_in_line(alloc, trace, number as usize, fault)?;
+    about_excerpt(
+        alloc,
+        name,
+        number as usize,
+        excerpt.as_slice(),
+        sentence.as_slice(),
+    )
 }
 
 /// Explains this fault of a trace of the program of a text: a line `NAME:LINE`, that line of the
-/// trace, where a caret may show the place, and a sentence. A trace that is too long has the line
-/// `NAME` and a sentence. Nothing is said of refused memory. The only error is refused memory.
+/// trace, with a caret below the place in a call that is not the machine's own, and a sentence. A
+/// trace that is too long has the line `NAME` and a sentence. Nothing is said of refused memory.
+/// The only error is refused memory.
 pub fn explain_trace(
     alloc: Global,
     program: &[u8],
@@ -102,12 +130,12 @@ pub fn explain_trace(
         ReplayFault::TooLong => explain_too_long(alloc, name, b"trace", MAX_TRACE),
         ReplayFault::Setup(fault) => explain_setup(alloc, program, name, trace, *fault),
         ReplayFault::NoEnd(counts) => explain_no_end(alloc, name, trace, *counts),
-        ReplayFault::Head(line)
-        | ReplayFault::Line(line)
-        | ReplayFault::AfterFinish(line, _)
+        ReplayFault::Head(line) | ReplayFault::Line(line) | ReplayFault::EndCount(line, _) => {
+            explain_line(alloc, name, trace, fault, *line)
+        }
+        ReplayFault::AfterFinish(line, _)
         | ReplayFault::Bit(line, _)
-        | ReplayFault::Reply(line, _)
-        | ReplayFault::EndCount(line, _) => explain_line(alloc, name, trace, fault, *line),
+        | ReplayFault::Reply(line, _) => explain_call(alloc, name, trace, fault, *line),
         ReplayFault::Memory => Ok(Vec::new(alloc)),
     }
 }

@@ -1,6 +1,8 @@
 pub mod Appends
 pub mod AppendsPieces
+pub mod FirstLines
 pub mod Lengths
+mod LinesOfTexts
 mod NumberOfDigits
 pub mod Numerals
 pub mod PositionsOfParts

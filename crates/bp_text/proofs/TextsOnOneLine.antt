@@ -1,5 +1,5 @@
 -- Texts on one line, one after the other.
-use Rattle.std.proofs.Common.{if◌then◌else◌, ◌≡◌, ◌==◌, ℕ, false, true, Bool, List, [], ◌∷◌, ◌++◌, map, refl, take, zero, suc, ap, ◌∙◌, sym, append_assoc, append-nil}
+use Rattle.std.proofs.Common.{if◌then◌else◌, ◌≡◌, ◌==◌, ℕ, false, true, Bool, List, [], ◌∷◌, ◌++◌, map, refl, take, zero, suc, ap, ◌∙◌, append_assoc}
 use Rattle.bp_text.specs.OneLine.{IsOneLine, AddsOneLine, on_one_line}
 use Rattle.bp_text.specs.Columns.{spaces}
 

@@ -1,12 +1,11 @@
-//! A line of a text with a caret below a place.
+//! Excerpts of a text, for people: a line of it, and a caret below a place.
 ghost use Rattle.std.specs.Prelude.{◌≡◌, ◌++◌, ◌∷◌, [], OnOk, IfOk};
 ghost use Rattle.bp_text.specs.Columns.{spaces};
-ghost use Rattle.bp_text.specs.Excerpts.{with_caret, shown_from, ShowsPlace, ShowsFault};
+ghost use Rattle.bp_text.specs.Excerpts.{dots, front_of, end_of, indented, with_caret, excerpt_of_place, excerpt_of_line, excerpt_of_fault};
 
 use crate::columns::push_spaces;
 use crate::lines::text_from_line;
 use crate::parts::{first_line, last_line, part_before, part_from};
-use crate::positions::position_of;
 use std::alloc::{AllocError, Global};
 
 /// How many spaces indent each line of an excerpt.
@@ -21,31 +20,37 @@ const MAX_BEHIND: usize = 40;
 /// What stands for the bytes of a line that are not shown.
 const CUT: &[u8] = b"..";
 
-/// The end of the bytes, after dots where they are too many to be shown.
-fn shown_end(alloc: Global, bytes: &[u8]) -> Result<Vec<u8>, AllocError> {
-    let skipped = bytes.len().saturating_sub(MAX_BEFORE);
-    let mut shown = Vec::new(alloc);
-    if skipped > 0 {
-        shown.extend_from_slice(CUT)?;
-    }
-    shown.extend_from_slice(part_from(bytes, skipped))?;
-    Ok(shown)
+/// The dots where the bytes are more than are shown.
+fn dots(bytes: &[u8], shown: usize) -> &'static [u8]
+    ensures { result.now ≡ dots bytes.now shown }
+{
+    if shown < bytes.len() { CUT } else { b"" }
 }
 
-/// The dots that follow the front of the bytes, where there are more than are shown.
-fn dots(bytes: &[u8], limit: usize) -> &'static [u8] {
-    if bytes.len() > limit { CUT } else { b"" }
+/// The end of the bytes, after dots where they are more than are shown.
+fn end_of(alloc: Global, bytes: &[u8], shown: usize) -> Result<Vec<u8>, AllocError>
+    ensures { IfOk result (λ v. v.items ≡ end_of bytes.now shown) }
+{
+    let mut end = Vec::new(alloc);
+    end.extend_from_slice(dots(bytes, shown))?;
+    end.extend_from_slice(part_from(bytes, bytes.len().saturating_sub(shown)))?;
+    Ok(end)
 }
 
-/// Adds a line of these parts.
-fn push_parts(out: &mut Vec<u8>, front: &[u8], behind: &[u8], dots: &[u8]) -> Result<(), AllocError>
+/// Adds a line of an excerpt: what stands in front, and then no more of the bytes than are shown.
+fn push_indented(
+    out: &mut Vec<u8>,
+    front: &[u8],
+    bytes: &[u8],
+    shown: usize,
+) -> Result<(), AllocError>
     ensures { OnOk result (out.new.items
-        ≡ out.old.items ++ spaces INDENT ++ front.now ++ (behind.now ++ dots.now) ++ 10 ∷ []) }
+        ≡ out.old.items ++ indented (front.now ++ front_of bytes.now shown)) }
 {
     push_spaces(out, INDENT)?;
     out.extend_from_slice(front)?;
-    out.extend_from_slice(behind)?;
-    out.extend_from_slice(dots)?;
+    out.extend_from_slice(part_before(bytes, shown))?;
+    out.extend_from_slice(dots(bytes, shown))?;
     out.push(b'\n')?;
     Ok(())
 }
@@ -53,7 +58,7 @@ fn push_parts(out: &mut Vec<u8>, front: &[u8], behind: &[u8], dots: &[u8]) -> Re
 /// Adds a line with a caret after this number of bytes.
 fn push_caret(out: &mut Vec<u8>, column: usize) -> Result<(), AllocError>
     ensures { OnOk result (out.new.items
-        ≡ out.old.items ++ spaces INDENT ++ spaces column ++ 94 ∷ 10 ∷ []) }
+        ≡ out.old.items ++ indented (spaces column ++ 94 ∷ [])) }
 {
     push_spaces(out, INDENT)?;
     push_spaces(out, column)?;
@@ -63,45 +68,31 @@ fn push_caret(out: &mut Vec<u8>, column: usize) -> Result<(), AllocError>
 }
 
 /// Adds a line of these parts, and a line with a caret below the second.
-fn push_with_caret(
-    out: &mut Vec<u8>,
-    front: &[u8],
-    behind: &[u8],
-    dots: &[u8],
-) -> Result<(), AllocError>
+fn push_with_caret(out: &mut Vec<u8>, front: &[u8], behind: &[u8]) -> Result<(), AllocError>
     ensures { OnOk result (out.new.items
-        ≡ out.old.items ++ with_caret front.now (behind.now ++ dots.now)) }
+        ≡ out.old.items ++ with_caret front.now (front_of behind.now MAX_BEHIND)) }
 {
-    push_parts(out, front, behind, dots)?;
+    push_indented(out, front, behind, MAX_BEHIND)?;
     push_caret(out, front.len())
-}
-
-/// The bytes of a place's line that are shown from the place on.
-fn shown_from(text: &[u8], at: usize) -> &[u8]
-    ensures { result.now ≡ shown_from text.now at }
-{
-    part_before(first_line(part_from(text, at)), MAX_BEHIND)
 }
 
 /// Adds the line of the text at this place, and a line with a caret below the place. Nothing is
 /// added where that line is empty.
 pub fn push_place(out: &mut Vec<u8>, text: &[u8], at: usize) -> Result<(), AllocError>
-    ensures { OnOk result (ShowsPlace text.now at out.old.items out.new.items) }
+    ensures { OnOk result (out.new.items ≡ out.old.items ++ excerpt_of_place text.now at) }
 {
+    let before = last_line(part_before(text, at));
     let behind = first_line(part_from(text, at));
-    if behind.is_empty() && position_of(text, at).column == 1 {
+    if before.is_empty() && behind.is_empty() {
         return Ok(());
     }
-    let before = last_line(part_before(text, at));
-    let front = shown_end(*out.allocator(), before)?;
-    let dots = dots(behind, MAX_BEHIND);
-    push_with_caret(out, front.as_slice(), shown_from(text, at), dots)?;
-    Ok(())
+    let front = end_of(*out.allocator(), before, MAX_BEFORE)?;
+    push_with_caret(out, front.as_slice(), behind)
 }
 
 /// The excerpt for a fault that names this byte of the text, or none.
 pub fn excerpt_of(alloc: Global, text: &[u8], place: Option<u32>) -> Result<Vec<u8>, AllocError>
-    ensures { IfOk result (λ v. ShowsFault text.now place v.items) }
+    ensures { IfOk result (λ v. v.items ≡ excerpt_of_fault text.now place) }
 {
     let mut excerpt = Vec::new(alloc);
     let Some(at) = place else {
@@ -113,11 +104,12 @@ pub fn excerpt_of(alloc: Global, text: &[u8], place: Option<u32>) -> Result<Vec<
 
 /// Adds the front of the line of a text that has this number. Nothing is added where there is no
 /// such line, or an empty one.
-pub fn push_line(out: &mut Vec<u8>, text: &[u8], number: usize) -> Result<(), AllocError> {
-    let words = first_line(text_from_line(text, number));
-    if words.is_empty() {
+pub fn push_line(out: &mut Vec<u8>, text: &[u8], number: usize) -> Result<(), AllocError>
+    ensures { OnOk result (out.new.items ≡ out.old.items ++ excerpt_of_line text.now number) }
+{
+    let line = first_line(text_from_line(text, number));
+    if line.is_empty() {
         return Ok(());
     }
-    let shown = part_before(words, MAX_BEFORE + MAX_BEHIND);
-    push_parts(out, shown, dots(words, MAX_BEFORE + MAX_BEHIND), b"")
+    push_indented(out, b"", line, MAX_BEFORE + MAX_BEHIND)
 }

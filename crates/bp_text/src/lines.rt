@@ -1,5 +1,9 @@
 //! Lines of a text, which are counted from 1.
-ghost use Rattle.std.specs.Prelude.{◌<◌, length, MatchOption};
+ghost use Rattle.std.specs.Prelude.{◌≡◌, ◌==◌, ◌<◌, ◌↔◌, length, IsTrue, IfSome, MatchOption};
+ghost use Rattle.std.specs.List.{after_first};
+ghost use Rattle.bp_text.specs.Excerpts.{first_line, line_at};
+
+use crate::parts::{first_line, part_from};
 
 /// A line, without its line feed.
 #[derive(Clone, Copy, Debug)]
@@ -11,31 +15,30 @@ pub struct Line<'a> {
 
 /// Takes the first line from a text, where any bytes are left.
 pub fn take_line<'a>(text: &mut &'a [u8]) -> Option<Line<'a>>
-    ensures { MatchOption result Unit (λ _. length text.new.now < length text.old.now) }
+    ensures size { MatchOption result
+        (length text.old.now ≡ 0)
+        (λ _. length text.new.now < length text.old.now) }
+    ensures line { IfSome result (λ line. line.words.now ≡ first_line text.old.now) }
+    ensures ended { IfSome result (λ line.
+        IsTrue line.is_ended ↔ (length (first_line text.old.now) < length text.old.now)) }
+    ensures rest { text.new.now ≡ after_first (λ b. b == 10) text.old.now }
 {
     let whole = *text;
     if whole.is_empty() {
         return None;
     }
-    let Some(end) = whole.iter().position(|byte| *byte == b'\n') else {
-        *text = whole.split_at(whole.len()).1;
-        return Some(Line {
-            words: whole,
-            is_ended: false,
-        });
-    };
-    let (words, rest) = whole.split_at(end);
-    *text = rest.split_at(1).1;
-    Some(Line {
-        words,
-        is_ended: true,
-    })
+    let words = first_line(whole);
+    let is_ended = words.len() < whole.len();
+    *text = part_from(whole, words.len().saturating_add(1));
+    Some(Line { words, is_ended })
 }
 
 /// The text from the line of this number on. It is empty where there is no such line.
-pub fn text_from_line(text: &[u8], number: usize) -> &[u8] {
+pub fn text_from_line(text: &[u8], number: usize) -> &[u8]
+    ensures { first_line result.now ≡ line_at text.now number }
+{
     let mut rest = text;
-    for _ in 1..number {
+    for _taken in 1..number {
         if take_line(&mut rest).is_none() {
             return rest;
         }
@@ -44,7 +47,9 @@ pub fn text_from_line(text: &[u8], number: usize) -> &[u8] {
 }
 
 /// The line of this number.
-pub fn line_of(text: &[u8], number: usize) -> Option<Line<'_>> {
+pub fn line_of(text: &[u8], number: usize) -> Option<Line<'_>>
+    ensures { IfSome result (λ line. line.words.now ≡ line_at text.now number) }
+{
     let mut rest = text_from_line(text, number);
     take_line(&mut rest)
 }

@@ -1,7 +1,7 @@
-use Rattle.std.proofs.Common.{◌≡◌, ◌++◌, ◌∷◌, [], ℕ, List, Option, Result, Ok, Err, inl, inr, subst, rules, refl}
+use Rattle.std.proofs.Common.{◌++◌, ◌∷◌, [], ℕ, List, Option, Result, Ok, Err, inl, inr, refl}
 use Rattle.bp_text.specs.Writing.{Writes}
 use Rattle.bp_commands.specs.Ends.{HasLine}
-use Rattle.bp_commands.proofs.FirstLines.{first_on_one_line}
+use Rattle.bp_text.proofs.FirstLines.{first_on_one_line}
 use Rattle.bp_commands.proofs.explanations.put_words.Goals as goal
 
 has_line : {T E : Type 0} → (line : List ℕ) (old new : Option (List ℕ)) (r : Result T E) → Writes old new line r → HasLine line old new

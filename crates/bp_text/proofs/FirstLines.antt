@@ -1,5 +1,5 @@
 -- The first line of a text is on one line.
-use Rattle.std.proofs.Common.{◌≡◌, ◌==◌, ◌+◌, ℕ, suc, Bool, true, false, not, cond, List, [], ◌∷◌, take, refl, subst, sym, arith}
+use Rattle.std.proofs.Common.{◌≡◌, ◌==◌, ◌+◌, ℕ, suc, Bool, true, false, not, cond, List, [], ◌∷◌, take, refl, subst, arith}
 use Rattle.std.specs.List.{position_or_len}
 use Rattle.bp_text.specs.Excerpts.{first_line}
 use Rattle.bp_text.specs.OneLine.{IsOneLine}
