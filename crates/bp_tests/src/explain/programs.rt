@@ -7,7 +7,7 @@ use std::test::Fail;
 /// A program text, and its explanation.
 type Row = (&'static [u8], &'static [u8]);
 
-const ROWS: [Row; 27] = [
+const ROWS: [Row; 28] = [
     (
         b"decl do;",
         b"f:1:6\n    decl do;\n         ^\nexpected a name, not 'do'; that is a reserved word\n",
@@ -23,6 +23,12 @@ const ROWS: [Row; 27] = [
         cut somewhere behind here\n",
         b"f:3:2\n     ?[2J{a?} // a comment that is so long th..\n     ^\n\
         nothing in a program begins with the byte 27\n",
+    ),
+    (
+        b"main() begin skip; skip; skip; skip; skip; skip; skip; skip; skip; x = 1; end",
+        b"f:1:70\n    ..gin skip; skip; skip; skip; skip; skip; skip; skip; skip; x = 1; end\n    \
+        \x20                                                             ^\n\
+        expected '(', ',', ':' or ':=', not '='; an assignment is written ':='\n",
     ),
     (b"main() begin skip; end", b""),
     (

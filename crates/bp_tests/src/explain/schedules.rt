@@ -7,7 +7,7 @@ use std::test::Fail;
 /// A schedule, its fault, and its explanation.
 type Row = (&'static [u8], DriveFault, &'static [u8]);
 
-const ROWS: [Row; 8] = [
+const ROWS: [Row; 9] = [
     (
         b"",
         DriveFault::TooLong,
@@ -22,6 +22,14 @@ const ROWS: [Row; 8] = [
         b"0 0\n07 1\n",
         DriveFault::Line(2),
         b"s:2\n    07 1\nexpected a line as '0 1', a thread, one space and a choice bit\n",
+    ),
+    (
+        b"0 0\n0 111111111111111111111111111111111111111111111111111111111111111111111111111111\
+        111111111111111111111\n0 1\n",
+        DriveFault::Line(2),
+        b"s:2\n    0 111111111111111111111111111111111111111111111111111111111111111111111111111111\
+        11111111111111111111..\n\
+        expected a line as '0 1', a thread, one space and a choice bit\n",
     ),
     (
         b"7 1\n0 0\n",

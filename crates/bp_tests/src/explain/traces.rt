@@ -2,7 +2,7 @@
 use super::is_wanted;
 use bp_code::{Code, code_of};
 use bp_explain::explain_trace;
-use bp_trace::replay;
+use bp_trace::{ReplayFault, replay};
 use std::alloc::Global;
 use std::test::Fail;
 
@@ -197,5 +197,23 @@ fn explains_heads(rt: HostRuntime) -> Result<(), Fail> {
 #[test]
 fn explains_calls(rt: HostRuntime) -> Result<(), Fail> {
     assert!(rt; are_explained(&rt, &CALLS)?);
+    Ok(())
+}
+
+/// The second call is on line 8. A fault that names another line shows that line, with no caret.
+#[test]
+fn shows_the_line_that_is_named(rt: HostRuntime) -> Result<(), Fail> {
+    let mut trace = Vec::new(rt.alloc());
+    trace.extend_from_slice(HEAD)?;
+    trace.extend_from_slice(b"0 0 s\n0 1 s\n0 0 s\n")?;
+    let on_line_7 = explain_trace(
+        rt.alloc(),
+        PROGRAM,
+        "t",
+        &trace,
+        &ReplayFault::AfterFinish(7, 1),
+    )?;
+    let wanted = b"t:7\n    0 0 s\nthread 0 has made its last call before\n";
+    assert!(rt; is_wanted(&rt, on_line_7.as_slice(), wanted)?);
     Ok(())
 }
