@@ -27,13 +27,13 @@ struct Measured {
     spent: Spent,
 }
 
-/// A case of which nothing is measured.
+/// A case whose times are not measured.
 fn unmeasured(name: &'static str, case: Case) -> Measured {
     let spent = Spent::nothing();
     Measured { name, case, spent }
 }
 
-/// Makes so many rounds of all cases. Each round has all cases, so that a busy moment of the
+/// Makes this many rounds of all cases. Each round has all cases, so that a busy moment of the
 /// machine spoils a round of each, and not all rounds of one.
 fn measure<R: Wait + Clock>(
     rt: &R,
@@ -65,7 +65,7 @@ fn all_cases() -> [Measured; 5] {
     ]
 }
 
-/// Makes so many rounds of these cases, of the program.
+/// Makes this many rounds of these cases, of the program.
 fn measure_all<R: Wait + Clock>(
     rt: &R,
     alloc: Global,

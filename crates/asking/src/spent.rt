@@ -19,7 +19,7 @@ impl Spent {
         }
     }
 
-    /// Fills the ring so many times, empties it each time, and counts what that takes.
+    /// Fills the ring this many times, empties it each time, and counts what that takes.
     pub fn count<R: Clock, F: Fill>(&mut self, rt: &R, at: &mut F, fills: u32) -> io::Result<()> {
         for _ in 0..fills {
             let start = Instant::now(rt)?;

@@ -1,4 +1,4 @@
--- What a call at a desk comes to.
+-- What a call at a desk results in.
 use Rattle.std.specs.Prelude.{◌≡◌, ◌⊎◌, ℕ, ◌≤◌, ◌+◌, false, true, List, [], ◌∷◌, ◌++◌, None, length, not}
 use Rattle.bp_tree.specs.Ast.{Program}
 use Rattle.bp_code.specs.StandsFor.{StandsFor}

@@ -14,8 +14,8 @@ IsDeskFault fault.Memory = ⊤
 IsDeskFault fault.Busy = ⊤
 IsDeskFault f = ⊥
 
--- At least one and at most n calls were made. The seat is not open behind a last reply; it is open
--- behind a step only where all n calls were made.
+-- At least one and at most n calls were made. The seat is not open after a last reply; it is open
+-- after a step only where all n calls were made.
 pub record IsSeatTurn (seat after : SeatOf) (n : ℕ) (reply : Reply) : Type 0 where
   pub own : after.thread ≡ seat.thread
   pub more : seat.calls < after.calls
@@ -23,7 +23,7 @@ pub record IsSeatTurn (seat after : SeatOf) (n : ℕ) (reply : Reply) : Type 0 w
   pub last : is_last reply ≡ true → after.is_open ≡ false
   pub whole : reply ≡ Stepped → after.is_open ≡ true → after.calls ≡ seat.calls + n
 
--- Fewer than n calls were made before the refusal, and none where the line was finished; else the
+-- Fewer than n calls were made before the refusal, and none if the line was finished; else the
 -- seat is still open.
 pub record IsCutSeatTurn (seat after : SeatOf) (n : ℕ) (f : AskFault) : Type 0 where
   pub own : after.thread ≡ seat.thread

@@ -2,7 +2,7 @@
 use Rattle.std.specs.Prelude.{if◌then◌else◌, ◌≡◌, ℕ, Bool, true, List, map}
 use Rattle.std.specs.List.{range_with_len}
 
--- a thread, how many calls were made from its seat, and whether it may go on
+-- a thread, how many calls were made from its seat, and whether it may continue
 pub record SeatOf : Type 0 where
   pub thread : ℕ
   pub calls : ℕ

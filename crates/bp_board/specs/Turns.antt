@@ -1,4 +1,4 @@
--- What a turn at a desk comes to: the calls that it appends.
+-- What a turn at a desk results in: the calls that it appends.
 use Rattle.std.specs.Prelude.{◌≡◌, ◌≢◌, ◌⊎◌, ◌<◌, ◌≤◌, ℕ, ◌+◌, true, List, [], ◌∷◌, ◌++◌, length, not}
 use Rattle.std.specs.List.{AllByRecursion}
 use Rattle.bp_machine.specs.declared.calls.Call.{Call}

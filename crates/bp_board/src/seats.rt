@@ -45,7 +45,7 @@ impl<C: Calls, O: Ledger> Seat<C, O> {
         self.calls
     }
 
-    /// Whether the thread may go on, as far as the seat knows.
+    /// Whether the thread may continue, as far as the seat knows.
     pub fn is_open(&self) -> bool
         ensures { result ≡ self.now.is_open }
     {

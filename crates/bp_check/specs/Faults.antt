@@ -31,7 +31,7 @@ check_fault_place f at = Some at
 abbrev pub IsTwice : List Name → ℕ → Type 0
 IsTwice ns at = (k : ℕ) × (n : Name) × IsNameAt ns k n at × (has (take k ns) n.text ≡ true)
 
--- the first name past so many
+-- the first name past this many
 abbrev pub IsPast : ℕ → List Name → ℕ → Type 0
 IsPast limit ns at = (n : Name) × IsNameAt ns limit n at
 

@@ -5,7 +5,7 @@ use Rattle.bp_check.specs.Least.{IsLeast}
 use Rattle.bp_check.specs.declared.faults.CheckFault.{CheckFault}
 use Rattle.bp_check.specs.declared.faults.Found.{Found}
 
--- the least of the set, or none where it is empty
+-- the least of the set, or none if it is empty
 abbrev pub Finds : (CheckFault → ℕ → Type 0) → Option Found → Type 0
 Finds Is o =
     MatchOption o ((g : CheckFault) (at : ℕ) → Is g at → ⊥) (λ f. IsLeast Is f.fault f.at)

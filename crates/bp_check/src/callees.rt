@@ -8,7 +8,7 @@ use bp_tree::Proc;
 use std::alloc::{AllocError, Global};
 use std::marker::Model;
 
-/// Procedures in order, of which the first of a name is found without a walk over the others.
+/// Procedures in order. The first with a name is found without a walk over the others.
 #[derive(Drop)]
 pub(crate) struct Callees<'a> {
     procs: &'a [Proc],

@@ -26,7 +26,7 @@ entry_frame p arguments =
       left = p.body;
     }
 
--- the stack of a thread that begins with this procedure, and none where there is none
+-- the stack of a thread that begins with this procedure, and none if there is none
 abbrev pub first_stack : Option Procedure → List Frame
 first_stack None = []
 first_stack (Some p) = entry_frame p [] ∷ []

@@ -12,7 +12,7 @@ pub data Formula : Type 0 where
   Joined : (op : Op) (left right : Formula) → Formula
 
 -- An instruction with its successors: the next one; where a test is 0, the other one; the first of
--- a callee. A test is a formula, or none where the choice bit decides.
+-- a callee. A test is a formula, or none if the choice bit decides.
 pub data Instruction : Type 0 where
   Skip : (next : ℕ) → Instruction
   Goto : (next : ℕ) → Instruction

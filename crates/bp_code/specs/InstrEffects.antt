@@ -1,4 +1,4 @@
--- What the effect of an instruction in src/ comes to.
+-- What the effect of an instruction in src/ results in.
 use Rattle.std.specs.Prelude.{List, ◌∷◌}
 use Rattle.bp_code.specs.declared.stores.Store.{Store}
 use Rattle.bp_code.specs.declared.effects.Effect.{Effect}

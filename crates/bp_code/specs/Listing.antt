@@ -6,7 +6,7 @@ use Rattle.bp_code.specs.Flat.{Instruction, Skip, Goto, Return, Assign, If, Whil
 abbrev pub number_field : ℕ → List ℕ
 number_field n = codes " " ++ decimal n
 
--- a line with numbers behind its words
+-- a line with numbers after its words
 abbrev pub line : List ℕ → List ℕ → List ℕ
 line words numbers = words ++ (flat_map number_field numbers ++ codes "\n")
 
@@ -27,7 +27,7 @@ instruction_line n (Assume test m) = line (decimal n ++ codes " assume") (m ∷ 
 instruction_line n (Print values m) = line (decimal n ++ codes " print") (m ∷ [])
 instruction_line n (Call c arguments m) = line (decimal n ++ codes " call") (c ∷ m ∷ [])
 
--- the lines of instructions, of which the first has the number n
+-- the lines of instructions, the first of which has the number n
 abbrev pub instruction_lines : ℕ → List Instruction → List ℕ
 instruction_lines n [] = []
 instruction_lines n (i ∷ is) = instruction_line n i ++ instruction_lines (n + 1) is

@@ -19,12 +19,12 @@ with_left f r = record f { left = r }
 abbrev pub frame_store : Valuation → Frame → Store Valuation
 frame_store g f = record { globals = g; locals = f.locals }
 
--- a jump to where r remains, and none where the label is nowhere
+-- a jump to where r remains, and none if the label is nowhere
 abbrev pub jump_effect : Valuation → Frame → List Frame → Option Block → StatementEffect
 jump_effect g f fs None = Misses
 jump_effect g f fs (Some r) = Leaves g (with_left f r ∷ fs)
 
--- a call of a procedure, and none where it is nowhere; r is left to the calling frame
+-- a call of a procedure, and none if it is nowhere; r is left to the calling frame
 abbrev pub call_effect
     : Valuation → Frame → List Frame → Block → List Bool → Option Procedure → StatementEffect
 call_effect g f fs r arguments None = Misses
@@ -65,7 +65,7 @@ abbrev pub effect : List Procedure → Block → Valuation → Frame → List Fr
 effect ps Done g f fs bit = Leaves g fs
 effect ps (Then label at s r) g f fs bit = statement_effect ps g f fs bit s label at r
 
--- the configuration after an effect on thread i, and none where there is no move
+-- the configuration after an effect on thread i, and none if there is no move
 abbrev pub after_effect : Configuration → ℕ → StatementEffect → Option Configuration
 after_effect c i (Leaves g stack) =
     Some (record { globals = g; stacks = slice_set c.stacks i stack; failed = false })

@@ -96,7 +96,7 @@ module _ (t : Program) (table : List Place) (p : Procedure) where
     pub values_are : AreValues t p values es
     pub next_is : Remains table next p r
 
-  -- a test that goes on at one place where it is 1, and at another where it is 0
+  -- a test that continues at one place where it is 1, and at another where it is 0
   pub record IsBranch (d : Decision) (taken other : Block) (i : Instruction) : Type 0 where
     pub test : Option Formula
     pub next : ℕ

@@ -3,7 +3,7 @@ use Rattle.std.specs.Prelude.{ℕ, List, [], ◌∷◌, ◌++◌, Option, None, 
 use Rattle.bp_tree.specs.Ast.{Block, Done, Then, Statement, Branches, Loops, Program}
 use Rattle.bp_code.specs.StandsFor.{places_of}
 
--- the place of the statement that comes next, and none where nothing remains
+-- the place of the statement that comes next, and none if nothing remains
 abbrev pub start_of_block : Block → Option ℕ
 start_of_block Done = None
 start_of_block (Then label at s t) = Some at

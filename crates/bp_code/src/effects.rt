@@ -11,13 +11,13 @@ use crate::stores::Store;
 /// What an instruction does to its thread.
 #[derive(Clone, Copy, Debug, PartialEq, Eq)]
 pub enum Effect {
-    /// The topmost frame goes on at `next`, and the globals and its locals are these.
+    /// The topmost frame continues at `next`, and the globals and its locals are these.
     Continues {
         next: u32,
         store: Store,
     },
-    /// The topmost frame is left to go on at `next`, and a frame with these locals begins above it
-    /// at `callee`.
+    /// The topmost frame is left to continue at `next`, and a frame with these locals begins above
+    /// it at `callee`.
     Enters {
         callee: u32,
         next: u32,

@@ -50,7 +50,7 @@ impl<'a> Layout<'a> {
         self.sizes[(number - self.start) as usize]
     }
 
-    /// How many instructions the statements have, of which the first has this number.
+    /// How many instructions the statements have. The first has this number.
     pub(crate) fn size_of_block(&self, stmts: &[Stmt], number: u32) -> u32
         requires room { number + block_size (block_of stmts.now) < 2 ^ 32 }
         requires placed { let sizes = block_sizes (block_of stmts.now) in
@@ -86,7 +86,7 @@ impl<'a> Layout<'a> {
     }
 }
 
-/// Notes the sizes and labels of statements, which begin behind those that were noted.
+/// Notes the sizes and labels of statements, which begin after those that were noted.
 #[cycle(note)]
 fn note_block<'a>(
     sizes: &mut Vec<u32>,
@@ -108,7 +108,7 @@ fn note_block<'a>(
     Ok(())
 }
 
-/// Notes a statement and those inside it. Its own size is known behind them.
+/// Notes a statement and those inside it. Its own size is known after them.
 #[cycle(note)]
 fn note<'a>(
     sizes: &mut Vec<u32>,

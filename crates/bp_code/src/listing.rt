@@ -11,7 +11,7 @@ use bp_text::{WriteFault, put, put_each};
 use itoa::Buffer;
 use std::io::Write;
 
-/// Writes each number behind a space.
+/// Writes each number after a space.
 fn write_numbers<W: Write>(numbers: &[u32], out: &mut W) -> Result<(), WriteFault>
     ensures { Writes (W.contents out.old) (W.contents out.new)
         (flat_map number_field numbers.now) result }
@@ -23,7 +23,7 @@ fn write_numbers<W: Write>(numbers: &[u32], out: &mut W) -> Result<(), WriteFaul
     Ok(())
 }
 
-/// Writes a line with numbers behind its words.
+/// Writes a line with numbers after its words.
 fn write_line<W: Write>(words: &[&[u8]], numbers: &[u32], out: &mut W) -> Result<(), WriteFault>
     ensures { let text = flat_map (λ p. p.now) words.now in
         Writes (W.contents out.old) (W.contents out.new) (line text numbers.now) result }

@@ -37,7 +37,7 @@ fn note_inside(starts: &mut Vec<Option<u32>>, form: &Form) -> Result<(), AllocEr
 }
 
 /// For each instruction of the program's code, in order, the offset of its statement's first token
-/// behind its label, and none at the end of a procedure.
+/// after its label, and none at the end of a procedure.
 pub fn statement_starts(alloc: Global, checked: &Checked) -> Result<Vec<Option<u32>>, AllocError>
     ensures { IfOk result (λ v. v.items ≡ starts_of checked.now) }
 {

@@ -35,7 +35,7 @@ pub enum Fault {
     /// A worker could not be started.
     #[error("a worker could not be started")]
     Start,
-    /// A worker stopped although its thread could go on. The trace is written.
+    /// A worker stopped although its thread could continue. The trace is written.
     #[error("a worker stopped before its thread was finished")]
     Early,
     /// The output could not be written.

@@ -64,7 +64,7 @@ fn put_outcome<W: Write>(outcome: Outcome, out: &mut W) -> Result<(), WriteFault
     }
 }
 
-/// Writes `print T BITS` for each step that printed, with its thread and values, and behind them
+/// Writes `print T BITS` for each step that printed, with its thread and values, and after them
 /// `outcome clean`, or `outcome failed T` with the thread whose assertion failed.
 pub fn show_replay<W: Write>(replayed: &Replayed, out: &mut W) -> Result<(), WriteFault>
     ensures { let rows = map row_of replayed.now.printed.items in

@@ -64,7 +64,7 @@ abbrev pub ExplainsSetup : List ℕ → List ℕ → SetupFault → List ℕ →
 ExplainsSetup name trace fault explained =
     (n : ℕ) × IsSetupLine fault n × ExplainsLine name trace n explained
 
--- the explanation names the line behind a trace, where its end is due, and shows nothing
+-- the explanation names the line after a trace, where its end is due, and shows nothing
 abbrev pub ExplainsNoEnd : List ℕ → List ℕ → List ℕ → Type 0
 ExplainsNoEnd name trace explained =
     let last = position_at trace (length trace) in

@@ -16,7 +16,7 @@ shown b = if is_plain b then b else if b == 9 || b == 13 then 32 else 63
 abbrev pub IsPlain : List ℕ → Type 0
 IsPlain text = All (λ b. is_plain b ≡ true) text
 
--- a number behind a colon
+-- a number after a colon
 abbrev pub behind_colon : ℕ → List ℕ
 behind_colon n = 58 ∷ decimal n
 

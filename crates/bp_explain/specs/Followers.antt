@@ -1,4 +1,4 @@
--- With which tokens a text may go on.
+-- With which tokens a text may continue.
 use Rattle.std.specs.Prelude.{◌⊎◌, ℕ, List, ◌∷◌, ◌++◌, length}
 use Rattle.bp_tree.specs.Ast.{Program}
 use Rattle.bp_syntax.specs.Texts.{IsTextOf, IsRefusal}

@@ -9,7 +9,7 @@ struct Tally {
     tokens: usize,
     /// The commas before `:=`, or all where there is none.
     first_commas: usize,
-    /// The commas behind `:=`.
+    /// The commas after `:=`.
     second_commas: usize,
     is_behind: bool,
 }

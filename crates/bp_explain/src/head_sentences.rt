@@ -1,4 +1,4 @@
-//! Sentences on a line of a trace's head that is not as it is due.
+//! Sentences on a line of a trace's head that is not as expected.
 
 use crate::sentences::push_all;
 use crate::trace_heads::init_line;

@@ -29,7 +29,7 @@ fn push_same_thread(out: &mut Vec<u8>, thread: u32) -> Result<(), AllocError> {
     push_all(out, &[b" too, and has all its successive calls\n"])
 }
 
-/// Adds what a line behind the head of a trace may be.
+/// Adds what a line after the head of a trace may be.
 fn push_forms(out: &mut Vec<u8>, trace: &[u8]) -> Result<(), AllocError> {
     let calls: &[u8] = if is_version_two(trace) {
         b"'0 1s0s', a thread and then the choice bit and the letter of the reply of each call"

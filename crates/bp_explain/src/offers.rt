@@ -1,5 +1,5 @@
-//! What a text may go on with, in few words: where all tokens of a group may follow, they are named
-//! by the group's name.
+//! What a text may continue with, in few words: where all tokens of a group may follow, they are
+//! named by the group's name.
 
 use crate::candidates::{kinds_behind, may_end};
 use crate::sentences::{push_all, push_quoted};
@@ -38,7 +38,7 @@ const OPERATOR: [TokenKind; 6] = [
     TokenKind::Implies,
 ];
 
-/// One thing that a text may go on with.
+/// One thing that a text may continue with.
 #[derive(Clone, Copy, Debug)]
 pub(crate) enum Offer {
     Statement,
@@ -98,7 +98,7 @@ pub(crate) fn offers_behind(alloc: Global, front: &[u8]) -> Result<Vec<Offer>, A
     Ok(offers)
 }
 
-/// What stands before an offer, of which so many are still to come.
+/// What separates an offer from the one before, where this many are still to come.
 fn separator(is_first: bool, is_last: bool) -> &'static [u8] {
     if is_first {
         b""

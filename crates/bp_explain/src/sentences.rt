@@ -4,10 +4,10 @@ use bp_text::part_before;
 use itoa::Buffer;
 use std::alloc::AllocError;
 
-/// So many bytes of a name are shown.
+/// The most bytes of a name that are shown.
 const MAX_NAME: usize = 60;
 
-/// What stands behind a name that was cut.
+/// What stands after a name that was cut.
 const CUT: &[u8] = b"..";
 
 /// Adds each of the parts.

@@ -21,7 +21,7 @@ fn take_byte<'a>(text: &mut &'a [u8]) -> Option<u8>
 pub(crate) struct Symbol {
     pub(crate) digit: u8,
     pub(crate) letter: u8,
-    /// How many bytes of the line are behind the digit.
+    /// How many bytes of the line are after the digit.
     pub(crate) behind_digit: usize,
 }
 

@@ -1,4 +1,4 @@
-//! The sentence on a token with which no program goes on.
+//! The sentence on a token with which no program continues.
 
 use crate::hints::token_hint;
 use crate::offers::{Offer, offers_behind, push_offers};

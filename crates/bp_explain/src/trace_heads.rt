@@ -8,7 +8,7 @@ pub(crate) const ENTRY: &[u8] = b"entry ";
 /// The line on which the first entry is due.
 pub(crate) const FIRST_ENTRY: usize = 2;
 
-/// How many lines of a head are behind its entries.
+/// How many lines of a head are after its entries.
 const LINES_BEHIND_ENTRIES: usize = 4;
 
 /// How many entry lines a trace has.
@@ -38,7 +38,7 @@ pub(crate) fn init_line(trace: &[u8]) -> usize {
     entry_count(trace).saturating_add(FIRST_ENTRY)
 }
 
-/// The lines of a trace behind its head.
+/// The lines of a trace after its head.
 pub(crate) fn body_of(trace: &[u8]) -> &[u8] {
     text_from_line(trace, init_line(trace).saturating_add(LINES_BEHIND_ENTRIES))
 }

@@ -18,7 +18,7 @@ choice_word seed thread n = (pcg32 (generator_after seed thread n)).0
 abbrev pub choice_bit : ℕ → ℕ → ℕ → Bool
 choice_bit seed thread n = bits_of (choice_word seed thread (n / 32)) (n % 32)
 
--- a word whose bits are drawn, the place of the next one, and the generator behind it
+-- a word whose bits are drawn, the place of the next one, and the generator after it
 pub record ChoicesOf : Type 0 where
   pub word : ℕ
   pub place : ℕ

@@ -10,7 +10,7 @@ last_thread [] = None
 last_thread (t ∷ []) = Some t
 last_thread (t ∷ u ∷ ts) = last_thread (u ∷ ts)
 
--- the contexts that a step of thread i opens behind one of thread l
+-- the contexts that a step of thread i opens after one of thread l
 abbrev pub contexts_opened : Option ℕ → ℕ → ℕ
 contexts_opened None i = 1
 contexts_opened (Some l) i = if l == i then 0 else 1

@@ -58,7 +58,7 @@ IsBitRefusal choices i given Seeded =
 IsBitRefusal choices i given Unseeded = (slice_get choices i ≡ None) × (given ≡ None)
 IsBitRefusal choices i given f = ⊥
 
--- what a call of thread i comes to, where this bit or none was handed in
+-- what a call of thread i results in, where this bit or none was handed in
 pub record IsJudged (x : SessionOf) (i : ℕ) (given : Option Bool) (p : Prepared) : Type 0 where
   pub thread : p.call.thread ≡ i
   pub bit : IsKeptBit x.choices i given p.call.bit

@@ -1,4 +1,4 @@
--- What a history comes to.
+-- The report of a history.
 use Rattle.std.specs.Prelude.{◌≡◌, ℕ, Bool, true, false, List, [], ◌∷◌, ◌++◌, Option, length}
 use Rattle.bp_tree.specs.Ast.{Name, Block, Then, Asserts, Decision, Program}
 use Rattle.bp_code.specs.Values.{decision_value}

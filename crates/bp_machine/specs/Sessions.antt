@@ -76,7 +76,7 @@ pub record IsNextCall
   pub bit : IsBitOfCall s h i given x.bit
   pub allowed : IsAllowed t s h x
 
--- the bit that is handed in for a recorded call: none where the setup has a seed, else that of the
+-- the bit that is handed in for a recorded call: none if the setup has a seed, else that of the
 -- record
 abbrev pub given_bit : SetupOf → Bool → Option Bool
 given_bit s bit = if is_some s.seed then None else Some bit

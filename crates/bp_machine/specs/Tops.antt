@@ -1,4 +1,4 @@
--- Where a thread goes on: at the top of its stack.
+-- Where a thread continues: at the top of its stack.
 use Rattle.std.specs.Prelude.{◌≡◌, ℕ, List, ◌∷◌, length}
 use Rattle.bp_tree.specs.Ast.{Program}
 use Rattle.bp_code.specs.Bits.{bits_of}
@@ -7,7 +7,7 @@ use Rattle.bp_code.specs.StandsFor.{Remains, places_of, valuation_of, variables}
 use Rattle.bp_machine.specs.declared.tops.Top.{Top}
 use Rattle.bp_machine.specs.Answers.{stack_of}
 
--- the thread i goes on at this instruction, with these globals and locals, and so many frames
+-- the thread i continues at this instruction, with these globals and locals, and this many frames
 pub record IsTop (t : Program) (c : Configuration) (i : ℕ) (x : Top) : Type 0 where
   pub frame : Frame
   pub below : List Frame

@@ -1,5 +1,5 @@
--- What a call of a thread comes to in a session, and the state after it: how a session works, which
--- no public clause names.
+-- The result of a call of a thread in a session, and the state after it: how a session works,
+-- which no public clause names.
 use Rattle.std.specs.Prelude.{if◌then◌else◌, ◌≡◌, ℕ, ◌+◌, ◌<◌, ◌^◌, Bool, true, false, ◌||◌, nat_le, List, [], ◌∷◌, Option, None, Some, length, slice_get, slice_set}
 use Rattle.bp_code.specs.Flat.{Instruction}
 use Rattle.bp_code.specs.Bits.{store_of}
@@ -33,7 +33,7 @@ pub record IsEffectOf (i : Instruction) (s : Store) (bit : Bool) (d : Effect) : 
   pub each : (below : List Activation)
       → effect_of s d below ≡ instruction_effect i (store_of s) below bit
 
--- what an effect comes to, where the stack may be full
+-- what an effect results in, where the stack may be full
 abbrev pub transition_of : Effect → Bool → Transition
 transition_of (Enters c m locals) full = if full then Stays Full else Steps (Enters c m locals)
 transition_of instr.Fails full = Fails
@@ -59,7 +59,7 @@ module _ (code : List Instruction) (g : ℕ) (bit : Bool) where
   IsTransitionUnless true fits stack v = v ≡ Stays Stopped
   IsTransitionUnless false fits stack v = IsTransitionOn fits stack v
 
--- what a call of this thread, thread i, comes to, where so many contexts are allowed
+-- what a call of this thread, thread i, results in, where this many contexts are allowed
 abbrev pub IsTransition :
     List Instruction → State → ℕ → ℕ → GuestThreadOf → Bool → Transition → Type 0
 IsTransition code x most i guest bit v =
@@ -122,7 +122,7 @@ MayGrow x i v = used_with x.contexts i < 2 ^ 32
 abbrev pub is_over : SetupOf → GuestThreadOf → Bool
 is_over s guest = guest.ended || nat_le s.calls guest.calls
 
--- what a call of thread i comes to, which is there and may make it
+-- what a call of thread i results in, which is there and may make it
 pub record IsNextTransition
     (code : List Instruction) (s : SetupOf) (x : State) (i : ℕ) (bit : Bool) (v : Transition)
     : Type 0 where
@@ -143,7 +143,7 @@ pub record IsOver (s : SetupOf) (x : State) (i : ℕ) : Type 0 where
   pub has : slice_get x.threads i ≡ Some guest
   pub over : is_over s guest ≡ true
 
--- the frame that the effect puts on a stack fits where there is room for so many
+-- the frame that the effect puts on a stack fits where there is room for this many
 abbrev pub FitsIn : ℕ → Effect → Type 0
 FitsIn room (Enters c m locals) = 0 < room
 FitsIn room d = Unit {0}

@@ -35,7 +35,7 @@ impl Model for Choices {
 }
 
 impl Choices {
-    /// The choices of a thread with this seed, of which none is drawn.
+    /// The choices of a thread with this seed. None is drawn yet.
     pub fn new(seed: u64, thread: u32) -> Choices
         requires { thread < MAX_THREADS }
         ensures { IsAt result seed thread 0 }

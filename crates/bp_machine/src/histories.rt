@@ -1,4 +1,4 @@
-//! What a history comes to: which threads it finishes, and how many it leaves open.
+//! Which threads a history finishes, and how many it leaves open.
 ghost use Rattle.std.specs.Prelude.{◌≡◌};
 ghost use Rattle.bp_machine.specs.Histories.{is_finished, open_lines};
 
@@ -20,7 +20,7 @@ fn is_finished(setup: &Setup, history: &[Call], thread: u32) -> bool
     ended || setup.calls() as usize <= count
 }
 
-/// How many threads may go on after the history.
+/// How many threads may continue after the history.
 pub fn open_lines(setup: &Setup, history: &[Call]) -> u32
     ensures { result ≡ open_lines setup.now history.now }
 {

@@ -47,7 +47,7 @@ impl Model for Machine {
     } };
 }
 
-/// What an effect comes to, where the stack may be full.
+/// What an effect results in, where the stack may be full.
 #[inline(always)]
 fn transition_of(effect: Effect, is_full: bool) -> Transition
     ensures { result ≡ transition_of effect is_full }
@@ -66,7 +66,7 @@ fn transition_of(effect: Effect, is_full: bool) -> Transition
     }
 }
 
-/// What a call of a thread with this stack comes to.
+/// What a call of a thread with this stack results in.
 #[inline(always)]
 fn transition_on(code: &Code, globals: u128, fits: bool, stack: &Stack, bit: bool) -> Transition
     ensures { IsTransitionOn code.now.instructions globals bit fits stack.now.frames result }
@@ -159,7 +159,7 @@ impl Machine {
         self.threads.get(thread as usize)
     }
 
-    /// How many threads may go on, if `calls` calls of each are allowed.
+    /// How many threads may continue, if `calls` calls of each are allowed.
     pub(crate) fn open_lines(&self, calls: u32) -> u32
         requires { length self.now.state.threads ≤ MAX_THREADS }
         ensures { (t : Program) (s : SetupOf) (h : List Answered)

@@ -14,7 +14,7 @@ pub struct Report {
     pub outcome: Outcome,
     /// The number of calls, also of those that made no step.
     pub calls: u64,
-    /// The number of threads that may go on.
+    /// The number of threads that may continue.
     pub left_open: u32,
     /// The least number of contexts that the steps are within.
     pub contexts: u32,

@@ -21,7 +21,7 @@ use bp_code::{Code, steps_alike};
 use std::alloc::{AllocError, Global};
 use std::marker::Model;
 
-/// A call that was judged, and what it comes to.
+/// A call that was judged, and what it results in.
 #[derive(Clone, Copy, Debug, PartialEq, Eq)]
 pub(crate) struct Prepared {
     call: Call,
@@ -151,9 +151,9 @@ impl Session {
         self.make_given(thread, Some(bit))
     }
 
-    /// Makes the machine's own call of the thread of a recorded call: with the bit of the seed where
-    /// the setup has one, else with the bit that was recorded. Only a step that is a call takes
-    /// memory.
+    /// Makes the machine's own call of the thread of a recorded call: with the bit of the seed
+    /// where the setup has one, else with the bit that was recorded. Only a step that is a call
+    /// takes memory.
     #[inline(always)]
     pub fn ask_as_recorded(&mut self, thread: u32, bit: bool) -> Result<Call, AskFault>
         ensures answer { (t : Program) (h : List Answered)

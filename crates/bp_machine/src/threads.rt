@@ -9,7 +9,7 @@ use bp_code::{Code, Effect};
 use std::alloc::{AllocError, Global};
 use std::marker::Model;
 
-/// What a call comes to, before it is made.
+/// What a call results in, before it is made.
 #[derive(Clone, Copy, Debug, PartialEq, Eq)]
 pub(crate) enum Transition {
     /// No step: the machine stays, with this reply.

@@ -1,4 +1,4 @@
-//! Where a thread goes on.
+//! Where a thread continues.
 use bp_code::Store;
 
 /// The top of a thread's stack.

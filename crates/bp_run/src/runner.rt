@@ -28,8 +28,8 @@ use std::sync::ledger::Ledger;
 use std::thread::Threads;
 use std::time::Clock;
 
-/// What playing a board came to: the seats that came back, and the report of its history, or why
-/// there is none. No seat comes back where playing was refused before the head was written.
+/// The result of playing a board: the seats that came back, and the report of its history, or
+/// why there is none. No seat comes back where playing was refused before the head was written.
 #[derive(Drop)]
 pub struct PlayedBoard<C: Calls, O: Ledger> {
     pub seats: Vec<Seat<C, O>>,

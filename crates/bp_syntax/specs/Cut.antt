@@ -59,7 +59,7 @@ first_open_brace (Fit kind at bytes ∷ ps) = first_open_brace ps
 first_open_brace (Brace at ∷ ps) = Some at
 first_open_brace (Bad at ∷ ps) = first_open_brace ps
 
--- these tokens behind the one that a lexeme is, unless it is white or a comment
+-- these tokens after the one that a lexeme is, unless it is white or a comment
 abbrev pub with_token : Option TokenKind → ℕ → List ℕ → List Token → List Token
 with_token None at bytes ts = ts
 with_token (Some kind) at bytes ts = record { kind = kind; at = at; text = bytes } ∷ ts

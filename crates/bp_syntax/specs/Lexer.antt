@@ -9,7 +9,7 @@ use Rattle.bp_syntax.specs.declared.lexemes.FirstLexeme.TheVariants as first
 use Rattle.bp_syntax.specs.declared.tokens.LexemeKind.{LexemeKind}
 use Rattle.bp_syntax.specs.declared.tokens.LexemeKind.TheVariants as lexeme
 
--- a lexeme of the kind, once begun, goes on with such bytes
+-- a lexeme of the kind, once begun, continues with such bytes
 abbrev pub is_continuation : LexemeKind → ℕ → Bool
 is_continuation lexeme.Identifier b = is_word_byte b
 is_continuation lexeme.Comment b = is_comment_byte b

@@ -53,7 +53,7 @@ module _ (P : Name → Type 0) where
   abbrev pub NamesInProgram : Program → Type 0
   NamesInProgram p = EachName p.globals × NamesInProcedures p.procedures
 
--- no name of the program is longer than so many bytes
+-- no name of the program is longer than this many bytes
 abbrev pub HasShortNames : ℕ → Program → Type 0
 HasShortNames most p = NamesInProgram (λ n. length n.text ≤ most) p
 

@@ -25,8 +25,8 @@ pub record BreaksAt (P : List Token → Type 0) (ts : List Token) (at : ℕ) : T
   pub after : P (front ++ token ∷ []) → ⊥
   pub place : token.at ≡ at
 
--- the first token after which no program can go on is here; or the text ends too early, and this is
--- its length
+-- the first token after which no program can continue is here; or the text ends too early, and this
+-- is its length
 abbrev pub HasSyntaxFault : List ℕ → List Token → ℕ → Type 0
 HasSyntaxFault text ts at =
     BreaksAt Opens ts at ⊎ (Opens ts × ((p : Program) → Derives ts p → ⊥) × (at ≡ length text))

@@ -54,7 +54,7 @@ pub data Wanted : Type 0 where
 abbrev pub NamesThen : List Name → (List Name → Wanted) → Wanted
 NamesThen ns next = NameThen (λ n. MoreNames (ns ++ n ∷ []) next)
 
--- the operators that bind more tightly than the precedence, behind their first operand
+-- the operators that bind more tightly than the precedence, after their first operand
 abbrev pub MoreTighter : Precedence → Expression → (Expression → Wanted) → Wanted
 MoreTighter Equality e next = next e
 MoreTighter Conjunction e next = MoreOperands Equality e next
@@ -196,7 +196,7 @@ program_of gs ps = record { globals = gs; procedures = ps }
 abbrev pub procedure_of : Name → List Name → List Name → Block → Procedure
 procedure_of n fs ls b = record { name = n; formals = fs; locals = ls; body = b }
 
--- a procedure behind its name
+-- a procedure after its name
 abbrev pub BodyThen : Name → (Procedure → Wanted) → Wanted
 BodyThen n next =
     WordThen kind.Open (AnyNamesThen (λ fs.
@@ -311,7 +311,7 @@ abbrev pub IsStop : Stop → ParseResult → List Token → Type 0
 IsStop stop.Unexpected o left = o ≡ Stops left
 IsStop stop.Memory o left = Unit {0}
 
--- reading goes on from the first list to the second, or stops there
+-- reading continues from the first list to the second, or stops there
 abbrev pub ReadsBy :
     {T : Type 0} → Result T Stop → Wanted → List Token → List Token → (T → Wanted) → Type 0
 ReadsBy r before old new after =
@@ -323,7 +323,7 @@ ReadsBy r before old new after =
 abbrev pub Parses : List Token → Program → Type 0
 Parses ts p = parse_result whole_program ts ≡ Got p
 
--- a phrase is read: whatever is wanted behind it, reading goes on from there with what the phrase
+-- a phrase is read: whatever is wanted after it, reading continues from there with what the phrase
 -- means
 abbrev pub ReadsPhrase :
     {T X : Type 0} → Result T Stop → ((X → Wanted) → Wanted)

@@ -4,7 +4,7 @@ use Rattle.bp_syntax.specs.declared.limits.TheConstants.{SUCCESSION_LIMIT}
 use Rattle.bp_syntax.specs.Tokens.{Token}
 use Rattle.bp_syntax.specs.Successions.{is_separator}
 
--- the place of the first token too many, where so many come before these
+-- the place of the first token too many, where this many come before these
 abbrev pub first_too_many : ℕ → List Token → Option ℕ
 first_too_many n [] = None
 first_too_many n (t ∷ ts) =

@@ -22,11 +22,11 @@ is_white b = list_any (nat_eq b) whites
 abbrev pub is_letter : ℕ → Bool
 is_letter b = is_ascii_alphabetic b || b == 95
 
--- a letter, an underscore or a digit: what an identifier goes on with
+-- a letter, an underscore or a digit: what an identifier continues with
 abbrev pub is_word_byte : ℕ → Bool
 is_word_byte b = is_ascii_alphanumeric b || b == 95
 
--- any byte but a line feed: what a comment goes on with
+-- any byte but a line feed: what a comment continues with
 abbrev pub is_comment_byte : ℕ → Bool
 is_comment_byte b = not (b == 10)
 
@@ -34,7 +34,7 @@ is_comment_byte b = not (b == 10)
 abbrev pub is_braced_byte : ℕ → Bool
 is_braced_byte b = nat_le 32 b && (nat_le b 126 && not (b == 125))
 
--- any number of such bytes, and }: what a brace goes on with in a name
+-- any number of such bytes, and }: what a brace continues with in a name
 abbrev pub is_braced_rest : List ℕ → Bool
 is_braced_rest [] = false
 is_braced_rest (b ∷ []) = b == 125

@@ -24,7 +24,8 @@ pub enum ReadFault {
     /// The first token past `SUCCESSION_LIMIT` in succession without a separator.
     #[error("too many tokens at {0}")]
     TooManyTokens(u32),
-    /// The first token after which no program can go on; the text's length where it ends too early.
+    /// The first token after which no program can continue; the text's length where it ends too
+    /// early.
     #[error("syntax at {0}")]
     Syntax(u32),
     /// An allocation failed.

@@ -73,14 +73,14 @@ pub(crate) fn is_letter(b: u8) -> bool
     b.is_ascii_alphabetic() || b == b'_'
 }
 
-/// Whether an identifier may go on with the byte.
+/// Whether an identifier may continue with the byte.
 pub(crate) fn is_word_byte(b: u8) -> bool
     ensures { result ≡ spelling.is_word_byte b }
 {
     b.is_ascii_alphanumeric() || b == b'_'
 }
 
-/// Whether a comment may go on with the byte.
+/// Whether a comment may continue with the byte.
 pub(crate) fn is_comment_byte(b: u8) -> bool
     ensures { result ≡ spelling.is_comment_byte b }
 {

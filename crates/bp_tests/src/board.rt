@@ -32,10 +32,10 @@ const LOOP: Example = Example {
     ring: 1024,
 };
 
-/// What is done, and what it comes to.
+/// What is done, and what it results in.
 #[derive(Clone, Copy)]
 enum Act {
-    /// A turn of at most so many calls from this seat: its answer, and the seat's calls after it.
+    /// A turn of at most this many calls from this seat: its answer, and the seat's calls after it.
     Turn(usize, u32, Result<Reply, AskFault>, u64),
     /// A single call from this seat: its answer, and the seat's calls after it.
     Ask(usize, Result<Reply, AskFault>, u64),

@@ -7,7 +7,7 @@ use bp_syntax::{Tree, read};
 use std::alloc::{AllocError, Global};
 use std::test::Fail;
 
-/// Whether the tree has so many globals and procedures.
+/// Whether the tree has this many globals and procedures.
 fn declares(checked: &Checked, globals: usize, procs: usize) -> bool {
     checked.has_few_names();
     checked.has_distinct_names();

@@ -53,7 +53,7 @@ fn race(alloc: Global) -> Result<Start, AllocError> {
 /// The number and the place of a refusal.
 type Said = Option<(u32, Option<u32>)>;
 
-/// What a command says; none where it is done.
+/// What a command says; none if it is done.
 fn said<T>(done: &Result<T, Fault>) -> Said {
     match done {
         Ok(_) => None,

@@ -3,7 +3,7 @@
 use std::io;
 use std::io::{ErrorKind, Read, Write};
 
-/// A writer that takes so many bytes, one at a time, and then fails.
+/// A writer that takes this many bytes, one at a time, and then fails.
 #[derive(Drop)]
 pub(crate) struct Short {
     pub(crate) taken: Vec<u8>,
@@ -33,7 +33,7 @@ impl Write for Short {
     }
 }
 
-/// A reader that gives one space at each of so many reads, and then fails.
+/// A reader that gives one space at each of this many reads, and then fails.
 #[derive(Drop)]
 pub(crate) struct Broken {
     pub(crate) reads: usize,

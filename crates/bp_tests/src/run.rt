@@ -41,7 +41,8 @@ const ENDLESS: &[u8] = b"main() begin while (1) do skip; od end";
 /// The least program: each thread makes three calls.
 const SKIP: &[u8] = b"main() begin skip; end";
 
-/// What a test runs with: so many threads that begin with `main`, and the numbers. The seed is 42.
+/// What a test runs with: this many threads that begin with `main`, and the numbers. The seed is
+/// 42.
 #[derive(Clone, Copy)]
 struct Numbers {
     threads: u32,

@@ -12,7 +12,7 @@ pub(crate) fn code_of(alloc: Global, text: &[u8]) -> Result<Code, Fail> {
     }
 }
 
-/// The piece so many times, behind the front and before the end.
+/// The piece this many times, after the front and before the end.
 pub(crate) fn repeated(
     alloc: Global,
     front: &[u8],
@@ -29,7 +29,7 @@ pub(crate) fn repeated(
     Ok(text)
 }
 
-/// The entries of so many threads that begin with `main`.
+/// The entries of this many threads that begin with `main`.
 pub(crate) fn mains(alloc: Global, count: u32) -> Result<Vec<String>, AllocError> {
     let mut entries = Vec::new(alloc);
     for _ in 0..count {

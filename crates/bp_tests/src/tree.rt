@@ -100,7 +100,7 @@ fn copies_a_decider(rt: HostRuntime) -> Result<(), Fail> {
     Ok(())
 }
 
-/// So many bytes `a`.
+/// This many bytes `a`.
 fn spelling(alloc: Global, count: u32) -> Result<String, Fail> {
     let mut text = String::new(alloc);
     for _ in 0..count {

@@ -16,7 +16,7 @@ pub record IsCutAt (byte : ℕ) (text word rest : List ℕ) : Type 0 where
 abbrev pub IsNoDigit : ℕ → Type 0
 IsNoDigit byte = (byte < 48) ⊎ (57 < byte)
 
--- a decimal and this byte behind it begin the text, and have this size
+-- a decimal and this byte after it begin the text, and have this size
 pub record IsDecimalAt (byte : ℕ) (text : List ℕ) (size : ℕ) : Type 0 where
   pub digits : List ℕ
   pub more : List ℕ
@@ -24,7 +24,7 @@ pub record IsDecimalAt (byte : ℕ) (text : List ℕ) (size : ℕ) : Type 0 wher
   pub begins : text ≡ digits ++ byte ∷ more
   pub size_is : size ≡ length digits + 1
 
--- no decimal with this byte behind it begins the text
+-- no decimal with this byte after it begins the text
 abbrev pub HasNoDecimal : ℕ → List ℕ → Type 0
 HasNoDecimal byte text =
     (digits more : List ℕ) → IsDecimal digits → text ≢ digits ++ byte ∷ more
@@ -50,7 +50,7 @@ pub record HasOtherLine (text : List ℕ) : Type 0 where
 abbrev pub counts : ℕ → ℕ → Counts
 counts calls left_open = record { calls = calls; left_open = left_open }
 
--- Why what is behind the calls of a trace is refused, where line n is due: it is not the end of so
+-- Why what is after the calls of a trace is refused, where line n is due: it is not the end of so
 -- many calls and open lines, alone.
 module _ (rest : List ℕ) (calls left_open n : ℕ) where
   abbrev own : List ℕ

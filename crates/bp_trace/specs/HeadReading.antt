@@ -100,7 +100,7 @@ pub record IsHeadOf (text : List ℕ) (head : Head) : Type 0 where
   pub size : head.size ≡ length (head_text head.version (setup_of_head head))
   pub lines : head.lines ≡ length (head_lines head.version (setup_of_head head))
 
--- the line that is not as it is due, or is not there; nothing is said of when memory is refused
+-- the line that is not as expected, or is not there; nothing is said of when memory is refused
 abbrev pub IsHeadRefusal : List ℕ → ReplayFault → Type 0
 IsHeadRefusal text (fault.Head k) = HeadStops text k
 IsHeadRefusal text fault.Memory = Unit {0}

@@ -93,7 +93,7 @@ abbrev pub IsLineRefused :
     Program → SetupOf → List Call → ℕ → List Call → ReplayFault → Type 0
 IsLineRefused t s h n calls f = (f ≡ fault.Memory) ⊎ IsRefusedAmong t s h n calls f
 
--- the lines of the calls that were played begin the text, and no line of calls is behind them
+-- the lines of the calls that were played begin the text, and no line of calls is after them
 pub record IsBody
     {O : Type 0} (v : Version) (s : SetupOf) (text : List ℕ) (first : ℕ) (b : Body O)
     : Type 0 where
@@ -104,7 +104,7 @@ pub record IsBody
   pub ends : HasNoBodyLine v (threads s) (last_thread (map (λ x. x.thread) b.played.history.items))
       (drop b.size text)
 
--- the lines of calls that may be played begin the text, and a line is behind them of whose calls
+-- the lines of calls that may be played begin the text, and a line is after them of whose calls
 -- one is refused
 pub record HasRefusedBody
     (t : Program) (v : Version) (s : SetupOf) (text : List ℕ) (first : ℕ) (f : ReplayFault)

@@ -1,4 +1,4 @@
--- What a replay answers: a setup, a history, what its steps printed, and what it comes to.
+-- What a replay answers: a setup, a history, what its steps printed, and its report.
 use Rattle.std.specs.Prelude.{◌≡◌, ℕ, List, map}
 use Rattle.bp_tree.specs.Ast.{Program}
 use Rattle.bp_machine.specs.declared.calls.Call.{Call}
@@ -23,7 +23,7 @@ pub record IsReplayed (t : Program) (text : List ℕ) (r : Replayed) : Type 0 wh
   pub printed : map row_of r.printed.items ≡ printed_rows t r.setup r.history.items
   pub report : IsReport r.setup r.history.items r.report
 
--- so it was replayed, the session stands behind its history, and the watcher has seen that
+-- so it was replayed, the session stands after its history, and the watcher has seen that
 pub record IsWatched
     {O : Type 0} (sees : O → Program → SetupOf → List Call → Type 0) (t : Program) (text : List ℕ)
     (w : Watched O)

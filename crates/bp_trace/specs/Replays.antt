@@ -75,7 +75,7 @@ pub record IsEndLine (line : List ℕ) : Type 0 where
   pub second : IsDecimal left_open
   pub is : line ≡ codes "end " ++ (calls ++ (codes " " ++ (left_open ++ codes "\n")))
 
--- What may be behind the calls of a history, but its own end alone.
+-- What may be after the calls of a history, but its own end alone.
 module _ (own rest : List ℕ) where
   -- another end
   pub record HasOtherEnd : Type 0 where
@@ -85,7 +85,7 @@ module _ (own rest : List ℕ) where
     pub begins : rest ≡ line ++ more
     pub other : line ≢ own
 
-  -- its own end, and something behind it
+  -- its own end, and something after it
   pub record HasMoreBehind : Type 0 where
     pub more : List ℕ
     pub begins : rest ≡ own ++ more
@@ -136,7 +136,7 @@ abbrev pub counts_of : SetupOf → List Call → Counts
 counts_of s h = record { calls = length h; left_open = open_lines s h }
 
 -- Why the rest is refused: it is empty; it begins with no line that is due; with one whose calls
--- are refused; with the end of another history; or with the end, and something behind it.
+-- are refused; with the end of another history; or with the end, and something after it.
 module _
     (t : Program) (v : Version) (s : SetupOf) (h : List Call) (n : ℕ) (rest : List ℕ) where
   -- a line of calls that may follow those of h

@@ -5,12 +5,12 @@ use Rattle.bp_machine.specs.declared.calls.Call.{Call}
 use Rattle.bp_trace.specs.Pieces.{symbol_of}
 use Rattle.bp_trace.specs.TraceText.{symbol_text}
 
--- the thread of a line, behind the end of the line before it
+-- the thread of a line, after the end of the line before it
 abbrev pub line_start : Bool → ℕ → List ℕ
 line_start is_first i =
     (if is_first then [] else codes "\n") ++ (decimal i ++ codes " ")
 
--- what begins a call behind one of this thread, or behind none
+-- what begins a call after one of this thread, or after none
 abbrev pub opening : Option ℕ → ℕ → List ℕ
 opening None i = line_start true i
 opening (Some l) i = if l == i then [] else line_start false i
@@ -18,7 +18,7 @@ opening (Some l) i = if l == i then [] else line_start false i
 abbrev pub symbol_behind : Option ℕ → Call → List ℕ
 symbol_behind last x = opening last x.thread ++ symbol_text (symbol_of x)
 
--- the calls behind one of this thread, without the end of the last line
+-- the calls after one of this thread, without the end of the last line
 abbrev pub symbols_behind : Option ℕ → List Call → List ℕ
 symbols_behind last [] = []
 symbols_behind last (x ∷ xs) = symbol_behind last x ++ symbols_behind (Some x.thread) xs

@@ -57,7 +57,7 @@ fn read_call(
     Ok(Some(digit_count(call.thread) + 5))
 }
 
-/// Reads the line of a piece that begins the text, behind a call of the thread `last`.
+/// Reads the line of a piece that begins the text, after a call of the thread `last`.
 #[inline(always)]
 fn read_piece(
     threads: u32,
@@ -86,7 +86,7 @@ fn read_piece(
     }
 }
 
-/// Reads the line of calls that begins the text, behind a call of the thread `last`, or behind the
+/// Reads the line of calls that begins the text, after a call of the thread `last`, or after the
 /// head, into `calls`, which drops what it held; and answers how many bytes the line has. There is
 /// no answer where there is no such line; what `calls` then holds is not said.
 #[inline(always)]

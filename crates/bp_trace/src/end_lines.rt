@@ -25,7 +25,7 @@ fn digit_run(text: &[u8]) -> usize
     count
 }
 
-/// How many bytes a decimal of any length and this byte behind it have, where they begin the text.
+/// How many bytes a decimal of any length and this byte after it have, where they begin the text.
 fn decimal_at(byte: u8, text: &[u8]) -> Option<usize>
     requires { byte < 48 }
     ensures { MatchOption result (HasNoDecimal byte text.now) (IsDecimalAt byte text.now) }
@@ -70,7 +70,7 @@ fn is_joined(text: &[u8], pieces: &[&[u8]]) -> bool
     rest.is_empty()
 }
 
-/// Whether the line is the end of so many calls and open lines.
+/// Whether the line is the end of this many calls and open lines.
 fn is_end_of(line: &[u8], calls: u64, left_open: u32) -> bool
     ensures { IsTrue result ↔ (line.now ≡ end_line calls left_open) }
 {
@@ -81,8 +81,8 @@ fn is_end_of(line: &[u8], calls: u64, left_open: u32) -> bool
     is_joined(line, &[b"end ", calls, b" ", left_open, b"\n"])
 }
 
-/// Judges what is behind the calls of a trace, where line `n` is due: it must be the end of so many
-/// calls and open lines, and nothing more.
+/// Judges what is after the calls of a trace, where line `n` is due: it must be the end of this
+/// many calls and open lines, and nothing more.
 pub(crate) fn judge_end(rest: &[u8], calls: u64, left_open: u32, n: u32) -> Result<(), ReplayFault>
     requires { n < 2 ^ 32 - 1 }
     ensures { MatchResult result

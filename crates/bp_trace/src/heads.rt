@@ -28,7 +28,7 @@ pub(crate) struct Head<'a> {
     pub(crate) lines: u32,
 }
 
-/// The first line of the text without its line feed, and what is behind it.
+/// The first line of the text without its line feed, and what is after it.
 fn cut_line(text: &[u8]) -> Option<(&[u8], &[u8])>
     ensures { MatchOption result
         (Without 10 text.now)
@@ -41,7 +41,7 @@ fn cut_line(text: &[u8]) -> Option<(&[u8], &[u8])>
     Some((line, &rest[1..]))
 }
 
-/// What is behind the word, where the word begins the text.
+/// What is after the word, where the word begins the text.
 pub(crate) fn behind<'a>(text: &'a [u8], word: &[u8]) -> Option<&'a [u8]>
     ensures { MatchOption result
         (HasNoFront word.now text.now)
@@ -50,7 +50,7 @@ pub(crate) fn behind<'a>(text: &'a [u8], word: &[u8]) -> Option<&'a [u8]>
     text.strip_prefix(word)
 }
 
-/// What stands behind the word on the first line of the text, and what is behind the line.
+/// What stands after the word on the first line of the text, and what is after the line.
 fn field_at<'a>(text: &'a [u8], word: &[u8]) -> Option<(&'a [u8], &'a [u8])>
     ensures { MatchOption result
         (HasNoField word.now text.now)
@@ -65,7 +65,7 @@ fn field_at<'a>(text: &'a [u8], word: &[u8]) -> Option<(&'a [u8], &'a [u8])>
     }
 }
 
-/// The version whose line begins the text, and what is behind the line.
+/// The version whose line begins the text, and what is after the line.
 fn version_at(text: &[u8]) -> Option<(Version, &[u8])>
     ensures { MatchOption result
         (HasNoVersion text.now)
@@ -80,7 +80,7 @@ fn version_at(text: &[u8]) -> Option<(Version, &[u8])>
     }
 }
 
-/// The name on the entry line that begins the text, and what is behind the line.
+/// The name on the entry line that begins the text, and what is after the line.
 fn entry_at(text: &[u8]) -> Option<(&[u8], &[u8])>
     ensures { MatchOption result
         (HasNoEntry text.now)
@@ -95,7 +95,7 @@ fn entry_at(text: &[u8]) -> Option<(&[u8], &[u8])>
     Some((name, rest))
 }
 
-/// The names on the entry lines that begin the text, and what is behind these lines.
+/// The names on the entry lines that begin the text, and what is after these lines.
 fn entries_at(alloc: Global, text: &[u8]) -> Result<(Vec<&[u8]>, &[u8]), AllocError>
     ensures entries { IfOk result (λ p.
         AreEntriesAt text.now (map (λ n. n.now) p.0.items) p.1.now) }
@@ -144,7 +144,7 @@ fn init_of(alloc: Global, value: &[u8]) -> Result<Option<Vec<bool>>, AllocError>
     bits_of(alloc, value)
 }
 
-/// The bits on the init line that begins the text, and what is behind the line.
+/// The bits on the init line that begins the text, and what is after the line.
 fn init_at(alloc: Global, text: &[u8]) -> Result<Option<(Vec<bool>, &[u8])>, AllocError>
     ensures { IfOk result (λ init. MatchOption init
         (HasNoInit text.now)
@@ -159,7 +159,7 @@ fn init_at(alloc: Global, text: &[u8]) -> Result<Option<(Vec<bool>, &[u8])>, All
     }
 }
 
-/// The number on the line of the word that begins the text, and what is behind the line.
+/// The number on the line of the word that begins the text, and what is after the line.
 fn number_at<'a>(text: &'a [u8], word: &[u8]) -> Option<(u64, &'a [u8])>
     ensures { MatchOption result
         (HasNoNumber word.now text.now)
@@ -174,7 +174,7 @@ fn number_at<'a>(text: &'a [u8], word: &[u8]) -> Option<(u64, &'a [u8])>
     }
 }
 
-/// The seed on the seed line that begins the text, where it is one, and what is behind the line.
+/// The seed on the seed line that begins the text, where it is one, and what is after the line.
 fn seed_at(text: &[u8]) -> Option<(Option<u64>, &[u8])>
     ensures { MatchOption result
         (HasNoSeed text.now)

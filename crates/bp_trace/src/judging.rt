@@ -51,7 +51,8 @@ fn keep<O: Watcher + Drop>(
     Ok(())
 }
 
-/// The refusal of a call on the `n`-th line, where `made` calls were made before. Its thread exists.
+/// The refusal of a call on the `n`-th line, where `made` calls were made before. Its thread
+/// exists.
 fn replay_fault_of(fault: AskFault, n: u32, made: u64) -> ReplayFault
     ensures { result ≡ replay_fault_of fault n made }
 {

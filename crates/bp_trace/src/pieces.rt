@@ -11,7 +11,7 @@ use bp_text::{WriteFault, put, put_each};
 use itoa::Buffer;
 use std::io::Write;
 
-/// Begins the line of a thread, behind the end of the line before it, where there is one.
+/// Begins the line of a thread, after the end of the line before it, where there is one.
 fn begin_line<W: Write>(is_first: bool, thread: u32, out: &mut W) -> Result<(), WriteFault>
     ensures { Writes (W.contents out.old) (W.contents out.new)
         (line_start is_first thread) result }
@@ -26,7 +26,7 @@ fn begin_line<W: Write>(is_first: bool, thread: u32, out: &mut W) -> Result<(), 
     put_each(out, &[end, thread, b" "])
 }
 
-/// Writes what begins a call behind one of this thread, or behind none.
+/// Writes what begins a call after one of this thread, or after none.
 fn write_opening<W: Write>(last: Option<u32>, thread: u32, out: &mut W) -> Result<(), WriteFault>
     ensures { Writes (W.contents out.old) (W.contents out.new) (opening last thread) result }
 {
@@ -37,7 +37,7 @@ fn write_opening<W: Write>(last: Option<u32>, thread: u32, out: &mut W) -> Resul
     }
 }
 
-/// Writes a call behind one of this thread, or behind none.
+/// Writes a call after one of this thread, or after none.
 fn write_symbol<W: Write>(last: Option<u32>, call: &Call, out: &mut W) -> Result<(), WriteFault>
     ensures { Writes (W.contents out.old) (W.contents out.new)
         (symbol_behind last call.now) result }

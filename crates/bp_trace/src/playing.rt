@@ -17,7 +17,7 @@ use crate::watchers::Watcher;
 use bp_machine::{Call, Session, Setup};
 use std::alloc::Global;
 
-/// The calls of a trace, how many bytes their lines have, and the number of the line behind them.
+/// The calls of a trace, how many bytes their lines have, and the number of the line after them.
 #[derive(Drop)]
 pub(crate) struct Body<O: Watcher + Drop> {
     pub(crate) played: Played<O>,

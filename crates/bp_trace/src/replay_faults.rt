@@ -26,13 +26,13 @@ pub enum ReplayFault {
     /// The text has more than 67,108,864 bytes.
     #[error("the trace is too long")]
     TooLong,
-    /// This line of the head is not as it is due, or is not there.
+    /// This line of the head is not as expected, or is not there.
     #[error("line {0} of the trace is not the line of the head that is due")]
     Head(u32),
     /// The program does not take the setup that the head says.
     #[error("{0}")]
     Setup(SetupFault),
-    /// This line is neither one of calls of a thread of the setup nor an end, or it is behind the
+    /// This line is neither one of calls of a thread of the setup nor an end, or it is after the
     /// end.
     #[error("line {0} of the trace is not a line of calls or the end")]
     Line(u32),

@@ -1,5 +1,5 @@
 //! Replaying a trace: a text that is one of a legal history, or is refused by the first thing in it
-//! that is not as it is due.
+//! that is not as expected.
 ghost use Rattle.std.specs.Prelude.{◌≡◌, None, MatchResult};
 ghost use Rattle.bp_tree.specs.Ast.{Program};
 ghost use Rattle.bp_code.specs.StandsFor.{StandsFor};
@@ -22,7 +22,7 @@ use bp_machine::{Call, Report, Session, Setup, SetupFault};
 use std::alloc::Global;
 
 /// A trace that was replayed: its setup and history, what the steps of the history printed, and
-/// what the history comes to.
+/// the report of the history.
 #[derive(Drop)]
 pub struct Replayed {
     pub setup: Setup,
@@ -43,7 +43,7 @@ fn replay_fault_of_setup(fault: SetupFault) -> ReplayFault
     }
 }
 
-/// A trace that was replayed, the session behind its history, and what the watcher has seen.
+/// A trace that was replayed, the session after its history, and what the watcher has seen.
 #[derive(Drop)]
 pub struct Watched<O: Watcher + Drop> {
     pub replayed: Replayed,
@@ -71,7 +71,7 @@ fn setup_of_head(alloc: Global, code: &Code, head: &Head<'_>) -> Result<Setup, S
 }
 
 /// Replays a text without threads: it is the trace of a legal history of the program, in either
-/// version, or it is refused by the first thing that is not as it is due. The watcher makes the
+/// version, or it is refused by the first thing that is not as expected. The watcher makes the
 /// calls.
 pub fn replay_watched<O: Watcher + Drop>(
     alloc: Global,
@@ -124,7 +124,7 @@ pub fn replay_watched<O: Watcher + Drop>(
 }
 
 /// Replays a text without threads: it is the trace of a legal history of the program, in either
-/// version, or it is refused by the first thing that is not as it is due.
+/// version, or it is refused by the first thing that is not as expected.
 pub fn replay(alloc: Global, code: &Code, text: &[u8]) -> Result<Replayed, ReplayFault>
     ensures { (t : Program)
         → StandsFor code.now t

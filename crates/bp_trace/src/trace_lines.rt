@@ -54,7 +54,7 @@ fn is_spaced(text: &[u8]) -> bool
     text.starts_with(b" ")
 }
 
-/// The thread below this number that begins the text, with a space behind it.
+/// The thread below this number that begins the text, with a space after it.
 pub(crate) fn thread_at(threads: u32, text: &[u8]) -> Option<u32>
     requires { threads ≤ MAX_THREADS }
     ensures { MatchOption result (HasNoThread threads text.now) (IsThreadAt threads text.now) }
@@ -72,7 +72,7 @@ pub(crate) fn thread_at(threads: u32, text: &[u8]) -> Option<u32>
     }
 }
 
-/// The bit and the reply that begin the text, with a space between them and a line feed behind
+/// The bit and the reply that begin the text, with a space between them and a line feed after
 /// them.
 fn tail_at(text: &[u8]) -> Option<(bool, Reply)>
     ensures { MatchOption result (HasNoTail text.now) (IsTailAt text.now) }

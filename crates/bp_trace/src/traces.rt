@@ -72,7 +72,8 @@ fn write_init<W: Write>(setup: &Setup, out: &mut W) -> Result<(), WriteFault>
 
 /// Writes the lines of the contexts and calls that are allowed, and of the seed.
 fn write_limits<W: Write>(setup: &Setup, out: &mut W) -> Result<(), WriteFault>
-    ensures { Writes (W.contents out.old) (W.contents out.new) (concat (limit_lines setup.now)) result }
+    ensures { Writes (W.contents out.old) (W.contents out.new)
+        (concat (limit_lines setup.now)) result }
 {
     let mut first = Buffer::new();
     let mut second = Buffer::new();
@@ -137,7 +138,7 @@ pub fn write_call<W: Write>(call: &Call, out: &mut W) -> Result<(), WriteFault>
     put_each(out, &[thread, rest.as_slice()])
 }
 
-/// Writes the line that ends a trace of so many calls, with so many open lines.
+/// Writes the line that ends a trace of this many calls, with this many open lines.
 pub fn write_end<W: Write>(calls: u64, left_open: u32, out: &mut W) -> Result<(), WriteFault>
     ensures { Writes (W.contents out.old) (W.contents out.new) (end_line calls left_open) result }
 {
@@ -174,7 +175,7 @@ fn write_history<W: Write>(
     }
 }
 
-/// Writes the trace of a history with so many open lines, in this version.
+/// Writes the trace of a history with this many open lines, in this version.
 pub(crate) fn write_with_open_lines<W: Write>(
     version: Version,
     setup: &Setup,

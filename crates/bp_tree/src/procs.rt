@@ -67,7 +67,7 @@ impl Proc {
         self.locals.as_slice()
     }
 
-    /// The statements, of which there is at least one in a program that was read.
+    /// The statements: at least one in a program that was read.
     pub fn body(&self) -> &[Stmt]
         ensures { block_of result.now ≡ self.now.body }
     {

@@ -42,7 +42,7 @@ abbrev pub context_text : Option ℕ → List ℕ
 context_text None = codes "-"
 context_text (Some n) = decimal n
 
--- a sign before a step behind which another thread's was the last
+-- a sign before a step after which another thread's was the last
 abbrev pub mark_text : Bool → List ℕ
 mark_text switch = if switch then codes ">" else codes " "
 
@@ -97,7 +97,7 @@ pub record IsNote (x : Call) (note : List ℕ) : Type 0 where
   pub is : note ≡ choice_text reads x ++ reply_words x.reply ++ changes
   pub changes_are : IsOneLine changes
 
--- a note after so many spaces; no space is left where there is no note
+-- a note after this many spaces; no space is left where there is no note
 abbrev pub after_room : ℕ → List ℕ → List ℕ
 after_room room [] = []
 after_room room (b ∷ bs) = spaces room ++ b ∷ bs

@@ -1,4 +1,4 @@
--- The foot of a view: what its history comes to.
+-- The foot of a view: the report of its history.
 use Rattle.std.specs.Prelude.{◌≡◌, ℕ, List, ◌++◌, codes, decimal}
 use Rattle.bp_machine.specs.declared.reports.Outcome.{Outcome}
 use Rattle.bp_machine.specs.declared.reports.Outcome.TheVariants.{Clean, Failed}
@@ -7,7 +7,7 @@ use Rattle.bp_machine.specs.declared.reports.Report.{Report}
 abbrev pub count_text : List ℕ → ℕ → List ℕ
 count_text words n = words ++ decimal n
 
--- the calls of a history, the contexts of its steps, and the threads that may go on
+-- the calls of a history, the contexts of its steps, and the threads that may continue
 abbrev pub counts_line : Report → List ℕ
 counts_line r =
     count_text (codes "\n") r.calls

@@ -26,7 +26,7 @@ abbrev pub is_of_thread : Option ℕ → ℕ → Bool
 is_of_thread None i = true
 is_of_thread (Some k) i = i == k
 
--- call n of so many is shown: fewer than so many are behind it
+-- call n of `count` calls is shown: fewer than `last` are after it
 abbrev pub is_late : Option ℕ → ℕ → ℕ → Bool
 is_late None count n = true
 is_late (Some last) count n = nat_lt (count - n) last
@@ -34,7 +34,7 @@ is_late (Some last) count n = nat_lt (count - n) last
 abbrev pub is_shown : ViewOptions → ℕ → ℕ → ℕ → Bool
 is_shown o count n i = is_of_thread o.thread i && is_late o.last count n
 
--- Of a program and its text, in a setup; the columns have these widths, and there are so many
+-- Of a program and its text, in a setup; the columns have these widths, and there are this many
 -- calls.
 module _
     (t : Program) (text : List ℕ) (s : SetupOf) (o : ViewOptions) (w : Widths) (count : ℕ) where
@@ -63,7 +63,7 @@ module _
         → slice_get each k ≡ Some line
         → IsShownLine (take k h) x line
 
--- the head, a line for each call of the history that is shown, and what the history comes to
+-- the head, a line for each call of the history that is shown, and the foot
 pub record IsView
     (t : Program) (text : List ℕ) (s : SetupOf) (h : List Call) (r : Report) (o : ViewOptions)
     (view : List ℕ)

@@ -8,9 +8,9 @@ abbrev pub longest : List (List ℕ) → ℕ
 longest [] = 0
 longest (x ∷ xs) = max (length x) (longest xs)
 
--- The widths of a view of so many calls, whose statements have these places: those of the greatest
--- number of a call, of the number of threads, of the limit of the contexts, and of the longest
--- place.
+-- The widths of a view of this many calls, whose statements have these places: those of the
+-- greatest number of a call, of the number of threads, of the limit of the contexts, and of the
+-- longest place.
 pub record AreWidths (s : SetupOf) (count : ℕ) (places : List (List ℕ)) (w : Widths)
     : Type 0 where
   pub number : w.number ≡ length (decimal count)

@@ -6,7 +6,7 @@ use bp_syntax::{Lexeme, LexemeKind, take_lexeme};
 use bp_text::push_on_one_line;
 use std::alloc::{AllocError, Global};
 
-/// So many bytes of a statement are shown.
+/// The most bytes of a statement that are shown.
 pub(crate) const MAX_EXCERPT: usize = 60;
 
 /// What ends an excerpt that was cut.

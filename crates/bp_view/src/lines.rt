@@ -146,7 +146,7 @@ fn reads_choice(scene: Option<&Scene>) -> bool {
     }
 }
 
-/// Writes what a call comes to: the choice bit where it is read, the reply where it is no step, and
+/// Writes the note of a call: the choice bit where it is read, the reply where it is no step, and
 /// the variables that the step changed.
 fn write_note(
     note: &mut Vec<u8>,
@@ -163,7 +163,7 @@ fn write_note(
     Ok(())
 }
 
-/// Adds what a call comes to after so many spaces; no space where there is nothing to add.
+/// Adds the note of a call after this many spaces; no space if the note is empty.
 fn push_note(line: &mut Vec<u8>, room: usize, note: &[u8]) -> Result<(), AllocError>
     ensures { OnOk result (line.new.items ≡ line.old.items ++ after_room room note.now) }
 {
@@ -185,7 +185,7 @@ fn place_of<'a>(scene: Option<&'a Scene>) -> &'a [u8]
     }
 }
 
-/// Adds what the columns show of a call. The note is room for what it comes to.
+/// Adds what the columns show of a call. `note` is room for its note.
 fn push_call(
     line: &mut Vec<u8>,
     note: &mut Vec<u8>,
@@ -209,7 +209,7 @@ fn push_call(
 }
 
 /// Adds the line of a call, in colour where that is wanted and the call is a failure or a switch.
-/// The note is room for what the call comes to.
+/// `note` is room for the call's note.
 pub(crate) fn push_line(
     line: &mut Vec<u8>,
     note: &mut Vec<u8>,

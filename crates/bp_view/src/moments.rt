@@ -19,7 +19,7 @@ pub(crate) struct Moment {
     /// Its place in the history, from 1.
     pub(crate) number: u64,
     pub(crate) call: Call,
-    /// The context in which its step is; none where it made none.
+    /// The context in which its step is; none if it made none.
     pub(crate) context: Option<u32>,
     /// Whether another thread made the step before.
     pub(crate) is_switch: bool,

@@ -7,14 +7,14 @@ ghost use Rattle.bp_view.specs.Views.{is_shown};
 pub struct ViewOptions {
     /// Of this thread alone.
     pub thread: Option<u32>,
-    /// So many of the last calls of the history.
+    /// How many of the last calls of the history are shown.
     pub last: Option<u64>,
     /// With the colours of a terminal.
     pub has_colour: bool,
 }
 
 impl ViewOptions {
-    /// Whether the call of this number, of so many, is shown.
+    /// Whether the call of this number is shown, where there are `count` calls.
     pub(crate) fn shows(&self, thread: u32, number: u64, count: u64) -> bool
         ensures { result ≡ is_shown self.now count number thread }
     {

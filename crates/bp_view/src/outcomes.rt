@@ -1,4 +1,4 @@
-//! The end of a view: what the history comes to.
+//! The end of a view: the report of the history.
 ghost use Rattle.std.specs.Prelude.{◌≡◌, ◌++◌, OnOk, IfOk};
 ghost use Rattle.bp_view.specs.Outcomes.{count_text, counts_line, failure_text, IsOutcomeText, IsFoot};
 
@@ -129,7 +129,7 @@ fn push_counts(view: &mut Vec<u8>, report: Report) -> Result<(), AllocError>
     Ok(())
 }
 
-/// What the history comes to: the report, and of a failed assertion its statement, as the session
+/// The report of the history, and of a failed assertion its statement, as the session
 /// has it.
 pub(crate) fn foot_of(
     alloc: Global,

@@ -10,8 +10,8 @@ use bp_machine::Setup;
 use bp_text::digits;
 use bp_tree::{Name, Proc};
 
-/// A statement is moved to the right by two columns for each frame of the stack, for so many frames
-/// at most.
+/// A statement is moved to the right by two columns for each frame of the stack, for this many
+/// frames at most.
 pub(crate) const MAX_INDENTS: usize = 8;
 
 /// How wide the columns are.

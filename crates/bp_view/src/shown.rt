@@ -34,7 +34,7 @@ fn scene_of<'a>(scenes: &'a [Scene], top: Option<Top>) -> Option<&'a Scene>
     }
 }
 
-/// Adds the line of a call, where it is shown. The note is room for what the call comes to.
+/// Adds the line of a call, where it is shown. `note` is room for the call's note.
 pub(crate) fn push_shown(
     view: &mut Vec<u8>,
     note: &mut Vec<u8>,

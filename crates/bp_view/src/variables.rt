@@ -7,7 +7,7 @@ use bp_text::{push_bytes, push_on_one_line};
 use bp_tree::{Name, Proc};
 use std::alloc::AllocError;
 
-/// So many bits has a word.
+/// The number of bits of a word.
 const SLOTS: usize = 128;
 
 /// The bit of a slot, 0 past the word.
@@ -34,7 +34,7 @@ fn value_text(value: bool) -> &'static [u8] {
     if value { b"=1" } else { b"=0" }
 }
 
-/// Adds a value behind its name, and behind the procedure's where it is that of a local.
+/// Adds a value after its name, and after the procedure's where it is that of a local.
 pub(crate) fn push_value(
     line: &mut Vec<u8>,
     procedure: &[u8],
@@ -50,7 +50,7 @@ pub(crate) fn push_value(
     Ok(())
 }
 
-/// Adds the value of a slot behind its name, where the slot is among these bits.
+/// Adds the value of a slot after its name, where the slot is among these bits.
 fn push_slot(
     line: &mut Vec<u8>,
     procedure: &[u8],

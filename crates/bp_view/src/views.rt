@@ -17,9 +17,9 @@ use bp_trace::limits::MAX_TRACE;
 use bp_trace::{ReplayFault, Watched, calls_at_end, replay_watched};
 use std::alloc::Global;
 
-/// A view of the history of a trace of a program: the setup, a line for each call that is shown,
-/// and what the history comes to; and its report. A text that is no trace of the program is refused
-/// as `replay` refuses it. The trace is played once, and the view is written meanwhile.
+/// A view of the history of a trace of a program, and its report. The view has the setup, a line
+/// for each call that is shown, and the foot. A text that is no trace of the program is refused as
+/// `replay` refuses it. The trace is played once, and the view is written meanwhile.
 pub fn view(
     alloc: Global,
     text: &[u8],

@@ -8,7 +8,7 @@ use crate::settings::Setting;
 #[derive(Drop)]
 pub(crate) struct ViewWriter<'a> {
     pub(crate) view: Vec<u8>,
-    /// Room for what a call comes to.
+    /// Room for a call's note.
     pub(crate) note: Vec<u8>,
     pub(crate) setting: Setting<'a>,
     /// The thread of the last step.

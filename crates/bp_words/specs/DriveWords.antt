@@ -1,4 +1,4 @@
--- What the words behind `drive` ask for.
+-- What the words after `drive` ask for.
 use Rattle.std.specs.Prelude.{◌≡◌, List, codes, option_map}
 use Rattle.clap.specs.Walk.{Row, first_of, one_of}
 use Rattle.bp_machine.specs.declared.limits.TheConstants.{DEFAULT_CONTEXTS, DEFAULT_CALLS}

@@ -11,7 +11,7 @@ use Rattle.clap.specs.declared.error.kind.ErrorKind.TheVariants.{InvalidValue}
 abbrev pub value_of : Text → List Row → Text
 value_of id rows = unwrap_or (first_of id rows) []
 
--- the text is a number of so many bits
+-- the text is a number of this many bits
 abbrev pub IsNumberText : ℕ → Text → Type 0
 IsNumberText bits text =
     IsNumeral 10 (without_leading_plus text)
@@ -24,7 +24,7 @@ IsNumberOf bits default (Some text) n =
     (IsNumberText bits text × (n ≡ digits_value 10 (without_leading_plus text)))
     ⊎ ((IsNumberText bits text → ⊥) × (n ≡ default))
 
--- the number of a text, and none where none is given or the text is no such number
+-- the number of a text, and none if none is given or the text is no such number
 abbrev pub IsNumberIn : ℕ → Option Text → Option ℕ → Type 0
 IsNumberIn bits None n = n ≡ None
 IsNumberIn bits (Some text) (Some n) =

@@ -41,7 +41,7 @@ pub enum Task<'a> {
     Migrate(TraceWords<'a>),
 }
 
-/// What `--help` says behind the commands.
+/// What `--help` says after the commands.
 const NOTES: &str = "\
     Without a command standard input is a bundle: a program, a line '%', and a schedule of lines\n\
     'THREAD BIT'. One thread begins with 'main', all globals are 0, and at most 2 contexts and\n\
@@ -56,7 +56,7 @@ const NOTES: &str = "\
 const CHECK_ABOUT: &str =
     "Checks a program and prints 'ok', its number of procedures and its number of globals";
 
-/// What `check --help` says behind the arguments.
+/// What `check --help` says after the arguments.
 const CHECK_NOTES: &str = "\
     The first fault is one line on standard error, with the offset of its byte.\n\n\
     Example:\n  btrun check lock.bp\n\nExit status:\n  0  the program is lawful\n  \
@@ -65,7 +65,7 @@ const CHECK_NOTES: &str = "\
 /// What `code` does.
 const CODE_ABOUT: &str = "Prints the listing of a program's code";
 
-/// What `code --help` says behind the arguments.
+/// What `code --help` says after the arguments.
 const CODE_NOTES: &str = "\
     A procedure has a line 'proc NAME FORMALS LOCALS', and behind it a line for each instruction,\n\
     with its number and those of its successors. The first fault is one line on \

@@ -29,7 +29,7 @@ pub struct DriveWords<'a> {
 /// What `drive` does.
 const ABOUT: &str = "Drives a program by a schedule and prints the trace of the run";
 
-/// What `drive --help` says behind the arguments.
+/// What `drive --help` says after the arguments.
 const NOTES: &str = "\
     A line of the schedule is 'THREAD BIT': the number of a thread, and the choice bit \
     of its call.\n\
@@ -55,7 +55,7 @@ pub fn drive_command<'a>(alloc: Global) -> Result<Command<'a>, AllocError>
         .arg(option(alloc, "init", "BITS", init))
 }
 
-/// What the words behind `drive` ask for.
+/// What the words after `drive` ask for.
 pub fn drive_words<'a>(alloc: Global, words: &ArgMatches<'a>) -> Result<DriveWords<'a>, AllocError>
     ensures { IfOk result (IsDriveOf (rows_of (found_of words.now))) }
 {

@@ -37,7 +37,7 @@ pub fn file_command<'a>(
         .arg(flag(alloc, "explain", explain))
 }
 
-/// What the words behind `check` or `code` ask for.
+/// What the words after `check` or `code` ask for.
 pub fn file_words<'a>(words: &ArgMatches<'a>) -> FileWords<'a>
     ensures { IsFileWordsOf (rows_of (found_of words.now)) result }
 {

@@ -31,7 +31,7 @@ pub struct RunWords<'a> {
 /// What `run` does.
 const ABOUT: &str = "Runs a program by one worker for each thread and prints the trace of the run";
 
-/// What `run --help` says behind the arguments.
+/// What `run --help` says after the arguments.
 const NOTES: &str = "\
     The workers take turns as the machine's scheduler has it, so two runs may differ; each \
     trace is one\n\
@@ -66,7 +66,7 @@ pub fn run_command<'a>(alloc: Global) -> Result<Command<'a>, AllocError>
         .arg(flag(alloc, "spread", spread))
 }
 
-/// What the words behind `run` ask for.
+/// What the words after `run` ask for.
 pub fn run_words<'a>(alloc: Global, words: &ArgMatches<'a>) -> Result<RunWords<'a>, AllocError>
     ensures { IfOk result (IsRunOf (rows_of (found_of words.now))) }
 {

@@ -20,7 +20,7 @@ pub struct ShowWords<'a> {
     pub trace: &'a str,
     /// The calls of this thread alone.
     pub thread: Option<u32>,
-    /// So many of the last calls of the history.
+    /// How many of the last calls of the history are shown.
     pub last: Option<u64>,
     /// Whether a fault is explained.
     pub explain: bool,
@@ -29,7 +29,7 @@ pub struct ShowWords<'a> {
 /// What `show` does.
 const ABOUT: &str = "Replays a trace and shows what happened, call by call";
 
-/// What `show --help` says behind the arguments.
+/// What `show --help` says after the arguments.
 const NOTES: &str = "\
     The setup comes first. Then each call has a line: its number, the thread, the context that\n\
     its step is in, the line and column of the statement, the statement, the choice bit where\n\
@@ -53,7 +53,7 @@ pub fn show_command<'a>(alloc: Global) -> Result<Command<'a>, AllocError>
         .arg(long_number_option(alloc, "last", last))
 }
 
-/// What the words behind `show` ask for.
+/// What the words after `show` ask for.
 pub fn show_words<'a>(words: &ArgMatches<'a>) -> ShowWords<'a>
     ensures { IsShowOf (rows_of (found_of words.now)) result }
 {

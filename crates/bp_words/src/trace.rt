@@ -25,7 +25,7 @@ pub struct TraceWords<'a> {
 /// What `replay` does.
 pub const REPLAY_ABOUT: &str = "Replays a trace and prints what its steps printed, and the outcome";
 
-/// What `replay --help` says behind the arguments.
+/// What `replay --help` says after the arguments.
 pub const REPLAY_NOTES: &str = "\
     A step at a 'print' has a line 'print THREAD BITS'. The last line is 'outcome clean', or\n\
     'outcome failed THREAD' with the thread whose assertion failed. The first fault is one \
@@ -38,7 +38,7 @@ pub const REPLAY_NOTES: &str = "\
 /// What `migrate` does.
 pub const MIGRATE_ABOUT: &str = "Prints the trace of version 2 of a trace in either version";
 
-/// What `migrate --help` says behind the arguments.
+/// What `migrate --help` says after the arguments.
 pub const MIGRATE_NOTES: &str = "\
     Version 2 has a line for each piece: the calls that a thread makes one after the other. \
     The trace\n\
@@ -60,7 +60,7 @@ pub fn trace_command<'a>(
     file_command(alloc, name, about, notes)?.arg(required(alloc, "TRACE", "The file of the trace"))
 }
 
-/// What the words behind `replay` or `migrate` ask for.
+/// What the words after `replay` or `migrate` ask for.
 pub fn trace_words<'a>(words: &ArgMatches<'a>) -> TraceWords<'a>
     ensures { IsTraceWordsOf (rows_of (found_of words.now)) result }
 {

@@ -26,7 +26,7 @@ fn answer(alloc: Global, text: &[u8]) -> [u8; 2] {
     [digit(number), place]
 }
 
-/// Puts the bytes of which these are the numbers.
+/// Puts the bytes that have these numbers.
 fn put_bytes(text: &mut Vec<u8>, digits: &[usize]) -> Result<(), AllocError> {
     for digit in digits {
         text.push(u8::try_from(*digit).unwrap_or(0))?;
@@ -34,7 +34,7 @@ fn put_bytes(text: &mut Vec<u8>, digits: &[usize]) -> Result<(), AllocError> {
     Ok(())
 }
 
-/// Puts the tokens of which these are the numbers, with a space between.
+/// Puts the tokens that have these numbers, with a space between.
 fn put_tokens(text: &mut Vec<u8>, digits: &[usize]) -> Result<(), AllocError> {
     for (index, digit) in digits.iter().enumerate() {
         if index > 0 {
@@ -45,7 +45,7 @@ fn put_tokens(text: &mut Vec<u8>, digits: &[usize]) -> Result<(), AllocError> {
     Ok(())
 }
 
-/// Prints the answers for all texts of so many pieces, which are bytes or tokens.
+/// Prints the answers for all texts of this many pieces, which are bytes or tokens.
 fn print_length<W: Write>(
     alloc: Global,
     is_of_bytes: bool,
@@ -68,8 +68,8 @@ fn print_length<W: Write>(
     Ok(())
 }
 
-/// Prints the answers for the texts of up to so many bytes, and then of up to so many tokens, each
-/// length from one on a line.
+/// Prints the answers for the texts of up to this many bytes, and then of up to this many tokens,
+/// each length from one on a line.
 pub fn print<W: Write + Drop>(
     output: W,
     alloc: Global,

@@ -12,7 +12,7 @@ pub struct Counter {
 }
 
 impl Counter {
-    /// The least number of so many digits below the base.
+    /// The least number of this many digits below the base.
     pub fn new(base: usize, length: usize) -> Counter {
         Counter {
             digits: [0; MOST],

@@ -37,7 +37,7 @@ impl Session {
         }
     }
 
-    /// What a call of the thread comes to, where this bit or none is handed in.
+    /// What a call of the thread results in, where this bit or none is handed in.
     #[inline(always)]
     fn judged(&self, thread: u32, given: Option<bool>) -> Result<Prepared, AskFault>
         ensures { MatchResult result

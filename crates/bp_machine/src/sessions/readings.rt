@@ -86,7 +86,7 @@ impl Session {
         self.machine.is_failed()
     }
 
-    /// How many threads may go on.
+    /// How many threads may continue.
     pub fn open_lines(&self) -> u32
         ensures { (t : Program) (h : List Answered)
             → Stands t self.now h
@@ -158,7 +158,7 @@ impl Session {
         Ok(printed)
     }
 
-    /// Where a thread goes on: none where its stack is empty, or there is no such thread.
+    /// Where a thread continues: none if its stack is empty, or there is no such thread.
     pub fn top(&self, thread: u32) -> Option<Top>
         ensures { (t : Program) (h : List Answered)
             → StandsFor self.now.code t

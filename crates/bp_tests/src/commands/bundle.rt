@@ -9,7 +9,7 @@ const STORED_TRACE: &[u8] = b"\
     btrace 1\nentry main\ninit 0\ncontexts 2\ncalls 1000\n\
     seed none\n0 0 s\n0 1 s\n0 0 s\n0 0 e\nend 4 0\n";
 
-/// Whether driving the bundle comes to this outcome and this trace.
+/// Whether driving the bundle results in this outcome and this trace.
 fn is_driven(alloc: Global, bundle: &[u8], outcome: Outcome, trace: &[u8]) -> bool {
     let mut bundle = Source::new(alloc, bundle);
     let mut out = Vec::new(alloc);

@@ -64,7 +64,7 @@ fn all_given(alloc: Global) -> Result<Start, AllocError> {
     Ok(start)
 }
 
-/// Whether driving a swap by this schedule from this start comes to this trace.
+/// Whether driving a swap by this schedule from this start results in this trace.
 fn drives_a_swap(alloc: Global, start: &Start, lines: &[u8], trace: &[u8]) -> bool {
     report(alloc, &Drive { start }, SWAP, lines, trace).is_some()
 }

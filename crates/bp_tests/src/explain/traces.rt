@@ -17,7 +17,7 @@ const SEEDED: &[u8] = b"btrace 1\nentry main\ninit 0\ncontexts 2\ncalls 1000\nse
 const PIECES: &[u8] =
     b"btrace 2\nentry main\nentry main\ninit 0\ncontexts 2\ncalls 1000\nseed none\n";
 
-/// The head of a trace and the lines behind it, and its explanation.
+/// The head of a trace and the lines after it, and its explanation.
 type Row = (&'static [u8], &'static [u8], &'static [u8]);
 
 const HEADS: [Row; 12] = [
@@ -164,7 +164,7 @@ const CALLS: [Row; 16] = [
     ),
 ];
 
-/// The explanation of a head and the lines behind it.
+/// The explanation of a head and the lines after it.
 fn explained(alloc: Global, code: &Code, head: &[u8], lines: &[u8]) -> Result<Vec<u8>, Fail> {
     let mut trace = Vec::new(alloc);
     trace.extend_from_slice(head)?;

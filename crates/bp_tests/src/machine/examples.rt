@@ -1,5 +1,5 @@
-//! Worked examples: the replies to some calls, which threads may go on then, and how many contexts
-//! are used. The cases of `btrun drive` have these replies too, and those of longer runs.
+//! Worked examples: the replies to some calls, which threads may continue then, and how many
+//! contexts are used. The cases of `btrun drive` have these replies too, and those of longer runs.
 
 use crate::texts::{code_of, names};
 use bp_machine::{Session, Setup};
@@ -7,7 +7,7 @@ use std::alloc::Global;
 use std::test::Fail;
 
 /// A program in a setup, the threads of calls with the choice bit 0, the letters of their replies,
-/// and what the session then comes to.
+/// and what the session then reports.
 #[derive(Clone, Copy)]
 struct Example {
     text: &'static [u8],
@@ -120,7 +120,7 @@ fn session_of(alloc: Global, example: Example) -> Result<Session, Fail> {
     Ok(Session::new(alloc, &code, &setup)?)
 }
 
-/// Whether the calls of the example have its replies, and the session then comes to what it says.
+/// Whether the calls of the example have its replies, and the session then reports what it says.
 fn is_as_said(alloc: Global, example: Example) -> Result<bool, Fail> {
     let mut session = session_of(alloc, example)?;
     for (thread, letter) in example.threads.iter().zip(example.letters) {

@@ -6,7 +6,7 @@ use bp_machine::{AskFault, Reply, Session, Setup};
 use std::alloc::Global;
 use std::test::Fail;
 
-/// A session of `main` within two contexts and so many calls.
+/// A session of `main` within two contexts and this many calls.
 fn session_of(alloc: Global, text: &[u8], init: &[bool], calls: u32) -> Result<Session, Fail> {
     let code = code_of(alloc, text)?;
     let setup = Setup::new(
@@ -21,7 +21,7 @@ fn session_of(alloc: Global, text: &[u8], init: &[bool], calls: u32) -> Result<S
     Ok(Session::new(alloc, &code, &setup)?)
 }
 
-/// Whether the session is of this code and setup, and its first thread may go on.
+/// Whether the session is of this code and setup, and its first thread may continue.
 fn is_new(session: &Session, code: &Code, setup: &Setup) -> bool {
     session.setup().is_in_range();
     session.code() == code && session.setup() == setup && !session.is_finished(0)

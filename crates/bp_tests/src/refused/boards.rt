@@ -1,4 +1,4 @@
-//! Desks and boards: what was asked before a refusal stands, and the thread goes on behind it.
+//! Desks and boards: what was asked before a refusal stands, and the thread continues after it.
 ghost use Rattle.std.specs.Prelude.{◌≡◌, true, is_some};
 ghost use Rattle.bp_machine.specs.Setups.{threads, FitsCode};
 ghost use Rattle.bp_board.specs.Kits.{IsNamed};

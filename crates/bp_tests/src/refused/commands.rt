@@ -34,7 +34,7 @@ const SCHEDULE: &[u8] = b"0 1\n0 1\n0 0\n0 0\n";
 const TRACE: &[u8] = b"btrace 1\nentry main\ninit 00\ncontexts 2\ncalls 1000\nseed none\n\
     0 1 s\n0 1 s\n0 0 s\n0 0 s\nend 4 1\n";
 
-/// The number of a fault, none where there is none.
+/// The number of a fault, none if there is none.
 fn number_of<T: Drop>(done: Result<T, Fault>) -> Option<u32> {
     done.err().map(|fault| fault.row().number)
 }
@@ -51,7 +51,7 @@ fn number_of_pair<C: PairCommand>(
     number_of(do_on_pair(alloc, command, &mut program, &mut input, out))
 }
 
-/// The number of a refusal of the command, none where it is done.
+/// The number of a refusal of the command, none if it is done.
 fn number(alloc: Global, command: Command, start: &Start, out: &mut Vec<u8>) -> Option<u32> {
     let mut program = Source::new(alloc, PROGRAM);
     match command {
@@ -130,7 +130,7 @@ fn migrate_a_trace(rt: HostRuntime) -> Result<(), Fail> {
     tell(&rt, writes(rt.alloc(), Command::Migrate, b"\nend 4 1\n")?)
 }
 
-/// The number of a refusal of a run of one thread, none where it is done.
+/// The number of a refusal of a run of one thread, none if it is done.
 fn number_of_run<R: Threads + Wait + Clock + Sync>(
     rt: &R,
     alloc: Global,

@@ -11,7 +11,7 @@ use bp_syntax::{ReadFault, Tree, read};
 use std::alloc::{AllocError, Global};
 use std::test::Fail;
 
-/// Two globals and two procedures, of which one calls the other by a choice.
+/// Two globals and two procedures, one of which calls the other by a choice.
 pub(super) const PROGRAM: &[u8] = b"decl x, y; \
     main() begin decl h; while (?) do h := !h; f(h, 1); od print (x, y); end \
     f(a, b) begin x, y := a, b; if (?) then f(b, a); else skip; fi end";
@@ -35,7 +35,7 @@ pub(super) fn code(alloc: Global, text: &[u8]) -> Result<Code, Fail> {
     }
 }
 
-/// The entries of so many threads.
+/// The entries of this many threads.
 pub(super) fn entries(alloc: Global, count: u32) -> Result<Vec<String>, AllocError> {
     match mains(alloc, count) {
         Ok(entries) => Ok(entries),
@@ -43,7 +43,7 @@ pub(super) fn entries(alloc: Global, count: u32) -> Result<Vec<String>, AllocErr
     }
 }
 
-/// The setup of so many threads with 20 calls each, with the seed 42 or without one.
+/// The setup of this many threads with 20 calls each, with the seed 42 or without one.
 pub(super) fn setup(
     alloc: Global,
     code: &Code,
@@ -62,7 +62,7 @@ pub(super) fn setup(
     }
 }
 
-/// A kit for the threads of the setup, with a ring of so many calls.
+/// A kit for the threads of the setup, with a ring of this many calls.
 pub(super) fn kit(alloc: Global, setup: &Setup, ring: u32) -> Result<Kit, Fail>
     ensures { IfOk result (λ k. k.threads ≡ threads setup.now) }
 {

@@ -35,7 +35,7 @@ fn is_replayed(alloc: Global, trace: &[u8], report: Report) -> Result<bool, Fail
     Ok(replayed.report == report)
 }
 
-/// Runs the program: its report, or none where it is refused memory or the start of a worker.
+/// Runs the program: its report, or none if it is refused memory or the start of a worker.
 fn report<R: Threads + Wait + Clock + Sync>(
     rt: &R,
     alloc: Global,

@@ -46,7 +46,7 @@ fn call(session: &mut Session, way: Way) -> Result<Call, AskFault> {
 }
 
 /// The next call, made once more where it is refused memory, which leaves the report as it was;
-/// none where the thread has made its last one.
+/// none if the thread has made its last one.
 fn again(session: &mut Session, way: Way) -> Result<(Option<Call>, bool), Fail> {
     let before = session.report();
     match call(session, way) {
@@ -123,7 +123,7 @@ fn prints_next(session: &Session) -> Result<bool, Fail> {
     Ok(was_refused)
 }
 
-/// The same at the print behind the loop.
+/// The same at the print after the loop.
 fn prints_behind_the_loop(alloc: Global) -> Result<bool, Fail> {
     let code = code(alloc, PROGRAM)?;
     let setup = setup(alloc, &code, 1, None)?;

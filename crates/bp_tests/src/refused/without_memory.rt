@@ -1,5 +1,5 @@
 //! Calls that take no memory. Each test prints a line once all is ready; `.ci/growths` refuses each
-//! growth behind it, and none may be asked for.
+//! growth after it, and none may be asked for.
 ghost use Rattle.std.specs.Prelude.{◌≡◌, true, is_some};
 ghost use Rattle.bp_machine.specs.Setups.{threads, FitsCode};
 ghost use Rattle.bp_board.specs.Kits.{IsNamed};
@@ -19,7 +19,7 @@ use std::sync::Wait;
 use std::sync::ledger::Ledger;
 use std::test::Fail;
 
-/// Prints the line behind which no memory may be asked for.
+/// Prints the line after which no memory may be asked for.
 fn begin(rt: &HostRuntime) -> Result<(), Fail> {
     println!(rt; "without memory")?;
     Ok(())

@@ -10,7 +10,7 @@ use std::thread::Threads;
 use std::time::Clock;
 use std::{io, thread};
 
-/// So many threads of the least program, by turns of one call, with a ring of one.
+/// This many threads of the least program, by turns of one call, with a ring of one.
 fn skips(threads: u32) -> Numbers {
     Numbers {
         threads,
@@ -53,7 +53,7 @@ impl Gate for Meeting {
     fn after(&self, _thread: u32, _reply: Reply) {}
 }
 
-/// Whether so many threads, whose bits are these, meet ahead of their first turns.
+/// Whether this many threads, whose bits are these, meet ahead of their first turns.
 fn meet<R: Threads + Wait + Clock + Sync>(
     rt: &R,
     alloc: Global,
@@ -145,7 +145,7 @@ fn a_worker_waits_for_another(rt: HostRuntime) -> Result<(), AllocError> {
     Ok(())
 }
 
-/// A writer that raises a flag once it is flushed with so many bytes.
+/// A writer that raises a flag once it is flushed with this many bytes.
 #[derive(Drop)]
 struct Flagged<'a> {
     taken: Vec<u8>,
@@ -188,7 +188,7 @@ impl<'a> Gate for Reader<'a> {
     fn after(&self, _thread: u32, _reply: Reply) {}
 }
 
-/// Whether so many bytes are written and handed on before the call of this number is made.
+/// Whether this many bytes are written and handed on before the call of this number is made.
 fn is_written_while_running<R: Threads + Wait + Clock + Sync>(
     rt: &R,
     alloc: Global,

@@ -6,7 +6,7 @@ use std::sync::Wait;
 use std::thread::Threads;
 use std::time::Clock;
 
-/// Whether a run of the loop by turns of so many calls is noted with these digits.
+/// Whether a run of the loop by turns of this many calls is noted with these digits.
 fn is_noted<R: Threads + Wait + Clock + Sync>(
     rt: &R,
     alloc: Global,

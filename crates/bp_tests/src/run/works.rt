@@ -20,10 +20,10 @@ use std::sync::ledger::Ledger;
 use std::test::Fail;
 use std::time::Clock;
 
-/// The digits that are noted of the nine calls of the loop, by turns of so many calls.
+/// The digits that are noted of the nine calls of the loop, by turns of this many calls.
 pub(super) const LOOP_DIGITS: [(u32, u64); 3] = [(1, 11_121_314_151_617_182), (3, 13_162), (64, 2)];
 
-/// A gate that notes a digit each time: ahead of a turn the number of calls, and behind it 1 for
+/// A gate that notes a digit each time: ahead of a turn the number of calls, and after it 1 for
 /// Stepped, 2 for Ended and 3 for another reply.
 #[derive(Drop)]
 pub(super) struct Notes {
@@ -127,7 +127,7 @@ fn work_of<G: Gate, R: Wait + Clock>(
     Ok(work_at::<Brand, Brand, G, R>(rt, alloc, kit, &code, &setup, turn, gate))
 }
 
-/// Whether the work on the loop by turns of so many calls is noted with these digits.
+/// Whether the work on the loop by turns of this many calls is noted with these digits.
 fn is_noted<R: Wait + Clock>(rt: &R, alloc: Global, turn: u32, digits: u64) -> Result<bool, Fail> {
     let gate = Notes::new();
     let done = work_of(rt, alloc, LOOP, Numbers { turn, ..ONE }, &gate)?;

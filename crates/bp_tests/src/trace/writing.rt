@@ -37,7 +37,7 @@ const ONE: &[u8] = b"btrace 1\nentry main\ninit -\ncontexts 1\ncalls 10\nseed 42
 const TWO: &[u8] = b"btrace 2\nentry main\ninit -\ncontexts 1\ncalls 10\nseed 42\n\
     0 1s1s1s0e\nend 4 0\n";
 
-/// Whether the head, the calls and the end, one behind the other, give the trace.
+/// Whether the head, the calls and the end, one after the other, give the trace.
 fn is_written_in_parts(alloc: Global) -> Result<bool, Fail> {
     let mut out = Vec::new(alloc);
     write_head(&setup_of(alloc)?, &mut out)?;
