@@ -7,14 +7,15 @@ mod sessions;
 mod setups;
 
 use bp_machine::{
-    failures_are_real, histories_are_short, one_code_has_one_meaning, steps_are_a_run,
-    steps_are_within,
+    failures_are_real, histories_are_short, one_code_has_one_meaning, runs_are_histories,
+    steps_are_a_run, steps_are_within,
 };
 
 #[test]
 fn laws(_rt: HostRuntime) {
     steps_are_a_run();
     steps_are_within();
+    runs_are_histories();
     failures_are_real();
     histories_are_short();
     one_code_has_one_meaning();

@@ -121,6 +121,23 @@ fn swapped_globals(rt: HostRuntime) -> Result<(), Fail> {
     Ok(())
 }
 
+/// Whether a recorded call is made with its bit and counted, and its thread is then at a print.
+fn makes_a_recorded_call(alloc: Global) -> Result<bool, Fail> {
+    let text = b"main() begin skip; print (1); end";
+    let mut session = session_of(alloc, text, &[], 1000)?;
+    let was_at_print = session.is_at_print(0);
+    let call = session.ask_as_recorded(0, true)?;
+    session.is_in_order();
+    let is_made = call.bit && call.reply == Reply::Stepped && session.calls_of(0) == 1;
+    Ok(is_made && !was_at_print && session.is_at_print(0))
+}
+
+#[test]
+fn recorded_calls(rt: HostRuntime) -> Result<(), Fail> {
+    assert!(rt; makes_a_recorded_call(rt.alloc())?);
+    Ok(())
+}
+
 /// Why nothing is said of what a thread prints next that is not there.
 fn refusal_of_print(alloc: Global) -> Result<Option<AskFault>, Fail> {
     let session = session_of(alloc, b"main() begin print (1); end", &[], 1000)?;
