@@ -1,5 +1,5 @@
 //! Running a program by real threads, one for each guest thread.
-ghost use Rattle.std.specs.Prelude.{◌≡◌, ◌≤◌, ◌<◌, [], List, true, false, is_some, IfOk, MatchResult};
+ghost use Rattle.std.specs.Prelude.{◌≡◌, ◌≤◌, ◌<◌, [], List, true, false, is_some, IfOk, OnOk, MatchResult};
 ghost use Rattle.bp_tree.specs.Ast.{Program};
 ghost use Rattle.bp_code.specs.StandsFor.{StandsFor};
 ghost use Rattle.bp_machine.specs.Laws.{StepsAreARun, StepsAreWithin, FailuresAreReal};
@@ -10,6 +10,7 @@ ghost use Rattle.bp_board.specs.Gatherings.{AreOnePerThread};
 ghost use Rattle.bp_board.specs.Seats.{SeatOf};
 ghost use Rattle.bp_run.specs.Played.{IsPlayed, IsPlayedFrom, IsPlayRefusal};
 ghost use Rattle.bp_run.specs.Runs.{IsTracedRun, IsRunRefusal};
+ghost use Rattle.bp_run.specs.Works.{TellsShut};
 
 use crate::gates::Gate;
 use crate::pens::Pen;
@@ -28,17 +29,20 @@ use std::sync::ledger::Ledger;
 use std::thread::Threads;
 use std::time::Clock;
 
-/// The result of playing a board: the seats that came back, and the report of its history, or
-/// why there is none. No seat comes back where playing was refused before the head was written.
+/// The result of playing a board: the seats that came back, and the report of its history, or why
+/// there is none. With a report it is said whether all workers have done their work. No seat comes
+/// back where playing was refused before the head was written.
 #[derive(Drop)]
 pub struct PlayedBoard<C: Calls, O: Ledger> {
     pub seats: Vec<Seat<C, O>>,
+    pub all_done: bool,
     pub answer: Result<Report, RunFault>,
 }
 
-/// What playing a board answers, and the pen.
+/// Whether all workers have done their work, what playing a board answers, and the pen.
 #[derive(Drop)]
 struct Finished<'a, W> {
+    all_done: bool,
     answer: Result<Report, RunFault>,
     pen: Pen<'a, W>,
 }
@@ -50,6 +54,7 @@ fn refused<'a, W>(pen: Pen<'a, W>, fault: RunFault) -> Finished<'a, W>
     ensures same { result.pen.out.now ≡ pen.entry.out.now }
 {
     Finished {
+        all_done: false,
         answer: Err(fault),
         pen,
     }
@@ -112,6 +117,7 @@ fn play_with<
         → MatchResult result.answer
         (IsPlayedFrom t setup.now old new back.new.items)
         (IsPlayRefusal t setup.now old new back.new.items) }
+    ensures done { OnOk result.answer (TellsShut result.all_done back.new.items) }
 {
     histories_keep_their_laws();
     code.is_of_a_program();
@@ -127,6 +133,7 @@ fn play_with<
         tap,
         seats,
         all_started,
+        all_done,
     } = stage(
         rt, setup, &board, seats, room, handles, tap, pen, turn, gate,
     );
@@ -154,6 +161,7 @@ fn play_with<
         return refused(pen, RunFault::Early);
     }
     Finished {
+        all_done,
         answer: Ok(report),
         pen,
     }
@@ -186,22 +194,27 @@ pub fn play<
     requires seats { AreOnePerThread (threads setup.now) seats.items }
     requires untaken { tap.taken ≡ [] }
     requires turn { (0 < turn) × (turn ≤ MAX_TURN) }
-    ensures { let old = W.contents out.old in
+    ensures answer { let old = W.contents out.old in
         let new = W.contents out.new in
         (t : Program)
         → StandsFor code.now t
         → MatchResult result.answer
         (IsPlayedFrom t setup.now old new result.seats.items)
         (IsPlayRefusal t setup.now old new result.seats.items) }
+    ensures done { OnOk result.answer (TellsShut result.all_done result.seats.items) }
 {
     let pen = Pen::new(out);
     let mut back = Vec::new(alloc);
-    let answer = play_with(
+    let Finished {
+        all_done,
+        answer,
+        pen: _,
+    } = play_with(
         rt, alloc, board, seats, tap, code, setup, turn, gate, &mut back, pen,
-    )
-    .answer;
+    );
     PlayedBoard {
         seats: back,
+        all_done,
         answer,
     }
 }

@@ -4,11 +4,12 @@ ghost use Rattle.std.specs.Thread.{IsSync};
 ghost use Rattle.bp_board.specs.declared.limits.TheConstants.{MAX_TURN};
 ghost use Rattle.bp_machine.specs.declared.limits.TheConstants.{MAX_THREADS};
 ghost use Rattle.bp_run.specs.Scribing.{IsStaged};
+ghost use Rattle.bp_run.specs.Works.{IsWorked, TellsShut};
 
 use crate::gates::Gate;
 use crate::pens::Pen;
 use crate::scribes::write_running;
-use crate::workers::worker;
+use crate::workers::{Worked, worker};
 use bp_board::{Board, Calls, Seat, Tap};
 use bp_machine::Setup;
 use std::io::Write;
@@ -18,28 +19,30 @@ use std::thread;
 use std::thread::{Promise, PromisedHandle, Scope, Threads};
 use std::time::Clock;
 
-/// The promise of a worker: it gives back a seat of this thread.
+/// The promise of a worker: it leaves a seat of this thread, which is open unless its work is done.
 #[derive(Drop)]
 pub(crate) struct OfThread {
     pub thread: u32,
 }
 
-impl<C: Calls, O: Ledger> Promise<Seat<C, O>> for OfThread {
-    ghost use Rattle.std.specs.Prelude.{◌≡◌};
+impl<C: Calls, O: Ledger> Promise<Worked<C, O>> for OfThread {
+    ghost use Rattle.bp_run.specs.Works.{IsWorked};
 
-    ghost kept_by = { λ p seat. seat.thread ≡ p.thread };
+    ghost kept_by = { λ p worked. IsWorked p.thread worked.seat worked.done };
 }
 
 /// A worker that is to be joined.
-pub(crate) type Handle<C, O> = PromisedHandle<Seat<C, O>, OfThread>;
+pub(crate) type Handle<C, O> = PromisedHandle<Worked<C, O>, OfThread>;
 
-/// What the scribe and the workers give back.
+/// What the scribe and the workers give back: also whether all workers were started, and whether
+/// all that were have done their work.
 #[derive(Drop)]
 pub(crate) struct Staged<'a, W, C: Calls, O: Ledger> {
     pub pen: Pen<'a, W>,
     pub tap: Tap<C>,
     pub seats: Vec<Seat<C, O>>,
     pub all_started: bool,
+    pub all_done: bool,
 }
 
 /// Starts a worker for each seat, in order, until one cannot be started. Answers whether all were
@@ -77,10 +80,10 @@ fn start_workers<
         };
         match scope.spawn_with(
             promise,
-            move || -> Seat<C, O>
+            move || -> Worked<C, O>
                 requires some { 0 < turn }
                 requires few { turn ≤ MAX_TURN }
-                ensures { result.thread ≡ seat.thread }
+                ensures { IsWorked seat.thread result.seat result.done }
             { worker(rt, board, ended, seat, turn, gate) },
         ) {
             Ok(handle) => handles.push_reserved(handle),
@@ -90,21 +93,26 @@ fn start_workers<
     true
 }
 
-/// Waits until the workers have ended, and gives back their seats in order.
+/// Waits until the workers have ended, and gives back their seats in order, and whether all have
+/// done their work.
 fn join_workers<C: Calls + Send, O: Ledger + Send, R: Threads>(
     rt: &R,
     handles: Vec<Handle<C, O>>,
     mut back: Vec<Seat<C, O>>,
-) -> Vec<Seat<C, O>>
+) -> (Vec<Seat<C, O>>, bool)
     requires no_seat { vec_len back ≡ 0 }
     requires room { vec_len handles ≤ vec_capacity back }
-    ensures { map (λ seat. seat.thread) result.items
+    ensures threads { map (λ seat. seat.thread) result.0.items
         ≡ map (λ handle. handle.promise.thread) handles.items }
+    ensures done { TellsShut result.1 result.0.items }
 {
+    let mut all_done = true;
     for handle in handles {
-        back.push_reserved(handle.join(rt));
+        let Worked { seat, done } = handle.join(rt);
+        all_done = all_done && done.is_ok();
+        back.push_reserved(seat);
     }
-    back
+    (back, all_done)
 }
 
 /// Starts a worker for each seat, takes and writes calls while they run, and joins them.
@@ -141,6 +149,7 @@ pub(crate) fn stage<
         (W.contents result.pen.out.now) result.pen.failed result.tap.taken result.all_started }
     ensures seats { result.all_started ≡ true
         → map (λ s. s.thread) result.seats.items ≡ map (λ s. s.thread) seats.items }
+    ensures done { TellsShut result.all_done result.seats.items }
 {
     let ended = Mutex::new(0u32);
     let ended = &ended;
@@ -165,6 +174,7 @@ pub(crate) fn stage<
             ensures seats { result.all_started ≡ true
                 → map (λ s. s.thread) result.seats.items
                 ≡ map (λ s. s.thread) seats.items }
+            ensures done { TellsShut result.all_done result.seats.items }
         {
             let mut handles = handles;
             let mut pen = pen;
@@ -181,12 +191,13 @@ pub(crate) fn stage<
             );
             let started = handles.len() as u32;
             write_running(rt, setup, &mut pen, &mut tap, ended, started, all_started);
-            let seats = join_workers(rt, handles, back);
+            let (seats, all_done) = join_workers(rt, handles, back);
             Staged {
                 pen,
                 tap,
                 seats,
                 all_started,
+                all_done,
             }
         },
     )

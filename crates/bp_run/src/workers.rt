@@ -1,7 +1,7 @@
 //! Workers: each makes the calls of one guest thread.
 ghost use Rattle.std.specs.Prelude.{◌≡◌, ◌≤◌, ◌<◌, ◌⊎◌, false, OnOk, IfErr};
 ghost use Rattle.bp_board.specs.declared.limits.TheConstants.{MAX_TURN};
-ghost use Rattle.bp_run.specs.Works.{EndsWork};
+ghost use Rattle.bp_run.specs.Works.{EndsWork, IsWorked};
 
 use crate::gates::Gate;
 use crate::idles::Idle;
@@ -57,8 +57,14 @@ pub(crate) fn have_ended(rt: &impl Wait, ended: &Mutex<u32>, started: u32) -> bo
     *ended.lock(rt) >= started
 }
 
-/// What the thread of a worker does: all the work of its seat, and then it is counted as ended. It
-/// gives the seat back, which is still open where memory was refused.
+/// What a worker leaves: its seat, and that its work is done, or why it stopped before.
+#[derive(Drop)]
+pub(crate) struct Worked<C: Calls, O: Ledger> {
+    pub seat: Seat<C, O>,
+    pub done: Result<(), AskFault>,
+}
+
+/// What the thread of a worker does: all the work of its seat, and then it is counted as ended.
 pub(crate) fn worker<C: Calls, O: Ledger, G: Gate, R: Wait + Clock>(
     rt: &R,
     board: &Board<C, O>,
@@ -66,13 +72,12 @@ pub(crate) fn worker<C: Calls, O: Ledger, G: Gate, R: Wait + Clock>(
     mut seat: Seat<C, O>,
     turn: u32,
     gate: &G,
-) -> Seat<C, O>
+) -> Worked<C, O>
     requires some { 0 < turn }
     requires few { turn ≤ MAX_TURN }
-    ensures { result.thread ≡ seat.thread }
+    ensures { IsWorked seat.thread result.seat result.done }
 {
-    // A refusal leaves the line open, and the report counts it.
-    let _ = work(rt, board, &mut seat, turn, gate);
+    let done = work(rt, board, &mut seat, turn, gate);
     note_end(rt, ended);
-    seat
+    Worked { seat, done }
 }

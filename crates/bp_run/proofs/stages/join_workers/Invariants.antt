@@ -1,4 +1,5 @@
 use Rattle.std.proofs.Common.{◌≡◌, ◌≤◌, ◌+◌, ◌++◌, map, vec_len, vec_capacity}
+use Rattle.bp_run.specs.Works.{TellsShut}
 use Rattle.std.specs.Vec.Iter.{into_iter_items, into_iter_len}
 use Rattle.bp_run.proofs.stages.join_workers.Given as goal
 
@@ -8,4 +9,5 @@ invariant-loop-handle g l = record {
   ends : (goal.iterator-loop-handle g).is_finite l.handle-iterator;
   room : vec_len l.back + into_iter_len l.handle-iterator ≤ vec_capacity l.back;
   threads : map (λ s. s.thread) l.back.items ++ map (λ h. h.promise.thread) (into_iter_items l.handle-iterator) ≡ map (λ h. h.promise.thread) l.fn.handles.items;
+  done : TellsShut l.all_done l.back.items;
 }
