@@ -16,22 +16,24 @@ use Rattle.bp_commands.specs.Runs.{runs, IsRunReport, IsEarly}
 module _ (o : OptionsOf) (text : List ℕ) (old new : Option (List ℕ)) where
   pub done : (r : Report) → IsTracedRun o text old new r → IsDoneWith (runs o) old new text r
   done r is =
-      let played = is.played in
+      let played = is.has.played in
       let written = trace_text (setup_under o is.program) played.history in
       let reports : IsRunReport o text written r = record {
         program = is.program;
         of = is.of;
-        fine = is.fine;
-        played = record {
-          history = played.history;
-          written = refl;
-          report = played.report;
-          legal = played.legal;
-          seeded = played.seeded;
-          steps = played.steps;
-          within = played.within;
-          failure = played.failure;
-          stopped = played.stopped;
+        has = record {
+          fine = is.has.fine;
+          played = record {
+            history = played.history;
+            written = refl;
+            report = played.report;
+            legal = played.legal;
+            seeded = played.seeded;
+            steps = played.steps;
+            within = played.within;
+            failure = played.failure;
+            stopped = played.stopped;
+          };
         };
       } in
       record { text = written; reports = reports; written = record { grown = played.written } }
@@ -42,40 +44,42 @@ module _ (o : OptionsOf) (text : List ℕ) (old new : Option (List ℕ)) where
   pub refused : (f : RunFault) → IsRunRefusal o text old new f → IsRefusedWith (runs o) old new text (fault_of_run f)
   refused (run.Program f) found = inl (kept found.0, inl (record { cause = f; why = found.1; is = refl }))
   refused (run.Setup f) found =
-      inl (kept found.unwritten, inr (inl (record { program = found.program; lawful = found.of; cause = f; why = found.refused; is = refl })))
-  refused run.Memory found = inl (kept found.unwritten, inr (inr (inl (record { program = found.program; lawful = found.of; is = refl }))))
+      inl (kept found.0, inr (inl (record { cause = f; why = found.1; is = refl })))
+  refused run.Memory found = inl (kept found.0, inr (inr (inl (refl, found.1))))
   refused run.Start found =
-      inl (kept found.refused, inr (inr (inr (record { runnable = record { program = found.program; lawful = found.of; fine = found.fine }; is = refl }))))
+      inl (kept found.has.refused, inr (inr (inr (record { runnable = record { program = found.program; of = found.of; has = found.has.fine }; is = refl }))))
   refused run.Early found =
-      let stopped = found.refused in
+      let stopped = found.has.refused in
       let written = trace_text (setup_under o found.program) stopped.history in
       let early : IsEarly o text written Early = record {
         stopped = record {
           program = found.program;
           of = found.of;
-          fine = found.fine;
-          seats = found.seats;
-          refused = record {
-            history = stopped.history;
-            legal = stopped.legal;
-            seeded = stopped.seeded;
-            written = refl;
-            one_each = stopped.one_each;
-            made = stopped.made;
-            early = stopped.early;
+          has = record {
+            fine = found.has.fine;
+            seats = found.has.seats;
+            refused = record {
+              history = stopped.history;
+              legal = stopped.legal;
+              seeded = stopped.seeded;
+              written = refl;
+              one_each = stopped.one_each;
+              made = stopped.made;
+              early = stopped.early;
+            };
           };
         };
         is = refl;
       } in
       inr (inr (record { text = written; spoils = early; written = record { grown = stopped.written } }))
   refused run.Write found =
-      let cut = found.refused in
+      let cut = found.has.refused in
       inr (inl (
         refl,
         record {
           text = trace_text (setup_under o found.program) cut.history;
           writes = record {
-            runnable = record { program = found.program; lawful = found.of; fine = found.fine };
+            runnable = record { program = found.program; of = found.of; has = found.has.fine };
             history = cut.history;
             legal = cut.legal;
             seeded = cut.seeded;

@@ -1,7 +1,5 @@
 -- The command `run`.
 use Rattle.std.specs.Prelude.{◌≡◌, ◌⊎◌, ℕ, List, [], None, Some}
-use Rattle.bp_tree.specs.Ast.{Program}
-use Rattle.bp_code.specs.LawfulTexts.{IsLawfulText}
 use Rattle.bp_machine.specs.declared.calls.Call.{Call}
 use Rattle.bp_machine.specs.declared.reports.Report.{Report}
 use Rattle.bp_machine.specs.declared.setup_faults.SetupFault.{SetupFault}
@@ -9,7 +7,7 @@ use Rattle.bp_machine.specs.Histories.{IsLegal}
 use Rattle.bp_machine.specs.SeededHistories.{HasSeededBits}
 use Rattle.bp_run.specs.declared.run_faults.RunFault.TheVariants as run
 use Rattle.bp_run.specs.Options.{OptionsOf, setup_under, options_fault, IsOptionsRefusal}
-use Rattle.bp_run.specs.Runs.{IsTracedRun, IsRefusedInPlay}
+use Rattle.bp_run.specs.Runs.{OfProgram, IsTracedRun, IsRefusedInPlay}
 use Rattle.bp_trace.specs.TraceText.{trace_text}
 use Rattle.bp_commands.specs.declared.faults.Fault.{Fault}
 use Rattle.bp_commands.specs.declared.faults.Fault.TheVariants.{Start, Early, Memory}
@@ -19,11 +17,9 @@ use Rattle.bp_commands.specs.Faults.{fault_of_setup}
 
 -- The program of a text is run by real threads, under these options.
 module _ (o : OptionsOf) (text : List ℕ) where
-  -- the text is that of a lawful program, for which the options have no fault
-  pub record IsRunnable : Type 0 where
-    pub program : Program
-    pub lawful : IsLawfulText text program
-    pub fine : options_fault o program ≡ None
+  -- the options have no fault for the program of the text
+  abbrev pub IsRunnable : Type 0
+  IsRunnable = OfProgram text (λ t. options_fault o t ≡ None)
 
   -- the trace of a legal history, with the bits of the seed
   pub record IsOfRun (written : List ℕ) : Type 0 where
@@ -37,19 +33,15 @@ module _ (o : OptionsOf) (text : List ℕ) where
   abbrev pub IsRunReport : List ℕ → Report → Type 0
   IsRunReport written report = IsTracedRun o text (Some []) (Some written) report
 
-  -- the text is that of a lawful program, for which the options are refused
+  -- the options are refused for the program of the text
   pub record AreOptionsRefused (f : Fault) : Type 0 where
-    pub program : Program
-    pub lawful : IsLawfulText text program
     pub cause : SetupFault
-    pub why : IsOptionsRefusal o program cause
+    pub why : OfProgram text (λ t. IsOptionsRefusal o t cause)
     pub is : f ≡ fault_of_setup cause
 
   -- the text is that of a lawful program, and memory was refused before a worker was started
-  pub record LacksMemory (f : Fault) : Type 0 where
-    pub program : Program
-    pub lawful : IsLawfulText text program
-    pub is : f ≡ Memory
+  abbrev pub LacksMemory : Fault → Type 0
+  LacksMemory f = (f ≡ Memory) × OfProgram text (λ _. Unit {0})
 
   -- a worker could not be started
   pub record IsNotStarted (f : Fault) : Type 0 where

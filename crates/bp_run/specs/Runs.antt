@@ -10,37 +10,39 @@ use Rattle.bp_run.specs.declared.run_faults.RunFault.TheVariants as fault
 use Rattle.bp_run.specs.Options.{OptionsOf, setup_under, options_fault, IsOptionsRefusal}
 use Rattle.bp_run.specs.Played.{IsPlayed, IsPlayRefusal}
 
+-- the text is that of a lawful program, which has this property
+pub record OfProgram (text : List ℕ) (Has : Program → Type 0) : Type 0 where
+  pub program : Program
+  pub of : IsLawfulText text program
+  pub has : Has program
+
 -- The bytes of the writer are those before and after the program of the text was run.
 module _ (o : OptionsOf) (text : List ℕ) (old new : Option (List ℕ)) where
-  -- The text is that of a lawful program, for which the options have no fault. It was played on
-  -- its setup under the options: the trace of a history was written, which the report is of.
-  pub record IsTracedRun (r : Report) : Type 0 where
-    pub program : Program
-    pub of : IsLawfulText text program
-    pub fine : options_fault o program ≡ None
-    pub played : IsPlayed program (setup_under o program) old new r
+  -- the program has no fault under the options, and it was played on its setup: the trace of a
+  -- history was written, and the report is of that history
+  pub record IsTraced (r : Report) (t : Program) : Type 0 where
+    pub fine : options_fault o t ≡ None
+    pub played : IsPlayed t (setup_under o t) old new r
 
-  -- the text is that of a lawful program, for which the options are refused; nothing was written
-  pub record AreOptionsRefused (f : SetupFault) : Type 0 where
-    pub program : Program
-    pub of : IsLawfulText text program
-    pub refused : IsOptionsRefusal o program f
-    pub unwritten : new ≡ old
-
-  -- the text is that of a lawful program, for which the options have no fault, and playing it was
-  -- refused, from some seats
-  pub record IsRefusedInPlay (f : RunFault) : Type 0 where
-    pub program : Program
-    pub of : IsLawfulText text program
-    pub fine : options_fault o program ≡ None
+  -- the program has no fault under the options, and playing it was refused, from some seats
+  pub record IsNotPlayed (f : RunFault) (t : Program) : Type 0 where
+    pub fine : options_fault o t ≡ None
     pub seats : List SeatOf
-    pub refused : IsPlayRefusal program (setup_under o program) old new seats f
+    pub refused : IsPlayRefusal t (setup_under o t) old new seats f
 
-  -- the text is that of a lawful program, and memory was refused before a worker was started
-  pub record LacksMemory : Type 0 where
-    pub program : Program
-    pub of : IsLawfulText text program
-    pub unwritten : new ≡ old
+  abbrev pub IsTracedRun : Report → Type 0
+  IsTracedRun r = OfProgram text (IsTraced r)
+
+  abbrev pub IsRefusedInPlay : RunFault → Type 0
+  IsRefusedInPlay f = OfProgram text (IsNotPlayed f)
+
+  -- the options are refused for the program of the text; nothing was written
+  abbrev pub AreOptionsRefused : SetupFault → Type 0
+  AreOptionsRefused f = (new ≡ old) × OfProgram text (λ t. IsOptionsRefusal o t f)
+
+  -- memory was refused before a worker was started; nothing was written
+  abbrev pub LacksMemory : Type 0
+  LacksMemory = (new ≡ old) × OfProgram text (λ _. Unit {0})
 
   -- why a run is refused, and what was written: the first of these that applies, memory aside
   abbrev pub IsRunRefusal : RunFault → Type 0
