@@ -6,6 +6,7 @@ mod gates;
 mod idles;
 pub mod limits;
 mod pens;
+mod playing;
 mod run_faults;
 mod run_options;
 mod runner;
@@ -15,8 +16,9 @@ mod stages;
 mod workers;
 
 pub use gates::{Gate, Open};
+pub use playing::{PlayedBoard, play};
 pub use run_faults::RunFault;
 pub use run_options::RunOptions;
-pub use runner::{PlayedBoard, play, run};
+pub use runner::run;
 pub use spreads::Spread;
 pub use workers::work;

@@ -1,0 +1,204 @@
+//! Playing a board: one worker for each seat, and a scribe.
+ghost use Rattle.std.specs.Prelude.{◌≡◌, ◌≤◌, ◌<◌, [], true, false, is_some, OnOk, MatchResult};
+ghost use Rattle.bp_tree.specs.Ast.{Program};
+ghost use Rattle.bp_code.specs.StandsFor.{StandsFor};
+ghost use Rattle.bp_machine.specs.Laws.{StepsAreARun, StepsAreWithin, FailuresAreReal};
+ghost use Rattle.bp_machine.specs.Setups.{threads};
+ghost use Rattle.bp_board.specs.declared.limits.TheConstants.{MAX_TURN};
+ghost use Rattle.bp_board.specs.Gatherings.{AreOnePerThread};
+ghost use Rattle.bp_run.specs.Played.{IsPlayedFrom, IsPlayRefusal};
+ghost use Rattle.bp_run.specs.Works.{TellsShut};
+
+use crate::gates::Gate;
+use crate::pens::Pen;
+use crate::run_faults::RunFault;
+use crate::scribes::write_rest;
+use crate::stages::{Staged, stage};
+use bp_board::{Board, Calls, Gathered, Seat, Tap, gather};
+use bp_code::Code;
+use bp_machine::{Report, Setup, failures_are_real, steps_are_a_run, steps_are_within};
+use std::alloc::Global;
+use std::io::Write;
+use std::sync::Wait;
+use std::sync::ledger::Ledger;
+use std::thread::Threads;
+use std::time::Clock;
+
+/// The result of playing a board: the seats that came back, and the report of its history, or why
+/// there is none. With a report it is said whether all workers have done their work. No seat comes
+/// back where playing was refused before the head was written.
+#[derive(Drop)]
+pub struct PlayedBoard<C: Calls, O: Ledger> {
+    pub seats: Vec<Seat<C, O>>,
+    pub all_done: bool,
+    pub answer: Result<Report, RunFault>,
+}
+
+/// Whether all workers have done their work, what playing a board answers, and the pen.
+#[derive(Drop)]
+struct Finished<'a, W> {
+    all_done: bool,
+    answer: Result<Report, RunFault>,
+    pen: Pen<'a, W>,
+}
+
+/// The answer where playing is refused, with the pen as it was.
+fn refused<'a, W>(pen: Pen<'a, W>, fault: RunFault) -> Finished<'a, W>
+    ensures same_reference { result.pen.out.ghost_name ≡ pen.entry.out.ghost_name }
+    ensures answer { result.answer ≡ Err fault }
+    ensures same { result.pen.out.now ≡ pen.entry.out.now }
+{
+    Finished {
+        all_done: false,
+        answer: Err(fault),
+        pen,
+    }
+}
+
+/// The laws of legal histories.
+fn histories_keep_their_laws()
+    ensures run { StepsAreARun }
+    ensures within { StepsAreWithin }
+    ensures real { FailuresAreReal }
+{
+    steps_are_a_run();
+    steps_are_within();
+    failures_are_real();
+}
+
+/// Plays a board with this pen. Once the board is gathered, its seats replace those of `back`.
+fn play_with<
+    'a,
+    C: Calls + Send + Sync,
+    O: Ledger + Send + Sync,
+    G: Gate,
+    W: Write,
+    R: Threads + Wait + Clock + Sync,
+>(
+    rt: &R,
+    alloc: Global,
+    board: Board<C, O>,
+    seats: Vec<Seat<C, O>>,
+    tap: Tap<C>,
+    code: &Code,
+    setup: &Setup,
+    turn: u32,
+    gate: &G,
+    back: &mut Vec<Seat<C, O>>,
+    pen: Pen<'a, W>,
+) -> Finished<'a, W>
+    requires code { code.now ≡ C.code }
+    requires setup { setup.now ≡ C.setup }
+    requires seats { AreOnePerThread (threads setup.now) seats.items }
+    requires untaken { tap.taken ≡ [] }
+    requires turn { (0 < turn) × (turn ≤ MAX_TURN) }
+    requires fresh { pen.failed ≡ false }
+    ensures same_reference { result.pen.out.ghost_name ≡ pen.entry.out.ghost_name }
+    ensures answer { let old = W.contents pen.entry.out.now in
+        let new = W.contents result.pen.out.now in
+        (t : Program)
+        → StandsFor code.now t
+        → MatchResult result.answer
+        (IsPlayedFrom t setup.now old new back.new.items)
+        (IsPlayRefusal t setup.now old new back.new.items) }
+    ensures done { OnOk result.answer (TellsShut result.all_done back.new.items) }
+{
+    histories_keep_their_laws();
+    code.is_of_a_program();
+    setup.is_in_range();
+    let (Ok(room), Ok(handles)) = (
+        Vec::with_capacity(alloc, seats.len()),
+        Vec::with_capacity(alloc, seats.len()),
+    ) else {
+        return refused(pen, RunFault::Memory);
+    };
+    let Staged {
+        mut pen,
+        tap,
+        seats,
+        all_started,
+        all_done,
+    } = stage(
+        rt, setup, &board, seats, room, handles, tap, pen, turn, gate,
+    );
+    if !all_started {
+        return refused(pen, RunFault::Start);
+    }
+    let Ok(mut gathered) = gather(board, seats, tap, code, setup) else {
+        unreachable!()
+    };
+    write_rest(&mut pen, &mut gathered.tap);
+    let Gathered {
+        seats,
+        tap: _,
+        report,
+        has_stopped,
+        agree,
+    } = gathered;
+    *back = seats;
+    pen.end(report.calls, report.left_open);
+    if pen.failed {
+        return refused(pen, RunFault::Write);
+    }
+    // The seats of the workers should always agree. Only their sums are proved to.
+    if !has_stopped || !agree {
+        return refused(pen, RunFault::Early);
+    }
+    Finished {
+        all_done,
+        answer: Ok(report),
+        pen,
+    }
+}
+
+/// Plays a board that was opened for this code and setup: one worker for each seat makes the calls
+/// of its thread, and the calling thread writes the trace while the workers run. It gives the seats
+/// back: each has made as many calls as the history that was written has of its thread. Where one
+/// has not, or stopped too early, playing is refused once the trace is written.
+pub fn play<
+    C: Calls + Send + Sync,
+    O: Ledger + Send + Sync,
+    G: Gate,
+    W: Write,
+    R: Threads + Wait + Clock + Sync,
+>(
+    rt: &R,
+    alloc: Global,
+    board: Board<C, O>,
+    seats: Vec<Seat<C, O>>,
+    tap: Tap<C>,
+    code: &Code,
+    setup: &Setup,
+    turn: u32,
+    gate: &G,
+    out: &mut W,
+) -> PlayedBoard<C, O>
+    requires code { code.now ≡ C.code }
+    requires setup { setup.now ≡ C.setup }
+    requires seats { AreOnePerThread (threads setup.now) seats.items }
+    requires untaken { tap.taken ≡ [] }
+    requires turn { (0 < turn) × (turn ≤ MAX_TURN) }
+    ensures answer { let old = W.contents out.old in
+        let new = W.contents out.new in
+        (t : Program)
+        → StandsFor code.now t
+        → MatchResult result.answer
+        (IsPlayedFrom t setup.now old new result.seats.items)
+        (IsPlayRefusal t setup.now old new result.seats.items) }
+    ensures done { OnOk result.answer (TellsShut result.all_done result.seats.items) }
+{
+    let pen = Pen::new(out);
+    let mut back = Vec::new(alloc);
+    let Finished {
+        all_done,
+        answer,
+        pen: _,
+    } = play_with(
+        rt, alloc, board, seats, tap, code, setup, turn, gate, &mut back, pen,
+    );
+    PlayedBoard {
+        seats: back,
+        all_done,
+        answer,
+    }
+}
