@@ -3,3 +3,4 @@ pub mod LongestPlaces
 pub mod PartsOfHeads
 pub mod PlacesOfTops
 pub mod SceneLists
+pub mod WordsOfStatements

@@ -5,5 +5,6 @@ pub mod Lines
 pub mod Outcomes
 pub mod Places
 pub mod Scenes
+pub mod Statements
 pub mod Views
 pub mod Widths

@@ -1,13 +1,28 @@
 -- What is shown of each instruction.
-use Rattle.std.specs.Prelude.{◌≡◌, ℕ, List, [], ◌∷◌, Option, None, Some, codes}
+use Rattle.std.specs.Prelude.{◌≡◌, ℕ, Bool, false, List, [], ◌∷◌, ◌++◌, Option, None, Some, codes, drop, map}
 use Rattle.std.specs.List.{AllByRecursion}
 use Rattle.bp_view.specs.declared.scenes.Scene.{Scene}
-use Rattle.bp_text.specs.OneLine.{IsOneLine}
+use Rattle.bp_text.specs.OneLine.{IsOneLine, on_one_line}
 use Rattle.bp_view.specs.Places.{place_text}
+use Rattle.bp_view.specs.Statements.{IsStatement}
 
--- the scene shows the place of the statement that begins at this offset, and words on one line
+-- what is said at a procedure's end
+pub record IsEnd (words : List ℕ) (reads : Bool) : Type 0 where
+  pub name : List ℕ
+  pub words_are : words ≡ codes "end of " ++ map on_one_line name
+  pub reads_none : reads ≡ false
+
+-- these are the words of the statement that begins at this offset, or of a procedure's end, and
+-- whether it reads a choice bit
+abbrev pub IsStatementAt : List ℕ → Option ℕ → List ℕ → Bool → Type 0
+IsStatementAt text None words reads = IsEnd words reads
+IsStatementAt text (Some at) words reads = IsStatement (drop at text) words reads
+
+-- the scene shows the place and the words of the statement that begins at this offset, on one line
 pub record IsScene (text : List ℕ) (start : Option ℕ) (scene : Scene) : Type 0 where
   pub place : scene.place.items ≡ place_text text start
+  pub statement :
+      IsStatementAt text start scene.excerpt.words.items scene.excerpt.reads_choice
   pub words : IsOneLine scene.excerpt.words.items
 
 -- one scene for each of these offsets

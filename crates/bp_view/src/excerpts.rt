@@ -1,6 +1,8 @@
 //! The text of a statement on one line.
-ghost use Rattle.std.specs.Prelude.{◌≤◌, ◌<◌, length, IfOk, OnOk, MatchOption};
+ghost use Rattle.std.specs.Prelude.{◌≡◌, ◌++◌, ◌∷◌, [], ◌≤◌, ◌<◌, length, IfOk, OnOk, MatchOption};
+ghost use Rattle.std.specs.Prelude.{bytes_eq, codes};
 ghost use Rattle.bp_text.specs.OneLine.{AddsOneLine, IsOneLine};
+ghost use Rattle.bp_view.specs.Statements.{is_choice, is_ending, is_gap, role_of, shortened, word_after, IsAtEnd, IsStatement, Takes};
 
 use bp_syntax::{Lexeme, LexemeKind, take_lexeme};
 use bp_text::push_on_one_line;
@@ -19,23 +21,55 @@ pub(crate) enum Role {
     Gap,
     /// A name or a reserved word.
     Word,
-    /// What ends a statement's own text.
-    End,
     Symbol,
 }
 
-/// What a lexeme is to an excerpt: `;` and two reserved words end a statement's own text.
-pub(crate) fn role_of(lexeme: Lexeme<'_>) -> Role {
-    if lexeme.is_gap() {
-        return Role::Gap;
-    }
-    if matches!(lexeme.text, b";" | b"then" | b"do") {
-        return Role::End;
-    }
+/// Whether these bytes end a statement's own text: `;` and two reserved words do.
+fn is_ending(bytes: &[u8]) -> bool
+    ensures { result ≡ is_ending bytes.now }
+{
+    matches!(bytes, b";" | b"then" | b"do")
+}
+
+/// What a lexeme is to an excerpt.
+pub(crate) fn role_of(lexeme: Lexeme<'_>) -> Role
+    ensures { result ≡ role_of lexeme.entry.kind }
+{
     match lexeme.kind {
+        Some(LexemeKind::White | LexemeKind::Comment) => Role::Gap,
         Some(LexemeKind::Identifier | LexemeKind::Braced) => Role::Word,
         _ => Role::Symbol,
     }
+}
+
+/// Whether an excerpt leaves the lexeme out.
+fn is_gap(lexeme: Lexeme<'_>) -> bool
+    ensures { result ≡ is_gap (role_of lexeme.entry.kind) }
+{
+    matches!(role_of(lexeme), Role::Gap)
+}
+
+/// Whether these bytes are the sign of a choice.
+fn is_choice(bytes: &[u8]) -> bool
+    ensures { result ≡ is_choice bytes.now }
+{
+    matches!(bytes, b"?")
+}
+
+/// Takes the next lexeme of a statement's own text from the text, where one is left.
+pub(crate) fn take_own_lexeme<'a>(text: &mut &'a [u8]) -> Option<Lexeme<'a>>
+    ensures lexeme { MatchOption result
+        (IsAtEnd text.old.now)
+        (λ p. Takes text.old.now p.kind p.text.now text.new.now) }
+    ensures shorter { MatchOption result Unit (λ _. length text.new.now < length text.old.now) }
+{
+    let Some(lexeme) = take_lexeme(text) else {
+        return None;
+    };
+    if is_ending(lexeme.text) {
+        return None;
+    }
+    Some(lexeme)
 }
 
 /// A statement's own text: one line, and whether it decides by a choice bit.
@@ -45,21 +79,15 @@ pub(crate) struct Excerpt {
     pub(crate) reads_choice: bool,
 }
 
-/// Adds a lexeme, after a space where there was a gap.
-fn push_lexeme(words: &mut Vec<u8>, had_gap: bool, bytes: &[u8]) -> Result<(), AllocError>
-    ensures { OnOk result (AddsOneLine words.old.items words.new.items) }
+/// Adds a lexeme, after a space where there was a gap; a gap adds nothing.
+fn push_lexeme(words: &mut Vec<u8>, lexeme: Lexeme<'_>, had_gap: bool) -> Result<(), AllocError>
+    ensures is { OnOk result
+        (words.new.items ≡ words.old.items ++ word_after had_gap lexeme.entry.kind lexeme.entry.text.now) }
+    ensures one_line { OnOk result (AddsOneLine words.old.items words.new.items) }
 {
-    push_on_one_line(words, if had_gap { b" " } else { b"" })?;
-    push_on_one_line(words, bytes)?;
-    Ok(())
-}
-
-/// Adds a lexeme, but for a gap.
-fn keep_lexeme(words: &mut Vec<u8>, lexeme: Lexeme<'_>, had_gap: bool) -> Result<(), AllocError>
-    ensures { OnOk result (AddsOneLine words.old.items words.new.items) }
-{
-    if !lexeme.is_gap() {
-        push_lexeme(words, had_gap, lexeme.text)?;
+    if !is_gap(lexeme) {
+        push_on_one_line(words, if had_gap { b" " } else { b"" })?;
+        push_on_one_line(words, lexeme.text)?;
     }
     Ok(())
 }
@@ -67,7 +95,8 @@ fn keep_lexeme(words: &mut Vec<u8>, lexeme: Lexeme<'_>, had_gap: bool) -> Result
 /// Cuts the words where they are too many.
 fn cut(words: &mut Vec<u8>) -> Result<(), AllocError>
     requires { IsOneLine words.old.items }
-    ensures { OnOk result (IsOneLine words.new.items) }
+    ensures is { OnOk result (words.new.items ≡ shortened words.old.items) }
+    ensures one_line { OnOk result (IsOneLine words.new.items) }
 {
     if words.len() > MAX_EXCERPT {
         words.truncate(MAX_EXCERPT - CUT.len());
@@ -79,19 +108,17 @@ fn cut(words: &mut Vec<u8>) -> Result<(), AllocError>
 #[tactic(auto, using(bp_text::proofs::TextsOnOneLine::one_line_after))]
 /// The own text of the statement with which the text begins: up to `;`, `then` or `do`.
 pub(crate) fn excerpt_of(alloc: Global, text: &[u8]) -> Result<Excerpt, AllocError>
-    ensures { IfOk result (λ e. IsOneLine e.words.items) }
+    ensures is { IfOk result (λ e. IsStatement text.now e.words.items e.reads_choice) }
+    ensures one_line { IfOk result (λ e. IsOneLine e.words.items) }
 {
     let mut words = Vec::new(alloc);
     let mut reads_choice = false;
     let mut had_gap = false;
     let mut rest = text;
-    while let Some(lexeme) = take_lexeme(&mut rest) {
-        if role_of(lexeme) == Role::End {
-            break;
-        }
-        keep_lexeme(&mut words, lexeme, had_gap)?;
-        had_gap = lexeme.is_gap();
-        reads_choice |= lexeme.text == b"?".as_slice();
+    while let Some(lexeme) = take_own_lexeme(&mut rest) {
+        push_lexeme(&mut words, lexeme, had_gap)?;
+        had_gap = is_gap(lexeme);
+        reads_choice |= is_choice(lexeme.text);
     }
     cut(&mut words)?;
     Ok(Excerpt {

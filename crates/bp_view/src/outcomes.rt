@@ -3,11 +3,10 @@ ghost use Rattle.std.specs.Prelude.{◌≡◌, ◌++◌, OnOk, IfOk};
 ghost use Rattle.bp_view.specs.Outcomes.{count_text, counts_line, failure_text, IsOutcomeText, IsFoot};
 
 use crate::changes::procedure_at;
-use crate::excerpts::{Role, role_of};
+use crate::excerpts::{Role, role_of, take_own_lexeme};
 use crate::settings::Setting;
 use crate::variables::push_variable;
 use bp_machine::{Outcome, Report, Session, Top};
-use bp_syntax::take_lexeme;
 use bp_text::push_bytes;
 use itoa::Buffer;
 use std::alloc::{AllocError, Global};
@@ -32,12 +31,8 @@ fn push_variables(
         return Ok(());
     };
     let mut rest = text;
-    while let Some(lexeme) = take_lexeme(&mut rest) {
-        let role = role_of(lexeme);
-        if role == Role::End {
-            break;
-        }
-        if role == Role::Word {
+    while let Some(lexeme) = take_own_lexeme(&mut rest) {
+        if role_of(lexeme) == Role::Word {
             push_variable(view, setting.globals, proc, top.store, lexeme.text)?;
         }
     }

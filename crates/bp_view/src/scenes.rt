@@ -8,7 +8,7 @@ ghost use Rattle.bp_view.specs.Scenes.{AreScenes, IsScene};
 use crate::excerpts::{Excerpt, excerpt_of};
 use bp_check::Checked;
 use bp_code::statement_starts;
-use bp_text::{FIRST, Position, position_from, push_bytes, push_on_one_line};
+use bp_text::{FIRST, Position, part_from, position_from, push_bytes, push_on_one_line};
 use bp_tree::Proc;
 use itoa::Buffer;
 use std::alloc::{AllocError, Global};
@@ -48,7 +48,7 @@ fn statement_scene(
     requires { position ≡ position_at text.now start }
     ensures { IfOk result (IsScene text.now (Some start)) }
 {
-    let rest = text.get(start as usize..).unwrap_or(&[]);
+    let rest = part_from(text, start as usize);
     Ok(Scene {
         place: place_text(alloc, position)?,
         excerpt: excerpt_of(alloc, rest)?,

@@ -1,0 +1,83 @@
+-- The text of a statement on one line, as a view shows it.
+use Rattle.std.specs.Prelude.{if◌then◌else◌, ◌≡◌, ◌||◌, ℕ, nat_lt, Bool, true, false, List, [], ◌∷◌, ◌++◌, Option, Some, codes, bytes_eq, length, map, take}
+use Rattle.std.specs.List.{list_any}
+use Rattle.bp_syntax.specs.FirstLexemes.{TakesLexeme}
+use Rattle.bp_syntax.specs.declared.tokens.LexemeKind.{LexemeKind}
+use Rattle.bp_syntax.specs.declared.tokens.LexemeKind.TheVariants.{White, Comment, Identifier, Braced}
+use Rattle.bp_text.specs.OneLine.{on_one_line}
+use Rattle.bp_view.specs.declared.excerpts.Role.{Role}
+use Rattle.bp_view.specs.declared.excerpts.Role.TheVariants.{Gap, Word, Symbol}
+
+-- a lexeme: its kind, none for a byte that begins no lexeme, and its bytes
+pub record Lexeme : Type 0 where
+  pub kind : Option LexemeKind
+  pub bytes : List ℕ
+
+-- `;`, `then` and `do` end the text that is shown of a statement
+abbrev pub is_ending : List ℕ → Bool
+is_ending bytes =
+    bytes_eq bytes (codes ";") || bytes_eq bytes (codes "then") || bytes_eq bytes (codes "do")
+
+-- what a lexeme of this kind is to the text of a statement
+abbrev pub role_of : Option LexemeKind → Role
+role_of (Some White) = Gap
+role_of (Some Comment) = Gap
+role_of (Some Identifier) = Word
+role_of (Some Braced) = Word
+role_of kind = Symbol
+
+-- the text begins with a lexeme that ends a statement, or nothing is left of it
+pub data IsAtEnd : (text : List ℕ) → Type 0 where
+  none_left : IsAtEnd []
+  ending :
+      {text rest bytes : List ℕ} {kind : Option LexemeKind}
+      → TakesLexeme text kind bytes rest
+      → is_ending bytes ≡ true
+      → IsAtEnd text
+
+-- the text begins with this lexeme of a statement, and then comes the rest
+pub record Takes (text : List ℕ) (kind : Option LexemeKind) (bytes rest : List ℕ) : Type 0 where
+  pub takes : TakesLexeme text kind bytes rest
+  pub goes_on : is_ending bytes ≡ false
+
+-- the text begins with a statement that has these lexemes: all before the first that ends it
+pub data HasLexemes : (text : List ℕ) → List Lexeme → Type 0 where
+  ends : {text : List ℕ} → IsAtEnd text → HasLexemes text []
+  more :
+      {text rest : List ℕ} {l : Lexeme} {ls : List Lexeme}
+      → Takes text l.kind l.bytes rest
+      → HasLexemes rest ls
+      → HasLexemes text (l ∷ ls)
+
+-- white and comments
+abbrev pub is_gap : Role → Bool
+is_gap Gap = true
+is_gap r = false
+
+-- bytes on one line, after a space where a gap comes before them
+abbrev pub spaced : (gap : Bool) → List ℕ → List ℕ
+spaced gap bytes = (if gap then codes " " else []) ++ map on_one_line bytes
+
+-- a lexeme after a gap or after none; a gap has no text of its own
+abbrev pub word_after : (gap : Bool) → Option LexemeKind → List ℕ → List ℕ
+word_after gap kind bytes = if is_gap (role_of kind) then [] else spaced gap bytes
+
+-- these lexemes, one after the other
+abbrev pub words_after : (gap : Bool) → List Lexeme → List ℕ
+words_after gap [] = []
+words_after gap (l ∷ ls) =
+    word_after gap l.kind l.bytes ++ words_after (is_gap (role_of l.kind)) ls
+
+-- at most 60 bytes: of a longer text the first 58 and two dots
+abbrev pub shortened : List ℕ → List ℕ
+shortened words = if nat_lt 60 (length words) then take 58 words ++ codes ".." else words
+
+abbrev pub is_choice : List ℕ → Bool
+is_choice bytes = bytes_eq bytes (codes "?")
+
+-- the statement with which the text begins has these words, and reads a choice bit or not
+pub record IsStatement (text words : List ℕ) (reads : Bool) : Type 0 where
+  pub lexemes : List Lexeme
+  pub lexemes_are : HasLexemes text lexemes
+  pub words_are : words ≡ shortened (words_after false lexemes)
+  pub reads_is : reads ≡ list_any (λ l. is_choice l.bytes) lexemes
