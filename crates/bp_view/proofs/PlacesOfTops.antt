@@ -1,5 +1,5 @@
 -- The scene of a thread's next statement has its place.
-use Rattle.std.proofs.Common.{◌≡◌, ◌∙◌, ℕ, List, Option, None, Some, Bor, length, nat_lt, is_some, slice_get, get_or, ap, sym, arith, ◌<◌, ◌≤◌}
+use Rattle.std.proofs.Common.{◌≡◌, ◌∙◌, ℕ, List, ◌∷◌, subst, Option, None, Some, Bor, length, nat_lt, is_some, slice_get, get_or, ap, sym, arith, ◌<◌, ◌≤◌}
 use Rattle.std.specs.Prelude.{option_map, IfSome}
 use Rattle.std.proofs.lemmas.Option.{slice_get-map, slice_get_past, slice_get-get_or}
 use Rattle.bp_tree.specs.Ast.{Program}
@@ -10,10 +10,10 @@ use Rattle.bp_machine.specs.declared.tops.Top.{Top}
 use Rattle.bp_machine.specs.Answers.{stack_of}
 use Rattle.bp_machine.specs.Tops.{IsTop}
 use Rattle.bp_view.specs.declared.scenes.Scene.{Scene}
-use Rattle.bp_view.specs.Lines.{start_on_stack}
+use Rattle.bp_view.specs.Lines.{indented, shown_of, start_on_stack, IsShown, IsShownAt}
 use Rattle.bp_view.specs.Places.{place_text}
 use Rattle.bp_view.specs.Scenes.{AreScenes, place_of_scene}
-use Rattle.bp_view.proofs.SceneLists.{place_at}
+use Rattle.bp_view.proofs.SceneLists.{place_at, scene_at}
 
 -- what is got is the n-th
 pub got_scene : (o : Option (Bor Scene)) (scenes : List Scene) (n : ℕ) → is_some o ≡ nat_lt n (length scenes) → IfSome o (λ x. x.now ≡ get_or scenes n x.now) → option_map (λ s. s.now) o ≡ slice_get scenes n
@@ -26,3 +26,19 @@ module _ (t : Program) (text : List ℕ) (c : Configuration) (i : ℕ) (scenes :
       let start : slice_get (starts_of t) x.number ≡ Some (start_of_block is.frame.left) =
       slice_get-map (λ p. start_of_block p.left) (places_of t.procedures) x.number ∙ ap (option_map (λ p. start_of_block p.left)) is.next in
       place_at text (starts_of t) scenes x.number (start_of_block is.frame.left) are start ∙ ap (λ s. place_text text (start_on_stack s)) (sym is.stack)
+
+  -- what is shown of it is its statement
+  pub shown_of_top : (x : Top) → IsTop t c i x → IsShown text (stack_of c i) (shown_of (slice_get scenes x.number) (Some x))
+  shown_of_top x is =
+      let start : slice_get (starts_of t) x.number ≡ Some (start_of_block is.frame.left) =
+      slice_get-map (λ p. start_of_block p.left) (places_of t.procedures) x.number ∙ ap (option_map (λ p. start_of_block p.left)) is.next in
+      let found = scene_at text (starts_of t) scenes x.number (start_of_block is.frame.left) are start in
+      let own : IsShownAt text (start_of_block is.frame.left) (length (is.frame ∷ is.below)) (shown_of (Some found.scene) (Some x)) = record {
+        words = found.scene.excerpt.words.items;
+        text_is = ap (λ d. indented d found.scene.excerpt.words.items) is.depth;
+        words_are = found.is.statement;
+        one_line = found.is.words;
+      } in
+      let on_frames : IsShown text (is.frame ∷ is.below) (shown_of (Some found.scene) (Some x)) = own in
+      let on_stack = subst (λ s. IsShown text s (shown_of (Some found.scene) (Some x))) (sym is.stack) on_frames in
+      subst (λ o. IsShown text (stack_of c i) (shown_of o (Some x))) (sym found.at) on_stack

@@ -1,10 +1,10 @@
 -- One scene more.
-use Rattle.std.proofs.Common.{◌≡◌, ℕ, List, [], ◌∷◌, ◌++◌, zero, suc, Option, Some, slice_get, unwrap_or, is_some, ◌<◌, ◌+◌, take, length, get_or, ap, ◌∙◌}
+use Rattle.std.proofs.Common.{◌≡◌, ℕ, List, [], ◌∷◌, ◌++◌, zero, suc, Option, Some, slice_get, unwrap_or, is_some, ◌<◌, ◌+◌, take, length, get_or, ap, ◌∙◌, refl, subst}
 use Rattle.std.proofs.lemmas.Bool.{false≢true}
 use Rattle.std.proofs.lemmas.List.{take_more}
 use Rattle.bp_view.specs.declared.scenes.Scene.{Scene}
 use Rattle.bp_view.specs.Places.{place_text}
-use Rattle.bp_view.specs.Scenes.{AreScenes, IsScene, AreOnOneLine, IsOnOneLine, place_of_scene}
+use Rattle.bp_view.specs.Scenes.{AreScenes, IsScene, place_of_scene}
 
 pub scenes_then : (text : List ℕ) (starts : List (Option ℕ)) (scenes : List Scene) (start : Option ℕ) (scene : Scene)
     → AreScenes text starts scenes → IsScene text start scene → AreScenes text (starts ++ start ∷ []) (scenes ++ scene ∷ [])
@@ -22,16 +22,25 @@ place_at text (s ∷ starts) [] n start are has = elim are [ ]
 place_at text (s ∷ starts) (x ∷ scenes) zero start are has = are.0.place ∙ ap (λ o. place_text text (unwrap_or o s)) has
 place_at text (s ∷ starts) (x ∷ scenes) (suc n) start are has = place_at text starts scenes n start are.1 has
 
-pub words_at : (scenes : List Scene) (n : ℕ) → AreOnOneLine scenes → IsOnOneLine (slice_get scenes n)
-words_at [] n are = tt
-words_at (x ∷ scenes) zero are = are.0
-words_at (x ∷ scenes) (suc n) are = words_at scenes n are.1
+-- the scene of the n-th
+pub record SceneAt (text : List ℕ) (start : Option ℕ) (scenes : List Scene) (n : ℕ) : Type 0 where
+  pub scene : Scene
+  pub at : slice_get scenes n ≡ Some scene
+  pub is : IsScene text start scene
 
-pub all_words : (text : List ℕ) (starts : List (Option ℕ)) (scenes : List Scene) → AreScenes text starts scenes → AreOnOneLine scenes
-all_words text [] [] are = tt
-all_words text [] (x ∷ scenes) are = elim are [ ]
-all_words text (s ∷ starts) [] are = elim are [ ]
-all_words text (s ∷ starts) (x ∷ scenes) are = (are.0.words, all_words text starts scenes are.1)
+pub scene_at : (text : List ℕ) (starts : List (Option ℕ)) (scenes : List Scene) (n : ℕ) (start : Option ℕ)
+    → AreScenes text starts scenes → slice_get starts n ≡ Some start → SceneAt text start scenes n
+scene_at text [] [] n start are has = absurd (false≢true (ap is_some has))
+scene_at text [] (x ∷ scenes) n start are has = elim are [ ]
+scene_at text (s ∷ starts) [] n start are has = elim are [ ]
+scene_at text (s ∷ starts) (x ∷ scenes) zero start are has = record {
+  scene = x;
+  at = refl;
+  is = subst (λ o. IsScene text (unwrap_or o s) x) has are.0;
+}
+scene_at text (s ∷ starts) (x ∷ scenes) (suc n) start are has =
+    let found = scene_at text starts scenes n start are.1 has in
+    record { scene = found.scene; at = found.at; is = found.is }
 
 pub more_scenes : (text : List ℕ) (items : List (Option ℕ)) (i : ℕ) (d start : Option ℕ) (scenes new : List Scene) (scene : Scene)
     → i < length items → get_or items i d ≡ start → AreScenes text (take i items) scenes

@@ -1,6 +1,5 @@
 pub mod Colours
 pub mod Heads
-pub mod OneLineProps
 pub mod Lines
 pub mod Outcomes
 pub mod Places

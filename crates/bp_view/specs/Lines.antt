@@ -1,5 +1,5 @@
 -- The line of a call.
-use Rattle.std.specs.Prelude.{if◌then◌else◌, ◌≡◌, ◌==◌, not, ◌&&◌, ◌-◌, ℕ, suc, Bool, false, List, [], ◌∷◌, ◌++◌, Option, None, Some, MatchOption, length, codes, decimal}
+use Rattle.std.specs.Prelude.{if◌then◌else◌, ◌≡◌, ◌==◌, not, ◌&&◌, ◌-◌, ◌*◌, min, ℕ, suc, Bool, false, List, [], ◌∷◌, ◌++◌, Option, None, Some, MatchOption, length, codes, decimal}
 use Rattle.bp_tree.specs.Ast.{Program}
 use Rattle.bp_code.specs.Starts.{start_of_block}
 use Rattle.bp_code.specs.Configurations.{Frame}
@@ -13,6 +13,7 @@ use Rattle.bp_machine.specs.Histories.{configuration_after, granted_threads}
 use Rattle.bp_machine.specs.Replies.{is_granted}
 use Rattle.bp_machine.specs.Setups.{SetupOf}
 use Rattle.bp_machine.specs.Tops.{IsTop}
+use Rattle.bp_machine.specs.declared.tops.Top.{Top}
 use Rattle.bp_text.specs.Columns.{at_left, at_right, spaces}
 use Rattle.bp_view.specs.declared.colours.Colour.{Colour}
 use Rattle.bp_view.specs.declared.moments.Moment.{Moment}
@@ -20,6 +21,8 @@ use Rattle.bp_view.specs.declared.settings.Widths.{Widths}
 use Rattle.bp_text.specs.OneLine.{IsOneLine}
 use Rattle.bp_view.specs.Colours.{in_colour}
 use Rattle.bp_view.specs.Places.{place_text}
+use Rattle.bp_view.specs.declared.scenes.Scene.{Scene}
+use Rattle.bp_view.specs.Scenes.{IsStatementAt}
 
 -- the new bytes are the old ones, and then such bytes
 pub record Adds (Are : List ℕ → Type 0) (old new : List ℕ) : Type 0 where
@@ -91,8 +94,7 @@ choice_text reads x =
 
 -- a note of a call: its choice bit where its statement reads one, the words of its reply, and a
 -- text on one line
-pub record IsNote (x : Call) (note : List ℕ) : Type 0 where
-  pub reads : Bool
+pub record IsNote (reads : Bool) (x : Call) (note : List ℕ) : Type 0 where
   pub changes : List ℕ
   pub is : note ≡ choice_text reads x ++ reply_words x.reply ++ changes
   pub changes_are : IsOneLine changes
@@ -102,25 +104,62 @@ abbrev pub after_room : ℕ → List ℕ → List ℕ
 after_room room [] = []
 after_room room (b ∷ bs) = spaces room ++ b ∷ bs
 
+-- a statement as a line shows it: its text, and whether it reads a choice bit
+pub record Shown : Type 0 where
+  pub text : List ℕ
+  pub reads : Bool
+
 -- a call: the fields in columns of these widths, the statement, and after its column the note
-pub record IsCallText (w : Widths) (f : Fields) (x : Call) (text : List ℕ) : Type 0 where
-  pub statement : List ℕ
+pub record IsCallText (w : Widths) (f : Fields) (shown : Shown) (x : Call) (text : List ℕ)
+    : Type 0 where
   pub note : List ℕ
-  pub is : text ≡ fields_text w f ++ statement ++ after_room (w.words - length statement) note
-  pub statement_is : IsOneLine statement
-  pub note_is : IsNote x note
+  pub is :
+      text ≡ fields_text w f ++ shown.text ++ after_room (w.words - length shown.text) note
+  pub note_is : IsNote shown.reads x note
 
 -- a line: the text of a call, in a colour
-pub record IsLineWith (w : Widths) (colour : Colour) (f : Fields) (x : Call) (line : List ℕ)
+pub record IsLineWith
+    (w : Widths) (colour : Colour) (f : Fields) (shown : Shown) (x : Call) (line : List ℕ)
     : Type 0 where
   pub text : List ℕ
   pub is : line ≡ in_colour colour text ++ codes "\n"
-  pub text_is : IsCallText w f x text
+  pub text_is : IsCallText w f shown x text
 
 -- thread i has a statement that comes next
 abbrev pub start_on_stack : List Frame → Option ℕ
 start_on_stack [] = None
 start_on_stack (f ∷ fs) = start_of_block f.left
+
+-- words after two columns for each frame of a stack, for so many frames at most
+abbrev pub indented : (depth : ℕ) → List ℕ → List ℕ
+indented depth words = spaces (2 * min depth 8) ++ words
+
+-- the statement that begins at this offset, or a procedure's end, at this depth of a stack
+pub record IsShownAt (text : List ℕ) (start : Option ℕ) (depth : ℕ) (shown : Shown) : Type 0 where
+  pub words : List ℕ
+  pub text_is : shown.text ≡ indented depth words
+  pub words_are : IsStatementAt text start words shown.reads
+  pub one_line : IsOneLine words
+
+-- the statement that a thread with this stack has next; nothing where the stack is empty
+abbrev pub IsShown : List ℕ → List Frame → Shown → Type 0
+IsShown text [] shown = (shown.text ≡ []) × (shown.reads ≡ false)
+IsShown text (f ∷ fs) shown =
+    IsShownAt text (start_of_block f.left) (length (f ∷ fs)) shown
+
+-- a device: what the code shows of a scene, at the top of a stack
+abbrev pub reads_of_scene : Option Scene → Bool
+reads_of_scene None = false
+reads_of_scene (Some scene) = scene.excerpt.reads_choice
+
+abbrev pub text_of_scene : Option Scene → Option Top → List ℕ
+text_of_scene None top = []
+text_of_scene (Some scene) None = []
+text_of_scene (Some scene) (Some top) = indented top.depth scene.excerpt.words.items
+
+abbrev pub shown_of : Option Scene → Option Top → Shown
+shown_of scene top =
+    record { text = text_of_scene scene top; reads = reads_of_scene scene }
 
 -- the step is one of another thread than the last
 abbrev pub is_other : Option ℕ → ℕ → Bool

@@ -1,6 +1,5 @@
 -- What is shown of each instruction.
 use Rattle.std.specs.Prelude.{◌≡◌, ℕ, Bool, false, List, [], ◌∷◌, ◌++◌, Option, None, Some, codes, drop, map}
-use Rattle.std.specs.List.{AllByRecursion}
 use Rattle.bp_view.specs.declared.scenes.Scene.{Scene}
 use Rattle.bp_text.specs.OneLine.{IsOneLine, on_one_line}
 use Rattle.bp_view.specs.Places.{place_text}
@@ -36,11 +35,3 @@ AreScenes text starts scenes = ⊥
 abbrev pub place_of_scene : Option Scene → List ℕ
 place_of_scene None = codes "-"
 place_of_scene (Some scene) = scene.place.items
-
--- the words of a scene, where there is one, are on one line
-abbrev pub IsOnOneLine : Option Scene → Type 0
-IsOnOneLine None = Unit {0}
-IsOnOneLine (Some scene) = IsOneLine scene.excerpt.words.items
-
-abbrev pub AreOnOneLine : List Scene → Type 0
-AreOnOneLine scenes = AllByRecursion (λ scene. IsOneLine scene.excerpt.words.items) scenes

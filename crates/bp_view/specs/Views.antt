@@ -1,12 +1,13 @@
 -- The view of a history of a program: a line for each of its calls that is shown.
-use Rattle.std.specs.Prelude.{◌≡◌, ◌==◌, ◌-◌, ◌&&◌, ℕ, suc, Bool, true, false, nat_lt, List, [], ◌∷◌, ◌++◌, Option, None, Some, length, map, take, slice_get}
+use Rattle.std.specs.Prelude.{◌≡◌, ◌==◌, ◌-◌, ◌&&◌, ℕ, suc, Bool, true, false, nat_lt, List, [], ◌++◌, Option, None, Some, length, map, take, slice_get}
 use Rattle.std.specs.List.{concat}
 use Rattle.bp_tree.specs.Ast.{Program}
 use Rattle.bp_code.specs.Starts.{starts_of}
 use Rattle.bp_machine.specs.declared.calls.Call.{Call}
 use Rattle.bp_machine.specs.declared.reports.Report.{Report}
+use Rattle.bp_machine.specs.Answers.{stack_of}
 use Rattle.bp_machine.specs.ContextCounts.{last_thread}
-use Rattle.bp_machine.specs.Histories.{granted_threads}
+use Rattle.bp_machine.specs.Histories.{configuration_after, granted_threads}
 use Rattle.bp_machine.specs.Setups.{SetupOf}
 use Rattle.bp_trace.specs.declared.replaying.Replayed.{Replayed}
 use Rattle.bp_trace.specs.Replayed.{IsReplayed}
@@ -15,7 +16,7 @@ use Rattle.bp_view.specs.declared.writers.ViewWriter.{ViewWriter}
 use Rattle.bp_view.specs.declared.options.ViewOptions.{ViewOptions}
 use Rattle.bp_view.specs.Colours.{colour_of}
 use Rattle.bp_view.specs.Heads.{view_head}
-use Rattle.bp_view.specs.Lines.{Adds, Fields, AreFields, IsLineWith}
+use Rattle.bp_view.specs.Lines.{Adds, Fields, Shown, AreFields, IsLineWith, IsShown}
 use Rattle.bp_view.specs.Outcomes.{IsFoot}
 use Rattle.bp_view.specs.Places.{place_text}
 use Rattle.bp_view.specs.Scenes.{AreScenes}
@@ -42,7 +43,9 @@ module _
   pub record IsViewLine (h : List Call) (x : Call) (line : List ℕ) : Type 0 where
     pub fields : Fields
     pub fields_are : AreFields t text s h x fields
-    pub is : IsLineWith w (colour_of o.has_colour x.reply fields.switch) fields x line
+    pub shown : Shown
+    pub shown_is : IsShown text (stack_of (configuration_after t s h) x.thread) shown
+    pub is : IsLineWith w (colour_of o.has_colour x.reply fields.switch) fields shown x line
 
   -- that line where it is shown, else nothing
   abbrev pub IsViewLineIf : Bool → List Call → Call → List ℕ → Type 0

@@ -1,10 +1,10 @@
 //! The line of a call.
 ghost use Rattle.std.specs.Prelude.{◌≡◌, ◌++◌, codes, decimal, option_map, OnOk};
 ghost use Rattle.bp_text.specs.Columns.{at_right};
-ghost use Rattle.bp_text.specs.OneLine.{AddsOneLine, IsOneLine};
+ghost use Rattle.bp_text.specs.OneLine.{AddsOneLine};
 ghost use Rattle.bp_view.specs.Colours.{colour_of};
-ghost use Rattle.bp_view.specs.Scenes.{place_of_scene, IsOnOneLine};
-ghost use Rattle.bp_view.specs.Lines.{reply_words, is_tried, choice_text, context_text, fields_of, fields_text, after_room, Adds, IsCallText, IsLineWith, IsNote};
+ghost use Rattle.bp_view.specs.Scenes.{place_of_scene};
+ghost use Rattle.bp_view.specs.Lines.{reply_words, is_tried, choice_text, context_text, fields_of, fields_text, after_room, indented, reads_of_scene, shown_of, text_of_scene, Adds, IsCallText, IsLineWith, IsNote};
 
 use crate::changes::push_changes;
 use crate::colours::Colour;
@@ -76,8 +76,7 @@ fn push_fields(
 
 /// Adds the statement, moved to the right by the depth of the stack.
 fn push_statement(line: &mut Vec<u8>, words: &[u8], depth: usize) -> Result<(), AllocError>
-    requires { IsOneLine words.now }
-    ensures { OnOk result (AddsOneLine line.old.items line.new.items) }
+    ensures { OnOk result (line.new.items ≡ line.old.items ++ indented depth words.now) }
 {
     push_spaces(line, 2 * depth.min(MAX_INDENTS))?;
     push_bytes(line, words)?;
@@ -90,8 +89,8 @@ fn push_scene(
     scene: Option<&Scene>,
     before: Option<Top>,
 ) -> Result<(), AllocError>
-    requires { IsOnOneLine (option_map (λ s. s.now) scene) }
-    ensures { OnOk result (AddsOneLine line.old.items line.new.items) }
+    ensures { let scene = option_map (λ s. s.now) scene.entry in
+        OnOk result (line.new.items ≡ line.old.items ++ text_of_scene scene before) }
 {
     if let (Some(scene), Some(top)) = (scene, before) {
         push_statement(line, scene.excerpt.words.as_slice(), top.depth)?;
@@ -139,7 +138,9 @@ fn push_changed(
 }
 
 /// Whether the statement of a scene reads a choice bit.
-fn reads_choice(scene: Option<&Scene>) -> bool {
+fn reads_choice(scene: Option<&Scene>) -> bool
+    ensures { result ≡ reads_of_scene (option_map (λ s. s.now) scene.entry) }
+{
     match scene {
         Some(scene) => scene.excerpt.reads_choice,
         None => false,
@@ -154,7 +155,8 @@ fn write_note(
     scene: Option<&Scene>,
     moment: &Moment,
 ) -> Result<(), AllocError>
-    ensures { OnOk result (IsNote moment.now.call note.new.items) }
+    ensures { let reads = reads_of_scene (option_map (λ s. s.now) scene.entry) in
+        OnOk result (IsNote reads moment.now.call note.new.items) }
 {
     note.clear();
     push_choice(note, reads_choice(scene), &moment.call)?;
@@ -193,10 +195,10 @@ fn push_call(
     scene: Option<&Scene>,
     moment: &Moment,
 ) -> Result<(), AllocError>
-    requires { IsOnOneLine (option_map (λ s. s.now) scene) }
     ensures { let place = place_of_scene (option_map (λ s. s.now) scene.entry) in
         let fields = fields_of moment.now place in
-        let is_text = IsCallText setting.now.widths fields moment.now.call in
+        let shown = shown_of (option_map (λ s. s.now) scene.entry) moment.now.before in
+        let is_text = IsCallText setting.now.widths fields shown moment.now.call in
         OnOk result (Adds is_text line.old.items line.new.items) }
 {
     write_note(note, setting, scene, moment)?;
@@ -217,12 +219,12 @@ pub(crate) fn push_line(
     scene: Option<&Scene>,
     moment: &Moment,
 ) -> Result<(), AllocError>
-    requires { IsOnOneLine (option_map (λ s. s.now) scene) }
     ensures { let place = place_of_scene (option_map (λ s. s.now) scene.entry) in
         let fields = fields_of moment.now place in
         let wanted = setting.now.options.has_colour in
         let colour = colour_of wanted moment.now.call.reply moment.now.is_switch in
-        let is_line = IsLineWith setting.now.widths colour fields moment.now.call in
+        let shown = shown_of (option_map (λ s. s.now) scene.entry) moment.now.before in
+        let is_line = IsLineWith setting.now.widths colour fields shown moment.now.call in
         OnOk result (Adds is_line line.old.items line.new.items) }
 {
     let has_colour = setting.options.has_colour;

@@ -7,9 +7,9 @@ ghost use Rattle.bp_machine.specs.declared.calls.Call.{Call as Answered};
 ghost use Rattle.bp_machine.specs.Answers.{stack_of};
 ghost use Rattle.bp_machine.specs.Setups.{SetupOf};
 ghost use Rattle.bp_machine.specs.Tops.{IsTop};
-ghost use Rattle.bp_view.specs.Lines.{start_on_stack, Adds, IsMomentOf};
+ghost use Rattle.bp_view.specs.Lines.{shown_of, start_on_stack, Adds, IsMomentOf, IsShown};
 ghost use Rattle.bp_view.specs.Places.{place_text};
-ghost use Rattle.bp_view.specs.Scenes.{place_of_scene, AreOnOneLine, AreScenes, IsOnOneLine};
+ghost use Rattle.bp_view.specs.Scenes.{place_of_scene, AreScenes};
 ghost use Rattle.bp_view.specs.Views.{IsShownLine};
 
 use crate::lines::push_line;
@@ -26,7 +26,10 @@ fn scene_of<'a>(scenes: &'a [Scene], top: Option<Top>) -> Option<&'a Scene>
         → MatchOption top (stack_of c i ≡ []) (IsTop t c i)
         → place_of_scene (option_map (λ s. s.now) result)
         ≡ place_text text (start_on_stack (stack_of c i)) }
-    ensures words { AreOnOneLine scenes.now → IsOnOneLine (option_map (λ s. s.now) result) }
+    ensures shown { (t : Program) (text : List ℕ) (c : Configuration) (i : ℕ)
+        → AreScenes text (starts_of t) scenes.now
+        → MatchOption top (stack_of c i ≡ []) (IsTop t c i)
+        → IsShown text (stack_of c i) (shown_of (option_map (λ s. s.now) result) top) }
 {
     match top {
         Some(top) => scenes.get(top.number as usize),
@@ -41,7 +44,6 @@ pub(crate) fn push_shown(
     setting: &Setting<'_>,
     moment: &Moment,
 ) -> Result<(), AllocError>
-    requires { AreOnOneLine setting.now.scenes.now }
     ensures { (t : Program) (text : List ℕ) (s : SetupOf) (h : List Answered) (x : Answered)
         → AreScenes text (starts_of t) setting.now.scenes.now
         → IsMomentOf t s h x moment.now

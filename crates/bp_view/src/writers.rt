@@ -1,6 +1,4 @@
 //! A view that is being written.
-ghost use Rattle.bp_view.specs.Scenes.{AreOnOneLine};
-ghost use Rattle.bp_view.specs.OneLineProps.{scenes_on_one_line};
 
 use crate::settings::Setting;
 
@@ -15,6 +13,4 @@ pub(crate) struct ViewWriter<'a> {
     pub(crate) last: Option<u32>,
     /// How many calls there were.
     pub(crate) made: u64,
-
-    ghost words: { AreOnOneLine setting.scenes.now } by { scenes_on_one_line setting.scenes.now },
 }

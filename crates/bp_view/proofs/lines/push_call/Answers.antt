@@ -1,5 +1,6 @@
 use Rattle.std.proofs.Common.{◌≡◌, ◌∙◌, ◌++◌, ◌-◌, ℕ, List, ap, subst, sym, length, length-append, append_assoc, arith}
-use Rattle.bp_view.specs.Lines.{after_room, fields_of, fields_text, IsNote}
+use Rattle.bp_view.specs.Lines.{after_room, fields_of, fields_text, reads_of_scene, text_of_scene, IsNote}
+use Rattle.std.specs.Prelude.{option_map}
 use Rattle.bp_view.proofs.lines.push_call.Goals as goal
 
 regrouped : (line fields words note : List ℕ) → ((line ++ fields) ++ words) ++ note ≡ line ++ ((fields ++ words) ++ note)
@@ -7,26 +8,25 @@ regrouped line fields words note = simp append_assoc
 
 pub returns : goal.returns
 returns c =
-    let line = c.args.line.now.items in
     let w = c.args.setting.now.widths in
-    let fields = fields_text w (fields_of c.args.moment.now c.place_of.result.now) in
-    let words = c.in_ok-push_scene.ensures in
+    let moment = c.args.moment.now in
+    let scene = option_map (λ s. s.now) c.args.scene in
+    let fields = fields_text w (fields_of moment c.place_of.result.now) in
+    let words = text_of_scene scene moment.before in
     let written = c.deref.result.now in
-    let long = length-append c.push_fields.new.line.items words.more in
-    let whole = ap length words.is in
-    let room : c.saturating_sub.result ≡ w.words - length words.more = omega (arith, long, whole) in
-    let after = after_room (w.words - length words.more) written in
+    let long = length-append c.push_fields.new.line.items words in
+    let whole = ap length c.in_ok-push_scene.ensures in
+    let room : c.saturating_sub.result ≡ w.words - length words = omega (arith, long, whole) in
+    let after = after_room (w.words - length words) written in
     record {
-      more = (fields ++ words.more) ++ after;
+      more = (fields ++ words) ++ after;
       is = c.in_ok-push_note.ensures
           ∙ ap (λ x. c.push_scene.new.line.items ++ after_room x written) room
-          ∙ ap (λ x. x ++ after) (words.is ∙ ap (λ x. x ++ words.more) c.in_ok-push_fields.ensures)
-          ∙ regrouped line fields words.more after;
+          ∙ ap (λ x. x ++ after) (c.in_ok-push_scene.ensures ∙ ap (λ x. x ++ words) c.in_ok-push_fields.ensures)
+          ∙ regrouped c.args.line.now.items fields words after;
       more_are = record {
-        statement = words.more;
         note = written;
-        is = ap (λ p. (fields_text w (fields_of c.args.moment.now p) ++ words.more) ++ after) c.place_of.ensures;
-        statement_is = words.one_line;
-        note_is = subst (IsNote c.args.moment.now.call) (sym c.deref.ensures.value) c.in_ok-write_note.ensures;
+        is = ap (λ p. (fields_text w (fields_of moment p) ++ words) ++ after) c.place_of.ensures;
+        note_is = subst (IsNote (reads_of_scene scene) moment.call) (sym c.deref.ensures.value) c.in_ok-write_note.ensures;
       };
     }

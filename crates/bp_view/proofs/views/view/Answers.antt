@@ -3,13 +3,7 @@ use Rattle.bp_code.specs.Starts.{starts_of}
 use Rattle.bp_view.specs.Heads.{view_head}
 use Rattle.bp_view.specs.Scenes.{AreScenes}
 use Rattle.bp_view.proofs.LongestPlaces.{places_are}
-use Rattle.bp_view.proofs.SceneLists.{all_words}
 use Rattle.bp_view.proofs.views.view.Goals as goal
-
-pub invariant_of-writer : goal.invariant_of-writer
-invariant_of-writer c = record {
-  words = rw (c.setting_of.ensures.scenes ∙ c.as_slice.ensures.value) (all_words c.args.text.now (starts_of c.args.checked.now) c.in_ok-scenes.scenes.items c.in_ok-scenes.ensures);
-}
 
 pub returns : goal.returns
 returns c =
