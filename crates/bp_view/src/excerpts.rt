@@ -81,8 +81,8 @@ pub(crate) struct Excerpt {
 
 /// Adds a lexeme, after a space where there was a gap; a gap adds nothing.
 fn push_lexeme(words: &mut Vec<u8>, lexeme: Lexeme<'_>, had_gap: bool) -> Result<(), AllocError>
-    ensures is { OnOk result
-        (words.new.items ≡ words.old.items ++ word_after had_gap lexeme.entry.kind lexeme.entry.text.now) }
+    ensures is { let word = word_after had_gap lexeme.entry.kind lexeme.entry.text.now in
+        OnOk result (words.new.items ≡ words.old.items ++ word) }
     ensures one_line { OnOk result (AddsOneLine words.old.items words.new.items) }
 {
     if !is_gap(lexeme) {
