@@ -57,7 +57,6 @@ pub fn setup(alloc: Global, code: &Code) -> io::Result<Setup>
     }
 }
 
-/// A round at a session.
 fn session_round<R: Clock>(
     rt: &R,
     alloc: Global,
@@ -71,7 +70,6 @@ fn session_round<R: Clock>(
     spent.count(rt, &mut AtSession { session }, FILLS)
 }
 
-/// A round at a desk of this kit.
 fn desk_round<C: Calls, O: Ledger, R: Clock>(
     rt: &R,
     alloc: Global,
@@ -101,7 +99,6 @@ fn desk_round<C: Calls, O: Ledger, R: Clock>(
     spent.count(rt, &mut at, FILLS)
 }
 
-/// A round at a board of this kit.
 fn board_round<C: Calls, O: Ledger, R: Wait + Clock>(
     rt: &R,
     alloc: Global,

@@ -50,7 +50,6 @@ fn seats_of<C: Calls, O: Ledger>(seats: &[Seat<C, O>], thread: u32) -> usize
     seats.iter().filter(|seat| seat.thread() == thread).count()
 }
 
-/// Whether the seats are one of each thread.
 fn are_one_per_thread<C: Calls, O: Ledger>(seats: &[Seat<C, O>], threads: u32) -> bool
     ensures { IsTrue result ↔ AreOnePerThread threads seats.now }
 {

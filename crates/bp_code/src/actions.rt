@@ -37,7 +37,7 @@ impl Assignment {
         after
     }
 
-    /// A copy, which equals its source.
+    /// A copy. Fails only if memory is refused.
     pub fn try_copy(&self) -> Result<Assignment, AllocError>
         ensures { IfOk result (λ a. assign_of a ≡ assign_of self.now) }
     {
@@ -67,7 +67,7 @@ pub struct Branch {
 }
 
 impl Branch {
-    /// A copy, which equals its source.
+    /// A copy. Fails only if memory is refused.
     pub fn try_copy(&self) -> Result<Branch, AllocError>
         ensures { IfOk result (λ b. if_of b ≡ if_of self.now) }
     {
@@ -96,7 +96,7 @@ pub struct Call {
 }
 
 impl Call {
-    /// A copy, which equals its source.
+    /// A copy. Fails only if memory is refused.
     pub fn try_copy(&self) -> Result<Call, AllocError>
         ensures { IfOk result (λ c. call_of c ≡ call_of self.now) }
     {
@@ -134,7 +134,7 @@ pub enum Action {
 }
 
 impl Action {
-    /// A copy, which equals its source.
+    /// A copy. Fails only if memory is refused.
     pub fn try_copy(&self) -> Result<Action, AllocError>
         ensures { IfOk result (λ i. instruction_of i ≡ instruction_of self.now) }
     {

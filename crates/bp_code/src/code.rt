@@ -142,7 +142,7 @@ impl Code {
         let _ = &self.globals;
     }
 
-    /// A copy, which equals its source.
+    /// A copy. Fails only if memory is refused.
     pub fn try_copy(&self) -> Result<Code, AllocError>
         ensures { IfOk result (λ c. c ≡ self.now) }
     {

@@ -57,7 +57,7 @@ impl SlotExprs {
         Ok(values)
     }
 
-    /// A copy, which equals its source.
+    /// A copy. Fails only if memory is refused.
     pub fn try_copy(&self) -> Result<SlotExprs, AllocError>
         ensures { IfOk result (λ es. es ≡ self.now) }
     {
@@ -134,7 +134,7 @@ impl Arguments {
         word
     }
 
-    /// A copy, which equals its source.
+    /// A copy. Fails only if memory is refused.
     pub fn try_copy(&self) -> Result<Arguments, AllocError>
         ensures { IfOk result (λ a. a ≡ self.now) }
     {

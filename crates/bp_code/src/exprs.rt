@@ -78,7 +78,7 @@ impl SlotSub {
         self.inner.value(store)
     }
 
-    /// A copy, which equals its source.
+    /// A copy. Fails only if memory is refused.
     #[cycle(slot_copy)]
     pub fn try_copy(&self) -> Result<SlotSub, AllocError>
         ensures { IfOk result (λ s. s ≡ self.now) }
@@ -116,7 +116,7 @@ impl SlotExpr {
         }
     }
 
-    /// A copy, which equals its source.
+    /// A copy. Fails only if memory is refused.
     #[cycle(slot_copy)]
     pub fn try_copy(&self) -> Result<SlotExpr, AllocError>
         ensures { IfOk result (λ e. formula_of e ≡ formula_of self.now) }
@@ -169,7 +169,7 @@ impl Test {
         }
     }
 
-    /// A copy, which equals its source.
+    /// A copy. Fails only if memory is refused.
     pub fn try_copy(&self) -> Result<Test, AllocError>
         ensures { IfOk result (λ t. test_of t ≡ test_of self.now) }
     {

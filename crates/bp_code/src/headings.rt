@@ -80,7 +80,7 @@ impl Heading {
             && self.entry == other.entry
     }
 
-    /// A copy, which equals its source.
+    /// A copy. Fails only if memory is refused.
     pub fn try_copy(&self) -> Result<Heading, AllocError>
         ensures { IfOk result (λ h. h ≡ self.now) }
     {

@@ -107,7 +107,7 @@ impl Instr {
         }
     }
 
-    /// A copy, which equals its source.
+    /// A copy. Fails only if memory is refused.
     pub fn try_copy(&self) -> Result<Instr, AllocError>
         ensures { IfOk result (λ i. i ≡ self.now) }
     {

@@ -105,7 +105,7 @@ impl Slots {
         self.items.as_slice()
     }
 
-    /// A copy, which equals its source.
+    /// A copy. Fails only if memory is refused.
     pub fn try_copy(&self) -> Result<Slots, AllocError>
         ensures { IfOk result (λ s. s ≡ self.now) }
     {

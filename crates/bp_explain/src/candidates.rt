@@ -23,7 +23,6 @@ fn is_early_end(fault: &ReadFault, size: usize) -> bool
     }
 }
 
-/// Whether a program begins with the text.
 fn begins_program(alloc: Global, text: &[u8]) -> Result<bool, AllocError>
     ensures { IfOk result (λ b. IsTrue b ↔ BeginsProgram text.now) }
 {

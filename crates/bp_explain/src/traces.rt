@@ -37,7 +37,6 @@ fn explain_setup(
     about_line(alloc, name, trace, number, sentence.as_slice())
 }
 
-/// Explains that a trace has no end.
 fn explain_no_end(
     alloc: Global,
     name: &str,

@@ -7,7 +7,6 @@ ghost use Rattle.bp_syntax.specs.Views.{token_list};
 use crate::limits::NESTING_LIMIT;
 use crate::tokens::{Token, TokenKind};
 
-/// The depth after a token of the kind.
 fn depth_after(kind: TokenKind, depth: usize) -> usize
     requires { depth ≤ NESTING_LIMIT }
     ensures { result ≡ rule.depth_after kind depth }

@@ -25,7 +25,6 @@ pub(crate) struct Body<O: Watcher + Drop> {
     pub(crate) line: u32,
 }
 
-/// The thread of the last call.
 fn last_thread(history: &[Call]) -> Option<u32>
     ensures { result ≡ last_thread (map (λ x. x.thread) history.now) }
 {

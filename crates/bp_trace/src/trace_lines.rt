@@ -9,7 +9,6 @@ ghost use Rattle.bp_trace.specs.TraceReading.{BeginsWithSpace, HasNoSpace, IsThr
 use crate::schedules::{digit_count, number_at, text_from};
 use bp_machine::{Call, Reply};
 
-/// The bit of a digit.
 pub(crate) fn bit_of(byte: u8) -> Option<bool>
     ensures { MatchOption result
         ((b : Bool) → byte ≢ bit_digit b)
@@ -22,7 +21,6 @@ pub(crate) fn bit_of(byte: u8) -> Option<bool>
     }
 }
 
-/// The reply of a letter.
 pub(crate) fn reply_of(byte: u8) -> Option<Reply>
     ensures { MatchOption result
         ((r : Answer) → byte ≢ letter_of r)
@@ -40,7 +38,6 @@ pub(crate) fn reply_of(byte: u8) -> Option<Reply>
     }
 }
 
-/// Whether this byte is at this place of the text.
 pub(crate) fn has_byte(byte: u8, text: &[u8], place: usize) -> bool
     ensures { IsTrue result ↔ (slice_get text.now place ≡ Some byte) }
 {

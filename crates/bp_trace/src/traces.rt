@@ -14,7 +14,6 @@ use bp_text::{WriteFault, put, put_each};
 use itoa::Buffer;
 use std::io::Write;
 
-/// The digit of a bit.
 pub(crate) fn bit_digit(bit: bool) -> u8
     ensures { result ≡ bit_digit bit }
 {
@@ -98,7 +97,6 @@ fn write_limits<W: Write>(setup: &Setup, out: &mut W) -> Result<(), WriteFault>
     )
 }
 
-/// The line of a version.
 fn version_line(version: Version) -> &'static [u8]
     ensures { result.now ≡ version_line version }
 {

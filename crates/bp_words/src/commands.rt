@@ -25,19 +25,19 @@ const VERSION: &str = "0.1.0";
 pub enum Task<'a> {
     /// Drive the bundle that standard input has.
     Bundle,
-    /// Check the program of a file.
+    /// `check FILE`
     Check(FileWords<'a>),
-    /// List the code of the program of a file.
+    /// `code FILE`
     Code(FileWords<'a>),
-    /// Drive the program of a file by a schedule.
+    /// `drive FILE SCHEDULE [ENTRY]..`
     Drive(DriveWords<'a>),
-    /// Run the program of a file by real workers.
+    /// `run FILE [ENTRY]..`
     Run(RunWords<'a>),
-    /// Replay a trace of the program of a file.
+    /// `replay FILE TRACE`
     Replay(TraceWords<'a>),
-    /// Show a trace of the program of a file.
+    /// `show FILE TRACE`
     Show(ShowWords<'a>),
-    /// Migrate a trace of the program of a file.
+    /// `migrate FILE TRACE`
     Migrate(TraceWords<'a>),
 }
 
@@ -52,7 +52,6 @@ const NOTES: &str = "\
     Exit status:\n  0  done, and no assertion failed\n  1  an assertion failed\n  \
     2  the input or the words were refused\n  3  memory, a device or the output failed";
 
-/// What `check` does.
 const CHECK_ABOUT: &str =
     "Checks a program and prints 'ok', its number of procedures and its number of globals";
 
@@ -62,7 +61,6 @@ const CHECK_NOTES: &str = "\
     Example:\n  btrun check lock.bp\n\nExit status:\n  0  the program is lawful\n  \
     2  it is refused, or the words were\n  3  memory, a device or the output failed";
 
-/// What `code` does.
 const CODE_ABOUT: &str = "Prints the listing of a program's code";
 
 /// What `code --help` says after the arguments.
@@ -90,7 +88,6 @@ fn program<'a>(alloc: Global) -> Command<'a>
         .after_help(NOTES)
 }
 
-/// All commands.
 fn command<'a>(alloc: Global) -> Result<Command<'a>, AllocError>
     ensures { IfOk result (λ c. app_of c ≡ btrun_app) }
 {

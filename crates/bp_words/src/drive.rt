@@ -16,17 +16,15 @@ use std::alloc::{AllocError, Global};
 /// A program and a schedule, and what driving starts from beside them.
 #[derive(Drop)]
 pub struct DriveWords<'a> {
-    /// The file of the program.
+    /// The path of the program's text.
     pub program: &'a str,
-    /// The file of the schedule.
+    /// The path of the schedule.
     pub schedule: &'a str,
-    /// Whether a fault is explained.
+    /// Whether `--explain` was given: lines that explain a fault then follow its line.
     pub explain: bool,
-    /// What the run starts from.
     pub start: Start,
 }
 
-/// What `drive` does.
 const ABOUT: &str = "Drives a program by a schedule and prints the trace of the run";
 
 /// What `drive --help` says after the arguments.
@@ -38,7 +36,7 @@ const NOTES: &str = "\
     Exit status:\n  0  done, and no assertion failed\n  1  an assertion failed\n  \
     2  an input was refused, or the words were\n  3  memory, a device or the output failed";
 
-/// The command `drive`.
+/// The arguments, options and help of the command.
 pub fn drive_command<'a>(alloc: Global) -> Result<Command<'a>, AllocError>
     ensures { IfOk result
         (λ c. (app_of c ≡ drive_app) × ((out-Command c).has_globals ≡ false)) }

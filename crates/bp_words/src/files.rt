@@ -13,9 +13,9 @@ use std::alloc::{AllocError, Global};
 /// A program.
 #[derive(Drop)]
 pub struct FileWords<'a> {
-    /// The file of the program.
+    /// The path of the program's text.
     pub program: &'a str,
-    /// Whether a fault is explained.
+    /// Whether `--explain` was given: lines that explain a fault then follow its line.
     pub explain: bool,
 }
 

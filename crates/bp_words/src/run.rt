@@ -18,17 +18,16 @@ use std::alloc::{AllocError, Global};
 /// A program, and what its run starts from beside it.
 #[derive(Drop)]
 pub struct RunWords<'a> {
-    /// The file of the program.
+    /// The path of the program's text.
     pub program: &'a str,
     /// Whether the workers start together and take turns as they are drawn.
     pub spread: bool,
-    /// Whether a fault is explained.
+    /// Whether `--explain` was given: lines that explain a fault then follow its line.
     pub explain: bool,
     /// What the run starts from.
     pub options: RunOptions,
 }
 
-/// What `run` does.
 const ABOUT: &str = "Runs a program by one worker for each thread and prints the trace of the run";
 
 /// What `run --help` says after the arguments.
@@ -42,7 +41,7 @@ const NOTES: &str = "\
     2  the program was refused, or the words were\n  \
     3  memory, a device, a thread or the output failed";
 
-/// The command `run`.
+/// The arguments, options and help of the command.
 pub fn run_command<'a>(alloc: Global) -> Result<Command<'a>, AllocError>
     ensures { IfOk result
         (λ c. (app_of c ≡ run_app) × ((out-Command c).has_globals ≡ false)) }

@@ -14,19 +14,18 @@ use std::alloc::{AllocError, Global};
 /// A program, a trace of it, and which of its calls are shown.
 #[derive(Drop)]
 pub struct ShowWords<'a> {
-    /// The file of the program.
+    /// The path of the program's text.
     pub program: &'a str,
-    /// The file of the trace.
+    /// The path of the trace.
     pub trace: &'a str,
     /// The calls of this thread alone.
     pub thread: Option<u32>,
     /// How many of the last calls of the history are shown.
     pub last: Option<u64>,
-    /// Whether a fault is explained.
+    /// Whether `--explain` was given: lines that explain a fault then follow its line.
     pub explain: bool,
 }
 
-/// What `show` does.
 const ABOUT: &str = "Replays a trace and shows what happened, call by call";
 
 /// What `show --help` says after the arguments.
@@ -41,7 +40,7 @@ const NOTES: &str = "\
     Exit status:\n  0  done, and no assertion failed\n  1  an assertion failed\n  \
     2  an input was refused, or the words were\n  3  memory, a device or the output failed";
 
-/// The command `show`.
+/// The arguments, options and help of the command.
 pub fn show_command<'a>(alloc: Global) -> Result<Command<'a>, AllocError>
     ensures { IfOk result
         (λ c. (app_of c ≡ show_app) × ((out-Command c).has_globals ≡ false)) }

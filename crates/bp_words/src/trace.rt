@@ -14,15 +14,14 @@ use std::alloc::{AllocError, Global};
 /// A program and a trace of it.
 #[derive(Drop)]
 pub struct TraceWords<'a> {
-    /// The file of the program.
+    /// The path of the program's text.
     pub program: &'a str,
-    /// The file of the trace.
+    /// The path of the trace.
     pub trace: &'a str,
-    /// Whether a fault is explained.
+    /// Whether `--explain` was given: lines that explain a fault then follow its line.
     pub explain: bool,
 }
 
-/// What `replay` does.
 pub const REPLAY_ABOUT: &str = "Replays a trace and prints what its steps printed, and the outcome";
 
 /// What `replay --help` says after the arguments.
@@ -35,7 +34,6 @@ pub const REPLAY_NOTES: &str = "\
     Exit status:\n  0  done, and no assertion failed\n  1  an assertion failed\n  \
     2  an input was refused, or the words were\n  3  memory, a device or the output failed";
 
-/// What `migrate` does.
 pub const MIGRATE_ABOUT: &str = "Prints the trace of version 2 of a trace in either version";
 
 /// What `migrate --help` says after the arguments.

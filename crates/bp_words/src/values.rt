@@ -7,7 +7,6 @@ use bp_machine::limits::DEFAULT_ENTRY;
 use clap::ArgMatches;
 use std::alloc::{AllocError, Global};
 
-/// Copies of names.
 fn copies(alloc: Global, names: &[&str]) -> Result<Vec<String>, AllocError>
     ensures { IfOk result (λ v. map string_bytes v.items ≡ map (λ n. n.now) names.now) }
 {
@@ -29,7 +28,6 @@ pub fn entries(alloc: Global, words: &ArgMatches<'_>) -> Result<Vec<String>, All
     }
 }
 
-/// Whether each character is 0 or 1.
 fn is_bits(text: &str) -> bool
     ensures { result ≡ is_bits text.now }
 {
@@ -38,7 +36,6 @@ fn is_bits(text: &str) -> bool
         .all(|byte| matches!(byte, b'0' | b'1'))
 }
 
-/// The bits of a text.
 fn bits(alloc: Global, text: &str) -> Result<Vec<bool>, AllocError>
     ensures { IfOk result (λ v. v.items ≡ bits_in text.now) }
 {
@@ -88,7 +85,6 @@ pub fn given_long_number(words: &ArgMatches<'_>, name: &str) -> Option<u64>
     words.get_one(name)
 }
 
-/// Whether a flag is given.
 pub fn is_given(words: &ArgMatches<'_>, name: &str) -> bool
     ensures { IsFlagOf (one_of name.now (rows_of (found_of words.now))) result }
 {

@@ -69,7 +69,6 @@ fn run_as_asked<F: Files, T: Threads + Wait + Clock + Sync, W: Write + Drop, E: 
     }
 }
 
-/// Does a command on the program of a file.
 fn on_file<C: ProgramCommand, F: Files, W: Write + Drop, E: Write>(
     alloc: Global,
     command: &C,
