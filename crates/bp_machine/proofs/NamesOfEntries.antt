@@ -1,11 +1,15 @@
 -- The entries of a setup without a fault are names of the program, and have what each of its names has.
-use Rattle.std.proofs.Common.{◌≡◌, ℕ, ◌+◌, Bool, true, false, cond, List, [], ◌∷◌, Option, None, Some, refl, sym, ◌∙◌, subst, bytes_eq}
+use Rattle.std.proofs.Common.{◌≡◌, ◌≢◌, ℕ, ◌+◌, Bool, true, false, cond, List, [], ◌∷◌, Option, None, Some, All, refl, sym, ◌∙◌, subst, bytes_eq}
 use Rattle.std.specs.List.{AllByRecursion}
+use Rattle.std.proofs.lemmas.List.Elements.{All-nil, All-cons}
 use Rattle.std.proofs.lemmas.Slice.Eq.{bytes_eq-Decides}
 use Rattle.bp_tree.specs.Ast.{Procedure, Program}
 use Rattle.bp_syntax.specs.NamesIn.{NamesInProcedures}
+use Rattle.bp_syntax.specs.Texts.{HasText}
+use Rattle.bp_syntax.specs.Tokens.{IsSpelled}
+use Rattle.bp_syntax.proofs.SpelledNames.{on_one_line, spelled_names}
 use Rattle.bp_code.specs.Configurations.{procedure_named}
-use Rattle.bp_machine.specs.Setups.{entry_fault, entries_fault}
+use Rattle.bp_machine.specs.Setups.{SetupOf, entry_fault, entries_fault, Fits}
 use Rattle.bp_machine.proofs.SetupInRange.{neither}
 
 module _ (P : List ℕ → Type 0) where
@@ -27,3 +31,13 @@ module _ (P : List ℕ → Type 0) where
   entries_are_names t k (e ∷ es) each none =
       let parts = neither (entry_fault k (procedure_named t.procedures e)) (entries_fault t (k + 1) es) none in
       (fine_name t k e (procedure_named t.procedures e) each refl parts.0, entries_are_names t (k + 1) es each parts.1)
+
+abbrev HasNoFeed : List ℕ → Type 0
+HasNoFeed name = All (λ b. b ≢ 10) name
+
+spelled_on_one_line : (es : List (List ℕ)) → AllByRecursion IsSpelled es → All HasNoFeed es
+spelled_on_one_line [] spelled = All-nil HasNoFeed
+spelled_on_one_line (e ∷ es) spelled = All-cons HasNoFeed e es (on_one_line e spelled.0) (spelled_on_one_line es spelled.1)
+
+pub entries_hold_no_feed : (t : Program) (s : SetupOf) → HasText t → Fits t s → All HasNoFeed s.entries
+entries_hold_no_feed t s of_text fits = spelled_on_one_line s.entries (entries_are_names IsSpelled t 0 s.entries (spelled_names t of_text).1 fits.entries)

@@ -1,6 +1,7 @@
 -- Laws of histories.
-use Rattle.std.specs.Prelude.{◌≡◌, ◌≤◌, ◌*◌, ℕ, List, length}
+use Rattle.std.specs.Prelude.{◌≡◌, ◌≢◌, ◌≤◌, ◌*◌, ℕ, List, All, length}
 use Rattle.bp_tree.specs.Ast.{Program}
+use Rattle.bp_syntax.specs.Texts.{HasText}
 use Rattle.bp_code.specs.Configurations.{Configuration}
 use Rattle.bp_code.specs.Flat.{Flat}
 use Rattle.bp_code.specs.StandsFor.{StandsFor}
@@ -8,7 +9,7 @@ use Rattle.bp_machine.specs.declared.calls.Call.{Call}
 use Rattle.bp_machine.specs.declared.reports.Outcome.TheVariants.{Failed}
 use Rattle.bp_machine.specs.BoundedRuns.{IsBoundedRun, history_of_run, IsHistoryOfSteps, HasBoundedRun}
 use Rattle.bp_machine.specs.Contexts.{IsWithin}
-use Rattle.bp_machine.specs.Setups.{SetupOf, start, threads, FitsCode}
+use Rattle.bp_machine.specs.Setups.{SetupOf, start, threads, Fits, FitsCode}
 use Rattle.bp_machine.specs.Histories.{configuration_after, granted_threads, granted_calls, IsLegal}
 use Rattle.bp_machine.specs.PrintedRows.{printed_rows}
 use Rattle.bp_machine.specs.Reports.{IsRun, outcome_of, IsRealFailure}
@@ -55,6 +56,14 @@ HistoriesAreShort =
     (t : Program) (s : SetupOf) (h : List Call)
     → IsLegal t s h
     → length h ≤ threads s * s.calls
+
+-- the names with which the threads of a program begin hold no line feed
+abbrev pub EntriesOnOneLine : Type 0
+EntriesOnOneLine =
+    (t : Program) (s : SetupOf)
+    → HasText t
+    → Fits t s
+    → All (λ e. All (λ b. b ≢ 10) e) s.entries
 
 -- programs for which one code stands have the same legal histories, which print the same rows;
 -- their reports are the same as well, since a report is of the setup and the calls alone

@@ -1,5 +1,5 @@
 //! Laws of histories. These functions do nothing: their contracts are the laws.
-ghost use Rattle.bp_machine.specs.Laws.{StepsAreARun, StepsAreWithin, RunsAreHistories, HistoriesAreRuns, FailuresAreReal, HistoriesAreShort, OneCodeOneMeaning};
+ghost use Rattle.bp_machine.specs.Laws.{StepsAreARun, StepsAreWithin, RunsAreHistories, HistoriesAreRuns, FailuresAreReal, HistoriesAreShort, EntriesOnOneLine, OneCodeOneMeaning};
 
 /// The granted steps of a legal history are a run of the program.
 pub fn steps_are_a_run()
@@ -31,6 +31,12 @@ pub fn failures_are_real()
 /// A legal history has at most as many calls as its threads may make together.
 pub fn histories_are_short()
     ensures { HistoriesAreShort }
+{}
+
+/// The names with which the threads of a setup begin hold no line feed, where the setup fits the
+/// program of a text. So each of them has a line of its own in a trace.
+pub fn entries_are_on_one_line()
+    ensures { EntriesOnOneLine }
 {}
 
 /// Programs for which one code stands have the same legal histories, of the setups that fit the

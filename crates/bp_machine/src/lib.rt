@@ -24,8 +24,8 @@ pub use calls::{Call, Reply};
 pub use choices::Choices;
 pub use histories::open_lines;
 pub use laws::{
-    failures_are_real, histories_are_short, one_code_has_one_meaning, runs_are_histories,
-    steps_are_a_run, steps_are_within,
+    entries_are_on_one_line, failures_are_real, histories_are_short, one_code_has_one_meaning,
+    runs_are_histories, steps_are_a_run, steps_are_within,
 };
 pub use reports::{Outcome, Report};
 pub use sessions::Session;

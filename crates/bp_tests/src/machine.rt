@@ -7,8 +7,8 @@ mod sessions;
 mod setups;
 
 use bp_machine::{
-    failures_are_real, histories_are_short, one_code_has_one_meaning, runs_are_histories,
-    steps_are_a_run, steps_are_within,
+    entries_are_on_one_line, failures_are_real, histories_are_short, one_code_has_one_meaning,
+    runs_are_histories, steps_are_a_run, steps_are_within,
 };
 
 #[test]
@@ -18,5 +18,6 @@ fn laws(_rt: HostRuntime) {
     runs_are_histories();
     failures_are_real();
     histories_are_short();
+    entries_are_on_one_line();
     one_code_has_one_meaning();
 }
