@@ -53,6 +53,10 @@ module _ (c : Flat) (s : SetupOf) (machine : MachineOf) (choices : List ChoicesO
     λ p e. cc,
   )
 
+-- the same setup with another seed, or with none
+pub fits_anew : (c : Flat) (s z : SetupOf) (seed : Option ℕ) → z ≡ record s { seed = seed } → FitsCode c s → FitsCode c z
+fits_anew c s z seed e fits = subst (FitsCode c) (sym e) (λ t is. record { entries = (fits t is).entries; init = (fits t is).init })
+
 -- where room was made and a call was judged, or none
 module _ (c : Flat) (s : SetupOf) (machine later : MachineOf) (same : later.state ≡ machine.state) (choices : List ChoicesOf) (old new : Option Prepared) where
   abbrev before : SessionOf

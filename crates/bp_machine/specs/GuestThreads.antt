@@ -22,12 +22,15 @@ guests ks = map (λ k. k.guest) ks
 abbrev pub rooms : List KeptThread → List ℕ
 rooms ks = map (λ k. k.room) ks
 
+-- a thread that begins at this instruction
+abbrev pub thread_at : ℕ → GuestThreadOf
+thread_at number = record {
+  stack = record { number = number; locals = 0 } ∷ [];
+  calls = 0;
+  ended = false;
+}
+
 -- a thread that begins with the procedure of this name
 abbrev pub first_thread : Flat → List ℕ → GuestThreadOf
 first_thread c name =
-    let entry = unwrap_or (option_map (λ h. h.entry) (heading_named c.headings name)) 0 in
-    record {
-      stack = record { number = entry; locals = 0 } ∷ [];
-      calls = 0;
-      ended = false;
-    }
+    thread_at (unwrap_or (option_map (λ h. h.entry) (heading_named c.headings name)) 0)

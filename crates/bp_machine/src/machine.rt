@@ -118,6 +118,11 @@ impl Machine {
         }
     }
 
+    /// The threads, whose memory may be used again.
+    pub(crate) fn into_threads(self) -> Vec<GuestThread> {
+        self.threads
+    }
+
     /// The globals, that of slot n in the bit of weight 2 to the n.
     pub(crate) fn globals(&self) -> u128
         ensures { result ≡ self.now.state.globals }

@@ -9,6 +9,7 @@ ghost use Rattle.bp_machine.specs.KeptSessions.{AreFirstChoices, AreDrawn, IsGiv
 
 mod judging;
 mod readings;
+mod restarting;
 
 use crate::ask_faults::AskFault;
 use crate::calls::Call;
@@ -57,12 +58,14 @@ impl Model for Session {
         IsInOrder x × IsReadyFor x s.prepared };
 }
 
-/// The choices of each thread of a setup, none of which is drawn; without a seed there are none.
-fn first_choices(alloc: Global, setup: &Setup) -> Result<Vec<Choices>, AllocError>
+/// The choices of each thread of a setup, none of which is drawn, in the memory of earlier ones;
+/// without a seed there are none.
+fn first_choices(setup: &Setup, earlier: Vec<Choices>) -> Result<Vec<Choices>, AllocError>
     ensures { IfOk result (λ v. AreFirstChoices setup.now v.items) }
 {
     setup.is_in_range();
-    let mut choices = Vec::new(alloc);
+    let mut choices = earlier;
+    choices.clear();
     let Some(seed) = setup.seed() else {
         return Ok(choices);
     };
@@ -93,9 +96,9 @@ impl Session {
     {
         code.is_of_a_program();
         setup.is_in_range();
-        let threads = first_threads(alloc, code, setup.entries())?;
+        let threads = first_threads(alloc, code, setup.entries(), Vec::new(alloc))?;
         let machine = Machine::start(word_of(setup.bits()), threads);
-        let choices = first_choices(alloc, setup)?;
+        let choices = first_choices(setup, Vec::new(alloc))?;
         let code = code.try_copy()?;
         let setup = setup.try_copy()?;
         Ok(Session {

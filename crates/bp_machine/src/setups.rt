@@ -182,6 +182,13 @@ impl Setup {
         self.seed
     }
 
+    /// The same setup with this seed, or with none.
+    pub fn with_seed(self, seed: Option<u64>) -> Setup
+        ensures { result ≡ record self { seed = seed } }
+    {
+        Setup { seed, ..self }
+    }
+
     /// Whether each entry is a procedure of this code without formals, and there is one bit for
     /// each of its globals.
     pub fn fits(&self, code: &Code) -> bool

@@ -73,6 +73,17 @@ impl Stack {
         Ok(Stack { frames })
     }
 
+    /// The stack of a thread that begins at this instruction, with its locals 0, in the memory of
+    /// this one.
+    pub(crate) fn restarted(self, number: u32) -> Result<Stack, AllocError>
+        ensures { IfOk result (λ s. s.frames ≡ record { number = number; locals = 0 } ∷ []) }
+    {
+        let mut frames = self.frames;
+        frames.clear();
+        frames.push(ActivationRecord { number, locals: 0 })?;
+        Ok(Stack { frames })
+    }
+
     pub(crate) fn top(&self) -> Option<ActivationRecord>
         ensures { result ≡ top_of self.now.frames }
     {

@@ -1,6 +1,6 @@
 //! The guest threads of a session, and what a call does to one.
 ghost use Rattle.std.specs.Prelude.{◌≡◌, ◌||◌, ◌+◌, ◌<◌, ◌^◌, map, nat_le, string_bytes, IfOk, OnOk, OnErr};
-ghost use Rattle.bp_machine.specs.GuestThreads.{first_thread, guests};
+ghost use Rattle.bp_machine.specs.GuestThreads.{thread_at, first_thread, guests};
 ghost use Rattle.bp_machine.specs.Transitions.{thread_after, reply_of_transition, TransitionFitsIn, IsCallTransition};
 
 use crate::calls::Reply;
@@ -114,19 +114,37 @@ impl GuestThread {
     }
 }
 
-/// Threads that begin with these procedures.
+/// A thread that begins at this instruction, in the memory of an earlier one where there is one.
+fn first_thread(
+    alloc: Global,
+    number: u32,
+    earlier: Option<GuestThread>,
+) -> Result<GuestThread, AllocError>
+    ensures { IfOk result (λ g. g.guest ≡ thread_at number) }
+{
+    let stack = match earlier {
+        Some(thread) => thread.stack.restarted(number)?,
+        None => Stack::start(alloc, number)?,
+    };
+    Ok(GuestThread::start(stack))
+}
+
+/// Threads that begin with these procedures, in the memory of the earlier ones. Of those, the ones
+/// that are too many are dropped.
 pub(crate) fn first_threads(
     alloc: Global,
     code: &Code,
     entries: &[String],
+    earlier: Vec<GuestThread>,
 ) -> Result<Vec<GuestThread>, AllocError>
     ensures { IfOk result
         (λ v. guests v.items ≡ map (first_thread code.now) (map string_bytes entries.now)) }
 {
-    let mut threads = Vec::new(alloc);
+    let mut earlier = earlier;
+    let mut threads = Vec::with_capacity(alloc, entries.len())?;
     for name in entries {
         let number = code.entry(name.as_str()).unwrap_or(0);
-        threads.push(GuestThread::start(Stack::start(alloc, number)?))?;
+        threads.push(first_thread(alloc, number, earlier.pop())?)?;
     }
     Ok(threads)
 }
