@@ -1,22 +1,21 @@
 -- The granted calls of a legal history are a run within the bounds of its setup.
-use Rattle.std.proofs.Common.{◌≡◌, ◌<◌, ◌≤◌, ◌==◌, ℕ, Bool, true, false, cond, not, ◌&&◌, nat_le, List, [], ◌∷◌, ◌++◌, length, Option, None, Some, refl, ap, sym, ◌∙◌, subst, arith, append_assoc}
+use Rattle.std.proofs.Common.{◌≡◌, ◌<◌, ◌≤◌, ◌==◌, ℕ, Bool, true, false, cond, ◌&&◌, nat_le, List, [], ◌∷◌, ◌++◌, length, Option, Some, refl, ap, sym, ◌∙◌, subst, arith, append_assoc}
 use Rattle.std.specs.Prelude.{map, unwrap_or}
 use Rattle.std.proofs.lemmas.Bool.Decides.{nat_tests}
-use Rattle.std.proofs.lemmas.List.{append-nil}
 use Rattle.bp_tree.specs.Ast.{Program}
-use Rattle.bp_code.specs.Configurations.{Frame, Configuration, is_call}
+use Rattle.bp_code.specs.Configurations.{Configuration}
 use Rattle.bp_code.specs.Moves.{effect, Moves}
 use Rattle.bp_machine.specs.declared.calls.Call.{Call}
 use Rattle.bp_machine.specs.declared.calls.Reply.{Reply}
-use Rattle.bp_machine.specs.declared.calls.Reply.TheVariants.{Stopped, Ended, NoContexts, Full}
+use Rattle.bp_machine.specs.declared.calls.Reply.TheVariants.{Stopped, Full}
 use Rattle.bp_machine.specs.declared.limits.TheConstants.{MAX_FRAMES}
 use Rattle.bp_machine.specs.Answers.{is_full, stack_of, reply_to_effect, reply_on_stack, reply_of, configuration_after_step, configuration_after_call}
-use Rattle.bp_machine.specs.BoundedRuns.{HasRoom, EachHasRoom, IsBoundedRun, reply_of_step, history_of_run, HasBoundedRun}
+use Rattle.bp_machine.specs.BoundedRuns.{HasRoom, EachHasRoom, reply_of_step, history_of_run, HasBoundedRun}
 use Rattle.bp_machine.specs.Contexts.{IsWithin}
 use Rattle.bp_machine.specs.Histories.{configuration_after, granted_threads, granted_calls, calls_of_thread, IsAllowed, IsLegalAfter, IsLegal}
 use Rattle.bp_machine.specs.Replies.{is_granted}
 use Rattle.bp_machine.specs.Reports.{IsRun}
-use Rattle.bp_machine.specs.Setups.{SetupOf, start}
+use Rattle.bp_machine.specs.Setups.{SetupOf}
 use Rattle.bp_machine.proofs.GrantedSteps.{IsStep, is_step, step_moves, run_from, runs, within}
 use Rattle.bp_machine.proofs.HistoryWithCall.{configuration_after-append}
 use Rattle.bp_machine.proofs.LegalLength.{bounded}

@@ -1,15 +1,15 @@
 -- The machine's reply to a move that has room.
-use Rattle.std.proofs.Common.{◌≡◌, ◌<◌, ℕ, Bool, true, false, cond, not, ◌&&◌, nat_le, List, [], ◌∷◌, length, Option, None, Some, refl, ap, sym, ◌∙◌, subst, arith}
+use Rattle.std.proofs.Common.{◌≡◌, ◌<◌, ℕ, Bool, true, false, cond, ◌&&◌, nat_le, List, [], ◌∷◌, length, Some, refl, ap, ◌∙◌, arith}
 use Rattle.std.specs.Prelude.{slice_set, unwrap_or}
 use Rattle.std.proofs.lemmas.Bool.Decides.{nat_tests}
 use Rattle.bp_tree.specs.Ast.{Program}
-use Rattle.bp_code.specs.Configurations.{Frame, Configuration, is_call}
+use Rattle.bp_code.specs.Configurations.{Configuration, is_call}
 use Rattle.bp_code.specs.Moves.{StatementEffect, Leaves, Fails, Blocks, Misses, effect, after_effect, Moves}
 use Rattle.bp_machine.specs.declared.calls.Reply.{Reply}
-use Rattle.bp_machine.specs.declared.calls.Reply.TheVariants.{Stopped, Full, Failed, Stepped}
+use Rattle.bp_machine.specs.declared.calls.Reply.TheVariants.{Stopped, Full}
 use Rattle.bp_machine.specs.declared.calls.Call.{Call}
 use Rattle.bp_machine.specs.declared.limits.TheConstants.{MAX_FRAMES}
-use Rattle.bp_machine.specs.Answers.{is_full, stack_of, reply_to_effect, reply_on_stack, reply_of, configuration_after_step, configuration_after_call}
+use Rattle.bp_machine.specs.Answers.{stack_of, reply_to_effect, reply_on_stack, reply_of, configuration_after_step, configuration_after_call}
 use Rattle.bp_machine.specs.BoundedRuns.{HasRoom, reply_of_step}
 use Rattle.bp_machine.specs.Replies.{is_granted}
 use Rattle.bp_machine.specs.Reports.{IsRun}

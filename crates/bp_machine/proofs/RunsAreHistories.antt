@@ -5,11 +5,10 @@ use Rattle.std.proofs.lemmas.Bool.Decides.{nat_tests}
 use Rattle.bp_tree.specs.Ast.{Program}
 use Rattle.bp_code.specs.Configurations.{Configuration}
 use Rattle.bp_machine.specs.declared.calls.Call.{Call}
-use Rattle.bp_machine.specs.Answers.{configuration_after_call}
 use Rattle.bp_machine.specs.BoundedRuns.{EachHasRoom, IsBoundedRun, reply_of_step, history_of_run, IsHistoryOfSteps}
 use Rattle.bp_machine.specs.Contexts.{IsWithin}
-use Rattle.bp_machine.specs.Histories.{configuration_after_calls, configuration_after, granted_threads, granted_calls, calls_of_thread, ends_with_last, is_finished, IsAllowed, IsLegalAfter, IsLegal}
-use Rattle.bp_machine.specs.Replies.{is_granted, is_last}
+use Rattle.bp_machine.specs.Histories.{configuration_after_calls, configuration_after, granted_threads, granted_calls, calls_of_thread, ends_with_last, is_finished, IsAllowed, IsLegalAfter}
+use Rattle.bp_machine.specs.Replies.{is_last}
 use Rattle.bp_machine.specs.Reports.{IsRun}
 use Rattle.bp_machine.specs.Reports as reports
 use Rattle.bp_machine.specs.Setups.{SetupOf, threads, start}

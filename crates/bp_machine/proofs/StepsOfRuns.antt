@@ -1,6 +1,6 @@
 -- The first step of a run, and that its steps lead to one configuration.
-use Rattle.std.proofs.Common.{◌≡◌, ℕ, zero, suc, Bool, List, [], ◌∷◌, length, Option, None, Some, refl, ap, sym, ◌∙◌, arith, ◌<◌}
-use Rattle.std.specs.Prelude.{slice_get, slice_set, slice_index_or, map}
+use Rattle.std.proofs.Common.{◌≡◌, ℕ, zero, suc, Bool, List, [], ◌∷◌, length, Some, refl, ap, sym, ◌∙◌, arith, ◌<◌}
+use Rattle.std.specs.Prelude.{slice_get, slice_set, slice_index_or}
 use Rattle.std.proofs.lemmas.List.{length-set, length-map}
 use Rattle.bp_tree.specs.Ast.{Program}
 use Rattle.bp_code.specs.Configurations.{Frame, Configuration, first_stack, procedure_named}

@@ -1,6 +1,6 @@
 -- Runs of a program within the bounds of a setup, without the machine: what another tool's
 -- counterexample is. And the history of such a run.
-use Rattle.std.specs.Prelude.{◌≡◌, ◌<◌, ◌≤◌, ℕ, Bool, true, false, List, [], ◌∷◌, ◌++◌, length, map}
+use Rattle.std.specs.Prelude.{◌≡◌, ◌<◌, ◌≤◌, ℕ, Bool, true, List, [], ◌∷◌, ◌++◌, length, map}
 use Rattle.bp_tree.specs.Ast.{Program}
 use Rattle.bp_code.specs.Configurations.{Frame, Configuration, is_call}
 use Rattle.bp_machine.specs.declared.calls.Call.{Call}

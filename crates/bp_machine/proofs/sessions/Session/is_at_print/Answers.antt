@@ -1,6 +1,5 @@
-use Rattle.std.proofs.Common.{◌≡◌, Bool, ap, sym, ◌∙◌, is_some}
+use Rattle.std.proofs.Common.{ap, sym, ◌∙◌, is_some}
 use Rattle.std.specs.Prelude.{slice_get}
-use Rattle.bp_code.specs.Bits.{bits_of}
 use Rattle.bp_machine.specs.Stacks.{top_of}
 use Rattle.bp_machine.specs.Histories.{configuration_after}
 use Rattle.bp_machine.specs.PrintedRows.{values_printed}

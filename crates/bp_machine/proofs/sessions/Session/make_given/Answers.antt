@@ -1,10 +1,9 @@
-use Rattle.std.proofs.Common.{◌≡◌, refl, subst, Some}
+use Rattle.std.proofs.Common.{subst}
 use Rattle.bp_tree.specs.Ast.{Program}
 use Rattle.bp_code.specs.StandsFor.{StandsFor}
 use Rattle.bp_code.specs.Alike.{StepsAlike}
 use Rattle.std.proofs.lemmas.Option.{slice_get_within}
 use Rattle.std.proofs.lemmas.Result.{err_from_is_err_and}
-use Rattle.bp_machine.specs.declared.sessions.Prepared.{Prepared}
 use Rattle.bp_machine.specs.Sessions.{SessionOf, IsInOrder}
 use Rattle.bp_machine.specs.KeptSessions.{session_of, IsJudged}
 use Rattle.bp_machine.proofs.SessionAnswers.{given_bit, judged_next, refused_after, refused_for_memory}
