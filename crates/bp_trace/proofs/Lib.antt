@@ -36,4 +36,5 @@ mod ScheduleLength
 mod ScheduleLineAt
 mod ThreadAt
 pub mod TraceLength
+mod TwoDigits
 mod WholeHead

@@ -3,6 +3,7 @@
 #![tactic(auto)]
 
 mod body_lines;
+mod call_lines;
 mod driving;
 mod end_counts;
 mod end_lines;
@@ -23,6 +24,7 @@ mod traces;
 mod versions;
 mod watchers;
 
+pub use call_lines::write_call;
 pub use driving::drive;
 pub use end_counts::calls_at_end;
 pub use faults::DriveFault;
@@ -36,6 +38,6 @@ pub use migrating::migrate;
 pub use replay_faults::{Counts, Due, ReplayFault};
 pub use replaying::{Replayed, Watched, replay, replay_watched};
 pub use schedules::ScheduleLine;
-pub use traces::{write_call, write_end, write_head, write_trace, write_trace2};
+pub use traces::{write_end, write_head, write_trace, write_trace2};
 pub use versions::Version;
 pub use watchers::{Unwatched, Watcher};

@@ -1,5 +1,5 @@
 //! Writing the text of a trace.
-ghost use Rattle.std.specs.Prelude.{◌≡◌, ◌<◌, ◌≤◌, map, flat_map, length};
+ghost use Rattle.std.specs.Prelude.{◌≡◌, ◌≤◌, map, flat_map, length};
 ghost use Rattle.std.specs.List.{concat};
 ghost use Rattle.bp_check.specs.declared.limits.TheConstants.{MAX_GLOBALS};
 ghost use Rattle.bp_text.specs.Writing.{Writes};
@@ -7,6 +7,7 @@ ghost use Rattle.bp_machine.specs.Histories.{open_lines};
 ghost use Rattle.bp_trace.specs.Schedules.{bit_digit};
 ghost use Rattle.bp_trace.specs.TraceText.{entry_line, init_digits, init_line, limit_lines, version_line, head_text, call_line, end_line, calls_text, text_of, trace_text, trace_text_2};
 
+use crate::call_lines::write_call;
 use crate::pieces::write_pieces;
 use crate::versions::Version;
 use bp_machine::{Call, Setup, open_lines};
@@ -124,29 +125,6 @@ pub fn write_head<W: Write>(setup: &Setup, out: &mut W) -> Result<(), WriteFault
         (head_text Version.One setup.now) result }
 {
     write_head_of(Version::One, setup, out)
-}
-
-/// Writes the line of a call of a thread with one digit, by one write.
-fn write_short_line<W: Write>(call: &Call, out: &mut W) -> Result<(), WriteFault>
-    requires { call.now.thread < 10 }
-    ensures { Writes (W.contents out.old) (W.contents out.new) (call_line call.now) result }
-{
-    let digit = b'0' + call.thread as u8;
-    let bit = bit_digit(call.bit);
-    put(out, &[digit, b' ', bit, b' ', call.reply.letter(), b'\n'])
-}
-
-/// Writes the line of a call.
-pub fn write_call<W: Write>(call: &Call, out: &mut W) -> Result<(), WriteFault>
-    ensures { Writes (W.contents out.old) (W.contents out.new) (call_line call.now) result }
-{
-    if call.thread < 10 {
-        return write_short_line(call, out);
-    }
-    let mut buffer = Buffer::new();
-    let thread = buffer.format(call.thread).as_bytes();
-    let rest = [b' ', bit_digit(call.bit), b' ', call.reply.letter(), b'\n'];
-    put_each(out, &[thread, rest.as_slice()])
 }
 
 /// Writes the line that ends a trace of this many calls, with this many open lines.

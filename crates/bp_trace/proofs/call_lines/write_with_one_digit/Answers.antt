@@ -1,6 +1,6 @@
 use Rattle.std.proofs.Common.{rules}
 use Rattle.std.proofs.lemmas.Fmt.{decimal_digit}
-use Rattle.bp_trace.proofs.traces.write_short_line.Goals as goal
+use Rattle.bp_trace.proofs.call_lines.write_with_one_digit.Goals as goal
 
 pub returns : goal.returns
 returns g c =
