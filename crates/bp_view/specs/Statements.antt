@@ -1,10 +1,11 @@
 -- The text of a statement on one line, as a view shows it.
-use Rattle.std.specs.Prelude.{if◌then◌else◌, ◌≡◌, ◌||◌, ℕ, nat_lt, Bool, true, false, List, [], ◌∷◌, ◌++◌, Option, Some, codes, bytes_eq, length, map, take}
+use Rattle.std.specs.Prelude.{if◌then◌else◌, ◌≡◌, ◌||◌, ◌-◌, ℕ, nat_lt, Bool, true, false, List, [], ◌∷◌, ◌++◌, Option, Some, codes, bytes_eq, length, map, take}
 use Rattle.std.specs.List.{list_any}
 use Rattle.bp_syntax.specs.FirstLexemes.{TakesLexeme}
 use Rattle.bp_syntax.specs.declared.tokens.LexemeKind.{LexemeKind}
 use Rattle.bp_syntax.specs.declared.tokens.LexemeKind.TheVariants.{White, Comment, Identifier, Braced}
 use Rattle.bp_text.specs.OneLine.{on_one_line}
+use Rattle.bp_view.specs.declared.excerpts.TheConstants.{MAX_EXCERPT}
 use Rattle.bp_view.specs.declared.excerpts.Role.{Role}
 use Rattle.bp_view.specs.declared.excerpts.Role.TheVariants.{Gap, Word, Symbol}
 
@@ -68,9 +69,12 @@ words_after gap [] = []
 words_after gap (l ∷ ls) =
     word_after gap l.kind l.bytes ++ words_after (is_gap (role_of l.kind)) ls
 
--- at most 60 bytes: of a longer text the first 58 and two dots
+-- at most MAX_EXCERPT bytes: a longer text is cut, and ends with two dots
 abbrev pub shortened : List ℕ → List ℕ
-shortened words = if nat_lt 60 (length words) then take 58 words ++ codes ".." else words
+shortened words =
+    if nat_lt MAX_EXCERPT (length words)
+    then take (MAX_EXCERPT - 2) words ++ codes ".."
+    else words
 
 abbrev pub is_choice : List ℕ → Bool
 is_choice bytes = bytes_eq bytes (codes "?")
