@@ -1,9 +1,13 @@
 -- The longest place of the scenes of a program.
-use Rattle.std.proofs.Common.{◌≡◌, ◌∙◌, ◌<◌, ℕ, zero, suc, List, [], ◌∷◌, Option, take, length, get_or, map, max, ap, refl, arith}
+use Rattle.std.proofs.Common.{◌≡◌, ◌∙◌, ◌<◌, ℕ, zero, suc, List, [], ◌∷◌, take, length, get_or, map, max, ap, refl, arith}
+use Rattle.bp_tree.specs.Ast.{Procedure}
+use Rattle.bp_code.specs.StandsFor.{Place}
+use Rattle.bp_code.specs.Starts.{start_of_block}
 use Rattle.bp_view.specs.declared.scenes.Scene.{Scene}
 use Rattle.bp_view.specs.Places.{place_text}
-use Rattle.bp_view.specs.Scenes.{AreScenes}
+use Rattle.bp_view.specs.Scenes.{AreScenesAt}
 use Rattle.bp_view.specs.Widths.{longest}
+use Rattle.bp_view.proofs.ProceduresOfPlaces.{starts}
 
 abbrev pub place_items : List Scene → List (List ℕ)
 place_items scenes = map (λ s. s.place.items) scenes
@@ -17,8 +21,9 @@ longest_more (suc n) (y ∷ scenes) x h =
     omega (arith, here)
 
 -- the places of the scenes are those of the statements
-pub places_are : (text : List ℕ) (starts : List (Option ℕ)) (scenes : List Scene) → AreScenes text starts scenes → place_items scenes ≡ map (place_text text) starts
-places_are text [] [] are = refl
-places_are text [] (x ∷ scenes) are = elim are [ ]
-places_are text (s ∷ starts) [] are = elim are [ ]
-places_are text (s ∷ starts) (x ∷ scenes) are = ap (λ p. p ∷ place_items scenes) are.0.place ∙ ap (λ ps. place_text text s ∷ ps) (places_are text starts scenes are.1)
+pub places_are : (text : List ℕ) (ps : List Procedure) (xs : List Place) (scenes : List Scene) → AreScenesAt text ps xs scenes → place_items scenes ≡ map (place_text text) (starts xs)
+places_are text ps [] [] are = refl
+places_are text ps [] (x ∷ scenes) are = elim are [ ]
+places_are text ps (s ∷ xs) [] are = elim are [ ]
+places_are text ps (s ∷ xs) (x ∷ scenes) are =
+    ap (λ p. p ∷ place_items scenes) are.0.place ∙ ap (λ ys. place_text text (start_of_block s.left) ∷ ys) (places_are text ps xs scenes are.1)

@@ -1,11 +1,10 @@
 -- The scene of a thread's next statement has its place.
 use Rattle.std.proofs.Common.{◌≡◌, ◌∙◌, ℕ, List, ◌∷◌, subst, Option, None, Some, Bor, length, nat_lt, is_some, slice_get, get_or, ap, sym, arith, ◌<◌, ◌≤◌}
 use Rattle.std.specs.Prelude.{option_map, IfSome}
-use Rattle.std.proofs.lemmas.Option.{slice_get-map, slice_get_past, slice_get-get_or}
+use Rattle.std.proofs.lemmas.Option.{slice_get_past, slice_get-get_or}
 use Rattle.bp_tree.specs.Ast.{Program}
 use Rattle.bp_code.specs.Configurations.{Configuration}
-use Rattle.bp_code.specs.Starts.{start_of_block, starts_of}
-use Rattle.bp_code.specs.StandsFor.{places_of}
+use Rattle.bp_code.specs.StandsFor.{place, places_of}
 use Rattle.bp_machine.specs.declared.tops.Top.{Top}
 use Rattle.bp_machine.specs.Answers.{stack_of}
 use Rattle.bp_machine.specs.Tops.{IsTop}
@@ -13,27 +12,28 @@ use Rattle.bp_view.specs.declared.scenes.Scene.{Scene}
 use Rattle.bp_view.specs.Lines.{indented, shown_of, start_on_stack, IsShown, IsShownAt}
 use Rattle.bp_view.specs.Places.{place_text}
 use Rattle.bp_view.specs.Scenes.{AreScenes, place_of_scene}
-use Rattle.bp_view.proofs.SceneLists.{place_at, scene_at}
+use Rattle.bp_view.proofs.SceneLists.{SceneAt, scene_at}
 
 -- what is got is the n-th
 pub got_scene : (o : Option (Bor Scene)) (scenes : List Scene) (n : ℕ) → is_some o ≡ nat_lt n (length scenes) → IfSome o (λ x. x.now ≡ get_or scenes n x.now) → option_map (λ s. s.now) o ≡ slice_get scenes n
 got_scene None scenes n e h = let past : length scenes ≤ n = grind arith in sym (slice_get_past scenes n past)
 got_scene (Some x) scenes n e h = let within : n < length scenes = grind arith in ap Some h ∙ sym (slice_get-get_or scenes n x.now within)
 
-module _ (t : Program) (text : List ℕ) (c : Configuration) (i : ℕ) (scenes : List Scene) (are : AreScenes text (starts_of t) scenes) where
+module _ (t : Program) (text : List ℕ) (c : Configuration) (i : ℕ) (scenes : List Scene) (are : AreScenes text t scenes) where
+  -- the scene of what comes next
+  pub scene_of_top : (x : Top) → (is : IsTop t c i x) → SceneAt text t.procedures (place is.frame.procedure is.frame.left) scenes x.number
+  scene_of_top x is = scene_at text t.procedures (places_of t.procedures) scenes x.number (place is.frame.procedure is.frame.left) are is.next
+
   pub place_of_top : (x : Top) → IsTop t c i x → place_of_scene (slice_get scenes x.number) ≡ place_text text (start_on_stack (stack_of c i))
   place_of_top x is =
-      let start : slice_get (starts_of t) x.number ≡ Some (start_of_block is.frame.left) =
-      slice_get-map (λ p. start_of_block p.left) (places_of t.procedures) x.number ∙ ap (option_map (λ p. start_of_block p.left)) is.next in
-      place_at text (starts_of t) scenes x.number (start_of_block is.frame.left) are start ∙ ap (λ s. place_text text (start_on_stack s)) (sym is.stack)
+      let found = scene_of_top x is in
+      ap place_of_scene found.at ∙ found.is.place ∙ ap (λ s. place_text text (start_on_stack s)) (sym is.stack)
 
   -- what is shown of it is its statement
   pub shown_of_top : (x : Top) → IsTop t c i x → IsShown text (stack_of c i) (shown_of (slice_get scenes x.number) (Some x))
   shown_of_top x is =
-      let start : slice_get (starts_of t) x.number ≡ Some (start_of_block is.frame.left) =
-      slice_get-map (λ p. start_of_block p.left) (places_of t.procedures) x.number ∙ ap (option_map (λ p. start_of_block p.left)) is.next in
-      let found = scene_at text (starts_of t) scenes x.number (start_of_block is.frame.left) are start in
-      let own : IsShownAt text (start_of_block is.frame.left) (length (is.frame ∷ is.below)) (shown_of (Some found.scene) (Some x)) = record {
+      let found = scene_of_top x is in
+      let own : IsShownAt text is.frame (length (is.frame ∷ is.below)) (shown_of (Some found.scene) (Some x)) = record {
         words = found.scene.excerpt.words.items;
         text_is = ap (λ d. indented d found.scene.excerpt.words.items) is.depth;
         words_are = found.is.statement;

@@ -134,18 +134,17 @@ start_on_stack (f ∷ fs) = start_of_block f.left
 abbrev pub indented : (depth : ℕ) → List ℕ → List ℕ
 indented depth words = spaces (2 * min depth 8) ++ words
 
--- the statement that begins at this offset, or a procedure's end, at this depth of a stack
-pub record IsShownAt (text : List ℕ) (start : Option ℕ) (depth : ℕ) (shown : Shown) : Type 0 where
+-- the statement that a frame has next, or its procedure's end, at this depth of a stack
+pub record IsShownAt (text : List ℕ) (f : Frame) (depth : ℕ) (shown : Shown) : Type 0 where
   pub words : List ℕ
   pub text_is : shown.text ≡ indented depth words
-  pub words_are : IsStatementAt text start words shown.reads
+  pub words_are : IsStatementAt text f.procedure (start_of_block f.left) words shown.reads
   pub one_line : IsOneLine words
 
 -- the statement that a thread with this stack has next; nothing where the stack is empty
 abbrev pub IsShown : List ℕ → List Frame → Shown → Type 0
 IsShown text [] shown = (shown.text ≡ []) × (shown.reads ≡ false)
-IsShown text (f ∷ fs) shown =
-    IsShownAt text (start_of_block f.left) (length (f ∷ fs)) shown
+IsShown text (f ∷ fs) shown = IsShownAt text f (length (f ∷ fs)) shown
 
 -- a device: what the code shows of a scene, at the top of a stack
 abbrev pub reads_of_scene : Option Scene → Bool

@@ -102,6 +102,6 @@ pub record Shows
   pub last : now.last ≡ last_thread (granted_threads h)
   pub made : now.made ≡ length h
   pub lines : (text : List ℕ)
-      → AreScenes text (starts_of t) now.setting.scenes.now
+      → AreScenes text t now.setting.scenes.now
       → Adds (AreLines t text s now.setting.options now.setting.widths now.setting.count h)
       (view_head now.setting.globals.now s) now.view.items

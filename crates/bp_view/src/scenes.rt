@@ -1,6 +1,8 @@
 //! What is shown of each instruction.
-ghost use Rattle.std.specs.Prelude.{◌≡◌, ℕ, List, None, Some, IfOk};
-ghost use Rattle.bp_code.specs.Starts.{starts_of};
+ghost use Rattle.std.specs.Prelude.{◌≡◌, ℕ, List, None, Some, slice_get, IfOk};
+ghost use Rattle.bp_tree.specs.Ast.{Procedure};
+ghost use Rattle.bp_code.specs.StandsFor.{Place};
+ghost use Rattle.bp_code.specs.Starts.{start_of_block};
 ghost use Rattle.bp_view.specs.Places.{place_text, position_text};
 ghost use Rattle.bp_text.specs.Positions.{position_at};
 ghost use Rattle.bp_view.specs.Scenes.{AreScenes, IsScene};
@@ -46,7 +48,10 @@ fn statement_scene(
     procedure: usize,
 ) -> Result<Scene, AllocError>
     requires { position ≡ position_at text.now start }
-    ensures { IfOk result (IsScene text.now (Some start)) }
+    ensures { (ps : List Procedure) (x : Place)
+        → slice_get ps procedure ≡ Some x.procedure
+        → start_of_block x.left ≡ Some start
+        → IfOk result (IsScene text.now ps x) }
 {
     let rest = part_from(text, start as usize);
     Ok(Scene {
@@ -59,7 +64,11 @@ fn statement_scene(
 
 /// The scene of the end of a procedure.
 fn end_scene(alloc: Global, name: &[u8], procedure: usize) -> Result<Scene, AllocError>
-    ensures { (text : List ℕ) → IfOk result (IsScene text None) }
+    ensures { (text : List ℕ) (ps : List Procedure) (x : Place)
+        → slice_get ps procedure ≡ Some x.procedure
+        → name.now ≡ x.procedure.name.text
+        → start_of_block x.left ≡ None
+        → IfOk result (IsScene text ps x) }
 {
     let mut place = Vec::new(alloc);
     push_bytes(&mut place, b"-")?;
@@ -78,7 +87,11 @@ fn end_scene(alloc: Global, name: &[u8], procedure: usize) -> Result<Scene, Allo
 }
 
 /// The name of a procedure.
-fn name_of(procs: &[Proc], procedure: usize) -> &[u8] {
+fn name_of(procs: &[Proc], procedure: usize) -> &[u8]
+    ensures { (p : Procedure)
+        → slice_get procs.now procedure ≡ Some p
+        → result.now ≡ p.name.text }
+{
     match procs.get(procedure) {
         Some(proc) => proc.name().text().as_bytes(),
         None => b"",
@@ -91,7 +104,7 @@ pub(crate) fn scenes_of(
     text: &[u8],
     checked: &Checked,
 ) -> Result<Vec<Scene>, AllocError>
-    ensures { IfOk result (λ v. AreScenes text.now (starts_of checked.now) v.items) }
+    ensures { IfOk result (λ v. AreScenes text.now checked.now v.items) }
 {
     let procs = checked.tree().procs();
     let starts = statement_starts(alloc, checked)?;

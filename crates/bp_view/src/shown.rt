@@ -2,7 +2,6 @@
 ghost use Rattle.std.specs.Prelude.{◌≡◌, [], ℕ, List, option_map, OnOk, MatchOption};
 ghost use Rattle.bp_tree.specs.Ast.{Program};
 ghost use Rattle.bp_code.specs.Configurations.{Configuration};
-ghost use Rattle.bp_code.specs.Starts.{starts_of};
 ghost use Rattle.bp_machine.specs.declared.calls.Call.{Call as Answered};
 ghost use Rattle.bp_machine.specs.Answers.{stack_of};
 ghost use Rattle.bp_machine.specs.Setups.{SetupOf};
@@ -22,12 +21,12 @@ use std::alloc::AllocError;
 /// The scene of what is at the top of a stack.
 fn scene_of<'a>(scenes: &'a [Scene], top: Option<Top>) -> Option<&'a Scene>
     ensures scene { (t : Program) (text : List ℕ) (c : Configuration) (i : ℕ)
-        → AreScenes text (starts_of t) scenes.now
+        → AreScenes text t scenes.now
         → MatchOption top (stack_of c i ≡ []) (IsTop t c i)
         → place_of_scene (option_map (λ s. s.now) result)
         ≡ place_text text (start_on_stack (stack_of c i)) }
     ensures shown { (t : Program) (text : List ℕ) (c : Configuration) (i : ℕ)
-        → AreScenes text (starts_of t) scenes.now
+        → AreScenes text t scenes.now
         → MatchOption top (stack_of c i ≡ []) (IsTop t c i)
         → IsShown text (stack_of c i) (shown_of (option_map (λ s. s.now) result) top) }
 {
@@ -45,7 +44,7 @@ pub(crate) fn push_shown(
     moment: &Moment,
 ) -> Result<(), AllocError>
     ensures { (t : Program) (text : List ℕ) (s : SetupOf) (h : List Answered) (x : Answered)
-        → AreScenes text (starts_of t) setting.now.scenes.now
+        → AreScenes text t setting.now.scenes.now
         → IsMomentOf t s h x moment.now
         → let options = setting.now.options in
         let w = setting.now.widths in

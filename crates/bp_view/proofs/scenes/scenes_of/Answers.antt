@@ -1,23 +1,48 @@
-use Rattle.std.proofs.Common.{◌∙◌, ap, sym}
-use Rattle.std.proofs.lemmas.List.{take_all}
-use Rattle.bp_view.proofs.SceneLists.{more_scenes}
+use Rattle.std.proofs.Common.{◌≡◌, ◌∙◌, ◌+◌, ◌≤◌, ap, sym, arith, take, length, slice_get}
+use Rattle.std.proofs.lemmas.List.{length-map, take_all}
+use Rattle.bp_code.specs.StandsFor.{places_of}
+use Rattle.bp_code.specs.Starts.{start_of_block}
+use Rattle.bp_view.proofs.SceneLists.{more_scenes, place_at}
+use Rattle.bp_view.proofs.ProceduresOfPlaces.{ends, ends_more, few_ends, procedure_of, starts}
 use Rattle.bp_text.specs.Positions.{position_at}
 use Rattle.bp_view.proofs.scenes.scenes_of.Goals.{in-Some+in_ok-statement_scene+in_ok-push, in_default+in_ok-end_scene+in_ok-push-2}
 use Rattle.bp_view.proofs.scenes.scenes_of.Goals as goal
 
 pub loop-start-preserved : goal.loop-start-preserved
-loop-start-preserved c = elim c.match-start.branch [
-  | in-Some+in_ok-statement_scene+in_ok-push w ↦ record {
-    position = w.position-is ∙ w.position_from-position.ensures ∙ ap (position_at c.args.text.now) (sym w.at-is);
-    scenes = more_scenes c.args.text.now c.deref-start-items.result.now c.loop-start.start-index _ _ _ _ _ c.loop-start-test.true w.in-Some.is c.loop-start.invariant.scenes (ap (λ v. v.items) w.scenes-is ∙ w.in_ok-push.ensures.items) w.in_ok-statement_scene.ensures;
-  }
-  | in_default+in_ok-end_scene+in_ok-push-2 w ↦ record {
-    position = w.position-is ∙ c.loop-start.invariant.position ∙ ap (position_at c.args.text.now) (sym w.at-is);
-    scenes = more_scenes c.args.text.now c.deref-start-items.result.now c.loop-start.start-index _ _ _ _ _ c.loop-start-test.true w.in_default.is c.loop-start.invariant.scenes (ap (λ v. v.items) w.scenes-is ∙ w.in_ok-push-2.ensures.items) (w.in_ok-end_scene.ensures c.args.text.now);
-  }
-]
+loop-start-preserved c =
+    let text = c.args.text.now in
+    let ps = c.args.checked.now.procedures in
+    let xs = places_of ps in
+    let n = c.loop-start.start-index in
+    let items = c.deref-start-items.result.now in
+    let all : items ≡ starts xs = c.deref-start-items.ensures.value ∙ c.in_ok-starts.ensures in
+    elim c.match-start.branch [
+      | in-Some+in_ok-statement_scene+in_ok-push w ↦
+          let x = place_at xs items n _ _ all c.loop-start-test.true w.in-Some.is in
+          let number = c.loop-start.invariant.procedure ∙ ap (λ ys. ends (take n ys)) all in
+          let own = ap (λ k. slice_get ps k) number ∙ procedure_of ps n x.place x.at in
+          record {
+            position = w.position-is ∙ w.position_from-position.ensures ∙ ap (position_at text) (sym w.at-is);
+            procedure = w.procedure-is ∙ omega (arith, c.loop-start.invariant.procedure, ends_more items n _ _ c.loop-start-test.true w.in-Some.is);
+            scenes = more_scenes text ps xs n x.place _ _ _ x.at c.loop-start.invariant.scenes (ap (λ v. v.items) w.scenes-is ∙ w.in_ok-push.ensures.items) (w.in_ok-statement_scene.ensures ps x.place own x.begins);
+          }
+      | in_default+in_ok-end_scene+in_ok-push-2 w ↦
+          let x = place_at xs items n _ _ all c.loop-start-test.true w.in_default.is in
+          let number = c.loop-start.invariant.procedure ∙ ap (λ ys. ends (take n ys)) all in
+          let own = ap (λ k. slice_get ps k) number ∙ procedure_of ps n x.place x.at in
+          let name = w.name_of.ensures x.place.procedure (ap (λ qs. slice_get qs c.loop-start.procedure) (c.procs-procs.ensures.value ∙ ap (λ t. t.procedures) c.tree.ensures.value) ∙ own) in
+          record {
+            position = w.position-is ∙ c.loop-start.invariant.position ∙ ap (position_at text) (sym w.at-is);
+            procedure = w.procedure-is ∙ omega (arith, c.loop-start.invariant.procedure, ends_more items n _ _ c.loop-start-test.true w.in_default.is, few_ends (n + 1) items);
+            scenes = more_scenes text ps xs n x.place _ _ _ x.at c.loop-start.invariant.scenes (ap (λ v. v.items) w.scenes-is ∙ w.in_ok-push-2.ensures.items) (w.in_ok-end_scene.ensures text ps x.place own name x.begins);
+          }
+    ]
 
 pub returns : goal.returns
 returns c =
-    let all = rw (take_all c.loop-start.start-index c.deref-start-items.result.now c.loop-start-test.false) at c.loop-start.invariant.scenes in
-    rw (c.deref-start-items.ensures.value ∙ c.in_ok-starts.ensures) at all
+    let ps = c.args.checked.now.procedures in
+    let items = c.deref-start-items.result.now in
+    let all : items ≡ starts (places_of ps) = c.deref-start-items.ensures.value ∙ c.in_ok-starts.ensures in
+    let long : length items ≡ length (places_of ps) = ap length all ∙ length-map (places_of ps) (λ x. start_of_block x.left) in
+    let past : length (places_of ps) ≤ c.loop-start.start-index = omega (arith, c.loop-start-test.false, long) in
+    rw (take_all c.loop-start.start-index (places_of ps) past) at c.loop-start.invariant.scenes

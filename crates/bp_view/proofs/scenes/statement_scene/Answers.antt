@@ -1,13 +1,19 @@
-use Rattle.std.proofs.Common.{◌∙◌, ap, subst}
-use Rattle.bp_view.specs.Places.{position_text}
+use Rattle.std.proofs.Common.{◌∙◌, ap, subst, sym}
+use Rattle.bp_view.specs.Places.{place_text, position_text}
+use Rattle.bp_view.specs.Scenes.{IsStatementAt}
 use Rattle.bp_view.specs.Statements.{IsStatement}
 use Rattle.bp_view.proofs.scenes.statement_scene.Goals as goal
 
 pub returns : goal.returns
-returns c =
+returns c = λ ps x has begins.
     let excerpt = c.in_ok-excerpt_of.field-0 in
+    let words = excerpt.words.items in
+    let text = c.args.text.now in
     record {
-      place = c.in_ok-place_text.ensures ∙ ap position_text c.requires;
-      statement = subst (λ rest. IsStatement rest excerpt.words.items excerpt.reads_choice) c.part_from-rest.ensures c.in_ok-excerpt_of.ensures.is;
+      place = c.in_ok-place_text.ensures ∙ ap position_text c.requires ∙ ap (place_text text) (sym begins);
+      statement = subst (λ s. IsStatementAt text x.procedure s words excerpt.reads_choice) (sym begins)
+          (subst (λ rest. IsStatement rest words excerpt.reads_choice) c.part_from-rest.ensures c.in_ok-excerpt_of.ensures.is);
       words = c.in_ok-excerpt_of.ensures.one_line;
+      start = sym begins;
+      procedure = has;
     }

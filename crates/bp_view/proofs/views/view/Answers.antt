@@ -1,5 +1,5 @@
 use Rattle.std.proofs.Common.{◌≡◌, ◌∙◌, ◌++◌, length, ap, refl}
-use Rattle.bp_code.specs.Starts.{starts_of}
+use Rattle.bp_code.specs.StandsFor.{places_of}
 use Rattle.bp_view.specs.Heads.{view_head}
 use Rattle.bp_view.specs.Scenes.{AreScenes}
 use Rattle.bp_view.proofs.LongestPlaces.{places_are}
@@ -12,7 +12,7 @@ returns c =
     let w = c.in_ok-replayed.ensures t c.requires in
     let r = c.in_ok-replayed.field-0.replayed in
     let setting = c.in_ok-replayed.field-0.watcher.setting in
-    let are : AreScenes text (starts_of t) setting.scenes.now = rw (w.seen.scenes ∙ c.setting_of.ensures.scenes ∙ c.as_slice.ensures.value) c.in_ok-scenes.ensures in
+    let are : AreScenes text t setting.scenes.now = rw (w.seen.scenes ∙ c.setting_of.ensures.scenes ∙ c.as_slice.ensures.value) c.in_ok-scenes.ensures in
     let lines = w.seen.lines text are in
     let counted = c.calls_at_end-count.ensures t w.replayed.version r.setup r.history.items c.is_in_range.ensures w.replayed.trace in
     let count : setting.count ≡ length r.history.items = w.seen.count ∙ c.setting_of.ensures.count ∙ counted in
@@ -22,7 +22,7 @@ returns c =
       is = w.replayed;
       view_is = record {
         widths = setting.widths;
-        widths_are = rw (places_are text (starts_of t) setting.scenes.now are, count) at w.seen.widths;
+        widths_are = rw (places_are text t.procedures (places_of t.procedures) setting.scenes.now are, count) at w.seen.widths;
         lines = lines.more;
         foot = c.deref.result.now;
         is = c.in_ok-push_bytes.ensures
