@@ -1,5 +1,8 @@
+pub mod ChangedVariables
+pub mod ChangesOfFrames
 pub mod LinesOfCalls
 pub mod LongestPlaces
+pub mod NextConfigurations
 pub mod PartsOfHeads
 pub mod PlacesOfTops
 pub mod ProceduresOfPlaces

@@ -15,9 +15,9 @@ use Rattle.bp_view.specs.Scenes.{AreScenes, place_of_scene}
 use Rattle.bp_view.proofs.SceneLists.{SceneAt, scene_at}
 
 -- what is got is the n-th
-pub got_scene : (o : Option (Bor Scene)) (scenes : List Scene) (n : ℕ) → is_some o ≡ nat_lt n (length scenes) → IfSome o (λ x. x.now ≡ get_or scenes n x.now) → option_map (λ s. s.now) o ≡ slice_get scenes n
-got_scene None scenes n e h = let past : length scenes ≤ n = grind arith in sym (slice_get_past scenes n past)
-got_scene (Some x) scenes n e h = let within : n < length scenes = grind arith in ap Some h ∙ sym (slice_get-get_or scenes n x.now within)
+pub got_item : {X : Type 0} (o : Option (Bor X)) (xs : List X) (n : ℕ) → is_some o ≡ nat_lt n (length xs) → IfSome o (λ x. x.now ≡ get_or xs n x.now) → option_map (λ x. x.now) o ≡ slice_get xs n
+got_item None xs n e h = let past : length xs ≤ n = grind arith in sym (slice_get_past xs n past)
+got_item (Some x) xs n e h = let within : n < length xs = grind arith in ap Some h ∙ sym (slice_get-get_or xs n x.now within)
 
 module _ (t : Program) (text : List ℕ) (c : Configuration) (i : ℕ) (scenes : List Scene) (are : AreScenes text t scenes) where
   -- the scene of what comes next

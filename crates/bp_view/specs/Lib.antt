@@ -1,3 +1,4 @@
+pub mod Changes
 pub mod Colours
 pub mod Heads
 pub mod Lines

@@ -2,7 +2,7 @@
 use Rattle.std.specs.Prelude.{if◌then◌else◌, ◌≡◌, ◌==◌, not, ◌&&◌, ◌-◌, ◌*◌, min, ℕ, suc, Bool, false, List, [], ◌∷◌, ◌++◌, Option, None, Some, MatchOption, length, codes, decimal}
 use Rattle.bp_tree.specs.Ast.{Program}
 use Rattle.bp_code.specs.Starts.{start_of_block}
-use Rattle.bp_code.specs.Configurations.{Frame}
+use Rattle.bp_code.specs.Configurations.{Frame, Configuration}
 use Rattle.bp_machine.specs.declared.calls.Call.{Call}
 use Rattle.bp_machine.specs.declared.calls.Reply.{Reply}
 use Rattle.bp_machine.specs.declared.calls.Reply.TheVariants.{Stopped, Ended, NoContexts, Full, Blocked, Failed, Stepped}
@@ -17,12 +17,14 @@ use Rattle.bp_machine.specs.declared.tops.Top.{Top}
 use Rattle.bp_text.specs.Columns.{at_left, at_right, spaces}
 use Rattle.bp_view.specs.declared.colours.Colour.{Colour}
 use Rattle.bp_view.specs.declared.moments.Moment.{Moment}
+use Rattle.bp_view.specs.declared.settings.Setting.{Setting}
 use Rattle.bp_view.specs.declared.settings.Widths.{Widths}
 use Rattle.bp_text.specs.OneLine.{IsOneLine}
+use Rattle.bp_view.specs.Changes.{IsNext}
 use Rattle.bp_view.specs.Colours.{in_colour}
 use Rattle.bp_view.specs.Places.{place_text}
 use Rattle.bp_view.specs.declared.scenes.Scene.{Scene}
-use Rattle.bp_view.specs.Scenes.{IsStatementAt}
+use Rattle.bp_view.specs.Scenes.{AreScenes, IsStatementAt}
 
 -- the new bytes are the old ones, and then such bytes
 pub record Adds (Are : List ℕ → Type 0) (old new : List ℕ) : Type 0 where
@@ -92,12 +94,10 @@ choice_text reads x =
     if reads && is_tried x.reply then if x.bit then codes " ?=1" else codes " ?=0"
     else []
 
--- a note of a call: its choice bit where its statement reads one, the words of its reply, and a
--- text on one line
-pub record IsNote (reads : Bool) (x : Call) (note : List ℕ) : Type 0 where
-  pub changes : List ℕ
-  pub is : note ≡ choice_text reads x ++ reply_words x.reply ++ changes
-  pub changes_are : IsOneLine changes
+-- the note of a call: its choice bit where its statement reads one, the words of its reply, and
+-- what it changed
+abbrev pub note_text : (reads : Bool) → Call → (changes : List ℕ) → List ℕ
+note_text reads x changes = choice_text reads x ++ reply_words x.reply ++ changes
 
 -- a note after this many spaces; no space is left where there is no note
 abbrev pub after_room : ℕ → List ℕ → List ℕ
@@ -110,20 +110,13 @@ pub record Shown : Type 0 where
   pub reads : Bool
 
 -- a call: the fields in columns of these widths, the statement, and after its column the note
-pub record IsCallText (w : Widths) (f : Fields) (shown : Shown) (x : Call) (text : List ℕ)
-    : Type 0 where
-  pub note : List ℕ
-  pub is :
-      text ≡ fields_text w f ++ shown.text ++ after_room (w.words - length shown.text) note
-  pub note_is : IsNote shown.reads x note
+abbrev pub call_text : Widths → Fields → Shown → (note : List ℕ) → List ℕ
+call_text w f shown note =
+    fields_text w f ++ shown.text ++ after_room (w.words - length shown.text) note
 
 -- a line: the text of a call, in a colour
-pub record IsLineWith
-    (w : Widths) (colour : Colour) (f : Fields) (shown : Shown) (x : Call) (line : List ℕ)
-    : Type 0 where
-  pub text : List ℕ
-  pub is : line ≡ in_colour colour text ++ codes "\n"
-  pub text_is : IsCallText w f shown x text
+abbrev pub line_text : Widths → Colour → Fields → Shown → (note : List ℕ) → List ℕ
+line_text w colour f shown note = in_colour colour (call_text w f shown note) ++ codes "\n"
 
 -- thread i has a statement that comes next
 abbrev pub start_on_stack : List Frame → Option ℕ
@@ -186,13 +179,26 @@ pub record AreFields
   pub place :
       f.place ≡ place_text text (start_on_stack (stack_of (configuration_after t s h) x.thread))
 
--- the moment is that of the call x after h: what is at the top of its thread's stack before it
+-- A device: a call of thread i leads from one configuration to the other, and these are the tops of
+-- its stack before and after it.
+pub record Leads (t : Program) (c d : Configuration) (i : ℕ) (m : Moment) : Type 0 where
+  pub before : MatchOption m.before (stack_of c i ≡ []) (IsTop t c i)
+  pub after : MatchOption m.after (stack_of d i ≡ []) (IsTop t d i)
+  pub next : IsNext c d i
+
+-- the moment is that of the call x after h
 pub record IsMomentOf (t : Program) (s : SetupOf) (h : List Call) (x : Call) (m : Moment)
     : Type 0 where
   pub number : m.number ≡ suc (length h)
   pub call : m.call ≡ x
   pub context : IsContext h x m.context
   pub switch : m.is_switch ≡ is_switch h x
-  pub before :
+  pub leads :
       let now = configuration_after t s h in
-      MatchOption m.before (stack_of now x.thread ≡ []) (IsTop t now x.thread)
+      Leads t now (configuration_after t s (h ++ x ∷ [])) x.thread m
+
+-- A device: the setting has what the lines show of the program and its text.
+pub record IsSettingOf (t : Program) (text : List ℕ) (x : Setting) : Type 0 where
+  pub scenes : AreScenes text t x.scenes.now
+  pub globals : x.globals.now ≡ t.globals
+  pub procedures : x.procs.now ≡ t.procedures

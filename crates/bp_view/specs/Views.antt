@@ -1,5 +1,5 @@
 -- The view of a history of a program: a line for each of its calls that is shown.
-use Rattle.std.specs.Prelude.{◌≡◌, ◌==◌, ◌-◌, ◌&&◌, ℕ, suc, Bool, true, false, nat_lt, List, [], ◌++◌, Option, None, Some, length, map, take, slice_get}
+use Rattle.std.specs.Prelude.{◌≡◌, ◌==◌, ◌-◌, ◌&&◌, ℕ, suc, Bool, true, false, nat_lt, List, [], ◌∷◌, ◌++◌, Option, None, Some, length, map, take, slice_get}
 use Rattle.std.specs.List.{concat}
 use Rattle.bp_tree.specs.Ast.{Program}
 use Rattle.bp_code.specs.Starts.{starts_of}
@@ -14,12 +14,12 @@ use Rattle.bp_trace.specs.Replayed.{IsReplayed}
 use Rattle.bp_view.specs.declared.settings.Widths.{Widths}
 use Rattle.bp_view.specs.declared.writers.ViewWriter.{ViewWriter}
 use Rattle.bp_view.specs.declared.options.ViewOptions.{ViewOptions}
+use Rattle.bp_view.specs.Changes.{changes_text}
 use Rattle.bp_view.specs.Colours.{colour_of}
 use Rattle.bp_view.specs.Heads.{view_head}
-use Rattle.bp_view.specs.Lines.{Adds, Fields, Shown, AreFields, IsLineWith, IsShown}
+use Rattle.bp_view.specs.Lines.{line_text, note_text, Adds, Fields, Shown, AreFields, IsShown, IsSettingOf}
 use Rattle.bp_view.specs.Outcomes.{IsFoot}
 use Rattle.bp_view.specs.Places.{place_text}
-use Rattle.bp_view.specs.Scenes.{AreScenes}
 use Rattle.bp_view.specs.Widths.{AreWidths}
 
 -- calls of thread i are shown
@@ -39,13 +39,21 @@ is_shown o count n i = is_of_thread o.thread i && is_late o.last count n
 -- calls.
 module _
     (t : Program) (text : List ℕ) (s : SetupOf) (o : ViewOptions) (w : Widths) (count : ℕ) where
-  -- the line of the call x after the history h
+  -- what the call x after the history h changed
+  abbrev pub changes_of : List Call → Call → List ℕ
+  changes_of h x =
+      let now = configuration_after t s h in
+      changes_text now (configuration_after t s (h ++ x ∷ [])) x.thread
+
+  -- the line of that call
   pub record IsViewLine (h : List Call) (x : Call) (line : List ℕ) : Type 0 where
     pub fields : Fields
     pub fields_are : AreFields t text s h x fields
     pub shown : Shown
     pub shown_is : IsShown text (stack_of (configuration_after t s h) x.thread) shown
-    pub is : IsLineWith w (colour_of o.has_colour x.reply fields.switch) fields shown x line
+    pub is :
+        let colour = colour_of o.has_colour x.reply fields.switch in
+        line ≡ line_text w colour fields shown (note_text shown.reads x (changes_of h x))
 
   -- that line where it is shown, else nothing
   abbrev pub IsViewLineIf : Bool → List Call → Call → List ℕ → Type 0
@@ -94,6 +102,7 @@ pub record Shows
     (t : Program) (s : SetupOf) (h : List Call) (first now : ViewWriter) : Type 0 where
   pub scenes : now.setting.scenes.now ≡ first.setting.scenes.now
   pub globals : now.setting.globals.now ≡ first.setting.globals.now
+  pub procedures : now.setting.procs.now ≡ first.setting.procs.now
   pub options : now.setting.options ≡ first.setting.options
   pub count : now.setting.count ≡ first.setting.count
   pub widths :
@@ -102,6 +111,6 @@ pub record Shows
   pub last : now.last ≡ last_thread (granted_threads h)
   pub made : now.made ≡ length h
   pub lines : (text : List ℕ)
-      → AreScenes text t now.setting.scenes.now
+      → IsSettingOf t text now.setting
       → Adds (AreLines t text s now.setting.options now.setting.widths now.setting.count h)
       (view_head now.setting.globals.now s) now.view.items

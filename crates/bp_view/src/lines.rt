@@ -1,10 +1,12 @@
 //! The line of a call.
-ghost use Rattle.std.specs.Prelude.{◌≡◌, ◌++◌, codes, decimal, option_map, OnOk};
+ghost use Rattle.std.specs.Prelude.{◌≡◌, ◌++◌, ℕ, List, codes, decimal, option_map, OnOk};
+ghost use Rattle.bp_tree.specs.Ast.{Program};
+ghost use Rattle.bp_code.specs.Configurations.{Configuration};
 ghost use Rattle.bp_text.specs.Columns.{at_right};
-ghost use Rattle.bp_text.specs.OneLine.{AddsOneLine};
+ghost use Rattle.bp_view.specs.Changes.{changes_text};
 ghost use Rattle.bp_view.specs.Colours.{colour_of};
 ghost use Rattle.bp_view.specs.Scenes.{place_of_scene};
-ghost use Rattle.bp_view.specs.Lines.{reply_words, is_tried, choice_text, context_text, fields_of, fields_text, after_room, indented, reads_of_scene, shown_of, text_of_scene, Adds, IsCallText, IsLineWith, IsNote};
+ghost use Rattle.bp_view.specs.Lines.{reply_words, is_tried, call_text, choice_text, context_text, fields_of, fields_text, line_text, note_text, after_room, indented, reads_of_scene, shown_of, text_of_scene, IsSettingOf, Leads};
 
 use crate::changes::push_changes;
 use crate::colours::Colour;
@@ -122,18 +124,24 @@ fn push_changed(
     setting: &Setting<'_>,
     moment: &Moment,
 ) -> Result<(), AllocError>
-    ensures { OnOk result (AddsOneLine note.old.items note.new.items) }
+    ensures { (t : Program) (text : List ℕ) (c d : Configuration) (i : ℕ)
+        → IsSettingOf t text setting.now
+        → Leads t c d i moment.now
+        → OnOk result (note.new.items ≡ note.old.items ++ changes_text c d i) }
 {
-    if let (Some(before), Some(after)) = (moment.before, moment.after) {
-        push_changes(
-            note,
-            setting.scenes,
-            setting.globals,
-            setting.procs,
-            before,
-            after,
-        )?;
-    }
+    let Some(before) = moment.before else {
+        return Ok(());
+    };
+    let Some(after) = moment.after else {
+        return Ok(());
+    };
+    let Setting {
+        scenes,
+        globals,
+        procs,
+        ..
+    } = *setting;
+    push_changes(note, scenes, globals, procs, before, after)?;
     Ok(())
 }
 
@@ -155,8 +163,11 @@ fn write_note(
     scene: Option<&Scene>,
     moment: &Moment,
 ) -> Result<(), AllocError>
-    ensures { let reads = reads_of_scene (option_map (λ s. s.now) scene.entry) in
-        OnOk result (IsNote reads moment.now.call note.new.items) }
+    ensures { (t : Program) (text : List ℕ) (c d : Configuration) (i : ℕ)
+        → IsSettingOf t text setting.now
+        → Leads t c d i moment.now
+        → let reads = reads_of_scene (option_map (λ s. s.now) scene.entry) in
+        OnOk result (note.new.items ≡ note_text reads moment.now.call (changes_text c d i)) }
 {
     note.clear();
     push_choice(note, reads_choice(scene), &moment.call)?;
@@ -195,11 +206,15 @@ fn push_call(
     scene: Option<&Scene>,
     moment: &Moment,
 ) -> Result<(), AllocError>
-    ensures { let place = place_of_scene (option_map (λ s. s.now) scene.entry) in
+    ensures { (t : Program) (text : List ℕ) (c d : Configuration) (i : ℕ)
+        → IsSettingOf t text setting.now
+        → Leads t c d i moment.now
+        → let place = place_of_scene (option_map (λ s. s.now) scene.entry) in
         let fields = fields_of moment.now place in
         let shown = shown_of (option_map (λ s. s.now) scene.entry) moment.now.before in
-        let is_text = IsCallText setting.now.widths fields shown moment.now.call in
-        OnOk result (Adds is_text line.old.items line.new.items) }
+        let note = note_text shown.reads moment.now.call (changes_text c d i) in
+        let text = call_text setting.now.widths fields shown note in
+        OnOk result (line.new.items ≡ line.old.items ++ text) }
 {
     write_note(note, setting, scene, moment)?;
     push_fields(line, setting.widths, moment, place_of(scene))?;
@@ -219,13 +234,17 @@ pub(crate) fn push_line(
     scene: Option<&Scene>,
     moment: &Moment,
 ) -> Result<(), AllocError>
-    ensures { let place = place_of_scene (option_map (λ s. s.now) scene.entry) in
+    ensures { (t : Program) (text : List ℕ) (c d : Configuration) (i : ℕ)
+        → IsSettingOf t text setting.now
+        → Leads t c d i moment.now
+        → let place = place_of_scene (option_map (λ s. s.now) scene.entry) in
         let fields = fields_of moment.now place in
         let wanted = setting.now.options.has_colour in
         let colour = colour_of wanted moment.now.call.reply moment.now.is_switch in
         let shown = shown_of (option_map (λ s. s.now) scene.entry) moment.now.before in
-        let is_line = IsLineWith setting.now.widths colour fields shown moment.now.call in
-        OnOk result (Adds is_line line.old.items line.new.items) }
+        let note = note_text shown.reads moment.now.call (changes_text c d i) in
+        let text = line_text setting.now.widths colour fields shown note in
+        OnOk result (line.new.items ≡ line.old.items ++ text) }
 {
     let has_colour = setting.options.has_colour;
     let colour = Colour::of(has_colour, moment.call.reply, moment.is_switch);

@@ -9,7 +9,7 @@ ghost use Rattle.bp_machine.specs.Histories.{granted_threads};
 ghost use Rattle.bp_machine.specs.Replies.{is_granted};
 ghost use Rattle.bp_machine.specs.Sessions.{Stands};
 ghost use Rattle.bp_trace.specs.OwnCalls.{IsOwnCall, IsOwnRefusal};
-ghost use Rattle.bp_view.specs.Lines.{is_other, IsMomentOf};
+ghost use Rattle.bp_view.specs.Lines.{is_other, is_switch, IsMomentOf};
 
 use bp_machine::{AskFault, Call, Reply, Session, Top};
 
@@ -58,6 +58,15 @@ fn context_of(session: &Session, reply: Reply) -> Option<u32>
     None
 }
 
+/// Whether a call made a step, and the last step was another thread's.
+fn is_switch(last: Option<u32>, call: &Call) -> bool
+    ensures { (h : List Answered)
+        → last ≡ last_thread (granted_threads h)
+        → result ≡ is_switch h call.now }
+{
+    is_step(call.reply) && is_other(last, call.thread)
+}
+
 /// Makes the machine's own call for a recorded one: what was before and after it, where this thread
 /// made the step before.
 pub(crate) fn moment_of(
@@ -90,7 +99,7 @@ pub(crate) fn moment_of(
         number,
         call,
         context: context_of(session, call.reply),
-        is_switch: is_step(call.reply) && is_other(last, call.thread),
+        is_switch: is_switch(last, &call),
         before,
         after: session.top(call.thread),
     })

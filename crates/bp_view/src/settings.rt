@@ -89,6 +89,7 @@ pub(crate) fn setting_of<'a>(
 ) -> Setting<'a>
     ensures scenes { result.scenes.now ≡ scenes.now }
     ensures globals { result.globals.now ≡ checked.now.globals }
+    ensures procedures { result.procs.now ≡ checked.now.procedures }
     ensures count { result.count ≡ count }
     ensures options { result.options ≡ options }
 {

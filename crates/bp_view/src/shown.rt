@@ -6,7 +6,7 @@ ghost use Rattle.bp_machine.specs.declared.calls.Call.{Call as Answered};
 ghost use Rattle.bp_machine.specs.Answers.{stack_of};
 ghost use Rattle.bp_machine.specs.Setups.{SetupOf};
 ghost use Rattle.bp_machine.specs.Tops.{IsTop};
-ghost use Rattle.bp_view.specs.Lines.{shown_of, start_on_stack, Adds, IsMomentOf, IsShown};
+ghost use Rattle.bp_view.specs.Lines.{shown_of, start_on_stack, Adds, IsMomentOf, IsSettingOf, IsShown};
 ghost use Rattle.bp_view.specs.Places.{place_text};
 ghost use Rattle.bp_view.specs.Scenes.{place_of_scene, AreScenes};
 ghost use Rattle.bp_view.specs.Views.{IsShownLine};
@@ -44,7 +44,7 @@ pub(crate) fn push_shown(
     moment: &Moment,
 ) -> Result<(), AllocError>
     ensures { (t : Program) (text : List ℕ) (s : SetupOf) (h : List Answered) (x : Answered)
-        → AreScenes text t setting.now.scenes.now
+        → IsSettingOf t text setting.now
         → IsMomentOf t s h x moment.now
         → let options = setting.now.options in
         let w = setting.now.widths in

@@ -1,9 +1,12 @@
 //! The names of the bits of a store, and their values.
-ghost use Rattle.std.specs.Prelude.{OnOk};
-ghost use Rattle.bp_text.specs.OneLine.{AddsOneLine};
+ghost use Rattle.std.specs.Prelude.{if◌then◌else◌, ◌≡◌, ◌<◌, ◌+◌, ◌^◌, ◌++◌, [], codes, length, map, option_map, OnOk};
+ghost use Rattle.bp_code.specs.Bits.{bits_of};
+ghost use Rattle.bp_code.specs.StandsFor.{valuation_of};
+ghost use Rattle.bp_text.specs.OneLine.{on_one_line};
+ghost use Rattle.bp_view.specs.Changes.{owner_text, slot_text, slots_text, variable_text, variables_text};
 
 use bp_code::Store;
-use bp_text::{push_bytes, push_on_one_line};
+use bp_text::push_on_one_line;
 use bp_tree::{Name, Proc};
 use std::alloc::AllocError;
 
@@ -11,76 +14,106 @@ use std::alloc::AllocError;
 const SLOTS: usize = 128;
 
 /// The bit of a slot, 0 past the word.
-pub(crate) fn bit_of(word: u128, slot: usize) -> bool {
+pub(crate) fn bit_of(word: u128, slot: usize) -> bool
+    ensures { result ≡ bits_of word slot }
+{
     if slot >= SLOTS {
         return false;
     }
     (word >> slot) & 1 == 1
 }
 
-/// Adds the name of a procedure and a dot, where there is a name.
-fn push_owner(line: &mut Vec<u8>, procedure: &[u8]) -> Result<(), AllocError>
-    ensures { OnOk result (AddsOneLine line.old.items line.new.items) }
+/// Adds the name of a local's procedure and a dot; nothing for a global.
+fn push_owner(line: &mut Vec<u8>, owner: Option<&Proc>) -> Result<(), AllocError>
+    ensures { let owner = option_map (λ p. p.now) owner.entry in
+        OnOk result (line.new.items ≡ line.old.items ++ owner_text owner) }
 {
-    if !procedure.is_empty() {
-        push_on_one_line(line, procedure)?;
+    if let Some(proc) = owner {
+        push_on_one_line(line, proc.name().text().as_bytes())?;
         push_on_one_line(line, b".")?;
     }
     Ok(())
 }
 
 /// The sign of equality and the digit of a value.
-fn value_text(value: bool) -> &'static [u8] {
+fn value_text(value: bool) -> &'static [u8]
+    ensures is { result.now ≡ (if value then codes "=1" else codes "=0") }
+    ensures one_line { map on_one_line result.now ≡ result.now }
+{
     if value { b"=1" } else { b"=0" }
 }
 
-/// Adds a value after its name, and after the procedure's where it is that of a local.
+/// Adds a variable and its value; the variable is a local of its owner, or a global.
 pub(crate) fn push_value(
     line: &mut Vec<u8>,
-    procedure: &[u8],
+    owner: Option<&Proc>,
     name: &[u8],
     value: bool,
 ) -> Result<(), AllocError>
-    ensures { OnOk result (AddsOneLine line.old.items line.new.items) }
+    ensures { let owner = option_map (λ p. p.now) owner.entry in
+        OnOk result (line.new.items ≡ line.old.items ++ variable_text owner name.now value) }
 {
     push_on_one_line(line, b" ")?;
-    push_owner(line, procedure)?;
+    push_owner(line, owner)?;
     push_on_one_line(line, name)?;
     push_on_one_line(line, value_text(value))?;
     Ok(())
 }
 
-/// Adds the value of a slot after its name, where the slot is among these bits.
-fn push_slot(
+/// Adds the values of the names, the first of which has slot 0.
+pub(crate) fn push_values(
     line: &mut Vec<u8>,
-    procedure: &[u8],
-    name: &Name,
-    slot: usize,
-    among: u128,
+    owner: Option<&Proc>,
+    names: &[Name],
     word: u128,
 ) -> Result<(), AllocError>
-    ensures { OnOk result (AddsOneLine line.old.items line.new.items) }
+    ensures { let owner = option_map (λ p. p.now) owner.entry in
+        let values = valuation_of names.now (bits_of word) in
+        OnOk result (line.new.items ≡ line.old.items ++ variables_text owner values) }
 {
-    if !bit_of(among, slot) {
-        return Ok(());
+    for (n, name) in names.iter().enumerate() {
+        push_value(line, owner, name.text().as_bytes(), bit_of(word, n))?;
     }
-    push_value(line, procedure, name.text().as_bytes(), bit_of(word, slot))?;
     Ok(())
 }
 
-/// Adds the values of those of the names whose slots, from this one on, are among these bits.
-pub(crate) fn push_values(
+/// Adds a variable and its value after a step, where that differs from its value before.
+fn push_slot(
     line: &mut Vec<u8>,
-    procedure: &[u8],
+    owner: Option<&Proc>,
+    name: &[u8],
+    before: bool,
+    after: bool,
+) -> Result<(), AllocError>
+    ensures { let owner = option_map (λ p. p.now) owner.entry in
+        OnOk result
+        (line.new.items ≡ line.old.items ++ slot_text owner name.now before after) }
+{
+    if before != after {
+        push_value(line, owner, name, after)?;
+    }
+    Ok(())
+}
+
+/// Adds the names whose bits differ in the words before and after a step, with their bits after.
+/// The first name has this slot.
+pub(crate) fn push_differing(
+    line: &mut Vec<u8>,
+    owner: Option<&Proc>,
     names: &[Name],
     first: usize,
-    among: u128,
-    word: u128,
+    before: u128,
+    after: u128,
 ) -> Result<(), AllocError>
-    ensures { OnOk result (AddsOneLine line.old.items line.new.items) }
+    requires { first + length names.now < 2 ^ 64 }
+    ensures { let owner = option_map (λ p. p.now) owner.entry in
+        let values = slots_text owner names.now first (bits_of before) (bits_of after) in
+        OnOk result (line.new.items ≡ line.old.items ++ values) }
 {
     for (n, name) in names.iter().enumerate() {
-        push_slot(line, procedure, name, first.saturating_add(n), among, word)?;
+        let slot = first + n;
+        let text = name.text().as_bytes();
+        push_slot(line, owner, text, bit_of(before, slot), bit_of(after, slot))?;
     }
     Ok(())
 }
@@ -97,21 +130,18 @@ pub(crate) fn push_variable(
     proc: &Proc,
     store: Store,
     name: &[u8],
-) -> Result<(), AllocError>
-    ensures { OnOk result (AddsOneLine line.old.items line.new.items) }
-{
-    let owner = proc.name().text().as_bytes();
+) -> Result<(), AllocError> {
     if let Some(slot) = slot_of(proc.formals(), name) {
-        push_value(line, owner, name, bit_of(store.locals, slot))?;
+        push_value(line, Some(proc), name, bit_of(store.locals, slot))?;
         return Ok(());
     }
     if let Some(slot) = slot_of(proc.locals(), name) {
         let slot = proc.formals().len().saturating_add(slot);
-        push_value(line, owner, name, bit_of(store.locals, slot))?;
+        push_value(line, Some(proc), name, bit_of(store.locals, slot))?;
         return Ok(());
     }
     if let Some(slot) = slot_of(globals, name) {
-        push_value(line, b"", name, bit_of(store.globals, slot))?;
+        push_value(line, None, name, bit_of(store.globals, slot))?;
         return Ok(());
     }
     Ok(())

@@ -1,5 +1,9 @@
-use Rattle.bp_text.specs.OneLine.{AddsOneLine}
+use Rattle.std.proofs.Common.{◌≡◌, ◌++◌, take}
+use Rattle.std.specs.Prelude.{option_map}
+use Rattle.bp_code.specs.Bits.{bits_of}
+use Rattle.bp_code.specs.StandsFor.{valuation_of}
+use Rattle.bp_view.specs.Changes.{variables_text}
 use Rattle.bp_view.proofs.variables.push_values.Given as goal
 
 abbrev pub invariant-loop-n : goal.invariant-loop-n
-invariant-loop-n l = AddsOneLine l.initial.line.items l.line.items
+invariant-loop-n l = l.line.items ≡ l.initial.line.items ++ variables_text (option_map (λ p. p.now) l.owner) (valuation_of (take l.n l.names) (bits_of l.word))

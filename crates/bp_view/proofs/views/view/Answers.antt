@@ -1,6 +1,7 @@
 use Rattle.std.proofs.Common.{◌≡◌, ◌∙◌, ◌++◌, length, ap, refl}
 use Rattle.bp_code.specs.StandsFor.{places_of}
 use Rattle.bp_view.specs.Heads.{view_head}
+use Rattle.bp_view.specs.Lines.{IsSettingOf}
 use Rattle.bp_view.specs.Scenes.{AreScenes}
 use Rattle.bp_view.proofs.LongestPlaces.{places_are}
 use Rattle.bp_view.proofs.views.view.Goals as goal
@@ -13,7 +14,12 @@ returns c =
     let r = c.in_ok-replayed.field-0.replayed in
     let setting = c.in_ok-replayed.field-0.watcher.setting in
     let are : AreScenes text t setting.scenes.now = rw (w.seen.scenes ∙ c.setting_of.ensures.scenes ∙ c.as_slice.ensures.value) c.in_ok-scenes.ensures in
-    let lines = w.seen.lines text are in
+    let known : IsSettingOf t text setting = record {
+      scenes = are;
+      globals = w.seen.globals ∙ c.setting_of.ensures.globals;
+      procedures = w.seen.procedures ∙ c.setting_of.ensures.procedures;
+    } in
+    let lines = w.seen.lines text known in
     let counted = c.calls_at_end-count.ensures t w.replayed.version r.setup r.history.items c.is_in_range.ensures w.replayed.trace in
     let count : setting.count ≡ length r.history.items = w.seen.count ∙ c.setting_of.ensures.count ∙ counted in
     let here = rw (count, w.seen.options, c.setting_of.ensures.options) at lines.more_are in
@@ -27,7 +33,7 @@ returns c =
         foot = c.deref.result.now;
         is = c.in_ok-push_bytes.ensures
             ∙ ap (λ x. x ++ c.deref.result.now) lines.is
-            ∙ ap (λ g. (view_head g r.setup ++ lines.more) ++ c.deref.result.now) (w.seen.globals ∙ c.setting_of.ensures.globals);
+            ∙ ap (λ g. (view_head g r.setup ++ lines.more) ++ c.deref.result.now) known.globals;
         foot_is = rw c.deref.ensures.value c.in_ok-foot.ensures;
         lines_are = here;
       };

@@ -7,6 +7,7 @@ pub returns : goal.returns
 returns c = λ t. record {
   scenes = refl;
   globals = refl;
+  procedures = refl;
   options = refl;
   widths = c.widths_of-self.ensures;
   count = refl;

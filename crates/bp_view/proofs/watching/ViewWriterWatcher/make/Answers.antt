@@ -18,6 +18,7 @@ returns-clause-sees c = λ first t h is stands shows.
     record {
       scenes = shows.scenes;
       globals = shows.globals;
+      procedures = shows.procedures;
       options = shows.options;
       widths = shows.widths;
       count = shows.count;

@@ -1,0 +1,78 @@
+-- What a call changed, as its note says it.
+use Rattle.std.specs.Prelude.{if◌then◌else◌, ◌≡◌, ◌==◌, ℕ, suc, Bool, nat_lt, List, [], ◌∷◌, ◌++◌, Option, None, Some, codes, length, map, take}
+use Rattle.bp_tree.specs.Ast.{Name, Procedure}
+use Rattle.bp_code.specs.Configurations.{Frame, Configuration}
+use Rattle.bp_code.specs.Steps.{Bits}
+use Rattle.bp_code.specs.Values.{Valuation, same_bit}
+use Rattle.bp_machine.specs.Answers.{stack_of}
+use Rattle.bp_text.specs.OneLine.{on_one_line}
+
+-- the procedure of a local, and a dot; a global has none
+abbrev pub owner_text : Option Procedure → List ℕ
+owner_text None = []
+owner_text (Some p) = map on_one_line p.name.text ++ codes "."
+
+-- a variable with its value
+abbrev pub variable_text : Option Procedure → List ℕ → Bool → List ℕ
+variable_text owner name value =
+    codes " "
+    ++ owner_text owner
+    ++ map on_one_line name
+    ++ (if value then codes "=1" else codes "=0")
+
+abbrev pub variables_text : Option Procedure → Valuation → List ℕ
+variables_text owner [] = []
+variables_text owner (x ∷ xs) = variable_text owner x.0 x.1 ++ variables_text owner xs
+
+-- the variables whose values before and after differ, with their values after; both have the same
+-- names
+abbrev pub changed : (before after : Valuation) → Valuation
+changed [] after = []
+changed (x ∷ xs) [] = []
+changed (x ∷ xs) (y ∷ ys) = if same_bit x.1 y.1 then changed xs ys else y ∷ changed xs ys
+
+-- the formals of a frame
+abbrev pub arguments_of : Frame → Valuation
+arguments_of f = take (length f.procedure.formals) f.locals
+
+-- what a call changed in the frame at the top of a stack, by the depths before and after it: the
+-- formals of a procedure that it entered, or the locals that have other values; nothing after a
+-- return
+abbrev pub frame_changes : Frame → Frame → (depth_before depth_after : ℕ) → List ℕ
+frame_changes f g m n =
+    if nat_lt m n then variables_text (Some g.procedure) (arguments_of g)
+    else if m == n then variables_text (Some g.procedure) (changed f.locals g.locals)
+    else []
+
+abbrev pub stack_changes : (before after : List Frame) → List ℕ
+stack_changes [] after = []
+stack_changes (f ∷ fs) [] = []
+stack_changes (f ∷ fs) (g ∷ gs) = frame_changes f g (length (f ∷ fs)) (length (g ∷ gs))
+
+-- what a call of thread i changed: the globals, and the top of its stack
+abbrev pub changes_text : (before after : Configuration) → ℕ → List ℕ
+changes_text c d i =
+    variables_text None (changed c.globals d.globals)
+    ++ stack_changes (stack_of c i) (stack_of d i)
+
+-- A device: the same of names whose slots begin with this one.
+abbrev pub slot_text : Option Procedure → List ℕ → (before after : Bool) → List ℕ
+slot_text owner name a b = if same_bit a b then [] else variable_text owner name b
+
+abbrev pub slots_text : Option Procedure → List Name → ℕ → (before after : Bits) → List ℕ
+slots_text owner [] first a b = []
+slots_text owner (x ∷ xs) first a b =
+    slot_text owner x.text (a first) (b first) ++ slots_text owner xs (suc first) a b
+
+-- A device: where the stacks have the same depth, their top frames are of the same procedure.
+abbrev pub IsSameCall : (before after : List Frame) → Type 0
+IsSameCall [] after = Unit {0}
+IsSameCall (f ∷ fs) [] = Unit {0}
+IsSameCall (f ∷ fs) (g ∷ gs) = length (f ∷ fs) ≡ length (g ∷ gs) → f.procedure ≡ g.procedure
+
+-- A device: so it is with the stacks of thread i, and a call without a stack before or after it
+-- changes no global.
+pub record IsNext (c d : Configuration) (i : ℕ) : Type 0 where
+  pub call : IsSameCall (stack_of c i) (stack_of d i)
+  pub idle : stack_of c i ≡ [] → d.globals ≡ c.globals
+  pub ended : stack_of d i ≡ [] → d.globals ≡ c.globals
