@@ -1,0 +1,3 @@
+pub mod Blocking
+pub mod Playing
+pub mod RunsOfTests

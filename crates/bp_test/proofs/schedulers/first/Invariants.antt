@@ -1,0 +1,6 @@
+use Rattle.std.proofs.Common.{ℕ, ◌<◌}
+use Rattle.bp_test.specs.Resting.{RestsIn}
+use Rattle.bp_test.proofs.schedulers.first.Given as goal
+
+abbrev pub invariant-loop-thread : goal.invariant-loop-thread
+invariant-loop-thread l = (i : ℕ) → i < l.thread → RestsIn l.session i

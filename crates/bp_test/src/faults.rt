@@ -1,0 +1,52 @@
+//! Why a test is not finished.
+use bp_text::WriteFault;
+use std::alloc::AllocError;
+use thiserror::Error;
+
+/// Why a test is not finished.
+#[derive(Clone, Copy, Debug, PartialEq, Eq, Error)]
+pub enum TestFault {
+    /// There was not enough memory.
+    #[error("out of memory")]
+    Memory,
+    /// The trace could not be written whole.
+    #[error("the output could not be written")]
+    Write,
+}
+
+impl TestFault {
+    ghost use Rattle.std.specs.Prelude.{◌≡◌};
+    ghost use Rattle.bp_test.specs.Tests.{test_fault_number};
+
+    /// The number by which users know the fault.
+    pub fn number(&self) -> u32
+        ensures { result ≡ test_fault_number self.now }
+    {
+        match self {
+            TestFault::Memory => 7,
+            TestFault::Write => 51,
+        }
+    }
+}
+
+impl From<AllocError> for TestFault {
+    ghost use Rattle.std.specs.Prelude.{◌≡◌};
+    ghost use Rattle.bp_test.specs.declared.faults.TestFault.{TestFault};
+
+    ghost from_gives = { λ _ e. e ≡ TestFault.Memory };
+
+    fn from(_: AllocError) -> TestFault {
+        TestFault::Memory
+    }
+}
+
+impl From<WriteFault> for TestFault {
+    ghost use Rattle.std.specs.Prelude.{◌≡◌};
+    ghost use Rattle.bp_test.specs.declared.faults.TestFault.{TestFault};
+
+    ghost from_gives = { λ _ e. e ≡ TestFault.Write };
+
+    fn from(_: WriteFault) -> TestFault {
+        TestFault::Write
+    }
+}

@@ -1,0 +1,16 @@
+//! Testing: runs of a program one after the other, whose schedules are drawn by seeds, until an
+//! assertion fails.
+#![tactic(auto)]
+
+mod blocks;
+mod faults;
+mod plans;
+mod runs;
+mod schedulers;
+mod testing;
+mod waiting;
+
+pub use blocks::{FailedRun, first_failure};
+pub use faults::TestFault;
+pub use plans::Plan;
+pub use testing::{Found, test};

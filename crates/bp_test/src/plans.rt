@@ -1,0 +1,52 @@
+//! What the runs of a test are made from.
+ghost use Rattle.std.specs.Prelude.{◌≡◌, IfOk};
+ghost use Rattle.bp_machine.specs.Setups.{FitsCode};
+
+use crate::runs::run_once;
+use bp_code::Code;
+use bp_machine::{Session, Setup};
+use std::alloc::{AllocError, Global};
+
+/// How many pilots there are.
+const PILOTS: u64 = 64;
+
+/// The first seed, and how many calls runs of the program make.
+#[derive(Drop)]
+pub struct Plan {
+    /// The seed of run 0. Each other run has the seed after that of the run before it.
+    pub seed: u64,
+    /// The lengths of pilots, over which the switches of runs are spread.
+    pub lengths: Vec<u64>,
+}
+
+/// Whether a thread made all calls that it may make.
+fn is_cut_off(session: &Session) -> bool {
+    let setup = session.setup();
+    for thread in 0..setup.threads() {
+        if session.calls_of(thread) >= setup.calls() {
+            return true;
+        }
+    }
+    false
+}
+
+impl Plan {
+    /// The plan of the runs with this seed and those after it. It makes pilots: runs with the first
+    /// 64 of these seeds, whose switches are spread over powers of two. The lengths of those that
+    /// were cut off by the allowed calls are not kept.
+    pub fn new(alloc: Global, code: &Code, setup: &Setup, seed: u64) -> Result<Plan, AllocError>
+        requires { FitsCode code.now setup.now }
+        ensures { IfOk result (λ p. p.seed ≡ seed) }
+    {
+        let mut session = Session::new(alloc, code, setup)?;
+        let mut history = Vec::new(alloc);
+        let mut lengths = Vec::new(alloc);
+        for pilot in 0..PILOTS {
+            session = run_once(session, seed.wrapping_add(pilot), &[], &mut history)?;
+            if !is_cut_off(&session) {
+                lengths.push(history.len() as u64)?;
+            }
+        }
+        Ok(Plan { seed, lengths })
+    }
+}

@@ -1,0 +1,82 @@
+//! Runs: histories of a seed and of the schedule that is drawn by it.
+ghost use Rattle.std.specs.Prelude.{◌≡◌, ◌<◌, ◌+◌, [], true, length, Some, IfOk, OnOk};
+ghost use Rattle.bp_tree.specs.Ast.{Program};
+ghost use Rattle.bp_code.specs.Programs.{IsOfProgram};
+ghost use Rattle.bp_code.specs.StandsFor.{StandsFor};
+ghost use Rattle.bp_machine.specs.Reports.{outcome_of, is_failure};
+ghost use Rattle.bp_machine.specs.Sessions.{StandsForAll};
+ghost use Rattle.bp_machine.specs.Setups.{FitsCode};
+ghost use Rattle.bp_test.specs.Resting.{IsOver};
+
+use crate::schedulers::Scheduler;
+use bp_machine::{Call, Reply, Session};
+use std::alloc::AllocError;
+
+/// Makes a call of a thread, and keeps it.
+fn play(session: &mut Session, history: &mut Vec<Call>, thread: u32) -> Result<Reply, AllocError>
+    requires { StandsForAll session.old history.old.items }
+    ensures stands { OnOk result (StandsForAll session.new history.new.items) }
+    ensures longer { OnOk result (length history.new.items ≡ length history.old.items + 1) }
+    ensures failed { IfOk result (λ r.
+        r ≡ Reply.Failed
+        → is_failure (outcome_of history.new.items) ≡ true) }
+    ensures kept { (session.new.code ≡ session.old.code) × (session.new.setup ≡ session.old.setup) }
+{
+    // The thread is one that may step, and the setup has a seed.
+    let Ok(call) = session.ask(thread) else {
+        return Err(AllocError);
+    };
+    history.push(call)?;
+    Ok(call.reply)
+}
+
+/// Makes calls by the schedule, on a session before any call, until an assertion fails or each
+/// thread rests.
+fn follow(
+    session: &mut Session,
+    scheduler: &mut Scheduler,
+    history: &mut Vec<Call>,
+) -> Result<(), AllocError>
+    requires program { IsOfProgram session.old.code }
+    requires stands { StandsForAll session.old [] }
+    ensures stands { OnOk result (StandsForAll session.new history.new.items) }
+    ensures over { OnOk result
+        ((t : Program)
+        → StandsFor session.new.code t
+        → IsOver t session.new.setup history.new.items) }
+    ensures kept { (session.new.code ≡ session.old.code) × (session.new.setup ≡ session.old.setup) }
+{
+    history.clear();
+    loop {
+        let Some(thread) = scheduler.next(session) else {
+            return Ok(());
+        };
+        if play(session, history, thread)? == Reply::Failed {
+            return Ok(());
+        }
+    }
+}
+
+/// Makes a run with this seed, in the memory of an earlier one. The switches of its schedule are
+/// spread over one of these lengths.
+pub(crate) fn run_once(
+    session: Session,
+    seed: u64,
+    lengths: &[u64],
+    history: &mut Vec<Call>,
+) -> Result<Session, AllocError>
+    requires { FitsCode session.code session.setup }
+    ensures stands { IfOk result (λ x. StandsForAll x history.new.items) }
+    ensures over { IfOk result (λ x.
+        (t : Program)
+        → StandsFor x.code t
+        → IsOver t x.setup history.new.items) }
+    ensures code { IfOk result (λ x. x.code ≡ session.code) }
+    ensures setup { IfOk result (λ x. x.setup ≡ record session.setup { seed = Some seed }) }
+{
+    let mut session = session.restarted(Some(seed))?;
+    session.code().is_of_a_program();
+    let mut scheduler = Scheduler::new(seed, session.setup(), lengths);
+    follow(&mut session, &mut scheduler, history)?;
+    Ok(session)
+}
