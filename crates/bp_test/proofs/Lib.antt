@@ -1,3 +1,4 @@
 pub mod Blocking
 pub mod Playing
 pub mod RunsOfTests
+pub mod Shrunk

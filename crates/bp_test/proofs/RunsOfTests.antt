@@ -1,5 +1,5 @@
 -- What a run adds to a test.
-use Rattle.std.proofs.Common.{◌≡◌, ◌≢◌, ℕ, ◌+◌, ◌<◌, ◌%◌, ◌^◌, Bool, true, false, List, Option, None, Some, refl, ap, sym, ◌∙◌, subst, arith, inl, inr}
+use Rattle.std.proofs.Common.{◌≡◌, ◌≢◌, ℕ, ◌+◌, ◌<◌, ◌%◌, ◌^◌, Bool, true, false, List, Option, None, Some, IfSome, refl, ap, sym, ◌∙◌, subst, arith, inl, inr}
 use Rattle.bp_tree.specs.Ast.{Program}
 use Rattle.bp_code.specs.Flat.{Flat}
 use Rattle.bp_code.specs.StandsFor.{StandsFor}
@@ -15,6 +15,7 @@ use Rattle.bp_machine.proofs.StandsAfterCall.{same_or_not}
 use Rattle.bp_machine.proofs.GrantedSteps.{within as within_contexts}
 use Rattle.bp_text.specs.Writing.{AppendsAll, AppendsPart}
 use Rattle.bp_trace.specs.TraceText.{trace_text}
+use Rattle.bp_test.specs.Failing.{FailsAt}
 use Rattle.bp_test.specs.Resting.{EachRests, IsOver}
 use Rattle.bp_test.specs.declared.blocks.FailedRun.{FailedRun}
 use Rattle.bp_test.specs.Tests.{setup_of_run, IsSample, IsCleanSample, IsFailedSample, HasCleanRuns, IsFirstFailure, IsFailedRun, IsWrittenRun, IsCutRun}
@@ -80,6 +81,10 @@ module _ (c : Flat) (s : SetupOf) (seed run : ℕ) (old x : SessionOf) (h : List
       failed = outcome_is t is ∙ e;
       report = subst (λ z. IsReport z h r) setup_is (counts t h (stands t (own_program t is)));
     }
+
+  -- and where that is
+  pub fails_there : StandsForAll x h → (t : Program) → StandsFor c t → (number : Option ℕ) → ((u : Program) (g : List Call) → StandsFor x.code u → Stands u x g → IfSome number (FailsAt u x.setup g)) → IfSome number (FailsAt t (setup_of_run s seed run) h)
+  fails_there stands t is number fails = subst (λ z. IfSome number (FailsAt t z h)) setup_is (fails t h (own_program t is) (stands t (own_program t is)))
 
 -- what the first failure among all runs says of a test
 module _ (t : Program) (s : SetupOf) (seed runs : ℕ) where

@@ -1,2 +1,4 @@
+pub mod Failing
 pub mod Resting
+pub mod Shrinks
 pub mod Tests

@@ -1,5 +1,5 @@
 -- What a test of a program finds.
-use Rattle.std.specs.Prelude.{◌≡◌, ◌<◌, ◌≤◌, ◌+◌, ◌%◌, ◌^◌, ℕ, true, List, Option, None, Some}
+use Rattle.std.specs.Prelude.{◌≡◌, ◌<◌, ◌≤◌, ◌+◌, ◌%◌, ◌^◌, ℕ, true, List, Option, None, Some, IfSome}
 use Rattle.bp_tree.specs.Ast.{Program}
 use Rattle.bp_text.specs.Writing.{AppendsAll, AppendsPart}
 use Rattle.bp_machine.specs.declared.calls.Call.{Call}
@@ -16,6 +16,7 @@ use Rattle.bp_test.specs.declared.faults.TestFault.{TestFault}
 use Rattle.bp_test.specs.declared.faults.TestFault.TheVariants as fault
 use Rattle.bp_test.specs.declared.testing.Found.{Found}
 use Rattle.bp_test.specs.declared.testing.Found.TheVariants as found
+use Rattle.bp_test.specs.Failing.{FailsAt}
 use Rattle.bp_test.specs.Resting.{EachRests}
 
 -- the number of a fault
@@ -56,6 +57,7 @@ pub record IsFailedRun (t : Program) (s : SetupOf) (seed from to : ℕ) (f : Fai
   pub among : (from ≤ f.run) × (f.run < to)
   pub others : HasCleanRuns t s seed from f.run
   pub failed : IsFailedSample t (setup_of_run s seed f.run) f.history.items f.report
+  pub at : IfSome f.number (FailsAt t (setup_of_run s seed f.run) f.history.items)
 
 -- what was found among these runs
 abbrev pub IsFirstFailure : Program → SetupOf → ℕ → ℕ → ℕ → Option FailedRun → Type 0

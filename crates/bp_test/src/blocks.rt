@@ -5,6 +5,7 @@ ghost use Rattle.bp_code.specs.StandsFor.{StandsFor};
 ghost use Rattle.bp_machine.specs.Setups.{FitsCode};
 ghost use Rattle.bp_test.specs.Tests.{IsFirstFailure};
 
+use crate::failing::failed_instruction;
 use crate::plans::Plan;
 use crate::runs::run_once;
 use bp_code::Code;
@@ -20,6 +21,8 @@ pub struct FailedRun {
     pub history: Vec<Call>,
     /// The report of that history.
     pub report: Report,
+    /// The number of the instruction whose assertion failed.
+    pub number: Option<u32>,
 }
 
 /// Makes the runs of a plan from `from` to before `to`, until an assertion fails, and answers that
@@ -45,10 +48,12 @@ pub fn first_failure(
         session = run_once(session, seed, plan.lengths.as_slice(), &mut history)?;
         if session.is_failed() {
             let report = session.report();
+            let number = failed_instruction(&session);
             return Ok(Some(FailedRun {
                 run,
                 history,
                 report,
+                number,
             }));
         }
     }

@@ -3,14 +3,18 @@
 #![tactic(auto)]
 
 mod blocks;
+mod candidates;
+mod failing;
 mod faults;
 mod plans;
 mod runs;
 mod schedulers;
+mod shrinking;
 mod testing;
 mod waiting;
 
 pub use blocks::{FailedRun, first_failure};
 pub use faults::TestFault;
 pub use plans::Plan;
+pub use shrinking::shrink;
 pub use testing::{Found, test};

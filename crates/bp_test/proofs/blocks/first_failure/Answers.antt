@@ -1,5 +1,5 @@
 use Rattle.std.proofs.Common.{◌∙◌, refl, arith}
-use Rattle.bp_test.proofs.RunsOfTests.{fits_again, reseeded, clean_more, failed_sample}
+use Rattle.bp_test.proofs.RunsOfTests.{fits_again, reseeded, clean_more, failed_sample, fails_there}
 use Rattle.bp_test.proofs.blocks.first_failure.Goals as goal
 
 pub run_once-requires : goal.run_once-requires
@@ -14,6 +14,8 @@ returns-then-is_failed c = λ t is.
       others = before.clean t is;
       failed = failed_sample c.args.code.now c.args.setup.now c.args.plan.now.seed c.loop-run.run c.loop-run.session now.session c.run_once.new.history.items _ refl before.code before.setup now.ensures.code now.ensures.setup
           now.ensures.stands c.is_failed.result c.is_failed.ensures c.if-is_failed.true t is c.report-report.result c.report-report.ensures;
+      at = fails_there c.args.code.now c.args.setup.now c.args.plan.now.seed c.loop-run.run c.loop-run.session now.session c.run_once.new.history.items _ refl before.code before.setup now.ensures.code now.ensures.setup
+          now.ensures.stands t is c.failed_instruction-number.result c.failed_instruction-number.ensures;
     }
 
 pub loop-run-preserved : goal.loop-run-preserved
