@@ -2,3 +2,4 @@ pub mod Blocking
 pub mod Playing
 pub mod RunsOfTests
 pub mod Shrunk
+pub mod Unseeded

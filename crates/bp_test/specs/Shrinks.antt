@@ -1,5 +1,5 @@
 -- Histories that fail where another one does, and are no longer.
-use Rattle.std.specs.Prelude.{◌≡◌, ◌≤◌, ℕ, List, Option, length, IfSome}
+use Rattle.std.specs.Prelude.{◌≡◌, ◌≤◌, ℕ, List, Option, None, length, IfSome}
 use Rattle.bp_tree.specs.Ast.{Program}
 use Rattle.bp_machine.specs.declared.calls.Call.{Call}
 use Rattle.bp_machine.specs.declared.reports.Report.{Report}
@@ -22,6 +22,10 @@ pub record IsNoMore (d : Driven) (report : Report) (number : Option ℕ) : Type 
   pub number_is : d.number ≡ number
   pub calls : d.report.calls ≤ report.calls
   pub contexts : d.report.contexts ≤ report.contexts
+
+-- the same setup without a seed
+abbrev pub unseeded : SetupOf → SetupOf
+unseeded s = record s { seed = None }
 
 -- g is a legal history with the outcome of h, which fails at the instruction of this number, if
 -- one is known, by no more calls and no more contexts

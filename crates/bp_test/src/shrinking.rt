@@ -8,7 +8,7 @@ ghost use Rattle.bp_machine.specs.Histories.{IsLegal};
 ghost use Rattle.bp_machine.specs.Reports.{IsReport};
 ghost use Rattle.bp_machine.specs.Setups.{FitsCode};
 ghost use Rattle.bp_test.specs.Failing.{FailsAt};
-ghost use Rattle.bp_test.specs.Shrinks.{IsDriven, IsNoMore, IsShrunk};
+ghost use Rattle.bp_test.specs.Shrinks.{IsDriven, IsNoMore, IsShrunk, unseeded};
 
 use crate::candidates::{Change, candidate};
 use crate::failing::failed_instruction;
@@ -141,11 +141,8 @@ fn improve_by_all(
     Ok(pieces || merges || calls)
 }
 
-/// A history that fails where this one does, by no more calls and no more contexts: pieces are left
-/// out or moved to an earlier piece of their thread, and single calls are left out, as long as that
-/// makes it better. The setup has no seed, since the calls keep their bits. `number` is that of the
-/// instruction whose assertion failed, if it is known.
-pub fn shrink(
+/// The same in a setup without a seed.
+fn shrink_unseeded(
     alloc: Global,
     code: &Code,
     setup: &Setup,
@@ -175,4 +172,31 @@ pub fn shrink(
         }
     }
     Ok(best.history)
+}
+
+/// A history that fails where this one does, by no more calls and no more contexts: pieces are left
+/// out or moved to an earlier piece of their thread, and single calls are left out, as long as that
+/// makes it better. The calls keep their bits, so the setup of what is answered has no seed. `number` is
+/// that of the instruction whose assertion failed, if it is known.
+pub fn shrink(
+    alloc: Global,
+    code: &Code,
+    setup: &Setup,
+    history: &[Call],
+    report: &Report,
+    number: Option<u32>,
+) -> Result<Vec<Call>, AllocError>
+    requires fits { FitsCode code.now setup.now }
+    requires legal { (t : Program) → StandsFor code.now t → IsLegal t setup.now history.now }
+    requires report { IsReport setup.now history.now report.now }
+    requires fails { (t : Program)
+        → StandsFor code.now t
+        → IfSome number (FailsAt t setup.now history.now) }
+    ensures { IfOk result (λ g.
+        (t : Program)
+        → StandsFor code.now t
+        → IsShrunk t (unseeded setup.now) history.now number g.items) }
+{
+    let setup = setup.try_copy()?.with_seed(None);
+    shrink_unseeded(alloc, code, &setup, history, report, number)
 }

@@ -1,7 +1,7 @@
 use Rattle.bp_tree.specs.Ast.{Program}
 use Rattle.bp_code.specs.StandsFor.{StandsFor}
 use Rattle.bp_test.specs.Shrinks.{IsDriven, IsNoMore}
-use Rattle.bp_test.proofs.shrinking.shrink.Given as goal
+use Rattle.bp_test.proofs.shrinking.shrink_unseeded.Given as goal
 
 abbrev pub invariant-loop : goal.invariant-loop
 invariant-loop l = record {
