@@ -18,6 +18,7 @@ use Rattle.bp_text.specs.Columns.{at_left, at_right, spaces}
 use Rattle.bp_view.specs.declared.colours.Colour.{Colour}
 use Rattle.bp_view.specs.declared.moments.Moment.{Moment}
 use Rattle.bp_view.specs.declared.settings.Setting.{Setting}
+use Rattle.bp_view.specs.declared.settings.TheConstants.{MAX_INDENTS}
 use Rattle.bp_view.specs.declared.settings.Widths.{Widths}
 use Rattle.bp_text.specs.OneLine.{IsOneLine}
 use Rattle.bp_view.specs.Changes.{IsNext}
@@ -125,7 +126,7 @@ start_on_stack (f ∷ fs) = start_of_block f.left
 
 -- words after two columns for each frame of a stack, for so many frames at most
 abbrev pub indented : (depth : ℕ) → List ℕ → List ℕ
-indented depth words = spaces (2 * min depth 8) ++ words
+indented depth words = spaces (2 * min depth MAX_INDENTS) ++ words
 
 -- the statement that a frame has next, or its procedure's end, at this depth of a stack
 pub record IsShownAt (text : List ℕ) (f : Frame) (depth : ℕ) (shown : Shown) : Type 0 where

@@ -42,6 +42,14 @@ AreScenesAt text ps xs scenes = ⊥
 abbrev pub AreScenes : List ℕ → Program → List Scene → Type 0
 AreScenes text t scenes = AreScenesAt text t.procedures (places_of t.procedures) scenes
 
+-- these are the words of the statements of these places, or of procedures' ends
+abbrev pub AreStatements : List ℕ → List Place → List (List ℕ) → Type 0
+AreStatements text [] [] = Unit {0}
+AreStatements text (x ∷ xs) (words ∷ rest) =
+    ((reads : Bool) × IsStatementAt text x.procedure (start_of_block x.left) words reads)
+    × AreStatements text xs rest
+AreStatements text xs rest = ⊥
+
 -- the place that is printed of a scene, and a sign where there is none
 abbrev pub place_of_scene : Option Scene → List ℕ
 place_of_scene None = codes "-"

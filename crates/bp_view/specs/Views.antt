@@ -2,6 +2,7 @@
 use Rattle.std.specs.Prelude.{◌≡◌, ◌==◌, ◌-◌, ◌&&◌, ℕ, suc, Bool, true, false, nat_lt, List, [], ◌∷◌, ◌++◌, Option, None, Some, length, map, take, slice_get}
 use Rattle.std.specs.List.{concat}
 use Rattle.bp_tree.specs.Ast.{Program}
+use Rattle.bp_code.specs.StandsFor.{places_of}
 use Rattle.bp_code.specs.Starts.{starts_of}
 use Rattle.bp_machine.specs.declared.calls.Call.{Call}
 use Rattle.bp_machine.specs.declared.reports.Report.{Report}
@@ -20,7 +21,8 @@ use Rattle.bp_view.specs.Heads.{view_head}
 use Rattle.bp_view.specs.Lines.{line_text, note_text, Adds, Fields, Shown, AreFields, IsShown, IsSettingOf}
 use Rattle.bp_view.specs.Outcomes.{IsFoot}
 use Rattle.bp_view.specs.Places.{place_text}
-use Rattle.bp_view.specs.Widths.{AreWidths}
+use Rattle.bp_view.specs.Scenes.{AreStatements}
+use Rattle.bp_view.specs.Widths.{extent, extent_of, AreWidths}
 
 -- calls of thread i are shown
 abbrev pub is_of_thread : Option ℕ → ℕ → Bool
@@ -80,7 +82,11 @@ pub record IsView
     (view : List ℕ)
     : Type 0 where
   pub widths : Widths
-  pub widths_are : AreWidths s (length h) (map (place_text text) (starts_of t)) widths
+  pub statements : List (List ℕ)
+  pub statements_are : AreStatements text (places_of t.procedures) statements
+  pub widths_are :
+      let places = map (place_text text) (starts_of t) in
+      AreWidths s (extent (length h) places statements (length t.procedures)) widths
   pub lines : List ℕ
   pub foot : List ℕ
   pub is : view ≡ view_head t.globals s ++ lines ++ foot
@@ -105,9 +111,7 @@ pub record Shows
   pub procedures : now.setting.procs.now ≡ first.setting.procs.now
   pub options : now.setting.options ≡ first.setting.options
   pub count : now.setting.count ≡ first.setting.count
-  pub widths :
-      let places = map (λ x. x.place.items) now.setting.scenes.now in
-      AreWidths s now.setting.count places now.setting.widths
+  pub widths : AreWidths s (extent_of now.setting) now.setting.widths
   pub last : now.last ≡ last_thread (granted_threads h)
   pub made : now.made ≡ length h
   pub lines : (text : List ℕ)

@@ -1,6 +1,8 @@
 -- How wide the columns of a view are: one width of each for all its lines.
-use Rattle.std.specs.Prelude.{◌≡◌, ℕ, List, [], ◌∷◌, length, max, decimal}
+use Rattle.std.specs.Prelude.{◌≡◌, ◌+◌, ◌*◌, ℕ, List, [], ◌∷◌, length, map, max, min, decimal}
 use Rattle.bp_machine.specs.Setups.{SetupOf, threads}
+use Rattle.bp_view.specs.declared.settings.Setting.{Setting}
+use Rattle.bp_view.specs.declared.settings.TheConstants.{MAX_INDENTS}
 use Rattle.bp_view.specs.declared.settings.Widths.{Widths}
 
 -- the length of the longest of these texts
@@ -8,12 +10,36 @@ abbrev pub longest : List (List ℕ) → ℕ
 longest [] = 0
 longest (x ∷ xs) = max (length x) (longest xs)
 
--- The widths of a view of this many calls, whose statements have these places: those of the
--- greatest number of a call, of the number of threads, of the limit of the contexts, and of the
--- longest place.
-pub record AreWidths (s : SetupOf) (count : ℕ) (places : List (List ℕ)) (w : Widths)
-    : Type 0 where
-  pub number : w.number ≡ length (decimal count)
+-- What the widths of a view follow from: its number of calls, the places and the words of the
+-- statements of its program, and the number of its procedures.
+pub record Extent : Type 0 where
+  pub calls : ℕ
+  pub places : List (List ℕ)
+  pub statements : List (List ℕ)
+  pub procedures : ℕ
+
+abbrev pub extent : ℕ → List (List ℕ) → List (List ℕ) → ℕ → Extent
+extent calls places statements procedures =
+    record {
+      calls = calls;
+      places = places;
+      statements = statements;
+      procedures = procedures;
+    }
+
+-- The widths of a view: those of the greatest number of a call, of the number of threads, of the
+-- limit of the contexts, and of the longest place. The notes begin after the longest statement,
+-- where it is moved by two columns for each procedure, up to the most by which one is moved.
+pub record AreWidths (s : SetupOf) (e : Extent) (w : Widths) : Type 0 where
+  pub number : w.number ≡ length (decimal e.calls)
   pub thread : w.thread ≡ length (decimal (threads s))
   pub context : w.context ≡ length (decimal s.contexts)
-  pub place : w.place ≡ max 1 (longest places)
+  pub place : w.place ≡ max 1 (longest e.places)
+  pub words : w.words ≡ longest e.statements + 2 * min e.procedures MAX_INDENTS
+
+-- a device: the extent that the code reads from its setting
+abbrev pub extent_of : Setting → Extent
+extent_of x =
+    let places = map (λ s. s.place.items) x.scenes.now in
+    let statements = map (λ s. s.excerpt.words.items) x.scenes.now in
+    extent x.count places statements (length x.procs.now)

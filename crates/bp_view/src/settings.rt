@@ -1,7 +1,7 @@
 //! What the lines of a view have in common: the program's scenes and names, and the widths of the
 //! columns.
-ghost use Rattle.std.specs.Prelude.{◌≡◌, map, max};
-ghost use Rattle.bp_view.specs.Widths.{longest, AreWidths};
+ghost use Rattle.std.specs.Prelude.{◌≡◌, ◌<◌, ◌^◌, map, max};
+ghost use Rattle.bp_view.specs.Widths.{extent_of, longest, AreWidths};
 
 use crate::options::ViewOptions;
 use crate::scenes::Scene;
@@ -57,8 +57,11 @@ fn longest_place(scenes: &[Scene]) -> usize
 }
 
 /// The length of the longest statement that is printed.
-fn longest_words(scenes: &[Scene]) -> usize {
-    let mut longest = 0;
+fn longest_words(scenes: &[Scene]) -> usize
+    ensures is { result ≡ longest (map (λ s. s.excerpt.words.items) scenes.now) }
+    ensures fits { result < 2 ^ 63 }
+{
+    let mut longest: usize = 0;
     for scene in scenes {
         longest = longest.max(scene.excerpt.words.len());
     }
@@ -67,8 +70,7 @@ fn longest_words(scenes: &[Scene]) -> usize {
 
 /// The widths of the columns of a view with this setting, in this setup.
 pub(crate) fn widths_of(setting: &Setting<'_>, setup: &Setup) -> Widths
-    ensures { let places = map (λ s. s.place.items) setting.now.scenes.now in
-        AreWidths setup.now setting.now.count places result }
+    ensures { AreWidths setup.now (extent_of setting.now) result }
 {
     let indents = 2 * setting.procs.len().min(MAX_INDENTS);
     Widths {
@@ -76,7 +78,7 @@ pub(crate) fn widths_of(setting: &Setting<'_>, setup: &Setup) -> Widths
         thread: digits(u64::from(setup.threads())),
         context: digits(u64::from(setup.contexts())),
         place: longest_place(setting.scenes),
-        words: longest_words(setting.scenes).saturating_add(indents),
+        words: longest_words(setting.scenes) + indents,
     }
 }
 

@@ -3,7 +3,7 @@ use Rattle.bp_code.specs.StandsFor.{places_of}
 use Rattle.bp_view.specs.Heads.{view_head}
 use Rattle.bp_view.specs.Lines.{IsSettingOf}
 use Rattle.bp_view.specs.Scenes.{AreScenes}
-use Rattle.bp_view.proofs.LongestPlaces.{places_are}
+use Rattle.bp_view.proofs.LongestPlaces.{places_are, words_are, words_items}
 use Rattle.bp_view.proofs.views.view.Goals as goal
 
 pub returns : goal.returns
@@ -28,7 +28,9 @@ returns c =
       is = w.replayed;
       view_is = record {
         widths = setting.widths;
-        widths_are = rw (places_are text t.procedures (places_of t.procedures) setting.scenes.now are, count) at w.seen.widths;
+        statements = words_items setting.scenes.now;
+        statements_are = words_are text t.procedures (places_of t.procedures) setting.scenes.now are;
+        widths_are = rw (places_are text t.procedures (places_of t.procedures) setting.scenes.now are, count, known.procedures) at w.seen.widths;
         lines = lines.more;
         foot = c.deref.result.now;
         is = c.in_ok-push_bytes.ensures
