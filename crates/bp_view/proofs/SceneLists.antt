@@ -55,6 +55,25 @@ module _ (text : List ℕ) (ps : List Procedure) where
       let found = scene_at xs scenes n x are.1 has in
       record { scene = found.scene; at = found.at; is = found.is }
 
+  -- the place of the n-th
+  pub record PlaceOf (xs : List Place) (n : ℕ) (scene : Scene) : Type 0 where
+    pub place : Place
+    pub at : slice_get xs n ≡ Some place
+    pub is : IsScene text ps place scene
+
+  pub place_of : (xs : List Place) (scenes : List Scene) (n : ℕ) (scene : Scene) → AreScenesAt text ps xs scenes → slice_get scenes n ≡ Some scene → PlaceOf xs n scene
+  place_of [] [] n scene are has = absurd (false≢true (ap is_some has))
+  place_of [] (s ∷ scenes) n scene are has = elim are [ ]
+  place_of (y ∷ xs) [] n scene are has = elim are [ ]
+  place_of (y ∷ xs) (s ∷ scenes) zero scene are has = record {
+    place = y;
+    at = refl;
+    is = subst (λ o. IsScene text ps y (unwrap_or o s)) has are.0;
+  }
+  place_of (y ∷ xs) (s ∷ scenes) (suc n) scene are has =
+      let found = place_of xs scenes n scene are.1 has in
+      record { place = found.place; at = found.at; is = found.is }
+
   pub more_scenes : (xs : List Place) (i : ℕ) (x : Place) (scenes new : List Scene) (scene : Scene)
       → slice_get xs i ≡ Some x → AreScenesAt text ps (take i xs) scenes
       → new ≡ scenes ++ scene ∷ [] → IsScene text ps x scene → AreScenesAt text ps (take (i + 1) xs) new

@@ -1,13 +1,18 @@
 //! The end of a view: the report of the history.
-ghost use Rattle.std.specs.Prelude.{◌≡◌, ◌++◌, OnOk, IfOk};
-ghost use Rattle.bp_view.specs.Outcomes.{count_text, counts_line, failure_text, IsOutcomeText, IsFoot};
+ghost use Rattle.std.specs.Prelude.{◌≡◌, ◌++◌, ℕ, List, OnOk, IfOk};
+ghost use Rattle.bp_tree.specs.Ast.{Procedure, Program};
+ghost use Rattle.bp_code.specs.StandsFor.{Place};
+ghost use Rattle.bp_view.specs.Lines.{Adds};
+ghost use Rattle.bp_view.specs.Outcomes.{count_text, counts_line, failure_text, IsFoot, IsOutcomeText, SaysFailure, SaysStatement};
+ghost use Rattle.bp_view.specs.Scenes.{AreScenes, IsScene};
 
 use crate::changes::procedure_at;
 use crate::excerpts::{Role, role_of, take_own_lexeme};
+use crate::scenes::Scene;
 use crate::settings::Setting;
 use crate::variables::push_variable;
 use bp_machine::{Outcome, Report, Session, Top};
-use bp_text::push_bytes;
+use bp_text::{part_from, push_bytes};
 use itoa::Buffer;
 use std::alloc::{AllocError, Global};
 
@@ -39,30 +44,39 @@ fn push_variables(
     Ok(())
 }
 
-/// Adds the statement that failed, its place and the values of its variables.
-fn push_failure(
-    view: &mut Vec<u8>,
+/// The line of the values of a statement's variables; nothing where it names none, or at a
+/// procedure's end.
+fn values_line(
+    alloc: Global,
     setting: &Setting<'_>,
     text: &[u8],
+    start: Option<u32>,
     top: Top,
-) -> Result<(), AllocError> {
-    let Some(scene) = setting.scenes.get(top.number as usize) else {
-        return Ok(());
+) -> Result<Vec<u8>, AllocError> {
+    let mut line = Vec::new(alloc);
+    let Some(start) = start else {
+        return Ok(line);
     };
-    view.extend_from_slice(b" at ")?;
-    view.extend_from_slice(scene.place.as_slice())?;
-    view.extend_from_slice(b": ")?;
-    view.extend_from_slice(scene.excerpt.words.as_slice())?;
-    let Some(start) = scene.start else {
-        return Ok(());
-    };
-    let statement = text.get(start as usize..).unwrap_or(&[]);
-    let mut values = Vec::new(*view.allocator());
-    push_variables(&mut values, setting, statement, top)?;
+    let mut values = Vec::new(alloc);
+    push_variables(&mut values, setting, part_from(text, start as usize), top)?;
     if !values.is_empty() {
-        view.extend_from_slice(b"\nvalues")?;
-        view.extend_from_slice(&values)?;
+        push_bytes(&mut line, b"\nvalues")?;
+        push_bytes(&mut line, &values)?;
     }
+    Ok(line)
+}
+
+/// Adds where a statement begins, its words, and the line of its values.
+fn push_failure(view: &mut Vec<u8>, scene: &Scene, values: &[u8]) -> Result<(), AllocError>
+    ensures { (text : List ℕ) (ps : List Procedure) (x : Place)
+        → IsScene text ps x scene.now
+        → OnOk result (Adds (SaysStatement text x) view.old.items view.new.items) }
+{
+    push_bytes(view, b" at ")?;
+    push_bytes(view, scene.place.as_slice())?;
+    push_bytes(view, b": ")?;
+    push_bytes(view, scene.excerpt.words.as_slice())?;
+    push_bytes(view, values)?;
     Ok(())
 }
 
@@ -73,12 +87,21 @@ fn failed_statement(
     text: &[u8],
     session: &Session,
     thread: u32,
-) -> Result<Vec<u8>, AllocError> {
-    let mut words = Vec::new(alloc);
-    if let Some(top) = session.top(thread) {
-        push_failure(&mut words, setting, text, top)?;
-    }
-    Ok(words)
+) -> Result<Vec<u8>, AllocError>
+    ensures { (t : Program)
+        → AreScenes text.now t setting.now.scenes.now
+        → IfOk result (λ v. SaysFailure t text.now v.items) }
+{
+    let mut said = Vec::new(alloc);
+    let Some(top) = session.top(thread) else {
+        return Ok(said);
+    };
+    let Some(scene) = setting.scenes.get(top.number as usize) else {
+        return Ok(said);
+    };
+    let values = values_line(alloc, setting, text, scene.start, top)?;
+    push_failure(&mut said, scene, &values)?;
+    Ok(said)
 }
 
 /// Adds that an assertion of a thread failed, and what is said of its statement.
@@ -100,7 +123,9 @@ fn outcome_of(
     session: &Session,
     outcome: Outcome,
 ) -> Result<Vec<u8>, AllocError>
-    ensures { IfOk result (λ v. IsOutcomeText outcome v.items) }
+    ensures { (t : Program)
+        → AreScenes text.now t setting.now.scenes.now
+        → IfOk result (λ v. IsOutcomeText t text.now outcome v.items) }
 {
     let mut words = Vec::new(alloc);
     match outcome {
@@ -133,7 +158,9 @@ pub(crate) fn foot_of(
     session: &Session,
     report: Report,
 ) -> Result<Vec<u8>, AllocError>
-    ensures { IfOk result (λ v. IsFoot report v.items) }
+    ensures { (t : Program)
+        → AreScenes text.now t setting.now.scenes.now
+        → IfOk result (λ v. IsFoot t text.now report v.items) }
 {
     let outcome = outcome_of(alloc, setting, text, session, report.outcome)?;
     let mut foot = Vec::new(alloc);

@@ -36,7 +36,7 @@ returns c =
         is = c.in_ok-push_bytes.ensures
             ∙ ap (λ x. x ++ c.deref.result.now) lines.is
             ∙ ap (λ g. (view_head g r.setup ++ lines.more) ++ c.deref.result.now) known.globals;
-        foot_is = rw c.deref.ensures.value c.in_ok-foot.ensures;
+        foot_is = rw c.deref.ensures.value (c.in_ok-foot.ensures t are);
         lines_are = here;
       };
       report_is = refl;
