@@ -9,8 +9,8 @@ pub(crate) enum Change {
     Piece,
     /// A piece is moved to the end of its thread's piece before it.
     Merge,
-    /// A call is left out.
-    Call,
+    /// This many calls are left out.
+    Calls(usize),
 }
 
 /// Whether the call is of this thread.
@@ -93,8 +93,9 @@ pub(crate) fn candidate(
         return Ok(None);
     };
     let thread = call.thread;
-    if change == Change::Call {
-        return Ok(Some(without(alloc, history, place, place.saturating_add(1))?));
+    if let Change::Calls(count) = change {
+        let end = place.saturating_add(count);
+        return Ok(Some(without(alloc, history, place, end)?));
     }
     if place > 0 && is_of(history, place.saturating_sub(1), thread) {
         return Ok(None);

@@ -137,8 +137,10 @@ fn improve_by_all(
 {
     let pieces = improve(alloc, code, setup, best, Change::Piece)?;
     let merges = improve(alloc, code, setup, best, Change::Merge)?;
-    let calls = improve(alloc, code, setup, best, Change::Call)?;
-    Ok(pieces || merges || calls)
+    let fours = improve(alloc, code, setup, best, Change::Calls(4))?;
+    let twos = improve(alloc, code, setup, best, Change::Calls(2))?;
+    let ones = improve(alloc, code, setup, best, Change::Calls(1))?;
+    Ok(pieces || merges || fours || twos || ones)
 }
 
 /// The same in a setup without a seed.
@@ -175,7 +177,7 @@ fn shrink_unseeded(
 }
 
 /// A history that fails where this one does, by no more calls and no more contexts: pieces are left
-/// out or moved to an earlier piece of their thread, and single calls are left out, as long as that
+/// out or moved to an earlier piece of their thread, and a few calls are left out, as long as that
 /// makes it better. The calls keep their bits, so the setup of what is answered has no seed. `number` is
 /// that of the instruction whose assertion failed, if it is known.
 pub fn shrink(
