@@ -154,7 +154,9 @@ fn shrink_unseeded(
 ) -> Result<Vec<Call>, AllocError>
     requires fits { FitsCode code.now setup.now }
     requires legal { (t : Program) → StandsFor code.now t → IsLegal t setup.now history.now }
-    requires report { IsReport setup.now history.now report.now }
+    requires report { (t : Program)
+        → StandsFor code.now t
+        → IsReport setup.now history.now report.now }
     requires fails { (t : Program)
         → StandsFor code.now t
         → IfSome number (FailsAt t setup.now history.now) }
@@ -190,7 +192,9 @@ pub fn shrink(
 ) -> Result<Vec<Call>, AllocError>
     requires fits { FitsCode code.now setup.now }
     requires legal { (t : Program) → StandsFor code.now t → IsLegal t setup.now history.now }
-    requires report { IsReport setup.now history.now report.now }
+    requires report { (t : Program)
+        → StandsFor code.now t
+        → IsReport setup.now history.now report.now }
     requires fails { (t : Program)
         → StandsFor code.now t
         → IfSome number (FailsAt t setup.now history.now) }

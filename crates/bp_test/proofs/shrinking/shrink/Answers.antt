@@ -17,9 +17,9 @@ shrink_unseeded-requires-clause-legal c = λ t is.
     subst (λ s. IsLegal t s c.args.history.now) (sym setup) (legal_unseeded t c.args.setup.now c.args.history.now (c.requires.legal t is))
 
 pub shrink_unseeded-requires-clause-report : goal.shrink_unseeded-requires-clause-report
-shrink_unseeded-requires-clause-report c =
+shrink_unseeded-requires-clause-report c = λ t is.
     let setup = c.with_seed-setup.ensures ∙ ap {A = SetupOf} (λ y. record y { seed = None }) c.in_ok-try_copy.ensures in
-    subst (λ s. IsReport s c.args.history.now c.args.report.now) (sym setup) (report_unseeded c.args.setup.now c.args.history.now c.args.report.now c.requires.report)
+    subst (λ s. IsReport s c.args.history.now c.args.report.now) (sym setup) (report_unseeded c.args.setup.now c.args.history.now c.args.report.now (c.requires.report t is))
 
 pub shrink_unseeded-requires-clause-fails : goal.shrink_unseeded-requires-clause-fails
 shrink_unseeded-requires-clause-fails c = λ t is.
