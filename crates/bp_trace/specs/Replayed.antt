@@ -1,6 +1,7 @@
 -- What a replay answers: a setup, a history, what its steps printed, and its report.
 use Rattle.std.specs.Prelude.{◌≡◌, ℕ, List, map}
 use Rattle.bp_tree.specs.Ast.{Program}
+use Rattle.bp_code.specs.StandsFor.{StandsFor}
 use Rattle.bp_machine.specs.declared.calls.Call.{Call}
 use Rattle.bp_machine.specs.PrintedRows.{PrintedRow, printed_rows}
 use Rattle.bp_machine.specs.Reports.{IsReport}
@@ -30,4 +31,6 @@ pub record IsWatched
     : Type 0 where
   pub replayed : IsReplayed t text w.replayed
   pub stands : Stands t w.session w.replayed.history.items
+  pub code : StandsFor w.session.code t
+  pub setup : w.session.setup ≡ w.replayed.setup
   pub seen : sees w.watcher t w.replayed.setup w.replayed.history.items

@@ -81,6 +81,8 @@ returns g c = λ t is.
         printed = rw c.play.ensures.kept.1 at played.1;
         report = report;
       };
+      code = is_kept;
+      setup = c.play.ensures.kept.1;
       stands = played.0;
       seen = c.in_ok-body.ensures.watched t is_open c.args.watcher (c.in_ok-begin.ensures t);
     }
