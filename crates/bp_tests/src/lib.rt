@@ -23,6 +23,8 @@ mod run;
 #[cfg(test)]
 mod syntax;
 #[cfg(test)]
+mod testing;
+#[cfg(test)]
 mod texts;
 #[cfg(test)]
 mod trace;
