@@ -4,3 +4,4 @@ mod ExplainedRuns
 mod FirstSeparator
 mod Migrated
 mod RunAnswers
+mod TestAnswers

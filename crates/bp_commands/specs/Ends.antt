@@ -1,5 +1,5 @@
 -- How a run ends: its exit status, and what it leaves on standard error.
-use Rattle.std.specs.Prelude.{◌≡◌, ◌⊎◌, ℕ, List, Option, Result, Ok, Err, Bool, true, false}
+use Rattle.std.specs.Prelude.{◌≡◌, ◌⊎◌, ℕ, List, [], ◌∷◌, Option, Result, Ok, Err, Bool, true, false}
 use Rattle.bp_text.specs.Writing.{AppendsAll, AppendsPart}
 use Rattle.bp_machine.specs.declared.reports.Outcome.{Outcome}
 use Rattle.bp_machine.specs.declared.reports.Outcome.TheVariants.{Clean, Failed}
@@ -15,9 +15,19 @@ has_failed (Failed thread) = true
 abbrev pub report_failed : Report → Bool
 report_failed r = has_failed r.outcome
 
--- no assertion fails
-abbrev pub never : {R : Type 0} → R → Bool
-never report = false
+-- what a command's answers say: whether an assertion failed, and what a user reads of it on
+-- standard error
+pub record Ending (T : Type 0) : Type 0 where
+  pub failed : T → Bool
+  pub summary : T → List ℕ
+
+-- a report has no summary
+abbrev pub of_report : Ending Report
+of_report = record { failed = report_failed; summary = λ _. [] }
+
+-- no assertion fails, and there is no summary
+abbrev pub never : {T : Type 0} → Ending T
+never = record { failed = λ _. false; summary = λ _. [] }
 
 -- the status of a run that was done, in which an assertion failed or not
 abbrev pub done_status : Bool → ℕ
@@ -28,8 +38,14 @@ done_status false = 0
 abbrev pub HasLine : List ℕ → Option (List ℕ) → Option (List ℕ) → Type 0
 HasLine line old new = AppendsAll old new line ⊎ AppendsPart old new line
 
-module _ {T : Type 0} (failed : T → Bool) where
-  -- the status of the answer, and the line of its fault
+-- a summary was written as a line is; nothing was written where there is none
+abbrev pub HasSummary : List ℕ → Option (List ℕ) → Option (List ℕ) → Type 0
+HasSummary [] old new = new ≡ old
+HasSummary (b ∷ bs) old new = HasLine (b ∷ bs) old new
+
+module _ {T : Type 0} (ending : Ending T) where
+  -- the status of the answer, and its summary or the line of its fault
   abbrev pub Ends : Result T Fault → ℕ → Option (List ℕ) → Option (List ℕ) → Type 0
-  Ends (Ok report) status old new = (status ≡ done_status (failed report)) × (new ≡ old)
+  Ends (Ok answer) status old new =
+      (status ≡ done_status (ending.failed answer)) × HasSummary (ending.summary answer) old new
   Ends (Err f) status old new = (status ≡ status_of f) × HasLine (fault_line f) old new

@@ -16,6 +16,8 @@ use Rattle.bp_trace.specs.declared.migrate_faults.MigrateFault.{MigrateFault}
 use Rattle.bp_trace.specs.declared.migrate_faults.MigrateFault.TheVariants as migrate
 use Rattle.bp_run.specs.declared.run_faults.RunFault.{RunFault}
 use Rattle.bp_run.specs.declared.run_faults.RunFault.TheVariants as run
+use Rattle.bp_test.specs.declared.faults.TestFault.{TestFault}
+use Rattle.bp_test.specs.declared.faults.TestFault.TheVariants as test
 use Rattle.bp_commands.specs.declared.inputs.InputFault.{InputFault}
 use Rattle.bp_commands.specs.declared.inputs.InputFault.TheVariants as input
 use Rattle.bp_commands.specs.declared.faults.Fault.{Fault}
@@ -68,3 +70,7 @@ fault_of_run run.Start = Start
 fault_of_run run.Early = Early
 fault_of_run run.Write = Write
 fault_of_run run.Memory = Memory
+
+abbrev pub fault_of_test : TestFault → Fault
+fault_of_test test.Memory = Memory
+fault_of_test test.Write = Write

@@ -2,7 +2,7 @@
 use Rattle.std.specs.Prelude.{ℕ, List, Option, None, Some, Result, Bool}
 use Rattle.bp_commands.specs.declared.faults.Fault.{Fault}
 use Rattle.bp_commands.specs.Commands.{Command, Answers}
-use Rattle.bp_commands.specs.Ends.{Ends}
+use Rattle.bp_commands.specs.Ends.{Ending, Ends}
 use Rattle.bp_commands.specs.Explanations.{ExplainsRead, IsTold}
 use Rattle.bp_commands.specs.Flushes.{IsFlushed}
 use Rattle.bp_commands.specs.Given.{Inputs, Pair, text_and}
@@ -22,7 +22,7 @@ pair_of_files limit text input left = text_and limit text left.0 input left.1
 -- error have these bytes before and after the run. Where a refusal is to be explained, these lines
 -- explain one of the inputs.
 module _
-    {L X R : Type 0} (command : Command X R) (failed : R → Bool) (inputs : L → Inputs X)
+    {L X R : Type 0} (command : Command X R) (ending : Ending R) (inputs : L → Inputs X)
     (Explains : X → Fault → List ℕ → Type 0) (asked : Bool)
     (old new errors_old errors_new : Option (List ℕ)) where
   pub record IsRun (status : ℕ) : Type 0 where
@@ -33,5 +33,5 @@ module _
     pub final : Result R Fault
     pub flushed : IsFlushed done held final new
     pub told : Option (List ℕ)
-    pub ends : Ends failed final status errors_old told
+    pub ends : Ends ending final status errors_old told
     pub explained : IsTold asked (ExplainsRead (inputs left) Explains) final told errors_new

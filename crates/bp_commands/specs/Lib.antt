@@ -14,4 +14,5 @@ pub mod Inputs
 pub mod Listings
 pub mod ReplayLines
 pub mod Runs
+pub mod Tests
 pub mod Traces

@@ -1,6 +1,6 @@
 //! How a run ends: the line on standard error, and the exit status.
-ghost use Rattle.std.specs.Prelude.{◌≡◌, Bool, false};
-ghost use Rattle.bp_commands.specs.Ends.{Ends, report_failed};
+ghost use Rattle.std.specs.Prelude.{◌≡◌};
+ghost use Rattle.bp_commands.specs.Ends.{Ending, Ends, HasSummary, never, of_report};
 
 use crate::fault_lines::show_fault;
 use crate::faults::Fault;
@@ -9,37 +9,48 @@ use std::io::Write;
 
 /// What a command answers.
 pub trait Ended {
-    ghost failed: { Self → Bool };
+    ghost ending: { Ending Self };
 
     /// Whether an assertion failed.
     fn has_failed(&self) -> bool
-        ensures { result ≡ failed self.now };
+        ensures { result ≡ ending.failed self.now };
+
+    /// Writes the summary, where there is one. No failed write is reported.
+    fn summarize<E: Write>(&self, errors: &mut E)
+        ensures { HasSummary (ending.summary self.now)
+            (E.contents errors.old) (E.contents errors.new) };
 }
 
 impl Ended for () {
-    ghost failed = { λ _. false };
+    ghost ending = { never };
 
     fn has_failed(&self) -> bool {
         false
     }
+
+    fn summarize<E: Write>(&self, _errors: &mut E) {}
 }
 
 impl Ended for Report {
-    ghost failed = { report_failed };
+    ghost ending = { of_report };
 
     fn has_failed(&self) -> bool {
         matches!(self.outcome, Outcome::Failed { .. })
     }
+
+    fn summarize<E: Write>(&self, _errors: &mut E) {}
 }
 
-/// Ends a run by what its command answered: writes the line of its fault, where there is one, and
-/// answers the exit status.
+/// Ends a run by what its command answered: writes its summary or the line of its fault, where
+/// there is one, and answers the exit status.
 pub fn end<T: Ended, E: Write>(done: &Result<T, Fault>, errors: &mut E) -> u8
-    ensures { Ends T.failed done.now result (E.contents errors.old) (E.contents errors.new) }
+    ensures { Ends T.ending done.now result (E.contents errors.old) (E.contents errors.new) }
 {
     match done {
-        Ok(report) if report.has_failed() => 1,
-        Ok(_) => 0,
+        Ok(answer) => {
+            answer.summarize(errors);
+            u8::from(answer.has_failed())
+        }
         Err(fault) => {
             // Where standard error fails, the status still reports the fault.
             let _ = show_fault(fault, errors);

@@ -5,6 +5,7 @@ use bp_code::{CodeFault, ProgramFault};
 use bp_machine::SetupFault;
 use bp_run::RunFault;
 use bp_syntax::ReadFault;
+use bp_test::TestFault;
 use bp_text::WriteFault;
 use bp_trace::{DriveFault, MigrateFault, ReplayFault};
 use std::alloc::AllocError;
@@ -186,6 +187,20 @@ impl From<RunFault> for Fault {
             RunFault::Early => Fault::Early,
             RunFault::Write => Fault::Write,
             RunFault::Memory => Fault::Memory,
+        }
+    }
+}
+
+impl From<TestFault> for Fault {
+    ghost use Rattle.bp_commands.specs.Faults.{fault_of_test};
+    ghost use Rattle.std.specs.Prelude.{◌≡◌};
+
+    ghost from_gives = { λ f e. e ≡ fault_of_test f };
+
+    fn from(fault: TestFault) -> Fault {
+        match fault {
+            TestFault::Memory => Fault::Memory,
+            TestFault::Write => Fault::Write,
         }
     }
 }

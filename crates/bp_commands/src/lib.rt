@@ -23,6 +23,7 @@ mod replaying;
 mod running;
 mod runs;
 mod showing;
+mod testing;
 
 pub use bundles::drive_bundle;
 pub use checking::{Check, show_check};
@@ -43,3 +44,4 @@ pub use replaying::Replay;
 pub use running::{run_program, run_text};
 pub use runs::{run_by_workers, run_on_bundle, run_on_pair, run_on_program};
 pub use showing::Show;
+pub use testing::{Test, Tested};

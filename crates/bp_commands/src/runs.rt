@@ -2,7 +2,7 @@
 ghost use Rattle.std.specs.Prelude.{false};
 ghost use Rattle.std.specs.Io.Buffered.{writer_contents};
 ghost use Rattle.bp_commands.specs.Bundles.{bundles};
-ghost use Rattle.bp_commands.specs.Ends.{report_failed};
+ghost use Rattle.bp_commands.specs.Ends.{of_report};
 ghost use Rattle.bp_commands.specs.Explanations.{ExplainsPair, ExplainsText};
 ghost use Rattle.bp_commands.specs.Files.{pair_of_files, IsRun};
 ghost use Rattle.bp_commands.specs.Given.{bundle_alone, text_alone};
@@ -35,7 +35,7 @@ pub fn run_on_program<C: ProgramCommand, F: Files, W: Write + Drop, E: Write>(
 ) -> (u8, W)
     ensures { let inputs = text_alone (F.bytes files.now path.now) in
         let old = writer_contents W.contents out in
-        IsRun (C.command command.now) C.Answer.failed inputs (ExplainsText path.now) explains
+        IsRun (C.command command.now) C.Answer.ending inputs (ExplainsText path.now) explains
         old (W.contents result.1)
         (E.contents errors.old) (E.contents errors.new) result.0 }
 {
@@ -71,7 +71,7 @@ pub fn run_by_workers<
 ) -> (u8, W)
     ensures { let inputs = text_alone (F.bytes files.now path.now) in
         let old = writer_contents W.contents out in
-        IsRun (runs options.now) report_failed inputs (ExplainsText path.now) explains
+        IsRun (runs options.now) of_report inputs (ExplainsText path.now) explains
         old (W.contents result.1)
         (E.contents errors.old) (E.contents errors.new) result.0 }
 {
@@ -102,7 +102,7 @@ pub fn run_on_pair<C: PairCommand, F: Files, W: Write + Drop, E: Write>(
     ensures { let inputs = pair_of_files (C.limit command.now)
         (F.bytes files.now path.now) (F.bytes files.now input_path.now) in
         let old = writer_contents W.contents out in
-        IsRun (C.command command.now) report_failed inputs
+        IsRun (C.command command.now) of_report inputs
         (ExplainsPair (C.beside command.now) path.now input_path.now) explains
         old (W.contents result.1)
         (E.contents errors.old) (E.contents errors.new) result.0 }
@@ -134,7 +134,7 @@ pub fn run_on_bundle<R: Read + Drop, W: Write + Drop, E: Write>(
 ) -> (u8, W)
     ensures { let inputs = bundle_alone (R.remaining reader) in
         let old = writer_contents W.contents out in
-        IsRun bundles report_failed inputs (λ _ _ _. ⊥) false old (W.contents result.1)
+        IsRun bundles of_report inputs (λ _ _ _. ⊥) false old (W.contents result.1)
         (E.contents errors.old) (E.contents errors.new) result.0 }
 {
     let mut bundle = Source::new(alloc, reader);

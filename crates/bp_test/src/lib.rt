@@ -6,6 +6,7 @@ mod blocks;
 mod candidates;
 mod failing;
 mod faults;
+pub mod limits;
 mod plans;
 mod runs;
 mod schedulers;

@@ -10,6 +10,7 @@ mod programs;
 mod run;
 mod runs;
 mod single_runs;
+mod testing;
 mod unread;
 
 use crate::texts::names;

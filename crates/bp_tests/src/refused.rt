@@ -10,6 +10,7 @@ mod ready;
 mod runs;
 mod sessions;
 mod setups;
+mod testing;
 mod texts;
 mod traces;
 mod without_memory;

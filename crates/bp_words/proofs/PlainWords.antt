@@ -13,10 +13,11 @@ use Rattle.bp_machine.specs.Starts.{StartOf, default_start, start_with}
 use Rattle.bp_machine.specs.declared.limits.TheConstants.{DEFAULT_CONTEXTS, DEFAULT_CALLS}
 use Rattle.bp_run.specs.Options.{OptionsOf, default_options, options_of}
 use Rattle.bp_run.specs.declared.limits.TheConstants.{DEFAULT_TURN, DEFAULT_SEED, DEFAULT_RING}
-use Rattle.bp_words.specs.Commands.{btrun_app, is_plain, words_fault, IsCheckOf, IsCodeOf, IsMigrateOf, IsPlainDriveOf, IsPlainRunOf, IsPlainShowOf, IsReplayOf, IsTaskOf}
+use Rattle.std.proofs.lemmas.Slice.Eq.{bytes_eq-Decides}
+use Rattle.bp_words.specs.Commands.{btrun_app, is_plain, words_fault, IsCheckOf, IsCodeOf, IsMigrateOf, IsPlainDriveOf, IsPlainRunOf, IsPlainShowOf, IsPlainTestOf, IsReplayOf, IsTaskOf}
 use Rattle.bp_words.specs.Values.{init_fault}
 use Rattle.bp_words.specs.declared.commands.Task.{Task}
-use Rattle.bp_words.specs.declared.commands.Task.TheVariants.{Bundle, Check, Code, Drive, Run, Replay, Show, Migrate}
+use Rattle.bp_words.specs.declared.commands.Task.TheVariants.{Bundle, Check, Code, Drive, Run, Test, Replay, Show, Migrate}
 
 -- words that `clap` takes have no fault where the command's initial bits have none
 no_fault : (words : List Text) (command : Option (Text × List Row)) → fault_of btrun_app words ≡ [] → subcommand_of btrun_app words ≡ command → init_fault command ≡ [] → words_fault words ≡ []
@@ -48,6 +49,10 @@ is_not_long (b ∷ bs) plain = rw (not_dash (b == 45) plain) refl
 is_not_short : (file : Text) → is_plain file ≡ true → short_of file ≡ None
 is_not_short [] plain = refl
 is_not_short (b ∷ bs) plain = rw (not_dash (b == 45) plain) refl
+
+-- two names that are compared as different
+differ : (a b : Text) → bytes_eq a b ≡ false → a ≡ b → ⊥
+differ a b other same = grind (arith, bytes_eq-Decides a b, other, same)
 
 check≢code : codes "check" ≡ codes "code" → ⊥
 check≢code same = cc
@@ -151,6 +156,7 @@ check_of file (Check words) (named, of) = (of.program, of.explain.1 refl)
 check_of file (Code words) asks = absurd (check≢code asks.0)
 check_of file (Drive words) asks = absurd (check≢drive asks.0)
 check_of file (Run words) asks = absurd (check≢run asks.0)
+check_of file (Test words) asks = absurd (differ (codes "check") (codes "test") refl asks.0)
 check_of file (Replay words) asks = absurd (check≢replay asks.0)
 check_of file (Show words) asks = absurd (check≢show asks.0)
 check_of file (Migrate words) asks = absurd (check≢migrate asks.0)
@@ -180,6 +186,7 @@ code_of file (Code words) (named, of) = (of.program, of.explain.1 refl)
 code_of file (Check words) asks = absurd (check≢code (sym asks.0))
 code_of file (Drive words) asks = absurd (code≢drive asks.0)
 code_of file (Run words) asks = absurd (code≢run asks.0)
+code_of file (Test words) asks = absurd (differ (codes "code") (codes "test") refl asks.0)
 code_of file (Replay words) asks = absurd (code≢replay asks.0)
 code_of file (Show words) asks = absurd (code≢show asks.0)
 code_of file (Migrate words) asks = absurd (code≢migrate asks.0)
@@ -217,6 +224,7 @@ drive_of file schedule (Check words) asks = absurd (check≢drive (sym asks.0))
 drive_of file schedule (Code words) asks = absurd (code≢drive (sym asks.0))
 drive_of file schedule (Drive words) (named, of) = (of.program, of.schedule, of.explain.1 refl, start_is words.start of.entries of.init of.contexts of.calls)
 drive_of file schedule (Run words) asks = absurd (drive≢run asks.0)
+drive_of file schedule (Test words) asks = absurd (differ (codes "drive") (codes "test") refl asks.0)
 drive_of file schedule (Replay words) asks = absurd (drive≢replay asks.0)
 drive_of file schedule (Show words) asks = absurd (drive≢show asks.0)
 drive_of file schedule (Migrate words) asks = absurd (drive≢migrate asks.0)
@@ -255,6 +263,7 @@ run_of file (Check words) asks = absurd (check≢run (sym asks.0))
 run_of file (Code words) asks = absurd (code≢run (sym asks.0))
 run_of file (Drive words) asks = absurd (drive≢run (sym asks.0))
 run_of file (Run words) (named, of) = (of.program, of.spread.1 refl, of.explain.1 refl, options_are words.options (start_is words.options.start of.entries of.init of.contexts of.calls) of.turn of.seed of.ring)
+run_of file (Test words) asks = absurd (differ (codes "run") (codes "test") refl asks.0)
 run_of file (Replay words) asks = absurd (run≢replay asks.0)
 run_of file (Show words) asks = absurd (run≢show asks.0)
 run_of file (Migrate words) asks = absurd (run≢migrate asks.0)
@@ -264,6 +273,36 @@ run_asked program file task plain asks = run_of file task (subst (λ c. IsTaskOf
 
 abbrev trace_rows : Text → Text → List Row
 trace_rows file trace = given (codes "FILE") file ∷ given (codes "TRACE") trace ∷ down (codes "explain") ∷ []
+
+abbrev test_words : Text → Text → List Text
+test_words program file = program ∷ codes "test" ∷ file ∷ []
+
+test_named : (program file : Text) → IsWord file → subcommand_of btrun_app (test_words program file) ≡ Some (codes "test", file_row file)
+unfolding clap_on_literals
+test_named program file (no_end, no_long, no_short) = rw (no_end, no_long, no_short) refl
+
+test_clean : (program file : Text) → IsWord file → fault_of btrun_app (test_words program file) ≡ []
+unfolding clap_on_literals
+test_clean program file (no_end, no_long, no_short) = rw (no_end, no_long, no_short) refl
+
+pub test_faulty : (program file : Text) → is_plain file ≡ true → words_fault (test_words program file) ≡ []
+test_faulty program file plain =
+    let word = is_word file plain in
+    no_fault (test_words program file) (Some (codes "test", file_row file)) (test_clean program file word) (test_named program file word) refl
+
+test_of : (file : Text) (task : Task) → IsTaskOf (Some (codes "test", file_row file)) task → IsPlainTestOf file task
+test_of file Bundle asks = absurd asks
+test_of file (Check words) asks = absurd (differ (codes "test") (codes "check") refl asks.0)
+test_of file (Code words) asks = absurd (differ (codes "test") (codes "code") refl asks.0)
+test_of file (Drive words) asks = absurd (differ (codes "test") (codes "drive") refl asks.0)
+test_of file (Run words) asks = absurd (differ (codes "test") (codes "run") refl asks.0)
+test_of file (Test words) (named, of) = (of.program, of.explain.1 refl, start_is words.start of.entries of.init of.contexts of.calls, of.seed, of.runs)
+test_of file (Replay words) asks = absurd (differ (codes "test") (codes "replay") refl asks.0)
+test_of file (Show words) asks = absurd (differ (codes "test") (codes "show") refl asks.0)
+test_of file (Migrate words) asks = absurd (differ (codes "test") (codes "migrate") refl asks.0)
+
+pub test_asked : (program file : Text) (task : Task) → is_plain file ≡ true → IsTaskOf (subcommand_of btrun_app (test_words program file)) task → IsPlainTestOf file task
+test_asked program file task plain asks = test_of file task (subst (λ c. IsTaskOf c task) (test_named program file (is_word file plain)) asks)
 
 abbrev replay_words : Text → Text → Text → List Text
 replay_words program file trace = program ∷ codes "replay" ∷ file ∷ trace ∷ []
@@ -288,6 +327,7 @@ replay_of file trace (Check words) asks = absurd (check≢replay (sym asks.0))
 replay_of file trace (Code words) asks = absurd (code≢replay (sym asks.0))
 replay_of file trace (Drive words) asks = absurd (drive≢replay (sym asks.0))
 replay_of file trace (Run words) asks = absurd (run≢replay (sym asks.0))
+replay_of file trace (Test words) asks = absurd (differ (codes "replay") (codes "test") refl asks.0)
 replay_of file trace (Replay words) (named, of) = (of.program, of.trace, of.explain.1 refl)
 replay_of file trace (Show words) asks = absurd (replay≢show asks.0)
 replay_of file trace (Migrate words) asks = absurd (replay≢migrate asks.0)
@@ -319,6 +359,7 @@ show_of file trace (Check words) asks = absurd (check≢show (sym asks.0))
 show_of file trace (Code words) asks = absurd (code≢show (sym asks.0))
 show_of file trace (Drive words) asks = absurd (drive≢show (sym asks.0))
 show_of file trace (Run words) asks = absurd (run≢show (sym asks.0))
+show_of file trace (Test words) asks = absurd (differ (codes "show") (codes "test") refl asks.0)
 show_of file trace (Replay words) asks = absurd (replay≢show (sym asks.0))
 show_of file trace (Show words) (named, of) = (of.program, of.trace, of.thread, of.last, of.explain.1 refl)
 show_of file trace (Migrate words) asks = absurd (show≢migrate asks.0)
@@ -350,6 +391,7 @@ migrate_of file trace (Check words) asks = absurd (check≢migrate (sym asks.0))
 migrate_of file trace (Code words) asks = absurd (code≢migrate (sym asks.0))
 migrate_of file trace (Drive words) asks = absurd (drive≢migrate (sym asks.0))
 migrate_of file trace (Run words) asks = absurd (run≢migrate (sym asks.0))
+migrate_of file trace (Test words) asks = absurd (differ (codes "migrate") (codes "test") refl asks.0)
 migrate_of file trace (Show words) asks = absurd (show≢migrate (sym asks.0))
 migrate_of file trace (Migrate words) (named, of) = (of.program, of.trace, of.explain.1 refl)
 migrate_of file trace (Replay words) asks = absurd (replay≢migrate (sym asks.0))

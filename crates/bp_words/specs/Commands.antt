@@ -10,15 +10,18 @@ use Rattle.clap.specs.declared.builder.action.ArgAction.TheVariants.{SetTrue}
 use Rattle.clap.specs.declared.builder.value_parser.ValueParser.TheVariants as parser
 use Rattle.bp_machine.specs.Starts.{default_start}
 use Rattle.bp_run.specs.Options.{default_options}
+use Rattle.bp_run.specs.declared.limits.TheConstants.{DEFAULT_SEED}
+use Rattle.bp_test.specs.declared.limits.TheConstants.{DEFAULT_RUNS}
 use Rattle.bp_words.specs.Values.{init_fault}
 use Rattle.bp_words.specs.DriveWords.{IsDriveOf}
 use Rattle.bp_words.specs.FileWords.{IsFileWordsOf}
 use Rattle.bp_words.specs.RunWords.{IsRunOf}
 use Rattle.bp_words.specs.ShowWords.{IsShowOf}
+use Rattle.bp_words.specs.TestWords.{IsTestOf}
 use Rattle.bp_words.specs.TraceWords.{IsTraceWordsOf}
 use Rattle.bp_words.specs.declared.trace.TraceWords.{TraceWords}
 use Rattle.bp_words.specs.declared.commands.Task.{Task}
-use Rattle.bp_words.specs.declared.commands.Task.TheVariants.{Bundle, Check, Code, Drive, Run, Replay, Show, Migrate}
+use Rattle.bp_words.specs.declared.commands.Task.TheVariants.{Bundle, Check, Code, Drive, Run, Test, Replay, Show, Migrate}
 
 -- an argument that has to be there
 abbrev pub required_rule : Text → Rule
@@ -95,6 +98,18 @@ run_app =
     ∷ flag_rule (codes "spread")
     ∷ [])
 
+-- `test FILE [ENTRY].. [--seed N] [--contexts N] [--calls N] [--init BITS] [--runs N] [--explain]`
+abbrev pub test_app : App
+test_app =
+    with_rules (file_app (codes "test")) (
+    values_rule (codes "ENTRY")
+    ∷ long_number_rule (codes "seed")
+    ∷ number_rule (codes "contexts")
+    ∷ number_rule (codes "calls")
+    ∷ option_rule (codes "init")
+    ∷ long_number_rule (codes "runs")
+    ∷ [])
+
 -- a command of this name, a file and a trace
 abbrev pub trace_app : Text → App
 trace_app name = with_rule (file_app name) (required_rule (codes "TRACE"))
@@ -128,7 +143,15 @@ with_commands a (c ∷ cs) = with_commands (with_subcommand a c.top) cs
 abbrev pub btrun_app : App
 btrun_app =
     with_commands program_app
-    (check_app ∷ code_app ∷ drive_app ∷ run_app ∷ replay_app ∷ show_app ∷ migrate_app ∷ [])
+    (check_app
+    ∷ code_app
+    ∷ drive_app
+    ∷ run_app
+    ∷ test_app
+    ∷ replay_app
+    ∷ show_app
+    ∷ migrate_app
+    ∷ [])
 
 -- the name of a command
 abbrev pub IsNamed : Text → Type 0
@@ -137,9 +160,10 @@ IsNamed name =
     ⊎ ((name ≡ codes "code")
     ⊎ ((name ≡ codes "drive")
     ⊎ ((name ≡ codes "run")
+    ⊎ ((name ≡ codes "test")
     ⊎ ((name ≡ codes "replay")
     ⊎ ((name ≡ codes "show")
-    ⊎ (name ≡ codes "migrate"))))))
+    ⊎ (name ≡ codes "migrate")))))))
 
 -- the words name no command, or one of those that there are
 abbrev pub IsOurs : Option (Text × List Row) → Type 0
@@ -153,6 +177,7 @@ IsTaskOfCommand name rows (Check words) = (name ≡ codes "check") × IsFileWord
 IsTaskOfCommand name rows (Code words) = (name ≡ codes "code") × IsFileWordsOf rows words
 IsTaskOfCommand name rows (Drive words) = (name ≡ codes "drive") × IsDriveOf rows words
 IsTaskOfCommand name rows (Run words) = (name ≡ codes "run") × IsRunOf rows words
+IsTaskOfCommand name rows (Test words) = (name ≡ codes "test") × IsTestOf rows words
 IsTaskOfCommand name rows (Replay words) = (name ≡ codes "replay") × IsTraceWordsOf rows words
 IsTaskOfCommand name rows (Show words) = (name ≡ codes "show") × IsShowOf rows words
 IsTaskOfCommand name rows (Migrate words) = (name ≡ codes "migrate") × IsTraceWordsOf rows words
@@ -198,6 +223,16 @@ IsPlainRunOf file (Run words) =
     × (words.explain ≡ false)
     × (words.options ≡ default_options)
 IsPlainRunOf file task = ⊥
+
+-- the task is to test the program of this file under the defaults
+abbrev pub IsPlainTestOf : Text → Task → Type 0
+IsPlainTestOf file (Test words) =
+    (words.program.now ≡ file)
+    × (words.explain ≡ false)
+    × (words.start ≡ default_start)
+    × (words.seed ≡ DEFAULT_SEED)
+    × (words.runs ≡ DEFAULT_RUNS)
+IsPlainTestOf file task = ⊥
 
 -- the files are these, and faults are not explained
 abbrev pub HasFiles : Text → Text → TraceWords → Type 0

@@ -2,12 +2,13 @@
 ghost use Rattle.std.specs.Prelude.{◌≡◌, true, false, ℕ, List, [], ◌∷◌, map, codes, string_bytes, IfOk, MatchResult};
 ghost use Rattle.clap.specs.Words.{FailsBy, app_of, kind_of, subcommand_of, subcommand_rows_of};
 ghost use Rattle.clap.specs.declared.builder.command.Command.TheViews.{out-Command};
-ghost use Rattle.bp_words.specs.Commands.{btrun_app, file_app, is_plain, program_app, words_fault, IsOurs, IsCheckOf, IsCodeOf, IsMigrateOf, IsPlainDriveOf, IsPlainRunOf, IsPlainShowOf, IsReplayOf, IsTaskOf};
+ghost use Rattle.bp_words.specs.Commands.{btrun_app, file_app, is_plain, program_app, words_fault, IsOurs, IsCheckOf, IsCodeOf, IsMigrateOf, IsPlainDriveOf, IsPlainRunOf, IsPlainShowOf, IsPlainTestOf, IsReplayOf, IsTaskOf};
 
 use crate::drive::{DriveWords, drive_command, drive_words};
 use crate::files::{FileWords, file_command, file_words};
 use crate::run::{RunWords, run_command, run_words};
 use crate::show::{ShowWords, show_command, show_words};
+use crate::test::{TestWords, test_command, test_words};
 use crate::trace::{
     MIGRATE_ABOUT, MIGRATE_NOTES, REPLAY_ABOUT, REPLAY_NOTES, TraceWords, trace_command,
     trace_words,
@@ -33,6 +34,8 @@ pub enum Task<'a> {
     Drive(DriveWords<'a>),
     /// `run FILE [ENTRY]..`
     Run(RunWords<'a>),
+    /// `test FILE [ENTRY]..`
+    Test(TestWords<'a>),
     /// `replay FILE TRACE`
     Replay(TraceWords<'a>),
     /// `show FILE TRACE`
@@ -47,7 +50,7 @@ const NOTES: &str = "\
     'THREAD BIT'. One thread begins with 'main', all globals are 0, and at most 2 contexts and\n\
     1000 calls are allowed. The trace of the run is printed.\n\n\
     Examples:\n  btrun < FILE\n  btrun check FILE\n  btrun code FILE\n  \
-    btrun drive FILE SCHEDULE\n  btrun run FILE\n  btrun replay FILE TRACE\n  \
+    btrun drive FILE SCHEDULE\n  btrun run FILE\n  btrun test FILE\n  btrun replay FILE TRACE\n  \
     btrun show FILE TRACE\n  btrun migrate FILE TRACE\n\n\
     Exit status:\n  0  done, and no assertion failed\n  1  an assertion failed\n  \
     2  the input or the words were refused\n  3  memory, a device or the output failed";
@@ -96,6 +99,7 @@ fn command<'a>(alloc: Global) -> Result<Command<'a>, AllocError>
         .subcommand(file_command(alloc, "code", CODE_ABOUT, CODE_NOTES)?)?
         .subcommand(drive_command(alloc)?)?
         .subcommand(run_command(alloc)?)?
+        .subcommand(test_command(alloc)?)?
         .subcommand(trace_command(alloc, "replay", REPLAY_ABOUT, REPLAY_NOTES)?)?
         .subcommand(show_command(alloc)?)?
         .subcommand(trace_command(alloc, "migrate", MIGRATE_ABOUT, MIGRATE_NOTES)?)
@@ -111,6 +115,7 @@ fn task_of<'a>(alloc: Global, matches: &ArgMatches<'a>) -> Result<Task<'a>, Allo
         Some(("code", words)) => Ok(Task::Code(file_words(words))),
         Some(("drive", words)) => Ok(Task::Drive(drive_words(alloc, words)?)),
         Some(("run", words)) => Ok(Task::Run(run_words(alloc, words)?)),
+        Some(("test", words)) => Ok(Task::Test(test_words(alloc, words)?)),
         Some(("replay", words)) => Ok(Task::Replay(trace_words(words))),
         Some(("show", words)) => Ok(Task::Show(show_words(words))),
         Some(("migrate", words)) => Ok(Task::Migrate(trace_words(words))),
@@ -146,6 +151,10 @@ pub fn read_words<'a>(alloc: Global, words: &'a [String]) -> Result<Task<'a>, Er
         → is_plain file ≡ true
         → map string_bytes words.now ≡ program ∷ codes "run" ∷ file ∷ []
         → MatchResult result (IsPlainRunOf file) (λ e. kind_of e ≡ ErrorKind.OutOfMemory) }
+    ensures test { (program file : List ℕ)
+        → is_plain file ≡ true
+        → map string_bytes words.now ≡ program ∷ codes "test" ∷ file ∷ []
+        → MatchResult result (IsPlainTestOf file) (λ e. kind_of e ≡ ErrorKind.OutOfMemory) }
     ensures replay { (program file trace : List ℕ)
         → is_plain file ≡ true
         → is_plain trace ≡ true

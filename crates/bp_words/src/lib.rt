@@ -7,6 +7,7 @@ mod drive;
 mod files;
 mod run;
 mod show;
+mod test;
 mod trace;
 mod values;
 
@@ -15,4 +16,5 @@ pub use drive::DriveWords;
 pub use files::FileWords;
 pub use run::RunWords;
 pub use show::ShowWords;
+pub use test::TestWords;
 pub use trace::TraceWords;

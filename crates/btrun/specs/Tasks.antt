@@ -4,20 +4,22 @@ use Rattle.bp_commands.specs.Bundles.{bundles}
 use Rattle.bp_commands.specs.Checks.{checks}
 use Rattle.bp_commands.specs.Drives.{drives}
 use Rattle.bp_commands.specs.declared.explanations.Beside.TheVariants.{Schedule, Trace}
-use Rattle.bp_commands.specs.Ends.{never, report_failed}
+use Rattle.bp_commands.specs.Ends.{never, of_report}
 use Rattle.bp_commands.specs.Explanations.{ExplainsPair, ExplainsText}
 use Rattle.bp_commands.specs.Files.{pair_of_files, IsRun}
 use Rattle.bp_commands.specs.Given.{bundle_alone, text_alone}
 use Rattle.bp_commands.specs.Listings.{lists}
 use Rattle.bp_commands.specs.Runs.{runs}
+use Rattle.bp_commands.specs.Tests.{of_test, tests}
 use Rattle.bp_commands.specs.Traces.{migrates, replays, shows}
 use Rattle.bp_trace.specs.declared.limits.TheConstants.{MAX_SCHEDULE, MAX_TRACE}
 use Rattle.bp_view.specs.declared.options.ViewOptions.{ViewOptions}
 use Rattle.bp_words.specs.declared.commands.Task.{Task}
-use Rattle.bp_words.specs.declared.commands.Task.TheVariants.{Bundle, Check, Code, Drive, Run, Replay, Show, Migrate}
+use Rattle.bp_words.specs.declared.commands.Task.TheVariants.{Bundle, Check, Code, Drive, Run, Test, Replay, Show, Migrate}
 use Rattle.bp_words.specs.declared.drive.DriveWords.{DriveWords}
 use Rattle.bp_words.specs.declared.run.RunWords.{RunWords}
 use Rattle.bp_words.specs.declared.show.ShowWords.{ShowWords}
+use Rattle.bp_words.specs.declared.test.TestWords.{TestWords}
 
 -- which calls are shown, and how
 abbrev pub view_options : ShowWords → Bool → ViewOptions
@@ -34,7 +36,18 @@ abbrev pub IsRunDone
     → Type 0
 IsRunDone bytes words old new errors_old errors_new status =
     let inputs = text_alone (bytes words.program.now) in
-    IsRun (runs words.options) report_failed inputs
+    IsRun (runs words.options) of_report inputs
+    (ExplainsText words.program.now) words.explain
+    old new errors_old errors_new status
+
+-- the program of a file is tested as these words ask for
+abbrev pub IsTestDone
+    : (List ℕ → Option (List ℕ)) → TestWords
+    → Option (List ℕ) → Option (List ℕ) → Option (List ℕ) → Option (List ℕ) → ℕ
+    → Type 0
+IsTestDone bytes words old new errors_old errors_new status =
+    let inputs = text_alone (bytes words.program.now) in
+    IsRun (tests words.start words.seed words.runs) of_test inputs
     (ExplainsText words.program.now) words.explain
     old new errors_old errors_new status
 
@@ -46,7 +59,7 @@ abbrev pub IsDriveDone
 IsDriveDone bytes words old new errors_old errors_new status =
     let inputs = pair_of_files MAX_SCHEDULE
     (bytes words.program.now) (bytes words.schedule.now) in
-    IsRun (drives words.start) report_failed inputs
+    IsRun (drives words.start) of_report inputs
     (ExplainsPair Schedule words.program.now words.schedule.now) words.explain
     old new errors_old errors_new status
 
@@ -57,7 +70,7 @@ abbrev pub IsShowDone
     → Type 0
 IsShowDone bytes has_colour words old new errors_old errors_new status =
     let inputs = pair_of_files MAX_TRACE (bytes words.program.now) (bytes words.trace.now) in
-    IsRun (shows (view_options words has_colour)) report_failed inputs
+    IsRun (shows (view_options words has_colour)) of_report inputs
     (ExplainsPair Trace words.program.now words.trace.now) words.explain
     old new errors_old errors_new status
 
@@ -68,7 +81,7 @@ module _
     (old new errors_old errors_new : Option (List ℕ)) (status : ℕ) where
   abbrev pub IsTaskDone : Task → Type 0
   IsTaskDone Bundle =
-      IsRun bundles report_failed (bundle_alone input) (λ _ _ _. ⊥) false
+      IsRun bundles of_report (bundle_alone input) (λ _ _ _. ⊥) false
       old new errors_old errors_new status
   IsTaskDone (Check words) =
       let inputs = text_alone (bytes words.program.now) in
@@ -80,15 +93,16 @@ module _
       old new errors_old errors_new status
   IsTaskDone (Drive words) = IsDriveDone bytes words old new errors_old errors_new status
   IsTaskDone (Run words) = IsRunDone bytes words old new errors_old errors_new status
+  IsTaskDone (Test words) = IsTestDone bytes words old new errors_old errors_new status
   IsTaskDone (Replay words) =
       let inputs = pair_of_files MAX_TRACE (bytes words.program.now) (bytes words.trace.now) in
-      IsRun replays report_failed inputs
+      IsRun replays of_report inputs
       (ExplainsPair Trace words.program.now words.trace.now) words.explain
       old new errors_old errors_new status
   IsTaskDone (Show words) =
       IsShowDone bytes has_colour words old new errors_old errors_new status
   IsTaskDone (Migrate words) =
       let inputs = pair_of_files MAX_TRACE (bytes words.program.now) (bytes words.trace.now) in
-      IsRun migrates report_failed inputs
+      IsRun migrates of_report inputs
       (ExplainsPair Trace words.program.now words.trace.now) words.explain
       old new errors_old errors_new status

@@ -1,19 +1,19 @@
 //! What each task does, over any files and streams.
 ghost use Rattle.std.specs.Io.Buffered.{writer_contents};
 ghost use Rattle.std.specs.Prelude.{◌≡◌};
-ghost use Rattle.bp_commands.specs.Ends.{report_failed};
+ghost use Rattle.bp_commands.specs.Ends.{of_report};
 ghost use Rattle.bp_commands.specs.Explanations.{ExplainsPair, ExplainsText};
 ghost use Rattle.bp_commands.specs.Files.{pair_of_files, IsRun};
 ghost use Rattle.bp_commands.specs.Given.{text_alone};
-ghost use Rattle.btrun.specs.Tasks.{view_options, IsDriveDone, IsRunDone, IsShowDone, IsTaskDone};
+ghost use Rattle.btrun.specs.Tasks.{view_options, IsDriveDone, IsRunDone, IsShowDone, IsTaskDone, IsTestDone};
 
 use bp_commands::{
-    Check, Code, Drive, Files, Migrate, PairCommand, ProgramCommand, Replay, Show, run_by_workers,
-    run_on_bundle, run_on_pair, run_on_program,
+    Check, Code, Drive, Files, Migrate, PairCommand, ProgramCommand, Replay, Show, Test,
+    run_by_workers, run_on_bundle, run_on_pair, run_on_program,
 };
 use bp_run::{Gate, Open, Spread};
 use bp_view::ViewOptions;
-use bp_words::{DriveWords, FileWords, RunWords, ShowWords, Task, TraceWords};
+use bp_words::{DriveWords, FileWords, RunWords, ShowWords, Task, TestWords, TraceWords};
 use std::alloc::Global;
 use std::io::{BufWriter, Read, Write};
 use std::sync::Wait;
@@ -69,6 +69,31 @@ fn run_as_asked<F: Files, T: Threads + Wait + Clock + Sync, W: Write + Drop, E: 
     }
 }
 
+/// Tests the program of a file.
+fn test_as_asked<F: Files, W: Write + Drop, E: Write>(
+    alloc: Global,
+    files: &F,
+    words: &TestWords<'_>,
+    out: BufWriter<W>,
+    errors: &mut E,
+) -> (u8, W)
+    ensures { let old = writer_contents W.contents out in
+        IsTestDone (F.bytes files.now) words.now old (W.contents result.1)
+        (E.contents errors.old) (E.contents errors.new) result.0 }
+{
+    let (start, seed, runs) = (&words.start, words.seed, words.runs);
+    let test = Test { start, seed, runs };
+    run_on_program(
+        alloc,
+        &test,
+        files,
+        words.program,
+        words.explain,
+        out,
+        errors,
+    )
+}
+
 fn on_file<C: ProgramCommand, F: Files, W: Write + Drop, E: Write>(
     alloc: Global,
     command: &C,
@@ -79,7 +104,7 @@ fn on_file<C: ProgramCommand, F: Files, W: Write + Drop, E: Write>(
 ) -> (u8, W)
     ensures { let inputs = text_alone (F.bytes files.now words.now.program.now) in
         let old = writer_contents W.contents out in
-        IsRun (C.command command.now) C.Answer.failed inputs
+        IsRun (C.command command.now) C.Answer.ending inputs
         (ExplainsText words.now.program.now) words.now.explain
         old (W.contents result.1)
         (E.contents errors.old) (E.contents errors.new) result.0 }
@@ -100,7 +125,7 @@ fn on_trace<C: PairCommand, F: Files, W: Write + Drop, E: Write>(
     ensures { let inputs = pair_of_files (C.limit command.now)
         (F.bytes files.now words.now.program.now) (F.bytes files.now words.now.trace.now) in
         let old = writer_contents W.contents out in
-        IsRun (C.command command.now) report_failed inputs
+        IsRun (C.command command.now) of_report inputs
         (ExplainsPair (C.beside command.now) words.now.program.now words.now.trace.now)
         words.now.explain
         old (W.contents result.1)
@@ -201,6 +226,7 @@ pub fn do_task<
         Task::Code(words) => on_file(alloc, &Code, files, words, out, errors),
         Task::Drive(words) => drive_as_asked(alloc, files, words, out, errors),
         Task::Run(words) => run_as_asked(alloc, threads, files, words, out, errors),
+        Task::Test(words) => test_as_asked(alloc, files, words, out, errors),
         Task::Replay(words) => on_trace(alloc, &Replay, files, words, out, errors),
         Task::Show(words) => show_as_asked(alloc, files, has_colour, words, out, errors),
         Task::Migrate(words) => on_trace(alloc, &Migrate, files, words, out, errors),

@@ -1,5 +1,5 @@
 use Rattle.clap.specs.Simple.{new_app}
-use Rattle.std.proofs.Common.{rules, refl}
+use Rattle.std.proofs.Common.{rules}
 use Rattle.bp_words.proofs.CommandShapes.{HasShape, with_argument, if_ok}
 use Rattle.bp_words.specs.Commands.{file_app}
 use Rattle.bp_words.proofs.files.file_command.Goals as goal

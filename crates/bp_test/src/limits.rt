@@ -1,0 +1,4 @@
+//! Numbers of tests.
+
+/// How many runs a test has, where no number is given.
+pub const DEFAULT_RUNS: u64 = 10_000;

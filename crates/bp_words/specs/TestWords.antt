@@ -1,0 +1,20 @@
+-- What the words after `test` ask for.
+use Rattle.std.specs.Prelude.{◌≡◌, List, codes, option_map}
+use Rattle.clap.specs.Walk.{Row, first_of, one_of}
+use Rattle.bp_machine.specs.declared.limits.TheConstants.{DEFAULT_CONTEXTS, DEFAULT_CALLS}
+use Rattle.bp_run.specs.declared.limits.TheConstants.{DEFAULT_SEED}
+use Rattle.bp_test.specs.declared.limits.TheConstants.{DEFAULT_RUNS}
+use Rattle.bp_words.specs.Values.{bits_in, entries_in, value_of, IsFlagOf, IsNumberOf}
+use Rattle.bp_words.specs.declared.test.TestWords.{TestWords}
+
+-- the file and the options of `test` are those of its arguments
+pub record IsTestOf (rows : List Row) (words : TestWords) : Type 0 where
+  pub program : words.program.now ≡ value_of (codes "FILE") rows
+  pub entries : words.start.entries ≡ entries_in rows
+  pub init : words.start.init ≡ option_map bits_in (first_of (codes "init") rows)
+  pub contexts :
+      IsNumberOf 32 DEFAULT_CONTEXTS (one_of (codes "contexts") rows) words.start.contexts
+  pub calls : IsNumberOf 32 DEFAULT_CALLS (one_of (codes "calls") rows) words.start.calls
+  pub seed : IsNumberOf 64 DEFAULT_SEED (one_of (codes "seed") rows) words.seed
+  pub runs : IsNumberOf 64 DEFAULT_RUNS (one_of (codes "runs") rows) words.runs
+  pub explain : IsFlagOf (one_of (codes "explain") rows) words.explain

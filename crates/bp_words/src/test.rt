@@ -1,0 +1,85 @@
+//! The words of `test`.
+ghost use Rattle.std.specs.Prelude.{◌≡◌, false, IfOk};
+ghost use Rattle.clap.specs.Words.{app_of, found_of, rows_of};
+ghost use Rattle.clap.specs.declared.builder.command.Command.TheViews.{out-Command};
+ghost use Rattle.bp_words.specs.Commands.{test_app};
+ghost use Rattle.bp_words.specs.TestWords.{IsTestOf};
+
+use crate::arguments::{long_number_option, number_option, option, values};
+use crate::files::file_command;
+use crate::values::{entries, init, is_given, long_number, number};
+use bp_machine::Start;
+use bp_machine::limits::{DEFAULT_CALLS, DEFAULT_CONTEXTS};
+use bp_run::limits::DEFAULT_SEED;
+use bp_test::limits::DEFAULT_RUNS;
+use clap::{ArgMatches, Command};
+use std::alloc::{AllocError, Global};
+
+/// A program, and by how many runs it is tested.
+#[derive(Drop)]
+pub struct TestWords<'a> {
+    /// The path of the program's text.
+    pub program: &'a str,
+    /// Whether `--explain` was given: lines that explain a fault then follow its line.
+    pub explain: bool,
+    /// What each run starts from.
+    pub start: Start,
+    /// The seed of the first run. Each other run has the seed after that of the run before it.
+    pub seed: u64,
+    /// How many runs there are at most.
+    pub runs: u64,
+}
+
+const ABOUT: &str =
+    "Tests a program by runs whose schedules are drawn, and prints the first that fails";
+
+/// What `test --help` says after the arguments.
+const NOTES: &str = "\
+    Each run switches between the threads at places that are drawn by its seed, within the\n\
+    contexts that are allowed. The seed of run r, from 0, is r more than that of the first. A run\n\
+    ends where an assertion failed, or where no thread can go on. The trace of the first run in\n\
+    which an assertion failed is printed, and 'btrun replay' takes it. What was found is one line\n\
+    on standard error, and so is the first fault.\n\n\
+    Example:\n  btrun test race.bp writer reader --contexts 4 --runs 100000\n\n\
+    Exit status:\n  0  no assertion failed in any run\n  1  an assertion failed\n  \
+    2  the program was refused, or the words were\n  \
+    3  memory, a device or the output failed";
+
+/// The arguments, options and help of the command.
+pub fn test_command<'a>(alloc: Global) -> Result<Command<'a>, AllocError>
+    ensures { IfOk result
+        (λ c. (app_of c ≡ test_app) × ((out-Command c).has_globals ≡ false)) }
+{
+    let entries = "The procedure with which a thread begins, one a thread [default: main]";
+    let seed = "The seed of the first run [default: 42]";
+    let contexts = "How many contexts are allowed [default: 2]";
+    let calls = "How many calls of a thread are allowed [default: 1000]";
+    let init = "The initial bits of the globals, each 0 or 1 [default: all 0]";
+    let runs = "How many runs there are at most [default: 10000]";
+    file_command(alloc, "test", ABOUT, NOTES)?
+        .arg(values(alloc, "ENTRY", entries))?
+        .arg(long_number_option(alloc, "seed", seed))?
+        .arg(number_option(alloc, "contexts", contexts))?
+        .arg(number_option(alloc, "calls", calls))?
+        .arg(option(alloc, "init", "BITS", init))?
+        .arg(long_number_option(alloc, "runs", runs))
+}
+
+/// What the words after `test` ask for.
+pub fn test_words<'a>(alloc: Global, words: &ArgMatches<'a>) -> Result<TestWords<'a>, AllocError>
+    ensures { IfOk result (IsTestOf (rows_of (found_of words.now))) }
+{
+    // FILE is required, so it is there.
+    Ok(TestWords {
+        program: words.get_str("FILE").unwrap_or(""),
+        explain: is_given(words, "explain"),
+        start: Start {
+            entries: entries(alloc, words)?,
+            init: init(alloc, words)?,
+            contexts: number(words, "contexts", DEFAULT_CONTEXTS),
+            calls: number(words, "calls", DEFAULT_CALLS),
+        },
+        seed: long_number(words, "seed", DEFAULT_SEED),
+        runs: long_number(words, "runs", DEFAULT_RUNS),
+    })
+}
