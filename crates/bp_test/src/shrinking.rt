@@ -180,8 +180,8 @@ fn shrink_unseeded(
 
 /// A history that fails where this one does, by no more calls and no more contexts: pieces are left
 /// out or moved to an earlier piece of their thread, and a few calls are left out, as long as that
-/// makes it better. The calls keep their bits, so the setup of what is answered has no seed. `number` is
-/// that of the instruction whose assertion failed, if it is known.
+/// makes it better. The calls keep their bits, so the setup of what is answered has no seed.
+/// `number` is that of the instruction whose assertion failed, if it is known.
 pub fn shrink(
     alloc: Global,
     code: &Code,
