@@ -106,6 +106,27 @@ fn shows_a_failure_in_red(rt: HostRuntime) -> Result<(), Fail> {
     Ok(())
 }
 
+/// A failed assertion of a formal, a local that hides a global, and a global.
+const VALUES: &[u8] = b"\
+    thread 0 begins in main\nglobals x=0 y=1\ncontexts at most 2\n\
+    calls of a thread at most 1000\nseed none\n\n\n\
+    3 calls, contexts 1, open threads 0\n\
+    an assertion of thread 0 failed at 3:28: assert (a & y | !x)\n\
+    values f.a=1 f.y=0 x=1\n";
+
+#[test]
+fn says_the_values_of_a_failed_assertion(rt: HostRuntime) -> Result<(), Fail> {
+    let text = b"decl x, y;\nmain() begin f(1); end\n\
+        f(a) begin decl y; x := 1; assert (a & y | !x); end";
+    let trace = b"btrace 1\nentry main\ninit 01\ncontexts 2\ncalls 1000\nseed none\n\
+        0 0 s\n0 0 s\n0 0 f\nend 3 0\n";
+    let mut options = ALL;
+    options.last = Some(0);
+    let shown = view_of(rt.alloc(), text, trace, options)?;
+    assert!(rt; shown.as_slice() == VALUES);
+    Ok(())
+}
+
 #[test]
 fn positions_are_counted_from_1(rt: HostRuntime) {
     assert!(rt; position_of(b"ab\nc", 0) == Position { line: 1, column: 1 });

@@ -1,10 +1,15 @@
+pub mod AssertionTexts
 pub mod ChangedVariables
 pub mod ChangesOfFrames
+pub mod FailedStatements
 pub mod LinesOfCalls
 pub mod LongestPlaces
 pub mod NextConfigurations
+pub mod OneStatement
 pub mod PartsOfHeads
 pub mod PlacesOfTops
 pub mod ProceduresOfPlaces
 pub mod SceneLists
+pub mod SlotsOfNames
+pub mod ValuesOfStatements
 pub mod WordsOfStatements

@@ -5,6 +5,7 @@ pub mod Lines
 pub mod Outcomes
 pub mod Places
 pub mod Scenes
+pub mod StatementLines
 pub mod Statements
 pub mod Views
 pub mod Widths

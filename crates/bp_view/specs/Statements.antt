@@ -55,6 +55,11 @@ abbrev pub is_gap : Role → Bool
 is_gap Gap = true
 is_gap r = false
 
+-- names and reserved words
+abbrev pub is_word : Role → Bool
+is_word Word = true
+is_word r = false
+
 -- bytes on one line, after a space where a gap comes before them
 abbrev pub spaced : (gap : Bool) → List ℕ → List ℕ
 spaced gap bytes = (if gap then codes " " else []) ++ map on_one_line bytes

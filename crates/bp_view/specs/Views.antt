@@ -90,7 +90,7 @@ pub record IsView
   pub lines : List ℕ
   pub foot : List ℕ
   pub is : view ≡ view_head t.globals s ++ lines ++ foot
-  pub foot_is : IsFoot t text r foot
+  pub foot_is : IsFoot t text s h r foot
   pub lines_are : AreLines t text s o widths (length h) h lines
 
 -- the view of the history of a trace of the program, and its report

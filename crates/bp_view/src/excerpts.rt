@@ -2,7 +2,7 @@
 ghost use Rattle.std.specs.Prelude.{◌≡◌, ◌++◌, ◌∷◌, [], ◌≤◌, ◌<◌, length, IfOk, OnOk, MatchOption};
 ghost use Rattle.std.specs.Prelude.{bytes_eq, codes};
 ghost use Rattle.bp_text.specs.OneLine.{AddsOneLine, IsOneLine};
-ghost use Rattle.bp_view.specs.Statements.{is_choice, is_ending, is_gap, role_of, shortened, word_after, IsAtEnd, IsStatement, Takes};
+ghost use Rattle.bp_view.specs.Statements.{is_choice, is_ending, is_gap, is_word, role_of, shortened, word_after, IsAtEnd, IsStatement, Takes};
 
 use bp_syntax::{Lexeme, LexemeKind, take_lexeme};
 use bp_text::push_on_one_line;
@@ -32,7 +32,7 @@ fn is_ending(bytes: &[u8]) -> bool
 }
 
 /// What a lexeme is to an excerpt.
-pub(crate) fn role_of(lexeme: Lexeme<'_>) -> Role
+fn role_of(lexeme: Lexeme<'_>) -> Role
     ensures { result ≡ role_of lexeme.entry.kind }
 {
     match lexeme.kind {
@@ -47,6 +47,13 @@ fn is_gap(lexeme: Lexeme<'_>) -> bool
     ensures { result ≡ is_gap (role_of lexeme.entry.kind) }
 {
     matches!(role_of(lexeme), Role::Gap)
+}
+
+/// Whether the lexeme is a name or a reserved word.
+pub(crate) fn is_word(lexeme: Lexeme<'_>) -> bool
+    ensures { result ≡ is_word (role_of lexeme.entry.kind) }
+{
+    matches!(role_of(lexeme), Role::Word)
 }
 
 /// Whether these bytes are the sign of a choice.

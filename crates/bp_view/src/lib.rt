@@ -12,10 +12,12 @@ mod outcomes;
 mod scenes;
 mod settings;
 mod shown;
+mod statements;
 mod variables;
 mod views;
 mod watching;
 mod writers;
 
 pub use options::ViewOptions;
+pub use statements::statement_lines;
 pub use views::view;

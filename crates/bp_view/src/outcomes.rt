@@ -1,18 +1,29 @@
 //! The end of a view: the report of the history.
-ghost use Rattle.std.specs.Prelude.{◌≡◌, ◌++◌, ℕ, List, OnOk, IfOk};
-ghost use Rattle.bp_tree.specs.Ast.{Procedure, Program};
-ghost use Rattle.bp_code.specs.StandsFor.{Place};
-ghost use Rattle.bp_view.specs.Lines.{Adds};
-ghost use Rattle.bp_view.specs.Outcomes.{count_text, counts_line, failure_text, IsFoot, IsOutcomeText, SaysFailure, SaysStatement};
-ghost use Rattle.bp_view.specs.Scenes.{AreScenes, IsScene};
+ghost use Rattle.std.specs.Prelude.{◌≡◌, ◌++◌, ℕ, List, Some, drop, OnOk, IfOk};
+ghost use Rattle.bp_tree.specs.Ast.{Program};
+ghost use Rattle.bp_code.specs.Bits.{store_of};
+ghost use Rattle.bp_code.specs.Configurations.{Configuration};
+ghost use Rattle.bp_code.specs.Moves.{frame_store};
+ghost use Rattle.bp_code.specs.StandsFor.{named_store, StandsFor};
+ghost use Rattle.bp_machine.specs.declared.calls.Call.{Call as Answered};
+ghost use Rattle.bp_machine.specs.declared.reports.Outcome.TheVariants.{Failed};
+ghost use Rattle.bp_machine.specs.Reports.{outcome_of};
+ghost use Rattle.bp_machine.specs.Sessions.{Stands};
+ghost use Rattle.bp_machine.specs.Tops.{IsTop};
+ghost use Rattle.bp_view.specs.Lines.{IsSettingOf};
+ghost use Rattle.bp_view.specs.Outcomes.{assertion_text, count_text, counts_line, failure_text, lexeme_value, named_values, values_line, IsAssertionText, IsFoot, IsOutcomeText};
+ghost use Rattle.bp_view.specs.Statements.{HasLexemes, Lexeme as Read};
 
 use crate::changes::procedure_at;
-use crate::excerpts::{Role, role_of, take_own_lexeme};
+use crate::excerpts::{is_word, take_own_lexeme};
 use crate::scenes::Scene;
 use crate::settings::Setting;
 use crate::variables::push_variable;
+use bp_code::Store;
 use bp_machine::{Outcome, Report, Session, Top};
+use bp_syntax::Lexeme;
 use bp_text::{part_from, push_bytes};
+use bp_tree::{Name, Proc};
 use itoa::Buffer;
 use std::alloc::{AllocError, Global};
 
@@ -25,72 +36,113 @@ fn push_count(view: &mut Vec<u8>, words: &[u8], count: u64) -> Result<(), AllocE
     push_bytes(view, buffer.format(count).as_bytes())
 }
 
-/// Adds the values of the variables of the statement with which the text begins.
-fn push_variables(
-    view: &mut Vec<u8>,
-    setting: &Setting<'_>,
-    text: &[u8],
-    top: Top,
-) -> Result<(), AllocError> {
-    let Some(proc) = procedure_at(setting.scenes, setting.procs, top.number) else {
-        return Ok(());
-    };
-    let mut rest = text;
-    while let Some(lexeme) = take_own_lexeme(&mut rest) {
-        if role_of(lexeme) == Role::Word {
-            push_variable(view, setting.globals, proc, top.store, lexeme.text)?;
-        }
+/// Adds the variable that a lexeme names, where it names one, and its value.
+fn push_named(
+    values: &mut Vec<u8>,
+    globals: &[Name],
+    proc: &Proc,
+    store: Store,
+    lexeme: Lexeme<'_>,
+) -> Result<(), AllocError>
+    ensures { let s = named_store globals.now proc.now (store_of store) in
+        let value = lexeme_value proc.now s lexeme.entry.kind lexeme.entry.text.now in
+        OnOk result (values.new.items ≡ values.old.items ++ value) }
+{
+    if is_word(lexeme) {
+        push_variable(values, globals, proc, store, lexeme.text)?;
     }
     Ok(())
 }
 
-/// The line of the values of a statement's variables; nothing where it names none, or at a
-/// procedure's end.
-fn values_line(
+/// Adds the values of the variables in the first statement of the text.
+fn push_variables(
+    values: &mut Vec<u8>,
+    globals: &[Name],
+    proc: &Proc,
+    store: Store,
+    text: &[u8],
+) -> Result<(), AllocError>
+    ensures { (lexemes : List Read)
+        → HasLexemes text.now lexemes
+        → let s = named_store globals.now proc.now (store_of store) in
+        OnOk result (values.new.items ≡ values.old.items ++ named_values proc.now s lexemes) }
+{
+    let mut rest = text;
+    while let Some(lexeme) = take_own_lexeme(&mut rest) {
+        push_named(values, globals, proc, store, lexeme)?;
+    }
+    Ok(())
+}
+
+/// The values of the variables in the statement that begins here and is the next of this stack;
+/// none at a procedure's end.
+fn values_of(
     alloc: Global,
     setting: &Setting<'_>,
     text: &[u8],
     start: Option<u32>,
     top: Top,
-) -> Result<Vec<u8>, AllocError> {
-    let mut line = Vec::new(alloc);
-    let Some(start) = start else {
-        return Ok(line);
-    };
+) -> Result<Vec<u8>, AllocError>
+    ensures { (t : Program) (c : Configuration) (i at : ℕ) (lexemes : List Read)
+        → IsSettingOf t text.now setting.now
+        → (is : IsTop t c i top)
+        → start ≡ Some at
+        → HasLexemes (drop at text.now) lexemes
+        → let p = is.frame.procedure in
+        let s = frame_store c.globals is.frame in
+        IfOk result (λ v. v.items ≡ named_values p s lexemes) }
+{
     let mut values = Vec::new(alloc);
-    push_variables(&mut values, setting, part_from(text, start as usize), top)?;
-    if !values.is_empty() {
-        push_bytes(&mut line, b"\nvalues")?;
-        push_bytes(&mut line, &values)?;
-    }
-    Ok(line)
+    let Some(start) = start else {
+        return Ok(values);
+    };
+    let Some(proc) = procedure_at(setting.scenes, setting.procs, top.number) else {
+        return Ok(values);
+    };
+    let statement = part_from(text, start as usize);
+    push_variables(&mut values, setting.globals, proc, top.store, statement)?;
+    Ok(values)
 }
 
-/// Adds where a statement begins, its words, and the line of its values.
-fn push_failure(view: &mut Vec<u8>, scene: &Scene, values: &[u8]) -> Result<(), AllocError>
-    ensures { (text : List ℕ) (ps : List Procedure) (x : Place)
-        → IsScene text ps x scene.now
-        → OnOk result (Adds (SaysStatement text x) view.old.items view.new.items) }
+/// Adds the line of these values, where there are any.
+fn push_values_line(view: &mut Vec<u8>, values: &[u8]) -> Result<(), AllocError>
+    ensures { OnOk result (view.new.items ≡ view.old.items ++ values_line values.now) }
+{
+    if !values.is_empty() {
+        push_bytes(view, b"\nvalues")?;
+        push_bytes(view, values)?;
+    }
+    Ok(())
+}
+
+/// Adds where an assertion begins, its words, and the line of its values.
+fn push_assertion(view: &mut Vec<u8>, scene: &Scene, values: &[u8]) -> Result<(), AllocError>
+    ensures { let words = scene.now.excerpt.words.items in
+        let assertion = assertion_text scene.now.place.items words values.now in
+        OnOk result (view.new.items ≡ view.old.items ++ assertion) }
 {
     push_bytes(view, b" at ")?;
     push_bytes(view, scene.place.as_slice())?;
     push_bytes(view, b": ")?;
     push_bytes(view, scene.excerpt.words.as_slice())?;
-    push_bytes(view, values)?;
+    push_values_line(view, values)?;
     Ok(())
 }
 
-/// What is said of the statement of a thread that failed.
-fn failed_statement(
+/// What is said of the assertion of a thread that failed. The thread still stands at it.
+fn assertion_of(
     alloc: Global,
     setting: &Setting<'_>,
     text: &[u8],
     session: &Session,
     thread: u32,
 ) -> Result<Vec<u8>, AllocError>
-    ensures { (t : Program)
-        → AreScenes text.now t setting.now.scenes.now
-        → IfOk result (λ v. SaysFailure t text.now v.items) }
+    ensures { (t : Program) (h : List Answered)
+        → IsSettingOf t text.now setting.now
+        → StandsFor session.now.code t
+        → Stands t session.now h
+        → outcome_of h ≡ Failed thread
+        → IfOk result (λ v. IsAssertionText t text.now session.now.setup h thread v.items) }
 {
     let mut said = Vec::new(alloc);
     let Some(top) = session.top(thread) else {
@@ -99,40 +151,43 @@ fn failed_statement(
     let Some(scene) = setting.scenes.get(top.number as usize) else {
         return Ok(said);
     };
-    let values = values_line(alloc, setting, text, scene.start, top)?;
-    push_failure(&mut said, scene, &values)?;
+    let values = values_of(alloc, setting, text, scene.start, top)?;
+    push_assertion(&mut said, scene, &values)?;
     Ok(said)
 }
 
-/// Adds that an assertion of a thread failed, and what is said of its statement.
-fn push_failed(view: &mut Vec<u8>, thread: u32, statement: &[u8]) -> Result<(), AllocError>
+/// Adds that an assertion of a thread failed, and what is said of it.
+fn push_failed(view: &mut Vec<u8>, thread: u32, assertion: &[u8]) -> Result<(), AllocError>
     ensures { OnOk result
-        (view.new.items ≡ view.old.items ++ failure_text thread statement.now) }
+        (view.new.items ≡ view.old.items ++ failure_text thread assertion.now) }
 {
     push_count(view, b"an assertion of thread ", u64::from(thread))?;
     push_bytes(view, b" failed")?;
-    push_bytes(view, statement)?;
+    push_bytes(view, assertion)?;
     Ok(())
 }
 
-/// The outcome; that of a failed assertion with its statement.
-fn outcome_of(
+/// The outcome; that of a failed assertion with its place, its words and its values.
+fn outcome_text(
     alloc: Global,
     setting: &Setting<'_>,
     text: &[u8],
     session: &Session,
     outcome: Outcome,
 ) -> Result<Vec<u8>, AllocError>
-    ensures { (t : Program)
-        → AreScenes text.now t setting.now.scenes.now
-        → IfOk result (λ v. IsOutcomeText t text.now outcome v.items) }
+    ensures { (t : Program) (h : List Answered)
+        → IsSettingOf t text.now setting.now
+        → StandsFor session.now.code t
+        → Stands t session.now h
+        → outcome ≡ outcome_of h
+        → IfOk result (λ v. IsOutcomeText t text.now session.now.setup h outcome v.items) }
 {
     let mut words = Vec::new(alloc);
     match outcome {
         Outcome::Clean => push_bytes(&mut words, b"no assertion failed")?,
         Outcome::Failed { thread } => {
-            let statement = failed_statement(alloc, setting, text, session, thread)?;
-            push_failed(&mut words, thread, &statement)?;
+            let assertion = assertion_of(alloc, setting, text, session, thread)?;
+            push_failed(&mut words, thread, &assertion)?;
         }
     }
     Ok(words)
@@ -149,8 +204,8 @@ fn push_counts(view: &mut Vec<u8>, report: Report) -> Result<(), AllocError>
     Ok(())
 }
 
-/// The report of the history, and of a failed assertion its statement, as the session
-/// has it.
+/// The report of the history after which the session stands, and what is said of an assertion
+/// that failed in it.
 pub(crate) fn foot_of(
     alloc: Global,
     setting: &Setting<'_>,
@@ -158,11 +213,14 @@ pub(crate) fn foot_of(
     session: &Session,
     report: Report,
 ) -> Result<Vec<u8>, AllocError>
-    ensures { (t : Program)
-        → AreScenes text.now t setting.now.scenes.now
-        → IfOk result (λ v. IsFoot t text.now report v.items) }
+    ensures { (t : Program) (h : List Answered)
+        → IsSettingOf t text.now setting.now
+        → StandsFor session.now.code t
+        → Stands t session.now h
+        → report.outcome ≡ outcome_of h
+        → IfOk result (λ v. IsFoot t text.now session.now.setup h report v.items) }
 {
-    let outcome = outcome_of(alloc, setting, text, session, report.outcome)?;
+    let outcome = outcome_text(alloc, setting, text, session, report.outcome)?;
     let mut foot = Vec::new(alloc);
     push_counts(&mut foot, report)?;
     push_bytes(&mut foot, &outcome)?;

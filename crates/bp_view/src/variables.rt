@@ -1,9 +1,11 @@
 //! The names of the bits of a store, and their values.
-ghost use Rattle.std.specs.Prelude.{if◌then◌else◌, ◌≡◌, ◌<◌, ◌+◌, ◌^◌, ◌++◌, [], codes, length, map, option_map, OnOk};
-ghost use Rattle.bp_code.specs.Bits.{bits_of};
-ghost use Rattle.bp_code.specs.StandsFor.{valuation_of};
+ghost use Rattle.std.specs.Prelude.{if◌then◌else◌, ◌≡◌, ◌<◌, ◌+◌, ◌^◌, ◌++◌, [], codes, length, map, option_map, OnOk, MatchOption};
+ghost use Rattle.bp_check.specs.Tables.{first_index};
+ghost use Rattle.bp_code.specs.Bits.{bits_of, store_of};
+ghost use Rattle.bp_code.specs.StandsFor.{named_store, valuation_of, variables};
 ghost use Rattle.bp_text.specs.OneLine.{on_one_line};
 ghost use Rattle.bp_view.specs.Changes.{owner_text, slot_text, slots_text, variable_text, variables_text};
+ghost use Rattle.bp_view.specs.Outcomes.{named_value};
 
 use bp_code::Store;
 use bp_text::push_on_one_line;
@@ -118,31 +120,44 @@ pub(crate) fn push_differing(
     Ok(())
 }
 
-/// The slot of the name among these, where it is one.
-fn slot_of(names: &[Name], name: &[u8]) -> Option<usize> {
+/// The slot of the first of these names that is spelled so, where one is.
+fn slot_of(names: &[Name], name: &[u8]) -> Option<usize>
+    ensures slot { result ≡ first_index names.now name.now }
+    ensures within { MatchOption result Unit (λ k. k < length names.now) }
+{
     names.iter().position(|it| it.text().as_bytes() == name)
 }
 
-/// Adds the value of a name, where it is that of a variable: a local hides a global.
+/// The slot of a local; the formals of the procedure have the first slots.
+fn local_slot_of(proc: &Proc, name: &[u8]) -> Option<usize>
+    ensures { result ≡ first_index (variables proc.now) name.now }
+{
+    let formals = proc.formals();
+    if let Some(slot) = slot_of(formals, name) {
+        return Some(slot);
+    }
+    let slot = slot_of(proc.locals(), name)?;
+    Some(formals.len() + slot)
+}
+
+/// Adds a variable and its value, where the name is that of one: a local hides a global.
 pub(crate) fn push_variable(
     line: &mut Vec<u8>,
     globals: &[Name],
     proc: &Proc,
     store: Store,
     name: &[u8],
-) -> Result<(), AllocError> {
-    if let Some(slot) = slot_of(proc.formals(), name) {
-        push_value(line, Some(proc), name, bit_of(store.locals, slot))?;
-        return Ok(());
-    }
-    if let Some(slot) = slot_of(proc.locals(), name) {
-        let slot = proc.formals().len().saturating_add(slot);
+) -> Result<(), AllocError>
+    ensures { let values = named_store globals.now proc.now (store_of store) in
+        OnOk result
+        (line.new.items ≡ line.old.items ++ named_value proc.now values name.now) }
+{
+    if let Some(slot) = local_slot_of(proc, name) {
         push_value(line, Some(proc), name, bit_of(store.locals, slot))?;
         return Ok(());
     }
     if let Some(slot) = slot_of(globals, name) {
         push_value(line, None, name, bit_of(store.globals, slot))?;
-        return Ok(());
     }
     Ok(())
 }

@@ -8,10 +8,10 @@ regrouped old a b c = simp append_assoc
 pub returns : goal.returns
 returns c =
     let old = c.args.view.now.items in
-    let statement = c.args.statement.now in
+    let assertion = c.args.assertion.now in
     let thread = count_text (codes "an assertion of thread ") c.from.result in
     let failed = codes " failed" in
     c.in_ok-push_bytes-2.ensures
-    ∙ ap (λ x. x ++ statement) (c.in_ok-push_bytes.ensures ∙ ap (λ x. x ++ failed) c.in_ok-push_count.ensures)
-    ∙ regrouped old thread failed statement
-    ∙ ap (λ k. old ++ ((count_text (codes "an assertion of thread ") k ++ failed) ++ statement)) c.from.ensures
+    ∙ ap (λ x. x ++ assertion) (c.in_ok-push_bytes.ensures ∙ ap (λ x. x ++ failed) c.in_ok-push_count.ensures)
+    ∙ regrouped old thread failed assertion
+    ∙ ap (λ k. old ++ ((count_text (codes "an assertion of thread ") k ++ failed) ++ assertion)) c.from.ensures

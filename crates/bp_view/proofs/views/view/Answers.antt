@@ -1,7 +1,8 @@
-use Rattle.std.proofs.Common.{◌≡◌, ◌∙◌, ◌++◌, length, ap, refl}
+use Rattle.std.proofs.Common.{◌≡◌, ◌∙◌, ◌++◌, length, ap, refl, subst}
 use Rattle.bp_code.specs.StandsFor.{places_of}
 use Rattle.bp_view.specs.Heads.{view_head}
 use Rattle.bp_view.specs.Lines.{IsSettingOf}
+use Rattle.bp_view.specs.Outcomes.{IsFoot}
 use Rattle.bp_view.specs.Scenes.{AreScenes}
 use Rattle.bp_view.proofs.LongestPlaces.{places_are, words_are, words_items}
 use Rattle.bp_view.proofs.views.view.Goals as goal
@@ -22,6 +23,9 @@ returns c =
     let lines = w.seen.lines text known in
     let counted = c.calls_at_end-count.ensures t w.replayed.version r.setup r.history.items c.is_in_range.ensures w.replayed.trace in
     let count : setting.count ≡ length r.history.items = w.seen.count ∙ c.setting_of.ensures.count ∙ counted in
+    let foot : IsFoot t text r.setup r.history.items r.report c.in_ok-foot.foot.items =
+    subst (λ s. IsFoot t text s r.history.items r.report c.in_ok-foot.foot.items) w.setup (c.in_ok-foot.ensures t r.history.items known w.code w.stands w.replayed.report.outcome)
+    in
     let here = rw (count, w.seen.options, c.setting_of.ensures.options) at lines.more_are in
     record {
       replayed = r;
@@ -36,7 +40,7 @@ returns c =
         is = c.in_ok-push_bytes.ensures
             ∙ ap (λ x. x ++ c.deref.result.now) lines.is
             ∙ ap (λ g. (view_head g r.setup ++ lines.more) ++ c.deref.result.now) known.globals;
-        foot_is = rw c.deref.ensures.value (c.in_ok-foot.ensures t are);
+        foot_is = rw c.deref.ensures.value foot;
         lines_are = here;
       };
       report_is = refl;

@@ -1,0 +1,47 @@
+use Rattle.std.proofs.Common.{◌≡◌, ◌∙◌, ◌++◌, Some, None, ap, ap₂, append-nil, sym}
+use Rattle.std.specs.Prelude.{option_map}
+use Rattle.bp_code.specs.Bits.{bits_of}
+use Rattle.bp_code.specs.StandsFor.{valuation_of, variables}
+use Rattle.bp_code.specs.Values.{lookup}
+use Rattle.bp_view.specs.Changes.{variable_text}
+use Rattle.bp_view.specs.Outcomes.{resolved_value}
+use Rattle.bp_view.proofs.SlotsOfNames.{value_of_slot}
+use Rattle.bp_view.proofs.variables.push_variable.Goals as goal
+
+pub returns-in-Some : goal.returns-in-Some
+returns-in-Some c =
+    let old = c.args.line.now.items in
+    let p = c.args.proc.now in
+    let name = c.args.name.now in
+    let bits = bits_of c.args.store.locals in
+    let global = lookup (valuation_of c.args.globals.now (bits_of c.args.store.globals)) name in
+    let local : lookup (valuation_of (variables p) bits) name ≡ Some (bits c.in-Some.slot) = sym (value_of_slot (variables p) bits name) ∙ ap (option_map bits) (sym c.local_slot_of.ensures ∙ c.in-Some.is) in
+    c.in_ok-push_value.ensures
+    ∙ ap (λ b. old ++ variable_text (Some p) name b) c.bit_of.ensures
+    ∙ ap (λ o. old ++ resolved_value p name o global) (sym local)
+
+pub returns-in_ok-push_value-2 : goal.returns-in_ok-push_value-2
+returns-in_ok-push_value-2 c =
+    let old = c.args.line.now.items in
+    let p = c.args.proc.now in
+    let globals = c.args.globals.now in
+    let name = c.args.name.now in
+    let locals = bits_of c.args.store.locals in
+    let bits = bits_of c.args.store.globals in
+    let local : lookup (valuation_of (variables p) locals) name ≡ None = sym (value_of_slot (variables p) locals name) ∙ ap (option_map locals) (sym c.local_slot_of.ensures ∙ c.in_default.is) in
+    let global : lookup (valuation_of globals bits) name ≡ Some (bits c.in-Some-slot_of.slot) = sym (value_of_slot globals bits name) ∙ ap (option_map bits) (sym c.slot_of.ensures.slot ∙ c.in-Some-slot_of.is) in
+    c.in_ok-push_value-2.ensures
+    ∙ ap (λ b. old ++ variable_text None name b) c.bit_of-in-Some-slot_of.ensures
+    ∙ ap₂ (λ o g. old ++ resolved_value p name o g) (sym local) (sym global)
+
+pub returns-in_default-slot_of : goal.returns-in_default-slot_of
+returns-in_default-slot_of c =
+    let old = c.args.line.now.items in
+    let p = c.args.proc.now in
+    let globals = c.args.globals.now in
+    let name = c.args.name.now in
+    let locals = bits_of c.args.store.locals in
+    let bits = bits_of c.args.store.globals in
+    let local : lookup (valuation_of (variables p) locals) name ≡ None = sym (value_of_slot (variables p) locals name) ∙ ap (option_map locals) (sym c.local_slot_of.ensures ∙ c.in_default.is) in
+    let global : lookup (valuation_of globals bits) name ≡ None = sym (value_of_slot globals bits name) ∙ ap (option_map bits) (sym c.slot_of.ensures.slot ∙ c.in_default-slot_of.is) in
+    sym (ap₂ (λ o g. old ++ resolved_value p name o g) local global ∙ append-nil old)

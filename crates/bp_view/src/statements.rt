@@ -1,0 +1,46 @@
+//! The statements of a program, a line each.
+ghost use Rattle.std.specs.Prelude.{◌≡◌, map, IfOk};
+ghost use Rattle.bp_view.specs.StatementLines.{line_of_scene, AreStatementLines};
+
+use crate::scenes::{Scene, scenes_of};
+use bp_check::Checked;
+use bp_text::push_bytes;
+use std::alloc::{AllocError, Global};
+
+/// The line of an instruction's statement: the file's name, the place and the statement's text. It
+/// is empty at the end of a procedure.
+fn line_of(alloc: Global, file: &str, scene: &Scene) -> Result<Vec<u8>, AllocError>
+    ensures { IfOk result (λ v. v.items ≡ line_of_scene file.now scene.now) }
+{
+    let mut line = Vec::new(alloc);
+    if scene.start.is_none() {
+        return Ok(line);
+    }
+    push_bytes(&mut line, file.as_bytes())?;
+    push_bytes(&mut line, b":")?;
+    push_bytes(&mut line, &scene.place)?;
+    push_bytes(&mut line, b" ")?;
+    push_bytes(&mut line, &scene.excerpt.words)?;
+    push_bytes(&mut line, b"\n")?;
+    Ok(line)
+}
+
+/// For each instruction of the program of a text, in their order, the line of its statement:
+/// `FILE:LINE:COLUMN STATEMENT` and a line feed. The end of a procedure has an empty one.
+pub fn statement_lines(
+    alloc: Global,
+    file: &str,
+    text: &[u8],
+    checked: &Checked,
+) -> Result<Vec<Vec<u8>>, AllocError>
+    ensures { IfOk result (λ v.
+        let lines = map (λ line. line.items) v.items in
+        AreStatementLines file.now text.now checked.now lines) }
+{
+    let scenes = scenes_of(alloc, text, checked)?;
+    let mut lines = Vec::with_capacity(alloc, scenes.len())?;
+    for scene in scenes.iter() {
+        lines.push(line_of(alloc, file, scene)?)?;
+    }
+    Ok(lines)
+}
