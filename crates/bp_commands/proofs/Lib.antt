@@ -4,4 +4,5 @@ mod ExplainedRuns
 mod FirstSeparator
 mod Migrated
 mod RunAnswers
+mod ShrunkTraces
 mod TestAnswers

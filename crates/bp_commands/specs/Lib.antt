@@ -14,5 +14,7 @@ pub mod Inputs
 pub mod Listings
 pub mod ReplayLines
 pub mod Runs
+pub mod Shrinks
+pub mod Summaries
 pub mod Tests
 pub mod Traces

@@ -1,15 +1,17 @@
 -- The command `test`.
-use Rattle.std.specs.Prelude.{◌≡◌, ◌⊎◌, ℕ, Bool, true, false, List, [], ◌∷◌, None, Some, codes, decimal}
-use Rattle.std.specs.List.{concat}
+use Rattle.std.specs.Prelude.{◌≡◌, ◌⊎◌, ℕ, Bool, true, false, List, [], Option, None, Some, map, option_map}
+use Rattle.std.specs.Borrow.{Bor}
 use Rattle.bp_tree.specs.Ast.{Program}
 use Rattle.bp_code.specs.LawfulTexts.{IsLawfulText}
 use Rattle.bp_machine.specs.declared.reports.Report.{Report}
 use Rattle.bp_machine.specs.declared.setup_faults.SetupFault.{SetupFault}
 use Rattle.bp_machine.specs.Setups.{setup_fault, IsSetupRefusal}
 use Rattle.bp_machine.specs.Starts.{StartOf, setup_from}
+use Rattle.bp_test.specs.declared.options.TestOptions.{TestOptions}
 use Rattle.bp_test.specs.declared.testing.Found.{Found}
-use Rattle.bp_test.specs.declared.testing.Found.TheVariants.{Nothing, Failed}
-use Rattle.bp_test.specs.Tests.{IsFound, IsWrittenRun}
+use Rattle.bp_test.specs.declared.testing.Found.TheVariants.{Nothing, Failed, Stuck}
+use Rattle.bp_test.specs.Tests.{IsFound, IsSought, IsWrittenRun}
+use Rattle.bp_view.specs.StatementLines.{AreStatementLines}
 use Rattle.bp_commands.specs.declared.faults.Fault.{Fault}
 use Rattle.bp_commands.specs.declared.faults.Fault.TheVariants.{Memory}
 use Rattle.bp_commands.specs.declared.testing.Tested.{Tested}
@@ -17,57 +19,52 @@ use Rattle.bp_commands.specs.Commands.{Command}
 use Rattle.bp_commands.specs.Ends.{Ending}
 use Rattle.bp_commands.specs.Faults.{fault_of_setup}
 use Rattle.bp_commands.specs.Listings.{HasNoCode}
+use Rattle.bp_commands.specs.Summaries.{summary_text}
 
--- an assertion failed in some run
+-- a test found what it looks for
 abbrev pub has_found : Found → Bool
 has_found Nothing = false
 has_found (Failed run report) = true
-
-abbrev pub failed_run_text : (run runs : ℕ) → List ℕ
-failed_run_text run runs =
-    concat (
-    codes "an assertion failed in run " ∷ decimal run
-    ∷ codes " of " ∷ decimal runs
-    ∷ codes "\n" ∷ [])
-
--- what was found in this many runs
-abbrev pub finding_text : ℕ → Found → List ℕ
-finding_text runs Nothing =
-    concat (codes "no assertion failed in " ∷ decimal runs ∷ codes " runs\n" ∷ [])
-finding_text runs (Failed run report) = failed_run_text run runs
+has_found (Stuck run report) = true
 
 -- a test has a summary
 abbrev pub of_test : Ending Tested
-of_test = record {
-  failed = λ x. has_found x.found;
-  summary = λ x. finding_text x.runs x.found;
-}
+of_test = record { failed = λ x. has_found x.found; summary = summary_text }
 
--- The program of a text is tested from this start by this many runs. Their seeds are this one and
--- those after it.
-module _ (start : StartOf) (seed runs : ℕ) (text : List ℕ) where
+abbrev pub name_of : Option (Bor (List ℕ)) → Option (List ℕ)
+name_of o = option_map (λ name. name.now) o
+
+-- the lines of the program's statements, where its text has a name by which they are listed
+abbrev pub AreListed : Option (List ℕ) → List ℕ → Program → List (List ℕ) → Type 0
+AreListed None text t lines = lines ≡ []
+AreListed (Some name) text t lines = AreStatementLines name text t lines
+
+-- the program of a text is tested from this start, as these options ask
+module _ (start : StartOf) (x : TestOptions) (listed : Option (List ℕ)) (text : List ℕ) where
   -- the text is that of a lawful program that takes the setup
   pub record IsTestable : Type 0 where
     pub program : Program
     pub lawful : IsLawfulText text program
     pub fine : setup_fault program (setup_from start None program) ≡ None
 
-  -- the trace of the first run in which an assertion failed
+  -- the trace of the first run that the test looks for
   pub record IsOfTest (written : List ℕ) : Type 0 where
     pub testable : IsTestable
     pub run : ℕ
     pub report : Report
     pub first :
-        let s = setup_from start None testable.program in
-        IsWrittenRun testable.program s seed runs (Some []) (Some written) run report
+        let t = testable.program in
+        IsWrittenRun t (setup_from start None t) x (Some []) (Some written)
+        (λ s h. IsSought t s x.with_stuck h) run report
 
   -- what an empty output has after the test, and what is answered
   pub record IsTestReport (written : List ℕ) (tested : Tested) : Type 0 where
     pub testable : IsTestable
     pub found :
-        let s = setup_from start None testable.program in
-        IsFound testable.program s seed runs (Some []) (Some written) tested.found
-    pub runs_are : tested.runs ≡ runs
+        let t = testable.program in
+        IsFound t (setup_from start None t) x (Some []) (Some written) tested.found
+    pub options_are : tested.options ≡ x
+    pub lines : AreListed listed text testable.program (map (λ v. v.items) tested.lines.items)
 
   -- the text is that of a lawful program, which does not take the setup
   pub record IsStartRefused (f : Fault) : Type 0 where
@@ -84,11 +81,11 @@ module _ (start : StartOf) (seed runs : ℕ) (text : List ℕ) where
   abbrev pub IsTestRefused : Fault → Type 0
   IsTestRefused f = HasNoCode text f ⊎ (IsStartRefused f ⊎ LacksMemory f)
 
--- it writes the trace of the first run in which an assertion fails, or nothing
-abbrev pub tests : StartOf → ℕ → ℕ → Command (List ℕ) Tested
-tests start seed runs = record {
-  Writes = IsOfTest start seed runs;
-  Reports = IsTestReport start seed runs;
-  Refuses = IsTestRefused start seed runs;
+-- it writes the trace of the first run that the test looks for, or nothing
+abbrev pub tests : StartOf → TestOptions → Option (List ℕ) → Command (List ℕ) Tested
+tests start x listed = record {
+  Writes = IsOfTest start x listed;
+  Reports = IsTestReport start x listed;
+  Refuses = IsTestRefused start x listed;
   Spoils = λ _ _ _. ⊥;
 }

@@ -35,6 +35,8 @@ impl ProgramCommand for Check {
 
     ghost command = { λ _. checks };
 
+    ghost allowed = { λ _. Unit {0} };
+
     fn apply<W: Write>(&self, alloc: Global, text: &[u8], out: &mut W) -> Result<(), Fault> {
         let checked = lawful_program(alloc, text)?;
         show_check(&checked, out)?;

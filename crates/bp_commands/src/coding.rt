@@ -16,6 +16,8 @@ impl ProgramCommand for Code {
 
     ghost command = { λ _. lists };
 
+    ghost allowed = { λ _. Unit {0} };
+
     fn apply<W: Write>(&self, alloc: Global, text: &[u8], out: &mut W) -> Result<(), Fault> {
         let checked = lawful_program(alloc, text)?;
         let code = compile(alloc, &checked)?;

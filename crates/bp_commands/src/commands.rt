@@ -21,6 +21,8 @@ pub trait ProgramCommand {
 
     ghost command: { Self → Command (List ℕ) Self.Answer };
 
+    ghost allowed: { Self → Type 0 };
+
     /// Does the command on the text of a program.
     fn apply<W: Write>(
         &self,
@@ -28,6 +30,7 @@ pub trait ProgramCommand {
         text: &[u8],
         out: &mut W,
     ) -> Result<Self::Answer, Fault>
+        requires { allowed self.now }
         ensures { AnswersOf (command self.now) text.now
             (W.contents out.old) (W.contents out.new) result };
 }
@@ -67,6 +70,7 @@ pub fn do_on_program<C: ProgramCommand, R: Read, W: Write>(
     program: &mut Source<R>,
     out: &mut W,
 ) -> Result<C::Answer, Fault>
+    requires { C.allowed command.now }
     ensures answers { let inputs = text_alone
         (R.remaining program.old.reader) (R.remaining program.new.reader) in
         Answers (C.command command.now) inputs (W.contents out.old) (W.contents out.new) result }

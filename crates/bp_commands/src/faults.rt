@@ -33,6 +33,9 @@ pub enum Fault {
     /// The text is no trace of the program.
     #[error("{0}")]
     Trace(ReplayFault),
+    /// No assertion failed in the trace.
+    #[error("no assertion failed in the trace")]
+    NoFailure,
     /// A worker could not be started.
     #[error("a worker could not be started")]
     Start,

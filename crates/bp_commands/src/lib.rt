@@ -23,6 +23,8 @@ mod replaying;
 mod running;
 mod runs;
 mod showing;
+mod shrinking;
+mod summaries;
 mod testing;
 
 pub use bundles::drive_bundle;
@@ -44,4 +46,5 @@ pub use replaying::Replay;
 pub use running::{run_program, run_text};
 pub use runs::{run_by_workers, run_on_bundle, run_on_pair, run_on_program};
 pub use showing::Show;
+pub use shrinking::Shrink;
 pub use testing::{Test, Tested};

@@ -33,6 +33,7 @@ pub fn run_on_program<C: ProgramCommand, F: Files, W: Write + Drop, E: Write>(
     mut out: BufWriter<W>,
     errors: &mut E,
 ) -> (u8, W)
+    requires { C.allowed command.now }
     ensures { let inputs = text_alone (F.bytes files.now path.now) in
         let old = writer_contents W.contents out in
         IsRun (C.command command.now) C.Answer.ending inputs (ExplainsText path.now) explains

@@ -16,7 +16,7 @@ use std::alloc::Global;
 use std::io::Write;
 
 /// The lawful program of a text, and its code.
-fn program_of(alloc: Global, text: &[u8]) -> Result<(Checked, Code), CodeFault>
+pub(crate) fn program_of(alloc: Global, text: &[u8]) -> Result<(Checked, Code), CodeFault>
     ensures { MatchResult result
         (λ p. IsLawfulText text.now p.0 × StandsFor p.1 p.0)
         (IsCodeRefusal text.now) }

@@ -1,62 +1,45 @@
 //! The command `test`.
-ghost use Rattle.bp_text.specs.Writing.{Writes};
-ghost use Rattle.bp_commands.specs.Tests.{failed_run_text, finding_text};
+ghost use Rattle.std.specs.Prelude.{map, IfOk};
+ghost use Rattle.bp_commands.specs.Tests.{name_of, AreListed};
 
 use crate::commands::ProgramCommand;
 use crate::ends::Ended;
 use crate::faults::Fault;
-use bp_code::code_of;
+use crate::showing::program_of;
+use crate::summaries::put_summary;
+use bp_check::Checked;
 use bp_machine::Start;
-use bp_test::{Found, test};
-use bp_text::{WriteFault, put_each};
-use itoa::Buffer;
-use std::alloc::Global;
+use bp_test::{Counts, Found, TestOptions, test};
+use bp_view::statement_lines;
+use std::alloc::{AllocError, Global};
 use std::io::Write;
+use std::thread::Threads;
 
 /// `test`: runs a program by schedules that are drawn, until an assertion fails, and writes the
 /// trace of that run.
-#[derive(Clone, Copy)]
-pub struct Test<'a> {
+#[derive(Drop)]
+pub struct Test<'a, R> {
+    /// What starts the threads of the test.
+    pub runtime: &'a R,
     /// What each run starts from.
     pub start: &'a Start,
-    /// The seed of the first run. Each other run has the seed after that of the run before it.
-    pub seed: u64,
-    /// How many runs there are at most.
-    pub runs: u64,
+    /// What the test looks for, and among how many runs.
+    pub options: TestOptions,
+    /// The name of the program's text, where its statements that no run reached are listed.
+    pub listed: Option<&'a str>,
 }
 
-/// What a test found in how many runs.
-#[derive(Clone, Copy, Debug)]
+/// What a test found, and how well the program was tested.
+#[derive(Drop)]
 pub struct Tested {
-    /// How many runs were asked for.
-    pub runs: u64,
+    /// What was asked for.
+    pub options: TestOptions,
     pub found: Found,
-}
-
-/// Writes that an assertion failed in one of this many runs.
-fn put_failed_run<W: Write>(run: u64, runs: u64, out: &mut W) -> Result<(), WriteFault>
-    ensures { Writes (W.contents out.old) (W.contents out.new) (failed_run_text run runs) result }
-{
-    let mut number = Buffer::new();
-    let mut all = Buffer::new();
-    let run = number.format(run).as_bytes();
-    let runs = all.format(runs).as_bytes();
-    put_each(
-        out,
-        &[b"an assertion failed in run ", run, b" of ", runs, b"\n"],
-    )
-}
-
-/// Writes what was found in this many runs.
-fn put_finding<W: Write>(runs: u64, found: Found, out: &mut W) -> Result<(), WriteFault>
-    ensures { Writes (W.contents out.old) (W.contents out.new) (finding_text runs found) result }
-{
-    let mut all = Buffer::new();
-    let count = all.format(runs).as_bytes();
-    match found {
-        Found::Nothing => put_each(out, &[b"no assertion failed in ", count, b" runs\n"]),
-        Found::Failed { run, .. } => put_failed_run(run, runs, out),
-    }
+    pub counts: Counts,
+    /// The lines of the program's statements, where those that no run reached are listed.
+    pub lines: Vec<Vec<u8>>,
+    /// For each instruction of the code, whether a run reached it.
+    pub reached: Vec<bool>,
 }
 
 impl Ended for Tested {
@@ -65,26 +48,53 @@ impl Ended for Tested {
     ghost ending = { of_test };
 
     fn has_failed(&self) -> bool {
-        matches!(self.found, Found::Failed { .. })
+        !matches!(self.found, Found::Nothing)
     }
 
     fn summarize<E: Write>(&self, errors: &mut E) {
-        let _ = put_finding(self.runs, self.found, errors);
+        let _ = put_summary(self, errors);
     }
 }
 
-impl ProgramCommand for Test<'_> {
-    ghost use Rattle.bp_commands.specs.Tests.{tests};
+/// The lines of the statements of a program, where its text has a name by which they are listed.
+fn lines_of(
+    alloc: Global,
+    listed: Option<&str>,
+    text: &[u8],
+    checked: &Checked,
+) -> Result<Vec<Vec<u8>>, AllocError>
+    ensures { let name = name_of listed.entry in
+        IfOk result (λ v.
+        AreListed name text.now checked.now (map (λ line. line.items) v.items)) }
+{
+    match listed {
+        Some(name) => statement_lines(alloc, name, text, checked),
+        None => Ok(Vec::new(alloc)),
+    }
+}
+
+impl<R: Threads + Sync> ProgramCommand for Test<'_, R> {
+    ghost use Rattle.std.specs.Thread.{IsSync};
+    ghost use Rattle.bp_commands.specs.Tests.{name_of, tests};
 
     type Answer = Tested;
 
-    ghost command = { λ x. tests x.start.now x.seed x.runs };
+    ghost command = { λ x. tests x.start.now x.options (name_of x.listed) };
+
+    ghost allowed = { λ _. IsSync R.row };
 
     fn apply<W: Write>(&self, alloc: Global, text: &[u8], out: &mut W) -> Result<Tested, Fault> {
-        let code = code_of(alloc, text)?;
+        let (checked, code) = program_of(alloc, text)?;
         let setup = self.start.setup(alloc, &code, None)?;
-        let runs = self.runs;
-        let found = test(alloc, &code, &setup, self.seed, runs, out)?;
-        Ok(Tested { runs, found })
+        let lines = lines_of(alloc, self.listed, text, &checked)?;
+        let options = self.options;
+        let tested = test(self.runtime, alloc, &code, &setup, &options, out)?;
+        Ok(Tested {
+            options,
+            found: tested.found,
+            counts: tested.tally.counts(&code),
+            lines,
+            reached: tested.tally.reached,
+        })
     }
 }

@@ -1,5 +1,12 @@
 pub mod Blocking
+pub mod BlocksInOrder
+pub mod CodesShared
+pub mod FirstFound
+pub mod FailedStacks
+pub mod GrantedCalls
+pub mod ListParts
 pub mod Playing
 pub mod RunsOfTests
-pub mod Shrunk
+pub mod SearchStarts
+pub mod ShrunkHistories
 pub mod Unseeded

@@ -1,19 +1,21 @@
 -- What a test of a program finds.
-use Rattle.std.specs.Prelude.{◌≡◌, ◌<◌, ◌≤◌, ◌+◌, ◌%◌, ◌^◌, ℕ, true, List, Option, None, Some, IfSome}
+use Rattle.std.specs.Prelude.{◌≡◌, ◌⊎◌, ◌<◌, ◌≤◌, ◌+◌, ◌%◌, ◌^◌, ℕ, Bool, true, List, Option, None, Some, IfSome}
 use Rattle.bp_tree.specs.Ast.{Program}
 use Rattle.bp_text.specs.Writing.{AppendsAll, AppendsPart}
 use Rattle.bp_machine.specs.declared.calls.Call.{Call}
-use Rattle.bp_machine.specs.declared.reports.Outcome.TheVariants.{Clean}
+use Rattle.bp_machine.specs.declared.reports.Outcome.{Outcome}
+use Rattle.bp_machine.specs.declared.reports.Outcome.TheVariants.{Clean, Failed}
 use Rattle.bp_machine.specs.declared.reports.Report.{Report}
 use Rattle.bp_machine.specs.Contexts.{IsWithin}
-use Rattle.bp_machine.specs.Histories.{granted_threads, IsLegal}
+use Rattle.bp_machine.specs.Histories.{granted_threads, open_lines, IsLegal}
 use Rattle.bp_machine.specs.Reports.{outcome_of, is_failure, IsReport}
 use Rattle.bp_machine.specs.SeededHistories.{HasSeededBits}
 use Rattle.bp_machine.specs.Setups.{SetupOf}
 use Rattle.bp_trace.specs.TraceText.{trace_text}
-use Rattle.bp_test.specs.declared.blocks.FailedRun.{FailedRun}
+use Rattle.bp_test.specs.declared.blocks.FoundRun.{FoundRun}
 use Rattle.bp_test.specs.declared.faults.TestFault.{TestFault}
 use Rattle.bp_test.specs.declared.faults.TestFault.TheVariants as fault
+use Rattle.bp_test.specs.declared.options.TestOptions.{TestOptions}
 use Rattle.bp_test.specs.declared.testing.Found.{Found}
 use Rattle.bp_test.specs.declared.testing.Found.TheVariants as found
 use Rattle.bp_test.specs.Failing.{FailsAt}
@@ -34,59 +36,87 @@ pub record IsSample (t : Program) (s : SetupOf) (h : List Call) : Type 0 where
   pub seeded : HasSeededBits s h
   pub within : IsWithin s.contexts (granted_threads h)
 
--- no assertion failed, and each thread rests
-pub record IsCleanSample (t : Program) (s : SetupOf) (h : List Call) : Type 0 where
+-- no assertion failed, a line is open, and each thread rests
+pub record IsStuck (t : Program) (s : SetupOf) (h : List Call) : Type 0 where
+  pub clean : outcome_of h ≡ Clean
+  pub left_open : 0 < open_lines s h
+  pub rests : EachRests t s h
+
+-- what a test looks for: an assertion failed, or the history is stuck, where that is asked for too
+abbrev pub IsSought : Program → SetupOf → Bool → List Call → Type 0
+IsSought t s with_stuck h =
+    (is_failure (outcome_of h) ≡ true) ⊎ ((with_stuck ≡ true) × IsStuck t s h)
+
+-- a history that came to its end, and is not what a test looks for
+pub record IsCleanSample (t : Program) (s : SetupOf) (with_stuck : Bool) (h : List Call)
+    : Type 0 where
   pub sample : IsSample t s h
   pub clean : outcome_of h ≡ Clean
   pub rests : EachRests t s h
+  pub closed : with_stuck ≡ true → open_lines s h ≡ 0
 
--- an assertion failed
-pub record IsFailedSample (t : Program) (s : SetupOf) (h : List Call) (r : Report) : Type 0 where
+-- a history that a test looks for
+pub record IsSoughtSample (t : Program) (s : SetupOf) (with_stuck : Bool) (h : List Call)
+    (r : Report) : Type 0 where
   pub sample : IsSample t s h
-  pub failed : is_failure (outcome_of h) ≡ true
+  pub sought : IsSought t s with_stuck h
   pub report : IsReport s h r
 
--- each run from one to before another came to its end without a failure
-abbrev pub HasCleanRuns : Program → SetupOf → ℕ → ℕ → ℕ → Type 0
-HasCleanRuns t s seed from to =
-    (r : ℕ) → from ≤ r → r < to → (h : List Call) × IsCleanSample t (setup_of_run s seed r) h
+-- each run from one to before another came to its end, and is not what the test looks for
+abbrev pub HasCleanRuns : Program → SetupOf → Bool → ℕ → ℕ → ℕ → Type 0
+HasCleanRuns t s with_stuck seed from to =
+    (r : ℕ) → from ≤ r → r < to
+    → (h : List Call) × IsCleanSample t (setup_of_run s seed r) with_stuck h
 
--- the first of these runs in which an assertion failed
-pub record IsFailedRun (t : Program) (s : SetupOf) (seed from to : ℕ) (f : FailedRun)
-    : Type 0 where
+-- the first of these runs that the test looks for
+pub record IsFoundRun (t : Program) (s : SetupOf) (with_stuck : Bool) (seed from to : ℕ)
+    (f : FoundRun) : Type 0 where
   pub among : (from ≤ f.run) × (f.run < to)
-  pub others : HasCleanRuns t s seed from f.run
-  pub failed : IsFailedSample t (setup_of_run s seed f.run) f.history.items f.report
+  pub others : HasCleanRuns t s with_stuck seed from f.run
+  pub found : IsSoughtSample t (setup_of_run s seed f.run) with_stuck f.history.items f.report
   pub at : IfSome f.number (FailsAt t (setup_of_run s seed f.run) f.history.items)
 
 -- what was found among these runs
-abbrev pub IsFirstFailure : Program → SetupOf → ℕ → ℕ → ℕ → Option FailedRun → Type 0
-IsFirstFailure t s seed from to None = HasCleanRuns t s seed from to
-IsFirstFailure t s seed from to (Some f) = IsFailedRun t s seed from to f
+abbrev pub IsFirstFound : Program → SetupOf → Bool → ℕ → ℕ → ℕ → Option FoundRun → Type 0
+IsFirstFound t s with_stuck seed from to None = HasCleanRuns t s with_stuck seed from to
+IsFirstFound t s with_stuck seed from to (Some f) = IsFoundRun t s with_stuck seed from to f
+
+-- what was found in a run with this report
+abbrev pub found_by : ℕ → Report → Outcome → Found
+found_by run r (Failed i) = found.Failed run r
+found_by run r Clean = found.Stuck run r
+
+abbrev pub found_in : ℕ → Report → Found
+found_in run r = found_by run r r.outcome
 
 -- the bytes of the writer before and after the test
-module _ (t : Program) (s : SetupOf) (seed runs : ℕ) (old new : Option (List ℕ)) where
-  -- the first run in which an assertion failed, and its trace was written
-  pub record IsWrittenRun (run : ℕ) (report : Report) : Type 0 where
+module _ (t : Program) (s : SetupOf) (x : TestOptions) (old new : Option (List ℕ)) where
+  -- the first run that the test looks for, of which this holds, and its trace was written
+  pub record IsWrittenRun (Holds : SetupOf → List Call → Type 0) (run : ℕ) (report : Report)
+      : Type 0 where
     pub history : List Call
-    pub among : run < runs
-    pub others : HasCleanRuns t s seed 0 run
-    pub failed : IsFailedSample t (setup_of_run s seed run) history report
-    pub written : AppendsAll old new (trace_text (setup_of_run s seed run) history)
+    pub among : run < x.runs
+    pub others : HasCleanRuns t s x.with_stuck x.seed 0 run
+    pub found : IsSoughtSample t (setup_of_run s x.seed run) x.with_stuck history report
+    pub holds : Holds (setup_of_run s x.seed run) history
+    pub written : AppendsAll old new (trace_text (setup_of_run s x.seed run) history)
 
   abbrev pub IsFound : Found → Type 0
-  IsFound found.Nothing = (new ≡ old) × HasCleanRuns t s seed 0 runs
-  IsFound (found.Failed run report) = IsWrittenRun run report
+  IsFound found.Nothing = (new ≡ old) × HasCleanRuns t s x.with_stuck x.seed 0 x.runs
+  IsFound (found.Failed run report) =
+      IsWrittenRun (λ z h. is_failure (outcome_of h) ≡ true) run report
+  IsFound (found.Stuck run report) =
+      (x.with_stuck ≡ true) × IsWrittenRun (IsStuck t) run report
 
-  -- a proper prefix of the trace of the first run in which an assertion failed was written
+  -- a proper prefix of the trace of the first run that the test looks for was written
   pub record IsCutRun : Type 0 where
     pub run : ℕ
     pub history : List Call
     pub report : Report
-    pub among : run < runs
-    pub others : HasCleanRuns t s seed 0 run
-    pub failed : IsFailedSample t (setup_of_run s seed run) history report
-    pub written : AppendsPart old new (trace_text (setup_of_run s seed run) history)
+    pub among : run < x.runs
+    pub others : HasCleanRuns t s x.with_stuck x.seed 0 run
+    pub found : IsSoughtSample t (setup_of_run s x.seed run) x.with_stuck history report
+    pub written : AppendsPart old new (trace_text (setup_of_run s x.seed run) history)
 
   abbrev pub IsTestRefusal : TestFault → Type 0
   IsTestRefusal fault.Memory = new ≡ old

@@ -1,61 +1,86 @@
 //! Blocks of runs.
-ghost use Rattle.std.specs.Prelude.{IfOk};
+ghost use Rattle.std.specs.Prelude.{◌≡◌, IfOk};
 ghost use Rattle.bp_tree.specs.Ast.{Program};
 ghost use Rattle.bp_code.specs.StandsFor.{StandsFor};
 ghost use Rattle.bp_machine.specs.Setups.{FitsCode};
-ghost use Rattle.bp_test.specs.Tests.{IsFirstFailure};
+ghost use Rattle.bp_test.specs.Blocks.{is_sought};
+ghost use Rattle.bp_test.specs.Tests.{IsFirstFound};
 
 use crate::failing::failed_instruction;
 use crate::plans::Plan;
 use crate::runs::run_once;
+use crate::tallies::Tally;
 use bp_code::Code;
-use bp_machine::{Call, Report, Session, Setup};
+use bp_machine::{Call, Outcome, Report, Session, Setup};
 use std::alloc::{AllocError, Global};
 
-/// A run in which an assertion failed.
+/// A run that a test looks for.
 #[derive(Drop)]
-pub struct FailedRun {
+pub struct FoundRun {
     /// The number of the run, from 0.
     pub run: u64,
-    /// Its calls, up to the one that failed.
+    /// Its calls, up to its end.
     pub history: Vec<Call>,
     /// The report of that history.
     pub report: Report,
-    /// The number of the instruction whose assertion failed.
+    /// The number of the instruction whose assertion failed, where one did.
     pub number: Option<u32>,
 }
 
-/// Makes the runs of a plan from `from` to before `to`, until an assertion fails, and answers that
-/// run. Blocks of runs stand apart: none needs another one's memory or answer.
-pub fn first_failure(
+/// What a block of runs came to.
+#[derive(Drop)]
+pub struct Block {
+    /// The first run that was looked for. It is the last of the block.
+    pub found: Option<FoundRun>,
+    pub tally: Tally,
+}
+
+/// Whether a test looks for a run with this report: one in which an assertion failed, or one that
+/// is stuck, where those are looked for.
+fn is_sought(report: &Report, with_stuck: bool) -> bool
+    ensures { result ≡ is_sought with_stuck report.now }
+{
+    match report.outcome {
+        Outcome::Failed { .. } => true,
+        Outcome::Clean => with_stuck && report.left_open > 0,
+    }
+}
+
+/// Makes the runs of a plan from `from` to before `to`, until one is found. Blocks of runs stand
+/// apart: none needs another one's memory or answer.
+pub fn first_found(
     alloc: Global,
     code: &Code,
     setup: &Setup,
     plan: &Plan,
     from: u64,
     to: u64,
-) -> Result<Option<FailedRun>, AllocError>
+) -> Result<Block, AllocError>
     requires { FitsCode code.now setup.now }
-    ensures { IfOk result (λ found.
+    ensures { IfOk result (λ block.
         (t : Program)
         → StandsFor code.now t
-        → IsFirstFailure t setup.now plan.now.seed from to found) }
+        → IsFirstFound t setup.now plan.now.with_stuck plan.now.seed from to block.found) }
 {
     let mut session = Session::new(alloc, code, setup)?;
     let mut history = Vec::new(alloc);
+    let mut tally = Tally::new(alloc, code, setup)?;
     for run in from..to {
         let seed = plan.seed.wrapping_add(run);
-        session = run_once(session, seed, plan.lengths.as_slice(), &mut history)?;
-        if session.is_failed() {
-            let report = session.report();
+        let lengths = plan.lengths.as_slice();
+        session = run_once(session, seed, lengths, &mut history, &mut tally.reached)?;
+        let report = session.report();
+        tally.add_run(history.as_slice(), &report)?;
+        if is_sought(&report, plan.with_stuck) {
             let number = failed_instruction(&session);
-            return Ok(Some(FailedRun {
+            let found = Some(FoundRun {
                 run,
                 history,
                 report,
                 number,
-            }));
+            });
+            return Ok(Block { found, tally });
         }
     }
-    Ok(None)
+    Ok(Block { found: None, tally })
 }

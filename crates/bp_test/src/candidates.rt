@@ -1,112 +1,300 @@
-//! Candidates for a smaller history.
+//! Which changes of a history are tried, and in which order.
+use crate::changes::{Change, Part};
+use crate::limits::{WORK, WORK_OF_CALL};
 use bp_machine::Call;
-use std::alloc::{AllocError, Global};
 
-/// What is changed in a history.
+/// How many parts of the history are left out at most before its contexts are looked at.
+const HALVES: usize = 16;
+
+/// The kinds of changes, in the order in which a round tries them.
 #[derive(Clone, Copy, Debug, PartialEq, Eq)]
-pub(crate) enum Change {
-    /// A piece is left out.
-    Piece,
-    /// A piece is moved to the end of its thread's piece before it.
-    Merge,
-    /// This many calls are left out.
-    Calls(usize),
+enum Kind {
+    /// Calls without a step.
+    Idle,
+    /// Loops.
+    Loops,
+    /// Large parts, by halves.
+    Halves,
+    /// Whole contexts.
+    Contexts,
+    /// A context is joined to the one before it of its thread.
+    Earlier,
+    /// A context is joined to the one after it of its thread.
+    Later,
+    /// The last calls of each context, by halves.
+    Tails,
+    /// Parts, by halves down to single calls.
+    Parts,
+    /// A context is joined to both neighbours of its thread.
+    Splits,
+    /// Choices are 0.
+    Zeros,
 }
 
-/// Whether the call is of this thread.
-fn is_of(history: &[Call], place: usize, thread: u32) -> bool {
-    match history.get(place) {
-        Some(call) => call.thread == thread,
-        None => false,
-    }
-}
-
-/// The history without the calls from one place to another.
-fn without(
-    alloc: Global,
-    history: &[Call],
-    from: usize,
-    to: usize,
-) -> Result<Vec<Call>, AllocError> {
-    let mut kept = Vec::with_capacity(alloc, history.len())?;
-    for (place, call) in history.iter().enumerate() {
-        if place < from || to <= place {
-            kept.push(*call)?;
+impl Kind {
+    /// The kind after this one in a round.
+    fn next(self) -> Option<Kind> {
+        match self {
+            Kind::Idle => Some(Kind::Loops),
+            Kind::Loops => Some(Kind::Halves),
+            Kind::Halves => Some(Kind::Contexts),
+            Kind::Contexts => Some(Kind::Earlier),
+            Kind::Earlier => Some(Kind::Later),
+            Kind::Later => Some(Kind::Tails),
+            Kind::Tails => Some(Kind::Parts),
+            Kind::Parts => Some(Kind::Splits),
+            Kind::Splits => Some(Kind::Zeros),
+            Kind::Zeros => None,
         }
     }
-    Ok(kept)
-}
 
-/// The history in which the calls from one place to another stand at an earlier one.
-fn merged(
-    alloc: Global,
-    history: &[Call],
-    at: usize,
-    from: usize,
-    to: usize,
-) -> Result<Vec<Call>, AllocError> {
-    let mut kept = Vec::with_capacity(alloc, history.len())?;
-    for (place, call) in history.iter().enumerate() {
-        if place == at {
-            for (other, moved) in history.iter().enumerate() {
-                if from <= other && other < to {
-                    kept.push(*moved)?;
-                }
-            }
-        }
-        if place < from || to <= place {
-            kept.push(*call)?;
+    /// The size of the parts that it changes first, of a history of this length.
+    fn first_size(self, length: usize) -> usize {
+        match self {
+            Kind::Halves | Kind::Tails | Kind::Parts => length / 2,
+            Kind::Zeros => length,
+            _ => 1,
         }
     }
-    Ok(kept)
+
+    /// The size below which it changes no part.
+    fn last_size(self, length: usize) -> usize {
+        match self {
+            Kind::Halves => length / HALVES,
+            _ => 1,
+        }
+    }
 }
 
-/// The place after the piece of this thread in which this place is.
-fn end_of_piece(history: &[Call], from: usize, thread: u32) -> usize {
-    for (place, call) in history.iter().enumerate() {
-        if place > from && call.thread != thread {
+/// What is tried next.
+#[derive(Clone, Copy, Debug, PartialEq, Eq)]
+pub(crate) enum Next {
+    /// This change.
+    Try(Change),
+    /// Nothing at this place.
+    Skip,
+    /// Nothing more.
+    Done,
+}
+
+/// Where the search for a smaller history is.
+#[derive(Clone, Copy, Debug)]
+pub(crate) struct Candidates {
+    kind: Kind,
+    /// The size of the parts that are changed.
+    size: usize,
+    /// Where the next change begins.
+    place: usize,
+    /// How far it is from there to the change after it.
+    step: usize,
+    /// Whether a change of this round was taken.
+    is_useful: bool,
+    /// How many calls may still be driven.
+    work: u64,
+}
+
+/// The place after the calls of one thread that begin here.
+fn end_of_context(history: &[Call], from: usize, thread: u32) -> usize {
+    for place in from..history.len() {
+        if history[place].thread != thread {
             return place;
         }
     }
     history.len()
 }
 
-/// The place after the last call of this thread before a place; 0 where there is none.
-fn after_last(history: &[Call], before: usize, thread: u32) -> usize {
-    let mut last = 0;
-    for (place, call) in history.iter().enumerate() {
-        if place < before && call.thread == thread {
-            last = place.saturating_add(1);
+/// The place of the first of the calls of one thread that end before this place.
+fn start_of_context(history: &[Call], to: usize, thread: u32) -> usize {
+    for distance in 0..to {
+        let place = to - 1 - distance;
+        if history.get(place).map(|call| call.thread) != Some(thread) {
+            return place + 1;
         }
     }
-    last
+    0
 }
 
-/// The history with a change at a place, where the place has one.
-pub(crate) fn candidate(
-    alloc: Global,
-    history: &[Call],
-    change: Change,
-    place: usize,
-) -> Result<Option<Vec<Call>>, AllocError> {
-    let Some(call) = history.get(place) else {
-        return Ok(None);
-    };
-    let thread = call.thread;
-    if let Change::Calls(count) = change {
-        let end = place.saturating_add(count);
-        return Ok(Some(without(alloc, history, place, end)?));
+/// The place after the last call of the thread before a place.
+fn end_before(history: &[Call], before: usize, thread: u32) -> Option<usize> {
+    for distance in 0..before {
+        let place = before - 1 - distance;
+        if history.get(place).map(|call| call.thread) == Some(thread) {
+            return Some(place + 1);
+        }
     }
-    if place > 0 && is_of(history, place.saturating_sub(1), thread) {
-        return Ok(None);
+    None
+}
+
+/// The place of the first call of the thread from a place on.
+fn start_after(history: &[Call], from: usize, thread: u32) -> Option<usize> {
+    for place in from..history.len() {
+        if history[place].thread == thread {
+            return Some(place);
+        }
     }
-    let end = end_of_piece(history, place, thread);
-    if change == Change::Piece {
-        return Ok(Some(without(alloc, history, place, end)?));
+    None
+}
+
+/// Whether a call of the part has the bit 1.
+fn has_one(history: &[Call], part: Part) -> bool {
+    match history.get(part.from..part.to) {
+        None => false,
+        Some(calls) => calls.iter().any(|call| call.bit),
     }
-    let at = after_last(history, place, thread);
-    if at == 0 {
-        return Ok(None);
+}
+
+/// A context is moved to the end of the one before it of its thread.
+fn earlier(history: &[Call], part: Part, thread: u32) -> Option<Change> {
+    Some(Change::Split {
+        part,
+        middle: part.to,
+        earlier: end_before(history, part.from, thread)?,
+        later: part.to,
+    })
+}
+
+/// A context is moved to the start of the one after it of its thread.
+fn later(history: &[Call], part: Part, thread: u32) -> Option<Change> {
+    Some(Change::Split {
+        part,
+        middle: part.from,
+        earlier: part.from,
+        later: start_after(history, part.to, thread)?,
+    })
+}
+
+/// The context of this place is moved to both sides: what is before the place to the end of the
+/// context before it of its thread, the rest to the start of the one after it.
+fn split(history: &[Call], place: usize, thread: u32) -> Option<Change> {
+    let from = start_of_context(history, place, thread);
+    let to = end_of_context(history, place, thread);
+    if from == place {
+        return None;
     }
-    Ok(Some(merged(alloc, history, at, place, end)?))
+    Some(Change::Split {
+        part: Part { from, to },
+        middle: place,
+        earlier: end_before(history, from, thread)?,
+        later: start_after(history, to, thread)?,
+    })
+}
+
+impl Candidates {
+    /// The search at its start, for a history of this length.
+    pub(crate) fn new(length: usize) -> Candidates {
+        let work = (length as u64).saturating_mul(WORK_OF_CALL);
+        Candidates {
+            kind: Kind::Idle,
+            size: 1,
+            place: 0,
+            step: 1,
+            is_useful: false,
+            work: work.saturating_add(WORK),
+        }
+    }
+
+    /// Begins with a kind of changes.
+    fn turn_to(&mut self, kind: Kind, length: usize) {
+        self.kind = kind;
+        self.size = kind.first_size(length).max(1);
+        self.place = 0;
+        self.step = 1;
+    }
+
+    /// Goes on after the last place: with smaller parts, the next kind, or another round.
+    fn turn(&mut self, length: usize) -> Next {
+        if self.size > self.kind.last_size(length).max(1) {
+            self.size /= 2;
+            self.place = 0;
+            return Next::Skip;
+        }
+        if let Some(kind) = self.kind.next() {
+            self.turn_to(kind, length);
+            return Next::Skip;
+        }
+        if !self.is_useful {
+            return Next::Done;
+        }
+        self.is_useful = false;
+        self.turn_to(Kind::Idle, length);
+        Next::Skip
+    }
+
+    /// The last calls of a context, where it has more.
+    fn tail(&self, part: Part) -> Option<Change> {
+        if part.to.saturating_sub(part.from) <= self.size {
+            return None;
+        }
+        let from = part.to.saturating_sub(self.size);
+        Some(Change::LeftOut(Part { from, to: part.to }))
+    }
+
+    /// The change at the place, of a call of this thread.
+    fn change(&mut self, history: &[Call], thread: u32) -> Option<Change> {
+        let from = self.place;
+        let to = from.saturating_add(self.size).min(history.len());
+        let end = end_of_context(history, from, thread);
+        let part = Part { from, to: end };
+        self.step = match self.kind {
+            Kind::Contexts | Kind::Earlier | Kind::Later | Kind::Tails => end.saturating_sub(from),
+            _ => self.size,
+        };
+        match self.kind {
+            Kind::Idle | Kind::Loops => None,
+            Kind::Halves | Kind::Parts => Some(Change::LeftOut(Part { from, to })),
+            Kind::Contexts => Some(Change::LeftOut(part)),
+            Kind::Earlier => earlier(history, part, thread),
+            Kind::Later => later(history, part, thread),
+            Kind::Tails => self.tail(part),
+            Kind::Splits => split(history, from, thread),
+            Kind::Zeros if has_one(history, Part { from, to }) => {
+                Some(Change::Zeros(Part { from, to }))
+            }
+            Kind::Zeros => None,
+        }
+    }
+
+    /// The change of all calls, which some kinds are.
+    fn whole(&self) -> Option<Change> {
+        match self.kind {
+            Kind::Idle if self.place == 0 => Some(Change::Idle),
+            Kind::Loops if self.place == 0 => Some(Change::Loops),
+            _ => None,
+        }
+    }
+
+    /// What is tried next.
+    pub(crate) fn next(&mut self, history: &[Call]) -> Next {
+        let cost = (history.len() as u64).saturating_add(1);
+        let Some(left) = self.work.checked_sub(cost) else {
+            return Next::Done;
+        };
+        if let Some(change) = self.whole() {
+            self.step = history.len().max(1);
+            self.work = left;
+            return Next::Try(change);
+        }
+        let Some(call) = history.get(self.place) else {
+            return self.turn(history.len());
+        };
+        match self.change(history, call.thread) {
+            Some(change) => {
+                self.work = left;
+                Next::Try(change)
+            }
+            None => {
+                self.tell(false);
+                Next::Skip
+            }
+        }
+    }
+
+    /// Goes on after a change that was taken or not.
+    pub(crate) fn tell(&mut self, is_taken: bool) {
+        if is_taken {
+            self.is_useful = true;
+        } else {
+            self.place = self.place.saturating_add(self.step.max(1));
+        }
+    }
 }

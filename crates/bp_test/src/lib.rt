@@ -1,21 +1,32 @@
-//! Testing: runs of a program one after the other, whose schedules are drawn by seeds, until an
-//! assertion fails.
+//! Testing: runs of a program whose schedules are drawn by seeds, until an assertion fails.
 #![tactic(auto)]
 
 mod blocks;
 mod candidates;
+mod changes;
+mod counts;
+mod driving;
+mod erasing;
 mod failing;
 mod faults;
 pub mod limits;
+mod options;
 mod plans;
 mod runs;
 mod schedulers;
+mod searches;
 mod shrinking;
+mod tallies;
 mod testing;
 mod waiting;
+mod waves;
 
-pub use blocks::{FailedRun, first_failure};
+pub use blocks::{Block, FoundRun, first_found};
+pub use counts::{Counts, Share};
+pub use failing::failed_instruction;
 pub use faults::TestFault;
+pub use options::TestOptions;
 pub use plans::Plan;
-pub use shrinking::shrink;
-pub use testing::{Found, test};
+pub use shrinking::{Shrunk, shrink};
+pub use tallies::{ContextsUsed, Ends, Tally};
+pub use testing::{Found, Tested, test};

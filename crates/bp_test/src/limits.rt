@@ -2,3 +2,19 @@
 
 /// How many runs a test has, where no number is given.
 pub const DEFAULT_RUNS: u64 = 10_000;
+
+/// How many blocks of runs are made side by side, where no number is given.
+pub const DEFAULT_JOBS: u32 = 1;
+
+/// How many blocks of runs are made side by side at most.
+pub const MAX_JOBS: u32 = 64;
+
+/// How many runs a block has.
+pub const BLOCK: u64 = 5_000;
+
+/// How many calls are driven at most to make a history smaller, beside those that its length
+/// allows.
+pub const WORK: u64 = 1_500_000;
+
+/// How many calls are driven at most for each call of a history that is made smaller.
+pub const WORK_OF_CALL: u64 = 10;

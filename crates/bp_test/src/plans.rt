@@ -2,6 +2,7 @@
 ghost use Rattle.std.specs.Prelude.{◌≡◌, IfOk};
 ghost use Rattle.bp_machine.specs.Setups.{FitsCode};
 
+use crate::options::TestOptions;
 use crate::runs::run_once;
 use bp_code::Code;
 use bp_machine::{Session, Setup};
@@ -15,6 +16,8 @@ const PILOTS: u64 = 64;
 pub struct Plan {
     /// The seed of run 0. Each other run has the seed after that of the run before it.
     pub seed: u64,
+    /// Whether the test also looks for runs that are stuck.
+    pub with_stuck: bool,
     /// The lengths of pilots, over which the switches of runs are spread.
     pub lengths: Vec<u64>,
 }
@@ -31,22 +34,36 @@ fn is_cut_off(session: &Session) -> bool {
 }
 
 impl Plan {
-    /// The plan of the runs with this seed and those after it. It makes pilots: runs with the first
-    /// 64 of these seeds, whose switches are spread over powers of two. The lengths of those that
-    /// were cut off by the allowed calls are not kept.
-    pub fn new(alloc: Global, code: &Code, setup: &Setup, seed: u64) -> Result<Plan, AllocError>
+    /// The plan of a test with these options. It makes pilots: runs with the first 64 of its seeds,
+    /// whose switches are spread over powers of two. The lengths of those that were cut off by the
+    /// allowed calls are not kept.
+    pub fn new(
+        alloc: Global,
+        code: &Code,
+        setup: &Setup,
+        options: &TestOptions,
+    ) -> Result<Plan, AllocError>
         requires { FitsCode code.now setup.now }
-        ensures { IfOk result (λ p. p.seed ≡ seed) }
+        ensures seed { IfOk result (λ p. p.seed ≡ options.now.seed) }
+        ensures stuck { IfOk result (λ p. p.with_stuck ≡ options.now.with_stuck) }
     {
         let mut session = Session::new(alloc, code, setup)?;
         let mut history = Vec::new(alloc);
+        let mut reached = Vec::new(alloc);
         let mut lengths = Vec::new(alloc);
+        let seed = options.seed;
+        let with_stuck = options.with_stuck;
         for pilot in 0..PILOTS {
-            session = run_once(session, seed.wrapping_add(pilot), &[], &mut history)?;
+            let own = seed.wrapping_add(pilot);
+            session = run_once(session, own, &[], &mut history, &mut reached)?;
             if !is_cut_off(&session) {
                 lengths.push(history.len() as u64)?;
             }
         }
-        Ok(Plan { seed, lengths })
+        Ok(Plan {
+            seed,
+            with_stuck,
+            lengths,
+        })
     }
 }

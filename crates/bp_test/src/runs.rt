@@ -9,6 +9,7 @@ ghost use Rattle.bp_machine.specs.Setups.{FitsCode};
 ghost use Rattle.bp_test.specs.Resting.{IsOver};
 
 use crate::schedulers::Scheduler;
+use crate::tallies::mark;
 use bp_machine::{Call, Reply, Session};
 use std::alloc::AllocError;
 
@@ -30,12 +31,34 @@ fn play(session: &mut Session, history: &mut Vec<Call>, thread: u32) -> Result<R
     Ok(call.reply)
 }
 
+/// The number of the instruction that is next for a thread, where there is one.
+fn next_number(session: &Session, thread: u32) -> Option<u32> {
+    Some(session.top(thread)?.number)
+}
+
+/// Marks an instruction, where its thread was not refused a context.
+fn reach(reached: &mut Vec<bool>, number: Option<u32>, reply: Reply) {
+    if let (Some(number), true) = (number, reply != Reply::NoContexts) {
+        mark(reached, number as usize);
+    }
+}
+
+/// Marks the instructions at which threads wait.
+fn reach_waiting(reached: &mut Vec<bool>, session: &Session) {
+    for thread in 0..session.setup().threads() {
+        if !session.is_finished(thread) {
+            reach(reached, next_number(session, thread), Reply::Blocked);
+        }
+    }
+}
+
 /// Makes calls by the schedule, on a session before any call, until an assertion fails or each
-/// thread rests.
+/// thread rests. The instructions of the calls are marked.
 fn follow(
     session: &mut Session,
     scheduler: &mut Scheduler,
     history: &mut Vec<Call>,
+    reached: &mut Vec<bool>,
 ) -> Result<(), AllocError>
     requires program { IsOfProgram session.old.code }
     requires stands { StandsForAll session.old [] }
@@ -51,19 +74,23 @@ fn follow(
         let Some(thread) = scheduler.next(session) else {
             return Ok(());
         };
-        if play(session, history, thread)? == Reply::Failed {
+        let number = next_number(session, thread);
+        let reply = play(session, history, thread)?;
+        reach(reached, number, reply);
+        if reply == Reply::Failed {
             return Ok(());
         }
     }
 }
 
 /// Makes a run with this seed, in the memory of an earlier one. The switches of its schedule are
-/// spread over one of these lengths.
+/// spread over one of these lengths. The instructions that are reached are marked.
 pub(crate) fn run_once(
     session: Session,
     seed: u64,
     lengths: &[u64],
     history: &mut Vec<Call>,
+    reached: &mut Vec<bool>,
 ) -> Result<Session, AllocError>
     requires { FitsCode session.code session.setup }
     ensures stands { IfOk result (λ x. StandsForAll x history.new.items) }
@@ -77,6 +104,7 @@ pub(crate) fn run_once(
     let mut session = session.restarted(Some(seed))?;
     session.code().is_of_a_program();
     let mut scheduler = Scheduler::new(seed, session.setup(), lengths);
-    follow(&mut session, &mut scheduler, history)?;
+    follow(&mut session, &mut scheduler, history, reached)?;
+    reach_waiting(reached, &session);
     Ok(session)
 }

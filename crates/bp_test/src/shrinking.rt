@@ -1,187 +1,122 @@
 //! Shrinking a history that fails.
-ghost use Rattle.std.specs.Prelude.{◌≡◌, true, IfOk, IfSome, OnOk};
+ghost use Rattle.std.specs.Prelude.{◌≡◌, ◌≤◌, None, IfOk, IfSome, map};
 ghost use Rattle.bp_tree.specs.Ast.{Program};
 ghost use Rattle.bp_code.specs.StandsFor.{StandsFor};
-ghost use Rattle.bp_code.specs.Programs.{IsOfProgram};
-ghost use Rattle.bp_machine.specs.Sessions.{StandsForAll};
-ghost use Rattle.bp_machine.specs.Histories.{IsLegal};
+ghost use Rattle.bp_machine.specs.Histories.{granted_calls, IsLegal};
 ghost use Rattle.bp_machine.specs.Reports.{IsReport};
-ghost use Rattle.bp_machine.specs.Setups.{FitsCode};
+ghost use Rattle.bp_machine.specs.Setups.{setup_fault, FitsCode};
 ghost use Rattle.bp_test.specs.Failing.{FailsAt};
-ghost use Rattle.bp_test.specs.Shrinks.{IsDriven, IsNoMore, IsShrunk, unseeded};
+ghost use Rattle.bp_test.specs.Shrinks.{budgeted, IsDriven, IsShrunk, IsShrunkOf};
 
-use crate::candidates::{Change, candidate};
-use crate::failing::failed_instruction;
+use crate::searches::{Driven, Search, improve};
 use bp_code::Code;
-use bp_machine::{AskFault, Call, Report, Session, Setup};
+use bp_machine::{Call, Reply, Report, Session, Setup, open_lines, runs_are_histories};
 use std::alloc::{AllocError, Global};
 
-/// How often all candidates are tried at most.
-const ROUNDS: u32 = 1_000;
-
-/// A history, its report, and the number of the instruction whose assertion failed.
+/// A history that fails, and is no larger than another one.
 #[derive(Drop)]
-pub(crate) struct Driven {
-    pub(crate) history: Vec<Call>,
-    pub(crate) report: Report,
-    pub(crate) number: Option<u32>,
+pub struct Shrunk {
+    /// Its setup: without a seed, and with as many contexts as its steps use.
+    pub setup: Setup,
+    /// The calls. Each made a step, and the last one failed.
+    pub history: Vec<Call>,
+    pub report: Report,
 }
 
-/// Makes a call again, where no assertion failed and the thread may make it, and keeps it.
-fn make_again(session: &mut Session, history: &mut Vec<Call>, line: &Call) -> Result<(), AllocError>
-    requires program { IsOfProgram session.old.code }
-    requires stands { StandsForAll session.old history.old.items }
-    ensures stands { OnOk result (StandsForAll session.new history.new.items) }
-    ensures kept { (session.new.code ≡ session.old.code) × (session.new.setup ≡ session.old.setup) }
+/// The calls that made a step.
+fn granted(alloc: Global, history: &[Call]) -> Result<Vec<Call>, AllocError>
+    ensures { IfOk result (λ v. v.items ≡ granted_calls history.now) }
 {
-    if session.is_failed() {
-        return Ok(());
-    }
-    match session.ask_with(line.thread, line.bit) {
-        Ok(call) => {
-            history.push(call)?;
-            Ok(())
+    let mut calls = Vec::new(alloc);
+    for call in history {
+        if matches!(call.reply, Reply::Stepped | Reply::Failed) {
+            calls.push(*call)?;
         }
-        Err(AskFault::Memory) => Err(AllocError),
-        Err(_) => Ok(()),
     }
+    Ok(calls)
 }
 
-/// Drives the calls again, each with its thread and its bit. Those that a thread may not make are
-/// left out, and so are the calls after a failure.
-fn drive_again(
-    alloc: Global,
-    code: &Code,
-    setup: &Setup,
-    lines: &[Call],
-) -> Result<Driven, AllocError>
-    requires { FitsCode code.now setup.now }
-    ensures { IfOk result (λ d.
+/// The names of the procedures with which the threads begin.
+fn entries_of(alloc: Global, setup: &Setup) -> Result<Vec<&[u8]>, AllocError>
+    ensures { IfOk result (λ v. map (λ n. n.now) v.items ≡ setup.now.entries) }
+{
+    let mut names = Vec::new(alloc);
+    for thread in 0..setup.threads() {
+        if let Some(name) = setup.entry(thread) {
+            names.push(name.as_bytes())?;
+        }
+    }
+    Ok(names)
+}
+
+/// The initial bits of the globals.
+fn init_of(alloc: Global, setup: &Setup) -> Result<Vec<bool>, AllocError>
+    ensures { IfOk result (λ v. v.items ≡ setup.now.init) }
+{
+    setup.is_in_range();
+    let mut bits = Vec::new(alloc);
+    let mut n = 0;
+    while let Some(bit) = setup.init(n) {
+        bits.push(bit)?;
+        n += 1;
+    }
+    Ok(bits)
+}
+
+/// The setup with this many contexts and no seed.
+fn budgeted(alloc: Global, code: &Code, setup: &Setup, contexts: u32) -> Result<Setup, AllocError>
+    ensures { IfOk result (λ x.
         (t : Program)
         → StandsFor code.now t
-        → IsDriven t setup.now d) }
+        → (x ≡ budgeted setup.now contexts) × (setup_fault t x ≡ None)) }
 {
-    code.is_of_a_program();
-    let mut session = Session::new(alloc, code, setup)?;
-    let mut history = Vec::new(alloc);
-    for line in lines {
-        make_again(&mut session, &mut history, line)?;
+    let entries = entries_of(alloc, setup)?;
+    let init = init_of(alloc, setup)?;
+    let (contexts, calls) = (u64::from(contexts), u64::from(setup.calls()));
+    // The setup of a session has no fault, and uses no fewer contexts.
+    match Setup::from_words(
+        alloc,
+        code,
+        entries.as_slice(),
+        init.as_slice(),
+        contexts,
+        calls,
+        None,
+    ) {
+        Ok(setup) => Ok(setup),
+        Err(_) => Err(AllocError),
     }
-    let report = session.report();
-    let number = failed_instruction(&session);
-    Ok(Driven {
-        history,
-        report,
-        number,
-    })
 }
 
-/// Whether the new history fails at the same place, by fewer calls or contexts, and no more of
-/// either.
-fn is_better(new: &Driven, old: &Driven) -> bool
-    ensures { result ≡ true → IsNoMore new.now old.now.report old.now.number }
-{
-    if new.report.outcome != old.report.outcome || new.number != old.number {
-        return false;
-    }
-    if new.report.calls > old.report.calls || new.report.contexts > old.report.contexts {
-        return false;
-    }
-    new.report.calls < old.report.calls || new.report.contexts < old.report.contexts
-}
-
-/// Tries a change at each place, and answers whether one made the history better.
-fn improve(
-    alloc: Global,
-    code: &Code,
-    setup: &Setup,
-    best: &mut Driven,
-    change: Change,
-) -> Result<bool, AllocError>
-    requires fits { FitsCode code.now setup.now }
-    requires driven { (t : Program) → StandsFor code.now t → IsDriven t setup.now best.old }
-    ensures driven { OnOk result
-        ((t : Program)
-        → StandsFor code.now t
-        → IsDriven t setup.now best.new) }
-    ensures no_more { OnOk result (IsNoMore best.new best.old.report best.old.number) }
-{
-    let mut is_better_now = false;
-    for place in 0..best.history.len() {
-        let Some(lines) = candidate(alloc, best.history.as_slice(), change, place)? else {
-            continue;
-        };
-        let new = drive_again(alloc, code, setup, lines.as_slice())?;
-        if is_better(&new, best) {
-            *best = new;
-            is_better_now = true;
-        }
-    }
-    Ok(is_better_now)
-}
-
-/// Tries each change at each place, and answers whether one made the history better.
-fn improve_by_all(
-    alloc: Global,
-    code: &Code,
-    setup: &Setup,
-    best: &mut Driven,
-) -> Result<bool, AllocError>
-    requires fits { FitsCode code.now setup.now }
-    requires driven { (t : Program) → StandsFor code.now t → IsDriven t setup.now best.old }
-    ensures driven { OnOk result
-        ((t : Program)
-        → StandsFor code.now t
-        → IsDriven t setup.now best.new) }
-    ensures no_more { OnOk result (IsNoMore best.new best.old.report best.old.number) }
-{
-    let pieces = improve(alloc, code, setup, best, Change::Piece)?;
-    let merges = improve(alloc, code, setup, best, Change::Merge)?;
-    let fours = improve(alloc, code, setup, best, Change::Calls(4))?;
-    let twos = improve(alloc, code, setup, best, Change::Calls(2))?;
-    let ones = improve(alloc, code, setup, best, Change::Calls(1))?;
-    Ok(pieces || merges || fours || twos || ones)
-}
-
-/// The same in a setup without a seed.
-fn shrink_unseeded(
-    alloc: Global,
-    code: &Code,
-    setup: &Setup,
-    history: &[Call],
-    report: &Report,
-    number: Option<u32>,
-) -> Result<Vec<Call>, AllocError>
-    requires fits { FitsCode code.now setup.now }
-    requires legal { (t : Program) → StandsFor code.now t → IsLegal t setup.now history.now }
-    requires report { (t : Program)
-        → StandsFor code.now t
-        → IsReport setup.now history.now report.now }
-    requires fails { (t : Program)
-        → StandsFor code.now t
-        → IfSome number (FailsAt t setup.now history.now) }
+/// The calls of a history that made a step, in the setup of the contexts that they use.
+fn used(alloc: Global, code: &Code, setup: &Setup, driven: &Driven) -> Result<Shrunk, AllocError>
+    requires { (t : Program) → StandsFor code.now t → IsDriven t setup.now driven.now }
     ensures { IfOk result (λ g.
         (t : Program)
         → StandsFor code.now t
-        → IsShrunk t setup.now history.now number g.items) }
+        → IsShrunkOf t setup.now driven.now g) }
 {
-    let mut best = Driven {
-        history: Vec::from_slice(alloc, history)?,
-        report: *report,
-        number,
+    runs_are_histories();
+    let history = granted(alloc, driven.history.as_slice())?;
+    let setup = budgeted(alloc, code, setup, driven.report.contexts)?;
+    let calls = history.as_slice();
+    let report = Report {
+        calls: calls.len() as u64,
+        left_open: open_lines(&setup, calls),
+        ..driven.report
     };
-    for _ in 0..ROUNDS {
-        if !improve_by_all(alloc, code, setup, &mut best)? {
-            return Ok(best.history);
-        }
-    }
-    Ok(best.history)
+    Ok(Shrunk {
+        setup,
+        history,
+        report,
+    })
 }
 
-/// A history that fails where this one does, by no more calls and no more contexts: pieces are left
-/// out or moved to an earlier piece of their thread, and a few calls are left out, as long as that
-/// makes it better. The calls keep their bits, so the setup of what is answered has no seed.
-/// `number` is that of the instruction whose assertion failed, if it is known.
+/// A history that fails where this one does, by no more calls and no more contexts. Contexts are
+/// left out and joined, loops and other calls are left out, and choices are 0, as long as that
+/// makes it smaller and `limits` allows the work. The calls keep their bits, so the setup of what
+/// is answered has no seed, and as many contexts as are used. `number` is that of the instruction
+/// whose assertion failed, if it is known.
 pub fn shrink(
     alloc: Global,
     code: &Code,
@@ -189,7 +124,7 @@ pub fn shrink(
     history: &[Call],
     report: &Report,
     number: Option<u32>,
-) -> Result<Vec<Call>, AllocError>
+) -> Result<Shrunk, AllocError>
     requires fits { FitsCode code.now setup.now }
     requires legal { (t : Program) → StandsFor code.now t → IsLegal t setup.now history.now }
     requires report { (t : Program)
@@ -201,8 +136,21 @@ pub fn shrink(
     ensures { IfOk result (λ g.
         (t : Program)
         → StandsFor code.now t
-        → IsShrunk t (unseeded setup.now) history.now number g.items) }
+        → IsShrunk t setup.now history.now number g) }
 {
     let setup = setup.try_copy()?.with_seed(None);
-    shrink_unseeded(alloc, code, &setup, history, report, number)
+    let search = Search {
+        session: Session::new(alloc, code, &setup)?,
+        best: Driven {
+            history: Vec::from_slice(alloc, history)?,
+            report: *report,
+            number,
+        },
+        lines: Vec::new(alloc),
+        spare: Vec::new(alloc),
+        is_taken: false,
+    };
+    let best = improve(search)?.best;
+    let shrunk = used(alloc, code, &setup, &best)?;
+    Ok(shrunk)
 }

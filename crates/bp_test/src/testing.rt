@@ -1,55 +1,86 @@
 //! Testing a program within a bound on contexts.
-ghost use Rattle.std.specs.Prelude.{MatchResult};
+ghost use Rattle.std.specs.Prelude.{◌≡◌, MatchResult};
 ghost use Rattle.bp_tree.specs.Ast.{Program};
 ghost use Rattle.bp_code.specs.StandsFor.{StandsFor};
 ghost use Rattle.bp_machine.specs.Setups.{FitsCode};
-ghost use Rattle.bp_test.specs.Tests.{IsFound, IsTestRefusal};
+ghost use Rattle.bp_test.specs.Tests.{found_in, IsFound, IsTestRefusal};
 
-use crate::blocks::first_failure;
+use crate::blocks::Block;
 use crate::faults::TestFault;
+use crate::limits::MAX_JOBS;
+use crate::options::TestOptions;
 use crate::plans::Plan;
+use crate::tallies::Tally;
+use crate::waves::search;
 use bp_code::Code;
-use bp_machine::{Report, Setup};
+use bp_machine::{Outcome, Report, Setup};
 use bp_trace::write_trace;
 use std::alloc::Global;
 use std::io::Write;
+use std::thread::Threads;
 
 /// What a test found.
 #[derive(Clone, Copy, Debug, PartialEq, Eq)]
 pub enum Found {
-    /// No assertion failed.
+    /// None of the runs.
     Nothing,
-    /// An assertion failed in this run, and in none before it.
+    /// An assertion failed in this run. No run before it is what the test looks for.
     Failed { run: u64, report: Report },
+    /// In this run some threads are open, and all of them wait for ever. No run before it is what
+    /// the test looks for.
+    Stuck { run: u64, report: Report },
 }
 
-/// Makes runs, each with the seed after that of the one before, until an assertion fails, and then
-/// writes the trace of that run. Where none fails nothing is written. At a refusal nothing is
-/// written, but for a writer that refuses: it then has a proper prefix of the trace.
-pub fn test<W: Write>(
+/// What a test found, and what the runs that it made came to.
+#[derive(Drop)]
+pub struct Tested {
+    pub found: Found,
+    pub tally: Tally,
+}
+
+/// What was found in a run with this report.
+fn found_in(run: u64, report: Report) -> Found
+    ensures { result ≡ found_in run report }
+{
+    match report.outcome {
+        Outcome::Failed { .. } => Found::Failed { run, report },
+        Outcome::Clean => Found::Stuck { run, report },
+    }
+}
+
+/// Makes runs, each with the seed after that of the one before, until an assertion fails, or a run
+/// is stuck where that is looked for, and then writes the trace of that run. Where none is found
+/// nothing is written. At a refusal nothing is written, but for a writer that refuses: it then has
+/// a proper prefix of the trace.
+pub fn test<R: Threads + Sync, W: Write>(
+    rt: &R,
     alloc: Global,
     code: &Code,
     setup: &Setup,
-    seed: u64,
-    runs: u64,
+    options: &TestOptions,
     out: &mut W,
-) -> Result<Found, TestFault>
+) -> Result<Tested, TestFault>
     requires { FitsCode code.now setup.now }
     ensures { (t : Program)
         → StandsFor code.now t
-        → MatchResult result
-        (IsFound t setup.now seed runs (W.contents out.old) (W.contents out.new))
-        (IsTestRefusal t setup.now seed runs (W.contents out.old) (W.contents out.new)) }
+        → let old = W.contents out.old in
+        let new = W.contents out.new in
+        MatchResult result
+        (λ x. IsFound t setup.now options.now old new x.found)
+        (IsTestRefusal t setup.now options.now old new) }
 {
-    let plan = Plan::new(alloc, code, setup, seed)?;
-    match first_failure(alloc, code, setup, &plan, 0, runs)? {
-        None => Ok(Found::Nothing),
-        Some(failed) => {
-            let run = failed.run;
-            let setup = setup.try_copy()?.with_seed(Some(seed.wrapping_add(run)));
-            write_trace(&setup, failed.history.as_slice(), out)?;
-            let report = failed.report;
-            Ok(Found::Failed { run, report })
-        }
-    }
+    let plan = Plan::new(alloc, code, setup, options)?;
+    let jobs = options.jobs.clamp(1, MAX_JOBS) as usize;
+    let Block { found, tally } = search(rt, alloc, code, setup, &plan, options.runs, jobs)?;
+    let Some(found) = found else {
+        return Ok(Tested {
+            found: Found::Nothing,
+            tally,
+        });
+    };
+    let seed = options.seed.wrapping_add(found.run);
+    let setup = setup.try_copy()?.with_seed(Some(seed));
+    write_trace(&setup, found.history.as_slice(), out)?;
+    let found = found_in(found.run, found.report);
+    Ok(Tested { found, tally })
 }

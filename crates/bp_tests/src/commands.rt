@@ -33,6 +33,11 @@ const RACE_TRACE: &[u8] = b"\
     btrace 1\nentry a\nentry b\ninit 0\ncontexts 3\ncalls 1000\nseed none\n\
     0 0 s\n1 0 s\n0 0 f\nend 3 1\n";
 
+/// The race with calls that it does not need.
+const NOISY_TRACE: &[u8] = b"\
+    btrace 1\nentry a\nentry b\ninit 0\ncontexts 7\ncalls 1000\nseed none\n\
+    0 1 s\n1 1 s\n1 0 s\n1 0 e\n0 1 f\nend 5 0\n";
+
 const RACE_TRACE_2: &[u8] = b"\
     btrace 2\nentry a\nentry b\ninit 0\ncontexts 3\ncalls 1000\nseed none\n\
     0 0s\n1 0s\n0 0f\nend 3 1\n";
@@ -77,7 +82,9 @@ fn said_of_program<C: ProgramCommand, R: Read + Drop, W: Write>(
     command: &C,
     program: R,
     out: &mut W,
-) -> Said {
+) -> Said
+    requires { C.allowed command.now }
+{
     let mut program = Source::new(alloc, program);
     said(&do_on_program(alloc, command, &mut program, out))
 }

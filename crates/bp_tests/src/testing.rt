@@ -5,10 +5,11 @@ ghost use Rattle.bp_machine.specs.Setups.{FitsCode};
 use crate::texts::{code_of, names};
 use bp_code::Code;
 use bp_machine::{Outcome, Setup, Start};
-use bp_test::{FailedRun, Found, Plan, TestFault, first_failure, shrink, test};
+use bp_test::{Block, Found, FoundRun, Plan, TestFault, TestOptions, first_found, shrink, test};
 use bp_trace::replay;
 use std::alloc::Global;
 use std::test::Fail;
+use std::thread::Threads;
 
 /// Thread 1 fails where it comes between the last two steps of thread 0. It takes five calls.
 const RACE: &[u8] = b"decl ready, data; \
@@ -26,6 +27,16 @@ const CHOOSES: &[u8] = b"decl x; main() begin assume (?); assert (x); end";
 
 const SEED: u64 = 7;
 
+/// A test of this many runs.
+fn options_of(runs: u64) -> TestOptions {
+    TestOptions {
+        seed: SEED,
+        runs,
+        jobs: 1,
+        with_stuck: false,
+    }
+}
+
 /// The setup of threads that begin with these procedures.
 fn setup_of(alloc: Global, code: &Code, entries: &[&str]) -> Result<Setup, Fail>
     ensures { IfOk result (λ s. FitsCode code.now s) }
@@ -40,44 +51,77 @@ fn setup_of(alloc: Global, code: &Code, entries: &[&str]) -> Result<Setup, Fail>
 }
 
 /// Whether a failure of thread 1 is found, whose trace replays.
-fn finds_a_race(alloc: Global) -> Result<bool, Fail> {
+fn finds_a_race<R: Threads + Sync>(rt: &R, alloc: Global) -> Result<bool, Fail> {
     let code = code_of(alloc, RACE)?;
     let setup = setup_of(alloc, &code, &["writer", "reader"])?;
     let mut out = Vec::new(alloc);
-    let found = test(alloc, &code, &setup, SEED, 1_000, &mut out)?;
+    let tested = test(rt, alloc, &code, &setup, &options_of(1_000), &mut out)?;
     let replayed = replay(alloc, &code, out.as_slice())?;
-    match found {
-        Found::Nothing => Ok(false),
+    match tested.found {
         Found::Failed { report, .. } => {
             Ok(report == replayed.report && report.outcome == Outcome::Failed { thread: 1 })
         }
+        _ => Ok(false),
     }
 }
 
 #[test]
 fn a_race_is_found(rt: HostRuntime) -> Result<(), Fail> {
-    assert!(rt; finds_a_race(rt.alloc())?);
+    assert!(rt; finds_a_race(&rt, rt.alloc())?);
     Ok(())
 }
 
 /// Whether nothing is found with two threads of `main`, and nothing is written.
-fn finds_nothing(alloc: Global, text: &[u8]) -> Result<bool, Fail> {
+fn finds_nothing<R: Threads + Sync>(rt: &R, alloc: Global, text: &[u8]) -> Result<bool, Fail> {
     let code = code_of(alloc, text)?;
     let setup = setup_of(alloc, &code, &["main", "main"])?;
     let mut out = Vec::new(alloc);
-    let found = test(alloc, &code, &setup, SEED, 100, &mut out)?;
-    Ok(found == Found::Nothing && out.is_empty())
+    let tested = test(rt, alloc, &code, &setup, &options_of(100), &mut out)?;
+    Ok(tested.found == Found::Nothing && out.is_empty())
 }
 
 #[test]
 fn a_clean_program_has_no_failed_run(rt: HostRuntime) -> Result<(), Fail> {
-    assert!(rt; finds_nothing(rt.alloc(), CLEAN)?);
+    assert!(rt; finds_nothing(&rt, rt.alloc(), CLEAN)?);
     Ok(())
 }
 
 #[test]
 fn runs_end_where_threads_wait(rt: HostRuntime) -> Result<(), Fail> {
-    assert!(rt; finds_nothing(rt.alloc(), WAITS)?);
+    assert!(rt; finds_nothing(&rt, rt.alloc(), WAITS)?);
+    Ok(())
+}
+
+/// What is found with two threads of `main` by this many jobs, and how many runs were counted.
+fn finds_stuck<R: Threads + Sync>(
+    rt: &R,
+    alloc: Global,
+    text: &[u8],
+    jobs: u32,
+) -> Result<(Found, u64), Fail> {
+    let code = code_of(alloc, text)?;
+    let setup = setup_of(alloc, &code, &["main", "main"])?;
+    let mut out = Vec::new(alloc);
+    let options = TestOptions {
+        jobs,
+        with_stuck: true,
+        ..options_of(12_000)
+    };
+    let tested = test(rt, alloc, &code, &setup, &options, &mut out)?;
+    Ok((tested.found, tested.tally.runs))
+}
+
+#[test]
+fn a_stuck_run_is_found(rt: HostRuntime) -> Result<(), Fail> {
+    let (found, runs) = finds_stuck(&rt, rt.alloc(), WAITS, 2)?;
+    assert!(rt; matches!(found, Found::Stuck { run: 0, .. }) && runs == 1);
+    Ok(())
+}
+
+#[test]
+fn jobs_make_each_run_once(rt: HostRuntime) -> Result<(), Fail> {
+    let (found, runs) = finds_stuck(&rt, rt.alloc(), CLEAN, 3)?;
+    assert!(rt; found == Found::Nothing && runs == 12_000);
     Ok(())
 }
 
@@ -85,9 +129,10 @@ fn runs_end_where_threads_wait(rt: HostRuntime) -> Result<(), Fail> {
 fn each_fails(alloc: Global, text: &[u8], runs: u64) -> Result<bool, Fail> {
     let code = code_of(alloc, text)?;
     let setup = setup_of(alloc, &code, &["main"])?;
-    let plan = Plan::new(alloc, &code, &setup, SEED)?;
+    let plan = Plan::new(alloc, &code, &setup, &options_of(runs))?;
     for run in 0..runs {
-        if first_failure(alloc, &code, &setup, &plan, run, runs)?.map(|f| f.run) != Some(run) {
+        let block = first_found(alloc, &code, &setup, &plan, run, runs)?;
+        if block.found.map(|f| f.run) != Some(run) {
             return Ok(false);
         }
     }
@@ -100,8 +145,8 @@ fn a_choice_is_drawn_again(rt: HostRuntime) -> Result<(), Fail> {
     Ok(())
 }
 
-/// Whether two blocks have the same failure.
-fn are_same(one: &Option<FailedRun>, other: &Option<FailedRun>) -> bool {
+/// Whether two blocks found the same run.
+fn are_same(one: &Option<FoundRun>, other: &Option<FoundRun>) -> bool {
     match (one, other) {
         (Some(one), Some(other)) => {
             one.run == other.run && one.history.as_slice() == other.history.as_slice()
@@ -114,13 +159,13 @@ fn are_same(one: &Option<FailedRun>, other: &Option<FailedRun>) -> bool {
 fn blocks_agree(alloc: Global) -> Result<bool, Fail> {
     let code = code_of(alloc, RACE)?;
     let setup = setup_of(alloc, &code, &["writer", "reader"])?;
-    let plan = Plan::new(alloc, &code, &setup, SEED)?;
-    let all = first_failure(alloc, &code, &setup, &plan, 0, 1_000)?;
+    let plan = Plan::new(alloc, &code, &setup, &options_of(1_000))?;
+    let all = first_found(alloc, &code, &setup, &plan, 0, 1_000)?.found;
     let Some(run) = all.as_ref().map(|f| f.run) else {
         return Ok(false);
     };
-    let before = first_failure(alloc, &code, &setup, &plan, 0, run)?;
-    let own = first_failure(alloc, &code, &setup, &plan, run, 1_000)?;
+    let before = first_found(alloc, &code, &setup, &plan, 0, run)?.found;
+    let own = first_found(alloc, &code, &setup, &plan, run, 1_000)?.found;
     Ok(before.is_none() && are_same(&all, &own))
 }
 
@@ -130,18 +175,20 @@ fn blocks_find_the_same(rt: HostRuntime) -> Result<(), Fail> {
     Ok(())
 }
 
-/// Whether the failure shrinks to the five calls that it takes.
+/// Whether the failure shrinks to the five calls that it takes, in two contexts.
 fn shrinks_a_race(alloc: Global) -> Result<bool, Fail> {
     let code = code_of(alloc, RACE)?;
     let setup = setup_of(alloc, &code, &["writer", "reader"])?;
-    let plan = Plan::new(alloc, &code, &setup, SEED)?;
-    let Some(failed) = first_failure(alloc, &code, &setup, &plan, 0, 1_000)? else {
+    let plan = Plan::new(alloc, &code, &setup, &options_of(1_000))?;
+    let Block { found, .. } = first_found(alloc, &code, &setup, &plan, 0, 1_000)?;
+    let Some(failed) = found else {
         return Ok(false);
     };
     let own = setup.with_seed(Some(plan.seed.wrapping_add(failed.run)));
     let history = failed.history.as_slice();
     let shrunk = shrink(alloc, &code, &own, history, &failed.report, failed.number)?;
-    Ok(failed.number.is_some() && history.len() > 5 && shrunk.len() == 5)
+    let (calls, contexts) = (shrunk.history.len(), shrunk.setup.contexts());
+    Ok(failed.number.is_some() && history.len() > 5 && calls == 5 && contexts == 2)
 }
 
 #[test]

@@ -124,7 +124,7 @@ other_way a b e = grind (arith, bytes_eq-Decides a b, bytes_eq-Decides b a, e)
 entered_ours : (stop : Option (Text × List Text)) → NoHelp stop → IsOurs (entered (built btrun_app) stop)
 unfolding clap_on_literals
 entered_ours None fine = tt
-entered_ours (Some p) fine = found_ours p (built btrun_app).subs (inr (inl refl), (inr (inr (inl refl)), (inr (inr (inr (inl refl))), (inr (inr (inr (inr (inl refl)))), (inr (inr (inr (inr (inr (inl refl))))), (inr (inr (inr (inr (inr (inr (inl refl)))))), (inr (inr (inr (inr (inr (inr (inr (inl refl))))))), (inr (inr (inr (inr (inr (inr (inr (inr refl))))))), (inl (other_way p.0 (codes "help") fine), tt)))))))))
+entered_ours (Some p) fine = found_ours p (built btrun_app).subs (inr (inl refl), (inr (inr (inl refl)), (inr (inr (inr (inl refl))), (inr (inr (inr (inr (inl refl)))), (inr (inr (inr (inr (inr (inl refl))))), (inr (inr (inr (inr (inr (inr (inl refl)))))), (inr (inr (inr (inr (inr (inr (inr (inl refl))))))), (inr (inr (inr (inr (inr (inr (inr (inr (inl refl)))))))), (inr (inr (inr (inr (inr (inr (inr (inr (inr refl)))))))), (inl (other_way p.0 (codes "help") fine), tt))))))))))
 
 enabled : (built btrun_app).top.disable_help_subcommand ≡ false
 unfolding clap_on_literals

@@ -14,10 +14,10 @@ use Rattle.bp_machine.specs.declared.limits.TheConstants.{DEFAULT_CONTEXTS, DEFA
 use Rattle.bp_run.specs.Options.{OptionsOf, default_options, options_of}
 use Rattle.bp_run.specs.declared.limits.TheConstants.{DEFAULT_TURN, DEFAULT_SEED, DEFAULT_RING}
 use Rattle.std.proofs.lemmas.Slice.Eq.{bytes_eq-Decides}
-use Rattle.bp_words.specs.Commands.{btrun_app, is_plain, words_fault, IsCheckOf, IsCodeOf, IsMigrateOf, IsPlainDriveOf, IsPlainRunOf, IsPlainShowOf, IsPlainTestOf, IsReplayOf, IsTaskOf}
+use Rattle.bp_words.specs.Commands.{btrun_app, is_plain, words_fault, IsCheckOf, IsCodeOf, IsMigrateOf, IsPlainDriveOf, IsPlainRunOf, IsPlainShowOf, IsPlainTestOf, IsReplayOf, IsShrinkOf, IsTaskOf}
 use Rattle.bp_words.specs.Values.{init_fault}
 use Rattle.bp_words.specs.declared.commands.Task.{Task}
-use Rattle.bp_words.specs.declared.commands.Task.TheVariants.{Bundle, Check, Code, Drive, Run, Test, Replay, Show, Migrate}
+use Rattle.bp_words.specs.declared.commands.Task.TheVariants.{Bundle, Check, Code, Drive, Run, Test, Replay, Show, Migrate, Shrink}
 
 -- words that `clap` takes have no fault where the command's initial bits have none
 no_fault : (words : List Text) (command : Option (Text × List Row)) → fault_of btrun_app words ≡ [] → subcommand_of btrun_app words ≡ command → init_fault command ≡ [] → words_fault words ≡ []
@@ -160,6 +160,7 @@ check_of file (Test words) asks = absurd (differ (codes "check") (codes "test") 
 check_of file (Replay words) asks = absurd (check≢replay asks.0)
 check_of file (Show words) asks = absurd (check≢show asks.0)
 check_of file (Migrate words) asks = absurd (check≢migrate asks.0)
+check_of file (Shrink words) asks = absurd (differ (codes "check") (codes "shrink") refl asks.0)
 
 pub check_asked : (program file : Text) (task : Task) → is_plain file ≡ true → IsTaskOf (subcommand_of btrun_app (check_words program file)) task → IsCheckOf file task
 check_asked program file task plain asks = check_of file task (subst (λ c. IsTaskOf c task) (check_named program file (is_word file plain)) asks)
@@ -190,6 +191,7 @@ code_of file (Test words) asks = absurd (differ (codes "code") (codes "test") re
 code_of file (Replay words) asks = absurd (code≢replay asks.0)
 code_of file (Show words) asks = absurd (code≢show asks.0)
 code_of file (Migrate words) asks = absurd (code≢migrate asks.0)
+code_of file (Shrink words) asks = absurd (differ (codes "code") (codes "shrink") refl asks.0)
 
 pub code_asked : (program file : Text) (task : Task) → is_plain file ≡ true → IsTaskOf (subcommand_of btrun_app (code_words program file)) task → IsCodeOf file task
 code_asked program file task plain asks = code_of file task (subst (λ c. IsTaskOf c task) (code_named program file (is_word file plain)) asks)
@@ -228,6 +230,7 @@ drive_of file schedule (Test words) asks = absurd (differ (codes "drive") (codes
 drive_of file schedule (Replay words) asks = absurd (drive≢replay asks.0)
 drive_of file schedule (Show words) asks = absurd (drive≢show asks.0)
 drive_of file schedule (Migrate words) asks = absurd (drive≢migrate asks.0)
+drive_of file schedule (Shrink words) asks = absurd (differ (codes "drive") (codes "shrink") refl asks.0)
 
 pub drive_asked : (program file schedule : Text) (task : Task) → is_plain file ≡ true → is_plain schedule ≡ true → IsTaskOf (subcommand_of btrun_app (drive_words program file schedule)) task → IsPlainDriveOf file schedule task
 drive_asked program file schedule task plain even asks =
@@ -267,6 +270,7 @@ run_of file (Test words) asks = absurd (differ (codes "run") (codes "test") refl
 run_of file (Replay words) asks = absurd (run≢replay asks.0)
 run_of file (Show words) asks = absurd (run≢show asks.0)
 run_of file (Migrate words) asks = absurd (run≢migrate asks.0)
+run_of file (Shrink words) asks = absurd (differ (codes "run") (codes "shrink") refl asks.0)
 
 pub run_asked : (program file : Text) (task : Task) → is_plain file ≡ true → IsTaskOf (subcommand_of btrun_app (run_words program file)) task → IsPlainRunOf file task
 run_asked program file task plain asks = run_of file task (subst (λ c. IsTaskOf c task) (run_named program file (is_word file plain)) asks)
@@ -277,7 +281,11 @@ trace_rows file trace = given (codes "FILE") file ∷ given (codes "TRACE") trac
 abbrev test_words : Text → Text → List Text
 test_words program file = program ∷ codes "test" ∷ file ∷ []
 
-test_named : (program file : Text) → IsWord file → subcommand_of btrun_app (test_words program file) ≡ Some (codes "test", file_row file)
+abbrev test_rows : Text → List Row
+test_rows file =
+    given (codes "FILE") file ∷ down (codes "explain") ∷ down (codes "stuck") ∷ down (codes "unreached") ∷ []
+
+test_named : (program file : Text) → IsWord file → subcommand_of btrun_app (test_words program file) ≡ Some (codes "test", test_rows file)
 unfolding clap_on_literals
 test_named program file (no_end, no_long, no_short) = rw (no_end, no_long, no_short) refl
 
@@ -288,18 +296,19 @@ test_clean program file (no_end, no_long, no_short) = rw (no_end, no_long, no_sh
 pub test_faulty : (program file : Text) → is_plain file ≡ true → words_fault (test_words program file) ≡ []
 test_faulty program file plain =
     let word = is_word file plain in
-    no_fault (test_words program file) (Some (codes "test", file_row file)) (test_clean program file word) (test_named program file word) refl
+    no_fault (test_words program file) (Some (codes "test", test_rows file)) (test_clean program file word) (test_named program file word) refl
 
-test_of : (file : Text) (task : Task) → IsTaskOf (Some (codes "test", file_row file)) task → IsPlainTestOf file task
+test_of : (file : Text) (task : Task) → IsTaskOf (Some (codes "test", test_rows file)) task → IsPlainTestOf file task
 test_of file Bundle asks = absurd asks
 test_of file (Check words) asks = absurd (differ (codes "test") (codes "check") refl asks.0)
 test_of file (Code words) asks = absurd (differ (codes "test") (codes "code") refl asks.0)
 test_of file (Drive words) asks = absurd (differ (codes "test") (codes "drive") refl asks.0)
 test_of file (Run words) asks = absurd (differ (codes "test") (codes "run") refl asks.0)
-test_of file (Test words) (named, of) = (of.program, of.explain.1 refl, start_is words.start of.entries of.init of.contexts of.calls, of.seed, of.runs)
+test_of file (Test words) (named, of) = (of.program, of.explain.1 refl, start_is words.start of.entries of.init of.contexts of.calls, of.seed, of.runs, of.jobs, of.stuck.1 refl, of.unreached.1 refl)
 test_of file (Replay words) asks = absurd (differ (codes "test") (codes "replay") refl asks.0)
 test_of file (Show words) asks = absurd (differ (codes "test") (codes "show") refl asks.0)
 test_of file (Migrate words) asks = absurd (differ (codes "test") (codes "migrate") refl asks.0)
+test_of file (Shrink words) asks = absurd (differ (codes "test") (codes "shrink") refl asks.0)
 
 pub test_asked : (program file : Text) (task : Task) → is_plain file ≡ true → IsTaskOf (subcommand_of btrun_app (test_words program file)) task → IsPlainTestOf file task
 test_asked program file task plain asks = test_of file task (subst (λ c. IsTaskOf c task) (test_named program file (is_word file plain)) asks)
@@ -331,6 +340,7 @@ replay_of file trace (Test words) asks = absurd (differ (codes "replay") (codes 
 replay_of file trace (Replay words) (named, of) = (of.program, of.trace, of.explain.1 refl)
 replay_of file trace (Show words) asks = absurd (replay≢show asks.0)
 replay_of file trace (Migrate words) asks = absurd (replay≢migrate asks.0)
+replay_of file trace (Shrink words) asks = absurd (differ (codes "replay") (codes "shrink") refl asks.0)
 
 pub replay_asked : (program file trace : Text) (task : Task) → is_plain file ≡ true → is_plain trace ≡ true → IsTaskOf (subcommand_of btrun_app (replay_words program file trace)) task → IsReplayOf file trace task
 replay_asked program file trace task plain even asks =
@@ -363,6 +373,7 @@ show_of file trace (Test words) asks = absurd (differ (codes "show") (codes "tes
 show_of file trace (Replay words) asks = absurd (replay≢show (sym asks.0))
 show_of file trace (Show words) (named, of) = (of.program, of.trace, of.thread, of.last, of.explain.1 refl)
 show_of file trace (Migrate words) asks = absurd (show≢migrate asks.0)
+show_of file trace (Shrink words) asks = absurd (differ (codes "show") (codes "shrink") refl asks.0)
 
 pub show_asked : (program file trace : Text) (task : Task) → is_plain file ≡ true → is_plain trace ≡ true → IsTaskOf (subcommand_of btrun_app (show_words program file trace)) task → IsPlainShowOf file trace task
 show_asked program file trace task plain even asks =
@@ -393,12 +404,46 @@ migrate_of file trace (Drive words) asks = absurd (drive≢migrate (sym asks.0))
 migrate_of file trace (Run words) asks = absurd (run≢migrate (sym asks.0))
 migrate_of file trace (Test words) asks = absurd (differ (codes "migrate") (codes "test") refl asks.0)
 migrate_of file trace (Show words) asks = absurd (show≢migrate (sym asks.0))
+migrate_of file trace (Shrink words) asks = absurd (differ (codes "migrate") (codes "shrink") refl asks.0)
 migrate_of file trace (Migrate words) (named, of) = (of.program, of.trace, of.explain.1 refl)
 migrate_of file trace (Replay words) asks = absurd (replay≢migrate (sym asks.0))
 
 pub migrate_asked : (program file trace : Text) (task : Task) → is_plain file ≡ true → is_plain trace ≡ true → IsTaskOf (subcommand_of btrun_app (migrate_words program file trace)) task → IsMigrateOf file trace task
 migrate_asked program file trace task plain even asks =
     migrate_of file trace task (subst (λ c. IsTaskOf c task) (migrate_named program file trace (is_word file plain) (is_word trace even)) asks)
+
+abbrev shrink_words : Text → Text → Text → List Text
+shrink_words program file trace = program ∷ codes "shrink" ∷ file ∷ trace ∷ []
+
+shrink_named : (program file trace : Text) → IsWord file → IsWord trace → subcommand_of btrun_app (shrink_words program file trace) ≡ Some (codes "shrink", trace_rows file trace)
+unfolding clap_on_literals
+shrink_named program file trace (no_end, no_long, no_short) (none_ends, none_long, none_short) = rw (no_end, no_long, no_short, none_ends, none_long, none_short) refl
+
+shrink_clean : (program file trace : Text) → IsWord file → IsWord trace → fault_of btrun_app (shrink_words program file trace) ≡ []
+unfolding clap_on_literals
+shrink_clean program file trace (no_end, no_long, no_short) (none_ends, none_long, none_short) = rw (no_end, no_long, no_short, none_ends, none_long, none_short) refl
+
+pub shrink_faulty : (program file trace : Text) → is_plain file ≡ true → is_plain trace ≡ true → words_fault (shrink_words program file trace) ≡ []
+shrink_faulty program file trace plain even =
+    let word = is_word file plain in
+    let other = is_word trace even in
+    no_fault (shrink_words program file trace) (Some (codes "shrink", trace_rows file trace)) (shrink_clean program file trace word other) (shrink_named program file trace word other) refl
+
+shrink_of : (file trace : Text) (task : Task) → IsTaskOf (Some (codes "shrink", trace_rows file trace)) task → IsShrinkOf file trace task
+shrink_of file trace Bundle asks = absurd asks
+shrink_of file trace (Check words) asks = absurd (differ (codes "shrink") (codes "check") refl asks.0)
+shrink_of file trace (Code words) asks = absurd (differ (codes "shrink") (codes "code") refl asks.0)
+shrink_of file trace (Drive words) asks = absurd (differ (codes "shrink") (codes "drive") refl asks.0)
+shrink_of file trace (Run words) asks = absurd (differ (codes "shrink") (codes "run") refl asks.0)
+shrink_of file trace (Test words) asks = absurd (differ (codes "shrink") (codes "test") refl asks.0)
+shrink_of file trace (Show words) asks = absurd (differ (codes "shrink") (codes "show") refl asks.0)
+shrink_of file trace (Migrate words) asks = absurd (differ (codes "shrink") (codes "migrate") refl asks.0)
+shrink_of file trace (Shrink words) (named, of) = (of.program, of.trace, of.explain.1 refl)
+shrink_of file trace (Replay words) asks = absurd (differ (codes "shrink") (codes "replay") refl asks.0)
+
+pub shrink_asked : (program file trace : Text) (task : Task) → is_plain file ≡ true → is_plain trace ≡ true → IsTaskOf (subcommand_of btrun_app (shrink_words program file trace)) task → IsShrinkOf file trace task
+shrink_asked program file trace task plain even asks =
+    shrink_of file trace task (subst (λ c. IsTaskOf c task) (shrink_named program file trace (is_word file plain) (is_word trace even)) asks)
 
 -- where there is no fault, only memory was refused
 pub only_memory : (kinds : Kinds) (e : Error) → kinds ≡ [] → HasKind kinds e → kind_of e ≡ OutOfMemory

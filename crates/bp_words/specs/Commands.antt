@@ -11,7 +11,7 @@ use Rattle.clap.specs.declared.builder.value_parser.ValueParser.TheVariants as p
 use Rattle.bp_machine.specs.Starts.{default_start}
 use Rattle.bp_run.specs.Options.{default_options}
 use Rattle.bp_run.specs.declared.limits.TheConstants.{DEFAULT_SEED}
-use Rattle.bp_test.specs.declared.limits.TheConstants.{DEFAULT_RUNS}
+use Rattle.bp_test.specs.declared.limits.TheConstants.{DEFAULT_JOBS, DEFAULT_RUNS}
 use Rattle.bp_words.specs.Values.{init_fault}
 use Rattle.bp_words.specs.DriveWords.{IsDriveOf}
 use Rattle.bp_words.specs.FileWords.{IsFileWordsOf}
@@ -21,7 +21,7 @@ use Rattle.bp_words.specs.TestWords.{IsTestOf}
 use Rattle.bp_words.specs.TraceWords.{IsTraceWordsOf}
 use Rattle.bp_words.specs.declared.trace.TraceWords.{TraceWords}
 use Rattle.bp_words.specs.declared.commands.Task.{Task}
-use Rattle.bp_words.specs.declared.commands.Task.TheVariants.{Bundle, Check, Code, Drive, Run, Test, Replay, Show, Migrate}
+use Rattle.bp_words.specs.declared.commands.Task.TheVariants.{Bundle, Check, Code, Drive, Run, Test, Replay, Show, Migrate, Shrink}
 
 -- an argument that has to be there
 abbrev pub required_rule : Text → Rule
@@ -98,7 +98,8 @@ run_app =
     ∷ flag_rule (codes "spread")
     ∷ [])
 
--- `test FILE [ENTRY].. [--seed N] [--contexts N] [--calls N] [--init BITS] [--runs N] [--explain]`
+-- `test FILE [ENTRY].. [--seed N] [--contexts N] [--calls N] [--init BITS] [--runs N] [--jobs N]
+-- [--stuck] [--unreached] [--explain]`
 abbrev pub test_app : App
 test_app =
     with_rules (file_app (codes "test")) (
@@ -108,6 +109,9 @@ test_app =
     ∷ number_rule (codes "calls")
     ∷ option_rule (codes "init")
     ∷ long_number_rule (codes "runs")
+    ∷ number_rule (codes "jobs")
+    ∷ flag_rule (codes "stuck")
+    ∷ flag_rule (codes "unreached")
     ∷ [])
 
 -- a command of this name, a file and a trace
@@ -130,6 +134,10 @@ show_app =
 abbrev pub migrate_app : App
 migrate_app = trace_app (codes "migrate")
 
+-- `shrink FILE TRACE [--explain]`
+abbrev pub shrink_app : App
+shrink_app = trace_app (codes "shrink")
+
 -- the program without a command
 abbrev pub program_app : App
 program_app = on_top (λ s. record s { has_version = true }) (new_app (codes "btrun"))
@@ -151,6 +159,7 @@ btrun_app =
     ∷ replay_app
     ∷ show_app
     ∷ migrate_app
+    ∷ shrink_app
     ∷ [])
 
 -- the name of a command
@@ -163,7 +172,8 @@ IsNamed name =
     ⊎ ((name ≡ codes "test")
     ⊎ ((name ≡ codes "replay")
     ⊎ ((name ≡ codes "show")
-    ⊎ (name ≡ codes "migrate")))))))
+    ⊎ ((name ≡ codes "migrate")
+    ⊎ (name ≡ codes "shrink"))))))))
 
 -- the words name no command, or one of those that there are
 abbrev pub IsOurs : Option (Text × List Row) → Type 0
@@ -181,6 +191,7 @@ IsTaskOfCommand name rows (Test words) = (name ≡ codes "test") × IsTestOf row
 IsTaskOfCommand name rows (Replay words) = (name ≡ codes "replay") × IsTraceWordsOf rows words
 IsTaskOfCommand name rows (Show words) = (name ≡ codes "show") × IsShowOf rows words
 IsTaskOfCommand name rows (Migrate words) = (name ≡ codes "migrate") × IsTraceWordsOf rows words
+IsTaskOfCommand name rows (Shrink words) = (name ≡ codes "shrink") × IsTraceWordsOf rows words
 
 -- what the words ask for, by the command that they name
 abbrev pub IsTaskOf : Option (Text × List Row) → Task → Type 0
@@ -232,6 +243,9 @@ IsPlainTestOf file (Test words) =
     × (words.start ≡ default_start)
     × (words.seed ≡ DEFAULT_SEED)
     × (words.runs ≡ DEFAULT_RUNS)
+    × (words.jobs ≡ DEFAULT_JOBS)
+    × (words.stuck ≡ false)
+    × (words.unreached ≡ false)
 IsPlainTestOf file task = ⊥
 
 -- the files are these, and faults are not explained
@@ -258,3 +272,8 @@ IsPlainShowOf file trace task = ⊥
 abbrev pub IsMigrateOf : Text → Text → Task → Type 0
 IsMigrateOf file trace (Migrate words) = HasFiles file trace words
 IsMigrateOf file trace task = ⊥
+
+-- the task is to shrink this trace of the program of this file
+abbrev pub IsShrinkOf : Text → Text → Task → Type 0
+IsShrinkOf file trace (Shrink words) = HasFiles file trace words
+IsShrinkOf file trace task = ⊥

@@ -3,7 +3,7 @@ use Rattle.std.specs.Prelude.{◌≡◌, List, codes, option_map}
 use Rattle.clap.specs.Walk.{Row, first_of, one_of}
 use Rattle.bp_machine.specs.declared.limits.TheConstants.{DEFAULT_CONTEXTS, DEFAULT_CALLS}
 use Rattle.bp_run.specs.declared.limits.TheConstants.{DEFAULT_SEED}
-use Rattle.bp_test.specs.declared.limits.TheConstants.{DEFAULT_RUNS}
+use Rattle.bp_test.specs.declared.limits.TheConstants.{DEFAULT_JOBS, DEFAULT_RUNS}
 use Rattle.bp_words.specs.Values.{bits_in, entries_in, value_of, IsFlagOf, IsNumberOf}
 use Rattle.bp_words.specs.declared.test.TestWords.{TestWords}
 
@@ -17,4 +17,7 @@ pub record IsTestOf (rows : List Row) (words : TestWords) : Type 0 where
   pub calls : IsNumberOf 32 DEFAULT_CALLS (one_of (codes "calls") rows) words.start.calls
   pub seed : IsNumberOf 64 DEFAULT_SEED (one_of (codes "seed") rows) words.seed
   pub runs : IsNumberOf 64 DEFAULT_RUNS (one_of (codes "runs") rows) words.runs
+  pub jobs : IsNumberOf 32 DEFAULT_JOBS (one_of (codes "jobs") rows) words.jobs
+  pub stuck : IsFlagOf (one_of (codes "stuck") rows) words.stuck
+  pub unreached : IsFlagOf (one_of (codes "unreached") rows) words.unreached
   pub explain : IsFlagOf (one_of (codes "explain") rows) words.explain

@@ -1,4 +1,4 @@
--- What the words after `replay` and `migrate` ask for.
+-- What the words after `replay`, `migrate` and `shrink` ask for.
 use Rattle.std.specs.Prelude.{◌≡◌, List, codes}
 use Rattle.clap.specs.Walk.{Row, one_of}
 use Rattle.bp_words.specs.Values.{value_of, IsFlagOf}

@@ -2,7 +2,7 @@
 ghost use Rattle.std.specs.Prelude.{◌≡◌, true, false, ℕ, List, [], ◌∷◌, map, codes, string_bytes, IfOk, MatchResult};
 ghost use Rattle.clap.specs.Words.{FailsBy, app_of, kind_of, subcommand_of, subcommand_rows_of};
 ghost use Rattle.clap.specs.declared.builder.command.Command.TheViews.{out-Command};
-ghost use Rattle.bp_words.specs.Commands.{btrun_app, file_app, is_plain, program_app, words_fault, IsOurs, IsCheckOf, IsCodeOf, IsMigrateOf, IsPlainDriveOf, IsPlainRunOf, IsPlainShowOf, IsPlainTestOf, IsReplayOf, IsTaskOf};
+ghost use Rattle.bp_words.specs.Commands.{btrun_app, file_app, is_plain, program_app, words_fault, IsOurs, IsCheckOf, IsCodeOf, IsMigrateOf, IsPlainDriveOf, IsPlainRunOf, IsPlainShowOf, IsPlainTestOf, IsReplayOf, IsShrinkOf, IsTaskOf};
 
 use crate::drive::{DriveWords, drive_command, drive_words};
 use crate::files::{FileWords, file_command, file_words};
@@ -10,8 +10,8 @@ use crate::run::{RunWords, run_command, run_words};
 use crate::show::{ShowWords, show_command, show_words};
 use crate::test::{TestWords, test_command, test_words};
 use crate::trace::{
-    MIGRATE_ABOUT, MIGRATE_NOTES, REPLAY_ABOUT, REPLAY_NOTES, TraceWords, trace_command,
-    trace_words,
+    MIGRATE_ABOUT, MIGRATE_NOTES, REPLAY_ABOUT, REPLAY_NOTES, SHRINK_ABOUT, SHRINK_NOTES,
+    TraceWords, trace_command, trace_words,
 };
 use crate::values::has_bad_init;
 use clap::error::ErrorKind;
@@ -42,6 +42,8 @@ pub enum Task<'a> {
     Show(ShowWords<'a>),
     /// `migrate FILE TRACE`
     Migrate(TraceWords<'a>),
+    /// `shrink FILE TRACE`
+    Shrink(TraceWords<'a>),
 }
 
 /// What `--help` says after the commands.
@@ -51,7 +53,7 @@ const NOTES: &str = "\
     1000 calls are allowed. The trace of the run is printed.\n\n\
     Examples:\n  btrun < FILE\n  btrun check FILE\n  btrun code FILE\n  \
     btrun drive FILE SCHEDULE\n  btrun run FILE\n  btrun test FILE\n  btrun replay FILE TRACE\n  \
-    btrun show FILE TRACE\n  btrun migrate FILE TRACE\n\n\
+    btrun show FILE TRACE\n  btrun migrate FILE TRACE\n  btrun shrink FILE TRACE\n\n\
     Exit status:\n  0  done, and no assertion failed\n  1  an assertion failed\n  \
     2  the input or the words were refused\n  3  memory, a device or the output failed";
 
@@ -102,7 +104,8 @@ fn command<'a>(alloc: Global) -> Result<Command<'a>, AllocError>
         .subcommand(test_command(alloc)?)?
         .subcommand(trace_command(alloc, "replay", REPLAY_ABOUT, REPLAY_NOTES)?)?
         .subcommand(show_command(alloc)?)?
-        .subcommand(trace_command(alloc, "migrate", MIGRATE_ABOUT, MIGRATE_NOTES)?)
+        .subcommand(trace_command(alloc, "migrate", MIGRATE_ABOUT, MIGRATE_NOTES)?)?
+        .subcommand(trace_command(alloc, "shrink", SHRINK_ABOUT, SHRINK_NOTES)?)
 }
 
 /// The task that the matched words name.
@@ -119,6 +122,7 @@ fn task_of<'a>(alloc: Global, matches: &ArgMatches<'a>) -> Result<Task<'a>, Allo
         Some(("replay", words)) => Ok(Task::Replay(trace_words(words))),
         Some(("show", words)) => Ok(Task::Show(show_words(words))),
         Some(("migrate", words)) => Ok(Task::Migrate(trace_words(words))),
+        Some(("shrink", words)) => Ok(Task::Shrink(trace_words(words))),
         _ => Ok(Task::Bundle),
     }
 }
@@ -170,6 +174,11 @@ pub fn read_words<'a>(alloc: Global, words: &'a [String]) -> Result<Task<'a>, Er
         → is_plain trace ≡ true
         → map string_bytes words.now ≡ program ∷ codes "migrate" ∷ file ∷ trace ∷ []
         → MatchResult result (IsMigrateOf file trace) (λ e. kind_of e ≡ ErrorKind.OutOfMemory) }
+    ensures shrink { (program file trace : List ℕ)
+        → is_plain file ≡ true
+        → is_plain trace ≡ true
+        → map string_bytes words.now ≡ program ∷ codes "shrink" ∷ file ∷ trace ∷ []
+        → MatchResult result (IsShrinkOf file trace) (λ e. kind_of e ≡ ErrorKind.OutOfMemory) }
 {
     let command = command(alloc)?;
     let matches = command.try_get_matches_from(words)?;

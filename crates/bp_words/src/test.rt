@@ -5,13 +5,13 @@ ghost use Rattle.clap.specs.declared.builder.command.Command.TheViews.{out-Comma
 ghost use Rattle.bp_words.specs.Commands.{test_app};
 ghost use Rattle.bp_words.specs.TestWords.{IsTestOf};
 
-use crate::arguments::{long_number_option, number_option, option, values};
+use crate::arguments::{flag, long_number_option, number_option, option, values};
 use crate::files::file_command;
 use crate::values::{entries, init, is_given, long_number, number};
 use bp_machine::Start;
 use bp_machine::limits::{DEFAULT_CALLS, DEFAULT_CONTEXTS};
 use bp_run::limits::DEFAULT_SEED;
-use bp_test::limits::DEFAULT_RUNS;
+use bp_test::limits::{DEFAULT_JOBS, DEFAULT_RUNS};
 use clap::{ArgMatches, Command};
 use std::alloc::{AllocError, Global};
 
@@ -28,6 +28,13 @@ pub struct TestWords<'a> {
     pub seed: u64,
     /// How many runs there are at most.
     pub runs: u64,
+    /// How many blocks of runs are made side by side.
+    pub jobs: u32,
+    /// Whether `--stuck` was given: the test then also looks for a run in which all open threads
+    /// wait for ever.
+    pub stuck: bool,
+    /// Whether `--unreached` was given: the statements that no run reached are then listed.
+    pub unreached: bool,
 }
 
 const ABOUT: &str =
@@ -38,10 +45,12 @@ const NOTES: &str = "\
     Each run switches between the threads at places that are drawn by its seed, within the\n\
     contexts that are allowed. The seed of run r, from 0, is r more than that of the first. A run\n\
     ends where an assertion failed, or where no thread can go on. The trace of the first run in\n\
-    which an assertion failed is printed, and 'btrun replay' takes it. What was found is one line\n\
-    on standard error, and so is the first fault.\n\n\
+    which an assertion failed is printed, and 'btrun replay' takes it. A summary on standard\n\
+    error says what was found, and what the runs reached. The first fault is one line there.\n\
+    What is found and printed does not depend on the number of jobs.\n\n\
     Example:\n  btrun test race.bp writer reader --contexts 4 --runs 100000\n\n\
-    Exit status:\n  0  no assertion failed in any run\n  1  an assertion failed\n  \
+    Exit status:\n  0  nothing was found in any run\n  \
+    1  an assertion failed, or a run was stuck\n  \
     2  the program was refused, or the words were\n  \
     3  memory, a device or the output failed";
 
@@ -56,13 +65,19 @@ pub fn test_command<'a>(alloc: Global) -> Result<Command<'a>, AllocError>
     let calls = "How many calls of a thread are allowed [default: 1000]";
     let init = "The initial bits of the globals, each 0 or 1 [default: all 0]";
     let runs = "How many runs there are at most [default: 10000]";
+    let jobs = "How many blocks of runs are made side by side, at most 64 [default: 1]";
+    let stuck = "Also stop at a run in which all open threads wait for ever";
+    let unreached = "List the statements that no run reached, on standard error";
     file_command(alloc, "test", ABOUT, NOTES)?
         .arg(values(alloc, "ENTRY", entries))?
         .arg(long_number_option(alloc, "seed", seed))?
         .arg(number_option(alloc, "contexts", contexts))?
         .arg(number_option(alloc, "calls", calls))?
         .arg(option(alloc, "init", "BITS", init))?
-        .arg(long_number_option(alloc, "runs", runs))
+        .arg(long_number_option(alloc, "runs", runs))?
+        .arg(number_option(alloc, "jobs", jobs))?
+        .arg(flag(alloc, "stuck", stuck))?
+        .arg(flag(alloc, "unreached", unreached))
 }
 
 /// What the words after `test` ask for.
@@ -81,5 +96,8 @@ pub fn test_words<'a>(alloc: Global, words: &ArgMatches<'a>) -> Result<TestWords
         },
         seed: long_number(words, "seed", DEFAULT_SEED),
         runs: long_number(words, "runs", DEFAULT_RUNS),
+        jobs: number(words, "jobs", DEFAULT_JOBS),
+        stuck: is_given(words, "stuck"),
+        unreached: is_given(words, "unreached"),
     })
 }

@@ -1,4 +1,4 @@
-//! The words of `replay` and `migrate`.
+//! The words of `replay`, `migrate` and `shrink`.
 ghost use Rattle.std.specs.Prelude.{◌≡◌, false, IfOk};
 ghost use Rattle.clap.specs.Words.{app_of, found_of, rows_of};
 ghost use Rattle.clap.specs.declared.builder.command.Command.TheViews.{out-Command};
@@ -45,6 +45,18 @@ pub const MIGRATE_NOTES: &str = "\
     Exit status:\n  0  done, and no assertion failed\n  1  an assertion failed\n  \
     2  an input was refused, or the words were\n  3  memory, a device or the output failed";
 
+pub const SHRINK_ABOUT: &str =
+    "Prints the trace of a smaller history that fails where that of a trace does";
+
+/// What `shrink --help` says after the arguments.
+pub const SHRINK_NOTES: &str = "\
+    The trace is one in which an assertion failed. Contexts, loops and other calls are left out,\n\
+    and what is left is driven again: the same assertion of the same thread fails in it, by no\n\
+    more calls and no more contexts. The first fault is one line on standard error.\n\n\
+    Example:\n  btrun shrink race.bp race.trace\n\n\
+    Exit status:\n  1  an assertion failed, and the trace is printed\n  \
+    2  an input was refused, or the words were\n  3  memory, a device or the output failed";
+
 /// A command of this name, a file and a trace.
 pub fn trace_command<'a>(
     alloc: Global,
@@ -58,7 +70,7 @@ pub fn trace_command<'a>(
     file_command(alloc, name, about, notes)?.arg(required(alloc, "TRACE", "The file of the trace"))
 }
 
-/// What the words after `replay` or `migrate` ask for.
+/// What the words after `replay`, `migrate` or `shrink` ask for.
 pub fn trace_words<'a>(words: &ArgMatches<'a>) -> TraceWords<'a>
     ensures { IsTraceWordsOf (rows_of (found_of words.now)) result }
 {

@@ -1,5 +1,5 @@
 -- What a run reads, writes and answers, by the task that its words ask for.
-use Rattle.std.specs.Prelude.{ℕ, Bool, false, List, Option}
+use Rattle.std.specs.Prelude.{ℕ, Bool, true, false, List, Option, None, Some}
 use Rattle.bp_commands.specs.Bundles.{bundles}
 use Rattle.bp_commands.specs.Checks.{checks}
 use Rattle.bp_commands.specs.Drives.{drives}
@@ -10,12 +10,14 @@ use Rattle.bp_commands.specs.Files.{pair_of_files, IsRun}
 use Rattle.bp_commands.specs.Given.{bundle_alone, text_alone}
 use Rattle.bp_commands.specs.Listings.{lists}
 use Rattle.bp_commands.specs.Runs.{runs}
+use Rattle.bp_commands.specs.Shrinks.{shrinks}
 use Rattle.bp_commands.specs.Tests.{of_test, tests}
 use Rattle.bp_commands.specs.Traces.{migrates, replays, shows}
+use Rattle.bp_test.specs.declared.options.TestOptions.{TestOptions}
 use Rattle.bp_trace.specs.declared.limits.TheConstants.{MAX_SCHEDULE, MAX_TRACE}
 use Rattle.bp_view.specs.declared.options.ViewOptions.{ViewOptions}
 use Rattle.bp_words.specs.declared.commands.Task.{Task}
-use Rattle.bp_words.specs.declared.commands.Task.TheVariants.{Bundle, Check, Code, Drive, Run, Test, Replay, Show, Migrate}
+use Rattle.bp_words.specs.declared.commands.Task.TheVariants.{Bundle, Check, Code, Drive, Run, Test, Replay, Show, Migrate, Shrink}
 use Rattle.bp_words.specs.declared.drive.DriveWords.{DriveWords}
 use Rattle.bp_words.specs.declared.run.RunWords.{RunWords}
 use Rattle.bp_words.specs.declared.show.ShowWords.{ShowWords}
@@ -40,6 +42,20 @@ IsRunDone bytes words old new errors_old errors_new status =
     (ExplainsText words.program.now) words.explain
     old new errors_old errors_new status
 
+-- what a test looks for, and among how many runs
+abbrev pub test_options : TestWords → TestOptions
+test_options words = record {
+  seed = words.seed;
+  runs = words.runs;
+  jobs = words.jobs;
+  with_stuck = words.stuck;
+}
+
+-- the name of the text whose statements are listed, where that is asked for
+abbrev pub listed_if : Bool → List ℕ → Option (List ℕ)
+listed_if true name = Some name
+listed_if false name = None
+
 -- the program of a file is tested as these words ask for
 abbrev pub IsTestDone
     : (List ℕ → Option (List ℕ)) → TestWords
@@ -47,7 +63,8 @@ abbrev pub IsTestDone
     → Type 0
 IsTestDone bytes words old new errors_old errors_new status =
     let inputs = text_alone (bytes words.program.now) in
-    IsRun (tests words.start words.seed words.runs) of_test inputs
+    let listed = listed_if words.unreached words.program.now in
+    IsRun (tests words.start (test_options words) listed) of_test inputs
     (ExplainsText words.program.now) words.explain
     old new errors_old errors_new status
 
@@ -104,5 +121,10 @@ module _
   IsTaskDone (Migrate words) =
       let inputs = pair_of_files MAX_TRACE (bytes words.program.now) (bytes words.trace.now) in
       IsRun migrates of_report inputs
+      (ExplainsPair Trace words.program.now words.trace.now) words.explain
+      old new errors_old errors_new status
+  IsTaskDone (Shrink words) =
+      let inputs = pair_of_files MAX_TRACE (bytes words.program.now) (bytes words.trace.now) in
+      IsRun shrinks of_report inputs
       (ExplainsPair Trace words.program.now words.trace.now) words.explain
       old new errors_old errors_new status

@@ -5,13 +5,14 @@ ghost use Rattle.bp_commands.specs.Ends.{of_report};
 ghost use Rattle.bp_commands.specs.Explanations.{ExplainsPair, ExplainsText};
 ghost use Rattle.bp_commands.specs.Files.{pair_of_files, IsRun};
 ghost use Rattle.bp_commands.specs.Given.{text_alone};
-ghost use Rattle.btrun.specs.Tasks.{view_options, IsDriveDone, IsRunDone, IsShowDone, IsTaskDone, IsTestDone};
+ghost use Rattle.btrun.specs.Tasks.{test_options, view_options, IsDriveDone, IsRunDone, IsShowDone, IsTaskDone, IsTestDone};
 
 use bp_commands::{
-    Check, Code, Drive, Files, Migrate, PairCommand, ProgramCommand, Replay, Show, Test,
+    Check, Code, Drive, Files, Migrate, PairCommand, ProgramCommand, Replay, Show, Shrink, Test,
     run_by_workers, run_on_bundle, run_on_pair, run_on_program,
 };
 use bp_run::{Gate, Open, Spread};
+use bp_test::TestOptions;
 use bp_view::ViewOptions;
 use bp_words::{DriveWords, FileWords, RunWords, ShowWords, Task, TestWords, TraceWords};
 use std::alloc::Global;
@@ -69,9 +70,22 @@ fn run_as_asked<F: Files, T: Threads + Wait + Clock + Sync, W: Write + Drop, E: 
     }
 }
 
+/// What a test looks for, and among how many runs.
+fn test_options(words: &TestWords<'_>) -> TestOptions
+    ensures { result ≡ test_options words.now }
+{
+    TestOptions {
+        seed: words.seed,
+        runs: words.runs,
+        jobs: words.jobs,
+        with_stuck: words.stuck,
+    }
+}
+
 /// Tests the program of a file.
-fn test_as_asked<F: Files, W: Write + Drop, E: Write>(
+fn test_as_asked<F: Files, T: Threads + Sync, W: Write + Drop, E: Write>(
     alloc: Global,
+    threads: &T,
     files: &F,
     words: &TestWords<'_>,
     out: BufWriter<W>,
@@ -81,8 +95,12 @@ fn test_as_asked<F: Files, W: Write + Drop, E: Write>(
         IsTestDone (F.bytes files.now) words.now old (W.contents result.1)
         (E.contents errors.old) (E.contents errors.new) result.0 }
 {
-    let (start, seed, runs) = (&words.start, words.seed, words.runs);
-    let test = Test { start, seed, runs };
+    let test = Test {
+        runtime: threads,
+        start: &words.start,
+        options: test_options(words),
+        listed: words.unreached.then_some(words.program),
+    };
     run_on_program(
         alloc,
         &test,
@@ -102,6 +120,7 @@ fn on_file<C: ProgramCommand, F: Files, W: Write + Drop, E: Write>(
     out: BufWriter<W>,
     errors: &mut E,
 ) -> (u8, W)
+    requires { C.allowed command.now }
     ensures { let inputs = text_alone (F.bytes files.now words.now.program.now) in
         let old = writer_contents W.contents out in
         IsRun (C.command command.now) C.Answer.ending inputs
@@ -226,9 +245,10 @@ pub fn do_task<
         Task::Code(words) => on_file(alloc, &Code, files, words, out, errors),
         Task::Drive(words) => drive_as_asked(alloc, files, words, out, errors),
         Task::Run(words) => run_as_asked(alloc, threads, files, words, out, errors),
-        Task::Test(words) => test_as_asked(alloc, files, words, out, errors),
+        Task::Test(words) => test_as_asked(alloc, threads, files, words, out, errors),
         Task::Replay(words) => on_trace(alloc, &Replay, files, words, out, errors),
         Task::Show(words) => show_as_asked(alloc, files, has_colour, words, out, errors),
         Task::Migrate(words) => on_trace(alloc, &Migrate, files, words, out, errors),
+        Task::Shrink(words) => on_trace(alloc, &Shrink, files, words, out, errors),
     }
 }

@@ -1,10 +1,10 @@
 //! Writers that fail: what they have is a front of the text.
 use super::{
-    LISTING, RACE, RACE_LINES, RACE_TRACE, RACE_TRACE_2, RECURSIVE, Said, race, said_of_pair,
-    said_of_program, said_of_room,
+    LISTING, NOISY_TRACE, RACE, RACE_LINES, RACE_TRACE, RACE_TRACE_2, RECURSIVE, Said, race,
+    said_of_pair, said_of_program, said_of_room,
 };
 use crate::devices::Short;
-use bp_commands::{Check, Code, Drive, Migrate, PairCommand, ProgramCommand};
+use bp_commands::{Check, Code, Drive, Migrate, PairCommand, ProgramCommand, Shrink};
 use std::alloc::{AllocError, Global};
 
 /// A writer with room for `room` bytes.
@@ -21,7 +21,9 @@ fn has_front(out: &Short, said: Said, text: &[u8]) -> bool {
 }
 
 /// Whether a command on the recursive program writes the front of a text to a short writer.
-fn writes_a_front<C: ProgramCommand>(alloc: Global, command: &C, room: usize, text: &[u8]) -> bool {
+fn writes_a_front<C: ProgramCommand>(alloc: Global, command: &C, room: usize, text: &[u8]) -> bool
+    requires { C.allowed command.now }
+{
     let mut out = short(alloc, room);
     let said = said_of_program(alloc, command, RECURSIVE, &mut out);
     has_front(&out, said, text)
@@ -68,5 +70,12 @@ fn writes_a_prefix_of_a_driven_trace(rt: HostRuntime) -> Result<(), AllocError> 
 fn writes_a_prefix_of_a_migrated_trace(rt: HostRuntime) {
     for room in 0..=RACE_TRACE_2.len() {
         assert!(rt; writes_a_trace(rt.alloc(), &Migrate, RACE_TRACE, room, RACE_TRACE_2));
+    }
+}
+
+#[test]
+fn writes_a_prefix_of_a_shrunk_trace(rt: HostRuntime) {
+    for room in 0..=RACE_TRACE.len() {
+        assert!(rt; writes_a_trace(rt.alloc(), &Shrink, NOISY_TRACE, room, RACE_TRACE));
     }
 }

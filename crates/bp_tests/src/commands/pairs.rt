@@ -1,7 +1,7 @@
 //! Commands on a program and an input beside it: a schedule or a trace.
-use super::{RACE, RACE_LINES, RACE_TRACE, RACE_TRACE_2, race};
+use super::{NOISY_TRACE, RACE, RACE_LINES, RACE_TRACE, RACE_TRACE_2, race};
 use crate::view::{ALL, TEXT, TRACE, VIEW};
-use bp_commands::{Drive, Migrate, PairCommand, Replay, Show, Source, do_on_pair};
+use bp_commands::{Drive, Fault, Migrate, PairCommand, Replay, Show, Shrink, Source, do_on_pair};
 use bp_machine::{Outcome, Reply, Report, Start};
 use std::alloc::{AllocError, Global};
 
@@ -102,6 +102,21 @@ fn migrates_either_version(rt: HostRuntime) {
         let report = report(rt.alloc(), &Migrate, RACE, trace, RACE_TRACE_2);
         assert!(rt; is_of(report, FAILED, 3));
     }
+}
+
+#[test]
+fn shrinks_a_trace(rt: HostRuntime) {
+    let report = report(rt.alloc(), &Shrink, RACE, NOISY_TRACE, RACE_TRACE);
+    assert!(rt; is_of(report, FAILED, 5));
+}
+
+#[test]
+fn shrinks_no_clean_trace(rt: HostRuntime) {
+    let alloc = rt.alloc();
+    let fault = Shrink
+        .apply(alloc, SWAP, SWAP_TRACE, &mut Vec::new(alloc))
+        .err();
+    assert!(rt; fault == Some(Fault::NoFailure));
 }
 
 #[test]

@@ -11,7 +11,9 @@ fn does<C: ProgramCommand>(
     text: &[u8],
     said: Said,
     lines: &[u8],
-) -> bool {
+) -> bool
+    requires { C.allowed command.now }
+{
     let mut out = Vec::new(alloc);
     said_of_program(alloc, command, text, &mut out) == said && out.as_slice() == lines
 }

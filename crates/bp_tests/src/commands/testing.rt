@@ -1,22 +1,31 @@
 //! The command `test`.
 use bp_commands::{Ended, Source, Test, do_on_program};
 use bp_machine::Start;
+use bp_test::TestOptions;
 use std::alloc::{AllocError, Global};
+use std::thread::Threads;
 
-/// A test of a program from the defaults, with seed 42: whether an assertion failed, what was
+/// A test of a program from this start, with seed 42: whether an assertion failed, what was
 /// written, and what is said of it. There is no answer where the text is refused.
-fn tested(
+fn tested<'a, R: Threads + Sync>(
+    rt: &'a R,
     alloc: Global,
+    start: &'a Start,
     text: &[u8],
     runs: u64,
     out: &mut Vec<u8>,
     errors: &mut Vec<u8>,
 ) -> Result<Option<bool>, AllocError> {
-    let start = Start::defaults(alloc)?;
     let test = Test {
-        start: &start,
-        seed: 42,
-        runs,
+        runtime: rt,
+        start,
+        options: TestOptions {
+            seed: 42,
+            runs,
+            jobs: 1,
+            with_stuck: false,
+        },
+        listed: None,
     };
     let mut program = Source::new(alloc, text);
     let Ok(answer) = do_on_program(alloc, &test, &mut program, out) else {
@@ -27,8 +36,10 @@ fn tested(
 }
 
 /// Whether a test writes this, and says this of it.
-fn writes(
+fn writes<'a, R: Threads + Sync>(
+    rt: &'a R,
     alloc: Global,
+    start: &'a Start,
     text: &[u8],
     failed: Option<bool>,
     written: &[u8],
@@ -36,7 +47,7 @@ fn writes(
 ) -> Result<bool, AllocError> {
     let mut out = Vec::new(alloc);
     let mut errors = Vec::new(alloc);
-    let answer = tested(alloc, text, 3, &mut out, &mut errors)?;
+    let answer = tested(rt, alloc, start, text, 3, &mut out, &mut errors)?;
     Ok(answer == failed && out.as_slice() == written && errors.as_slice() == told)
 }
 
@@ -46,10 +57,17 @@ const FAILED: &[u8] = b"\
 
 #[test]
 fn writes_the_first_run_that_fails(rt: HostRuntime) -> Result<(), AllocError> {
-    let told = b"an assertion failed in run 0 of 3\n";
+    let start = Start::defaults(rt.alloc())?;
+    let told = b"an assertion failed in run 0 of 3\n\
+        runs 1, calls 1, longest 1\n\
+        ended: finished 0, out of contexts 0, cut off 0, stuck 0\n\
+        contexts: least 1, middle 1, most 1\n\
+        reached: statements 1 of 1, assertions 1 of 1, threads 1 of 1\n";
     assert!(rt;
         writes(
+            &rt,
             rt.alloc(),
+            &start,
             b"main() begin assert (0); end",
             Some(true),
             FAILED,
@@ -61,10 +79,17 @@ fn writes_the_first_run_that_fails(rt: HostRuntime) -> Result<(), AllocError> {
 
 #[test]
 fn writes_nothing_where_no_run_fails(rt: HostRuntime) -> Result<(), AllocError> {
-    let told = b"no assertion failed in 3 runs\n";
+    let start = Start::defaults(rt.alloc())?;
+    let told = b"no assertion failed in 3 runs\n\
+        runs 3, calls 9, longest 3\n\
+        ended: finished 3, out of contexts 0, cut off 0, stuck 0\n\
+        contexts: least 1, middle 1, most 1\n\
+        reached: statements 1 of 1, assertions 0 of 0, threads 1 of 1\n";
     assert!(rt;
         writes(
+            &rt,
             rt.alloc(),
+            &start,
             b"main() begin skip; end",
             Some(false),
             b"",
@@ -76,6 +101,7 @@ fn writes_nothing_where_no_run_fails(rt: HostRuntime) -> Result<(), AllocError> 
 
 #[test]
 fn tests_no_program_that_is_refused(rt: HostRuntime) -> Result<(), AllocError> {
-    assert!(rt; writes(rt.alloc(), b"main() begin end", None, b"", b"")?);
+    let start = Start::defaults(rt.alloc())?;
+    assert!(rt; writes(&rt, rt.alloc(), &start, b"main() begin end", None, b"", b"")?);
     Ok(())
 }

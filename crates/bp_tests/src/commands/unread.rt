@@ -2,13 +2,15 @@
 use super::{race, said, said_of_pair, said_of_program};
 use crate::devices::{Broken, Starved};
 use bp_commands::{
-    Check, Code, Drive, Migrate, PairCommand, ProgramCommand, Replay, Source, drive_bundle,
+    Check, Code, Drive, Migrate, PairCommand, ProgramCommand, Replay, Shrink, Source, drive_bundle,
 };
 use std::alloc::{AllocError, Global};
 use std::io::Read;
 
 /// Whether a command reports a reader that fails after `reads` reads, and writes nothing.
-fn is_unread<C: ProgramCommand>(alloc: Global, command: &C, reads: usize) -> bool {
+fn is_unread<C: ProgramCommand>(alloc: Global, command: &C, reads: usize) -> bool
+    requires { C.allowed command.now }
+{
     let mut out = Vec::new(alloc);
     let said = said_of_program(alloc, command, Broken { reads }, &mut out);
     said == Some((54, None)) && out.is_empty()
@@ -51,6 +53,7 @@ fn read_the_program_first(rt: HostRuntime) -> Result<(), AllocError> {
     assert!(rt; reads_the_program_first(rt.alloc(), &Drive { start: &start }));
     assert!(rt; reads_the_program_first(rt.alloc(), &Replay));
     assert!(rt; reads_the_program_first(rt.alloc(), &Migrate));
+    assert!(rt; reads_the_program_first(rt.alloc(), &Shrink));
     Ok(())
 }
 

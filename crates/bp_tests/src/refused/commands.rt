@@ -3,7 +3,7 @@ use super::ready::{PROGRAM, entries, output};
 use super::{tell, wants};
 use crate::view::ALL;
 use bp_commands::{
-    Check, Code, Drive, Fault, Migrate, PairCommand, Replay, Show, Source, do_on_pair,
+    Check, Code, Drive, Fault, Migrate, PairCommand, Replay, Show, Shrink, Source, do_on_pair,
     do_on_program, drive_bundle, run_program,
 };
 use bp_machine::Start;
@@ -33,6 +33,12 @@ const SCHEDULE: &[u8] = b"0 1\n0 1\n0 0\n0 0\n";
 
 const TRACE: &[u8] = b"btrace 1\nentry main\ninit 00\ncontexts 2\ncalls 1000\nseed none\n\
     0 1 s\n0 1 s\n0 0 s\n0 0 s\nend 4 1\n";
+
+/// A failure in a frame that a call took.
+const FAILS: &[u8] = b"decl x; main() begin x := 1; f(x); end f(a) begin skip; assert (!a); end";
+
+const FAILED_TRACE: &[u8] = b"btrace 1\nentry main\ninit 0\ncontexts 2\ncalls 1000\nseed none\n\
+    0 1 s\n0 1 s\n0 1 s\n0 1 f\nend 4 0\n";
 
 /// The number of a fault, none if there is none.
 fn number_of<T: Drop>(done: Result<T, Fault>) -> Option<u32> {
@@ -128,6 +134,30 @@ fn show_a_trace(rt: HostRuntime) -> Result<(), Fail> {
 #[test]
 fn migrate_a_trace(rt: HostRuntime) -> Result<(), Fail> {
     tell(&rt, writes(rt.alloc(), Command::Migrate, b"\nend 4 1\n")?)
+}
+
+/// The number of a refusal to shrink a trace, none if it is done.
+fn number_of_shrinking(alloc: Global, out: &mut Vec<u8>) -> Option<u32> {
+    let mut program = Source::new(alloc, FAILS);
+    let mut trace = Source::new(alloc, FAILED_TRACE);
+    number_of(do_on_pair(alloc, &Shrink, &mut program, &mut trace, out))
+}
+
+/// Whether shrinking a trace was refused once.
+fn shrinks(alloc: Global) -> Result<bool, Fail> {
+    let mut out = output(alloc)?;
+    let refusal = number_of_shrinking(alloc, &mut out);
+    if refusal.is_some() {
+        wants(refusal == Some(7) && out.is_empty())?;
+        wants(number_of_shrinking(alloc, &mut out).is_none())?;
+    }
+    wants(out.ends_with(b"\n0 0 s\n0 0 s\n0 0 s\n0 0 f\nend 4 0\n"))?;
+    Ok(refusal.is_some())
+}
+
+#[test]
+fn shrink_a_trace(rt: HostRuntime) -> Result<(), Fail> {
+    tell(&rt, shrinks(rt.alloc())?)
 }
 
 /// The number of a refusal of a run of one thread, none if it is done.

@@ -5,15 +5,24 @@ use super::ready::{code, output, setup};
 use super::{tell, wants};
 use bp_code::Code;
 use bp_machine::Setup;
-use bp_test::{Found, TestFault, test};
+use bp_test::{Found, TestFault, TestOptions, test};
 use std::alloc::Global;
 use std::test::Fail;
+use std::thread::Threads;
 
 /// Each run of two threads fails, after a frame was taken.
 const FAILS: &[u8] = b"decl x, y; main() begin x := 1; f(x); end f(a) begin assert (!a); end";
 
+const OPTIONS: TestOptions = TestOptions {
+    seed: 42,
+    runs: 3,
+    jobs: 1,
+    with_stuck: false,
+};
+
 /// Tests the program: what was found, and whether the test was refused once.
-fn tested(
+fn tested<R: Threads + Sync>(
+    rt: &R,
     alloc: Global,
     code: &Code,
     setup: &Setup,
@@ -21,25 +30,25 @@ fn tested(
 ) -> Result<(Found, bool), Fail>
     requires { FitsCode code.now setup.now }
 {
-    match test(alloc, code, setup, 42, 3, out) {
+    match test(rt, alloc, code, setup, &OPTIONS, out) {
         Err(TestFault::Memory) => {
             wants(out.is_empty())?;
-            Ok((test(alloc, code, setup, 42, 3, out)?, true))
+            Ok((test(rt, alloc, code, setup, &OPTIONS, out)?.found, true))
         }
-        done => Ok((done?, false)),
+        done => Ok((done?.found, false)),
     }
 }
 
-fn finds(alloc: Global) -> Result<bool, Fail> {
+fn finds<R: Threads + Sync>(rt: &R, alloc: Global) -> Result<bool, Fail> {
     let code = code(alloc, FAILS)?;
     let setup = setup(alloc, &code, 2, None)?;
     let mut out = output(alloc)?;
-    let (found, was_refused) = tested(alloc, &code, &setup, &mut out)?;
+    let (found, was_refused) = tested(rt, alloc, &code, &setup, &mut out)?;
     wants(matches!(found, Found::Failed { run: 0, .. }) && out.starts_with(b"btrace 1\n"))?;
     Ok(was_refused)
 }
 
 #[test]
 fn test_a_program(rt: HostRuntime) -> Result<(), Fail> {
-    tell(&rt, finds(rt.alloc())?)
+    tell(&rt, finds(&rt, rt.alloc())?)
 }

@@ -11,4 +11,4 @@ returns-in_default-clause-over c = λ t is.
 pub loop-thread-smaller : goal.loop-thread-smaller
 loop-thread-smaller c =
     let of_some = subst IsOfProgram (sym (c.play.ensures.kept.0 ∙ c.loop-thread.invariant.code)) c.requires.program in
-    smaller c.loop-thread.session c.play.new.session c.loop-thread.history.items c.play.new.history.items c.play.ensures.kept.1 of_some c.in_ok-play.ensures.stands c.in_ok-play.ensures.longer
+    smaller c.loop-thread.session c.play.new.session c.loop-thread.history.items c.play.new.history.items c.play.ensures.kept.1 of_some c.in_ok-reply.ensures.stands c.in_ok-reply.ensures.longer

@@ -1,27 +1,32 @@
-use Rattle.std.proofs.Common.{None, IfSome, sym, subst, ap, ◌∙◌}
-use Rattle.bp_machine.specs.Histories.{IsLegal}
-use Rattle.bp_machine.specs.Reports.{IsReport}
+use Rattle.std.proofs.Common.{None, sym, subst, ap, ◌∙◌}
 use Rattle.bp_machine.specs.Setups.{SetupOf, FitsCode}
-use Rattle.bp_test.specs.Failing.{FailsAt}
-use Rattle.bp_test.proofs.Unseeded.{fits_unseeded, legal_unseeded, report_unseeded, fails_unseeded}
+use Rattle.bp_test.specs.Shrinks.{IsDriven, IsShrunkOf}
+use Rattle.bp_test.proofs.SearchStarts.{starts, leads_to}
+use Rattle.bp_test.proofs.ShrunkHistories.{shrunk_of}
+use Rattle.bp_test.proofs.Unseeded.{fits_unseeded}
 use Rattle.bp_test.proofs.shrinking.shrink.Goals as goal
 
-pub shrink_unseeded-requires-clause-fits : goal.shrink_unseeded-requires-clause-fits
-shrink_unseeded-requires-clause-fits c =
+pub new-requires : goal.new-requires
+new-requires c =
     let setup = c.with_seed-setup.ensures ∙ ap {A = SetupOf} (λ y. record y { seed = None }) c.in_ok-try_copy.ensures in
     subst (FitsCode c.args.code.now) (sym setup) (fits_unseeded c.args.code.now c.args.setup.now c.requires.fits)
 
-pub shrink_unseeded-requires-clause-legal : goal.shrink_unseeded-requires-clause-legal
-shrink_unseeded-requires-clause-legal c = λ t is.
+pub improve-requires : goal.improve-requires
+improve-requires c =
     let setup = c.with_seed-setup.ensures ∙ ap {A = SetupOf} (λ y. record y { seed = None }) c.in_ok-try_copy.ensures in
-    subst (λ s. IsLegal t s c.args.history.now) (sym setup) (legal_unseeded t c.args.setup.now c.args.history.now (c.requires.legal t is))
+    starts c.args.code.now c.args.setup.now _ c.in_ok-new.ensures.kept.0 (c.in_ok-new.ensures.kept.1 ∙ setup)
+    c.args.history.now c.in_ok-from_slice.ensures.items c.requires.fits c.requires.legal c.requires.report c.requires.fails
 
-pub shrink_unseeded-requires-clause-report : goal.shrink_unseeded-requires-clause-report
-shrink_unseeded-requires-clause-report c = λ t is.
+pub used-requires : goal.used-requires
+used-requires c = λ t is.
     let setup = c.with_seed-setup.ensures ∙ ap {A = SetupOf} (λ y. record y { seed = None }) c.in_ok-try_copy.ensures in
-    subst (λ s. IsReport s c.args.history.now c.args.report.now) (sym setup) (report_unseeded c.args.setup.now c.args.history.now c.args.report.now (c.requires.report t is))
+    subst (λ s. IsDriven t s c.in_ok-best.field-0.best) (sym setup)
+    (leads_to c.args.code.now c.args.setup.now _ c.in_ok-new.ensures.kept.0 (c.in_ok-new.ensures.kept.1 ∙ setup) c.in_ok-best.field-0 c.in_ok-best.ensures t is)
 
-pub shrink_unseeded-requires-clause-fails : goal.shrink_unseeded-requires-clause-fails
-shrink_unseeded-requires-clause-fails c = λ t is.
+pub returns : goal.returns
+returns c = λ t is.
     let setup = c.with_seed-setup.ensures ∙ ap {A = SetupOf} (λ y. record y { seed = None }) c.in_ok-try_copy.ensures in
-    subst (λ s. IfSome c.args.number (FailsAt t s c.args.history.now)) (sym setup) (fails_unseeded t c.args.setup.now c.args.history.now c.args.number (c.requires.fails t is))
+    let best = c.in_ok-best.field-0.best in
+    let driven = leads_to c.args.code.now c.args.setup.now _ c.in_ok-new.ensures.kept.0 (c.in_ok-new.ensures.kept.1 ∙ setup) c.in_ok-best.field-0 c.in_ok-best.ensures t is in
+    shrunk_of t c.args.setup.now c.args.history.now c.args.report.now c.args.number (c.requires.report t is) best c.in_ok-best.ensures.no_more driven
+    c.in_ok-shrunk.shrunk (subst (λ s. IsShrunkOf t s best c.in_ok-shrunk.shrunk) setup (c.in_ok-shrunk.ensures t is))

@@ -3,7 +3,7 @@ use Rattle.clap.specs.Words.{kind_of, subcommand_of}
 use Rattle.clap.specs.declared.error.kind.ErrorKind.TheVariants.{OutOfMemory}
 use Rattle.bp_words.specs.Commands.{btrun_app, words_fault, IsOurs, IsTaskOf}
 use Rattle.bp_words.proofs.NoHelpEntered.{named_ours}
-use Rattle.bp_words.proofs.PlainWords.{none_faulty, check_faulty, check_asked, code_faulty, code_asked, drive_faulty, drive_asked, run_faulty, run_asked, test_faulty, test_asked, replay_faulty, replay_asked, show_faulty, show_asked, migrate_faulty, migrate_asked}
+use Rattle.bp_words.proofs.PlainWords.{none_faulty, check_faulty, check_asked, code_faulty, code_asked, drive_faulty, drive_asked, run_faulty, run_asked, test_faulty, test_asked, replay_faulty, replay_asked, show_faulty, show_asked, migrate_faulty, migrate_asked, shrink_faulty, shrink_asked}
 use Rattle.bp_words.proofs.WordsFaults.{cleared, named, refused, refused_for_memory, bad_refused, fine_faulty, not_bad}
 use Rattle.bp_words.proofs.commands.read_words.Goals as goal
 
@@ -190,3 +190,21 @@ returns-clause-test c program file plain is =
     let words = map string_bytes c.args.words.now in
     let name = named _ words c.in_ok-command.ensures c.in_ok-matches.matches c.in_ok-matches.ensures.matches ∙ ap (subcommand_of btrun_app) is in
     test_asked program file c.in_ok-task_of.field-0 plain (subst (λ command. IsTaskOf command c.in_ok-task_of.field-0) name c.in_ok-task_of.ensures)
+
+pub returns-in_err-matches-clause-shrink : goal.returns-in_err-matches-clause-shrink
+returns-in_err-matches-clause-shrink c program file trace plain even is =
+    let memory = refused_kind c (ap words_fault is ∙ shrink_faulty program file trace plain even) in
+    search rules
+
+pub returns-then-has_bad_init-clause-shrink : goal.returns-then-has_bad_init-clause-shrink
+returns-then-has_bad_init-clause-shrink c program file trace plain even is =
+    let words = map string_bytes c.args.words.now in
+    let clean = cleared _ words c.in_ok-command.ensures c.in_ok-matches.ensures.kinds in
+    let name = named _ words c.in_ok-command.ensures c.in_ok-matches.matches c.in_ok-matches.ensures.matches in
+    absurd (not_bad words _ clean name (sym c.has_bad_init.ensures ∙ c.if-has_bad_init.true) (ap words_fault is ∙ shrink_faulty program file trace plain even))
+
+pub returns-clause-shrink : goal.returns-clause-shrink
+returns-clause-shrink c program file trace plain even is =
+    let words = map string_bytes c.args.words.now in
+    let name = named _ words c.in_ok-command.ensures c.in_ok-matches.matches c.in_ok-matches.ensures.matches ∙ ap (subcommand_of btrun_app) is in
+    shrink_asked program file trace c.in_ok-task_of.field-0 plain even (subst (λ command. IsTaskOf command c.in_ok-task_of.field-0) name c.in_ok-task_of.ensures)

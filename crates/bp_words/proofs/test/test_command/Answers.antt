@@ -9,4 +9,7 @@ returns c =
     let contexts = with_argument _ _ _ _ _ seed c.number_option.ensures c.in_ok-arg-3.ensures in
     let calls = with_argument _ _ _ _ _ contexts c.number_option-2.ensures c.in_ok-arg-4.ensures in
     let init = with_argument _ _ _ _ _ calls c.option.ensures c.in_ok-arg-5.ensures in
-    if_ok c.arg-6.result _ (HasShape test_app) (λ new adds. with_argument _ new _ _ _ init c.long_number_option-2.ensures adds) c.arg-6.ensures
+    let runs = with_argument _ _ _ _ _ init c.long_number_option-2.ensures c.in_ok-arg-6.ensures in
+    let jobs = with_argument _ _ _ _ _ runs c.number_option-3.ensures c.in_ok-arg-7.ensures in
+    let stuck = with_argument _ _ _ _ _ jobs c.flag.ensures c.in_ok-arg-8.ensures in
+    if_ok c.arg-9.result _ (HasShape test_app) (λ new adds. with_argument _ new _ _ _ stuck c.flag-2.ensures adds) c.arg-9.ensures

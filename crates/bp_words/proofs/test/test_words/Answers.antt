@@ -13,5 +13,8 @@ returns c = record {
   calls = c.number-2.ensures;
   seed = c.long_number.ensures;
   runs = c.long_number-2.ensures;
+  jobs = c.number-3.ensures;
+  stuck = c.is_given-2.ensures;
+  unreached = c.is_given-3.ensures;
   explain = c.is_given.ensures;
 }

@@ -1,0 +1,83 @@
+-- What shrinking the history of a trace says of the command `shrink`.
+use Rattle.std.proofs.Common.{◌≡◌, ◌<◌, ◌^◌, ℕ, Some, None, refl, ap, sym, ◌∙◌, subst, arith}
+use Rattle.bp_tree.specs.Ast.{Program}
+use Rattle.bp_code.specs.LawfulTexts.{IsLawfulText}
+use Rattle.bp_machine.specs.declared.reports.Outcome.TheVariants.{Clean}
+use Rattle.bp_machine.specs.Reports.{outcome_of, is_failure}
+use Rattle.bp_machine.proofs.GrantedSteps.{within as within_contexts}
+use Rattle.bp_machine.specs.Setups.{SetupOf}
+use Rattle.bp_test.specs.declared.shrinking.Shrunk.{Shrunk}
+use Rattle.bp_test.specs.Failing.{FailsAt}
+use Rattle.bp_test.specs.Shrinks.{budgeted, IsShrunk}
+use Rattle.bp_trace.specs.declared.replaying.Replayed.{Replayed}
+use Rattle.bp_trace.specs.declared.versions.Version.TheVariants.{One}
+use Rattle.bp_trace.specs.Heads.{HasHead}
+use Rattle.bp_trace.specs.Replayed.{IsReplayed}
+use Rattle.bp_trace.specs.Replays.{IsTrace}
+use Rattle.bp_trace.specs.TraceText.{trace_text}
+use Rattle.bp_commands.specs.declared.faults.Fault.{Fault}
+use Rattle.bp_commands.specs.declared.faults.Fault.TheVariants.{Memory, NoFailure}
+use Rattle.bp_commands.specs.Given.{Pair}
+use Rattle.bp_commands.specs.Traces.{IsOfTrace, IsTraceOf, IsTraceReport}
+use Rattle.bp_commands.specs.Shrinks.{IsShrunkText, HasNoFailure, LacksMemory}
+
+-- the setup with other contexts and without a seed has a head
+head_of : (s : SetupOf) (k : ℕ) → HasHead s → k < 2 ^ 64 → HasHead (budgeted s k)
+head_of s k has few = record { names = has.names; contexts = few; calls = has.calls; seed = λ n e. absurd cc }
+
+module _ (given : Pair) (t : Program) (of : IsLawfulText given.text t) (r : Replayed) (is : IsReplayed t given.input r) where
+  pub read : IsTraceOf given.text given.input t r.setup r.history.items
+  read = record { of = of; version = is.version; is = is.trace }
+
+  pub clean_refuses : (f : Fault) → outcome_of r.history.items ≡ Clean → f ≡ NoFailure → HasNoFailure given f
+  clean_refuses f clean f_is = record { program = t; setup = r.setup; history = r.history.items; legal = read; clean = clean; is = f_is }
+
+  pub memory_refuses : (n : ℕ) → FailsAt t r.setup r.history.items n → LacksMemory given Memory
+  memory_refuses n fails = record { program = t; setup = r.setup; history = r.history.items; legal = read; failed = ap is_failure fails.failed; is = refl }
+
+  module _ (number : ℕ) (fails : FailsAt t r.setup r.history.items number) (g : Shrunk) (shrunk : IsShrunk t r.setup r.history.items (Some number) g) where
+    few : g.report.contexts < 2 ^ 64
+    few =
+        let fewer = shrunk.contexts r.report.contexts is.report.contexts in
+        let within = is.report.contexts.least r.setup.contexts (within_contexts t r.setup r.history.items is.trace.playable.legal) in
+        let bound = is.trace.head.contexts in
+        omega (arith, fewer, within, bound)
+
+    own_head : HasHead g.setup
+    own_head = subst HasHead (sym shrunk.setup) (head_of r.setup g.report.contexts is.trace.head few)
+
+    contexts_are : g.setup.contexts ≡ g.report.contexts
+    contexts_are = ap (λ (s : SetupOf). s.contexts) shrunk.setup
+
+    seedless : (n : ℕ) → g.setup.seed ≡ Some n → ⊥
+    seedless n e = let none : g.setup.seed ≡ None = ap (λ (s : SetupOf). s.seed) shrunk.setup in let both = sym none ∙ e in cc
+
+    is_trace : IsTrace t One g.setup g.history.items (trace_text g.setup g.history.items)
+    is_trace = record {
+      head = own_head;
+      fine = shrunk.fine;
+      playable = record { legal = shrunk.legal; seeded = λ seed e. absurd (seedless seed e) };
+      is = refl;
+    }
+
+    is_text : IsShrunkText given.text t r.setup r.history.items (trace_text g.setup g.history.items)
+    is_text = record {
+      setup = g.setup;
+      history = g.history.items;
+      trace = is_trace;
+      same = subst (λ k. g.setup ≡ budgeted r.setup k) (sym contexts_are) shrunk.setup;
+      used = rw contexts_are shrunk.report.contexts;
+      number = number;
+      failed = fails;
+      fails = shrunk.fails;
+      outcome = shrunk.outcome;
+      calls = shrunk.calls;
+      contexts = λ n least. let most = shrunk.contexts n least in omega (arith, most, contexts_are);
+    }
+
+    pub written : IsOfTrace IsShrunkText given (trace_text g.setup g.history.items)
+    written = record { program = t; setup = r.setup; history = r.history.items; legal = read; is = is_text }
+
+    pub reported : IsTraceReport IsShrunkText given (trace_text g.setup g.history.items) r.report
+    unfolding written
+    reported = record { trace = written; reported = is.report }

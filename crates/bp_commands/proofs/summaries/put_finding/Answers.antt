@@ -1,0 +1,10 @@
+use Rattle.bp_commands.proofs.summaries.put_finding.Goals as goal
+
+pub returns-in-Nothing : goal.returns-in-Nothing
+returns-in-Nothing g c = rw c.in-Nothing.is (rw c.nothing_words.ensures at c.put_nothing.ensures)
+
+pub returns-in-Failed : goal.returns-in-Failed
+returns-in-Failed g c = rw c.in-Failed.is c.put_found.ensures
+
+pub returns-in-Stuck : goal.returns-in-Stuck
+returns-in-Stuck g c = rw c.in-Stuck.is c.put_found-in-Stuck.ensures

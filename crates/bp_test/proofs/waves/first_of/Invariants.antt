@@ -1,0 +1,18 @@
+use Rattle.std.proofs.Common.{◌≡◌, ℕ, length}
+use Rattle.std.specs.Vec.Iter.{into_iter_items, into_iter_len}
+use Rattle.bp_code.specs.Flat.{Flat}
+use Rattle.bp_machine.specs.Setups.{SetupOf}
+use Rattle.bp_test.specs.declared.plans.Plan.{Plan}
+use Rattle.bp_test.specs.Blocks.{AreBlocks}
+use Rattle.bp_test.proofs.BlocksInOrder.{IsBefore}
+use Rattle.bp_test.proofs.waves.first_of.Given as goal
+
+abbrev pub invariant-loop-block : goal.invariant-loop-block
+invariant-loop-block l = record {
+  can : goal.iterator-loop-block.can_next l.block-iterator;
+  ends : goal.iterator-loop-block.is_finite l.block-iterator;
+  count : into_iter_len l.block-iterator ≡ length (into_iter_items l.block-iterator);
+  before : (k : Flat) (s : SetupOf) (p : Plan) (from runs : ℕ)
+      → AreBlocks k s p from runs 0 l.fn.blocks.items
+      → IsBefore k s p from runs l.fn.blocks.items (into_iter_items l.block-iterator);
+}

@@ -1,0 +1,36 @@
+-- Blocks of runs that are made side by side.
+use Rattle.std.specs.Prelude.{◌+◌, ◌*◌, ◌<◌, ℕ, min, Bool, ◌||◌, ◌&&◌, nat_le, List, Result, length, slice_index_or, IfOk}
+use Rattle.bp_tree.specs.Ast.{Program}
+use Rattle.bp_code.specs.Flat.{Flat}
+use Rattle.bp_code.specs.StandsFor.{StandsFor}
+use Rattle.bp_machine.specs.declared.reports.Report.{Report}
+use Rattle.bp_machine.specs.Reports.{is_failure}
+use Rattle.bp_machine.specs.Setups.{SetupOf}
+use Rattle.bp_test.specs.declared.blocks.Block.{Block}
+use Rattle.bp_test.specs.declared.limits.TheConstants.{BLOCK}
+use Rattle.bp_test.specs.declared.plans.Plan.{Plan}
+use Rattle.bp_test.specs.Tests.{IsFirstFound}
+
+-- a test looks for a run with this report
+abbrev pub is_sought : Bool → Report → Bool
+is_sought with_stuck r = is_failure r.outcome || (with_stuck && nat_le 1 r.left_open)
+
+-- where block n of a wave begins, in a test of this many runs
+abbrev pub start_of_block : (from n runs : ℕ) → ℕ
+start_of_block from n runs = min (from + n * BLOCK) runs
+
+module _ {E : Type 0} (k : Flat) (s : SetupOf) (p : Plan) (from runs : ℕ) where
+  -- what block n of a wave came to
+  abbrev pub IsBlock : ℕ → Result Block E → Type 0
+  IsBlock n r =
+      IfOk r (λ block.
+      (t : Program)
+      → StandsFor k t
+      → let start = start_of_block from n runs in
+      let end = start_of_block from (n + 1) runs in
+      IsFirstFound t s p.with_stuck p.seed start end block.found)
+
+  -- the blocks of a wave, from block m on
+  abbrev pub AreBlocks : ℕ → List (Result Block E) → Type 0
+  AreBlocks m rs =
+      (n : ℕ) (d : Result Block E) → n < length rs → IsBlock (m + n) (slice_index_or rs n d)

@@ -1,0 +1,108 @@
+//! The counts of a tally that people read.
+use crate::tallies::{ContextsUsed, Ends, Tally};
+use bp_code::{Code, Kind};
+
+/// How many of some things were reached.
+#[derive(Clone, Copy, Debug, PartialEq, Eq)]
+pub struct Share {
+    pub reached: u64,
+    pub all: u64,
+}
+
+/// The counts of a tally, and what its runs reached.
+#[derive(Clone, Copy, Debug, PartialEq, Eq)]
+pub struct Counts {
+    /// How many runs there were.
+    pub runs: u64,
+    /// How many calls they made.
+    pub calls: u64,
+    /// The most calls of one run.
+    pub longest: u64,
+    /// How many runs ended in each way.
+    pub ends: Ends,
+    /// How many contexts the runs used.
+    pub contexts: ContextsUsed,
+    /// The statements of the program: those that a thread tried, or at which it waited.
+    pub statements: Share,
+    /// Those of them that are assertions.
+    pub assertions: Share,
+    /// The threads: those that made a step in some run are reached.
+    pub threads: Share,
+}
+
+impl Share {
+    /// No thing.
+    const NONE: Share = Share { reached: 0, all: 0 };
+
+    /// Counts a thing.
+    fn add(&mut self, is_reached: bool) {
+        self.all = self.all.saturating_add(1);
+        if is_reached {
+            self.reached = self.reached.saturating_add(1);
+        }
+    }
+}
+
+/// The share of these marks.
+fn share_of(marks: &[bool]) -> Share {
+    let mut share = Share::NONE;
+    for is_reached in marks {
+        share.add(*is_reached);
+    }
+    share
+}
+
+/// The number after that of the last instruction of a procedure. The last instruction is its end,
+/// which no statement has.
+fn after_procedure(code: &Code, procedure: usize) -> usize {
+    match code.headings().get(procedure.saturating_add(1)) {
+        Some(heading) => heading.entry() as usize,
+        None => code.len(),
+    }
+}
+
+/// Whether the instruction is an assertion.
+fn is_assertion(code: &Code, number: usize) -> bool {
+    let Ok(number) = u32::try_from(number) else {
+        return false;
+    };
+    match code.get(number) {
+        Some(instr) => instr.kind() == Kind::Assert,
+        None => false,
+    }
+}
+
+/// The statements of a code and its assertions, of whose instructions these were reached.
+fn statements_of(code: &Code, reached: &[bool]) -> (Share, Share) {
+    let mut statements = Share::NONE;
+    let mut assertions = Share::NONE;
+    let mut procedure = 0;
+    for (number, is_reached) in reached.iter().enumerate() {
+        if number.saturating_add(1) == after_procedure(code, procedure) {
+            procedure = procedure.saturating_add(1);
+            continue;
+        }
+        statements.add(*is_reached);
+        if is_assertion(code, number) {
+            assertions.add(*is_reached);
+        }
+    }
+    (statements, assertions)
+}
+
+impl Tally {
+    /// The counts of this tally of runs of a code.
+    pub fn counts(&self, code: &Code) -> Counts {
+        let (statements, assertions) = statements_of(code, self.reached.as_slice());
+        Counts {
+            runs: self.runs,
+            calls: self.calls,
+            longest: self.longest,
+            ends: self.ends,
+            contexts: self.contexts_used(),
+            statements,
+            assertions,
+            threads: share_of(self.stepped.as_slice()),
+        }
+    }
+}

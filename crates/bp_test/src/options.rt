@@ -1,0 +1,16 @@
+//! What a test is asked for.
+
+/// What a test looks for, and among how many runs.
+#[derive(Clone, Copy, Debug, PartialEq, Eq)]
+pub struct TestOptions {
+    /// The seed of the first run. Each other run has the seed after that of the run before it.
+    pub seed: u64,
+    /// How many runs there are at most.
+    pub runs: u64,
+    /// How many blocks of runs are made side by side, each in a thread of its own. What is found
+    /// does not depend on it. It counts as 1 where it is 0, and as `MAX_JOBS` where it is greater.
+    pub jobs: u32,
+    /// Whether the test also looks for a run in which some threads are open and all of them wait
+    /// for ever.
+    pub with_stuck: bool,
+}
