@@ -77,21 +77,21 @@ impl Checked {
 pub struct CheckRefusal {
     /// The fault with the least place, and at one place with the least number.
     pub fault: CheckFault,
-    /// The offset at which its name begins in the text; 0 for `Memory`.
+    /// The offset in the text where its name begins; 0 for `Memory`.
     pub at: u32,
     /// The tree, given back so that the caller can still use it.
     pub tree: Tree,
 }
 
 impl CheckRefusal {
-    /// The number by which users know the fault.
+    /// The number that users know the fault by.
     pub fn number(&self) -> u32
         ensures { result ≡ check_fault_number self.now.fault }
     {
         self.fault.number()
     }
 
-    /// The offset at which the fault's name begins in the text; none for `Memory`.
+    /// The offset in the text where the fault's name begins; none for `Memory`.
     pub fn place(&self) -> Option<u32>
         ensures { result ≡ check_fault_place self.now.fault self.now.at }
     {

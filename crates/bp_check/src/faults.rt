@@ -47,7 +47,7 @@ pub enum CheckFault {
 impl CheckFault {
     ghost use Rattle.bp_check.specs.Faults.{check_fault_number};
 
-    /// The number by which users know the fault.
+    /// The number that users know the fault by.
     pub fn number(&self) -> u32
         ensures { result ≡ check_fault_number self.now }
     {
@@ -72,6 +72,6 @@ impl CheckFault {
 #[derive(Clone, Copy, Debug, PartialEq, Eq)]
 pub struct Found {
     pub fault: CheckFault,
-    /// The offset of the byte at which the name begins.
+    /// The offset of the byte where the name begins.
     pub at: u32,
 }

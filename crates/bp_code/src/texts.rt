@@ -23,7 +23,7 @@ impl ProgramFault {
     ghost use Rattle.std.specs.Prelude.{◌≡◌};
     ghost use Rattle.bp_code.specs.LawfulTexts.{program_fault_number, program_fault_place};
 
-    /// The number by which users know the fault.
+    /// The number that users know the fault by.
     pub fn number(&self) -> u32
         ensures { result ≡ program_fault_number self.now }
     {

@@ -1,4 +1,4 @@
-//! The tokens with which a text may continue.
+//! The tokens that may come next in a text.
 ghost use Rattle.std.specs.Prelude.{◌≡◌, ◌↔◌, ◌++◌, ◌∷◌, IsTrue, IfOk, All};
 ghost use Rattle.bp_syntax.specs.declared.faults.ReadFault.TheVariants.{Syntax, Memory};
 ghost use Rattle.bp_explain.specs.Followers.{IsProgram, BeginsProgram, MayFollow, MayFollowAs};

@@ -19,7 +19,7 @@ fn push_too_long(out: &mut Vec<u8>) -> Result<(), AllocError> {
     push_all(out, &[b" bytes\n"])
 }
 
-/// What a writer may have meant by a byte with which nothing begins.
+/// What a writer may have meant by a byte that begins no token.
 fn hint(byte: u8) -> &'static [u8] {
     match byte {
         b'2'..=b'9' => b"; the constants are 0 and 1",

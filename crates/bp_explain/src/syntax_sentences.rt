@@ -1,4 +1,4 @@
-//! The sentence on a token with which no program continues.
+//! The sentence on a token that cannot come there in a program.
 
 use crate::hints::token_hint;
 use crate::offers::{Offer, offers_behind, push_offers};

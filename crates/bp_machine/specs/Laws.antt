@@ -57,7 +57,7 @@ HistoriesAreShort =
     → IsLegal t s h
     → length h ≤ threads s * s.calls
 
--- the names with which the threads of a program begin hold no line feed
+-- the names of a program's entry procedures hold no line feed
 abbrev pub EntriesOnOneLine : Type 0
 EntriesOnOneLine =
     (t : Program) (s : SetupOf)

@@ -4,7 +4,7 @@ use Rattle.bp_tree.specs.Ast.{Program}
 use Rattle.bp_machine.specs.declared.limits.TheConstants.{DEFAULT_CONTEXTS, DEFAULT_CALLS}
 use Rattle.bp_machine.specs.Setups.{SetupOf, setup_of, initial_bits}
 
--- the procedure with which each thread begins, the initial bits of the globals where they are
+-- each thread's entry procedure, the initial bits of the globals where they are
 -- given, and the contexts and the calls of a thread that are allowed
 pub record StartOf : Type 0 where
   pub entries : List (List ℕ)

@@ -31,7 +31,7 @@ pub enum AskFault {
 impl AskFault {
     ghost use Rattle.bp_machine.specs.Sessions.{ask_fault_number};
 
-    /// The number by which users know the fault.
+    /// The number that users know the fault by.
     pub fn number(&self) -> u32
         ensures { result ≡ ask_fault_number self.now }
     {

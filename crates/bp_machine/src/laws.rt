@@ -33,8 +33,8 @@ pub fn histories_are_short()
     ensures { HistoriesAreShort }
 {}
 
-/// The names with which the threads of a setup begin hold no line feed, where the setup fits the
-/// program of a text. So each of them has a line of its own in a trace.
+/// The entry procedures of a setup have names without a line feed, where the setup fits the program
+/// of a text. So each name has a line of its own in a trace.
 pub fn entries_are_on_one_line()
     ensures { EntriesOnOneLine }
 {}

@@ -58,7 +58,7 @@ impl Model for Session {
         IsInOrder x × IsReadyFor x s.prepared };
 }
 
-/// The choices of each thread of a setup, none of which is drawn, in the memory of earlier ones;
+/// The choices of each thread of a setup, before any is drawn, in the memory of earlier ones;
 /// without a seed there are none.
 fn first_choices(setup: &Setup, earlier: Vec<Choices>) -> Result<Vec<Choices>, AllocError>
     ensures { IfOk result (λ v. AreFirstChoices setup.now v.items) }

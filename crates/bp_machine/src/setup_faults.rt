@@ -35,7 +35,7 @@ pub enum SetupFault {
 }
 
 impl SetupFault {
-    /// The number by which users know the fault.
+    /// The number that users know the fault by.
     pub fn number(&self) -> u32
         ensures { result ≡ setup_fault_number self.now }
     {

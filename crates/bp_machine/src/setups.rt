@@ -123,7 +123,7 @@ impl Setup {
         let _ = &self.contexts;
     }
 
-    /// The names of the procedures with which the threads begin.
+    /// The names of the entry procedures, thread 0 first.
     pub(crate) fn entries(&self) -> &[String]
         ensures { map string_bytes result.now ≡ self.now.entries }
     {
@@ -144,7 +144,7 @@ impl Setup {
         self.entries.len() as u32
     }
 
-    /// The name of the procedure with which a thread begins.
+    /// The name of a thread's entry procedure.
     pub fn entry(&self, thread: u32) -> Option<&str>
         ensures { option_map (λ n. n.now) result ≡ slice_get self.now.entries thread }
     {

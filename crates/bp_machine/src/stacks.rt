@@ -42,8 +42,8 @@ fn replace_top(frames: &mut Vec<ActivationRecord>, frame: ActivationRecord)
     }
 }
 
-/// Leaves the topmost frame at the instruction `next`, and puts another one on it, for which there
-/// is room.
+/// Leaves the topmost frame at the instruction `next`, and puts another one on it. There is room
+/// for it.
 fn enter(frames: &mut Vec<ActivationRecord>, frame: ActivationRecord, next: u32)
     requires { vec_len frames.old < vec_capacity frames.old }
     ensures { reverse frames.new.items ≡ entered_top frame next (reverse frames.old.items) }

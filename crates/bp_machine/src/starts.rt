@@ -17,7 +17,7 @@ use std::marker::Model;
 /// What a run starts from, beside the program and the seed.
 #[derive(Drop)]
 pub struct Start {
-    /// The name of the procedure with which each guest thread begins, thread 0 first: 1 to 64.
+    /// The entry procedure of each guest thread, thread 0 first: 1 to 64 names.
     pub entries: Vec<String>,
     /// The initial bit of each global in order of declaration. If `None`, all are 0.
     pub init: Option<Vec<bool>>,

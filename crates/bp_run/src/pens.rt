@@ -8,8 +8,7 @@ use bp_machine::{Call, Setup};
 use bp_trace::{write_call, write_end, write_head};
 use std::io::Write;
 
-/// A writer with which a trace is written line by line. Once a write has failed it writes nothing
-/// more.
+/// A writer of a trace, line by line. After a write has failed it writes nothing more.
 #[derive(Drop)]
 pub(crate) struct Pen<'a, W> {
     pub out: &'a mut W,

@@ -32,7 +32,7 @@ impl RunFault {
     ghost use Rattle.std.specs.Prelude.{◌≡◌};
     ghost use Rattle.bp_run.specs.Faults.{run_fault_number, run_fault_place};
 
-    /// The number by which users know the fault.
+    /// The number that users know the fault by.
     pub fn number(&self) -> u32
         ensures { result ≡ run_fault_number self.now }
     {

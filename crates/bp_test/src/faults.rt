@@ -18,7 +18,7 @@ impl TestFault {
     ghost use Rattle.std.specs.Prelude.{◌≡◌};
     ghost use Rattle.bp_test.specs.Tests.{test_fault_number};
 
-    /// The number by which users know the fault.
+    /// The number that users know the fault by.
     pub fn number(&self) -> u32
         ensures { result ≡ test_fault_number self.now }
     {

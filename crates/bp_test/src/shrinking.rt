@@ -36,7 +36,7 @@ fn granted(alloc: Global, history: &[Call]) -> Result<Vec<Call>, AllocError>
     Ok(calls)
 }
 
-/// The names of the procedures with which the threads begin.
+/// The names of the entry procedures, thread 0 first.
 fn entries_of(alloc: Global, setup: &Setup) -> Result<Vec<&[u8]>, AllocError>
     ensures { IfOk result (λ v. map (λ n. n.now) v.items ≡ setup.now.entries) }
 {

@@ -28,7 +28,7 @@ impl DriveFault {
     ghost use Rattle.std.specs.Prelude.{◌≡◌};
     ghost use Rattle.bp_trace.specs.Drives.{drive_fault_number, drive_fault_place};
 
-    /// The number by which users know the fault.
+    /// The number that users know the fault by.
     pub fn number(&self) -> u32
         ensures { result ≡ drive_fault_number self.now }
     {

@@ -20,7 +20,7 @@ impl MigrateFault {
     ghost use Rattle.std.specs.Prelude.{◌≡◌};
     ghost use Rattle.bp_trace.specs.Migrations.{migrate_fault_number, migrate_fault_place, migrate_wanted};
 
-    /// The number by which users know the fault.
+    /// The number that users know the fault by.
     pub fn number(&self) -> u32
         ensures { result ≡ migrate_fault_number self.now }
     {

@@ -62,8 +62,8 @@ fn judge_line<O: Watcher + Drop>(
     Ok(())
 }
 
-/// Plays the lines of calls that begin the text, the first of which has this number. The watcher
-/// has begun with the setup.
+/// Plays the lines of calls that begin the text. The first has this number. The watcher has begun
+/// with the setup.
 pub(crate) fn play<O: Watcher + Drop>(
     alloc: Global,
     session: &mut Session,

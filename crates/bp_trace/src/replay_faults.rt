@@ -61,7 +61,7 @@ impl ReplayFault {
     ghost use Rattle.std.specs.Prelude.{◌≡◌};
     ghost use Rattle.bp_trace.specs.ReplayFaults.{replay_fault_number, replay_fault_place, wanted_reply};
 
-    /// The number by which users know the fault.
+    /// The number that users know the fault by.
     pub fn number(&self) -> u32
         ensures { result ≡ replay_fault_number self.now }
     {

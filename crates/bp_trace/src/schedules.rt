@@ -1,10 +1,10 @@
-//! Schedules: lines that say which thread makes the next call, and with which choice bit.
+//! Schedules: lines that name the thread of the next call and its choice bit.
 ghost use Rattle.std.specs.Prelude.{◌≡◌, ◌<◌, ◌≤◌, length, drop, decimal, MatchOption};
 ghost use Rattle.bp_machine.specs.declared.limits.TheConstants.{MAX_THREADS};
 ghost use Rattle.bp_trace.specs.Schedules.{line_text, IsLineAt, HasNoLine};
 ghost use Rattle.bp_trace.specs.ScheduleReading.{digit_of, number_at, EndsLine, EndsNoLine};
 
-/// What a line of a schedule says: which thread makes a call, and with which choice bit.
+/// What a line of a schedule says: the thread that makes a call, and its choice bit.
 #[derive(Clone, Copy, Debug, PartialEq, Eq)]
 pub struct ScheduleLine {
     /// The thread, from 0.

@@ -46,7 +46,7 @@ impl Proc {
         }
     }
 
-    /// The name by which calls and entries find the procedure.
+    /// The name that calls and entries use for the procedure.
     pub fn name(&self) -> &Name
         ensures { result.now ≡ self.now.name }
     {

@@ -113,7 +113,7 @@ fn cut(words: &mut Vec<u8>) -> Result<(), AllocError>
 }
 
 #[tactic(auto, using(bp_text::proofs::TextsOnOneLine::one_line_after))]
-/// The own text of the statement with which the text begins: up to `;`, `then` or `do`.
+/// The text of its first statement alone: up to `;`, `then` or `do`.
 pub(crate) fn excerpt_of(alloc: Global, text: &[u8]) -> Result<Excerpt, AllocError>
     ensures is { IfOk result (λ e. IsStatement text.now e.words.items e.reads_choice) }
     ensures one_line { IfOk result (λ e. IsOneLine e.words.items) }

@@ -9,7 +9,7 @@ use bp_tree::Name;
 use itoa::Buffer;
 use std::alloc::{AllocError, Global};
 
-/// Adds the line of a thread, with its number and the procedure in which it begins.
+/// Adds the line of a thread: its number and its entry procedure.
 fn push_thread(view: &mut Vec<u8>, thread: u32, entry: &[u8]) -> Result<(), AllocError>
     ensures { OnOk result (view.new.items ≡ view.old.items ++ thread_line thread entry.now) }
 {
@@ -21,7 +21,7 @@ fn push_thread(view: &mut Vec<u8>, thread: u32, entry: &[u8]) -> Result<(), Allo
     push_bytes(view, b"\n")
 }
 
-/// The name of the procedure in which a thread begins.
+/// The name of a thread's entry procedure.
 fn entry_of(setup: &Setup, thread: u32) -> &[u8]
     ensures { result.now ≡ unwrap_or (slice_get setup.now.entries thread) [] }
 {
@@ -50,7 +50,7 @@ fn push_global(view: &mut Vec<u8>, name: &[u8], value: bool) -> Result<(), Alloc
     push_bytes(view, if value { b"=1" } else { b"=0" })
 }
 
-/// The value with which a global begins, by its place in the declarations.
+/// The initial value of a global, by its place in the declarations.
 fn initial_bit(setup: &Setup, n: usize) -> bool
     ensures { result ≡ unwrap_or (slice_get setup.now.init n) false }
 {
@@ -72,7 +72,7 @@ fn push_values(view: &mut Vec<u8>, setup: &Setup, globals: &[Name]) -> Result<()
     Ok(())
 }
 
-/// Adds the line of the values with which the globals begin, where there are globals.
+/// Adds the line of the initial values of the globals, where there are globals.
 fn push_globals(view: &mut Vec<u8>, setup: &Setup, globals: &[Name]) -> Result<(), AllocError>
     ensures { OnOk result
         (view.new.items ≡ view.old.items ++ globals_line (binding globals.now setup.now.init)) }

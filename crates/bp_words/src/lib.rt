@@ -1,4 +1,4 @@
-//! The words of the command line: which command they name, with which files and options.
+//! The words of the command line: the command that they name, its files and its options.
 #![tactic(auto)]
 
 mod arguments;
