@@ -14,7 +14,8 @@ use Rattle.bp_machine.specs.declared.limits.TheConstants.{DEFAULT_CONTEXTS, DEFA
 use Rattle.bp_run.specs.Options.{OptionsOf, default_options, options_of}
 use Rattle.bp_run.specs.declared.limits.TheConstants.{DEFAULT_TURN, DEFAULT_SEED, DEFAULT_RING}
 use Rattle.std.proofs.lemmas.Slice.Eq.{bytes_eq-Decides}
-use Rattle.bp_words.specs.Commands.{btrun_app, is_plain, words_fault, IsCheckOf, IsCodeOf, IsMigrateOf, IsPlainDriveOf, IsPlainRunOf, IsPlainShowOf, IsPlainTestOf, IsReplayOf, IsShrinkOf, IsTaskOf}
+use Rattle.bp_words.specs.Commands.{btrun_app, words_fault, IsTaskOf}
+use Rattle.bp_words.specs.PlainUses.{PlainUse, bundle, check, code, drive, run, test, replay, show, migrate, shrink, is_plain, words_of, HasPlainFiles, IsAskedBy, IsCheckOf, IsCodeOf, IsMigrateOf, IsPlainDriveOf, IsPlainRunOf, IsPlainShowOf, IsPlainTestOf, IsReplayOf, IsShrinkOf}
 use Rattle.bp_words.specs.Values.{init_fault}
 use Rattle.bp_words.specs.declared.commands.Task.{Task}
 use Rattle.bp_words.specs.declared.commands.Task.TheVariants.{Bundle, Check, Code, Drive, Run, Test, Replay, Show, Migrate, Shrink}
@@ -31,7 +32,7 @@ none_named : (program : Text) → subcommand_of btrun_app (program ∷ []) ≡ N
 unfolding clap_on_literals
 none_named program = refl
 
-pub none_faulty : (program : Text) → words_fault (program ∷ []) ≡ []
+none_faulty : (program : Text) → words_fault (program ∷ []) ≡ []
 none_faulty program = no_fault (program ∷ []) None (none_clean program) (none_named program) refl
 
 not_dash : (b : Bool) → not b ≡ true → b ≡ false
@@ -145,7 +146,7 @@ check_clean : (program file : Text) → IsWord file → fault_of btrun_app (chec
 unfolding clap_on_literals
 check_clean program file (no_end, no_long, no_short) = rw (no_end, no_long, no_short) refl
 
-pub check_faulty : (program file : Text) → is_plain file ≡ true → words_fault (check_words program file) ≡ []
+check_faulty : (program file : Text) → is_plain file ≡ true → words_fault (check_words program file) ≡ []
 check_faulty program file plain =
     let word = is_word file plain in
     no_fault (check_words program file) (Some (codes "check", file_row file)) (check_clean program file word) (check_named program file word) refl
@@ -162,7 +163,7 @@ check_of file (Show words) asks = absurd (check≢show asks.0)
 check_of file (Migrate words) asks = absurd (check≢migrate asks.0)
 check_of file (Shrink words) asks = absurd (differ (codes "check") (codes "shrink") refl asks.0)
 
-pub check_asked : (program file : Text) (task : Task) → is_plain file ≡ true → IsTaskOf (subcommand_of btrun_app (check_words program file)) task → IsCheckOf file task
+check_asked : (program file : Text) (task : Task) → is_plain file ≡ true → IsTaskOf (subcommand_of btrun_app (check_words program file)) task → IsCheckOf file task
 check_asked program file task plain asks = check_of file task (subst (λ c. IsTaskOf c task) (check_named program file (is_word file plain)) asks)
 
 abbrev code_words : Text → Text → List Text
@@ -176,7 +177,7 @@ code_clean : (program file : Text) → IsWord file → fault_of btrun_app (code_
 unfolding clap_on_literals
 code_clean program file (no_end, no_long, no_short) = rw (no_end, no_long, no_short) refl
 
-pub code_faulty : (program file : Text) → is_plain file ≡ true → words_fault (code_words program file) ≡ []
+code_faulty : (program file : Text) → is_plain file ≡ true → words_fault (code_words program file) ≡ []
 code_faulty program file plain =
     let word = is_word file plain in
     no_fault (code_words program file) (Some (codes "code", file_row file)) (code_clean program file word) (code_named program file word) refl
@@ -193,7 +194,7 @@ code_of file (Show words) asks = absurd (code≢show asks.0)
 code_of file (Migrate words) asks = absurd (code≢migrate asks.0)
 code_of file (Shrink words) asks = absurd (differ (codes "code") (codes "shrink") refl asks.0)
 
-pub code_asked : (program file : Text) (task : Task) → is_plain file ≡ true → IsTaskOf (subcommand_of btrun_app (code_words program file)) task → IsCodeOf file task
+code_asked : (program file : Text) (task : Task) → is_plain file ≡ true → IsTaskOf (subcommand_of btrun_app (code_words program file)) task → IsCodeOf file task
 code_asked program file task plain asks = code_of file task (subst (λ c. IsTaskOf c task) (code_named program file (is_word file plain)) asks)
 
 abbrev drive_words : Text → Text → Text → List Text
@@ -210,7 +211,7 @@ drive_clean : (program file schedule : Text) → IsWord file → IsWord schedule
 unfolding clap_on_literals
 drive_clean program file schedule (no_end, no_long, no_short) (none_ends, none_long, none_short) = rw (no_end, no_long, no_short, none_ends, none_long, none_short) refl
 
-pub drive_faulty : (program file schedule : Text) → is_plain file ≡ true → is_plain schedule ≡ true → words_fault (drive_words program file schedule) ≡ []
+drive_faulty : (program file schedule : Text) → is_plain file ≡ true → is_plain schedule ≡ true → words_fault (drive_words program file schedule) ≡ []
 drive_faulty program file schedule plain even =
     let word = is_word file plain in
     let other = is_word schedule even in
@@ -232,7 +233,7 @@ drive_of file schedule (Show words) asks = absurd (drive≢show asks.0)
 drive_of file schedule (Migrate words) asks = absurd (drive≢migrate asks.0)
 drive_of file schedule (Shrink words) asks = absurd (differ (codes "drive") (codes "shrink") refl asks.0)
 
-pub drive_asked : (program file schedule : Text) (task : Task) → is_plain file ≡ true → is_plain schedule ≡ true → IsTaskOf (subcommand_of btrun_app (drive_words program file schedule)) task → IsPlainDriveOf file schedule task
+drive_asked : (program file schedule : Text) (task : Task) → is_plain file ≡ true → is_plain schedule ≡ true → IsTaskOf (subcommand_of btrun_app (drive_words program file schedule)) task → IsPlainDriveOf file schedule task
 drive_asked program file schedule task plain even asks =
     drive_of file schedule task (subst (λ c. IsTaskOf c task) (drive_named program file schedule (is_word file plain) (is_word schedule even)) asks)
 
@@ -250,7 +251,7 @@ run_clean : (program file : Text) → IsWord file → fault_of btrun_app (run_wo
 unfolding clap_on_literals
 run_clean program file (no_end, no_long, no_short) = rw (no_end, no_long, no_short) refl
 
-pub run_faulty : (program file : Text) → is_plain file ≡ true → words_fault (run_words program file) ≡ []
+run_faulty : (program file : Text) → is_plain file ≡ true → words_fault (run_words program file) ≡ []
 run_faulty program file plain =
     let word = is_word file plain in
     no_fault (run_words program file) (Some (codes "run", run_rows file)) (run_clean program file word) (run_named program file word) refl
@@ -272,7 +273,7 @@ run_of file (Show words) asks = absurd (run≢show asks.0)
 run_of file (Migrate words) asks = absurd (run≢migrate asks.0)
 run_of file (Shrink words) asks = absurd (differ (codes "run") (codes "shrink") refl asks.0)
 
-pub run_asked : (program file : Text) (task : Task) → is_plain file ≡ true → IsTaskOf (subcommand_of btrun_app (run_words program file)) task → IsPlainRunOf file task
+run_asked : (program file : Text) (task : Task) → is_plain file ≡ true → IsTaskOf (subcommand_of btrun_app (run_words program file)) task → IsPlainRunOf file task
 run_asked program file task plain asks = run_of file task (subst (λ c. IsTaskOf c task) (run_named program file (is_word file plain)) asks)
 
 abbrev trace_rows : Text → Text → List Row
@@ -293,7 +294,7 @@ test_clean : (program file : Text) → IsWord file → fault_of btrun_app (test_
 unfolding clap_on_literals
 test_clean program file (no_end, no_long, no_short) = rw (no_end, no_long, no_short) refl
 
-pub test_faulty : (program file : Text) → is_plain file ≡ true → words_fault (test_words program file) ≡ []
+test_faulty : (program file : Text) → is_plain file ≡ true → words_fault (test_words program file) ≡ []
 test_faulty program file plain =
     let word = is_word file plain in
     no_fault (test_words program file) (Some (codes "test", test_rows file)) (test_clean program file word) (test_named program file word) refl
@@ -310,7 +311,7 @@ test_of file (Show words) asks = absurd (differ (codes "test") (codes "show") re
 test_of file (Migrate words) asks = absurd (differ (codes "test") (codes "migrate") refl asks.0)
 test_of file (Shrink words) asks = absurd (differ (codes "test") (codes "shrink") refl asks.0)
 
-pub test_asked : (program file : Text) (task : Task) → is_plain file ≡ true → IsTaskOf (subcommand_of btrun_app (test_words program file)) task → IsPlainTestOf file task
+test_asked : (program file : Text) (task : Task) → is_plain file ≡ true → IsTaskOf (subcommand_of btrun_app (test_words program file)) task → IsPlainTestOf file task
 test_asked program file task plain asks = test_of file task (subst (λ c. IsTaskOf c task) (test_named program file (is_word file plain)) asks)
 
 abbrev replay_words : Text → Text → Text → List Text
@@ -324,7 +325,7 @@ replay_clean : (program file trace : Text) → IsWord file → IsWord trace → 
 unfolding clap_on_literals
 replay_clean program file trace (no_end, no_long, no_short) (none_ends, none_long, none_short) = rw (no_end, no_long, no_short, none_ends, none_long, none_short) refl
 
-pub replay_faulty : (program file trace : Text) → is_plain file ≡ true → is_plain trace ≡ true → words_fault (replay_words program file trace) ≡ []
+replay_faulty : (program file trace : Text) → is_plain file ≡ true → is_plain trace ≡ true → words_fault (replay_words program file trace) ≡ []
 replay_faulty program file trace plain even =
     let word = is_word file plain in
     let other = is_word trace even in
@@ -342,7 +343,7 @@ replay_of file trace (Show words) asks = absurd (replay≢show asks.0)
 replay_of file trace (Migrate words) asks = absurd (replay≢migrate asks.0)
 replay_of file trace (Shrink words) asks = absurd (differ (codes "replay") (codes "shrink") refl asks.0)
 
-pub replay_asked : (program file trace : Text) (task : Task) → is_plain file ≡ true → is_plain trace ≡ true → IsTaskOf (subcommand_of btrun_app (replay_words program file trace)) task → IsReplayOf file trace task
+replay_asked : (program file trace : Text) (task : Task) → is_plain file ≡ true → is_plain trace ≡ true → IsTaskOf (subcommand_of btrun_app (replay_words program file trace)) task → IsReplayOf file trace task
 replay_asked program file trace task plain even asks =
     replay_of file trace task (subst (λ c. IsTaskOf c task) (replay_named program file trace (is_word file plain) (is_word trace even)) asks)
 
@@ -357,7 +358,7 @@ show_clean : (program file trace : Text) → IsWord file → IsWord trace → fa
 unfolding clap_on_literals
 show_clean program file trace (no_end, no_long, no_short) (none_ends, none_long, none_short) = rw (no_end, no_long, no_short, none_ends, none_long, none_short) refl
 
-pub show_faulty : (program file trace : Text) → is_plain file ≡ true → is_plain trace ≡ true → words_fault (show_words program file trace) ≡ []
+show_faulty : (program file trace : Text) → is_plain file ≡ true → is_plain trace ≡ true → words_fault (show_words program file trace) ≡ []
 show_faulty program file trace plain even =
     let word = is_word file plain in
     let other = is_word trace even in
@@ -375,7 +376,7 @@ show_of file trace (Show words) (named, of) = (of.program, of.trace, of.thread, 
 show_of file trace (Migrate words) asks = absurd (show≢migrate asks.0)
 show_of file trace (Shrink words) asks = absurd (differ (codes "show") (codes "shrink") refl asks.0)
 
-pub show_asked : (program file trace : Text) (task : Task) → is_plain file ≡ true → is_plain trace ≡ true → IsTaskOf (subcommand_of btrun_app (show_words program file trace)) task → IsPlainShowOf file trace task
+show_asked : (program file trace : Text) (task : Task) → is_plain file ≡ true → is_plain trace ≡ true → IsTaskOf (subcommand_of btrun_app (show_words program file trace)) task → IsPlainShowOf file trace task
 show_asked program file trace task plain even asks =
     show_of file trace task (subst (λ c. IsTaskOf c task) (show_named program file trace (is_word file plain) (is_word trace even)) asks)
 
@@ -390,7 +391,7 @@ migrate_clean : (program file trace : Text) → IsWord file → IsWord trace →
 unfolding clap_on_literals
 migrate_clean program file trace (no_end, no_long, no_short) (none_ends, none_long, none_short) = rw (no_end, no_long, no_short, none_ends, none_long, none_short) refl
 
-pub migrate_faulty : (program file trace : Text) → is_plain file ≡ true → is_plain trace ≡ true → words_fault (migrate_words program file trace) ≡ []
+migrate_faulty : (program file trace : Text) → is_plain file ≡ true → is_plain trace ≡ true → words_fault (migrate_words program file trace) ≡ []
 migrate_faulty program file trace plain even =
     let word = is_word file plain in
     let other = is_word trace even in
@@ -408,7 +409,7 @@ migrate_of file trace (Shrink words) asks = absurd (differ (codes "migrate") (co
 migrate_of file trace (Migrate words) (named, of) = (of.program, of.trace, of.explain.1 refl)
 migrate_of file trace (Replay words) asks = absurd (replay≢migrate (sym asks.0))
 
-pub migrate_asked : (program file trace : Text) (task : Task) → is_plain file ≡ true → is_plain trace ≡ true → IsTaskOf (subcommand_of btrun_app (migrate_words program file trace)) task → IsMigrateOf file trace task
+migrate_asked : (program file trace : Text) (task : Task) → is_plain file ≡ true → is_plain trace ≡ true → IsTaskOf (subcommand_of btrun_app (migrate_words program file trace)) task → IsMigrateOf file trace task
 migrate_asked program file trace task plain even asks =
     migrate_of file trace task (subst (λ c. IsTaskOf c task) (migrate_named program file trace (is_word file plain) (is_word trace even)) asks)
 
@@ -423,7 +424,7 @@ shrink_clean : (program file trace : Text) → IsWord file → IsWord trace → 
 unfolding clap_on_literals
 shrink_clean program file trace (no_end, no_long, no_short) (none_ends, none_long, none_short) = rw (no_end, no_long, no_short, none_ends, none_long, none_short) refl
 
-pub shrink_faulty : (program file trace : Text) → is_plain file ≡ true → is_plain trace ≡ true → words_fault (shrink_words program file trace) ≡ []
+shrink_faulty : (program file trace : Text) → is_plain file ≡ true → is_plain trace ≡ true → words_fault (shrink_words program file trace) ≡ []
 shrink_faulty program file trace plain even =
     let word = is_word file plain in
     let other = is_word trace even in
@@ -441,9 +442,35 @@ shrink_of file trace (Migrate words) asks = absurd (differ (codes "shrink") (cod
 shrink_of file trace (Shrink words) (named, of) = (of.program, of.trace, of.explain.1 refl)
 shrink_of file trace (Replay words) asks = absurd (differ (codes "shrink") (codes "replay") refl asks.0)
 
-pub shrink_asked : (program file trace : Text) (task : Task) → is_plain file ≡ true → is_plain trace ≡ true → IsTaskOf (subcommand_of btrun_app (shrink_words program file trace)) task → IsShrinkOf file trace task
+shrink_asked : (program file trace : Text) (task : Task) → is_plain file ≡ true → is_plain trace ≡ true → IsTaskOf (subcommand_of btrun_app (shrink_words program file trace)) task → IsShrinkOf file trace task
 shrink_asked program file trace task plain even asks =
     shrink_of file trace task (subst (λ c. IsTaskOf c task) (shrink_named program file trace (is_word file plain) (is_word trace even)) asks)
+
+-- plain words have no fault
+pub plain_faulty : (usage : PlainUse) (program : Text) → HasPlainFiles usage → words_fault (program ∷ words_of usage) ≡ []
+plain_faulty bundle program plain = none_faulty program
+plain_faulty (check file) program plain = check_faulty program file plain
+plain_faulty (code file) program plain = code_faulty program file plain
+plain_faulty (drive file other) program (plain, even) = drive_faulty program file other plain even
+plain_faulty (run file) program plain = run_faulty program file plain
+plain_faulty (test file) program plain = test_faulty program file plain
+plain_faulty (replay file other) program (plain, even) = replay_faulty program file other plain even
+plain_faulty (show file other) program (plain, even) = show_faulty program file other plain even
+plain_faulty (migrate file other) program (plain, even) = migrate_faulty program file other plain even
+plain_faulty (shrink file other) program (plain, even) = shrink_faulty program file other plain even
+
+-- plain words ask for what their use says
+pub plain_asked : (usage : PlainUse) (program : Text) (task : Task) → HasPlainFiles usage → IsTaskOf (subcommand_of btrun_app (program ∷ words_of usage)) task → IsAskedBy usage task
+plain_asked bundle program task plain asks = subst (λ c. IsTaskOf c task) (none_named program) asks
+plain_asked (check file) program task plain asks = check_asked program file task plain asks
+plain_asked (code file) program task plain asks = code_asked program file task plain asks
+plain_asked (drive file other) program task (plain, even) asks = drive_asked program file other task plain even asks
+plain_asked (run file) program task plain asks = run_asked program file task plain asks
+plain_asked (test file) program task plain asks = test_asked program file task plain asks
+plain_asked (replay file other) program task (plain, even) asks = replay_asked program file other task plain even asks
+plain_asked (show file other) program task (plain, even) asks = show_asked program file other task plain even asks
+plain_asked (migrate file other) program task (plain, even) asks = migrate_asked program file other task plain even asks
+plain_asked (shrink file other) program task (plain, even) asks = shrink_asked program file other task plain even asks
 
 -- where there is no fault, only memory was refused
 pub only_memory : (kinds : Kinds) (e : Error) → kinds ≡ [] → HasKind kinds e → kind_of e ≡ OutOfMemory

@@ -1,6 +1,6 @@
 -- What the words of the command line ask for. How words are told apart as commands, options and
 -- values is said by the rules of `clap`.
-use Rattle.std.specs.Prelude.{◌≡◌, ◌⊎◌, ◌==◌, Bool, true, false, not, List, [], ◌∷◌, Option, Some, None, codes, pos}
+use Rattle.std.specs.Prelude.{◌≡◌, ◌⊎◌, true, List, [], ◌∷◌, Option, Some, None, codes, pos}
 use Rattle.clap.specs.Faults.{fault_of}
 use Rattle.clap.specs.Kinds.{Kinds, or_else}
 use Rattle.clap.specs.Lexer.{usize_max}
@@ -8,10 +8,6 @@ use Rattle.clap.specs.Walk.{Row, Rule, Text}
 use Rattle.clap.specs.Simple.{App, new_app, new_rule, on_top, subcommand_of, with_rule, with_subcommand}
 use Rattle.clap.specs.declared.builder.action.ArgAction.TheVariants.{SetTrue}
 use Rattle.clap.specs.declared.builder.value_parser.ValueParser.TheVariants as parser
-use Rattle.bp_machine.specs.Starts.{default_start}
-use Rattle.bp_run.specs.Options.{default_options}
-use Rattle.bp_run.specs.declared.limits.TheConstants.{DEFAULT_SEED}
-use Rattle.bp_test.specs.declared.limits.TheConstants.{DEFAULT_JOBS, DEFAULT_RUNS}
 use Rattle.bp_words.specs.Values.{init_fault}
 use Rattle.bp_words.specs.DriveWords.{IsDriveOf}
 use Rattle.bp_words.specs.FileWords.{IsFileWordsOf}
@@ -19,7 +15,6 @@ use Rattle.bp_words.specs.RunWords.{IsRunOf}
 use Rattle.bp_words.specs.ShowWords.{IsShowOf}
 use Rattle.bp_words.specs.TestWords.{IsTestOf}
 use Rattle.bp_words.specs.TraceWords.{IsTraceWordsOf}
-use Rattle.bp_words.specs.declared.trace.TraceWords.{TraceWords}
 use Rattle.bp_words.specs.declared.commands.Task.{Task}
 use Rattle.bp_words.specs.declared.commands.Task.TheVariants.{Bundle, Check, Code, Drive, Run, Test, Replay, Show, Migrate, Shrink}
 
@@ -201,79 +196,3 @@ IsTaskOf (Some command) task = IsTaskOfCommand command.0 command.1 task
 -- why words are refused: as `clap` says, or else for their initial bits
 abbrev pub words_fault : List Text → Kinds
 words_fault words = or_else (fault_of btrun_app words) (init_fault (subcommand_of btrun_app words))
-
--- the word is no option, and does not end the options
-abbrev pub is_plain : Text → Bool
-is_plain [] = true
-is_plain (b ∷ bs) = not (b == 45)
-
--- the task is to check this file, and faults are not explained
-abbrev pub IsCheckOf : Text → Task → Type 0
-IsCheckOf file (Check words) = (words.program.now ≡ file) × (words.explain ≡ false)
-IsCheckOf file task = ⊥
-
--- the task is to list the code of this file, and faults are not explained
-abbrev pub IsCodeOf : Text → Task → Type 0
-IsCodeOf file (Code words) = (words.program.now ≡ file) × (words.explain ≡ false)
-IsCodeOf file task = ⊥
-
--- the task is to drive the program of this file by the schedule of that one, under the defaults
-abbrev pub IsPlainDriveOf : Text → Text → Task → Type 0
-IsPlainDriveOf file schedule (Drive words) =
-    (words.program.now ≡ file)
-    × (words.schedule.now ≡ schedule)
-    × (words.explain ≡ false)
-    × (words.start ≡ default_start)
-IsPlainDriveOf file schedule task = ⊥
-
--- the task is to run the program of this file under the defaults, its workers as they come
-abbrev pub IsPlainRunOf : Text → Task → Type 0
-IsPlainRunOf file (Run words) =
-    (words.program.now ≡ file)
-    × (words.spread ≡ false)
-    × (words.explain ≡ false)
-    × (words.options ≡ default_options)
-IsPlainRunOf file task = ⊥
-
--- the task is to test the program of this file under the defaults
-abbrev pub IsPlainTestOf : Text → Task → Type 0
-IsPlainTestOf file (Test words) =
-    (words.program.now ≡ file)
-    × (words.explain ≡ false)
-    × (words.start ≡ default_start)
-    × (words.seed ≡ DEFAULT_SEED)
-    × (words.runs ≡ DEFAULT_RUNS)
-    × (words.jobs ≡ DEFAULT_JOBS)
-    × (words.stuck ≡ false)
-    × (words.unreached ≡ false)
-IsPlainTestOf file task = ⊥
-
--- the files are these, and faults are not explained
-abbrev pub HasFiles : Text → Text → TraceWords → Type 0
-HasFiles file trace words =
-    (words.program.now ≡ file) × (words.trace.now ≡ trace) × (words.explain ≡ false)
-
--- the task is to replay this trace of the program of this file
-abbrev pub IsReplayOf : Text → Text → Task → Type 0
-IsReplayOf file trace (Replay words) = HasFiles file trace words
-IsReplayOf file trace task = ⊥
-
--- the task is to show all calls of this trace of the program of this file
-abbrev pub IsPlainShowOf : Text → Text → Task → Type 0
-IsPlainShowOf file trace (Show words) =
-    (words.program.now ≡ file)
-    × (words.trace.now ≡ trace)
-    × (words.thread ≡ None)
-    × (words.last ≡ None)
-    × (words.explain ≡ false)
-IsPlainShowOf file trace task = ⊥
-
--- the task is to migrate this trace of the program of this file
-abbrev pub IsMigrateOf : Text → Text → Task → Type 0
-IsMigrateOf file trace (Migrate words) = HasFiles file trace words
-IsMigrateOf file trace task = ⊥
-
--- the task is to shrink this trace of the program of this file
-abbrev pub IsShrinkOf : Text → Text → Task → Type 0
-IsShrinkOf file trace (Shrink words) = HasFiles file trace words
-IsShrinkOf file trace task = ⊥

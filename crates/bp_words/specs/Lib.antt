@@ -1,6 +1,7 @@
 pub mod Commands
 pub mod DriveWords
 pub mod FileWords
+pub mod PlainUses
 pub mod RunWords
 pub mod ShowWords
 pub mod TestWords

@@ -1,8 +1,9 @@
 //! The words of the command line.
-ghost use Rattle.std.specs.Prelude.{◌≡◌, true, false, ℕ, List, [], ◌∷◌, map, codes, string_bytes, IfOk, MatchResult};
+ghost use Rattle.std.specs.Prelude.{◌≡◌, false, ℕ, List, ◌∷◌, map, string_bytes, IfOk, MatchResult};
 ghost use Rattle.clap.specs.Words.{FailsBy, app_of, kind_of, subcommand_of, subcommand_rows_of};
 ghost use Rattle.clap.specs.declared.builder.command.Command.TheViews.{out-Command};
-ghost use Rattle.bp_words.specs.Commands.{btrun_app, file_app, is_plain, program_app, words_fault, IsOurs, IsCheckOf, IsCodeOf, IsMigrateOf, IsPlainDriveOf, IsPlainRunOf, IsPlainShowOf, IsPlainTestOf, IsReplayOf, IsShrinkOf, IsTaskOf};
+ghost use Rattle.bp_words.specs.Commands.{btrun_app, file_app, program_app, words_fault, IsOurs, IsTaskOf};
+ghost use Rattle.bp_words.specs.PlainUses.{PlainUse, words_of, HasPlainFiles, IsAskedBy};
 
 use crate::drive::{DriveWords, drive_command, drive_words};
 use crate::files::{FileWords, file_command, file_words};
@@ -133,52 +134,10 @@ pub fn read_words<'a>(alloc: Global, words: &'a [String]) -> Result<Task<'a>, Er
     ensures task { IfOk result
         (λ t. IsTaskOf (subcommand_of btrun_app (map string_bytes words.now)) t) }
     ensures refusal { FailsBy (words_fault (map string_bytes words.now)) result }
-    ensures bundle { (program : List ℕ)
-        → map string_bytes words.now ≡ program ∷ []
-        → MatchResult result (λ t. t ≡ Task.Bundle) (λ e. kind_of e ≡ ErrorKind.OutOfMemory) }
-    ensures check { (program file : List ℕ)
-        → is_plain file ≡ true
-        → map string_bytes words.now ≡ program ∷ codes "check" ∷ file ∷ []
-        → MatchResult result (IsCheckOf file) (λ e. kind_of e ≡ ErrorKind.OutOfMemory) }
-    ensures code { (program file : List ℕ)
-        → is_plain file ≡ true
-        → map string_bytes words.now ≡ program ∷ codes "code" ∷ file ∷ []
-        → MatchResult result (IsCodeOf file) (λ e. kind_of e ≡ ErrorKind.OutOfMemory) }
-    ensures drive { (program file schedule : List ℕ)
-        → is_plain file ≡ true
-        → is_plain schedule ≡ true
-        → map string_bytes words.now ≡ program ∷ codes "drive" ∷ file ∷ schedule ∷ []
-        → MatchResult result
-        (IsPlainDriveOf file schedule)
-        (λ e. kind_of e ≡ ErrorKind.OutOfMemory) }
-    ensures run { (program file : List ℕ)
-        → is_plain file ≡ true
-        → map string_bytes words.now ≡ program ∷ codes "run" ∷ file ∷ []
-        → MatchResult result (IsPlainRunOf file) (λ e. kind_of e ≡ ErrorKind.OutOfMemory) }
-    ensures test { (program file : List ℕ)
-        → is_plain file ≡ true
-        → map string_bytes words.now ≡ program ∷ codes "test" ∷ file ∷ []
-        → MatchResult result (IsPlainTestOf file) (λ e. kind_of e ≡ ErrorKind.OutOfMemory) }
-    ensures replay { (program file trace : List ℕ)
-        → is_plain file ≡ true
-        → is_plain trace ≡ true
-        → map string_bytes words.now ≡ program ∷ codes "replay" ∷ file ∷ trace ∷ []
-        → MatchResult result (IsReplayOf file trace) (λ e. kind_of e ≡ ErrorKind.OutOfMemory) }
-    ensures show { (program file trace : List ℕ)
-        → is_plain file ≡ true
-        → is_plain trace ≡ true
-        → map string_bytes words.now ≡ program ∷ codes "show" ∷ file ∷ trace ∷ []
-        → MatchResult result (IsPlainShowOf file trace) (λ e. kind_of e ≡ ErrorKind.OutOfMemory) }
-    ensures migrate { (program file trace : List ℕ)
-        → is_plain file ≡ true
-        → is_plain trace ≡ true
-        → map string_bytes words.now ≡ program ∷ codes "migrate" ∷ file ∷ trace ∷ []
-        → MatchResult result (IsMigrateOf file trace) (λ e. kind_of e ≡ ErrorKind.OutOfMemory) }
-    ensures shrink { (program file trace : List ℕ)
-        → is_plain file ≡ true
-        → is_plain trace ≡ true
-        → map string_bytes words.now ≡ program ∷ codes "shrink" ∷ file ∷ trace ∷ []
-        → MatchResult result (IsShrinkOf file trace) (λ e. kind_of e ≡ ErrorKind.OutOfMemory) }
+    ensures plain { (usage : PlainUse) (program : List ℕ)
+        → HasPlainFiles usage
+        → map string_bytes words.now ≡ program ∷ words_of usage
+        → MatchResult result (IsAskedBy usage) (λ e. kind_of e ≡ ErrorKind.OutOfMemory) }
 {
     let command = command(alloc)?;
     let matches = command.try_get_matches_from(words)?;
