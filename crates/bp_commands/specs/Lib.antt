@@ -12,6 +12,7 @@ pub mod Flushes
 pub mod Given
 pub mod Inputs
 pub mod Listings
+pub mod ProgressTexts
 pub mod ReplayLines
 pub mod Runs
 pub mod Shrinks

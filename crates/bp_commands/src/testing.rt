@@ -9,7 +9,7 @@ use crate::showing::program_of;
 use crate::summaries::put_summary;
 use bp_check::Checked;
 use bp_machine::Start;
-use bp_test::{Counts, Found, TestOptions, test};
+use bp_test::{Counts, Found, Progress, TestOptions, test};
 use bp_view::statement_lines;
 use std::alloc::{AllocError, Global};
 use std::io::Write;
@@ -18,9 +18,11 @@ use std::thread::Threads;
 /// `test`: runs a program by schedules that are drawn, until an assertion fails, and writes the
 /// trace of that run.
 #[derive(Drop)]
-pub struct Test<'a, R> {
+pub struct Test<'a, R, P> {
     /// What starts the threads of the test.
     pub runtime: &'a R,
+    /// Who is told how far the test is.
+    pub progress: &'a P,
     /// What each run starts from.
     pub start: &'a Start,
     /// What the test looks for, and among how many runs.
@@ -73,7 +75,7 @@ fn lines_of(
     }
 }
 
-impl<R: Threads + Sync> ProgramCommand for Test<'_, R> {
+impl<R: Threads + Sync, P: Progress> ProgramCommand for Test<'_, R, P> {
     ghost use Rattle.std.specs.Thread.{IsSync};
     ghost use Rattle.bp_commands.specs.Tests.{name_of, tests};
 
@@ -88,7 +90,8 @@ impl<R: Threads + Sync> ProgramCommand for Test<'_, R> {
         let setup = self.start.setup(alloc, &code, None)?;
         let lines = lines_of(alloc, self.listed, text, &checked)?;
         let options = self.options;
-        let tested = test(self.runtime, alloc, &code, &setup, &options, out)?;
+        let (runtime, progress) = (self.runtime, self.progress);
+        let tested = test(runtime, alloc, &code, &setup, &options, progress, out)?;
         Ok(Tested {
             options,
             found: tested.found,

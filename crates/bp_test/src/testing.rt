@@ -10,6 +10,7 @@ use crate::faults::TestFault;
 use crate::limits::MAX_JOBS;
 use crate::options::TestOptions;
 use crate::plans::Plan;
+use crate::progress::Progress;
 use crate::tallies::Tally;
 use crate::waves::search;
 use bp_code::Code;
@@ -51,13 +52,14 @@ fn found_in(run: u64, report: Report) -> Found
 /// Makes runs, each with the seed after that of the one before, until an assertion fails, or a run
 /// is stuck where that is looked for, and then writes the trace of that run. Where none is found
 /// nothing is written. At a refusal nothing is written, but for a writer that refuses: it then has
-/// a proper prefix of the trace.
-pub fn test<R: Threads + Sync, W: Write>(
+/// a proper prefix of the trace. What `progress` is told changes nothing of that.
+pub fn test<R: Threads + Sync, P: Progress, W: Write>(
     rt: &R,
     alloc: Global,
     code: &Code,
     setup: &Setup,
     options: &TestOptions,
+    progress: &P,
     out: &mut W,
 ) -> Result<Tested, TestFault>
     requires { FitsCode code.now setup.now }
@@ -71,7 +73,9 @@ pub fn test<R: Threads + Sync, W: Write>(
 {
     let plan = Plan::new(alloc, code, setup, options)?;
     let jobs = options.jobs.clamp(1, MAX_JOBS) as usize;
-    let Block { found, tally } = search(rt, alloc, code, setup, &plan, options.runs, jobs)?;
+    let made = search(rt, alloc, code, setup, &plan, options.runs, jobs, progress);
+    progress.end();
+    let Block { found, tally } = made?;
     let Some(found) = found else {
         return Ok(Tested {
             found: Found::Nothing,

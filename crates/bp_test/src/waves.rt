@@ -11,6 +11,7 @@ ghost use Rattle.bp_test.specs.Tests.{IsFirstFound};
 use crate::blocks::{Block, FoundRun, first_found};
 use crate::limits::BLOCK;
 use crate::plans::Plan;
+use crate::progress::Progress;
 use crate::tallies::Tally;
 use bp_code::Code;
 use bp_machine::Setup;
@@ -78,8 +79,9 @@ fn first_of(
     Ok(None)
 }
 
-/// Makes this many runs of a plan, in waves of this many blocks, until one is found.
-pub(crate) fn search<R: Threads + Sync>(
+/// Makes this many runs of a plan, in waves of this many blocks, until one is found. After each
+/// wave that found none, `progress` is told.
+pub(crate) fn search<R: Threads + Sync, P: Progress>(
     rt: &R,
     alloc: Global,
     code: &Code,
@@ -87,6 +89,7 @@ pub(crate) fn search<R: Threads + Sync>(
     plan: &Plan,
     runs: u64,
     jobs: usize,
+    progress: &P,
 ) -> Result<Block, AllocError>
     requires fits { FitsCode code.now setup.now }
     requires some { 0 < jobs }
@@ -104,6 +107,7 @@ pub(crate) fn search<R: Threads + Sync>(
             return Ok(Block { found, tally });
         }
         from = start_of_block(from, jobs as u64, runs);
+        progress.tell(from, runs);
     }
     Ok(Block { found: None, tally })
 }

@@ -5,7 +5,9 @@ ghost use Rattle.bp_machine.specs.Setups.{FitsCode};
 use crate::texts::{code_of, names};
 use bp_code::Code;
 use bp_machine::{Outcome, Setup, Start};
-use bp_test::{Block, Found, FoundRun, Plan, TestFault, TestOptions, first_found, shrink, test};
+use bp_test::{
+    Block, Found, FoundRun, Plan, TestFault, TestOptions, Untold, first_found, shrink, test,
+};
 use bp_trace::replay;
 use std::alloc::Global;
 use std::test::Fail;
@@ -55,7 +57,15 @@ fn finds_a_race<R: Threads + Sync>(rt: &R, alloc: Global) -> Result<bool, Fail> 
     let code = code_of(alloc, RACE)?;
     let setup = setup_of(alloc, &code, &["writer", "reader"])?;
     let mut out = Vec::new(alloc);
-    let tested = test(rt, alloc, &code, &setup, &options_of(1_000), &mut out)?;
+    let tested = test(
+        rt,
+        alloc,
+        &code,
+        &setup,
+        &options_of(1_000),
+        &Untold,
+        &mut out,
+    )?;
     let replayed = replay(alloc, &code, out.as_slice())?;
     match tested.found {
         Found::Failed { report, .. } => {
@@ -76,7 +86,15 @@ fn finds_nothing<R: Threads + Sync>(rt: &R, alloc: Global, text: &[u8]) -> Resul
     let code = code_of(alloc, text)?;
     let setup = setup_of(alloc, &code, &["main", "main"])?;
     let mut out = Vec::new(alloc);
-    let tested = test(rt, alloc, &code, &setup, &options_of(100), &mut out)?;
+    let tested = test(
+        rt,
+        alloc,
+        &code,
+        &setup,
+        &options_of(100),
+        &Untold,
+        &mut out,
+    )?;
     Ok(tested.found == Found::Nothing && out.is_empty())
 }
 
@@ -107,7 +125,7 @@ fn finds_stuck<R: Threads + Sync>(
         with_stuck: true,
         ..options_of(12_000)
     };
-    let tested = test(rt, alloc, &code, &setup, &options, &mut out)?;
+    let tested = test(rt, alloc, &code, &setup, &options, &Untold, &mut out)?;
     Ok((tested.found, tested.tally.runs))
 }
 

@@ -3,6 +3,7 @@
 #![tactic(auto)]
 
 mod host_files;
+mod progress_lines;
 mod runs;
 mod tasks;
 mod usage;

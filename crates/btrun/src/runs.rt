@@ -1,6 +1,7 @@
 //! A run of the program, from its words to its exit status.
 
 use crate::host_files::HostFiles;
+use crate::progress_lines::ProgressLine;
 use crate::tasks::do_task;
 use crate::usage::{refuse_memory, refuse_words, tell};
 use bp_words::{Task, read_words};
@@ -8,20 +9,35 @@ use std::env;
 use std::io::{self, BufWriter, IsTerminal};
 use std::sync::Wait;
 use std::thread::Threads;
-use std::time::Clock;
+use std::time::{Clock, Instant};
 
 /// The arguments of the command line. The first is the program's name.
 fn words(rt: &HostRuntime) -> io::Result<Vec<String>> {
     Ok(env::args(rt)?.collect(rt.alloc())?)
 }
 
-/// Whether colours are wanted: standard output is a terminal, and NO_COLOR is not set to a text.
-fn has_colour(rt: &HostRuntime) -> bool {
-    let is_refused = match env::var(rt, "NO_COLOR") {
+/// Whether this variable of the environment is set to a text.
+fn is_set(rt: &HostRuntime, name: &str) -> bool {
+    match env::var(rt, name) {
         Ok(value) => !value.is_empty(),
         Err(_) => false,
+    }
+}
+
+/// Whether colours are wanted: standard output is a terminal, and NO_COLOR is not set to a text.
+fn has_colour(rt: &HostRuntime) -> bool {
+    !is_set(rt, "NO_COLOR") && rt.stdout().is_terminal()
+}
+
+/// The line of progress of a test that starts now.
+fn progress_line(rt: &HostRuntime) -> ProgressLine<'_> {
+    let is_wanted = !is_set(rt, "NO_PROGRESS") && rt.stderr().is_terminal();
+    let start = if is_wanted {
+        Instant::now(rt).ok()
+    } else {
+        None
     };
-    !is_refused && rt.stdout().is_terminal()
+    ProgressLine { rt, start }
 }
 
 /// Does a task on the files and the streams of the machine, and answers the exit status.
@@ -36,9 +52,11 @@ fn do_on_host<T: Threads + Wait + Clock + Sync>(
         return refuse_memory(&mut errors);
     };
     let colour = has_colour(rt);
+    let progress = progress_line(rt);
     do_task(
         alloc,
         threads,
+        &progress,
         &files,
         rt.stdin(),
         colour,

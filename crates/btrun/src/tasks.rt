@@ -12,7 +12,7 @@ use bp_commands::{
     run_by_workers, run_on_bundle, run_on_pair, run_on_program,
 };
 use bp_run::{Gate, Open, Spread};
-use bp_test::TestOptions;
+use bp_test::{Progress, TestOptions};
 use bp_view::ViewOptions;
 use bp_words::{DriveWords, FileWords, RunWords, ShowWords, Task, TestWords, TraceWords};
 use std::alloc::Global;
@@ -83,9 +83,10 @@ fn test_options(words: &TestWords<'_>) -> TestOptions
 }
 
 /// Tests the program of a file.
-fn test_as_asked<F: Files, T: Threads + Sync, W: Write + Drop, E: Write>(
+fn test_as_asked<F: Files, T: Threads + Sync, P: Progress, W: Write + Drop, E: Write>(
     alloc: Global,
     threads: &T,
+    progress: &P,
     files: &F,
     words: &TestWords<'_>,
     out: BufWriter<W>,
@@ -97,6 +98,7 @@ fn test_as_asked<F: Files, T: Threads + Sync, W: Write + Drop, E: Write>(
 {
     let test = Test {
         runtime: threads,
+        progress,
         start: &words.start,
         options: test_options(words),
         listed: words.unreached.then_some(words.program),
@@ -222,12 +224,14 @@ fn show_as_asked<F: Files, W: Write + Drop, E: Write>(
 pub fn do_task<
     F: Files,
     T: Threads + Wait + Clock + Sync,
+    P: Progress,
     R: Read + Drop,
     W: Write + Drop,
     E: Write,
 >(
     alloc: Global,
     threads: &T,
+    progress: &P,
     files: &F,
     input: R,
     has_colour: bool,
@@ -245,7 +249,7 @@ pub fn do_task<
         Task::Code(words) => on_file(alloc, &Code, files, words, out, errors),
         Task::Drive(words) => drive_as_asked(alloc, files, words, out, errors),
         Task::Run(words) => run_as_asked(alloc, threads, files, words, out, errors),
-        Task::Test(words) => test_as_asked(alloc, threads, files, words, out, errors),
+        Task::Test(words) => test_as_asked(alloc, threads, progress, files, words, out, errors),
         Task::Replay(words) => on_trace(alloc, &Replay, files, words, out, errors),
         Task::Show(words) => show_as_asked(alloc, files, has_colour, words, out, errors),
         Task::Migrate(words) => on_trace(alloc, &Migrate, files, words, out, errors),

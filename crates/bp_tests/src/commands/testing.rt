@@ -1,7 +1,7 @@
 //! The command `test`.
 use bp_commands::{Ended, Source, Test, do_on_program};
 use bp_machine::Start;
-use bp_test::TestOptions;
+use bp_test::{TestOptions, Untold};
 use std::alloc::{AllocError, Global};
 use std::thread::Threads;
 
@@ -18,6 +18,7 @@ fn tested<'a, R: Threads + Sync>(
 ) -> Result<Option<bool>, AllocError> {
     let test = Test {
         runtime: rt,
+        progress: &Untold,
         start,
         options: TestOptions {
             seed: 42,

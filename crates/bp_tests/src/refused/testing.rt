@@ -5,7 +5,7 @@ use super::ready::{code, output, setup};
 use super::{tell, wants};
 use bp_code::Code;
 use bp_machine::Setup;
-use bp_test::{Found, TestFault, TestOptions, test};
+use bp_test::{Found, TestFault, TestOptions, Untold, test};
 use std::alloc::Global;
 use std::test::Fail;
 use std::thread::Threads;
@@ -30,10 +30,13 @@ fn tested<R: Threads + Sync>(
 ) -> Result<(Found, bool), Fail>
     requires { FitsCode code.now setup.now }
 {
-    match test(rt, alloc, code, setup, &OPTIONS, out) {
+    match test(rt, alloc, code, setup, &OPTIONS, &Untold, out) {
         Err(TestFault::Memory) => {
             wants(out.is_empty())?;
-            Ok((test(rt, alloc, code, setup, &OPTIONS, out)?.found, true))
+            Ok((
+                test(rt, alloc, code, setup, &OPTIONS, &Untold, out)?.found,
+                true,
+            ))
         }
         done => Ok((done?.found, false)),
     }
