@@ -1,6 +1,7 @@
 """What the scripts of .ci/ share: the program under test, runs of it, the report of each test, and the closing count.
 It is no test itself."""
 import os
+import re
 import subprocess
 import sys
 import tempfile
@@ -24,6 +25,27 @@ def run(words, **how):
     if how.get("input") is None:
         how["stdin"] = subprocess.DEVNULL
     return subprocess.run(words, **{"stdout": subprocess.PIPE, "stderr": subprocess.PIPE, "timeout": SECONDS, **how})
+
+
+def section(text, heading):
+    """The lines of a section of a help text: those after its heading, up to an empty one."""
+    after = text.partition("\n%s:\n" % heading)[2]
+    return after.partition("\n\n")[0].splitlines()
+
+
+def options(text):
+    """The long options that a help text lists."""
+    return {name for line in section(text, "Options") for name in re.findall(r"^ +(?:-\w, )?--(\w+)", line)}
+
+
+def helps(program):
+    """The commands that the program's help lists, the options that the help of each lists, and its own options."""
+    def said(*words):
+        return run([program, *words], check=True).stdout.decode()
+
+    commands = {line.split()[0] for line in section(said("--help"), "Commands")}
+    found = {name: options(said(name, "--help")) for name in sorted(commands - {"help"})}
+    return commands, found, options(said("--help"))
 
 
 def refusing_library(folder):

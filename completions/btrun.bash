@@ -1,0 +1,32 @@
+# Completes the commands, options and files of btrun in bash. Source it, or put it where bash-completion looks for
+# completions under the name btrun.
+
+# The options of a command.
+_btrun_options() {
+    local common="--explain --help" start="--contexts --calls --init"
+    case $1 in
+        check | code | replay | migrate | shrink) echo "$common" ;;
+        drive) echo "$common $start" ;;
+        run) echo "$common $start --seed --turn --ring --spread" ;;
+        test) echo "$common $start --seed --runs --jobs --stuck --unreached" ;;
+        show) echo "$common --thread --last" ;;
+    esac
+}
+
+_btrun() {
+    local word=${COMP_WORDS[COMP_CWORD]} before=${COMP_WORDS[COMP_CWORD - 1]} words
+    case $before in
+        --contexts | --calls | --init | --seed | --turn | --ring | --runs | --jobs | --thread | --last) return ;;
+    esac
+    if ((COMP_CWORD == 1)); then
+        words="check code drive run test replay show migrate shrink help --help --version"
+    elif [[ $word == -* ]]; then
+        words=$(_btrun_options "${COMP_WORDS[1]}")
+    else
+        mapfile -t COMPREPLY < <(compgen -f -- "$word")
+        return
+    fi
+    mapfile -t COMPREPLY < <(compgen -W "$words" -- "$word")
+}
+
+complete -o filenames -F _btrun btrun

@@ -1,0 +1,36 @@
+# Completes the commands, options and files of btrun in fish. Put it in ~/.config/fish/completions.
+
+complete -c btrun -n __fish_use_subcommand -f -a check -d 'Check a program'
+complete -c btrun -n __fish_use_subcommand -f -a code -d 'Print the listing of its code'
+complete -c btrun -n __fish_use_subcommand -f -a drive -d 'Drive it by a schedule'
+complete -c btrun -n __fish_use_subcommand -f -a run -d 'Run it by one worker for each thread'
+complete -c btrun -n __fish_use_subcommand -f -a test -d 'Test it by runs whose schedules are drawn'
+complete -c btrun -n __fish_use_subcommand -f -a replay -d 'Replay a trace'
+complete -c btrun -n __fish_use_subcommand -f -a show -d 'Show a trace call by call'
+complete -c btrun -n __fish_use_subcommand -f -a migrate -d 'Print the trace of version 2'
+complete -c btrun -n __fish_use_subcommand -f -a shrink -d 'Make a failing trace smaller'
+complete -c btrun -n __fish_use_subcommand -f -a help -d 'Print help'
+
+set -l all check code drive run test replay show migrate shrink
+complete -c btrun -n "__fish_seen_subcommand_from $all" -l explain -d 'Explain a fault on further lines'
+complete -c btrun -n "__fish_seen_subcommand_from $all" -l help -d 'Print help'
+
+set -l starting drive run test
+complete -c btrun -n "__fish_seen_subcommand_from $starting" -x -l contexts -d 'How many contexts are allowed'
+complete -c btrun -n "__fish_seen_subcommand_from $starting" -x -l calls -d 'How many calls of a thread are allowed'
+complete -c btrun -n "__fish_seen_subcommand_from $starting" -x -l init -d 'The initial bits of the globals'
+
+set -l seeded run test
+complete -c btrun -n "__fish_seen_subcommand_from $seeded" -x -l seed -d 'The seed of the choice bits'
+
+complete -c btrun -n '__fish_seen_subcommand_from run' -x -l turn -d 'How many calls a worker makes in a turn'
+complete -c btrun -n '__fish_seen_subcommand_from run' -x -l ring -d 'How many calls wait to be printed'
+complete -c btrun -n '__fish_seen_subcommand_from run' -l spread -d 'Take turns as they are drawn'
+
+complete -c btrun -n '__fish_seen_subcommand_from test' -x -l runs -d 'How many runs there are at most'
+complete -c btrun -n '__fish_seen_subcommand_from test' -x -l jobs -d 'How many blocks of runs are made side by side'
+complete -c btrun -n '__fish_seen_subcommand_from test' -l stuck -d 'Also stop at a run in which all open threads wait'
+complete -c btrun -n '__fish_seen_subcommand_from test' -l unreached -d 'List the statements that no run reached'
+
+complete -c btrun -n '__fish_seen_subcommand_from show' -x -l thread -d 'Show the calls of this thread alone'
+complete -c btrun -n '__fish_seen_subcommand_from show' -x -l last -d 'Show the last calls alone'
