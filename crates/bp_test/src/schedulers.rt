@@ -1,5 +1,5 @@
 //! Schedules that are drawn.
-ghost use Rattle.std.specs.Prelude.{◌≡◌, ◌<◌, ℕ, true, IfSome, MatchOption};
+ghost use Rattle.std.specs.Prelude.{◌≡◌, ◌<◌, ◌≤◌, ℕ, true, IfSome, MatchOption};
 ghost use Rattle.bp_machine.specs.Setups.{threads};
 ghost use Rattle.bp_test.specs.Resting.{RestsIn};
 
@@ -17,6 +17,9 @@ const MAX_LENGTHS: usize = 64;
 /// How many powers of two there are, from 8, among which a length is drawn where none is known.
 const POWERS: u32 = 14;
 
+/// The most switches of a schedule that has few.
+const FEW: u32 = 2;
+
 /// A schedule that is drawn while it is followed: it has a number of switches, and places among
 /// which they are spread. The thread to which it switches is drawn among those that may step.
 #[derive(Drop)]
@@ -32,18 +35,25 @@ pub(crate) struct Scheduler {
 
 /// A number below the count, where the count is not 0.
 fn below(generator: &mut Lcg64Xsh32, count: u32) -> u32
-    ensures { 0 < count → result < count }
+    ensures below { 0 < count → result < count }
+    ensures most { result ≤ count }
 {
     let word = generator.next_word();
     if count == 0 { 0 } else { word % count }
 }
 
-/// How many switches: from one to one less than the contexts that are allowed.
-fn draw_switches(generator: &mut Lcg64Xsh32, contexts: u32) -> u32 {
+/// How many switches, which are spread over this many places. The most are one less than the
+/// contexts that are allowed, and three quarters of the places. Two schedules of five have one
+/// switch or two, and the others more than half of the most.
+fn draw_switches(generator: &mut Lcg64Xsh32, contexts: u32, places: u64) -> u32 {
     if contexts < 2 {
         return 0;
     }
-    below(generator, contexts - 1) + 1
+    let most = u64::from(contexts - 1).min(places - places / 4) as u32;
+    if below(generator, 5) < 2 {
+        return below(generator, most.min(FEW)) + 1;
+    }
+    most - below(generator, most - most / 2)
 }
 
 /// One of these lengths, or a power of two where there is none.
@@ -103,8 +113,8 @@ impl Scheduler {
     pub(crate) fn new(seed: u64, setup: &Setup, lengths: &[u64]) -> Scheduler {
         let mut generator = Lcg64Xsh32::new(seed, STREAM);
         let current = below(&mut generator, setup.threads());
-        let switches = draw_switches(&mut generator, setup.contexts());
         let places = draw_length(&mut generator, lengths);
+        let switches = draw_switches(&mut generator, setup.contexts(), places);
         Scheduler {
             generator,
             current,
