@@ -10,7 +10,7 @@ use crate::ends::Ended;
 use crate::explanations::Beside;
 use crate::faults::Fault;
 use crate::inputs::{Source, read_pair, read_text};
-use bp_machine::Report;
+use bp_machine::{Report, Start};
 use std::alloc::Global;
 use std::io::{Read, Write};
 
@@ -61,6 +61,11 @@ pub trait PairCommand {
     /// What the input beside the program is.
     fn beside(&self) -> Beside
         ensures { result ≡ beside self.now };
+
+    /// What the run starts from, where the input does not say it.
+    fn start(&self) -> Option<&Start> {
+        None
+    }
 }
 
 /// Reads a program text, and does a command on it. At most 65,537 bytes are read.

@@ -46,4 +46,8 @@ impl PairCommand for Drive<'_> {
     fn beside(&self) -> Beside {
         Beside::Schedule
     }
+
+    fn start(&self) -> Option<&Start> {
+        Some(self.start)
+    }
 }

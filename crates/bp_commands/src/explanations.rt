@@ -7,6 +7,7 @@ ghost use Rattle.bp_commands.specs.Given.{Pair};
 use crate::faults::Fault;
 use bp_code::ProgramFault;
 use bp_explain::{explain_program, explain_schedule, explain_trace};
+use bp_machine::Start;
 use bp_syntax::ReadFault;
 use bp_text::{first_line, put, put_each};
 use bp_trace::ReplayFault;
@@ -55,20 +56,22 @@ fn of_input(
     alloc: Global,
     beside: Beside,
     fault: &Fault,
+    start: Option<&Start>,
     program: Named<'_>,
     input: Named<'_>,
 ) -> Option<Vec<u8>>
     ensures { IfSome result (λ v.
         ExplainsInput beside input.entry.name.now input.entry.text.now fault.now v.items) }
 {
-    match (beside, fault) {
-        (Beside::Schedule, Fault::Schedule(fault)) => {
-            any(explain_schedule(alloc, input.name, input.text, fault))
+    match (beside, start, fault) {
+        (Beside::Schedule, Some(start), Fault::Schedule(fault)) => {
+            let text = program.text;
+            any(explain_schedule(alloc, text, start, input.name, input.text, fault))
         }
-        (Beside::Trace, Fault::Trace(fault)) => {
+        (Beside::Trace, _, Fault::Trace(fault)) => {
             any(explain_trace(alloc, program.text, input.name, input.text, fault))
         }
-        (Beside::Trace, Fault::Setup(fault)) => {
+        (Beside::Trace, _, Fault::Setup(fault)) => {
             let fault = ReplayFault::Setup(*fault);
             any(explain_trace(alloc, program.text, input.name, input.text, &fault))
         }
@@ -81,6 +84,7 @@ fn of_pair(
     alloc: Global,
     beside: Beside,
     fault: &Fault,
+    start: Option<&Start>,
     program: Named<'_>,
     input: Named<'_>,
 ) -> Option<Vec<u8>>
@@ -91,7 +95,7 @@ fn of_pair(
 {
     match of_program(alloc, fault, program) {
         Some(lines) => Some(lines),
-        None => of_input(alloc, beside, fault, program, input),
+        None => of_input(alloc, beside, fault, start, program, input),
     }
 }
 
@@ -159,6 +163,7 @@ pub(crate) fn explain_on_pair<T, E: Write>(
     beside: Beside,
     asked: bool,
     done: &Result<T, Fault>,
+    start: Option<&Start>,
     program: Named<'_>,
     input: Named<'_>,
     errors: &mut E,
@@ -170,7 +175,7 @@ pub(crate) fn explain_on_pair<T, E: Write>(
         done.now (E.contents errors.old) (E.contents errors.new) }
 {
     if let (true, Err(fault)) = (asked, done) {
-        let lines = of_pair(alloc, beside, fault, program, input);
+        let lines = of_pair(alloc, beside, fault, start, program, input);
         put_explanation(alloc, lines, fault, errors);
     }
 }

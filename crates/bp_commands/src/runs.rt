@@ -121,8 +121,10 @@ pub fn run_on_pair<C: PairCommand, F: Files, W: Write + Drop, E: Write>(
         name: input_path,
         text: &input.bytes,
     };
-    let beside = command.beside();
-    explain_on_pair(alloc, beside, explains, &done, program, input, errors);
+    let (beside, start) = (command.beside(), command.start());
+    explain_on_pair(
+        alloc, beside, explains, &done, start, program, input, errors,
+    );
     (status, output)
 }
 

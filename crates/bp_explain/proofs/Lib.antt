@@ -1,2 +1,3 @@
 pub mod Followed
+pub mod Gaps
 pub mod PlainTexts

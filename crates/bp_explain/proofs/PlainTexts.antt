@@ -1,6 +1,6 @@
 -- What is shown is plain.
-use Rattle.std.proofs.Common.{◌≡◌, ◌==◌, ◌||◌, ◌++◌, ℕ, Bool, true, false, List, map, slice_index_or, refl, if◌then◌else◌}
-use Rattle.std.proofs.lemmas.List.Elements.{All-map, All-append}
+use Rattle.std.proofs.Common.{◌≡◌, ◌==◌, ◌||◌, ℕ, Bool, true, false, List, map, slice_index_or, refl, if◌then◌else◌}
+use Rattle.std.proofs.lemmas.List.Elements.{All-map}
 use Rattle.bp_explain.specs.Explanations.{is_plain, shown, IsPlain}
 
 plain_if : (b : ℕ) (p w : Bool) → is_plain b ≡ p → is_plain (if p then b else if w then 32 else 63) ≡ true
@@ -13,9 +13,3 @@ plain_shown b = plain_if b (is_plain b) (b == 9 || b == 13) refl
 
 pub plain_all : (bytes : List ℕ) → IsPlain (map shown bytes)
 plain_all bytes = All-map (λ b. is_plain b ≡ true) shown bytes (λ k d lt. plain_shown (slice_index_or bytes k d))
-
-pub plain_parts : (head body out : List ℕ) → out ≡ map shown head ++ map shown body → IsPlain out
-plain_parts head body out e = rw e (All-append (λ b. is_plain b ≡ true) (map shown head) (map shown body) (plain_all head) (plain_all body))
-
-pub plain_more : (old new bytes : List ℕ) → new ≡ old ++ map shown bytes → IsPlain old → IsPlain new
-plain_more old new bytes e plain = rw e (All-append (λ b. is_plain b ≡ true) old (map shown bytes) plain (plain_all bytes))

@@ -1,5 +1,6 @@
 -- What explains a fault of a program, of a trace and of a schedule.
-use Rattle.std.specs.Prelude.{◌≡◌, ◌⊎◌, ℕ, ◌+◌, List, [], Option, length}
+use Rattle.std.specs.Prelude.{◌≡◌, ◌⊎◌, ◌≤◌, ℕ, ◌+◌, List, [], ◌∷◌, Option, Some, length, take, drop}
+use Rattle.bp_syntax.specs.Cut.{HasTokens}
 use Rattle.bp_syntax.specs.declared.faults.ReadFault.TheVariants as read
 use Rattle.bp_check.specs.declared.faults.CheckFault.TheVariants as check
 use Rattle.bp_code.specs.LawfulTexts.{program_fault_place}
@@ -14,28 +15,44 @@ use Rattle.bp_trace.specs.declared.faults.DriveFault.TheVariants as drive
 use Rattle.bp_trace.specs.declared.replay_faults.ReplayFault.{ReplayFault}
 use Rattle.bp_trace.specs.declared.replay_faults.ReplayFault.TheVariants as replay
 use Rattle.bp_explain.specs.declared.trace_heads.TheConstants.{FIRST_ENTRY}
-use Rattle.bp_explain.specs.Explanations.{file_line, number_line, place_line, IsExplanation}
+use Rattle.bp_explain.specs.Explanations.{file_head, line_head, place_head, IsExplanation}
+use Rattle.bp_explain.specs.Followers.{MayFollow}
 
 -- the explanation names this place of a text, where there is one, and shows its line with a caret
 abbrev pub ExplainsPlace : List ℕ → List ℕ → Option ℕ → List ℕ → Type 0
 ExplainsPlace name text place explained =
-    IsExplanation (place_line name text place) (excerpt_of_fault text place) explained
+    IsExplanation (place_head name text place) (excerpt_of_fault text place) explained
+
+-- a semicolon is missing at this place, before the token that cannot come at `at`: a program may go
+-- on with one there, and from there to the token is white and comments alone
+pub record MissesSemicolon (text : List ℕ) (at place : ℕ) : Type 0 where
+  pub before : place ≤ at
+  pub gap : HasTokens (drop place (take at text)) []
+  pub follows : MayFollow (take place text) (59 ∷ [])
+
+-- the explanation names this place of a token that cannot come there, or one where a semicolon is
+-- missing, and shows its line with a caret
+abbrev pub ExplainsSyntax : List ℕ → List ℕ → ℕ → List ℕ → Type 0
+ExplainsSyntax name text at explained =
+    (place : ℕ) × ((place ≡ at) ⊎ MissesSemicolon text at place)
+    × ExplainsPlace name text (Some place) explained
 
 -- the explanation of a fault of a program's text: none of refused memory
 abbrev pub ExplainsProgram : List ℕ → List ℕ → ProgramFault → List ℕ → Type 0
 ExplainsProgram name text (Read read.Memory) explained = explained ≡ []
+ExplainsProgram name text (Read (read.Syntax at)) explained = ExplainsSyntax name text at explained
 ExplainsProgram name text (Check check.Memory at) explained = explained ≡ []
 ExplainsProgram name text fault explained =
     ExplainsPlace name text (program_fault_place fault) explained
 
 -- the explanation says that a text is too long, and shows none of it
 abbrev pub ExplainsLength : List ℕ → List ℕ → Type 0
-ExplainsLength name explained = IsExplanation (file_line name) [] explained
+ExplainsLength name explained = IsExplanation (file_head name) [] explained
 
 -- the explanation names this line of the text, and shows it
 abbrev pub ExplainsLine : List ℕ → List ℕ → ℕ → List ℕ → Type 0
 ExplainsLine name text n explained =
-    IsExplanation (number_line name n) (excerpt_of_line text n) explained
+    IsExplanation (line_head name n) (excerpt_of_line text n) explained
 
 -- this byte of the text is on this line
 abbrev pub IsOnLine : List ℕ → ℕ → ℕ → Type 0
@@ -51,7 +68,7 @@ ShowsLine text n excerpt =
 pub record PointsIntoLine (name text : List ℕ) (n : ℕ) (explained : List ℕ) : Type 0 where
   pub excerpt : List ℕ
   pub shows : ShowsLine text n excerpt
-  pub is : IsExplanation (number_line name n) excerpt explained
+  pub is : IsExplanation (line_head name n) excerpt explained
 
 -- the fault of a setup is about this line of a trace: that of its entry, where it names one
 abbrev pub IsSetupLine : SetupFault → ℕ → Type 0
@@ -68,7 +85,7 @@ ExplainsSetup name trace fault explained =
 abbrev pub ExplainsNoEnd : List ℕ → List ℕ → List ℕ → Type 0
 ExplainsNoEnd name trace explained =
     let last = position_at trace (length trace) in
-    IsExplanation (number_line name last.line) [] explained
+    IsExplanation (line_head name last.line) [] explained
 
 -- the explanation of a fault of a trace: none of refused memory
 abbrev pub ExplainsTrace : List ℕ → List ℕ → ReplayFault → List ℕ → Type 0

@@ -1,7 +1,7 @@
 -- The parts of an explanation, and which bytes it has.
 use Rattle.std.specs.Prelude.{if◌then◌else◌, ◌≡◌, ◌==◌, ◌||◌, ◌&&◌, nat_le, ℕ, Bool, true, List, [], ◌∷◌, ◌++◌, Option, None, Some, All, map, decimal}
 use Rattle.bp_text.specs.declared.positions.Position.{Position}
-use Rattle.bp_text.specs.OneLine.{on_one_line}
+use Rattle.bp_text.specs.OneLine.{IsOneLine, on_one_line}
 use Rattle.bp_text.specs.Positions.{position_at}
 
 -- the byte is a line feed, or a character that a terminal shows in one column
@@ -20,25 +20,30 @@ IsPlain text = All (λ b. is_plain b ≡ true) text
 abbrev pub behind_colon : ℕ → List ℕ
 behind_colon n = 58 ∷ decimal n
 
--- the line that names a file
-abbrev pub file_line : List ℕ → List ℕ
-file_line name = map on_one_line name ++ 10 ∷ []
+-- what stands between a place and a sentence on it: a colon and a space
+abbrev pub separator : List ℕ
+separator = 58 ∷ 32 ∷ []
 
--- the line that names a file and a line of it
-abbrev pub number_line : List ℕ → ℕ → List ℕ
-number_line name n = map on_one_line name ++ behind_colon n ++ 10 ∷ []
+-- the head that names a file
+abbrev pub file_head : List ℕ → List ℕ
+file_head name = map on_one_line name ++ separator
 
--- the line that names a file, a line of it and a column
-abbrev pub position_line : List ℕ → Position → List ℕ
-position_line name p =
-    map on_one_line name ++ behind_colon p.line ++ behind_colon p.column ++ 10 ∷ []
+-- the head that names a file and a line of it
+abbrev pub line_head : List ℕ → ℕ → List ℕ
+line_head name n = map on_one_line name ++ behind_colon n ++ separator
 
--- the line that names a file, and the position of a byte of its text where one is to be named
-abbrev pub place_line : List ℕ → List ℕ → Option ℕ → List ℕ
-place_line name text None = file_line name
-place_line name text (Some at) = position_line name (position_at text at)
+-- the head that names a file, a line of it and a column
+abbrev pub position_head : List ℕ → Position → List ℕ
+position_head name p =
+    map on_one_line name ++ behind_colon p.line ++ behind_colon p.column ++ separator
 
--- the text is this head, this excerpt, and a sentence, as they are shown
+-- the head that names a file, and the position of a byte of its text where one is to be named
+abbrev pub place_head : List ℕ → List ℕ → Option ℕ → List ℕ
+place_head name text None = file_head name
+place_head name text (Some at) = position_head name (position_at text at)
+
+-- the text is a line of this head and a sentence, and then this excerpt, as they are shown
 pub record IsExplanation (head excerpt text : List ℕ) : Type 0 where
   pub sentence : List ℕ
-  pub is : text ≡ map shown head ++ map shown excerpt ++ map shown sentence
+  pub one_line : IsOneLine sentence
+  pub is : text ≡ map shown (head ++ sentence ++ 10 ∷ excerpt)

@@ -52,7 +52,7 @@ pub(crate) fn push_other_end(out: &mut Vec<u8>, counts: Counts) -> Result<(), Al
     push_end_line(out, counts)?;
     push_all(
         out,
-        &[b": the number of calls, and of threads that may go on\n"],
+        &[b": the number of calls, and of threads that may go on"],
     )
 }
 
@@ -63,14 +63,14 @@ pub(crate) fn push_no_end(out: &mut Vec<u8>, counts: Counts) -> Result<(), Alloc
     if counts.left_open > 0 {
         push_all(out, &[b" or another line of calls"])?;
     }
-    push_all(out, &[b"\n"])
+    Ok(())
 }
 
 /// Adds the machine's own call in place of that of a trace, and why it is due.
 fn push_due_call(out: &mut Vec<u8>, trace: &[u8], own: Call, why: &[u8]) -> Result<(), AllocError> {
     push_all(out, &[b"expected "])?;
     push_call(out, is_version_two(trace), own)?;
-    push_all(out, &[b": ", why, b"\n"])
+    push_all(out, &[b": ", why])
 }
 
 /// Adds that a call of a trace has another choice bit than the seed.
@@ -96,5 +96,5 @@ pub(crate) fn push_finished(out: &mut Vec<u8>, trace: &[u8], made: u64) -> Resul
     };
     push_all(out, &[b"thread "])?;
     push_number(out, thread as usize)?;
-    push_all(out, &[b" has made its last call before\n"])
+    push_all(out, &[b" has made its last call before"])
 }

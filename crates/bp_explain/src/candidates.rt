@@ -50,7 +50,7 @@ fn text_with(alloc: Global, front: &[u8], token: &[u8]) -> Result<Vec<u8>, Alloc
 }
 
 /// Whether a program begins with the front and then this token.
-fn may_follow(alloc: Global, front: &[u8], token: &str) -> Result<bool, AllocError>
+pub(crate) fn may_follow(alloc: Global, front: &[u8], token: &str) -> Result<bool, AllocError>
     ensures { IfOk result (λ b. IsTrue b ↔ MayFollow front.now token.now) }
 {
     let text = text_with(alloc, front, token.as_bytes())?;

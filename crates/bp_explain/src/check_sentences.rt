@@ -6,14 +6,14 @@ ghost use Rattle.bp_explain.specs.Explanations.{IsPlain};
 
 use crate::counts::{argument_count, side_counts};
 use crate::declared::{Role, first_named, first_procedure, procedure_around, role_at, tree_of};
-use crate::explanations::explanation;
-use crate::heads::head_of_place;
+use crate::explanations::about_place;
+use crate::guesses::{push_near_label, push_near_procedure, push_near_variable};
 use crate::sentences::{push_all, push_count, push_number, push_quoted};
 use crate::tokens_at::token_at;
 use bp_check::CheckFault;
 use bp_check::limits::{MAX_GLOBALS, MAX_OWN_NAMES, MAX_PROCEDURES};
 use bp_syntax::Tree;
-use bp_text::{excerpt_of, position_of};
+use bp_text::position_of;
 use bp_tree::Name;
 use std::alloc::{AllocError, Global};
 
@@ -137,12 +137,35 @@ fn push_limit(out: &mut Vec<u8>, tree: &Tree, at: usize) -> Result<(), AllocErro
 
 fn push_unknown_label(
     out: &mut Vec<u8>,
+    text: &[u8],
     tree: &Tree,
     name: &[u8],
     at: usize,
 ) -> Result<(), AllocError> {
     push_about(out, b"there is no label ", name, b" in ")?;
-    push_procedure(out, tree, at)
+    push_procedure(out, tree, at)?;
+    push_near_label(out, text, tree, name, at)
+}
+
+fn push_unknown_procedure(out: &mut Vec<u8>, tree: &Tree, name: &[u8]) -> Result<(), AllocError> {
+    push_about(out, b"there is no procedure ", name, b"")?;
+    push_near_procedure(out, tree, name)
+}
+
+fn push_unknown_variable(
+    out: &mut Vec<u8>,
+    tree: &Tree,
+    name: &[u8],
+    at: usize,
+) -> Result<(), AllocError> {
+    let but = b", and no formal or local in ".as_slice();
+    push_about(out, b"there is no global ", name, but)?;
+    push_procedure(out, tree, at)?;
+    match name {
+        b"true" => push_all(out, &[b"; true is written '1'"]),
+        b"false" => push_all(out, &[b"; false is written '0'"]),
+        _ => push_near_variable(out, tree, name, at),
+    }
 }
 
 /// Adds what is wrong with the name at this place.
@@ -162,17 +185,9 @@ fn push_sentence(
             push_about(out, b"the label ", name, b" appears twice in ")?;
             push_procedure(out, tree, at)
         }
-        CheckFault::UnknownVariable => {
-            push_about(
-                out,
-                b"there is no global ",
-                name,
-                b", and no formal or local in ",
-            )?;
-            push_procedure(out, tree, at)
-        }
-        CheckFault::UnknownProcedure => push_about(out, b"there is no procedure ", name, b""),
-        CheckFault::UnknownLabel => push_unknown_label(out, tree, name, at),
+        CheckFault::UnknownVariable => push_unknown_variable(out, tree, name, at),
+        CheckFault::UnknownProcedure => push_unknown_procedure(out, tree, name),
+        CheckFault::UnknownLabel => push_unknown_label(out, text, tree, name, at),
         CheckFault::Arity => push_arity(out, text, tree, name, at),
         CheckFault::Lengths => push_lengths(out, text, at),
         CheckFault::TwiceTarget => {
@@ -205,19 +220,9 @@ pub(crate) fn explain_check(
         ExplainsPlace name.now text.now (check_fault_place fault at) v.items) }
     ensures plain { IfOk result (λ v. IsPlain v.items) }
 {
-    let tree = tree_of(alloc, text)?;
-    let place = place_of(fault, at);
-    let head = head_of_place(alloc, name, text, place)?;
-    let excerpt = excerpt_of(alloc, text, place)?;
     let mut sentence = Vec::new(alloc);
-    if let Some(tree) = &tree {
+    if let Some(tree) = &tree_of(alloc, text)? {
         push_sentence(&mut sentence, text, tree, fault, at as usize)?;
     }
-    sentence.push(b'\n')?;
-    explanation(
-        alloc,
-        head.as_slice(),
-        excerpt.as_slice(),
-        sentence.as_slice(),
-    )
+    about_place(alloc, name, text, place_of(fault, at), sentence.as_slice())
 }

@@ -1,6 +1,7 @@
 //! What the name at a place of a program's text stands among.
 
 use bp_syntax::{ReadFault, Tree, read};
+use bp_text::{part_before, part_from};
 use bp_tree::{Name, Proc};
 use std::alloc::{AllocError, Global};
 
@@ -30,6 +31,23 @@ pub(crate) fn procedure_around(tree: &Tree, at: usize) -> Option<&Proc> {
     tree.procs()
         .iter()
         .rfind(|proc| proc.name().at() as usize <= at)
+}
+
+/// The text of the procedure around this place: up to the name of the next one.
+pub(crate) fn text_of_procedure<'a>(text: &'a [u8], tree: &Tree, at: usize) -> &'a [u8] {
+    let from = match procedure_around(tree, at) {
+        Some(proc) => proc.name().at() as usize,
+        None => 0,
+    };
+    let next = tree
+        .procs()
+        .iter()
+        .find(|proc| proc.name().at() as usize > at);
+    let to = match next {
+        Some(proc) => proc.name().at() as usize,
+        None => text.len(),
+    };
+    part_from(part_before(text, to), from)
 }
 
 /// What a name that is declared at a place is.

@@ -1,11 +1,12 @@
-//! Explanations put together: only characters that a terminal shows, and line ends.
+//! Explanations put together: a line that names the place and has the sentence, and then the
+//! excerpt. They have only characters that a terminal shows, and line ends.
 ghost use Rattle.std.specs.Prelude.{◌≡◌, ◌++◌, map, IfOk, OnOk};
-ghost use Rattle.bp_explain.specs.Explained.{ExplainsLength, ExplainsLine};
-ghost use Rattle.bp_explain.specs.Explanations.{number_line, is_plain, shown, IsExplanation, IsPlain};
+ghost use Rattle.bp_explain.specs.Explained.{ExplainsLength, ExplainsLine, ExplainsPlace};
+ghost use Rattle.bp_explain.specs.Explanations.{line_head, is_plain, shown, IsExplanation, IsPlain};
 
-use crate::heads::{head_of_file, head_of_line};
+use crate::heads::{head_of_file, head_of_line, head_of_place};
 use crate::sentences::{push_all, push_number};
-use bp_text::push_line;
+use bp_text::{excerpt_of, first_line, push_line};
 use std::alloc::{AllocError, Global};
 
 /// Whether the byte is a line feed, or a character that a terminal shows in one column.
@@ -38,8 +39,8 @@ fn push_shown(out: &mut Vec<u8>, bytes: &[u8]) -> Result<(), AllocError>
     Ok(())
 }
 
-/// The explanation with this head, this excerpt and this sentence.
-pub(crate) fn explanation(
+/// The explanation with this head, this excerpt and the first line of this sentence.
+fn explanation(
     alloc: Global,
     head: &[u8],
     excerpt: &[u8],
@@ -48,11 +49,30 @@ pub(crate) fn explanation(
     ensures is { IfOk result (λ v. IsExplanation head.now excerpt.now v.items) }
     ensures plain { IfOk result (λ v. IsPlain v.items) }
 {
+    let mut lines = Vec::new(alloc);
+    lines.extend_from_slice(head)?;
+    lines.extend_from_slice(first_line(sentence))?;
+    lines.push(b'\n')?;
+    lines.extend_from_slice(excerpt)?;
     let mut out = Vec::new(alloc);
-    push_shown(&mut out, head)?;
-    push_shown(&mut out, excerpt)?;
-    push_shown(&mut out, sentence)?;
+    push_shown(&mut out, lines.as_slice())?;
     Ok(out)
+}
+
+/// The explanation of a place of a text, or of the whole text where there is none.
+pub(crate) fn about_place(
+    alloc: Global,
+    name: &str,
+    text: &[u8],
+    place: Option<u32>,
+    sentence: &[u8],
+) -> Result<Vec<u8>, AllocError>
+    ensures is { IfOk result (λ v. ExplainsPlace name.now text.now place v.items) }
+    ensures plain { IfOk result (λ v. IsPlain v.items) }
+{
+    let head = head_of_place(alloc, name, text, place)?;
+    let excerpt = excerpt_of(alloc, text, place)?;
+    explanation(alloc, head.as_slice(), excerpt.as_slice(), sentence)
 }
 
 /// The explanation of a line of a text, which has this number and is shown with this excerpt.
@@ -64,7 +84,7 @@ pub(crate) fn about_excerpt(
     sentence: &[u8],
 ) -> Result<Vec<u8>, AllocError>
     ensures is { IfOk result (λ v.
-        IsExplanation (number_line name.now number) excerpt.now v.items) }
+        IsExplanation (line_head name.now number) excerpt.now v.items) }
     ensures plain { IfOk result (λ v. IsPlain v.items) }
 {
     let head = head_of_line(alloc, name, number)?;
@@ -100,7 +120,7 @@ pub(crate) fn explain_too_long(
     let mut sentence = Vec::new(alloc);
     push_all(&mut sentence, &[b"a ", kind, b" has at most "])?;
     push_number(&mut sentence, limit)?;
-    push_all(&mut sentence, &[b" bytes\n"])?;
+    push_all(&mut sentence, &[b" bytes"])?;
     let head = head_of_file(alloc, name)?;
     explanation(alloc, head.as_slice(), b"", sentence.as_slice())
 }

@@ -23,8 +23,8 @@ fn due_on(number: usize, init: usize) -> &'static [u8] {
 pub(crate) fn push_head(out: &mut Vec<u8>, trace: &[u8], number: usize) -> Result<(), AllocError> {
     let due = due_on(number, init_line(trace));
     match line_of(trace, number) {
-        None => push_all(out, &[b"the trace ends here; expected ", due, b"\n"]),
-        Some(line) if line.is_ended => push_all(out, &[b"expected ", due, b"\n"]),
-        Some(_) => push_all(out, &[b"expected ", due, b", and a line feed behind it\n"]),
+        None => push_all(out, &[b"the trace ends here; expected ", due]),
+        Some(line) if line.is_ended => push_all(out, &[b"expected ", due]),
+        Some(_) => push_all(out, &[b"expected ", due, b", and a line feed behind it"]),
     }
 }

@@ -1,10 +1,13 @@
 //! The head of an explanation: which file, and where in it.
 ghost use Rattle.std.specs.Prelude.{◌≡◌, ◌++◌, IfOk, OnOk};
-ghost use Rattle.bp_explain.specs.Explanations.{behind_colon, file_line, number_line, position_line, place_line};
+ghost use Rattle.bp_explain.specs.Explanations.{behind_colon, file_head, line_head, position_head, place_head};
 
 use bp_text::{Position, position_of, push_on_one_line};
 use itoa::Buffer;
 use std::alloc::{AllocError, Global};
+
+/// What stands between a place and a sentence on it.
+const SEPARATOR: &[u8] = b": ";
 
 /// Adds a colon and a number.
 fn push_behind_colon(out: &mut Vec<u8>, number: usize) -> Result<(), AllocError>
@@ -15,47 +18,47 @@ fn push_behind_colon(out: &mut Vec<u8>, number: usize) -> Result<(), AllocError>
     out.extend_from_slice(buffer.format(number).as_bytes())
 }
 
-/// The line that names a file.
+/// The head that names a file.
 pub(crate) fn head_of_file(alloc: Global, name: &str) -> Result<Vec<u8>, AllocError>
-    ensures { IfOk result (λ v. v.items ≡ file_line name.now) }
+    ensures { IfOk result (λ v. v.items ≡ file_head name.now) }
 {
     let mut head = Vec::new(alloc);
     push_on_one_line(&mut head, name.as_bytes())?;
-    head.push(b'\n')?;
+    head.extend_from_slice(SEPARATOR)?;
     Ok(head)
 }
 
-/// The line that names a file and a line of it.
+/// The head that names a file and a line of it.
 pub(crate) fn head_of_line(alloc: Global, name: &str, line: usize) -> Result<Vec<u8>, AllocError>
-    ensures { IfOk result (λ v. v.items ≡ number_line name.now line) }
+    ensures { IfOk result (λ v. v.items ≡ line_head name.now line) }
 {
     let mut head = Vec::new(alloc);
     push_on_one_line(&mut head, name.as_bytes())?;
     push_behind_colon(&mut head, line)?;
-    head.push(b'\n')?;
+    head.extend_from_slice(SEPARATOR)?;
     Ok(head)
 }
 
-/// The line that names a file, a line of it and a column.
+/// The head that names a file, a line of it and a column.
 fn head_of_position(alloc: Global, name: &str, position: Position) -> Result<Vec<u8>, AllocError>
-    ensures { IfOk result (λ v. v.items ≡ position_line name.now position) }
+    ensures { IfOk result (λ v. v.items ≡ position_head name.now position) }
 {
     let mut head = Vec::new(alloc);
     push_on_one_line(&mut head, name.as_bytes())?;
     push_behind_colon(&mut head, position.line)?;
     push_behind_colon(&mut head, position.column)?;
-    head.push(b'\n')?;
+    head.extend_from_slice(SEPARATOR)?;
     Ok(head)
 }
 
-/// The line that names a file, and the position of a byte of its text where one is to be named.
+/// The head that names a file, and the position of a byte of its text where one is to be named.
 pub(crate) fn head_of_place(
     alloc: Global,
     name: &str,
     text: &[u8],
     place: Option<u32>,
 ) -> Result<Vec<u8>, AllocError>
-    ensures { IfOk result (λ v. v.items ≡ place_line name.now text.now place) }
+    ensures { IfOk result (λ v. v.items ≡ place_head name.now text.now place) }
 {
     match place {
         None => head_of_file(alloc, name),

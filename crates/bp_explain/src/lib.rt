@@ -2,6 +2,8 @@
 //! there or what is wrong.
 #![tactic(auto)]
 
+mod advice;
+mod around;
 mod call_excerpts;
 mod call_sentences;
 mod candidates;
@@ -9,10 +11,12 @@ mod check_sentences;
 mod counts;
 mod declared;
 mod explanations;
+mod guesses;
 mod head_sentences;
 mod heads;
-mod hints;
+mod last_calls;
 mod line_sentences;
+mod mistakes;
 mod numbers;
 mod offers;
 mod programs;

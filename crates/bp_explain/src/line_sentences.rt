@@ -20,13 +20,13 @@ fn push_no_thread(out: &mut Vec<u8>, thread: u32, threads: usize) -> Result<(), 
     push_number(out, thread as usize)?;
     push_all(out, &[b": the trace has "])?;
     push_count(out, threads, b"thread")?;
-    push_all(out, &[b", counted from 0\n"])
+    push_all(out, &[b", counted from 0"])
 }
 
 fn push_same_thread(out: &mut Vec<u8>, thread: u32) -> Result<(), AllocError> {
     push_all(out, &[b"the line before is of thread "])?;
     push_number(out, thread as usize)?;
-    push_all(out, &[b" too, and has all its successive calls\n"])
+    push_all(out, &[b" too, and has all its successive calls"])
 }
 
 /// Adds what a line after the head of a trace may be.
@@ -38,7 +38,7 @@ fn push_forms(out: &mut Vec<u8>, trace: &[u8]) -> Result<(), AllocError> {
     };
     push_all(
         out,
-        &[b"expected a line as ", calls, b", or 'end CALLS OPEN'\n"],
+        &[b"expected a line as ", calls, b", or 'end CALLS OPEN'"],
     )
 }
 
@@ -52,14 +52,14 @@ fn push_sentence(
     let threads = entry_count(trace);
     let thread = thread_of(Some(line));
     if before.is_some_and(|line| line.words.starts_with(END)) {
-        return push_all(out, &[b"nothing may follow the end line\n"]);
+        return push_all(out, &[b"nothing may follow the end line"]);
     }
     match thread {
         Some(thread) if thread as usize >= threads => push_no_thread(out, thread, threads),
         Some(thread) if is_version_two(trace) && thread_of(before) == Some(thread) => {
             push_same_thread(out, thread)
         }
-        _ if !line.is_ended => push_all(out, &[b"there is no line feed behind this line\n"]),
+        _ if !line.is_ended => push_all(out, &[b"there is no line feed behind this line"]),
         _ => push_forms(out, trace),
     }
 }

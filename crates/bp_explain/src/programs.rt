@@ -5,14 +5,16 @@ ghost use Rattle.bp_explain.specs.Explained.{ExplainsProgram};
 
 use crate::check_sentences::explain_check;
 use crate::read_sentences::explain_read;
+use crate::syntax_sentences::explain_syntax;
 use bp_check::CheckFault;
 use bp_code::ProgramFault;
 use bp_syntax::ReadFault;
 use std::alloc::{AllocError, Global};
 
-/// Explains this fault of a program's text: a line `NAME:LINE:COLUMN`, the line of the text with a
-/// caret below the place, and a sentence. A fault without a place has the line `NAME` and a
-/// sentence. Nothing is said of refused memory. The only error is refused memory.
+/// Explains this fault of a program's text: a line `NAME:LINE:COLUMN: ` and a sentence, and the line
+/// of the text with a caret below the place. A missing semicolon is placed at the end of the
+/// statement before. A fault without a place has the line `NAME: ` and a sentence. Nothing is said
+/// of refused memory. The only error is refused memory.
 pub fn explain_program(
     alloc: Global,
     name: &str,
@@ -24,6 +26,7 @@ pub fn explain_program(
 {
     match fault {
         ProgramFault::Read(ReadFault::Memory) => Ok(Vec::new(alloc)),
+        ProgramFault::Read(ReadFault::Syntax(at)) => explain_syntax(alloc, name, text, *at),
         ProgramFault::Read(fault) => explain_read(alloc, name, text, fault),
         ProgramFault::Check(CheckFault::Memory, _) => Ok(Vec::new(alloc)),
         ProgramFault::Check(fault, at) => explain_check(alloc, name, text, *fault, *at),

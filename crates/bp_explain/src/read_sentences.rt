@@ -4,19 +4,17 @@ ghost use Rattle.bp_syntax.specs.Faults.{read_fault_place};
 ghost use Rattle.bp_explain.specs.Explained.{ExplainsPlace};
 ghost use Rattle.bp_explain.specs.Explanations.{IsPlain};
 
-use crate::explanations::explanation;
-use crate::heads::head_of_place;
+use crate::around::{is_name, tokens_around};
+use crate::explanations::about_place;
 use crate::sentences::{push_all, push_number, push_quoted};
-use crate::syntax_sentences::push_syntax;
 use bp_syntax::ReadFault;
 use bp_syntax::limits::{NESTING_LIMIT, SUCCESSION_LIMIT, TEXT_LIMIT};
-use bp_text::excerpt_of;
 use std::alloc::{AllocError, Global};
 
 fn push_too_long(out: &mut Vec<u8>) -> Result<(), AllocError> {
     push_all(out, &[b"a program has at most "])?;
     push_number(out, TEXT_LIMIT)?;
-    push_all(out, &[b" bytes\n"])
+    push_all(out, &[b" bytes"])
 }
 
 /// What a writer may have meant by a byte that begins no token.
@@ -26,15 +24,33 @@ fn hint(byte: u8) -> &'static [u8] {
         b'/' => b"; a comment begins with '//'",
         b'}' => b"; no name in braces is open",
         b'>' => b"; an implication is written '=>'",
-        b'<' | b'+' | b'-' | b'*' => b"; all variables are bits",
+        b'*' => b"; all variables are bits, and 'and' is written '&'",
+        b'<' | b'+' | b'-' => b"; all variables are bits",
         b'"' | b'\'' => b"; there are no texts in a program",
         _ => b"",
     }
 }
 
-/// Adds that nothing begins with this byte, which is named by its number where a terminal does not
-/// show it.
-fn push_bad_byte(out: &mut Vec<u8>, byte: u8) -> Result<(), AllocError> {
+/// Whether the token before a byte ends an expression, so that the byte may stand for an operator.
+fn ends_expression(token: &[u8]) -> bool {
+    is_name(token) || matches!(token, b"0" | b"1" | b")")
+}
+
+/// Adds what the writer may have meant by this byte at this place of a text.
+fn push_hint(out: &mut Vec<u8>, byte: u8, text: &[u8], at: usize) -> Result<(), AllocError> {
+    if byte == b'*' && !ends_expression(tokens_around(text, at).before) {
+        return push_all(
+            out,
+            &[b"; a choice is written '?', alone in a condition, as in 'if (?)'"],
+        );
+    }
+    push_all(out, &[hint(byte)])
+}
+
+/// Adds that nothing begins with the byte at this place of a text. It is named by its number where
+/// a terminal does not show it.
+fn push_bad_byte(out: &mut Vec<u8>, text: &[u8], at: usize) -> Result<(), AllocError> {
+    let byte = text.get(at).copied().unwrap_or(0);
     push_all(out, &[b"nothing in a program begins with "])?;
     if matches!(byte, b'!'..=b'~') {
         push_quoted(out, &[byte])?;
@@ -42,7 +58,7 @@ fn push_bad_byte(out: &mut Vec<u8>, byte: u8) -> Result<(), AllocError> {
         push_all(out, &[b"the byte "])?;
         push_number(out, usize::from(byte))?;
     }
-    push_all(out, &[hint(byte), b"\n"])
+    push_hint(out, byte, text, at)
 }
 
 fn push_open_name(out: &mut Vec<u8>) -> Result<(), AllocError> {
@@ -50,7 +66,7 @@ fn push_open_name(out: &mut Vec<u8>) -> Result<(), AllocError> {
         out,
         &[
             b"this name is not closed: a name in braces has printable ASCII characters alone, \
-            and ends with '}'\n",
+            and ends with '}'",
         ],
     )
 }
@@ -58,7 +74,7 @@ fn push_open_name(out: &mut Vec<u8>) -> Result<(), AllocError> {
 fn push_too_nested(out: &mut Vec<u8>) -> Result<(), AllocError> {
     push_all(out, &[b"'if' and 'while' nest at most "])?;
     push_number(out, NESTING_LIMIT)?;
-    push_all(out, &[b" deep\n"])
+    push_all(out, &[b" deep"])
 }
 
 fn push_too_many(out: &mut Vec<u8>) -> Result<(), AllocError> {
@@ -68,33 +84,24 @@ fn push_too_many(out: &mut Vec<u8>) -> Result<(), AllocError> {
         out,
         &[
             b" tokens follow one another without one of \
-            ';', 'then', 'do', 'else', 'fi', 'od', 'begin' or 'end'\n",
+            ';', 'then', 'do', 'else', 'fi', 'od', 'begin' or 'end'",
         ],
     )
 }
 
-/// Adds the sentence on a fault at this place of the text.
-fn push_sentence(
-    alloc: Global,
-    out: &mut Vec<u8>,
-    text: &[u8],
-    fault: &ReadFault,
-) -> Result<(), AllocError> {
+/// Adds the sentence on a fault that is not a token out of place.
+fn push_sentence(out: &mut Vec<u8>, text: &[u8], fault: &ReadFault) -> Result<(), AllocError> {
     match fault {
         ReadFault::TooLong => push_too_long(out),
-        ReadFault::BadByte(at) => {
-            let byte = text.get(*at as usize).copied().unwrap_or(0);
-            push_bad_byte(out, byte)
-        }
+        ReadFault::BadByte(at) => push_bad_byte(out, text, *at as usize),
         ReadFault::OpenName(_) => push_open_name(out),
         ReadFault::TooNested(_) => push_too_nested(out),
         ReadFault::TooManyTokens(_) => push_too_many(out),
-        ReadFault::Syntax(at) => push_syntax(alloc, out, text, *at as usize),
-        ReadFault::Memory => Ok(()),
+        ReadFault::Syntax(_) | ReadFault::Memory => Ok(()),
     }
 }
 
-/// Explains why a text is not that of a tree.
+/// Explains why a text is not that of a tree, where no token is out of place.
 pub(crate) fn explain_read(
     alloc: Global,
     name: &str,
@@ -105,15 +112,7 @@ pub(crate) fn explain_read(
         ExplainsPlace name.now text.now (read_fault_place fault.now) v.items) }
     ensures plain { IfOk result (λ v. IsPlain v.items) }
 {
-    let place = fault.place();
-    let head = head_of_place(alloc, name, text, place)?;
-    let excerpt = excerpt_of(alloc, text, place)?;
     let mut sentence = Vec::new(alloc);
-    push_sentence(alloc, &mut sentence, text, fault)?;
-    explanation(
-        alloc,
-        head.as_slice(),
-        excerpt.as_slice(),
-        sentence.as_slice(),
-    )
+    push_sentence(&mut sentence, text, fault)?;
+    about_place(alloc, name, text, fault.place(), sentence.as_slice())
 }

@@ -4,8 +4,10 @@ ghost use Rattle.bp_explain.specs.Explained.{ExplainsLine, ExplainsSchedule};
 ghost use Rattle.bp_explain.specs.Explanations.{IsPlain};
 
 use crate::explanations::{about_line, explain_too_long};
+use crate::last_calls::{last_call, push_last_call};
 use crate::numbers::number_at_front;
 use crate::sentences::{push_all, push_number};
+use bp_machine::Start;
 use bp_text::{Line, line_of};
 use bp_trace::DriveFault;
 use bp_trace::limits::MAX_SCHEDULE;
@@ -18,66 +20,75 @@ fn push_line_sentence(out: &mut Vec<u8>, line: Line<'_>) -> Result<(), AllocErro
         Some((thread, b"0" | b"1")) if line.is_ended => {
             push_all(out, &[b"there is no thread "])?;
             push_number(out, thread as usize)?;
-            push_all(
-                out,
-                &[b": the first thread is 0, and each entry makes one\n"],
-            )
+            push_all(out, &[b": the first thread is 0, and each entry makes one"])
         }
-        Some((_, b"0" | b"1")) => push_all(out, &[b"there is no line feed behind this line\n"]),
+        Some((_, b"0" | b"1")) => push_all(out, &[b"there is no line feed behind this line"]),
         _ => push_all(
             out,
-            &[b"expected a line as '0 1', a thread, one space and a choice bit\n"],
+            &[b"expected a line as '0 1', a thread, one space and a choice bit"],
         ),
     }
 }
 
-/// Adds that the thread of this line has made its last call.
-fn push_finished(out: &mut Vec<u8>, line: Line<'_>) -> Result<(), AllocError> {
-    let Some((thread, _)) = number_at_front(line.words) else {
-        return Ok(());
-    };
-    push_all(out, &[b"thread "])?;
-    push_number(out, thread as usize)?;
-    push_all(out, &[b" has made its last call before\n"])
-}
-
-/// Adds what is wrong with this line of a schedule.
-fn push_sentence(
+/// Adds that the thread of the line of this number has made its last call before: by which call and
+/// why, where that is known.
+fn push_finished(
     out: &mut Vec<u8>,
+    program: &[u8],
+    start: &Start,
     schedule: &[u8],
-    fault: &DriveFault,
-    number: u32,
+    number: usize,
 ) -> Result<(), AllocError> {
-    let Some(line) = line_of(schedule, number as usize) else {
-        return Ok(());
-    };
-    match fault {
-        DriveFault::AfterFinish(_) => push_finished(out, line),
-        _ => push_line_sentence(out, line),
+    match last_call(*out.allocator(), program, start, schedule, number)? {
+        Some(last) => push_last_call(out, start, last),
+        None => push_all(out, &[b"the thread has made its last call before"]),
     }
 }
 
-/// Explains what is wrong with this line of a schedule.
+/// Explains that this line is none of a schedule.
 fn explain_line(
     alloc: Global,
     name: &str,
     schedule: &[u8],
-    fault: &DriveFault,
     number: u32,
 ) -> Result<Vec<u8>, AllocError>
     ensures is { IfOk result (λ v. ExplainsLine name.now schedule.now number v.items) }
     ensures plain { IfOk result (λ v. IsPlain v.items) }
 {
     let mut sentence = Vec::new(alloc);
-    push_sentence(&mut sentence, schedule, fault, number)?;
+    if let Some(line) = line_of(schedule, number as usize) {
+        push_line_sentence(&mut sentence, line)?;
+    }
     about_line(alloc, name, schedule, number as usize, sentence.as_slice())
 }
 
-/// Explains this fault of a schedule: a line `NAME:LINE`, that line of the schedule, and a
-/// sentence. A schedule that is too long has the line `NAME` and a sentence. Nothing is said of
-/// refused memory and of an output that failed. The only error is refused memory.
+/// Explains that the thread of this line of a schedule has made its last call before.
+fn explain_finished(
+    alloc: Global,
+    program: &[u8],
+    start: &Start,
+    name: &str,
+    schedule: &[u8],
+    number: u32,
+) -> Result<Vec<u8>, AllocError>
+    ensures is { IfOk result (λ v. ExplainsLine name.now schedule.now number v.items) }
+    ensures plain { IfOk result (λ v. IsPlain v.items) }
+{
+    let number = number as usize;
+    let mut sentence = Vec::new(alloc);
+    push_finished(&mut sentence, program, start, schedule, number)?;
+    about_line(alloc, name, schedule, number, sentence.as_slice())
+}
+
+/// Explains this fault of a schedule of the program of a text, which runs from this start: a line
+/// `NAME:LINE: ` and a sentence, and that line of the schedule. For a thread that has made its last
+/// call the schedule is played up to that line. A schedule that is too long has the line `NAME: `
+/// and a sentence. Nothing is said of refused memory and of an output that failed. The only error
+/// is refused memory.
 pub fn explain_schedule(
     alloc: Global,
+    program: &[u8],
+    start: &Start,
     name: &str,
     schedule: &[u8],
     fault: &DriveFault,
@@ -87,8 +98,9 @@ pub fn explain_schedule(
 {
     match fault {
         DriveFault::TooLong => explain_too_long(alloc, name, b"schedule", MAX_SCHEDULE),
-        DriveFault::Line(number) | DriveFault::AfterFinish(number) => {
-            explain_line(alloc, name, schedule, fault, *number)
+        DriveFault::Line(number) => explain_line(alloc, name, schedule, *number),
+        DriveFault::AfterFinish(number) => {
+            explain_finished(alloc, program, start, name, schedule, *number)
         }
         DriveFault::Memory | DriveFault::Write => Ok(Vec::new(alloc)),
     }

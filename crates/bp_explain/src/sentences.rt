@@ -34,13 +34,19 @@ pub(crate) fn push_count(out: &mut Vec<u8>, count: usize, noun: &[u8]) -> Result
     Ok(())
 }
 
-/// Adds a name, or its front and dots where it is long, in quotes.
-pub(crate) fn push_quoted(out: &mut Vec<u8>, name: &[u8]) -> Result<(), AllocError> {
-    out.push(b'\'')?;
+/// Adds a name, or its front and dots where it is long.
+pub(crate) fn push_name(out: &mut Vec<u8>, name: &[u8]) -> Result<(), AllocError> {
     out.extend_from_slice(part_before(name, MAX_NAME))?;
     if name.len() > MAX_NAME {
         out.extend_from_slice(CUT)?;
     }
+    Ok(())
+}
+
+/// Adds a name in quotes.
+pub(crate) fn push_quoted(out: &mut Vec<u8>, name: &[u8]) -> Result<(), AllocError> {
+    out.push(b'\'')?;
+    push_name(out, name)?;
     out.push(b'\'')?;
     Ok(())
 }

@@ -2,6 +2,7 @@
 ghost use Rattle.bp_explain.specs.Explained.{IsSetupLine};
 
 use crate::declared::first_procedure;
+use crate::guesses::push_near_entry;
 use crate::sentences::{push_all, push_count, push_number, push_quoted};
 use crate::trace_heads::{FIRST_ENTRY, entry_count, entry_of, init_line};
 use bp_machine::SetupFault;
@@ -48,6 +49,12 @@ pub(crate) fn line_of_setup(trace: &[u8], fault: SetupFault) -> usize
     }
 }
 
+fn push_unknown_entry(out: &mut Vec<u8>, tree: &Tree, entry: &[u8]) -> Result<(), AllocError> {
+    push_all(out, &[b"there is no procedure "])?;
+    push_quoted(out, entry)?;
+    push_near_entry(out, tree, entry)
+}
+
 fn push_formals(out: &mut Vec<u8>, tree: &Tree, entry: &[u8]) -> Result<(), AllocError> {
     let formals = match first_procedure(tree, entry) {
         Some(proc) => proc.formals().len(),
@@ -77,8 +84,8 @@ fn push_range(out: &mut Vec<u8>, trace: &[u8]) -> Result<(), AllocError> {
     }
 }
 
-/// Adds what is wrong with the setup.
-fn push_sentence(
+/// Adds what is wrong with the head of a trace, which says no setup of the program of this tree.
+pub(crate) fn push_setup(
     out: &mut Vec<u8>,
     tree: &Tree,
     trace: &[u8],
@@ -91,8 +98,7 @@ fn push_sentence(
             push_all(out, &[b" threads, each with a line 'entry NAME'"])
         }
         SetupFault::UnknownEntry(thread) => {
-            push_all(out, &[b"there is no procedure "])?;
-            push_quoted(out, entry_of(trace, thread as usize))
+            push_unknown_entry(out, tree, entry_of(trace, thread as usize))
         }
         SetupFault::EntryHasFormals(thread) => {
             push_formals(out, tree, entry_of(trace, thread as usize))
@@ -101,15 +107,4 @@ fn push_sentence(
         SetupFault::OutOfRange => push_range(out, trace),
         SetupFault::Memory => Ok(()),
     }
-}
-
-/// Adds what is wrong with the head of a trace, which says no setup of the program of this tree.
-pub(crate) fn push_setup(
-    out: &mut Vec<u8>,
-    tree: &Tree,
-    trace: &[u8],
-    fault: SetupFault,
-) -> Result<(), AllocError> {
-    push_sentence(out, tree, trace, fault)?;
-    push_all(out, &[b"\n"])
 }

@@ -1,10 +1,16 @@
-//! The sentence on a token that cannot come there in a program.
+//! The explanation of a token that cannot come there in a program.
+ghost use Rattle.std.specs.Prelude.{◌≡◌, ◌⊎◌, IfOk, IfSome};
+ghost use Rattle.bp_explain.specs.Explained.{ExplainsSyntax, MissesSemicolon};
+ghost use Rattle.bp_explain.specs.Explanations.{IsPlain};
 
-use crate::hints::token_hint;
+use crate::advice::push_advice;
+use crate::around::{Around, is_gap, size_to_last_token, tokens_around};
+use crate::candidates::may_follow;
+use crate::explanations::about_place;
+use crate::mistakes::{misses_semicolon, mistake_at};
 use crate::offers::{Offer, offers_behind, push_offers};
 use crate::sentences::{push_all, push_quoted};
-use crate::tokens_at::token_at;
-use bp_text::part_before;
+use bp_text::{part_before, part_from};
 use std::alloc::{AllocError, Global};
 
 /// Adds what was expected. A text that is nearly too long has no room for a token, and then there
@@ -17,22 +23,71 @@ fn push_expected(out: &mut Vec<u8>, offers: &[Offer]) -> Result<(), AllocError> 
     push_offers(out, offers)
 }
 
-/// Adds what was expected at this place of a text, and what stands there instead.
-pub(crate) fn push_syntax(
-    alloc: Global,
+/// Adds what was expected at a place of a text, what stands there instead, and what to write.
+fn push_misplaced(
     out: &mut Vec<u8>,
-    text: &[u8],
-    at: usize,
+    offers: &[Offer],
+    around: &Around<'_>,
 ) -> Result<(), AllocError> {
-    let offers = offers_behind(alloc, part_before(text, at))?;
-    let found = token_at(text, at);
-    if found.is_empty() {
+    if around.found.is_empty() {
         push_all(out, &[b"the text ends here; "])?;
-        push_expected(out, offers.as_slice())?;
-        return push_all(out, &[b"\n"]);
+        return push_expected(out, offers);
     }
-    push_expected(out, offers.as_slice())?;
+    push_expected(out, offers)?;
     push_all(out, &[b", not "])?;
-    push_quoted(out, found)?;
-    push_all(out, &[token_hint(offers.as_slice(), found), b"\n"])
+    push_quoted(out, around.found)?;
+    let Some(mistake) = mistake_at(offers, around) else {
+        return Ok(());
+    };
+    push_all(out, &[b"; "])?;
+    push_advice(out, mistake, around)
+}
+
+/// Adds that a semicolon is missing before what stands behind it.
+fn push_missing(out: &mut Vec<u8>, around: &Around<'_>) -> Result<(), AllocError> {
+    push_all(out, &[b"expected ';' here, before "])?;
+    push_quoted(out, around.found)
+}
+
+/// The end of the token before this place, where a semicolon is missing there.
+fn semicolon_place(
+    alloc: Global,
+    text: &[u8],
+    at: u32,
+    offers: &[Offer],
+    around: &Around<'_>,
+) -> Result<Option<u32>, AllocError>
+    ensures { IfOk result (λ o. IfSome o (λ place. MissesSemicolon text.now at place)) }
+{
+    if !misses_semicolon(offers, around) {
+        return Ok(None);
+    }
+    let front = part_before(text, at as usize);
+    let end = size_to_last_token(front);
+    if !is_gap(part_from(front, end)) || !may_follow(alloc, part_before(text, end), ";")? {
+        return Ok(None);
+    }
+    Ok(Some(end as u32))
+}
+
+/// Explains a token that cannot come at this place of a text. A missing semicolon is explained at
+/// the end of the statement before.
+pub(crate) fn explain_syntax(
+    alloc: Global,
+    name: &str,
+    text: &[u8],
+    at: u32,
+) -> Result<Vec<u8>, AllocError>
+    ensures is { IfOk result (λ v. ExplainsSyntax name.now text.now at v.items) }
+    ensures plain { IfOk result (λ v. IsPlain v.items) }
+{
+    let offers = offers_behind(alloc, part_before(text, at as usize))?;
+    let around = tokens_around(text, at as usize);
+    let mut sentence = Vec::new(alloc);
+    if let Some(place) = semicolon_place(alloc, text, at, offers.as_slice(), &around)? {
+        push_missing(&mut sentence, &around)?;
+        return about_place(alloc, name, text, Some(place), sentence.as_slice());
+    }
+    push_misplaced(&mut sentence, offers.as_slice(), &around)?;
+    about_place(alloc, name, text, Some(at), sentence.as_slice())
 }

@@ -111,9 +111,9 @@ fn explain_call(
     )
 }
 
-/// Explains this fault of a trace of the program of a text: a line `NAME:LINE`, that line of the
-/// trace, with a caret below the place in a call that is not the machine's own, and a sentence. A
-/// trace that is too long has the line `NAME` and a sentence. Nothing is said of refused memory.
+/// Explains this fault of a trace of the program of a text: a line `NAME:LINE: ` and a sentence, and
+/// that line of the trace, with a caret below the place in a call that is not the machine's own. A
+/// trace that is too long has the line `NAME: ` and a sentence. Nothing is said of refused memory.
 /// The only error is refused memory.
 pub fn explain_trace(
     alloc: Global,

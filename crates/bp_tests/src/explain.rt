@@ -1,4 +1,6 @@
 //! Tests of the explanations: the expected texts are by hand.
+mod finished;
+mod mistakes;
 mod programs;
 mod schedules;
 mod traces;

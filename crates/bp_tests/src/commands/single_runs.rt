@@ -44,8 +44,9 @@ fn ends_checks(rt: HostRuntime) -> io::Result<()> {
 #[test]
 fn explains_where_it_is_asked_for(rt: HostRuntime) -> io::Result<()> {
     let explained = refusal(
-        b"btrun: 6 Syntax at 13\np:1:14\n    main() begin end\n                 ^\n\
-        expected a statement or 'decl', not 'end'\n",
+        b"btrun: 6 Syntax at 13\n\
+        p:1:14: expected a statement or 'decl', not 'end'; write 'skip;' where there is \
+        nothing to do\n    main() begin end\n                 ^\n",
     );
     assert!(rt; check_ends(rt.alloc(), BAD, "p", true, explained)?);
     let unread = End {

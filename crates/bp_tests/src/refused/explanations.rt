@@ -3,7 +3,7 @@ use super::{tell, wants};
 use bp_check::CheckFault;
 use bp_code::ProgramFault;
 use bp_explain::{explain_program, explain_schedule, explain_trace};
-use bp_machine::{Call, Reply};
+use bp_machine::{Call, Reply, Start};
 use bp_syntax::ReadFault;
 use bp_trace::{DriveFault, Due, ReplayFault};
 use std::alloc::{AllocError, Global};
@@ -32,14 +32,21 @@ const REPLY: ReplayFault = ReplayFault::Reply(
 );
 
 /// What explains that no statement begins where an expression is due, that a procedure is not
-/// there, that a call has another reply, and that a line is none of a schedule.
+/// there, that a call has another reply, and why a thread makes no further call.
 const WANTED: [&[u8]; 4] = [
-    b"f:1:22\n    decl x; main() begin := 1; end\n                         ^\n\
-    expected a statement or 'decl', not ':='\n",
-    b"f:1:14\n    main() begin f(); end\n                 ^\nthere is no procedure 'f'\n",
-    b"f:8\n    0 0 b\n        ^\nexpected '0 0 s': the thread makes a step\n",
-    b"f:1\n    0 2\nexpected a line as '0 1', a thread, one space and a choice bit\n",
+    b"f:1:22: expected a statement or 'decl', not ':='\n    decl x; main() begin := 1; end\n\
+    \x20                        ^\n",
+    b"f:1:14: there is no procedure 'f'\n    main() begin f(); end\n                 ^\n",
+    b"f:8: expected '0 0 s': the thread makes a step\n    0 0 b\n        ^\n",
+    b"f:4: thread 0 had ended at line 3: its procedure 'main' is finished\n    0 0\n",
 ];
+
+/// The explanation of a line of a schedule behind the last call of its thread.
+fn of_schedule(alloc: Global) -> Result<Vec<u8>, AllocError> {
+    let start = Start::defaults(alloc)?;
+    let (lines, fault) = (b"0 0\n0 0\n0 0\n0 0\n", DriveFault::AfterFinish(4));
+    explain_schedule(alloc, PROGRAM, &start, "f", lines, &fault)
+}
 
 /// The explanation of this number.
 fn explanation(alloc: Global, number: usize) -> Result<Result<Vec<u8>, AllocError>, Fail> {
@@ -47,7 +54,7 @@ fn explanation(alloc: Global, number: usize) -> Result<Result<Vec<u8>, AllocErro
         0 => explain_program(alloc, "f", b"decl x; main() begin := 1; end", &TOKEN),
         1 => explain_program(alloc, "f", b"main() begin f(); end", &NAME),
         2 => explain_trace(alloc, PROGRAM, "f", TRACE, &REPLY),
-        _ => explain_schedule(alloc, "f", b"0 2\n", &DriveFault::Line(1)),
+        _ => of_schedule(alloc),
     };
     Ok(explained)
 }

@@ -1,12 +1,27 @@
-use Rattle.std.proofs.Common.{◌≡◌, ◌++◌, map, rules}
+use Rattle.std.proofs.Common.{◌≡◌, ◌∙◌, ◌++◌, ◌∷◌, [], map, ap, append_assoc, rules}
 use Rattle.bp_explain.specs.Explanations.{shown}
-use Rattle.bp_explain.proofs.PlainTexts.{plain_parts, plain_more}
+use Rattle.bp_explain.proofs.PlainTexts.{plain_all}
+use Rattle.bp_text.proofs.FirstLines.{first_on_one_line}
 use Rattle.bp_explain.proofs.explanations.explanation.Goals as goal
 
 pub returns-clause-is : goal.returns-clause-is
-returns-clause-is c = record { sentence = c.args.sentence.now; is = search rules }
+returns-clause-is c =
+    let head = c.args.head.now in
+    let line = c.first_line.result.now in
+    let excerpt = c.args.excerpt.now in
+    let lines : c.as_slice.result.now ≡ head ++ line ++ 10 ∷ excerpt =
+    c.as_slice.ensures.value
+    ∙ c.in_ok-extend_from_slice-3.ensures.items
+    ∙ ap (λ x. x ++ excerpt) (c.in_ok-push.ensures.items ∙ ap (λ x. x ++ 10 ∷ []) (c.in_ok-extend_from_slice-2.ensures.items ∙ ap (λ x. x ++ line) (c.in_ok-extend_from_slice.ensures.items ∙ ap (λ x. x ++ head) c.new-lines.ensures.items)))
+    ∙ append_assoc (head ++ line) (10 ∷ []) excerpt in
+    let out : c.push_shown.new.out.items ≡ map shown c.as_slice.result.now = search rules in
+    record {
+      sentence = line;
+      one_line = rw c.first_line.ensures (first_on_one_line c.args.sentence.now);
+      is = out ∙ ap (λ bytes. map shown bytes) lines;
+    }
 
 pub returns-clause-plain : goal.returns-clause-plain
 returns-clause-plain c =
-    let e : c.push_shown-2.new.out.items ≡ map shown c.args.head.now ++ map shown c.args.excerpt.now = search rules in
-    plain_more _ c.push_shown-3.new.out.items c.args.sentence.now (search rules) (plain_parts _ _ _ e)
+    let out : c.push_shown.new.out.items ≡ map shown c.as_slice.result.now = search rules in
+    rw out (plain_all c.as_slice.result.now)

@@ -1,0 +1,82 @@
+//! What to write in place of a mistake.
+
+use crate::around::Around;
+use crate::mistakes::Mistake;
+use crate::sentences::{push_all, push_name};
+use std::alloc::AllocError;
+
+/// What to write, where that does not depend on the names around.
+fn advice(mistake: Mistake) -> &'static [u8] {
+    match mistake {
+        Mistake::EqualForBecomes => b"an assignment is written ':='",
+        Mistake::DoubledEqual => b"equality is written '='",
+        Mistake::DoubledBar => b"'or' is written '|'",
+        Mistake::DoubledAmpersand => b"'and' is written '&'",
+        Mistake::ReservedName => b"that is a reserved word",
+        Mistake::LateGlobal => b"globals are declared before the first procedure",
+        Mistake::LateLocal => b"locals are declared behind 'begin', before the first statement",
+        Mistake::NoElse => b"each 'if' has an 'else': write 'else skip; fi'",
+        Mistake::EmptyBody => b"write 'skip;' where there is nothing to do",
+        Mistake::ReturnedValue => b"'return' has no value: assign it to a global, then 'return;'",
+        Mistake::StraySemicolon => b"leave out this ';'",
+        _ => b"",
+    }
+}
+
+/// Adds words, a name and more words.
+fn push_with_name(
+    out: &mut Vec<u8>,
+    before: &[u8],
+    name: &[u8],
+    behind: &[u8],
+) -> Result<(), AllocError> {
+    push_all(out, &[before])?;
+    push_name(out, name)?;
+    push_all(out, &[behind])
+}
+
+/// Adds how a choice becomes a value.
+fn push_choice(out: &mut Vec<u8>, around: &Around<'_>) -> Result<(), AllocError> {
+    push_all(out, &[b"a choice stands alone in a condition"])?;
+    let Some(target) = around.target() else {
+        return push_all(out, &[b", as in 'if (?)'"]);
+    };
+    push_with_name(out, b": write 'if (?) then ", target, b" := 1; else ")?;
+    push_with_name(out, b"", target, b" := 0; fi'")
+}
+
+/// Adds how a call gives a value.
+fn push_call(out: &mut Vec<u8>, around: &Around<'_>) -> Result<(), AllocError> {
+    let name = around.before;
+    push_with_name(
+        out,
+        b"a call has no value: let '",
+        name,
+        b"' assign a global",
+    )?;
+    push_with_name(out, b", and write '", name, b"(..);' before this statement")
+}
+
+/// Adds what to write in place of a mistake at a place with these tokens around it.
+pub(crate) fn push_advice(
+    out: &mut Vec<u8>,
+    mistake: Mistake,
+    around: &Around<'_>,
+) -> Result<(), AllocError> {
+    let found = around.found;
+    match mistake {
+        Mistake::ChoiceAsValue => push_choice(out, around),
+        Mistake::CallAsValue => push_call(out, around),
+        Mistake::TypedVariable => {
+            push_with_name(out, b"a variable is declared by 'decl ", found, b";'")
+        }
+        Mistake::TypedProcedure => {
+            let begins = b"a procedure begins with its name: write '".as_slice();
+            push_with_name(out, begins, found, b"(..) begin .. end'")
+        }
+        Mistake::TypedFormal => {
+            push_with_name(out, b"a formal is a name alone: write '", found, b"'")
+        }
+        _ => push_all(out, &[advice(mistake)]),
+    }
+}

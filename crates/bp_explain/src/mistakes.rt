@@ -1,0 +1,190 @@
+//! Mistakes of writers who know other languages: which one a token out of place is.
+
+use crate::around::{Around, is_name};
+use crate::offers::Offer;
+use bp_syntax::{TokenKind, is_reserved, spelling_of};
+
+/// A mistake, named for what its writer takes the language to have.
+#[derive(Clone, Copy, Debug, PartialEq, Eq)]
+pub(crate) enum Mistake {
+    /// `=` for `:=`.
+    EqualForBecomes,
+    /// `==`, `||` or `&&`.
+    DoubledEqual,
+    DoubledBar,
+    DoubledAmpersand,
+    /// A reserved word as a name.
+    ReservedName,
+    /// `?` as a value.
+    ChoiceAsValue,
+    /// A call as a value.
+    CallAsValue,
+    /// A type before a variable, a procedure or a formal.
+    TypedVariable,
+    TypedProcedure,
+    TypedFormal,
+    /// `decl` behind a procedure, or behind a statement.
+    LateGlobal,
+    LateLocal,
+    /// `if` without `else`.
+    NoElse,
+    /// No statement.
+    EmptyBody,
+    /// A value behind `return`.
+    ReturnedValue,
+    /// `;` behind a word that needs none.
+    StraySemicolon,
+}
+
+fn has_expression(offers: &[Offer]) -> bool {
+    offers
+        .iter()
+        .any(|offer| matches!(offer, Offer::Expression))
+}
+
+fn has_statement(offers: &[Offer]) -> bool {
+    offers.iter().any(|offer| matches!(offer, Offer::Statement))
+}
+
+fn has_operator(offers: &[Offer]) -> bool {
+    offers.iter().any(|offer| matches!(offer, Offer::Operator))
+}
+
+/// Whether the text may end.
+fn has_end(offers: &[Offer]) -> bool {
+    offers.iter().any(|offer| matches!(offer, Offer::End))
+}
+
+/// Whether the token of this kind is among the offers.
+fn has_token(offers: &[Offer], kind: TokenKind) -> bool {
+    offers.iter().any(|offer| match offer {
+        Offer::Token(other) => *other == kind,
+        _ => false,
+    })
+}
+
+/// Whether a name is among the offers, and no reserved word.
+fn is_name_due(offers: &[Offer]) -> bool {
+    let has_name = offers.iter().any(|offer| matches!(offer, Offer::Name));
+    has_name
+        && !offers.iter().any(|offer| match offer {
+            Offer::Token(kind) => is_reserved(spelling_of(*kind).as_bytes()),
+            _ => false,
+        })
+}
+
+/// Whether only statements are among the offers, and no word that ends a body.
+fn is_statement_due(offers: &[Offer]) -> bool {
+    has_statement(offers)
+        && !has_token(offers, TokenKind::End)
+        && !has_token(offers, TokenKind::Else)
+        && !has_token(offers, TokenKind::Fi)
+        && !has_token(offers, TokenKind::Od)
+}
+
+/// Whether a body ends with the word.
+fn ends_body(token: &[u8]) -> bool {
+    matches!(token, b"end" | b"else" | b"fi" | b"od")
+}
+
+/// Whether another language begins a declaration with the word.
+fn is_type(token: &[u8]) -> bool {
+    matches!(
+        token,
+        b"bool" | b"boolean" | b"int" | b"bit" | b"var" | b"let" | b"void" | b"proc" | b"procedure"
+    )
+}
+
+/// The mistake in a declaration.
+fn declaration_mistake(offers: &[Offer], around: &Around<'_>) -> Option<Mistake> {
+    if around.found == b"decl".as_slice() && has_end(offers) {
+        Some(Mistake::LateGlobal)
+    } else if around.found == b"decl".as_slice() && has_statement(offers) {
+        Some(Mistake::LateLocal)
+    } else if !is_type(around.before) || !is_name(around.found) {
+        None
+    } else if has_token(offers, TokenKind::Close) {
+        Some(Mistake::TypedFormal)
+    } else if around.next == b"(".as_slice() {
+        Some(Mistake::TypedProcedure)
+    } else {
+        Some(Mistake::TypedVariable)
+    }
+}
+
+/// The mistake in how statements stand.
+fn statement_mistake(offers: &[Offer], around: &Around<'_>) -> Option<Mistake> {
+    if ends_body(around.found) && has_token(offers, TokenKind::Else) {
+        Some(Mistake::NoElse)
+    } else if ends_body(around.found) && is_statement_due(offers) {
+        Some(Mistake::EmptyBody)
+    } else if around.before == b"return".as_slice() && has_token(offers, TokenKind::Semicolon) {
+        Some(Mistake::ReturnedValue)
+    } else if around.found == b";".as_slice() && has_statement(offers) {
+        Some(Mistake::StraySemicolon)
+    } else {
+        None
+    }
+}
+
+/// The mistake in what stands in place of an expression: the token may be the second byte of
+/// another language's operator.
+fn operator_mistake(found: &[u8]) -> Option<Mistake> {
+    match found {
+        b"=" => Some(Mistake::DoubledEqual),
+        b"|" => Some(Mistake::DoubledBar),
+        b"&" => Some(Mistake::DoubledAmpersand),
+        b"?" => Some(Mistake::ChoiceAsValue),
+        _ => None,
+    }
+}
+
+/// The mistake in a value.
+fn value_mistake(offers: &[Offer], around: &Around<'_>) -> Option<Mistake> {
+    if around.found == b"=".as_slice() && has_token(offers, TokenKind::Becomes) {
+        Some(Mistake::EqualForBecomes)
+    } else if is_name_due(offers) && is_reserved(around.found) {
+        Some(Mistake::ReservedName)
+    } else if has_expression(offers) {
+        operator_mistake(around.found)
+    } else if around.found == b"(".as_slice() && has_operator(offers) && is_name(around.before) {
+        Some(Mistake::CallAsValue)
+    } else {
+        None
+    }
+}
+
+/// The mistake that the token at a place is, where the offers could stand there.
+pub(crate) fn mistake_at(offers: &[Offer], around: &Around<'_>) -> Option<Mistake> {
+    declaration_mistake(offers, around)
+        .or(statement_mistake(offers, around))
+        .or(value_mistake(offers, around))
+}
+
+/// Whether the token at the place begins what stands behind a statement or a declaration. A name
+/// may go on with an expression instead: on the same line it is judged by the token behind it.
+fn begins_next(around: &Around<'_>) -> bool {
+    let is_returned = around.before == b"return".as_slice() && !around.is_on_new_line;
+    match around.found {
+        b"skip"
+        | b"goto"
+        | b"return"
+        | b"if"
+        | b"while"
+        | b"assert"
+        | b"assume"
+        | b"print"
+        | b"end"
+        | b"else"
+        | b"fi"
+        | b"od"
+        | b"decl" => true,
+        found if !is_name(found) || is_returned => false,
+        _ => around.is_on_new_line || matches!(around.next, b":=" | b"(" | b":" | b","),
+    }
+}
+
+/// Whether a semicolon is missing before the token at a place, where the offers could stand there.
+pub(crate) fn misses_semicolon(offers: &[Offer], around: &Around<'_>) -> bool {
+    has_token(offers, TokenKind::Semicolon) && begins_next(around)
+}
