@@ -11,8 +11,8 @@ use bp_code::ProgramFault;
 use bp_syntax::ReadFault;
 use std::alloc::{AllocError, Global};
 
-/// Explains this fault of a program's text: a line `NAME:LINE:COLUMN: ` and a sentence, and the line
-/// of the text with a caret below the place. A missing semicolon is placed at the end of the
+/// Explains this fault of a program's text: a line `NAME:LINE:COLUMN: ` and a sentence, and the
+/// line of the text with a caret below the place. A missing semicolon is placed at the end of the
 /// statement before. A fault without a place has the line `NAME: ` and a sentence. Nothing is said
 /// of refused memory. The only error is refused memory.
 pub fn explain_program(

@@ -111,10 +111,10 @@ fn explain_call(
     )
 }
 
-/// Explains this fault of a trace of the program of a text: a line `NAME:LINE: ` and a sentence, and
-/// that line of the trace, with a caret below the place in a call that is not the machine's own. A
-/// trace that is too long has the line `NAME: ` and a sentence. Nothing is said of refused memory.
-/// The only error is refused memory.
+/// Explains this fault of a trace of the program of a text: a line `NAME:LINE: ` and a sentence,
+/// and that line of the trace, with a caret below the place in a call that is not the machine's
+/// own. A trace that is too long has the line `NAME: ` and a sentence. Nothing is said of refused
+/// memory. The only error is refused memory.
 pub fn explain_trace(
     alloc: Global,
     program: &[u8],
