@@ -3,7 +3,9 @@
 #
 # Usage: many-seeds.sh FIRST LAST TRACE FILE [WORD]..
 #
-# The words behind FILE go to `btrun run` as they are: the entries, and options but --seed.
+# `btrun test` makes many more runs in the same time. This script is for runs by real threads: they
+# meet as the machine's scheduler has it. The words after FILE go to `btrun run` as they are: the
+# entries, and options but --seed.
 set -eu
 first=$1 last=$2 trace=$3
 shift 3
