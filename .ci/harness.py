@@ -35,7 +35,7 @@ def section(text, heading):
 
 def options(text):
     """The long options that a help text lists."""
-    return {name for line in section(text, "Options") for name in re.findall(r"^ +(?:-\w, )?--(\w+)", line)}
+    return {name for line in section(text, "Options") for name in re.findall(r"^ +(?:-\w, )?--([\w-]+)", line)}
 
 
 def helps(program):

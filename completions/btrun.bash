@@ -3,7 +3,7 @@
 
 # The options of a command.
 _btrun_options() {
-    local common="--explain --help" start="--contexts --calls --init"
+    local common="--explain --no-explain --help" start="--contexts --calls --init"
     case $1 in
         check | code | replay | migrate | shrink) echo "$common" ;;
         drive) echo "$common $start" ;;

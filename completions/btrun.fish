@@ -13,6 +13,7 @@ complete -c btrun -n __fish_use_subcommand -f -a help -d 'Print help'
 
 set -l all check code drive run test replay show migrate shrink
 complete -c btrun -n "__fish_seen_subcommand_from $all" -l explain -d 'Explain a fault on further lines'
+complete -c btrun -n "__fish_seen_subcommand_from $all" -l no-explain -d 'Explain no fault'
 complete -c btrun -n "__fish_seen_subcommand_from $all" -l help -d 'Print help'
 
 set -l starting drive run test

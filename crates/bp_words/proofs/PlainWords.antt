@@ -15,6 +15,8 @@ use Rattle.bp_run.specs.Options.{OptionsOf, default_options, options_of}
 use Rattle.bp_run.specs.declared.limits.TheConstants.{DEFAULT_TURN, DEFAULT_SEED, DEFAULT_RING}
 use Rattle.std.proofs.lemmas.Slice.Eq.{bytes_eq-Decides}
 use Rattle.bp_words.specs.Commands.{btrun_app, words_fault, IsTaskOf}
+use Rattle.bp_words.specs.ExplainWords.{on_terminals}
+use Rattle.bp_words.specs.declared.explain.ExplainWords.{ExplainWords}
 use Rattle.bp_words.specs.PlainUses.{PlainUse, bundle, check, code, drive, run, test, replay, show, migrate, shrink, is_plain, words_of, HasPlainFiles, IsAskedBy, IsCheckOf, IsCodeOf, IsMigrateOf, IsPlainDriveOf, IsPlainRunOf, IsPlainShowOf, IsPlainTestOf, IsReplayOf, IsShrinkOf}
 use Rattle.bp_words.specs.Values.{init_fault}
 use Rattle.bp_words.specs.declared.commands.Task.{Task}
@@ -127,7 +129,14 @@ abbrev down : Text → Row
 down id = record { id = id; values = codes "false" ∷ []; count = None; source = Some DefaultValue; reading = AsWritten }
 
 abbrev file_row : Text → List Row
-file_row file = given (codes "FILE") file ∷ down (codes "explain") ∷ []
+file_row file = given (codes "FILE") file ∷ down (codes "explain") ∷ down (codes "no-explain") ∷ []
+
+abbrev explaining_with : Bool → Bool → ExplainWords
+explaining_with always never = record { always = always; never = never }
+
+-- where neither option is given, faults are explained on terminals alone
+unasked : (x : ExplainWords) → x.always ≡ false → x.never ≡ false → x ≡ on_terminals
+unasked x always never = ap₂ explaining_with always never
 
 abbrev IsWord : Text → Type 0
 IsWord file = (bytes_eq file (45 ∷ 45 ∷ []) ≡ false) × (long_of file ≡ None) × (short_of file ≡ None)
@@ -153,7 +162,7 @@ check_faulty program file plain =
 
 check_of : (file : Text) (task : Task) → IsTaskOf (Some (codes "check", file_row file)) task → IsCheckOf file task
 check_of file Bundle asks = absurd asks
-check_of file (Check words) (named, of) = (of.program, of.explain.1 refl)
+check_of file (Check words) (named, of) = (of.program, unasked words.explain (of.explain.always.1 refl) (of.explain.never.1 refl))
 check_of file (Code words) asks = absurd (check≢code asks.0)
 check_of file (Drive words) asks = absurd (check≢drive asks.0)
 check_of file (Run words) asks = absurd (check≢run asks.0)
@@ -184,7 +193,7 @@ code_faulty program file plain =
 
 code_of : (file : Text) (task : Task) → IsTaskOf (Some (codes "code", file_row file)) task → IsCodeOf file task
 code_of file Bundle asks = absurd asks
-code_of file (Code words) (named, of) = (of.program, of.explain.1 refl)
+code_of file (Code words) (named, of) = (of.program, unasked words.explain (of.explain.always.1 refl) (of.explain.never.1 refl))
 code_of file (Check words) asks = absurd (check≢code (sym asks.0))
 code_of file (Drive words) asks = absurd (code≢drive asks.0)
 code_of file (Run words) asks = absurd (code≢run asks.0)
@@ -201,7 +210,7 @@ abbrev drive_words : Text → Text → Text → List Text
 drive_words program file schedule = program ∷ codes "drive" ∷ file ∷ schedule ∷ []
 
 abbrev both_rows : Text → Text → List Row
-both_rows file schedule = given (codes "FILE") file ∷ given (codes "SCHEDULE") schedule ∷ down (codes "explain") ∷ []
+both_rows file schedule = given (codes "FILE") file ∷ given (codes "SCHEDULE") schedule ∷ down (codes "explain") ∷ down (codes "no-explain") ∷ []
 
 drive_named : (program file schedule : Text) → IsWord file → IsWord schedule → subcommand_of btrun_app (drive_words program file schedule) ≡ Some (codes "drive", both_rows file schedule)
 unfolding clap_on_literals
@@ -225,7 +234,7 @@ drive_of : (file schedule : Text) (task : Task) → IsTaskOf (Some (codes "drive
 drive_of file schedule Bundle asks = absurd asks
 drive_of file schedule (Check words) asks = absurd (check≢drive (sym asks.0))
 drive_of file schedule (Code words) asks = absurd (code≢drive (sym asks.0))
-drive_of file schedule (Drive words) (named, of) = (of.program, of.schedule, of.explain.1 refl, start_is words.start of.entries of.init of.contexts of.calls)
+drive_of file schedule (Drive words) (named, of) = (of.program, of.schedule, unasked words.explain (of.explain.always.1 refl) (of.explain.never.1 refl), start_is words.start of.entries of.init of.contexts of.calls)
 drive_of file schedule (Run words) asks = absurd (drive≢run asks.0)
 drive_of file schedule (Test words) asks = absurd (differ (codes "drive") (codes "test") refl asks.0)
 drive_of file schedule (Replay words) asks = absurd (drive≢replay asks.0)
@@ -241,7 +250,7 @@ abbrev run_words : Text → Text → List Text
 run_words program file = program ∷ codes "run" ∷ file ∷ []
 
 abbrev run_rows : Text → List Row
-run_rows file = given (codes "FILE") file ∷ down (codes "explain") ∷ down (codes "spread") ∷ []
+run_rows file = given (codes "FILE") file ∷ down (codes "explain") ∷ down (codes "no-explain") ∷ down (codes "spread") ∷ []
 
 run_named : (program file : Text) → IsWord file → subcommand_of btrun_app (run_words program file) ≡ Some (codes "run", run_rows file)
 unfolding clap_on_literals
@@ -266,7 +275,7 @@ run_of file Bundle asks = absurd asks
 run_of file (Check words) asks = absurd (check≢run (sym asks.0))
 run_of file (Code words) asks = absurd (code≢run (sym asks.0))
 run_of file (Drive words) asks = absurd (drive≢run (sym asks.0))
-run_of file (Run words) (named, of) = (of.program, of.spread.1 refl, of.explain.1 refl, options_are words.options (start_is words.options.start of.entries of.init of.contexts of.calls) of.turn of.seed of.ring)
+run_of file (Run words) (named, of) = (of.program, of.spread.1 refl, unasked words.explain (of.explain.always.1 refl) (of.explain.never.1 refl), options_are words.options (start_is words.options.start of.entries of.init of.contexts of.calls) of.turn of.seed of.ring)
 run_of file (Test words) asks = absurd (differ (codes "run") (codes "test") refl asks.0)
 run_of file (Replay words) asks = absurd (run≢replay asks.0)
 run_of file (Show words) asks = absurd (run≢show asks.0)
@@ -277,14 +286,14 @@ run_asked : (program file : Text) (task : Task) → is_plain file ≡ true → I
 run_asked program file task plain asks = run_of file task (subst (λ c. IsTaskOf c task) (run_named program file (is_word file plain)) asks)
 
 abbrev trace_rows : Text → Text → List Row
-trace_rows file trace = given (codes "FILE") file ∷ given (codes "TRACE") trace ∷ down (codes "explain") ∷ []
+trace_rows file trace = given (codes "FILE") file ∷ given (codes "TRACE") trace ∷ down (codes "explain") ∷ down (codes "no-explain") ∷ []
 
 abbrev test_words : Text → Text → List Text
 test_words program file = program ∷ codes "test" ∷ file ∷ []
 
 abbrev test_rows : Text → List Row
 test_rows file =
-    given (codes "FILE") file ∷ down (codes "explain") ∷ down (codes "stuck") ∷ down (codes "unreached") ∷ []
+    given (codes "FILE") file ∷ down (codes "explain") ∷ down (codes "no-explain") ∷ down (codes "stuck") ∷ down (codes "unreached") ∷ []
 
 test_named : (program file : Text) → IsWord file → subcommand_of btrun_app (test_words program file) ≡ Some (codes "test", test_rows file)
 unfolding clap_on_literals
@@ -305,7 +314,7 @@ test_of file (Check words) asks = absurd (differ (codes "test") (codes "check") 
 test_of file (Code words) asks = absurd (differ (codes "test") (codes "code") refl asks.0)
 test_of file (Drive words) asks = absurd (differ (codes "test") (codes "drive") refl asks.0)
 test_of file (Run words) asks = absurd (differ (codes "test") (codes "run") refl asks.0)
-test_of file (Test words) (named, of) = (of.program, of.explain.1 refl, start_is words.start of.entries of.init of.contexts of.calls, of.seed, of.runs, of.jobs, of.stuck.1 refl, of.unreached.1 refl)
+test_of file (Test words) (named, of) = (of.program, unasked words.explain (of.explain.always.1 refl) (of.explain.never.1 refl), start_is words.start of.entries of.init of.contexts of.calls, of.seed, of.runs, of.jobs, of.stuck.1 refl, of.unreached.1 refl)
 test_of file (Replay words) asks = absurd (differ (codes "test") (codes "replay") refl asks.0)
 test_of file (Show words) asks = absurd (differ (codes "test") (codes "show") refl asks.0)
 test_of file (Migrate words) asks = absurd (differ (codes "test") (codes "migrate") refl asks.0)
@@ -338,7 +347,7 @@ replay_of file trace (Code words) asks = absurd (code≢replay (sym asks.0))
 replay_of file trace (Drive words) asks = absurd (drive≢replay (sym asks.0))
 replay_of file trace (Run words) asks = absurd (run≢replay (sym asks.0))
 replay_of file trace (Test words) asks = absurd (differ (codes "replay") (codes "test") refl asks.0)
-replay_of file trace (Replay words) (named, of) = (of.program, of.trace, of.explain.1 refl)
+replay_of file trace (Replay words) (named, of) = (of.program, of.trace, unasked words.explain (of.explain.always.1 refl) (of.explain.never.1 refl))
 replay_of file trace (Show words) asks = absurd (replay≢show asks.0)
 replay_of file trace (Migrate words) asks = absurd (replay≢migrate asks.0)
 replay_of file trace (Shrink words) asks = absurd (differ (codes "replay") (codes "shrink") refl asks.0)
@@ -372,7 +381,7 @@ show_of file trace (Drive words) asks = absurd (drive≢show (sym asks.0))
 show_of file trace (Run words) asks = absurd (run≢show (sym asks.0))
 show_of file trace (Test words) asks = absurd (differ (codes "show") (codes "test") refl asks.0)
 show_of file trace (Replay words) asks = absurd (replay≢show (sym asks.0))
-show_of file trace (Show words) (named, of) = (of.program, of.trace, of.thread, of.last, of.explain.1 refl)
+show_of file trace (Show words) (named, of) = (of.program, of.trace, of.thread, of.last, unasked words.explain (of.explain.always.1 refl) (of.explain.never.1 refl))
 show_of file trace (Migrate words) asks = absurd (show≢migrate asks.0)
 show_of file trace (Shrink words) asks = absurd (differ (codes "show") (codes "shrink") refl asks.0)
 
@@ -406,7 +415,7 @@ migrate_of file trace (Run words) asks = absurd (run≢migrate (sym asks.0))
 migrate_of file trace (Test words) asks = absurd (differ (codes "migrate") (codes "test") refl asks.0)
 migrate_of file trace (Show words) asks = absurd (show≢migrate (sym asks.0))
 migrate_of file trace (Shrink words) asks = absurd (differ (codes "migrate") (codes "shrink") refl asks.0)
-migrate_of file trace (Migrate words) (named, of) = (of.program, of.trace, of.explain.1 refl)
+migrate_of file trace (Migrate words) (named, of) = (of.program, of.trace, unasked words.explain (of.explain.always.1 refl) (of.explain.never.1 refl))
 migrate_of file trace (Replay words) asks = absurd (replay≢migrate (sym asks.0))
 
 migrate_asked : (program file trace : Text) (task : Task) → is_plain file ≡ true → is_plain trace ≡ true → IsTaskOf (subcommand_of btrun_app (migrate_words program file trace)) task → IsMigrateOf file trace task
@@ -439,7 +448,7 @@ shrink_of file trace (Run words) asks = absurd (differ (codes "shrink") (codes "
 shrink_of file trace (Test words) asks = absurd (differ (codes "shrink") (codes "test") refl asks.0)
 shrink_of file trace (Show words) asks = absurd (differ (codes "shrink") (codes "show") refl asks.0)
 shrink_of file trace (Migrate words) asks = absurd (differ (codes "shrink") (codes "migrate") refl asks.0)
-shrink_of file trace (Shrink words) (named, of) = (of.program, of.trace, of.explain.1 refl)
+shrink_of file trace (Shrink words) (named, of) = (of.program, of.trace, unasked words.explain (of.explain.always.1 refl) (of.explain.never.1 refl))
 shrink_of file trace (Replay words) asks = absurd (differ (codes "shrink") (codes "replay") refl asks.0)
 
 shrink_asked : (program file trace : Text) (task : Task) → is_plain file ≡ true → is_plain trace ≡ true → IsTaskOf (subcommand_of btrun_app (shrink_words program file trace)) task → IsShrinkOf file trace task

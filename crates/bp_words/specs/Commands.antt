@@ -26,18 +26,20 @@ required_rule name = record (new_rule name) { required = true }
 abbrev pub flag_rule : Text → Rule
 flag_rule name = record (new_rule name) { long = Some name; action = Some SetTrue }
 
--- a command of this name, a file, and the flag for explanations
+-- a command of this name, a file, and the flags on explanations
 abbrev pub file_app : Text → App
 file_app name =
     with_rule
+    (with_rule
     (with_rule (new_app name) (required_rule (codes "FILE")))
-    (flag_rule (codes "explain"))
+    (flag_rule (codes "explain")))
+    (flag_rule (codes "no-explain"))
 
--- `check FILE [--explain]`
+-- `check FILE [--explain] [--no-explain]`
 abbrev pub check_app : App
 check_app = file_app (codes "check")
 
--- `code FILE [--explain]`
+-- `code FILE [--explain] [--no-explain]`
 abbrev pub code_app : App
 code_app = file_app (codes "code")
 
@@ -67,7 +69,8 @@ abbrev pub with_rules : App → List Rule → App
 with_rules a [] = a
 with_rules a (r ∷ rs) = with_rules (with_rule a r) rs
 
--- `drive FILE SCHEDULE [ENTRY].. [--contexts N] [--calls N] [--init BITS] [--explain]`
+-- `drive FILE SCHEDULE [ENTRY].. [--contexts N] [--calls N] [--init BITS] [--explain]
+-- [--no-explain]`
 abbrev pub drive_app : App
 drive_app =
     with_rules (file_app (codes "drive")) (
@@ -79,7 +82,7 @@ drive_app =
     ∷ [])
 
 -- `run FILE [ENTRY].. [--seed N] [--contexts N] [--calls N] [--turn N] [--init BITS] [--ring N]
--- [--spread] [--explain]`
+-- [--spread] [--explain] [--no-explain]`
 abbrev pub run_app : App
 run_app =
     with_rules (file_app (codes "run")) (
@@ -94,7 +97,7 @@ run_app =
     ∷ [])
 
 -- `test FILE [ENTRY].. [--seed N] [--contexts N] [--calls N] [--init BITS] [--runs N] [--jobs N]
--- [--stuck] [--unreached] [--explain]`
+-- [--stuck] [--unreached] [--explain] [--no-explain]`
 abbrev pub test_app : App
 test_app =
     with_rules (file_app (codes "test")) (
@@ -113,11 +116,11 @@ test_app =
 abbrev pub trace_app : Text → App
 trace_app name = with_rule (file_app name) (required_rule (codes "TRACE"))
 
--- `replay FILE TRACE [--explain]`
+-- `replay FILE TRACE [--explain] [--no-explain]`
 abbrev pub replay_app : App
 replay_app = trace_app (codes "replay")
 
--- `show FILE TRACE [--thread N] [--last N] [--explain]`
+-- `show FILE TRACE [--thread N] [--last N] [--explain] [--no-explain]`
 abbrev pub show_app : App
 show_app =
     with_rules (trace_app (codes "show")) (
@@ -125,11 +128,11 @@ show_app =
     ∷ long_number_rule (codes "last")
     ∷ [])
 
--- `migrate FILE TRACE [--explain]`
+-- `migrate FILE TRACE [--explain] [--no-explain]`
 abbrev pub migrate_app : App
 migrate_app = trace_app (codes "migrate")
 
--- `shrink FILE TRACE [--explain]`
+-- `shrink FILE TRACE [--explain] [--no-explain]`
 abbrev pub shrink_app : App
 shrink_app = trace_app (codes "shrink")
 

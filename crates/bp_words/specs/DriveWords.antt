@@ -3,6 +3,7 @@ use Rattle.std.specs.Prelude.{◌≡◌, List, codes, option_map}
 use Rattle.clap.specs.Walk.{Row, first_of, one_of}
 use Rattle.bp_machine.specs.declared.limits.TheConstants.{DEFAULT_CONTEXTS, DEFAULT_CALLS}
 use Rattle.bp_words.specs.Values.{bits_in, entries_in, value_of, IsFlagOf, IsNumberOf}
+use Rattle.bp_words.specs.ExplainWords.{IsExplainOf}
 use Rattle.bp_words.specs.declared.drive.DriveWords.{DriveWords}
 
 -- the files and the options of `drive` are those of its arguments
@@ -15,4 +16,4 @@ pub record IsDriveOf (rows : List Row) (words : DriveWords) : Type 0 where
       IsNumberOf 32 DEFAULT_CONTEXTS (one_of (codes "contexts") rows) words.start.contexts
   pub calls :
       IsNumberOf 32 DEFAULT_CALLS (one_of (codes "calls") rows) words.start.calls
-  pub explain : IsFlagOf (one_of (codes "explain") rows) words.explain
+  pub explain : IsExplainOf rows words.explain

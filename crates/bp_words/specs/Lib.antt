@@ -1,5 +1,6 @@
 pub mod Commands
 pub mod DriveWords
+pub mod ExplainWords
 pub mod FileWords
 pub mod PlainUses
 pub mod RunWords

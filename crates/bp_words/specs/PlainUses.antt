@@ -6,6 +6,7 @@ use Rattle.bp_machine.specs.Starts.{default_start}
 use Rattle.bp_run.specs.Options.{default_options}
 use Rattle.bp_run.specs.declared.limits.TheConstants.{DEFAULT_SEED}
 use Rattle.bp_test.specs.declared.limits.TheConstants.{DEFAULT_JOBS, DEFAULT_RUNS}
+use Rattle.bp_words.specs.ExplainWords.{on_terminals}
 use Rattle.bp_words.specs.declared.trace.TraceWords.{TraceWords}
 use Rattle.bp_words.specs.declared.commands.Task.{Task}
 use Rattle.bp_words.specs.declared.commands.Task.TheVariants as task
@@ -54,14 +55,14 @@ HasPlainFiles (show file trace) = (is_plain file ≡ true) × (is_plain trace �
 HasPlainFiles (migrate file trace) = (is_plain file ≡ true) × (is_plain trace ≡ true)
 HasPlainFiles (shrink file trace) = (is_plain file ≡ true) × (is_plain trace ≡ true)
 
--- the task is to check this file, and faults are not explained
+-- the task is to check this file, and faults are explained on terminals alone
 abbrev pub IsCheckOf : Text → Task → Type 0
-IsCheckOf file (task.Check words) = (words.program.now ≡ file) × (words.explain ≡ false)
+IsCheckOf file (task.Check words) = (words.program.now ≡ file) × (words.explain ≡ on_terminals)
 IsCheckOf file other = ⊥
 
--- the task is to list the code of this file, and faults are not explained
+-- the task is to list the code of this file, and faults are explained on terminals alone
 abbrev pub IsCodeOf : Text → Task → Type 0
-IsCodeOf file (task.Code words) = (words.program.now ≡ file) × (words.explain ≡ false)
+IsCodeOf file (task.Code words) = (words.program.now ≡ file) × (words.explain ≡ on_terminals)
 IsCodeOf file other = ⊥
 
 -- the task is to drive the program of this file by the schedule of that one, under the defaults
@@ -69,7 +70,7 @@ abbrev pub IsPlainDriveOf : Text → Text → Task → Type 0
 IsPlainDriveOf file schedule (task.Drive words) =
     (words.program.now ≡ file)
     × (words.schedule.now ≡ schedule)
-    × (words.explain ≡ false)
+    × (words.explain ≡ on_terminals)
     × (words.start ≡ default_start)
 IsPlainDriveOf file schedule other = ⊥
 
@@ -78,7 +79,7 @@ abbrev pub IsPlainRunOf : Text → Task → Type 0
 IsPlainRunOf file (task.Run words) =
     (words.program.now ≡ file)
     × (words.spread ≡ false)
-    × (words.explain ≡ false)
+    × (words.explain ≡ on_terminals)
     × (words.options ≡ default_options)
 IsPlainRunOf file other = ⊥
 
@@ -86,7 +87,7 @@ IsPlainRunOf file other = ⊥
 abbrev pub IsPlainTestOf : Text → Task → Type 0
 IsPlainTestOf file (task.Test words) =
     (words.program.now ≡ file)
-    × (words.explain ≡ false)
+    × (words.explain ≡ on_terminals)
     × (words.start ≡ default_start)
     × (words.seed ≡ DEFAULT_SEED)
     × (words.runs ≡ DEFAULT_RUNS)
@@ -95,10 +96,10 @@ IsPlainTestOf file (task.Test words) =
     × (words.unreached ≡ false)
 IsPlainTestOf file other = ⊥
 
--- the files are these, and faults are not explained
+-- the files are these, and faults are explained on terminals alone
 abbrev pub HasFiles : Text → Text → TraceWords → Type 0
 HasFiles file trace words =
-    (words.program.now ≡ file) × (words.trace.now ≡ trace) × (words.explain ≡ false)
+    (words.program.now ≡ file) × (words.trace.now ≡ trace) × (words.explain ≡ on_terminals)
 
 -- the task is to replay this trace of the program of this file
 abbrev pub IsReplayOf : Text → Text → Task → Type 0
@@ -112,7 +113,7 @@ IsPlainShowOf file trace (task.Show words) =
     × (words.trace.now ≡ trace)
     × (words.thread ≡ None)
     × (words.last ≡ None)
-    × (words.explain ≡ false)
+    × (words.explain ≡ on_terminals)
 IsPlainShowOf file trace other = ⊥
 
 -- the task is to migrate this trace of the program of this file

@@ -4,6 +4,7 @@ use Rattle.clap.specs.Walk.{Row, first_of, one_of}
 use Rattle.bp_machine.specs.declared.limits.TheConstants.{DEFAULT_CONTEXTS, DEFAULT_CALLS}
 use Rattle.bp_run.specs.declared.limits.TheConstants.{DEFAULT_TURN, DEFAULT_SEED, DEFAULT_RING}
 use Rattle.bp_words.specs.Values.{bits_in, entries_in, value_of, IsFlagOf, IsNumberOf}
+use Rattle.bp_words.specs.ExplainWords.{IsExplainOf}
 use Rattle.bp_words.specs.declared.run.RunWords.{RunWords}
 
 -- the file and the options of `run` are those of its arguments
@@ -19,4 +20,4 @@ pub record IsRunOf (rows : List Row) (words : RunWords) : Type 0 where
   pub seed : IsNumberOf 64 DEFAULT_SEED (one_of (codes "seed") rows) words.options.seed
   pub ring : IsNumberOf 32 DEFAULT_RING (one_of (codes "ring") rows) words.options.ring
   pub spread : IsFlagOf (one_of (codes "spread") rows) words.spread
-  pub explain : IsFlagOf (one_of (codes "explain") rows) words.explain
+  pub explain : IsExplainOf rows words.explain

@@ -2,6 +2,7 @@
 use Rattle.std.specs.Prelude.{◌≡◌, List, codes}
 use Rattle.clap.specs.Walk.{Row, one_of}
 use Rattle.bp_words.specs.Values.{value_of, IsFlagOf, IsNumberIn}
+use Rattle.bp_words.specs.ExplainWords.{IsExplainOf}
 use Rattle.bp_words.specs.declared.show.ShowWords.{ShowWords}
 
 -- the files and the calls that are shown are those of the arguments
@@ -10,4 +11,4 @@ pub record IsShowOf (rows : List Row) (words : ShowWords) : Type 0 where
   pub trace : words.trace.now ≡ value_of (codes "TRACE") rows
   pub thread : IsNumberIn 32 (one_of (codes "thread") rows) words.thread
   pub last : IsNumberIn 64 (one_of (codes "last") rows) words.last
-  pub explain : IsFlagOf (one_of (codes "explain") rows) words.explain
+  pub explain : IsExplainOf rows words.explain

@@ -5,6 +5,7 @@ use Rattle.bp_machine.specs.declared.limits.TheConstants.{DEFAULT_CONTEXTS, DEFA
 use Rattle.bp_run.specs.declared.limits.TheConstants.{DEFAULT_SEED}
 use Rattle.bp_test.specs.declared.limits.TheConstants.{DEFAULT_JOBS, DEFAULT_RUNS}
 use Rattle.bp_words.specs.Values.{bits_in, entries_in, value_of, IsFlagOf, IsNumberOf}
+use Rattle.bp_words.specs.ExplainWords.{IsExplainOf}
 use Rattle.bp_words.specs.declared.test.TestWords.{TestWords}
 
 -- the file and the options of `test` are those of its arguments
@@ -20,4 +21,4 @@ pub record IsTestOf (rows : List Row) (words : TestWords) : Type 0 where
   pub jobs : IsNumberOf 32 DEFAULT_JOBS (one_of (codes "jobs") rows) words.jobs
   pub stuck : IsFlagOf (one_of (codes "stuck") rows) words.stuck
   pub unreached : IsFlagOf (one_of (codes "unreached") rows) words.unreached
-  pub explain : IsFlagOf (one_of (codes "explain") rows) words.explain
+  pub explain : IsExplainOf rows words.explain

@@ -2,10 +2,11 @@
 use Rattle.std.specs.Prelude.{◌≡◌, List, codes}
 use Rattle.clap.specs.Walk.{Row, one_of}
 use Rattle.bp_words.specs.Values.{value_of, IsFlagOf}
+use Rattle.bp_words.specs.ExplainWords.{IsExplainOf}
 use Rattle.bp_words.specs.declared.trace.TraceWords.{TraceWords}
 
 -- the files are those of the arguments
 pub record IsTraceWordsOf (rows : List Row) (words : TraceWords) : Type 0 where
   pub program : words.program.now ≡ value_of (codes "FILE") rows
   pub trace : words.trace.now ≡ value_of (codes "TRACE") rows
-  pub explain : IsFlagOf (one_of (codes "explain") rows) words.explain
+  pub explain : IsExplainOf rows words.explain

@@ -71,7 +71,7 @@ const CODE_ABOUT: &str = "Prints the listing of a program's code";
 
 /// What `code --help` says after the arguments.
 const CODE_NOTES: &str = "\
-    A procedure has a line 'proc NAME FORMALS LOCALS', and behind it a line for each instruction,\n\
+    A procedure has a line 'proc NAME FORMALS LOCALS', and after it a line for each instruction,\n\
     with its number and those of its successors. The first fault is one line on \
     standard error, with\n\
     the offset of its byte.\n\nExample:\n  btrun code lock.bp\n\n\

@@ -6,8 +6,9 @@ ghost use Rattle.bp_words.specs.Commands.{drive_app};
 ghost use Rattle.bp_words.specs.DriveWords.{IsDriveOf};
 
 use crate::arguments::{number_option, option, required, values};
+use crate::explain::{ExplainWords, explain_words};
 use crate::files::file_command;
-use crate::values::{entries, init, is_given, number};
+use crate::values::{entries, init, number};
 use bp_machine::Start;
 use bp_machine::limits::{DEFAULT_CALLS, DEFAULT_CONTEXTS};
 use clap::{ArgMatches, Command};
@@ -20,8 +21,8 @@ pub struct DriveWords<'a> {
     pub program: &'a str,
     /// The path of the schedule.
     pub schedule: &'a str,
-    /// Whether `--explain` was given: lines that explain a fault then follow its line.
-    pub explain: bool,
+    /// When a fault is explained.
+    pub explain: ExplainWords,
     pub start: Start,
 }
 
@@ -41,7 +42,7 @@ pub fn drive_command<'a>(alloc: Global) -> Result<Command<'a>, AllocError>
     ensures { IfOk result
         (λ c. (app_of c ≡ drive_app) × ((out-Command c).has_globals ≡ false)) }
 {
-    let entries = "The procedure with which a thread begins, one a thread [default: main]";
+    let entries = "The entry procedure of each thread, in order [default: main]";
     let contexts = "How many contexts are allowed [default: 2]";
     let calls = "How many calls of a thread are allowed [default: 1000]";
     let init = "The initial bits of the globals, each 0 or 1 [default: all 0]";
@@ -61,7 +62,7 @@ pub fn drive_words<'a>(alloc: Global, words: &ArgMatches<'a>) -> Result<DriveWor
     Ok(DriveWords {
         program: words.get_str("FILE").unwrap_or(""),
         schedule: words.get_str("SCHEDULE").unwrap_or(""),
-        explain: is_given(words, "explain"),
+        explain: explain_words(words),
         start: Start {
             entries: entries(alloc, words)?,
             init: init(alloc, words)?,

@@ -6,7 +6,7 @@ ghost use Rattle.bp_words.specs.Commands.{file_app};
 ghost use Rattle.bp_words.specs.FileWords.{IsFileWordsOf};
 
 use crate::arguments::{flag, required};
-use crate::values::is_given;
+use crate::explain::{ExplainWords, explain_words};
 use clap::{ArgMatches, Command};
 use std::alloc::{AllocError, Global};
 
@@ -15,11 +15,11 @@ use std::alloc::{AllocError, Global};
 pub struct FileWords<'a> {
     /// The path of the program's text.
     pub program: &'a str,
-    /// Whether `--explain` was given: lines that explain a fault then follow its line.
-    pub explain: bool,
+    /// When a fault is explained.
+    pub explain: ExplainWords,
 }
 
-/// A command of this name, with a file and the flag for explanations.
+/// A command of this name, with a file and the flags on explanations.
 pub fn file_command<'a>(
     alloc: Global,
     name: &'a str,
@@ -30,11 +30,13 @@ pub fn file_command<'a>(
         (λ c. (app_of c ≡ file_app name.now) × ((out-Command c).has_globals ≡ false)) }
 {
     let explain = "Explains a fault on further lines: its place, and what was expected there";
+    let never = "Explains no fault [default: faults are explained on a terminal alone]";
     Command::new(alloc, name)
         .about(about)
         .after_help(notes)
         .arg(required(alloc, "FILE", "The file of the program"))?
-        .arg(flag(alloc, "explain", explain))
+        .arg(flag(alloc, "explain", explain))?
+        .arg(flag(alloc, "no-explain", never))
 }
 
 /// What the words after `check` or `code` ask for.
@@ -44,6 +46,6 @@ pub fn file_words<'a>(words: &ArgMatches<'a>) -> FileWords<'a>
     // FILE is required, so it is there.
     FileWords {
         program: words.get_str("FILE").unwrap_or(""),
-        explain: is_given(words, "explain"),
+        explain: explain_words(words),
     }
 }

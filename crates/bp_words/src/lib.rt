@@ -4,6 +4,7 @@
 mod arguments;
 mod commands;
 mod drive;
+mod explain;
 mod files;
 mod run;
 mod show;
@@ -13,6 +14,7 @@ mod values;
 
 pub use commands::{Task, not_text, read_words};
 pub use drive::DriveWords;
+pub use explain::ExplainWords;
 pub use files::FileWords;
 pub use run::RunWords;
 pub use show::ShowWords;

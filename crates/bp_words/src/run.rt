@@ -6,6 +6,7 @@ ghost use Rattle.bp_words.specs.Commands.{run_app};
 ghost use Rattle.bp_words.specs.RunWords.{IsRunOf};
 
 use crate::arguments::{flag, long_number_option, number_option, option, values};
+use crate::explain::{ExplainWords, explain_words};
 use crate::files::file_command;
 use crate::values::{entries, init, is_given, long_number, number};
 use bp_machine::Start;
@@ -22,8 +23,8 @@ pub struct RunWords<'a> {
     pub program: &'a str,
     /// Whether the workers start together and take turns as they are drawn.
     pub spread: bool,
-    /// Whether `--explain` was given: lines that explain a fault then follow its line.
-    pub explain: bool,
+    /// When a fault is explained.
+    pub explain: ExplainWords,
     /// What the run starts from.
     pub options: RunOptions,
 }
@@ -46,7 +47,7 @@ pub fn run_command<'a>(alloc: Global) -> Result<Command<'a>, AllocError>
     ensures { IfOk result
         (λ c. (app_of c ≡ run_app) × ((out-Command c).has_globals ≡ false)) }
 {
-    let entries = "The procedure with which a thread begins, one a thread [default: main]";
+    let entries = "The entry procedure of each thread, in order [default: main]";
     let seed = "The seed of the choice bits [default: 42]";
     let contexts = "How many contexts are allowed [default: 2]";
     let calls = "How many calls of a thread are allowed [default: 1000]";
@@ -73,7 +74,7 @@ pub fn run_words<'a>(alloc: Global, words: &ArgMatches<'a>) -> Result<RunWords<'
     Ok(RunWords {
         program: words.get_str("FILE").unwrap_or(""),
         spread: is_given(words, "spread"),
-        explain: is_given(words, "explain"),
+        explain: explain_words(words),
         options: RunOptions {
             start: Start {
                 entries: entries(alloc, words)?,

@@ -6,8 +6,9 @@ ghost use Rattle.bp_words.specs.Commands.{show_app};
 ghost use Rattle.bp_words.specs.ShowWords.{IsShowOf};
 
 use crate::arguments::{long_number_option, number_option};
+use crate::explain::{ExplainWords, explain_words};
 use crate::trace::trace_command;
-use crate::values::{given_long_number, given_number, is_given};
+use crate::values::{given_long_number, given_number};
 use clap::{ArgMatches, Command};
 use std::alloc::{AllocError, Global};
 
@@ -22,8 +23,8 @@ pub struct ShowWords<'a> {
     pub thread: Option<u32>,
     /// How many of the last calls of the history are shown.
     pub last: Option<u64>,
-    /// Whether `--explain` was given: lines that explain a fault then follow its line.
-    pub explain: bool,
+    /// When a fault is explained.
+    pub explain: ExplainWords,
 }
 
 const ABOUT: &str = "Replays a trace and shows what happened, call by call";
@@ -62,6 +63,6 @@ pub fn show_words<'a>(words: &ArgMatches<'a>) -> ShowWords<'a>
         trace: words.get_str("TRACE").unwrap_or(""),
         thread: given_number(words, "thread"),
         last: given_long_number(words, "last"),
-        explain: is_given(words, "explain"),
+        explain: explain_words(words),
     }
 }

@@ -6,6 +6,7 @@ ghost use Rattle.bp_words.specs.Commands.{test_app};
 ghost use Rattle.bp_words.specs.TestWords.{IsTestOf};
 
 use crate::arguments::{flag, long_number_option, number_option, option, values};
+use crate::explain::{ExplainWords, explain_words};
 use crate::files::file_command;
 use crate::values::{entries, init, is_given, long_number, number};
 use bp_machine::Start;
@@ -20,8 +21,8 @@ use std::alloc::{AllocError, Global};
 pub struct TestWords<'a> {
     /// The path of the program's text.
     pub program: &'a str,
-    /// Whether `--explain` was given: lines that explain a fault then follow its line.
-    pub explain: bool,
+    /// When a fault is explained.
+    pub explain: ExplainWords,
     /// What each run starts from.
     pub start: Start,
     /// The seed of the first run. Each other run has the seed after that of the run before it.
@@ -59,7 +60,7 @@ pub fn test_command<'a>(alloc: Global) -> Result<Command<'a>, AllocError>
     ensures { IfOk result
         (λ c. (app_of c ≡ test_app) × ((out-Command c).has_globals ≡ false)) }
 {
-    let entries = "The procedure with which a thread begins, one a thread [default: main]";
+    let entries = "The entry procedure of each thread, in order [default: main]";
     let seed = "The seed of the first run [default: 42]";
     let contexts = "How many contexts are allowed [default: 2]";
     let calls = "How many calls of a thread are allowed [default: 1000]";
@@ -87,7 +88,7 @@ pub fn test_words<'a>(alloc: Global, words: &ArgMatches<'a>) -> Result<TestWords
     // FILE is required, so it is there.
     Ok(TestWords {
         program: words.get_str("FILE").unwrap_or(""),
-        explain: is_given(words, "explain"),
+        explain: explain_words(words),
         start: Start {
             entries: entries(alloc, words)?,
             init: init(alloc, words)?,

@@ -6,8 +6,8 @@ ghost use Rattle.bp_words.specs.Commands.{trace_app};
 ghost use Rattle.bp_words.specs.TraceWords.{IsTraceWordsOf};
 
 use crate::arguments::required;
+use crate::explain::{ExplainWords, explain_words};
 use crate::files::file_command;
-use crate::values::is_given;
 use clap::{ArgMatches, Command};
 use std::alloc::{AllocError, Global};
 
@@ -18,8 +18,8 @@ pub struct TraceWords<'a> {
     pub program: &'a str,
     /// The path of the trace.
     pub trace: &'a str,
-    /// Whether `--explain` was given: lines that explain a fault then follow its line.
-    pub explain: bool,
+    /// When a fault is explained.
+    pub explain: ExplainWords,
 }
 
 pub const REPLAY_ABOUT: &str = "Replays a trace and prints what its steps printed, and the outcome";
@@ -78,6 +78,6 @@ pub fn trace_words<'a>(words: &ArgMatches<'a>) -> TraceWords<'a>
     TraceWords {
         program: words.get_str("FILE").unwrap_or(""),
         trace: words.get_str("TRACE").unwrap_or(""),
-        explain: is_given(words, "explain"),
+        explain: explain_words(words),
     }
 }

@@ -16,6 +16,7 @@ use Rattle.bp_commands.specs.Traces.{migrates, replays, shows}
 use Rattle.bp_test.specs.declared.options.TestOptions.{TestOptions}
 use Rattle.bp_trace.specs.declared.limits.TheConstants.{MAX_SCHEDULE, MAX_TRACE}
 use Rattle.bp_view.specs.declared.options.ViewOptions.{ViewOptions}
+use Rattle.bp_words.specs.ExplainWords.{is_explained}
 use Rattle.bp_words.specs.declared.commands.Task.{Task}
 use Rattle.bp_words.specs.declared.commands.Task.TheVariants.{Bundle, Check, Code, Drive, Run, Test, Replay, Show, Migrate, Shrink}
 use Rattle.bp_words.specs.declared.drive.DriveWords.{DriveWords}
@@ -33,13 +34,13 @@ view_options words has_colour = record {
 
 -- the program of a file is run as these words ask for
 abbrev pub IsRunDone
-    : (List ℕ → Option (List ℕ)) → RunWords
+    : (List ℕ → Option (List ℕ)) → Bool → RunWords
     → Option (List ℕ) → Option (List ℕ) → Option (List ℕ) → Option (List ℕ) → ℕ
     → Type 0
-IsRunDone bytes words old new errors_old errors_new status =
+IsRunDone bytes on_terminal words old new errors_old errors_new status =
     let inputs = text_alone (bytes words.program.now) in
     IsRun (runs words.options) of_report inputs
-    (ExplainsText words.program.now) words.explain
+    (ExplainsText words.program.now) (is_explained words.explain on_terminal)
     old new errors_old errors_new status
 
 -- what a test looks for, and among how many runs
@@ -58,43 +59,46 @@ listed_if false name = None
 
 -- the program of a file is tested as these words ask for
 abbrev pub IsTestDone
-    : (List ℕ → Option (List ℕ)) → TestWords
+    : (List ℕ → Option (List ℕ)) → Bool → TestWords
     → Option (List ℕ) → Option (List ℕ) → Option (List ℕ) → Option (List ℕ) → ℕ
     → Type 0
-IsTestDone bytes words old new errors_old errors_new status =
+IsTestDone bytes on_terminal words old new errors_old errors_new status =
     let inputs = text_alone (bytes words.program.now) in
     let listed = listed_if words.unreached words.program.now in
     IsRun (tests words.start (test_options words) listed) of_test inputs
-    (ExplainsText words.program.now) words.explain
+    (ExplainsText words.program.now) (is_explained words.explain on_terminal)
     old new errors_old errors_new status
 
 -- the program of a file is driven by the schedule of another, as these words ask for
 abbrev pub IsDriveDone
-    : (List ℕ → Option (List ℕ)) → DriveWords
+    : (List ℕ → Option (List ℕ)) → Bool → DriveWords
     → Option (List ℕ) → Option (List ℕ) → Option (List ℕ) → Option (List ℕ) → ℕ
     → Type 0
-IsDriveDone bytes words old new errors_old errors_new status =
+IsDriveDone bytes on_terminal words old new errors_old errors_new status =
     let inputs = pair_of_files MAX_SCHEDULE
     (bytes words.program.now) (bytes words.schedule.now) in
     IsRun (drives words.start) of_report inputs
-    (ExplainsPair Schedule words.program.now words.schedule.now) words.explain
+    (ExplainsPair Schedule words.program.now words.schedule.now)
+    (is_explained words.explain on_terminal)
     old new errors_old errors_new status
 
 -- the trace of a file is shown, as these words ask for
 abbrev pub IsShowDone
-    : (List ℕ → Option (List ℕ)) → Bool → ShowWords
+    : (List ℕ → Option (List ℕ)) → Bool → Bool → ShowWords
     → Option (List ℕ) → Option (List ℕ) → Option (List ℕ) → Option (List ℕ) → ℕ
     → Type 0
-IsShowDone bytes has_colour words old new errors_old errors_new status =
+IsShowDone bytes has_colour on_terminal words old new errors_old errors_new status =
     let inputs = pair_of_files MAX_TRACE (bytes words.program.now) (bytes words.trace.now) in
     IsRun (shows (view_options words has_colour)) of_report inputs
-    (ExplainsPair Trace words.program.now words.trace.now) words.explain
+    (ExplainsPair Trace words.program.now words.trace.now)
+    (is_explained words.explain on_terminal)
     old new errors_old errors_new status
 
--- The files have these bytes by their paths, and so has standard input. The output and standard
--- error have these bytes before and after the run, which ends with this status.
+-- The files have these bytes by their paths, and so has standard input. Colours are wanted or not,
+-- and standard error is a terminal or not. The output and standard error have these bytes before
+-- and after the run, which ends with this status.
 module _
-    (bytes : List ℕ → Option (List ℕ)) (input : Option (List ℕ)) (has_colour : Bool)
+    (bytes : List ℕ → Option (List ℕ)) (input : Option (List ℕ)) (has_colour on_terminal : Bool)
     (old new errors_old errors_new : Option (List ℕ)) (status : ℕ) where
   abbrev pub IsTaskDone : Task → Type 0
   IsTaskDone Bundle =
@@ -102,29 +106,35 @@ module _
       old new errors_old errors_new status
   IsTaskDone (Check words) =
       let inputs = text_alone (bytes words.program.now) in
-      IsRun checks never inputs (ExplainsText words.program.now) words.explain
+      IsRun checks never inputs (ExplainsText words.program.now)
+      (is_explained words.explain on_terminal)
       old new errors_old errors_new status
   IsTaskDone (Code words) =
       let inputs = text_alone (bytes words.program.now) in
-      IsRun lists never inputs (ExplainsText words.program.now) words.explain
+      IsRun lists never inputs (ExplainsText words.program.now)
+      (is_explained words.explain on_terminal)
       old new errors_old errors_new status
-  IsTaskDone (Drive words) = IsDriveDone bytes words old new errors_old errors_new status
-  IsTaskDone (Run words) = IsRunDone bytes words old new errors_old errors_new status
-  IsTaskDone (Test words) = IsTestDone bytes words old new errors_old errors_new status
+  IsTaskDone (Drive words) =
+      IsDriveDone bytes on_terminal words old new errors_old errors_new status
+  IsTaskDone (Run words) = IsRunDone bytes on_terminal words old new errors_old errors_new status
+  IsTaskDone (Test words) = IsTestDone bytes on_terminal words old new errors_old errors_new status
   IsTaskDone (Replay words) =
       let inputs = pair_of_files MAX_TRACE (bytes words.program.now) (bytes words.trace.now) in
       IsRun replays of_report inputs
-      (ExplainsPair Trace words.program.now words.trace.now) words.explain
+      (ExplainsPair Trace words.program.now words.trace.now)
+      (is_explained words.explain on_terminal)
       old new errors_old errors_new status
   IsTaskDone (Show words) =
-      IsShowDone bytes has_colour words old new errors_old errors_new status
+      IsShowDone bytes has_colour on_terminal words old new errors_old errors_new status
   IsTaskDone (Migrate words) =
       let inputs = pair_of_files MAX_TRACE (bytes words.program.now) (bytes words.trace.now) in
       IsRun migrates of_report inputs
-      (ExplainsPair Trace words.program.now words.trace.now) words.explain
+      (ExplainsPair Trace words.program.now words.trace.now)
+      (is_explained words.explain on_terminal)
       old new errors_old errors_new status
   IsTaskDone (Shrink words) =
       let inputs = pair_of_files MAX_TRACE (bytes words.program.now) (bytes words.trace.now) in
       IsRun shrinks of_report inputs
-      (ExplainsPair Trace words.program.now words.trace.now) words.explain
+      (ExplainsPair Trace words.program.now words.trace.now)
+      (is_explained words.explain on_terminal)
       old new errors_old errors_new status

@@ -4,6 +4,7 @@ use crate::host_files::HostFiles;
 use crate::progress_lines::ProgressLine;
 use crate::tasks::do_task;
 use crate::usage::{refuse_memory, refuse_words, tell};
+use bp_text::put;
 use bp_words::{Task, read_words};
 use std::env;
 use std::io::{self, BufWriter, IsTerminal};
@@ -40,6 +41,18 @@ fn progress_line(rt: &HostRuntime) -> ProgressLine<'_> {
     ProgressLine { rt, start }
 }
 
+/// What is said where nobody gave a command, and standard input is a terminal.
+const WAITS: &[u8] =
+    b"btrun: waiting for a bundle on standard input; 'btrun --help' shows the commands\n";
+
+/// Says that a bundle is waited for, where a terminal is to give it.
+fn say_that_it_waits(rt: &HostRuntime, task: &Task<'_>) {
+    if matches!(task, Task::Bundle) && rt.stdin().is_terminal() {
+        // Where standard error fails, the bundle is read all the same.
+        let _ = put(&mut rt.stderr(), WAITS);
+    }
+}
+
 /// Does a task on the files and the streams of the machine, and answers the exit status.
 fn do_on_host<T: Threads + Wait + Clock + Sync>(
     rt: &HostRuntime,
@@ -51,6 +64,7 @@ fn do_on_host<T: Threads + Wait + Clock + Sync>(
     let Ok(out) = BufWriter::new(alloc, rt.stdout()) else {
         return refuse_memory(&mut errors);
     };
+    say_that_it_waits(rt, task);
     let colour = has_colour(rt);
     let progress = progress_line(rt);
     do_task(
@@ -58,6 +72,7 @@ fn do_on_host<T: Threads + Wait + Clock + Sync>(
         threads,
         &progress,
         &files,
+        rt.stderr().is_terminal(),
         rt.stdin(),
         colour,
         task,

@@ -5,6 +5,7 @@ ghost use Rattle.bp_commands.specs.Ends.{of_report};
 ghost use Rattle.bp_commands.specs.Explanations.{ExplainsPair, ExplainsText};
 ghost use Rattle.bp_commands.specs.Files.{pair_of_files, IsRun};
 ghost use Rattle.bp_commands.specs.Given.{text_alone};
+ghost use Rattle.bp_words.specs.ExplainWords.{is_explained};
 ghost use Rattle.btrun.specs.Tasks.{test_options, view_options, IsDriveDone, IsRunDone, IsShowDone, IsTaskDone, IsTestDone};
 
 use bp_commands::{
@@ -27,12 +28,13 @@ fn run_at<F: Files, T: Threads + Wait + Clock + Sync, G: Gate, W: Write + Drop, 
     threads: &T,
     gate: &G,
     files: &F,
+    on_terminal: bool,
     words: &RunWords<'_>,
     out: BufWriter<W>,
     errors: &mut E,
 ) -> (u8, W)
     ensures { let old = writer_contents W.contents out in
-        IsRunDone (F.bytes files.now) words.now old (W.contents result.1)
+        IsRunDone (F.bytes files.now) on_terminal words.now old (W.contents result.1)
         (E.contents errors.old) (E.contents errors.new) result.0 }
 {
     let (options, path) = (&words.options, words.program);
@@ -43,7 +45,7 @@ fn run_at<F: Files, T: Threads + Wait + Clock + Sync, G: Gate, W: Write + Drop, 
         gate,
         files,
         path,
-        words.explain,
+        words.explain.is_explained(on_terminal),
         out,
         errors,
     )
@@ -54,19 +56,38 @@ fn run_as_asked<F: Files, T: Threads + Wait + Clock + Sync, W: Write + Drop, E: 
     alloc: Global,
     threads: &T,
     files: &F,
+    on_terminal: bool,
     words: &RunWords<'_>,
     out: BufWriter<W>,
     errors: &mut E,
 ) -> (u8, W)
     ensures { let old = writer_contents W.contents out in
-        IsRunDone (F.bytes files.now) words.now old (W.contents result.1)
+        IsRunDone (F.bytes files.now) on_terminal words.now old (W.contents result.1)
         (E.contents errors.old) (E.contents errors.new) result.0 }
 {
     if words.spread {
         let gate = Spread::new(words.options.seed, words.options.start.entries.len());
-        run_at(alloc, threads, &gate, files, words, out, errors)
+        run_at(
+            alloc,
+            threads,
+            &gate,
+            files,
+            on_terminal,
+            words,
+            out,
+            errors,
+        )
     } else {
-        run_at(alloc, threads, &Open, files, words, out, errors)
+        run_at(
+            alloc,
+            threads,
+            &Open,
+            files,
+            on_terminal,
+            words,
+            out,
+            errors,
+        )
     }
 }
 
@@ -88,12 +109,13 @@ fn test_as_asked<F: Files, T: Threads + Sync, P: Progress, W: Write + Drop, E: W
     threads: &T,
     progress: &P,
     files: &F,
+    on_terminal: bool,
     words: &TestWords<'_>,
     out: BufWriter<W>,
     errors: &mut E,
 ) -> (u8, W)
     ensures { let old = writer_contents W.contents out in
-        IsTestDone (F.bytes files.now) words.now old (W.contents result.1)
+        IsTestDone (F.bytes files.now) on_terminal words.now old (W.contents result.1)
         (E.contents errors.old) (E.contents errors.new) result.0 }
 {
     let test = Test {
@@ -108,7 +130,7 @@ fn test_as_asked<F: Files, T: Threads + Sync, P: Progress, W: Write + Drop, E: W
         &test,
         files,
         words.program,
-        words.explain,
+        words.explain.is_explained(on_terminal),
         out,
         errors,
     )
@@ -118,6 +140,7 @@ fn on_file<C: ProgramCommand, F: Files, W: Write + Drop, E: Write>(
     alloc: Global,
     command: &C,
     files: &F,
+    on_terminal: bool,
     words: &FileWords<'_>,
     out: BufWriter<W>,
     errors: &mut E,
@@ -126,11 +149,11 @@ fn on_file<C: ProgramCommand, F: Files, W: Write + Drop, E: Write>(
     ensures { let inputs = text_alone (F.bytes files.now words.now.program.now) in
         let old = writer_contents W.contents out in
         IsRun (C.command command.now) C.Answer.ending inputs
-        (ExplainsText words.now.program.now) words.now.explain
+        (ExplainsText words.now.program.now) (is_explained words.now.explain on_terminal)
         old (W.contents result.1)
         (E.contents errors.old) (E.contents errors.new) result.0 }
 {
-    let (path, explains) = (words.program, words.explain);
+    let (path, explains) = (words.program, words.explain.is_explained(on_terminal));
     run_on_program(alloc, command, files, path, explains, out, errors)
 }
 
@@ -139,6 +162,7 @@ fn on_trace<C: PairCommand, F: Files, W: Write + Drop, E: Write>(
     alloc: Global,
     command: &C,
     files: &F,
+    on_terminal: bool,
     words: &TraceWords<'_>,
     out: BufWriter<W>,
     errors: &mut E,
@@ -148,11 +172,15 @@ fn on_trace<C: PairCommand, F: Files, W: Write + Drop, E: Write>(
         let old = writer_contents W.contents out in
         IsRun (C.command command.now) of_report inputs
         (ExplainsPair (C.beside command.now) words.now.program.now words.now.trace.now)
-        words.now.explain
+        (is_explained words.now.explain on_terminal)
         old (W.contents result.1)
         (E.contents errors.old) (E.contents errors.new) result.0 }
 {
-    let (path, trace, explains) = (words.program, words.trace, words.explain);
+    let (path, trace, explains) = (
+        words.program,
+        words.trace,
+        words.explain.is_explained(on_terminal),
+    );
     run_on_pair(alloc, command, files, path, trace, explains, out, errors)
 }
 
@@ -160,16 +188,21 @@ fn on_trace<C: PairCommand, F: Files, W: Write + Drop, E: Write>(
 fn drive_as_asked<F: Files, W: Write + Drop, E: Write>(
     alloc: Global,
     files: &F,
+    on_terminal: bool,
     words: &DriveWords<'_>,
     out: BufWriter<W>,
     errors: &mut E,
 ) -> (u8, W)
     ensures { let old = writer_contents W.contents out in
-        IsDriveDone (F.bytes files.now) words.now old (W.contents result.1)
+        IsDriveDone (F.bytes files.now) on_terminal words.now old (W.contents result.1)
         (E.contents errors.old) (E.contents errors.new) result.0 }
 {
     let start = &words.start;
-    let (path, schedule, explains) = (words.program, words.schedule, words.explain);
+    let (path, schedule, explains) = (
+        words.program,
+        words.schedule,
+        words.explain.is_explained(on_terminal),
+    );
     run_on_pair(
         alloc,
         &Drive { start },
@@ -197,17 +230,22 @@ fn view_options(words: &ShowWords<'_>, has_colour: bool) -> ViewOptions
 fn show_as_asked<F: Files, W: Write + Drop, E: Write>(
     alloc: Global,
     files: &F,
+    on_terminal: bool,
     has_colour: bool,
     words: &ShowWords<'_>,
     out: BufWriter<W>,
     errors: &mut E,
 ) -> (u8, W)
     ensures { let old = writer_contents W.contents out in
-        IsShowDone (F.bytes files.now) has_colour words.now old (W.contents result.1)
+        IsShowDone (F.bytes files.now) has_colour on_terminal words.now old (W.contents result.1)
         (E.contents errors.old) (E.contents errors.new) result.0 }
 {
     let options = view_options(words, has_colour);
-    let (path, trace, explains) = (words.program, words.trace, words.explain);
+    let (path, trace, explains) = (
+        words.program,
+        words.trace,
+        words.explain.is_explained(on_terminal),
+    );
     run_on_pair(
         alloc,
         &Show { options },
@@ -233,6 +271,7 @@ pub fn do_task<
     threads: &T,
     progress: &P,
     files: &F,
+    on_terminal: bool,
     input: R,
     has_colour: bool,
     task: &Task<'_>,
@@ -240,19 +279,37 @@ pub fn do_task<
     errors: &mut E,
 ) -> (u8, W)
     ensures { let old = writer_contents W.contents out in
-        IsTaskDone (F.bytes files.now) (R.remaining input) has_colour old (W.contents result.1)
+        IsTaskDone (F.bytes files.now) (R.remaining input) has_colour on_terminal
+        old (W.contents result.1)
         (E.contents errors.old) (E.contents errors.new) result.0 task.now }
 {
     match task {
         Task::Bundle => run_on_bundle(alloc, input, out, errors),
-        Task::Check(words) => on_file(alloc, &Check, files, words, out, errors),
-        Task::Code(words) => on_file(alloc, &Code, files, words, out, errors),
-        Task::Drive(words) => drive_as_asked(alloc, files, words, out, errors),
-        Task::Run(words) => run_as_asked(alloc, threads, files, words, out, errors),
-        Task::Test(words) => test_as_asked(alloc, threads, progress, files, words, out, errors),
-        Task::Replay(words) => on_trace(alloc, &Replay, files, words, out, errors),
-        Task::Show(words) => show_as_asked(alloc, files, has_colour, words, out, errors),
-        Task::Migrate(words) => on_trace(alloc, &Migrate, files, words, out, errors),
-        Task::Shrink(words) => on_trace(alloc, &Shrink, files, words, out, errors),
+        Task::Check(words) => on_file(alloc, &Check, files, on_terminal, words, out, errors),
+        Task::Code(words) => on_file(alloc, &Code, files, on_terminal, words, out, errors),
+        Task::Drive(words) => drive_as_asked(alloc, files, on_terminal, words, out, errors),
+        Task::Run(words) => run_as_asked(alloc, threads, files, on_terminal, words, out, errors),
+        Task::Test(words) => test_as_asked(
+            alloc,
+            threads,
+            progress,
+            files,
+            on_terminal,
+            words,
+            out,
+            errors,
+        ),
+        Task::Replay(words) => on_trace(alloc, &Replay, files, on_terminal, words, out, errors),
+        Task::Show(words) => show_as_asked(
+            alloc,
+            files,
+            on_terminal,
+            has_colour,
+            words,
+            out,
+            errors,
+        ),
+        Task::Migrate(words) => on_trace(alloc, &Migrate, files, on_terminal, words, out, errors),
+        Task::Shrink(words) => on_trace(alloc, &Shrink, files, on_terminal, words, out, errors),
     }
 }

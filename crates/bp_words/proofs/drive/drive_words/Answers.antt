@@ -12,5 +12,5 @@ returns c = record {
   init = c.in_ok-init.ensures;
   contexts = c.number.ensures;
   calls = c.number-2.ensures;
-  explain = c.is_given.ensures;
+  explain = c.explain_words.ensures;
 }

@@ -7,5 +7,5 @@ use Rattle.bp_words.proofs.files.file_words.Goals as goal
 pub returns : goal.returns
 returns c = record {
   program = value_read _ _ (c.get_str.ensures ∙ first_value-rows (found_of c.args.words.now) (codes "FILE")) c.unwrap_or.result _ c.unwrap_or.ensures refl;
-  explain = c.is_given.ensures;
+  explain = c.explain_words.ensures;
 }

@@ -15,5 +15,5 @@ returns c = record {
   seed = c.long_number.ensures;
   ring = c.number-4.ensures;
   spread = c.is_given.ensures;
-  explain = c.is_given-2.ensures;
+  explain = c.explain_words.ensures;
 }

@@ -14,7 +14,7 @@ returns c = record {
   seed = c.long_number.ensures;
   runs = c.long_number-2.ensures;
   jobs = c.number-3.ensures;
-  stuck = c.is_given-2.ensures;
-  unreached = c.is_given-3.ensures;
-  explain = c.is_given.ensures;
+  stuck = c.is_given.ensures;
+  unreached = c.is_given-2.ensures;
+  explain = c.explain_words.ensures;
 }

@@ -8,5 +8,5 @@ pub returns : goal.returns
 returns c = record {
   program = value_read _ _ (c.get_str.ensures ∙ first_value-rows (found_of c.args.words.now) (codes "FILE")) c.unwrap_or.result _ c.unwrap_or.ensures refl;
   trace = value_read _ _ (c.get_str-2.ensures ∙ first_value-rows (found_of c.args.words.now) (codes "TRACE")) c.unwrap_or-2.result _ c.unwrap_or-2.ensures refl;
-  explain = c.is_given.ensures;
+  explain = c.explain_words.ensures;
 }
