@@ -57,8 +57,11 @@ class Rows {
   revealCell(name) {
     const cell = this.body.querySelector(name);
     if (!cell) return;
-    const isSeen = cell.offsetLeft >= this.box.scrollLeft && cell.offsetLeft + cell.offsetWidth <= this.box.scrollLeft + this.box.clientWidth;
-    if (!isSeen) this.box.scrollLeft = cell.offsetLeft - (this.box.clientWidth - cell.offsetWidth) / 2;
+    const place = cell.getBoundingClientRect();
+    const left = cell.parentNode.querySelector(".context").getBoundingClientRect().right;
+    const right = Math.min(this.box.getBoundingClientRect().right, cell.parentNode.querySelector(".result").getBoundingClientRect().left);
+    const isSeen = place.left >= left && place.right <= right;
+    if (!isSeen) this.box.scrollLeft += (place.left + place.right - left - right) / 2;
   }
 
   /** Scrolls to a row, which stays in the page from now on, also where it is not seen. */
@@ -137,7 +140,21 @@ class Page {
       label.append(box, `${thread} ${entry}`);
       return label;
     });
-    byId("threads").append(...boxes);
+    const all = [["All", true], ["None", false]].map(([name, isChecked]) => {
+      const button = made("button", "", name);
+      button.type = "button";
+      button.addEventListener("click", () => this.tick(isChecked));
+      return button;
+    });
+    byId("threads").append(...(boxes.length > 2 ? all : []), ...boxes);
+  }
+
+  /** Ticks the boxes of all threads, or of none. */
+  tick(isChecked) {
+    const threads = [...this.trace.setup.threads.keys()];
+    this.threads = new Set(isChecked ? threads : []);
+    threads.forEach((thread) => { byId(`thread-${thread}`).checked = isChecked; });
+    this.filter();
   }
 
   // What is shown.
@@ -186,7 +203,7 @@ class Page {
     byId("calls-box").setAttribute("aria-colcount", threads.length + 3);
     const names = threads.map((thread) => `thread ${thread}\n${this.trace.setup.threads[thread]}`);
     byId("heads").replaceChildren(...["call", "context", ...names, "result"].map((name, at) => {
-      const head = made("div", at < 1 ? "number" : "", name);
+      const head = made("div", ["number", "context"][at] ?? (name === "result" ? "result" : ""), name);
       head.setAttribute("role", "columnheader");
       head.setAttribute("aria-colindex", at + 1);
       return head;

@@ -188,22 +188,27 @@ class States {
     this.program = program;
     this.statements = new Map();
     this.globals = trace.setup.globals.map(({ name }) => name);
-    let state = {
+    const first = {
       globals: Uint8Array.from(trace.setup.globals, ({ value }) => value),
       tops: trace.setup.threads.map((entry) => this.frame(entry, null)),
     };
-    this.snapshots = [state];
-    for (let index = 0; index < trace.calls.length; index += 1) {
-      state = this.next(state, index);
-      if ((index + 1) % SNAPSHOT_EVERY === 0) this.snapshots.push(state);
-    }
+    this.snapshots = [first];
   }
 
-  /** The state after a call. */
+  /** The state after a call. Snapshots are made up to there, where they are not there yet. */
   after(index) {
-    const snapshot = Math.floor((index + 1) / SNAPSHOT_EVERY);
-    let state = this.snapshots[snapshot];
-    for (let at = snapshot * SNAPSHOT_EVERY; at <= index; at += 1) state = this.next(state, at);
+    const needed = Math.floor((index + 1) / SNAPSHOT_EVERY);
+    while (this.snapshots.length <= needed) {
+      const last = this.snapshots.length - 1;
+      this.snapshots.push(this.afterSnapshot(last, (last + 1) * SNAPSHOT_EVERY));
+    }
+    return this.afterSnapshot(needed, index + 1);
+  }
+
+  /** The state after the first calls, so many, by way of this snapshot. */
+  afterSnapshot(number, count) {
+    let state = this.snapshots[number];
+    for (let at = number * SNAPSHOT_EVERY; at < count; at += 1) state = this.next(state, at);
     return state;
   }
 
