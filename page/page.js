@@ -168,7 +168,7 @@ class Page {
     this.shown = [];
     this.trace.calls.forEach((call, index) => isShown(call) && this.shown.push(index));
     this.calls.count = this.shown.length;
-    byId("slider").max = Math.max(0, this.shown.length - 1);
+    byId("slider").max = Math.max(1, this.shown.length);
     byId("calls-box").setAttribute("aria-rowcount", this.shown.length + 1);
     this.showHeads();
     if (this.shown.length) this.choosePosition(this.positionOf(this.chosen));
@@ -407,7 +407,7 @@ class Page {
     const text = this.callText(call);
     byId("said").textContent = text;
     byId("number").value = call.number;
-    byId("slider").value = at;
+    byId("slider").value = at + 1;
     byId("slider").setAttribute("aria-valuetext", `call ${call.number} of ${this.trace.calls.length}`);
     byId("link").href = `#call=${call.number}`;
     this.calls.reveal(at);
@@ -463,7 +463,7 @@ class Page {
     buttons.found = () => this.find(1);
     Object.entries(buttons).forEach(([name, does]) => byId(`go-${name}`).addEventListener("click", does));
     byId("number").addEventListener("change", () => this.choose(Math.max(1, Number(byId("number").value)) - 1));
-    byId("slider").addEventListener("input", () => this.choosePosition(Number(byId("slider").value)));
+    byId("slider").addEventListener("input", () => this.choosePosition(Number(byId("slider").value) - 1));
     byId("variable").addEventListener("input", () => this.filter());
     byId("changing").addEventListener("change", () => this.filter());
     byId("calls").addEventListener("click", (event) => {
