@@ -1,5 +1,6 @@
 // What the page shows, and what its keys and buttons do.
 
+const VERSION = 1;
 const CALLS_OF_A_PAGE = 20;
 const SPARE_ROWS = 8;
 const MAX_FRAMES = 8;
@@ -514,7 +515,9 @@ class Page {
 function start() {
   const lines = byId("calls-data").textContent.trim().replaceAll("\n", ",");
   const source = atob(byId("source-data").textContent.replace(/\s/g, ""));
-  new Page(new Trace(JSON.parse(`[${lines}]`)), new Program(source));
+  const trace = new Trace(JSON.parse(`[${lines}]`));
+  if (trace.setup.version !== VERSION) throw new Error(`its lines are of version ${trace.setup.version}`);
+  new Page(trace, new Program(source));
   byId("filters").open = matchMedia("(min-width: 60rem)").matches;
   byId("calls-box").focus({ preventScroll: true });
   document.documentElement.dataset.ready = Math.round(performance.now());
