@@ -21,10 +21,10 @@ function made(tag, name = "", text = "") {
 const HUES = [215, 150, 40, 280, 185, 90, 320, 250];
 const hueOf = (thread) => String(HUES[thread % HUES.length]);
 
-/** Rows of one height in a box that scrolls. Only those that are seen are in the page. */
+/** Rows of one height in a box that scrolls. Only those that are seen are in the page, and stay there while they are. */
 class Rows {
   constructor(box, body, draw) {
-    Object.assign(this, { box, body, draw, count: 0, kept: -1 });
+    Object.assign(this, { box, body, draw, count: 0, kept: -1, drawn: new Map() });
     box.addEventListener("scroll", () => this.redrawSoon());
     new ResizeObserver(() => this.redrawSoon()).observe(box);
   }
@@ -36,7 +36,19 @@ class Rows {
   }
 
   get height() {
-    return parseFloat(getComputedStyle(this.body).getPropertyValue("--row")) * parseFloat(getComputedStyle(document.documentElement).fontSize);
+    const row = getComputedStyle(this.body).getPropertyValue("--row");
+    return parseFloat(row) * parseFloat(getComputedStyle(document.documentElement).fontSize);
+  }
+
+  /** Takes a row out of the page, so that it is drawn anew. */
+  forget(position) {
+    this.drawn.get(position)?.remove();
+    this.drawn.delete(position);
+  }
+
+  forgetAll() {
+    this.drawn.clear();
+    this.body.replaceChildren();
   }
 
   redraw() {
@@ -44,14 +56,25 @@ class Rows {
     const height = this.height;
     const first = Math.max(0, Math.floor(this.box.scrollTop / height) - SPARE_ROWS);
     const seen = Math.ceil(this.box.clientHeight / height) + 2 * SPARE_ROWS;
-    const positions = Array.from({ length: Math.max(0, Math.min(seen, this.count - first)) }, (_, at) => first + at);
-    if (this.kept >= 0 && this.kept < this.count && !positions.includes(this.kept)) positions.push(this.kept);
+    const wanted = new Set(Array.from({ length: Math.max(0, Math.min(seen, this.count - first)) }, (_, at) => first + at));
+    if (this.kept >= 0 && this.kept < this.count) wanted.add(this.kept);
     this.body.style.height = `${this.count * height}px`;
-    this.body.replaceChildren(...positions.map((position) => {
-      const row = this.draw(position);
-      row.style.top = `${position * height}px`;
-      return row;
-    }));
+    [...this.drawn.keys()].filter((position) => !wanted.has(position)).forEach((position) => this.forget(position));
+    this.drawEach([...wanted].sort((a, b) => b - a), height);
+  }
+
+  /** Draws the rows that are not there, from the last to the first, so that each stands before the one after it. */
+  drawEach(positions, height) {
+    let next = null;
+    for (const position of positions) {
+      const row = this.drawn.get(position) ?? this.draw(position);
+      if (!this.drawn.has(position)) {
+        row.style.top = `${position * height}px`;
+        this.drawn.set(position, row);
+        this.body.insertBefore(row, next);
+      }
+      next = row;
+    }
   }
 
   /** Scrolls sideways to a cell of the row that is kept. */
@@ -169,6 +192,7 @@ class Page {
     this.shown = [];
     this.trace.calls.forEach((call, index) => isShown(call) && this.shown.push(index));
     this.calls.count = this.shown.length;
+    this.calls.forgetAll();
     byId("slider").max = Math.max(1, this.shown.length);
     byId("calls-box").setAttribute("aria-rowcount", this.shown.length + 1);
     this.showHeads();
@@ -316,6 +340,7 @@ class Page {
     const own = this.trace.calls[this.chosen];
     this.threadsShown().forEach((thread) => this.markThread(thread, own));
     this.marks.forEach((marks) => marks.sort((a, b) => a.start - b.start || (a.sign === "▶" ? -1 : 1)));
+    this.source.forgetAll();
     const isPlaced = own && own.line !== null;
     if (isPlaced) this.source.reveal(own.line - 1);
     else this.source.redraw();
@@ -403,6 +428,8 @@ class Page {
   choosePosition(position) {
     if (!this.shown.length) return;
     const at = Math.min(Math.max(position, 0), this.shown.length - 1);
+    this.calls.forget(this.positionOf(this.chosen));
+    this.calls.forget(at);
     this.chosen = this.shown[at];
     const call = this.trace.calls[this.chosen];
     const text = this.callText(call);
