@@ -101,6 +101,49 @@ class Rows {
   }
 }
 
+/** A strip above the calls: each context at its place in the trace and in the lane of its thread. */
+class Overview {
+  constructor(canvas, trace, choose) {
+    Object.assign(this, { canvas, trace, contexts: trace.contexts(), chosen: 0 });
+    canvas.addEventListener("click", (event) => choose(Math.floor((event.offsetX / canvas.clientWidth) * trace.calls.length)));
+    new ResizeObserver(() => this.draw()).observe(canvas);
+    matchMedia("(prefers-color-scheme: dark)").addEventListener("change", () => this.draw());
+  }
+
+  /** Where the call at an index begins, in pixels of the canvas. */
+  left(index) {
+    return (index / Math.max(1, this.trace.calls.length)) * this.canvas.width;
+  }
+
+  draw() {
+    this.canvas.width = this.canvas.clientWidth * devicePixelRatio;
+    this.canvas.height = this.canvas.clientHeight * devicePixelRatio;
+    const pen = this.canvas.getContext("2d");
+    const style = getComputedStyle(this.canvas);
+    const height = this.canvas.height / this.trace.setup.threads.length;
+    for (const { thread, first, last } of this.contexts) {
+      pen.fillStyle = `hsl(${hueOf(thread)} 45% ${style.getPropertyValue("--edge-light")})`;
+      const width = Math.max(1, this.left(last + 1) - this.left(first));
+      pen.fillRect(this.left(first), thread * height, width, Math.max(1, height - devicePixelRatio));
+    }
+    this.line(pen, this.trace.failure, style.getPropertyValue("--failure"), [4, 2]);
+    this.line(pen, this.chosen, style.getPropertyValue("--ink"), []);
+  }
+
+  /** A line across the strip in the middle of a call: whole, or broken for the failure. */
+  line(pen, index, colour, dashes) {
+    if (index < 0) return;
+    const middle = (this.left(index) + this.left(index + 1)) / 2;
+    pen.strokeStyle = colour;
+    pen.lineWidth = 2 * devicePixelRatio;
+    pen.setLineDash(dashes);
+    pen.beginPath();
+    pen.moveTo(middle, 0);
+    pen.lineTo(middle, this.canvas.height);
+    pen.stroke();
+  }
+}
+
 /** What came of a call, in the words of `show`. */
 function resultOf(call) {
   const words = call.choice === null ? [] : [`?=${call.choice}`];
@@ -124,6 +167,7 @@ class Page {
     this.source = new Rows(byId("source-box"), byId("source"), (line) => this.sourceRow(line));
     this.calls = new Rows(byId("calls-box"), byId("calls"), (position) => this.callRow(position));
     this.source.count = program.starts.length;
+    this.overview = new Overview(byId("overview"), trace, (index) => this.choose(index));
     this.showSetup();
     this.showThreads();
     this.listen();
@@ -443,6 +487,8 @@ class Page {
     byId("calls-box").setAttribute("aria-activedescendant", `call-${call.number}`);
     this.showMarks();
     this.showVariables(this.chosen);
+    this.overview.chosen = this.chosen;
+    this.overview.draw();
     clearTimeout(this.linkDue);
     this.linkDue = setTimeout(() => history.replaceState(null, "", byId("link").href), LINK_DELAY);
   }

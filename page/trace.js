@@ -147,6 +147,17 @@ class Trace {
     }
   }
 
+  /** The contexts: the thread of each, its first step and its last, as indices. */
+  contexts() {
+    const found = [];
+    this.calls.forEach(({ context, thread }, index) => {
+      if (context === null) return;
+      if (context > found.length) found.push({ thread, first: index });
+      found[found.length - 1].last = index;
+    });
+    return found;
+  }
+
   /** The context that goes on at a call, whoever makes it: its number and its thread. */
   contextAround(index) {
     const before = this.calls[this.stepBefore[index]];
