@@ -21,7 +21,7 @@ function made(tag, name = "", text = "") {
 const HUES = [215, 150, 40, 280, 185, 90, 320, 250];
 const hueOf = (thread) => String(HUES[thread % HUES.length]);
 
-/** Rows of one height in a box that scrolls. Only those that are seen are in the page, and stay there while they are. */
+/** Rows of one height in a box that scrolls. Only those that are seen are in the page. */
 class Rows {
   constructor(box, body, draw) {
     Object.assign(this, { box, body, draw, count: 0, kept: -1, drawn: new Map() });
@@ -56,7 +56,8 @@ class Rows {
     const height = this.height;
     const first = Math.max(0, Math.floor(this.box.scrollTop / height) - SPARE_ROWS);
     const seen = Math.ceil(this.box.clientHeight / height) + 2 * SPARE_ROWS;
-    const wanted = new Set(Array.from({ length: Math.max(0, Math.min(seen, this.count - first)) }, (_, at) => first + at));
+    const length = Math.max(0, Math.min(seen, this.count - first));
+    const wanted = new Set(Array.from({ length }, (_, at) => first + at));
     if (this.kept >= 0 && this.kept < this.count) wanted.add(this.kept);
     this.body.style.height = `${this.count * height}px`;
     [...this.drawn.keys()].filter((position) => !wanted.has(position)).forEach((position) => this.forget(position));
@@ -83,7 +84,8 @@ class Rows {
     if (!cell) return;
     const place = cell.getBoundingClientRect();
     const left = cell.parentNode.querySelector(".context").getBoundingClientRect().right;
-    const right = Math.min(this.box.getBoundingClientRect().right, cell.parentNode.querySelector(".result").getBoundingClientRect().left);
+    const result = cell.parentNode.querySelector(".result").getBoundingClientRect();
+    const right = Math.min(this.box.getBoundingClientRect().right, result.left);
     const isSeen = place.left >= left && place.right <= right;
     if (!isSeen) this.box.scrollLeft += (place.left + place.right - left - right) / 2;
   }
@@ -105,7 +107,9 @@ class Rows {
 class Overview {
   constructor(canvas, trace, choose) {
     Object.assign(this, { canvas, trace, contexts: trace.contexts(), chosen: 0 });
-    canvas.addEventListener("click", (event) => choose(Math.floor((event.offsetX / canvas.clientWidth) * trace.calls.length)));
+    canvas.addEventListener("click", (event) => {
+      choose(Math.floor((event.offsetX / canvas.clientWidth) * trace.calls.length));
+    });
     new ResizeObserver(() => this.draw()).observe(canvas);
     matchMedia("(prefers-color-scheme: dark)").addEventListener("change", () => this.draw());
   }
@@ -182,7 +186,8 @@ class Page {
     const seed = setup.seed === null ? "no seed" : `seed ${setup.seed}`;
     byId("bounds").textContent = `at most ${setup.contexts} contexts, ${setup.calls} calls of a thread, ${seed}`;
     const counts = `${end.calls} calls, contexts ${end.contexts}, open threads ${end.open}`;
-    byId("outcome").textContent = end.failure === null ? `${counts}; no assertion failed` : `${counts}; ${this.failureText()}`;
+    const outcome = end.failure === null ? "no assertion failed" : this.failureText();
+    byId("outcome").textContent = `${counts}; ${outcome}`;
     byId("outcome").classList.toggle("failed", end.failure !== null);
     byId("go-failure").disabled = this.trace.failure < 0;
     byId("number").max = this.trace.calls.length;
@@ -257,7 +262,8 @@ class Page {
   showNothing() {
     this.calls.redraw();
     const isEmpty = this.trace.calls.length === 0;
-    byId("said").textContent = isEmpty ? "The trace has no call." : "No call is left by the threads and the variable that are chosen.";
+    const filtered = "No call is left by the threads and the variable that are chosen.";
+    byId("said").textContent = isEmpty ? "The trace has no call." : filtered;
     this.showVariables(isEmpty ? -1 : this.chosen);
     this.showMarks();
   }
@@ -265,7 +271,8 @@ class Page {
   showHeads() {
     const threads = this.threadsShown();
     this.columnOf = new Map(threads.map((thread, at) => [thread, at + 3]));
-    const columns = `var(--call) var(--context) repeat(${Math.max(1, threads.length)}, minmax(8rem, 1fr)) minmax(8rem, 0.7fr)`;
+    const lanes = `repeat(${Math.max(1, threads.length)}, minmax(8rem, 1fr))`;
+    const columns = `var(--call) var(--context) ${lanes} minmax(8rem, 0.7fr)`;
     const width = `${7.5 + 8 * Math.max(1, threads.length) + 8}rem`;
     byId("calls-box").style.setProperty("--columns", columns);
     byId("heads").style.minWidth = byId("calls").style.minWidth = `max(100%, ${width})`;
@@ -350,7 +357,8 @@ class Page {
     let from = start;
     for (const mark of marks) {
       if (mark.end <= from) continue;
-      text.append(this.program.shown(from, Math.max(from, mark.start)), this.marked(mark, Math.max(from, mark.start), Math.min(end, mark.end)));
+      const begin = Math.max(from, mark.start);
+      text.append(this.program.shown(from, begin), this.marked(mark, begin, Math.min(end, mark.end)));
       from = Math.min(end, mark.end);
     }
     text.append(this.program.shown(from, end));
@@ -417,13 +425,14 @@ class Page {
   showVariables(index) {
     const before = this.states.after(Math.max(index - 1, -1));
     const after = index < 0 ? before : this.states.after(index);
-    const caption = made("caption", "heard", index < 0 ? "Variables at the start" : `Variables before and after call ${index + 1}`);
+    const title = index < 0 ? "Variables at the start" : `Variables before and after call ${index + 1}`;
+    const caption = made("caption", "heard", title);
     const head = made("thead");
     head.append(this.tableRow("", ["variable", "before", "after"], "col"));
     const globals = this.states.globals.map((name, at) => [name, before.globals[at], after.globals[at]]);
     const threads = this.threadsShown().map((thread) => this.localsOf(thread, before.tops[thread], after.tops[thread]));
-    const groups = [[globals.length ? "globals" : "no globals", globals], ...threads].map(([title, rows]) => this.group(title, rows));
-    byId("variables").replaceChildren(caption, head, ...groups);
+    const groups = [[globals.length ? "globals" : "no globals", globals], ...threads];
+    byId("variables").replaceChildren(caption, head, ...groups.map(([name, rows]) => this.group(name, rows)));
   }
 
   /** The variables of the frame on top of a thread's stack after the call, with their values before it. */
@@ -433,7 +442,8 @@ class Page {
     while (earlier && earlier.depth > top.depth) earlier = earlier.below;
     const isNew = !earlier || earlier.depth < top.depth;
     const names = this.program.variablesOf(top.procedure);
-    const rows = names.map((name, at) => [`${top.procedure}.${name}`, isNew ? null : earlier.values[at], top.values[at]]);
+    const old = (at) => (isNew ? null : earlier.values[at]);
+    const rows = names.map((name, at) => [`${top.procedure}.${name}`, old(at), top.values[at]]);
     return [`thread ${thread}: ${States.chain(top).join(" › ")}`, rows];
   }
 
@@ -449,7 +459,8 @@ class Page {
     if (!rows.length && title.startsWith("thread")) heading.append(made("span", "faint", ", no locals"));
     body.append(...fitting.map(([name, old, value]) => {
       const isChanged = old !== value;
-      const row = this.tableRow(isChanged ? "changed" : "", [name, old === null ? "–" : String(old), String(value)], "row");
+      const texts = [name, old === null ? "–" : String(old), String(value)];
+      const row = this.tableRow(isChanged ? "changed" : "", texts, "row");
       if (isChanged) row.lastChild.append(" ◂", made("span", "heard", old === null ? " new" : " changed"));
       return row;
     }));
@@ -508,7 +519,8 @@ class Page {
     const place = call.line === null ? "" : `${placeOf(call)} `;
     const result = resultOf(call);
     const statement = call.statement ?? "the thread has ended";
-    return `Call ${call.number}: thread ${call.thread} (${entry}), ${context}: ${place}${statement}${result ? `: ${result}` : ""}`;
+    const what = `${place}${statement}${result ? `: ${result}` : ""}`;
+    return `Call ${call.number}: thread ${call.thread} (${entry}), ${context}: ${what}`;
   }
 
   followLink() {
@@ -524,7 +536,8 @@ class Page {
     const here = this.positionOf(this.chosen);
     let at = 1;
     while (at <= count && !fits(this.shown[(here + way * at + count * at) % count])) at += 1;
-    if (words === "" || at > count) byId("said").textContent = words === "" ? "Write a part of a statement to look for." : `No statement that is shown has "${words}".`;
+    if (words === "") byId("said").textContent = "Write a part of a statement to look for.";
+    else if (at > count) byId("said").textContent = `No statement that is shown has "${words}".`;
     else this.choosePosition((here + way * at + count * at) % count);
   }
 
@@ -555,7 +568,8 @@ class Page {
     if (isText && event.key === "Escape") byId("calls-box").focus();
     if (at.id === "find" && event.key === "Enter") this.find(1);
     if (isText || event.ctrlKey || event.altKey || event.metaKey) return;
-    const does = this.lettersDo()[event.key] ?? (at.matches('.box:not([role="grid"]), input[type="range"]') ? null : this.movesDo()[event.key]);
+    const scrolls = at.matches('.box:not([role="grid"]), input[type="range"]');
+    const does = this.lettersDo()[event.key] ?? (scrolls ? null : this.movesDo()[event.key]);
     if (!does) return;
     event.preventDefault();
     does();

@@ -1,13 +1,16 @@
 "use strict";
 
-// The trace is a list of calls as `btrun show --json` prints them, each a list of values without their keys. Call number n
-// is at index n - 1. A state is what the variables are after a call; the state after index -1 is the one at the start.
+// The trace is a list of calls as `btrun show --json` prints them, each a list of values without keys. Call number
+// n is at index n - 1. A state is what the variables are after a call; that after index -1 is the one at the start.
 
 const SNAPSHOT_EVERY = 256;
 
 /** A call, of its values in the order of `show --json`. */
-function callOf([number, thread, context, isSwitch, line, column, procedure, depth, statement, choice, reply, changes, printed]) {
-  return { number, thread, context, switch: isSwitch, line, column, procedure, depth, statement, choice, reply, changes, printed };
+function callOf(values) {
+  const [number, thread, context, isSwitch, line, column, procedure, depth, statement, ...rest] = values;
+  const [choice, reply, changes, printed] = rest;
+  const place = { line, column, procedure, depth, statement };
+  return { number, thread, context, switch: isSwitch, ...place, choice, reply, changes, printed };
 }
 
 /** The least position in 0..count at which the test holds, where it holds from some position on. */

@@ -3,8 +3,8 @@
 
 Usage: confirm.py FILE STEPS ENTRY.. [-- OPTION..]
 
-A line of STEPS is a thread's entry or number, a source line (`-` at a procedure's end), and `true` where a `?` is 1. The
-options are those of `btrun drive`. The exit status is 0 where an assertion fails at the last step.
+A line of STEPS is a thread's entry or number, a source line (`-` at a procedure's end), and `true` where a `?` is 1.
+The options are those of `btrun drive`. The exit status is 0 where an assertion fails at the last step.
 """
 import json
 import re
