@@ -1,9 +1,11 @@
 -- What playing a setup comes to, from what the stage, the gathering and the rest promise.
-use Rattle.std.proofs.Common.{◌≡◌, ℕ, length, is_some, Bool, true, false, List, [], ◌++◌, Option, Some, sym, ◌∙◌, ap, subst, append_assoc}
+use Rattle.std.proofs.Common.{◌≡◌, ◌<◌, ℕ, length, length-append, arith, is_some, Bool, true, false, List, [], ◌++◌, Option, Some, sym, ◌∙◌, ap, subst, append_assoc}
 use Rattle.std.proofs.lemmas.List.{append-nil}
 use Rattle.std.proofs.lemmas.Option.{same_Some}
 use Rattle.bp_tree.specs.Ast.{Program}
-use Rattle.bp_text.specs.Writing.{AppendsAll}
+use Rattle.bp_text.specs.Writing.{AppendsAll, AppendsPart}
+use Rattle.bp_text.proofs.Appends.{part_first, part_then}
+use Rattle.std.proofs.KnownBytes.{Appends-nil}
 use Rattle.bp_machine.specs.declared.calls.Call.{Call}
 use Rattle.bp_machine.specs.declared.reports.Report.{Report}
 use Rattle.bp_machine.specs.Histories.{open_lines}
@@ -88,4 +90,38 @@ module _ (t : Program) (s : SetupOf) (old c1 c2 c3 : Option (List ℕ)) (f1 f2 f
     legal = g.legal;
     seeded = g.seeded;
     written = subst (λ b. IsInked old c3 b (trace_text s (taken ++ g.left))) broken inked;
+  }
+
+-- The pen stopped before the end: the calls that were taken are written, or a part of their lines.
+module _ (t : Program) (s : SetupOf) (old now : Option (List ℕ)) (failed : Bool) (taken : List Call) (seats : List SeatOf) (tap : TapOf) (r : Report) (has_stopped agree : Bool)
+    (staged : IsInked old now failed (head_text One s ++ lines_of taken)) (g : IsGathered t s taken seats tap r has_stopped agree) where
+  begun : List ℕ
+  begun = head_text One s ++ lines_of taken
+
+  the_rest : List ℕ
+  the_rest = lines_of g.left ++ end_line (length (taken ++ g.left)) (open_lines s (taken ++ g.left))
+
+  has_end : 0 < length the_rest
+  unfolding the_rest
+  has_end = rw (length-append (lines_of g.left) (end_line (length (taken ++ g.left)) (open_lines s (taken ++ g.left)))) (omega arith)
+
+  whole : begun ++ the_rest ≡ trace_text s (taken ++ g.left)
+  unfolding the_rest begun
+  whole =
+      append_assoc (head_text One s) (lines_of taken) the_rest
+      ∙ ap (λ w. head_text One s ++ w)
+      (sym (append_assoc (lines_of taken) (lines_of g.left) (end_line (length (taken ++ g.left)) (open_lines s (taken ++ g.left))))
+      ∙ ap (λ w. w ++ end_line (length (taken ++ g.left)) (open_lines s (taken ++ g.left))) (sym (lines_append taken g.left)))
+
+  part : (b : Bool) → IsInked old now b begun → AppendsPart old now (begun ++ the_rest)
+  part false all = part_then old now now begun the_rest all (record { count = 0; short = has_end; grown = Appends-nil now })
+  part true some = part_first old now begun the_rest some
+
+  pub stopped : IsCutTrace t s old now
+  unfolding begun
+  stopped = record {
+    history = taken ++ g.left;
+    legal = g.legal;
+    seeded = g.seeded;
+    written = subst (λ w. AppendsPart old now w) whole (part failed staged);
   }

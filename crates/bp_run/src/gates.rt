@@ -1,14 +1,20 @@
 //! Gates: callbacks around the turns of workers.
 use bp_machine::Reply;
+use std::sync::Wait;
+use std::time::Clock;
 
 /// Callbacks around each turn of a worker, made while it holds no lock. Whoever starts a run can
 /// use them to hold a worker back, or to watch it.
 pub trait Gate: Sync {
     /// Called before each turn, with the number of calls that the thread has made.
-    fn before(&self, thread: u32, call: u64);
+    fn before<R: Wait + Clock>(&self, rt: &R, thread: u32, call: u64);
 
     /// Called after each turn that was answered, with its reply. A turn that is refused has none.
     fn after(&self, thread: u32, reply: Reply);
+
+    /// Called once the thread takes no further turn: its line is finished, its worker was refused
+    /// memory or was told to stop, or no worker could be started for it.
+    fn finished(&self, _thread: u32) {}
 }
 
 /// A gate that does nothing.
@@ -16,7 +22,7 @@ pub trait Gate: Sync {
 pub struct Open;
 
 impl Gate for Open {
-    fn before(&self, _thread: u32, _call: u64) {}
+    fn before<R: Wait + Clock>(&self, _rt: &R, _thread: u32, _call: u64) {}
 
     fn after(&self, _thread: u32, _reply: Reply) {}
 }

@@ -2,8 +2,8 @@
 //! while they run.
 #![tactic(auto)]
 
+mod bells;
 mod gates;
-mod idles;
 pub mod limits;
 mod pens;
 mod playing;
@@ -11,6 +11,7 @@ mod run_faults;
 mod run_options;
 mod runner;
 mod scribes;
+mod signals;
 mod spreads;
 mod stages;
 mod workers;
@@ -20,5 +21,6 @@ pub use playing::{PlayedBoard, play};
 pub use run_faults::RunFault;
 pub use run_options::RunOptions;
 pub use runner::run;
+pub use signals::Signals;
 pub use spreads::Spread;
-pub use workers::work;
+pub use workers::{Unfinished, work};

@@ -1,5 +1,5 @@
 //! The pen of a scribe: a writer, and whether it has failed.
-ghost use Rattle.std.specs.Prelude.{◌≡◌, [], false, true};
+ghost use Rattle.std.specs.Prelude.{◌≡◌, ◌||◌, [], false, true};
 ghost use Rattle.bp_trace.specs.TraceText.{head_text, call_line, end_line};
 ghost use Rattle.bp_trace.specs.declared.versions.Version.TheVariants.{One};
 ghost use Rattle.bp_run.specs.Inks.{Inks};
@@ -15,6 +15,8 @@ pub(crate) struct Pen<'a, W> {
     pub failed: bool,
     /// Whether something was written since the writer was last flushed.
     pub is_wet: bool,
+    /// Whether a flush has failed: whoever holds the pen is to stop.
+    pub is_stuck: bool,
 }
 
 impl<'a, W: Write> Pen<'a, W> {
@@ -28,7 +30,15 @@ impl<'a, W: Write> Pen<'a, W> {
             out,
             failed: false,
             is_wet: false,
+            is_stuck: false,
         }
+    }
+
+    /// Whether the writer has failed.
+    pub fn has_failed(&self) -> bool
+        ensures { result ≡ self.now.failed || self.now.is_stuck }
+    {
+        self.failed || self.is_stuck
     }
 
     pub fn head(&mut self, setup: &Setup)
@@ -76,8 +86,8 @@ impl<'a, W: Write> Pen<'a, W> {
         ensures dry { self.new.is_wet ≡ false }
     {
         if self.is_wet && !self.failed {
-            // A flush that fails takes no byte back; what is lost the next write meets.
-            let _ = self.out.flush();
+            // A flush that fails takes no byte back, but what was written may be lost.
+            self.is_stuck = self.out.flush().is_err();
         }
         self.is_wet = false;
     }

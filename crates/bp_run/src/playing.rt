@@ -124,18 +124,21 @@ fn play_with<
     if !all_started {
         return refused(pen, RunFault::Start);
     }
-    let Ok(mut gathered) = gather(board, seats, tap, code, setup) else {
+    let Ok(gathered) = gather(board, seats, tap, code, setup) else {
         unreachable!()
     };
-    write_rest(&mut pen, &mut gathered.tap);
     let Gathered {
         seats,
-        tap: _,
+        mut tap,
         report,
         has_stopped,
         agree,
     } = gathered;
     *back = seats;
+    if pen.has_failed() {
+        return refused(pen, RunFault::Write);
+    }
+    write_rest(&mut pen, &mut tap);
     pen.end(report.calls, report.left_open);
     if pen.failed {
         return refused(pen, RunFault::Write);

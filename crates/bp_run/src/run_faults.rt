@@ -20,7 +20,8 @@ pub enum RunFault {
     /// agree with the machine on its thread. The trace is written.
     #[error("a worker stopped before its thread was finished")]
     Early,
-    /// A write failed. A proper prefix of the trace of a history is written.
+    /// A write or a flush failed, and the workers stopped. A proper prefix of the trace of a history
+    /// is written.
     #[error("the output could not be written")]
     Write,
     /// There was not enough memory outside the workers. Nothing is written.

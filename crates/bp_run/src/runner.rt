@@ -79,8 +79,9 @@ fn open_and_play<
 /// its bits are those of the seed.
 ///
 /// The refusals come in the order of `RunFault`. Nothing is written before all workers were
-/// started; at a write that fails a proper prefix of the trace of a history is written. A worker
-/// that is refused memory ends, and its line stays open: that is no refusal of the run.
+/// started. Where a write or a flush fails the workers stop, and a proper prefix of the trace of a
+/// history is written. A worker that is refused memory ends, and its line stays open: that is no
+/// refusal of the run.
 pub fn run<G: Gate, W: Write, R: Threads + Wait + Clock + Sync>(
     rt: &R,
     alloc: Global,

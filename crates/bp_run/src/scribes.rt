@@ -2,37 +2,51 @@
 ghost use Rattle.std.specs.Prelude.{◌≡◌, [], true, false, Some, is_some};
 ghost use Rattle.bp_run.specs.Scribing.{IsScribed, IsStaged, IsRestScribed};
 
-use crate::idles::Idle;
+use crate::bells::Idle;
 use crate::pens::Pen;
-use crate::workers::have_ended;
+use crate::signals::Signals;
 use bp_board::{Calls, Tap};
 use bp_machine::Setup;
 use std::io::Write;
-use std::sync::{Mutex, Wait};
+use std::sync::Wait;
 use std::time::Clock;
 
-/// Takes calls and writes their lines, until the workers have ended and no call is seen.
+/// How often the scribe dozes before it sleeps. While calls come in quick succession it is not worth
+/// a wake-up for each.
+const DOZES: u32 = 8;
+
+/// Takes calls and writes their lines, until the workers have ended and no call is seen. Each time
+/// the ring is empty as many workers as there were calls are woken, where they wait for room. If the
+/// writer fails all are told to stop.
 fn scribe<W: Write, C: Calls, R: Wait + Clock>(
     rt: &R,
     pen: &mut Pen<'_, W>,
     tap: &mut Tap<C>,
-    ended: &Mutex<u32>,
+    signals: &Signals,
     started: u32,
 )
     ensures same_reference { pen.new.out.ghost_name ≡ pen.old.out.ghost_name }
     ensures written { IsScribed (W.contents pen.old.out.now) pen.old.failed
         (W.contents pen.new.out.now) pen.new.failed tap.old.taken tap.new.taken }
 {
-    let mut idle = Idle::new();
+    let mut idle = Idle::new(&signals.calls, DOZES);
+    let mut room = 0u64;
     for _ in rt.forever() {
+        if pen.has_failed() {
+            signals.halt();
+            return;
+        }
         match tap.next() {
             Some(call) => {
-                idle = Idle::new();
+                idle = Idle::new(&signals.calls, DOZES);
+                room = room.saturating_add(1);
                 pen.line(&call);
             }
             None => {
+                signals.room.ring(room);
+                room = 0;
                 pen.flush();
-                if have_ended(rt, ended, started) {
+                if signals.have_ended(started) {
                     return;
                 }
                 idle.rest(rt);
@@ -42,31 +56,14 @@ fn scribe<W: Write, C: Calls, R: Wait + Clock>(
     unreachable!()
 }
 
-/// Takes calls and drops them, until the workers have ended and no call is seen: no worker stays at
-/// a full ring.
-fn drain<C: Calls, R: Wait + Clock>(rt: &R, tap: &mut Tap<C>, ended: &Mutex<u32>, started: u32) {
-    let mut idle = Idle::new();
-    for _ in rt.forever() {
-        if tap.next().is_none() {
-            if have_ended(rt, ended, started) {
-                return;
-            }
-            idle.rest(rt);
-        } else {
-            idle = Idle::new();
-        }
-    }
-    unreachable!()
-}
-
 /// Where all workers were started, writes the head of the trace, and then the calls while they run;
-/// else writes nothing, and waits until those that were started have ended.
+/// else writes nothing, and tells those that were started to stop.
 pub(crate) fn write_running<W: Write, C: Calls, R: Wait + Clock>(
     rt: &R,
     setup: &Setup,
     pen: &mut Pen<'_, W>,
     tap: &mut Tap<C>,
-    ended: &Mutex<u32>,
+    signals: &Signals,
     started: u32,
     all_started: bool,
 )
@@ -78,9 +75,9 @@ pub(crate) fn write_running<W: Write, C: Calls, R: Wait + Clock>(
 {
     if all_started {
         pen.head(setup);
-        scribe(rt, pen, tap, ended, started);
+        scribe(rt, pen, tap, signals, started);
     } else {
-        drain(rt, tap, ended, started);
+        signals.halt();
     }
 }
 

@@ -9,12 +9,13 @@ ghost use Rattle.bp_run.specs.Works.{IsWorked, TellsShut};
 use crate::gates::Gate;
 use crate::pens::Pen;
 use crate::scribes::write_running;
+use crate::signals::Signals;
 use crate::workers::{Worked, worker};
 use bp_board::{Board, Calls, Seat, Tap};
 use bp_machine::Setup;
 use std::io::Write;
+use std::sync::Wait;
 use std::sync::ledger::Ledger;
-use std::sync::{Mutex, Wait};
 use std::thread;
 use std::thread::{Promise, PromisedHandle, Scope, Threads};
 use std::time::Clock;
@@ -46,7 +47,7 @@ pub(crate) struct Staged<'a, W, C: Calls, O: Ledger> {
 }
 
 /// Starts a worker for each seat, in order, until one cannot be started. Answers whether all were
-/// started. The seats without a worker are dropped.
+/// started. The gate is told of the seats without a worker, which are dropped.
 fn start_workers<
     's,
     E,
@@ -58,7 +59,7 @@ fn start_workers<
     scope: &Scope<'s, E>,
     rt: &'s R,
     board: &'s Board<C, O>,
-    ended: &'s Mutex<u32>,
+    signals: &'s Signals,
     seats: Vec<Seat<C, O>>,
     handles: &mut Vec<Handle<C, O>>,
     turn: u32,
@@ -74,23 +75,29 @@ fn start_workers<
         → map (λ handle. handle.promise.thread) handles.new.items
         ≡ map (λ seat. seat.thread) seats.items }
 {
+    let mut all_started = true;
     for seat in seats {
-        let promise = OfThread {
-            thread: seat.thread(),
-        };
+        let thread = seat.thread();
+        if !all_started {
+            gate.finished(thread);
+            continue;
+        }
         match scope.spawn_with(
-            promise,
+            OfThread { thread },
             move || -> Worked<C, O>
                 requires some { 0 < turn }
                 requires few { turn ≤ MAX_TURN }
                 ensures { IsWorked seat.thread result.seat result.done }
-            { worker(rt, board, ended, seat, turn, gate) },
+            { worker(rt, board, signals, seat, turn, gate) },
         ) {
             Ok(handle) => handles.push_reserved(handle),
-            Err(_) => return false,
+            Err(_) => {
+                all_started = false;
+                gate.finished(thread);
+            }
         }
     }
-    true
+    all_started
 }
 
 /// Waits until the workers have ended, and gives back their seats in order, and whether all have
@@ -151,8 +158,8 @@ pub(crate) fn stage<
         → map (λ s. s.thread) result.seats.items ≡ map (λ s. s.thread) seats.items }
     ensures done { TellsShut result.all_done result.seats.items }
 {
-    let ended = Mutex::new(0u32);
-    let ended = &ended;
+    let signals = Signals::new();
+    let signals = &signals;
     thread::scope(
         thread::scope_env(),
         rt,
@@ -183,14 +190,14 @@ pub(crate) fn stage<
                 scope,
                 rt,
                 board,
-                ended,
+                signals,
                 seats,
                 &mut handles,
                 turn,
                 gate,
             );
             let started = handles.len() as u32;
-            write_running(rt, setup, &mut pen, &mut tap, ended, started, all_started);
+            write_running(rt, setup, &mut pen, &mut tap, signals, started, all_started);
             let (seats, all_done) = join_workers(rt, handles, back);
             Staged {
                 pen,

@@ -1,74 +1,106 @@
 //! Workers: each makes the calls of one guest thread.
-ghost use Rattle.std.specs.Prelude.{◌≡◌, ◌≤◌, ◌<◌, ◌⊎◌, false, OnOk, IfErr};
+ghost use Rattle.std.specs.Prelude.{◌≡◌, ◌≤◌, ◌<◌, ◌⊎◌, false, true, OnOk, OnErr};
 ghost use Rattle.bp_board.specs.declared.limits.TheConstants.{MAX_TURN};
-ghost use Rattle.bp_run.specs.Works.{EndsWork, IsWorked};
+ghost use Rattle.bp_run.specs.Works.{IsWorked};
 
+use crate::bells::Idle;
 use crate::gates::Gate;
-use crate::idles::Idle;
+use crate::signals::Signals;
 use bp_board::{Board, Calls, Seat};
 use bp_machine::AskFault;
+use std::sync::Wait;
 use std::sync::ledger::Ledger;
-use std::sync::{Mutex, Wait};
 use std::time::Clock;
 
+/// Why a worker stops though its seat is open. The calls that were made stand.
+#[derive(Clone, Copy, Debug, PartialEq, Eq)]
+pub enum Unfinished {
+    /// Memory was refused.
+    Memory,
+    /// The line of its thread was finished already.
+    Finished,
+    /// It was told to stop.
+    Halted,
+}
+
 /// Takes turns of at most `turn` calls from this seat, until its line is finished. Where the ring
-/// is full it gives way to other threads, and takes a turn again. It stops where memory is refused,
-/// or where the line was finished already though the seat is open. The calls that were made stand.
+/// is full it waits for room, and takes a turn again.
+fn take_turns<C: Calls, O: Ledger, G: Gate, R: Wait + Clock>(
+    rt: &R,
+    board: &Board<C, O>,
+    seat: &mut Seat<C, O>,
+    turn: u32,
+    gate: &G,
+    signals: &Signals,
+) -> Result<(), Unfinished>
+    requires some { 0 < turn }
+    requires few { turn ≤ MAX_TURN }
+    ensures ok { OnOk result (seat.new.is_open ≡ false) }
+    ensures refused { OnErr result (seat.new.is_open ≡ true) }
+    ensures thread { seat.new.thread ≡ seat.old.thread }
+    ensures calls { seat.old.calls ≤ seat.new.calls }
+{
+    let mut idle = Idle::new(&signals.room, 0);
+    for _ in rt.forever() {
+        if !seat.is_open() {
+            return Ok(());
+        }
+        if signals.is_halted() {
+            return Err(Unfinished::Halted);
+        }
+        gate.before(rt, seat.thread(), seat.calls());
+        match board.turn(rt, seat, turn) {
+            Ok(reply) => {
+                signals.calls.ring(1);
+                idle = Idle::new(&signals.room, 0);
+                gate.after(seat.thread(), reply);
+            }
+            Err(AskFault::Busy) => {
+                signals.calls.ring_loudly();
+                idle.rest(rt);
+            }
+            Err(AskFault::Memory) => return Err(Unfinished::Memory),
+            Err(_) => return Err(Unfinished::Finished),
+        }
+    }
+    unreachable!()
+}
+
+/// Takes turns of at most `turn` calls from this seat, until its line is finished, and tells the
+/// gate. It stops where memory is refused, where the line was finished already though the seat is
+/// open, or where the signals tell it to.
 pub fn work<C: Calls, O: Ledger, G: Gate, R: Wait + Clock>(
     rt: &R,
     board: &Board<C, O>,
     seat: &mut Seat<C, O>,
     turn: u32,
     gate: &G,
-) -> Result<(), AskFault>
+    signals: &Signals,
+) -> Result<(), Unfinished>
     requires some { 0 < turn }
     requires few { turn ≤ MAX_TURN }
     ensures ok { OnOk result (seat.new.is_open ≡ false) }
-    ensures refused { IfErr result (EndsWork seat.new) }
+    ensures refused { OnErr result (seat.new.is_open ≡ true) }
     ensures thread { seat.new.thread ≡ seat.old.thread }
     ensures calls { seat.old.calls ≤ seat.new.calls }
 {
-    let mut idle = Idle::new();
-    for _ in rt.forever() {
-        if !seat.is_open() {
-            return Ok(());
-        }
-        gate.before(seat.thread(), seat.calls());
-        match board.turn(rt, seat, turn) {
-            Ok(reply) => {
-                idle = Idle::new();
-                gate.after(seat.thread(), reply);
-            }
-            Err(AskFault::Busy) => idle.rest(rt),
-            Err(fault) => return Err(fault),
-        }
-    }
-    unreachable!()
-}
-
-/// Counts one more worker that has ended.
-fn note_end(rt: &impl Wait, ended: &Mutex<u32>) {
-    let mut count = ended.lock(rt);
-    *count = count.saturating_add(1);
-}
-
-/// Whether at least `started` workers have ended.
-pub(crate) fn have_ended(rt: &impl Wait, ended: &Mutex<u32>, started: u32) -> bool {
-    *ended.lock(rt) >= started
+    let done = take_turns(rt, board, seat, turn, gate, signals);
+    gate.finished(seat.thread());
+    done
 }
 
 /// What a worker leaves: its seat, and that its work is done, or why it stopped before.
 #[derive(Drop)]
 pub(crate) struct Worked<C: Calls, O: Ledger> {
     pub seat: Seat<C, O>,
-    pub done: Result<(), AskFault>,
+    pub done: Result<(), Unfinished>,
 }
 
 /// What the thread of a worker does: all the work of its seat, and then it is counted as ended.
 pub(crate) fn worker<C: Calls, O: Ledger, G: Gate, R: Wait + Clock>(
     rt: &R,
     board: &Board<C, O>,
-    ended: &Mutex<u32>,
+    signals: &Signals,
     mut seat: Seat<C, O>,
     turn: u32,
     gate: &G,
@@ -77,7 +109,7 @@ pub(crate) fn worker<C: Calls, O: Ledger, G: Gate, R: Wait + Clock>(
     requires few { turn ≤ MAX_TURN }
     ensures { IsWorked seat.thread result.seat result.done }
 {
-    let done = work(rt, board, &mut seat, turn, gate);
-    note_end(rt, ended);
+    let done = work(rt, board, &mut seat, turn, gate, signals);
+    signals.note_end();
     Worked { seat, done }
 }

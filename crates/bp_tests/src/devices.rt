@@ -33,6 +33,26 @@ impl Write for Short {
     }
 }
 
+/// A writer that takes all, and whose flushes fail.
+#[derive(Drop)]
+pub(crate) struct Stuck {
+    pub(crate) taken: Vec<u8>,
+}
+
+impl Write for Stuck {
+    ghost use Rattle.std.specs.Prelude.{Some};
+
+    ghost contents = { λ w. Some w.taken.items };
+
+    fn write(&mut self, buf: &[u8]) -> io::Result<usize> {
+        self.taken.write(buf)
+    }
+
+    fn flush(&mut self) -> io::Result<()> {
+        Err(io::Error::from(ErrorKind::BrokenPipe))
+    }
+}
+
 /// A reader that gives one space at each of this many reads, and then fails.
 #[derive(Drop)]
 pub(crate) struct Broken {

@@ -8,7 +8,7 @@ use super::{tell, wants};
 use bp_board::{Board, Calls, Desk, Kit, Seat, Tap};
 use bp_code::Code;
 use bp_machine::{AskFault, Call, Setup};
-use bp_run::{Open, work};
+use bp_run::{Open, Signals, Unfinished, work};
 use std::alloc::Global;
 use std::marker::Brand;
 use std::sync::Wait;
@@ -57,6 +57,15 @@ fn was_refused<T: Drop>(answer: Result<T, AskFault>) -> Result<bool, Fail> {
         Ok(_) => Ok(false),
         Err(AskFault::Memory) => Ok(true),
         Err(_) => Err(Fail::from("another refusal")),
+    }
+}
+
+/// Whether a worker was stopped, where it was refused memory or has done its work.
+fn was_stopped(done: Result<(), Unfinished>) -> Result<bool, Fail> {
+    match done {
+        Ok(()) => Ok(false),
+        Err(Unfinished::Memory) => Ok(true),
+        Err(_) => Err(Fail::from("another stop")),
     }
 }
 
@@ -120,7 +129,7 @@ fn play_at_board<C: Calls, O: Ledger, R: Wait + Clock>(
     for _ in 0..22 {
         if seat.is_open() {
             let answer = match way {
-                Way::Work => was_refused(work(rt, board, seat, 3, &Open))?,
+                Way::Work => was_stopped(work(rt, board, seat, 3, &Open, &Signals::new()))?,
                 _ => was_refused(board.turn(rt, seat, 3))?,
             };
             refused = refused || answer;

@@ -8,8 +8,8 @@ use super::ready::{CALLS, code, kit, setup};
 use super::{tell, wants};
 use bp_board::{Board, Calls, Kit};
 use bp_code::Code;
-use bp_machine::{AskFault, Setup};
-use bp_run::{Open, work};
+use bp_machine::Setup;
+use bp_run::{Open, Signals, Unfinished, work};
 use std::marker::Brand;
 use std::sync::Wait;
 use std::sync::ledger::Ledger;
@@ -37,9 +37,9 @@ fn is_refused<C: Calls, O: Ledger, R: Wait + Clock>(
         return Err(Fail::from("no seat"));
     };
     println!(out; "no memory is left")?;
-    match work(rt, &board, seat, 3, &Open) {
+    match work(rt, &board, seat, 3, &Open, &Signals::new()) {
         Ok(()) => Ok(false),
-        Err(AskFault::Memory) => {
+        Err(Unfinished::Memory) => {
             wants(seat.is_open())?;
             Ok(true)
         }

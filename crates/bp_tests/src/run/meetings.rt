@@ -41,7 +41,7 @@ struct Meeting {
 }
 
 impl Gate for Meeting {
-    fn before(&self, thread: u32, call: u64) {
+    fn before<R: Wait + Clock>(&self, _rt: &R, thread: u32, call: u64) {
         if call == 0 {
             self.arrived.fetch_or(1 << (thread % 64), Ordering::SeqCst);
             if !comes_to(&self.arrived, self.wanted) {
@@ -97,7 +97,7 @@ struct Behind {
 }
 
 impl Gate for Behind {
-    fn before(&self, thread: u32, call: u64) {
+    fn before<R: Wait + Clock>(&self, _rt: &R, thread: u32, call: u64) {
         if thread == self.held && call == 0 && !comes_to(&self.ended, 1) {
             self.missed.store(1, Ordering::SeqCst);
         }
@@ -179,7 +179,7 @@ struct Reader<'a> {
 }
 
 impl<'a> Gate for Reader<'a> {
-    fn before(&self, _thread: u32, call: u64) {
+    fn before<R: Wait + Clock>(&self, _rt: &R, _thread: u32, call: u64) {
         if call == self.call && !comes_to(self.flag, 1) {
             self.missed.store(1, Ordering::SeqCst);
         }

@@ -46,7 +46,7 @@ struct Full<'a> {
 }
 
 impl<'a> Gate for Full<'a> {
-    fn before(&self, _thread: u32, call: u64) {
+    fn before<R: Wait + Clock>(&self, _rt: &R, _thread: u32, call: u64) {
         let is_told_twice = self.told.swap(call, Ordering::SeqCst) == call;
         if is_told_twice && self.word.load(Ordering::SeqCst) == 0 {
             self.word.store(call, Ordering::SeqCst);
@@ -99,7 +99,7 @@ struct Last<'a> {
 }
 
 impl<'a> Gate for Last<'a> {
-    fn before(&self, _thread: u32, _call: u64) {}
+    fn before<R: Wait + Clock>(&self, _rt: &R, _thread: u32, _call: u64) {}
 
     fn after(&self, _thread: u32, reply: Reply) {
         if reply.is_last() {

@@ -78,7 +78,7 @@ fn three_workers(rt: HostRuntime) -> Result<(), AllocError> {
 struct Slow;
 
 impl Gate for Slow {
-    fn before(&self, _thread: u32, _call: u64) {
+    fn before<R: Wait + Clock>(&self, _rt: &R, _thread: u32, _call: u64) {
         for _ in 0..100 {
             thread::yield_now();
         }

@@ -11,7 +11,7 @@ use bp_board::limits::MAX_TURN;
 use bp_board::{Board, Calls, Kit, gather};
 use bp_code::Code;
 use bp_machine::{Reply, Setup};
-use bp_run::{Gate, Open, work};
+use bp_run::{Gate, Open, Signals, work};
 use std::alloc::Global;
 use std::marker::Brand;
 use std::sync::Wait;
@@ -21,10 +21,14 @@ use std::test::Fail;
 use std::time::Clock;
 
 /// The digits that are noted of the nine calls of the loop, by turns of this many calls.
-pub(super) const LOOP_DIGITS: [(u32, u64); 3] = [(1, 11_121_314_151_617_182), (3, 13_162), (64, 2)];
+pub(super) const LOOP_DIGITS: [(u32, u64); 3] = [
+    (1, 111_213_141_516_171_824),
+    (3, 131_624),
+    (64, 24),
+];
 
 /// A gate that notes a digit each time: ahead of a turn the number of calls, and after it 1 for
-/// Stepped, 2 for Ended and 3 for another reply.
+/// Stepped, 2 for Ended and 3 for another reply. Once the thread takes no further turn it notes a 4.
 #[derive(Drop)]
 pub(super) struct Notes {
     digits: AtomicU64,
@@ -50,7 +54,7 @@ impl Notes {
 }
 
 impl Gate for Notes {
-    fn before(&self, _thread: u32, call: u64) {
+    fn before<R: Wait + Clock>(&self, _rt: &R, _thread: u32, call: u64) {
         self.note(call);
     }
 
@@ -60,6 +64,10 @@ impl Gate for Notes {
             Reply::Ended => 2,
             _ => 3,
         });
+    }
+
+    fn finished(&self, _thread: u32) {
+        self.note(4);
     }
 }
 
@@ -89,7 +97,7 @@ fn work_at<C: Calls, O: Ledger, G: Gate, R: Wait + Clock>(
     let Some(seat) = seats.get_mut(0) else {
         return None;
     };
-    if work(rt, &board, seat, turn, gate).is_err() {
+    if work(rt, &board, seat, turn, gate, &Signals::new()).is_err() {
         return None;
     }
     match gather(board, seats, tap, code, setup) {
@@ -139,6 +147,15 @@ fn works_by_turns(rt: HostRuntime) -> Result<(), Fail> {
     for (turn, digits) in LOOP_DIGITS {
         assert!(&rt; is_noted(&rt, rt.alloc(), turn, digits)?);
     }
+    Ok(())
+}
+
+#[test]
+fn a_gate_is_told_that_the_last_call_is_made(rt: HostRuntime) -> Result<(), Fail> {
+    let gate = Notes::new();
+    let numbers = Numbers { calls: 6, ..ONE };
+    let done = work_of(&rt, rt.alloc(), ENDLESS, numbers, &gate)?;
+    assert!(&rt; done == Some((6, 0)) && gate.digits() == 1314);
     Ok(())
 }
 

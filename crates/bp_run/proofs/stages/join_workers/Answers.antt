@@ -3,10 +3,9 @@ use Rattle.std.specs.Result.{is_ok}
 use Rattle.std.proofs.lemmas.Bool.{false≢true}
 use Rattle.std.proofs.lemmas.Grind.{common_steps}
 use Rattle.std.proofs.lemmas.List.Elements.{All-push, All-same, All-pop}
-use Rattle.bp_machine.specs.declared.ask_faults.AskFault.{AskFault}
-use Rattle.bp_machine.specs.declared.ask_faults.AskFault.TheVariants as fault
 use Rattle.bp_board.specs.Seats.{SeatOf}
-use Rattle.bp_run.specs.Works.{EndsWork, TellsShut}
+use Rattle.bp_run.specs.Works.{TellsShut}
+use Rattle.bp_run.specs.declared.workers.Unfinished.{Unfinished}
 use Rattle.bp_run.proofs.stages.join_workers.Goals.{then-all_done, else-all_done}
 use Rattle.bp_run.proofs.stages.join_workers.Goals as goal
 
@@ -14,21 +13,13 @@ abbrev Shut : SeatOf → Type 0
 Shut s = s.is_open ≡ false
 
 -- the seat of a worker whose work is done
-shut : (seat : SeatOf) (done : Result (Unit {0}) AskFault) → MatchResult done (λ _. seat.is_open ≡ false) (EndsWork seat) → is_ok done ≡ true → Shut seat
+shut : (seat : SeatOf) (done : Result (Unit {0}) Unfinished) → MatchResult done (λ _. seat.is_open ≡ false) (λ _. seat.is_open ≡ true) → is_ok done ≡ true → Shut seat
 shut seat (Ok x) ended ok = ended
 shut seat (Err f) ended ok = absurd (false≢true ok)
 
-still_open : (seat : SeatOf) (f : AskFault) → EndsWork seat f → seat.is_open ≡ true
-still_open seat fault.Memory ends = ends
-still_open seat fault.Finished ends = ends
-still_open seat fault.NoThread ends = absurd ends
-still_open seat fault.Seeded ends = absurd ends
-still_open seat fault.Unseeded ends = absurd ends
-still_open seat fault.Busy ends = absurd ends
-
-is_done : (seat : SeatOf) (done : Result (Unit {0}) AskFault) → MatchResult done (λ _. seat.is_open ≡ false) (EndsWork seat) → Shut seat → is_ok done ≡ true
+is_done : (seat : SeatOf) (done : Result (Unit {0}) Unfinished) → MatchResult done (λ _. seat.is_open ≡ false) (λ _. seat.is_open ≡ true) → Shut seat → is_ok done ≡ true
 is_done seat (Ok x) ended closed = refl
-is_done seat (Err f) ended closed = absurd (false≢true (sym closed ∙ still_open seat f ended))
+is_done seat (Err f) ended closed = absurd (false≢true (sym closed ∙ ended))
 
 -- one more seat
 tells_more : (before after : List SeatOf) (seat : SeatOf) (b c ok : Bool) → after ≡ before ++ seat ∷ [] → TellsShut b before → (ok ≡ true → Shut seat) → (Shut seat → ok ≡ true)

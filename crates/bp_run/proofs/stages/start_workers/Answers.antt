@@ -2,7 +2,8 @@ use denote.Param.Send.{sendable}
 use Rattle.std.proofs.Crossing.{crosses}
 use Rattle.bp_board.proofs.seats.Seat.TheSendSync.{the_send as seat_send}
 use Rattle.bp_run.proofs.BoardsCross.{board_sync}
+use Rattle.bp_run.proofs.SignalsCross.{signals_sync}
 use Rattle.bp_run.proofs.stages.start_workers.Goals as goal
 
 pub spawn_with-requires-send-F : goal.spawn_with-requires-send-F
-spawn_with-requires-send-F g c = λ κs lives. search (sendable, crosses, board_sync, seat_send) depth 40 fits 10000
+spawn_with-requires-send-F g c = λ κs lives. search (sendable, crosses, board_sync, signals_sync, seat_send) depth 40 fits 10000

@@ -1,4 +1,4 @@
-use Rattle.std.proofs.Common.{◌≡◌, ◌≤◌, ◌+◌, ◌++◌, map, vec_len, vec_capacity}
+use Rattle.std.proofs.Common.{◌≡◌, ◌≤◌, ◌+◌, ◌++◌, true, map, vec_len, vec_capacity}
 use Rattle.std.specs.Vec.Iter.{into_iter_items, into_iter_len}
 use Rattle.bp_run.proofs.stages.start_workers.Given as goal
 
@@ -8,5 +8,5 @@ invariant-loop-seat g l = record {
   ends : (goal.iterator-loop-seat g).is_finite l.seat-iterator;
   room : vec_len l.handles + into_iter_len l.seat-iterator ≤ vec_capacity l.handles;
   few : vec_len l.handles + into_iter_len l.seat-iterator ≤ vec_len l.fn.seats;
-  threads : map (λ h. h.promise.thread) l.handles.items ++ map (λ s. s.thread) (into_iter_items l.seat-iterator) ≡ map (λ s. s.thread) (into_iter_items l.initial.seat-iterator);
+  threads : l.all_started ≡ true → map (λ h. h.promise.thread) l.handles.items ++ map (λ s. s.thread) (into_iter_items l.seat-iterator) ≡ map (λ s. s.thread) (into_iter_items l.initial.seat-iterator);
 }
