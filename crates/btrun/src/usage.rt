@@ -5,11 +5,12 @@ ghost use Rattle.std.specs.Prelude.{◌≡◌, MatchResult};
 ghost use Rattle.bp_commands.specs.declared.faults.Fault.{Fault};
 ghost use Rattle.btrun.specs.Statuses.{HasFaultLine, IsWordsStatus, IsWordsLine, IsUnreadStatus, IsUnreadLine};
 
+use crate::echoes::Echo;
 use bp_commands::{Fault, end};
 use bp_words::not_text;
 use clap::Error;
 use clap::error::ErrorKind;
-use std::io::{self, Write};
+use std::io::{self, Eprint, Write};
 
 /// The exit status of a fault in the use of the program.
 const USAGE_STATUS: u8 = 2;
@@ -46,7 +47,7 @@ pub fn tell<E: Write>(rt: &HostRuntime, error: &Error, errors: &mut E) -> u8
         ErrorKind::DisplayHelp | ErrorKind::DisplayVersion => end_printed(&error.print(rt), errors),
         _ => {
             // Where standard error fails, the status still reports the fault.
-            let _ = error.print(rt);
+            let _ = rt.eprint(&Echo { error });
             USAGE_STATUS
         }
     }
