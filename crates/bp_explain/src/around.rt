@@ -13,7 +13,7 @@ pub(crate) struct Around<'a> {
     third: &'a [u8],
     second: &'a [u8],
     pub(crate) before: &'a [u8],
-    /// The token at the place, and the one behind it.
+    /// The token at the place, and the one after it.
     pub(crate) found: &'a [u8],
     pub(crate) next: &'a [u8],
     /// Whether the place is on a later line than the token before it.

@@ -107,7 +107,7 @@ pub(crate) fn last_call(
     last_call_before(&mut session, schedule, thread, number)
 }
 
-/// Adds an option, and that so many are used up.
+/// Adds an option with its number, and that this number is used up.
 fn push_used_up(out: &mut Vec<u8>, option: &[u8], number: u32) -> Result<(), AllocError> {
     push_all(out, &[option])?;
     push_number(out, number as usize)?;
@@ -132,7 +132,7 @@ fn push_answer(out: &mut Vec<u8>, last: LastCall) -> Result<(), AllocError> {
     push_all(out, &[b": "])
 }
 
-/// Adds that the procedure of a thread has come to its end.
+/// Adds that the procedure of a thread has ended.
 fn push_ended(out: &mut Vec<u8>, start: &Start, thread: u32) -> Result<(), AllocError> {
     let Some(entry) = start.entries.get(thread as usize) else {
         return push_all(out, &[b"its procedure is finished"]);

@@ -23,16 +23,16 @@ pub(crate) enum Mistake {
     TypedVariable,
     TypedProcedure,
     TypedFormal,
-    /// `decl` behind a procedure, or behind a statement.
+    /// `decl` after a procedure or a statement.
     LateGlobal,
     LateLocal,
     /// `if` without `else`.
     NoElse,
     /// No statement.
     EmptyBody,
-    /// A value behind `return`.
+    /// A value after `return`.
     ReturnedValue,
-    /// `;` behind a word that needs none.
+    /// `;` after a word that takes none.
     StraySemicolon,
 }
 
@@ -161,8 +161,8 @@ pub(crate) fn mistake_at(offers: &[Offer], around: &Around<'_>) -> Option<Mistak
         .or(value_mistake(offers, around))
 }
 
-/// Whether the token at the place begins what stands behind a statement or a declaration. A name
-/// may go on with an expression instead: on the same line it is judged by the token behind it.
+/// Whether the token at the place begins what may follow a statement or a declaration. A name may
+/// continue an expression instead: on the same line the token after it decides.
 fn begins_next(around: &Around<'_>) -> bool {
     let is_returned = around.before == b"return".as_slice() && !around.is_on_new_line;
     match around.found {

@@ -43,7 +43,7 @@ fn push_misplaced(
     push_advice(out, mistake, around)
 }
 
-/// Adds that a semicolon is missing before what stands behind it.
+/// Adds that a semicolon is missing before the token at the place.
 fn push_missing(out: &mut Vec<u8>, around: &Around<'_>) -> Result<(), AllocError> {
     push_all(out, &[b"expected ';' here, before "])?;
     push_quoted(out, around.found)

@@ -128,8 +128,8 @@ fn task_of<'a>(alloc: Global, matches: &ArgMatches<'a>) -> Result<Task<'a>, Allo
     }
 }
 
-/// Reads the words, of which the first is the program's name. The error also has the texts of help
-/// and version.
+/// Reads the words. The first is the program's name. The error also has the texts of help and
+/// version.
 pub fn read_words<'a>(alloc: Global, words: &'a [String]) -> Result<Task<'a>, Error>
     ensures task { IfOk result
         (λ t. IsTaskOf (subcommand_of btrun_app (map string_bytes words.now)) t) }

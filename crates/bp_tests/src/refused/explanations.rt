@@ -41,7 +41,7 @@ const WANTED: [&[u8]; 4] = [
     b"f:4: thread 0 had ended at line 3: its procedure 'main' is finished\n    0 0\n",
 ];
 
-/// The explanation of a line of a schedule behind the last call of its thread.
+/// The explanation of a line of a schedule after the last call of its thread.
 fn of_schedule(alloc: Global) -> Result<Vec<u8>, AllocError> {
     let start = Start::defaults(alloc)?;
     let (lines, fault) = (b"0 0\n0 0\n0 0\n0 0\n", DriveFault::AfterFinish(4));
