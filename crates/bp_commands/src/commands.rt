@@ -33,6 +33,11 @@ pub trait ProgramCommand {
         requires { allowed self.now }
         ensures { AnswersOf (command self.now) text.now
             (W.contents out.old) (W.contents out.new) result };
+
+    /// What the runs of the program start from, if it is run.
+    fn start(&self) -> Option<&Start> {
+        None
+    }
 }
 
 /// A command on a program and an input beside it.

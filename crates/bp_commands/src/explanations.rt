@@ -5,6 +5,7 @@ ghost use Rattle.bp_commands.specs.Explanations.{ExplainsInput, ExplainsPair, Ex
 ghost use Rattle.bp_commands.specs.Given.{Pair};
 
 use crate::faults::Fault;
+use crate::hints::Hints;
 use bp_code::ProgramFault;
 use bp_explain::{explain_program, explain_schedule, explain_trace};
 use bp_machine::Start;
@@ -108,12 +109,16 @@ fn put_words<E: Write>(words: &[u8], errors: &mut E)
     let _ = put_each(errors, &[first_line(words), b"\n"]);
 }
 
-/// Writes the fault in a sentence.
-fn put_sentence<E: Write>(alloc: Global, fault: &Fault, errors: &mut E)
+/// Writes the fault in a sentence, which says what is known of the command line.
+fn put_sentence<E: Write>(alloc: Global, fault: &Fault, hints: Hints<'_>, errors: &mut E)
     ensures { (lines : List ℕ) × IsInWords lines
         × HasLine lines (E.contents errors.old) (E.contents errors.new) }
 {
-    match format!(in alloc; "{fault}") {
+    let sentence = match hints.words(alloc, fault) {
+        Some(words) => Ok(words),
+        None => format!(in alloc; "{fault}"),
+    };
+    match sentence {
         Ok(sentence) => put_words(sentence.as_bytes(), errors),
         Err(_) => put_words(b"out of memory", errors),
     }
@@ -128,7 +133,13 @@ fn put_lines<E: Write>(lines: &[u8], errors: &mut E)
 }
 
 /// Writes the explanation of a fault, or else the fault in a sentence.
-fn put_explanation<E: Write>(alloc: Global, lines: Option<Vec<u8>>, fault: &Fault, errors: &mut E)
+fn put_explanation<E: Write>(
+    alloc: Global,
+    lines: Option<Vec<u8>>,
+    fault: &Fault,
+    hints: Hints<'_>,
+    errors: &mut E,
+)
     ensures { MatchOption lines
         ((words : List ℕ) × IsInWords words
         × HasLine words (E.contents errors.old) (E.contents errors.new))
@@ -136,7 +147,7 @@ fn put_explanation<E: Write>(alloc: Global, lines: Option<Vec<u8>>, fault: &Faul
 {
     match lines {
         Some(lines) => put_lines(&lines, errors),
-        None => put_sentence(alloc, fault, errors),
+        None => put_sentence(alloc, fault, hints, errors),
     }
 }
 
@@ -146,6 +157,7 @@ pub(crate) fn explain_on_program<T, E: Write>(
     asked: bool,
     done: &Result<T, Fault>,
     program: Named<'_>,
+    hints: Hints<'_>,
     errors: &mut E,
 )
     ensures { IsTold asked (ExplainsText program.entry.name.now program.entry.text.now)
@@ -153,7 +165,7 @@ pub(crate) fn explain_on_program<T, E: Write>(
 {
     if let (true, Err(fault)) = (asked, done) {
         let lines = of_program(alloc, fault, program);
-        put_explanation(alloc, lines, fault, errors);
+        put_explanation(alloc, lines, fault, hints, errors);
     }
 }
 
@@ -166,6 +178,7 @@ pub(crate) fn explain_on_pair<T, E: Write>(
     start: Option<&Start>,
     program: Named<'_>,
     input: Named<'_>,
+    hints: Hints<'_>,
     errors: &mut E,
 )
     ensures { let given : Pair =
@@ -176,6 +189,6 @@ pub(crate) fn explain_on_pair<T, E: Write>(
 {
     if let (true, Err(fault)) = (asked, done) {
         let lines = of_pair(alloc, beside, fault, start, program, input);
-        put_explanation(alloc, lines, fault, errors);
+        put_explanation(alloc, lines, fault, hints, errors);
     }
 }

@@ -15,6 +15,7 @@ mod fault_table;
 mod faults;
 mod files;
 mod flushes;
+mod hints;
 mod inputs;
 pub mod limits;
 mod migrating;

@@ -14,6 +14,7 @@ use crate::ends::end;
 use crate::explanations::{Named, explain_on_pair, explain_on_program};
 use crate::files::{Files, InputFile};
 use crate::flushes::flushed;
+use crate::hints::{Hints, Numbers};
 use crate::inputs::Source;
 use crate::running::run_program;
 use bp_run::{Gate, RunOptions};
@@ -44,11 +45,15 @@ pub fn run_on_program<C: ProgramCommand, F: Files, W: Write + Drop, E: Write>(
     let done = do_on_program(alloc, command, &mut program, &mut out);
     let (done, output) = flushed(done, out);
     let status = end(&done, errors);
+    let hints = Hints {
+        unread: program.reader.unread(),
+        numbers: command.start().map(Numbers::of_start),
+    };
     let program = Named {
         name: path,
         text: &program.bytes,
     };
-    explain_on_program(alloc, explains, &done, program, errors);
+    explain_on_program(alloc, explains, &done, program, hints, errors);
     (status, output)
 }
 
@@ -80,11 +85,15 @@ pub fn run_by_workers<
     let done = run_program(alloc, threads, options, gate, &mut program, &mut out);
     let (done, output) = flushed(done, out);
     let status = end(&done, errors);
+    let hints = Hints {
+        unread: program.reader.unread(),
+        numbers: Some(Numbers::of_run(options)),
+    };
     let program = Named {
         name: path,
         text: &program.bytes,
     };
-    explain_on_program(alloc, explains, &done, program, errors);
+    explain_on_program(alloc, explains, &done, program, hints, errors);
     (status, output)
 }
 
@@ -113,6 +122,10 @@ pub fn run_on_pair<C: PairCommand, F: Files, W: Write + Drop, E: Write>(
     let done = do_on_pair(alloc, command, &mut program, &mut input, &mut out);
     let (done, output) = flushed(done, out);
     let status = end(&done, errors);
+    let hints = Hints {
+        unread: program.reader.unread().or(input.reader.unread()),
+        numbers: command.start().map(Numbers::of_start),
+    };
     let program = Named {
         name: path,
         text: &program.bytes,
@@ -123,7 +136,7 @@ pub fn run_on_pair<C: PairCommand, F: Files, W: Write + Drop, E: Write>(
     };
     let (beside, start) = (command.beside(), command.start());
     explain_on_pair(
-        alloc, beside, explains, &done, start, program, input, errors,
+        alloc, beside, explains, &done, start, program, input, hints, errors,
     );
     (status, output)
 }

@@ -100,4 +100,8 @@ impl<R: Threads + Sync, P: Progress> ProgramCommand for Test<'_, R, P> {
             reached: tested.tally.reached,
         })
     }
+
+    fn start(&self) -> Option<&Start> {
+        Some(self.start)
+    }
 }
