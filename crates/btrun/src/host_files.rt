@@ -2,22 +2,64 @@
 
 use bp_commands::Files;
 use std::fs::File;
-use std::io;
+use std::io::{self, Error, ErrorKind, Read, Stdin};
+use std::sync::atomic::{AtomicBool, Ordering};
 
-/// The files of the machine that the program runs on.
-#[derive(Clone, Copy)]
+/// The path that stands for standard input.
+const STANDARD_INPUT: &str = "-";
+
+/// A file that is read, or standard input.
+#[derive(Drop)]
+pub enum HostInput {
+    File(File),
+    Standard(Stdin),
+}
+
+impl Read for HostInput {
+    fn read(&mut self, buf: &mut [u8]) -> io::Result<usize> {
+        match self {
+            HostInput::File(file) => file.read(buf),
+            HostInput::Standard(input) => input.read(buf),
+        }
+    }
+}
+
+/// The files of the machine that the program runs on. The path `-` is standard input, for one file.
+#[derive(Drop)]
 pub struct HostFiles<'a> {
-    pub rt: &'a HostRuntime,
+    rt: &'a HostRuntime,
+    /// Whether a path stands for standard input already.
+    is_taken: AtomicBool,
+}
+
+impl<'a> HostFiles<'a> {
+    pub fn new(rt: &'a HostRuntime) -> HostFiles<'a> {
+        HostFiles {
+            rt,
+            is_taken: AtomicBool::new(false),
+        }
+    }
+
+    /// Standard input, for the first who asks.
+    fn standard_input(&self) -> io::Result<HostInput> {
+        if self.is_taken.swap(true, Ordering::SeqCst) {
+            return Err(Error::from(ErrorKind::AlreadyExists));
+        }
+        Ok(HostInput::Standard(self.rt.stdin()))
+    }
 }
 
 impl Files for HostFiles<'_> {
     ghost use Rattle.std.specs.Prelude.{None};
 
-    type Input = File;
+    type Input = HostInput;
 
     ghost bytes = { λ _ _. None };
 
-    fn open(&self, path: &str) -> io::Result<File> {
-        File::open(self.rt, path)
+    fn open(&self, path: &str) -> io::Result<HostInput> {
+        if path == STANDARD_INPUT {
+            return self.standard_input();
+        }
+        Ok(HostInput::File(File::open(self.rt, path)?))
     }
 }

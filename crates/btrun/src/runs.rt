@@ -59,7 +59,7 @@ fn do_on_host<T: Threads + Wait + Clock + Sync>(
     threads: &T,
     task: &Task<'_>,
 ) -> u8 {
-    let (alloc, files) = (rt.alloc(), HostFiles { rt });
+    let (alloc, files) = (rt.alloc(), HostFiles::new(rt));
     let mut errors = rt.stderr();
     let Ok(out) = BufWriter::new(alloc, rt.stdout()) else {
         return refuse_memory(&mut errors);
