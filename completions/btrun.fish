@@ -35,3 +35,6 @@ complete -c btrun -n '__fish_seen_subcommand_from test' -l unreached -d 'List th
 
 complete -c btrun -n '__fish_seen_subcommand_from show' -x -l thread -d 'Show the calls of this thread alone'
 complete -c btrun -n '__fish_seen_subcommand_from show' -x -l last -d 'Show the last calls alone'
+complete -c btrun -n '__fish_seen_subcommand_from show' -x -l from -d 'Show no call before this one'
+complete -c btrun -n '__fish_seen_subcommand_from show' -x -l to -d 'Show no call after this one'
+complete -c btrun -n '__fish_seen_subcommand_from show' -l json -d 'Print one JSON object a line'

@@ -2,7 +2,7 @@
 
 use bp_code::{compile, lawful_program};
 use bp_text::{Position, position_of};
-use bp_view::{ViewOptions, view};
+use bp_view::{ViewFormat, ViewOptions, view};
 use std::alloc::Global;
 use std::test::Fail;
 
@@ -39,7 +39,10 @@ const NONE: &[u8] = b"\
 pub(crate) const ALL: ViewOptions = ViewOptions {
     thread: None,
     last: None,
+    from: None,
+    to: None,
     has_colour: false,
+    format: ViewFormat::Columns,
 };
 
 /// The view of the history of a trace.
@@ -84,6 +87,40 @@ fn shows_the_calls_of_a_thread(rt: HostRuntime) -> Result<(), Fail> {
     let none = view_of(rt.alloc(), TEXT, TRACE, options)?;
     assert!(rt; all.as_slice() == VIEW);
     assert!(rt; none.as_slice() == NONE);
+    Ok(())
+}
+
+#[test]
+fn shows_the_calls_between_two(rt: HostRuntime) -> Result<(), Fail> {
+    let mut options = ALL;
+    options.from = Some(4);
+    let late = view_of(rt.alloc(), TEXT, TRACE, options)?;
+    options.from = None;
+    options.to = Some(0);
+    let none = view_of(rt.alloc(), TEXT, TRACE, options)?;
+    assert!(rt; late.as_slice() == LAST);
+    assert!(rt; none.as_slice() == NONE);
+    Ok(())
+}
+
+/// The first call as an object, between those of the setup and of the outcome.
+const OBJECTS: &[u8] = b"\
+    {\"kind\":\"setup\",\"version\":1,\"threads\":[\"main\"],\
+    \"globals\":[{\"procedure\":null,\"name\":\"x\",\"value\":0}],\
+    \"contexts\":2,\"calls\":1000,\"seed\":null}\n\
+    {\"kind\":\"call\",\"number\":1,\"thread\":0,\"context\":1,\"switch\":false,\
+    \"line\":2,\"column\":14,\"procedure\":\"main\",\"depth\":1,\"statement\":\"x := 1\",\
+    \"choice\":null,\"reply\":\"stepped\",\
+    \"changes\":[{\"procedure\":null,\"name\":\"x\",\"value\":1}],\"printed\":null}\n\
+    {\"kind\":\"end\",\"calls\":4,\"contexts\":1,\"open\":0,\"failure\":null}\n";
+
+#[test]
+fn shows_objects(rt: HostRuntime) -> Result<(), Fail> {
+    let mut options = ALL;
+    options.to = Some(1);
+    options.format = ViewFormat::Json;
+    let shown = view_of(rt.alloc(), TEXT, TRACE, options)?;
+    assert!(rt; shown.as_slice() == OBJECTS);
     Ok(())
 }
 

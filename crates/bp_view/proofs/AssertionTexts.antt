@@ -1,5 +1,6 @@
 -- What is said of an assertion that failed is what the scene of its thread's top shows.
 use Rattle.std.proofs.Common.{◌≡◌, ◌∙◌, ℕ, List, Some, ap, ap₂, drop, slice_get, subst}
+use Rattle.std.specs.Prelude.{option_map}
 use Rattle.bp_tree.specs.Ast.{Program}
 use Rattle.bp_code.specs.Configurations.{Frame}
 use Rattle.bp_code.specs.Moves.{frame_store}
@@ -12,8 +13,11 @@ use Rattle.bp_machine.specs.Reports.{IsRealFailure}
 use Rattle.bp_machine.specs.Setups.{SetupOf}
 use Rattle.bp_machine.specs.Tops.{IsTop}
 use Rattle.bp_view.specs.declared.scenes.Scene.{Scene}
-use Rattle.bp_view.specs.Outcomes.{assertion_text, named_values, IsAssertionText}
-use Rattle.bp_view.specs.Places.{place_text}
+use Rattle.bp_view.specs.declared.options.ViewFormat.{ViewFormat}
+use Rattle.bp_text.specs.declared.positions.Position.{Position}
+use Rattle.bp_text.specs.Positions.{position_at}
+use Rattle.bp_view.specs.Outcomes.{assertion_in, named_values, IsAssertionText}
+use Rattle.bp_view.specs.Places.{place_text, position_text}
 use Rattle.bp_view.specs.Scenes.{AreScenes, IsScene, IsStatementAt}
 use Rattle.bp_view.specs.Statements.{IsStatement}
 use Rattle.bp_view.proofs.FailedStatements.{globals_stay, stack_stays}
@@ -44,15 +48,27 @@ module _
   pub statement : IsStatement (drop failure.stands.at text) scene.excerpt.words.items scene.excerpt.reads_choice
   statement = subst (λ at. IsStatementAt text top.frame.procedure at scene.excerpt.words.items scene.excerpt.reads_choice) begins shown.statement
 
-  pub assertion_said : (values said : List ℕ) → values ≡ named_values top.frame.procedure (frame_store (configuration_after t s h).globals top.frame) statement.lexemes
-      → said ≡ assertion_text scene.place.items scene.excerpt.words.items values → IsAssertionText t text s h i said
-  assertion_said values said values_is is =
-      let place_is = shown.place ∙ ap (place_text text) begins in
+  pub position_is : scene.position ≡ Some (position_at text failure.stands.at)
+  position_is = shown.position ∙ ap (option_map (position_at text)) begins
+
+  pub place_is : (position : Position) → scene.position ≡ Some position → scene.place.items ≡ position_text position
+  place_is position is =
+      let same : position_at text failure.stands.at ≡ position = let own = position_is in cc in
+      shown.place ∙ ap (place_text text) begins ∙ ap position_text same
+
+  pub assertion_said
+      : (format : ViewFormat) (position : Position) (values said : List ℕ)
+      → scene.position ≡ Some position
+      → values ≡ named_values format top.frame.procedure (frame_store (configuration_after t s h).globals top.frame) statement.lexemes
+      → said ≡ assertion_in format position scene.excerpt.words.items values
+      → IsAssertionText format t text s h i said
+  assertion_said format position values said at values_is is =
+      let same : position ≡ position_at text failure.stands.at = let own = position_is in cc in
       let words_are = statement.words_are in
-      let values_are = values_is ∙ ap₂ (λ (f : Frame) globals. named_values f.procedure (frame_store globals f) statement.lexemes) frame_is (globals_stay t s h i failure) in
+      let values_are = values_is ∙ ap₂ (λ (f : Frame) globals. named_values format f.procedure (frame_store globals f) statement.lexemes) frame_is (globals_stay t s h i failure) in
       record {
         failure = failure;
         lexemes = statement.lexemes;
         lexemes_are = statement.lexemes_are;
-        is = is ∙ (λ j. assertion_text (place_is j) (words_are j) (values_are j));
+        is = is ∙ (λ j. assertion_in format (same j) (words_are j) (values_are j));
       }

@@ -8,6 +8,7 @@ pub mod NextConfigurations
 pub mod OneStatement
 pub mod PartsOfHeads
 pub mod PlacesOfTops
+pub mod PrintedValues
 pub mod ProceduresOfPlaces
 pub mod SceneLists
 pub mod SlotsOfNames

@@ -11,6 +11,7 @@ use Rattle.bp_code.specs.Values.{Valuation, decision_value, expression_values}
 use Rattle.bp_machine.specs.declared.calls.Reply.{Reply}
 use Rattle.bp_machine.specs.Answers.{configuration_after_call, configuration_after_step, stack_of}
 use Rattle.bp_machine.specs.Replies.{is_granted}
+use Rattle.bp_view.specs.declared.options.ViewFormat.{ViewFormat}
 use Rattle.bp_view.specs.Changes.{changed, changes_text, stack_changes, variables_text, IsNext, IsSameCall}
 use Rattle.bp_view.proofs.ChangedVariables.{none_changed}
 
@@ -97,16 +98,16 @@ module _ (t : Program) (c : Configuration) (i : ℕ) (bit : Bool) where
       by_reply false = same_next c i
 
 -- without a stack before or after it a call changes nothing
-none_after : (fs : List Frame) → stack_changes fs [] ≡ []
-none_after [] = refl
-none_after (f ∷ fs) = refl
+none_after : (format : ViewFormat) (fs : List Frame) → stack_changes format fs [] ≡ []
+none_after format [] = refl
+none_after format (f ∷ fs) = refl
 
-module _ (c d : Configuration) (i : ℕ) (next : IsNext c d i) where
-  same_globals : d.globals ≡ c.globals → variables_text None (changed c.globals d.globals) ≡ []
-  same_globals e = ap (λ g. variables_text None (changed c.globals g)) e ∙ ap (variables_text None) (none_changed c.globals)
+module _ (format : ViewFormat) (c d : Configuration) (i : ℕ) (next : IsNext c d i) where
+  same_globals : d.globals ≡ c.globals → variables_text format None (changed c.globals d.globals) ≡ []
+  same_globals e = ap (λ g. variables_text format None (changed c.globals g)) e ∙ ap (variables_text format None) (none_changed c.globals)
 
-  pub idle_changes : stack_of c i ≡ [] → changes_text c d i ≡ []
-  idle_changes e = ap₂ (λ x y. x ++ y) (same_globals (next.idle e)) (ap (λ s. stack_changes s (stack_of d i)) e)
+  pub idle_changes : stack_of c i ≡ [] → changes_text format c d i ≡ []
+  idle_changes e = ap₂ (λ x y. x ++ y) (same_globals (next.idle e)) (ap (λ s. stack_changes format s (stack_of d i)) e)
 
-  pub ended_changes : stack_of d i ≡ [] → changes_text c d i ≡ []
-  ended_changes e = ap₂ (λ x y. x ++ y) (same_globals (next.ended e)) (ap (λ s. stack_changes (stack_of c i) s) e ∙ none_after (stack_of c i))
+  pub ended_changes : stack_of d i ≡ [] → changes_text format c d i ≡ []
+  ended_changes e = ap₂ (λ x y. x ++ y) (same_globals (next.ended e)) (ap (λ s. stack_changes format (stack_of c i) s) e ∙ none_after format (stack_of c i))

@@ -1,10 +1,13 @@
 -- What a call changed, as its note says it.
-use Rattle.std.specs.Prelude.{if◌then◌else◌, ◌≡◌, ◌==◌, ℕ, suc, Bool, nat_lt, List, [], ◌∷◌, ◌++◌, Option, None, Some, codes, length, map, take}
+use Rattle.std.specs.Prelude.{if◌then◌else◌, ◌≡◌, ◌==◌, ℕ, suc, Bool, nat_lt, List, [], ◌∷◌, ◌++◌, Option, None, Some, codes, length, map, option_map, take}
 use Rattle.bp_tree.specs.Ast.{Name, Procedure}
 use Rattle.bp_code.specs.Configurations.{Frame, Configuration}
 use Rattle.bp_code.specs.Steps.{Bits}
 use Rattle.bp_code.specs.Values.{Valuation, same_bit}
 use Rattle.bp_machine.specs.Answers.{stack_of}
+use Rattle.bp_view.specs.declared.options.ViewFormat.{ViewFormat}
+use Rattle.bp_view.specs.declared.options.ViewFormat.TheVariants.{Columns, Json}
+use Rattle.bp_view.specs.JsonTexts.{bit_text, member, string_or_null, string_text}
 use Rattle.bp_text.specs.OneLine.{on_one_line}
 
 -- the procedure of a local, and a dot; a global has none
@@ -12,17 +15,27 @@ abbrev pub owner_text : Option Procedure → List ℕ
 owner_text None = []
 owner_text (Some p) = map on_one_line p.name.text ++ codes "."
 
--- a variable with its value
-abbrev pub variable_text : Option Procedure → List ℕ → Bool → List ℕ
-variable_text owner name value =
+-- a variable with its value, for people
+abbrev pub variable_words : Option Procedure → List ℕ → Bool → List ℕ
+variable_words owner name value =
     codes " "
     ++ owner_text owner
     ++ map on_one_line name
     ++ (if value then codes "=1" else codes "=0")
 
-abbrev pub variables_text : Option Procedure → Valuation → List ℕ
-variables_text owner [] = []
-variables_text owner (x ∷ xs) = variable_text owner x.0 x.1 ++ variables_text owner xs
+-- the same as an object of JSON after a comma
+abbrev pub variable_object : Option Procedure → List ℕ → Bool → List ℕ
+variable_object owner name value =
+    codes ",{\"procedure\":"
+    ++ string_or_null (option_map (λ p. p.name.text) owner)
+    ++ member (codes "name") (string_text name)
+    ++ member (codes "value") (bit_text value)
+    ++ codes "}"
+
+-- the same in a view of this format
+abbrev pub variable_text : ViewFormat → Option Procedure → List ℕ → Bool → List ℕ
+variable_text Columns owner name value = variable_words owner name value
+variable_text Json owner name value = variable_object owner name value
 
 -- the variables whose values before and after differ, with their values after; both have the same
 -- names
@@ -35,34 +48,39 @@ changed (x ∷ xs) (y ∷ ys) = if same_bit x.1 y.1 then changed xs ys else y �
 abbrev pub arguments_of : Frame → Valuation
 arguments_of f = take (length f.procedure.formals) f.locals
 
--- what a call changed in the frame at the top of a stack, by the depths before and after it: the
--- formals of a procedure that it entered, or the locals that have other values; nothing after a
--- return
-abbrev pub frame_changes : Frame → Frame → (depth_before depth_after : ℕ) → List ℕ
-frame_changes f g m n =
-    if nat_lt m n then variables_text (Some g.procedure) (arguments_of g)
-    else if m == n then variables_text (Some g.procedure) (changed f.locals g.locals)
-    else []
+module _ (format : ViewFormat) where
+  abbrev pub variables_text : Option Procedure → Valuation → List ℕ
+  variables_text owner [] = []
+  variables_text owner (x ∷ xs) = variable_text format owner x.0 x.1 ++ variables_text owner xs
 
-abbrev pub stack_changes : (before after : List Frame) → List ℕ
-stack_changes [] after = []
-stack_changes (f ∷ fs) [] = []
-stack_changes (f ∷ fs) (g ∷ gs) = frame_changes f g (length (f ∷ fs)) (length (g ∷ gs))
+  -- what a call changed in the frame at the top of a stack, by the depths before and after it: the
+  -- formals of a procedure that it entered, or the locals that have other values; nothing after a
+  -- return
+  abbrev pub frame_changes : Frame → Frame → (depth_before depth_after : ℕ) → List ℕ
+  frame_changes f g m n =
+      if nat_lt m n then variables_text (Some g.procedure) (arguments_of g)
+      else if m == n then variables_text (Some g.procedure) (changed f.locals g.locals)
+      else []
 
--- what a call of thread i changed: the globals, and the top of its stack
-abbrev pub changes_text : (before after : Configuration) → ℕ → List ℕ
-changes_text c d i =
-    variables_text None (changed c.globals d.globals)
-    ++ stack_changes (stack_of c i) (stack_of d i)
+  abbrev pub stack_changes : (before after : List Frame) → List ℕ
+  stack_changes [] after = []
+  stack_changes (f ∷ fs) [] = []
+  stack_changes (f ∷ fs) (g ∷ gs) = frame_changes f g (length (f ∷ fs)) (length (g ∷ gs))
 
--- A device: the same of names whose slots begin with this one.
-abbrev pub slot_text : Option Procedure → List ℕ → (before after : Bool) → List ℕ
-slot_text owner name a b = if same_bit a b then [] else variable_text owner name b
+  -- what a call of thread i changed: the globals, and the top of its stack
+  abbrev pub changes_text : (before after : Configuration) → ℕ → List ℕ
+  changes_text c d i =
+      variables_text None (changed c.globals d.globals)
+      ++ stack_changes (stack_of c i) (stack_of d i)
 
-abbrev pub slots_text : Option Procedure → List Name → ℕ → (before after : Bits) → List ℕ
-slots_text owner [] first a b = []
-slots_text owner (x ∷ xs) first a b =
-    slot_text owner x.text (a first) (b first) ++ slots_text owner xs (suc first) a b
+  -- A device: the same of names whose slots begin with this one.
+  abbrev pub slot_text : Option Procedure → List ℕ → (before after : Bool) → List ℕ
+  slot_text owner name a b = if same_bit a b then [] else variable_text format owner name b
+
+  abbrev pub slots_text : Option Procedure → List Name → ℕ → (before after : Bits) → List ℕ
+  slots_text owner [] first a b = []
+  slots_text owner (x ∷ xs) first a b =
+      slot_text owner x.text (a first) (b first) ++ slots_text owner xs (suc first) a b
 
 -- A device: where the stacks have the same depth, their top frames are of the same procedure.
 abbrev pub IsSameCall : (before after : List Frame) → Type 0

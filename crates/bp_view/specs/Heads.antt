@@ -1,8 +1,12 @@
 -- The head of a view: the setup of its history.
-use Rattle.std.specs.Prelude.{if◌then◌else◌, ℕ, suc, Bool, List, [], ◌∷◌, ◌++◌, Option, None, Some, codes, decimal}
+use Rattle.std.specs.Prelude.{ℕ, suc, List, [], ◌∷◌, ◌++◌, Option, None, Some, codes, decimal, flat_map}
 use Rattle.bp_tree.specs.Ast.{Name}
 use Rattle.bp_code.specs.Values.{Valuation, binding}
 use Rattle.bp_machine.specs.Setups.{SetupOf}
+use Rattle.bp_view.specs.declared.options.ViewFormat.{ViewFormat}
+use Rattle.bp_view.specs.declared.options.ViewFormat.TheVariants.{Columns, Json}
+use Rattle.bp_view.specs.Changes.{variables_text}
+use Rattle.bp_view.specs.JsonTexts.{list_text, member, number_or_null, string_text}
 
 -- the number of a thread, and the procedure in which it begins
 abbrev pub thread_line : ℕ → List ℕ → List ℕ
@@ -13,18 +17,11 @@ abbrev pub thread_lines : ℕ → List (List ℕ) → List ℕ
 thread_lines i [] = []
 thread_lines i (e ∷ es) = thread_line i e ++ thread_lines (suc i) es
 
--- a variable with its value
-abbrev pub value_text : List ℕ → Bool → List ℕ
-value_text name value = codes " " ++ name ++ (if value then codes "=1" else codes "=0")
-
-abbrev pub values_text : Valuation → List ℕ
-values_text [] = []
-values_text (x ∷ xs) = value_text x.0 x.1 ++ values_text xs
-
 -- the values of the globals, and no line where there are none
 abbrev pub globals_line : Valuation → List ℕ
 globals_line [] = []
-globals_line (x ∷ xs) = codes "globals" ++ values_text (x ∷ xs) ++ codes "\n"
+globals_line (x ∷ xs) =
+    codes "globals" ++ variables_text Columns None (x ∷ xs) ++ codes "\n"
 
 abbrev pub number_line : List ℕ → ℕ → List ℕ
 number_line words n = words ++ decimal n ++ codes "\n"
@@ -35,11 +32,35 @@ seed_line (Some n) = number_line (codes "seed ") n
 
 -- where the threads begin, the globals with their first values, the limits and the seed, and an
 -- empty line
-abbrev pub view_head : List Name → SetupOf → List ℕ
-view_head globals s =
+abbrev pub head_lines : List Name → SetupOf → List ℕ
+head_lines globals s =
     thread_lines 0 s.entries
     ++ globals_line (binding globals s.init)
     ++ number_line (codes "contexts at most ") s.contexts
     ++ number_line (codes "calls of a thread at most ") s.calls
     ++ seed_line s.seed
     ++ codes "\n"
+
+-- a string of a list
+abbrev pub string_item : List ℕ → List ℕ
+string_item text = codes "," ++ string_text text
+
+abbrev pub limit_members : SetupOf → List ℕ
+limit_members s =
+    member (codes "contexts") (decimal s.contexts)
+    ++ member (codes "calls") (decimal s.calls)
+    ++ member (codes "seed") (number_or_null s.seed)
+
+-- the same as an object of JSON, which says the version of the format
+abbrev pub head_object : List Name → SetupOf → List ℕ
+head_object globals s =
+    codes "{\"kind\":\"setup\",\"version\":1"
+    ++ member (codes "threads") (list_text (flat_map string_item s.entries))
+    ++ member (codes "globals") (list_text (variables_text Json None (binding globals s.init)))
+    ++ limit_members s
+    ++ codes "}\n"
+
+-- the head of a view of this format
+abbrev pub view_head : ViewFormat → List Name → SetupOf → List ℕ
+view_head Columns globals s = head_lines globals s
+view_head Json globals s = head_object globals s

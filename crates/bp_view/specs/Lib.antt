@@ -1,6 +1,8 @@
 pub mod Changes
 pub mod Colours
 pub mod Heads
+pub mod JsonCalls
+pub mod JsonTexts
 pub mod Lines
 pub mod Outcomes
 pub mod Places

@@ -12,8 +12,13 @@ use Rattle.bp_machine.specs.Histories.{configuration_after}
 use Rattle.bp_machine.specs.Reports.{IsRealFailure}
 use Rattle.bp_machine.specs.Setups.{SetupOf}
 use Rattle.bp_syntax.specs.declared.tokens.LexemeKind.{LexemeKind}
+use Rattle.bp_view.specs.declared.options.ViewFormat.{ViewFormat}
+use Rattle.bp_view.specs.declared.options.ViewFormat.TheVariants.{Columns, Json}
 use Rattle.bp_view.specs.Changes.{variable_text}
-use Rattle.bp_view.specs.Places.{place_text}
+use Rattle.bp_view.specs.JsonTexts.{list_text, member, number_or_null, string_text}
+use Rattle.bp_text.specs.declared.positions.Position.{Position}
+use Rattle.bp_text.specs.Positions.{position_at}
+use Rattle.bp_view.specs.Places.{position_text}
 use Rattle.bp_view.specs.Statements.{is_word, role_of, shortened, words_after, HasLexemes, Lexeme}
 
 abbrev pub count_text : List ℕ → ℕ → List ℕ
@@ -32,25 +37,26 @@ abbrev pub failure_text : ℕ → List ℕ → List ℕ
 failure_text i assertion =
     count_text (codes "an assertion of thread ") i ++ codes " failed" ++ assertion
 
--- the local of this name, else the global of this name, with its value; nothing where neither is
--- declared
-abbrev pub resolved_value : Procedure → List ℕ → (local global : Option Bool) → List ℕ
-resolved_value p name (Some b) global = variable_text (Some p) name b
-resolved_value p name None (Some b) = variable_text None name b
-resolved_value p name None None = []
+module _ (format : ViewFormat) where
+  -- the local of this name, else the global of this name, with its value; nothing where neither is
+  -- declared
+  abbrev pub resolved_value : Procedure → List ℕ → (local global : Option Bool) → List ℕ
+  resolved_value p name (Some b) global = variable_text format (Some p) name b
+  resolved_value p name None (Some b) = variable_text format None name b
+  resolved_value p name None None = []
 
--- what a name means in a procedure, with its value in a store
-abbrev pub named_value : Procedure → Store Valuation → List ℕ → List ℕ
-named_value p s name = resolved_value p name (lookup s.locals name) (lookup s.globals name)
+  -- what a name means in a procedure, with its value in a store
+  abbrev pub named_value : Procedure → Store Valuation → List ℕ → List ℕ
+  named_value p s name = resolved_value p name (lookup s.locals name) (lookup s.globals name)
 
--- the same of a lexeme; a symbol names nothing
-abbrev pub lexeme_value : Procedure → Store Valuation → Option LexemeKind → List ℕ → List ℕ
-lexeme_value p s kind bytes = if is_word (role_of kind) then named_value p s bytes else []
+  -- the same of a lexeme; a symbol names nothing
+  abbrev pub lexeme_value : Procedure → Store Valuation → Option LexemeKind → List ℕ → List ℕ
+  lexeme_value p s kind bytes = if is_word (role_of kind) then named_value p s bytes else []
 
--- the values of the variables that these lexemes name, one after the other
-abbrev pub named_values : Procedure → Store Valuation → List Lexeme → List ℕ
-named_values p s [] = []
-named_values p s (l ∷ ls) = lexeme_value p s l.kind l.bytes ++ named_values p s ls
+  -- the values of the variables that these lexemes name, one after the other
+  abbrev pub named_values : Procedure → Store Valuation → List Lexeme → List ℕ
+  named_values p s [] = []
+  named_values p s (l ∷ ls) = lexeme_value p s l.kind l.bytes ++ named_values p s ls
 
 -- a line of values, and none where there are none
 abbrev pub values_line : List ℕ → List ℕ
@@ -62,9 +68,23 @@ abbrev pub assertion_text : (place words values : List ℕ) → List ℕ
 assertion_text place words values =
     codes " at " ++ place ++ codes ": " ++ words ++ values_line values
 
+-- the same as the members of an object
+abbrev pub assertion_members : Position → (words values : List ℕ) → List ℕ
+assertion_members position words values =
+    member (codes "line") (decimal position.line)
+    ++ member (codes "column") (decimal position.column)
+    ++ member (codes "statement") (string_text words)
+    ++ member (codes "values") (list_text values)
+
+-- the same in a view of this format
+abbrev pub assertion_in : ViewFormat → Position → (words values : List ℕ) → List ℕ
+assertion_in Columns position words values = assertion_text (position_text position) words values
+assertion_in Json position words values = assertion_members position words values
+
 -- What is said of the assertion of thread i that failed in a history: its place in the text, its
 -- words, and the values that the variables in it had when it failed.
 pub record IsAssertionText
+    (format : ViewFormat)
     (t : Program) (text : List ℕ) (s : SetupOf) (h : List Call) (i : ℕ) (said : List ℕ)
     : Type 0 where
   pub failure : IsRealFailure t s h i
@@ -74,19 +94,52 @@ pub record IsAssertionText
       let before = configuration_after t s failure.before in
       let frame = failure.stands.frame in
       let store = frame_store before.globals frame in
-      let place = place_text text (Some failure.stands.at) in
+      let position = position_at text failure.stands.at in
       let words = shortened (words_after false lexemes) in
-      said ≡ assertion_text place words (named_values frame.procedure store lexemes)
+      said ≡ assertion_in format position words (named_values format frame.procedure store lexemes)
 
-abbrev pub IsOutcomeText : Program → List ℕ → SetupOf → List Call → Outcome → List ℕ → Type 0
-IsOutcomeText t text s h Clean outcome = outcome ≡ codes "no assertion failed"
-IsOutcomeText t text s h (Failed i) outcome =
-    (said : List ℕ) × (outcome ≡ failure_text i said) × IsAssertionText t text s h i said
+-- an object of the thread whose assertion failed, and what is said of the assertion
+abbrev pub failure_object : ℕ → List ℕ → List ℕ
+failure_object i assertion = codes "{\"thread\":" ++ decimal i ++ assertion ++ codes "}"
+
+abbrev pub failure_in : ViewFormat → ℕ → List ℕ → List ℕ
+failure_in Columns i assertion = failure_text i assertion
+failure_in Json i assertion = failure_object i assertion
+
+-- what is said where no assertion failed
+abbrev pub clean_in : ViewFormat → List ℕ
+clean_in Columns = codes "no assertion failed"
+clean_in Json = codes "null"
+
+abbrev pub IsOutcomeText
+    : ViewFormat → Program → List ℕ → SetupOf → List Call → Outcome → List ℕ → Type 0
+IsOutcomeText format t text s h Clean outcome = outcome ≡ clean_in format
+IsOutcomeText format t text s h (Failed i) outcome =
+    (said : List ℕ)
+    × (outcome ≡ failure_in format i said)
+    × IsAssertionText format t text s h i said
+
+-- the same counts as members of an object
+abbrev pub counts_members : Report → List ℕ
+counts_members r =
+    member (codes "calls") (decimal r.calls)
+    ++ member (codes "contexts") (decimal r.contexts)
+    ++ member (codes "open") (decimal r.left_open)
+
+-- the counts of a report, and the text of its outcome
+abbrev pub foot_text : ViewFormat → Report → (outcome : List ℕ) → List ℕ
+foot_text Columns r outcome = counts_line r ++ outcome ++ codes "\n"
+foot_text Json r outcome =
+    codes "{\"kind\":\"end\""
+    ++ counts_members r
+    ++ member (codes "failure") outcome
+    ++ codes "}\n"
 
 -- the counts of the report of a history, and its outcome
 pub record IsFoot
+    (format : ViewFormat)
     (t : Program) (text : List ℕ) (s : SetupOf) (h : List Call) (r : Report) (foot : List ℕ)
     : Type 0 where
   pub outcome : List ℕ
-  pub is : foot ≡ counts_line r ++ outcome ++ codes "\n"
-  pub outcome_is : IsOutcomeText t text s h r.outcome outcome
+  pub is : foot ≡ foot_text format r outcome
+  pub outcome_is : IsOutcomeText format t text s h r.outcome outcome

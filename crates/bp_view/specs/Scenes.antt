@@ -1,10 +1,11 @@
 -- What is shown of each instruction.
-use Rattle.std.specs.Prelude.{◌≡◌, ℕ, Bool, false, List, [], ◌∷◌, ◌++◌, Option, None, Some, codes, drop, map, slice_get}
+use Rattle.std.specs.Prelude.{◌≡◌, ℕ, Bool, false, List, [], ◌∷◌, ◌++◌, Option, None, Some, codes, drop, map, option_map, slice_get}
 use Rattle.bp_tree.specs.Ast.{Procedure, Program}
 use Rattle.bp_code.specs.StandsFor.{Place, places_of}
 use Rattle.bp_code.specs.Starts.{start_of_block}
 use Rattle.bp_view.specs.declared.scenes.Scene.{Scene}
 use Rattle.bp_text.specs.OneLine.{IsOneLine, on_one_line}
+use Rattle.bp_text.specs.Positions.{position_at}
 use Rattle.bp_view.specs.Places.{place_text}
 use Rattle.bp_view.specs.Statements.{IsStatement}
 
@@ -29,6 +30,7 @@ pub record IsScene (text : List ℕ) (ps : List Procedure) (x : Place) (scene : 
       IsStatementAt text x.procedure (start_of_block x.left) words scene.excerpt.reads_choice
   pub words : IsOneLine scene.excerpt.words.items
   pub start : scene.start ≡ start_of_block x.left
+  pub position : scene.position ≡ option_map (position_at text) (start_of_block x.left)
   pub procedure : slice_get ps scene.procedure ≡ Some x.procedure
 
 -- one scene for each of these places

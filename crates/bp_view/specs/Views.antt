@@ -1,5 +1,5 @@
 -- The view of a history of a program: a line for each of its calls that is shown.
-use Rattle.std.specs.Prelude.{◌≡◌, ◌==◌, ◌-◌, ◌&&◌, ℕ, suc, Bool, true, false, nat_lt, List, [], ◌∷◌, ◌++◌, Option, None, Some, length, map, take, slice_get}
+use Rattle.std.specs.Prelude.{◌≡◌, ◌==◌, ◌-◌, ◌&&◌, ℕ, suc, Bool, true, false, nat_le, nat_lt, List, [], ◌∷◌, ◌++◌, Option, None, Some, length, map, take, slice_get, unwrap_or}
 use Rattle.std.specs.List.{concat}
 use Rattle.bp_tree.specs.Ast.{Program}
 use Rattle.bp_code.specs.StandsFor.{places_of}
@@ -14,10 +14,13 @@ use Rattle.bp_trace.specs.declared.replaying.Replayed.{Replayed}
 use Rattle.bp_trace.specs.Replayed.{IsReplayed}
 use Rattle.bp_view.specs.declared.settings.Widths.{Widths}
 use Rattle.bp_view.specs.declared.writers.ViewWriter.{ViewWriter}
+use Rattle.bp_view.specs.declared.options.ViewFormat.{ViewFormat}
+use Rattle.bp_view.specs.declared.options.ViewFormat.TheVariants.{Columns, Json}
 use Rattle.bp_view.specs.declared.options.ViewOptions.{ViewOptions}
 use Rattle.bp_view.specs.Changes.{changes_text}
 use Rattle.bp_view.specs.Colours.{colour_of}
 use Rattle.bp_view.specs.Heads.{view_head}
+use Rattle.bp_view.specs.JsonCalls.{call_object, printed_by, Next, IsNextOf}
 use Rattle.bp_view.specs.Lines.{line_text, note_text, Adds, Fields, Shown, AreFields, IsShown, IsSettingOf}
 use Rattle.bp_view.specs.Outcomes.{IsFoot}
 use Rattle.bp_view.specs.Places.{place_text}
@@ -34,8 +37,13 @@ abbrev pub is_late : Option ℕ → ℕ → ℕ → Bool
 is_late None count n = true
 is_late (Some last) count n = nat_lt (count - n) last
 
+-- call n is neither before the first that is shown, nor after the last
+abbrev pub is_between : (from to : Option ℕ) → ℕ → Bool
+is_between from to n = nat_le (unwrap_or from 0) n && nat_le n (unwrap_or to n)
+
 abbrev pub is_shown : ViewOptions → ℕ → ℕ → ℕ → Bool
-is_shown o count n i = is_of_thread o.thread i && is_late o.last count n
+is_shown o count n i =
+    is_of_thread o.thread i && (is_late o.last count n && is_between o.from o.to n)
 
 -- Of a program and its text, in a setup; the columns have these widths, and there are this many
 -- calls.
@@ -45,10 +53,10 @@ module _
   abbrev pub changes_of : List Call → Call → List ℕ
   changes_of h x =
       let now = configuration_after t s h in
-      changes_text now (configuration_after t s (h ++ x ∷ [])) x.thread
+      changes_text o.format now (configuration_after t s (h ++ x ∷ [])) x.thread
 
-  -- the line of that call
-  pub record IsViewLine (h : List Call) (x : Call) (line : List ℕ) : Type 0 where
+  -- the line of that call, in columns
+  pub record IsColumnLine (h : List Call) (x : Call) (line : List ℕ) : Type 0 where
     pub fields : Fields
     pub fields_are : AreFields t text s h x fields
     pub shown : Shown
@@ -57,9 +65,24 @@ module _
         let colour = colour_of o.has_colour x.reply fields.switch in
         line ≡ line_text w colour fields shown (note_text shown.reads x (changes_of h x))
 
+  -- the object of that call
+  pub record IsObjectLine (h : List Call) (x : Call) (line : List ℕ) : Type 0 where
+    pub fields : Fields
+    pub fields_are : AreFields t text s h x fields
+    pub next : Next
+    pub next_is : IsNextOf text (stack_of (configuration_after t s h) x.thread) next
+    pub is :
+        let printed = printed_by (configuration_after t s h) x in
+        line ≡ call_object fields next x (changes_of h x) printed
+
+  -- the line of that call in a view of this format
+  abbrev pub IsViewLine : ViewFormat → List Call → Call → List ℕ → Type 0
+  IsViewLine Columns h x line = IsColumnLine h x line
+  IsViewLine Json h x line = IsObjectLine h x line
+
   -- that line where it is shown, else nothing
   abbrev pub IsViewLineIf : Bool → List Call → Call → List ℕ → Type 0
-  IsViewLineIf true h x line = IsViewLine h x line
+  IsViewLineIf true h x line = IsViewLine o.format h x line
   IsViewLineIf false h x line = line ≡ []
 
   abbrev pub IsShownLine : List Call → Call → List ℕ → Type 0
@@ -89,8 +112,8 @@ pub record IsView
       AreWidths s (extent (length h) places statements (length t.procedures)) widths
   pub lines : List ℕ
   pub foot : List ℕ
-  pub is : view ≡ view_head t.globals s ++ lines ++ foot
-  pub foot_is : IsFoot t text s h r foot
+  pub is : view ≡ view_head o.format t.globals s ++ lines ++ foot
+  pub foot_is : IsFoot o.format t text s h r foot
   pub lines_are : AreLines t text s o widths (length h) h lines
 
 -- the view of the history of a trace of the program, and its report
@@ -117,4 +140,4 @@ pub record Shows
   pub lines : (text : List ℕ)
       → IsSettingOf t text now.setting
       → Adds (AreLines t text s now.setting.options now.setting.widths now.setting.count h)
-      (view_head now.setting.globals.now s) now.view.items
+      (view_head now.setting.options.format now.setting.globals.now s) now.view.items

@@ -8,6 +8,7 @@ ghost use Rattle.bp_machine.specs.Tops.{IsTop};
 ghost use Rattle.bp_view.specs.Changes.{changed, changes_text, frame_changes, variables_text, IsNext};
 ghost use Rattle.bp_view.specs.Scenes.{AreScenes};
 
+use crate::options::ViewFormat;
 use crate::scenes::Scene;
 use crate::variables::{push_differing, push_values};
 use bp_machine::Top;
@@ -29,16 +30,23 @@ pub(crate) fn procedure_at<'a>(scenes: &[Scene], procs: &'a [Proc], number: u32)
 }
 
 /// Adds the locals that a step changed, with their new values.
-fn push_locals(line: &mut Vec<u8>, proc: &Proc, before: u128, after: u128) -> Result<(), AllocError>
+fn push_locals(
+    line: &mut Vec<u8>,
+    format: ViewFormat,
+    proc: &Proc,
+    before: u128,
+    after: u128,
+) -> Result<(), AllocError>
     ensures { let old = valuation_of (variables proc.now) (bits_of before) in
         let values = changed old (valuation_of (variables proc.now) (bits_of after)) in
         OnOk result
-        (line.new.items ≡ line.old.items ++ variables_text (Some proc.now) values) }
+        (line.new.items ≡ line.old.items ++ variables_text format (Some proc.now) values) }
 {
     let formals = proc.formals();
-    push_differing(line, Some(proc), formals, 0, before, after)?;
+    push_differing(line, format, Some(proc), formals, 0, before, after)?;
     push_differing(
         line,
+        format,
         Some(proc),
         proc.locals(),
         formals.len(),
@@ -52,6 +60,7 @@ fn push_locals(line: &mut Vec<u8>, proc: &Proc, before: u128, after: u128) -> Re
 /// values.
 fn push_frame(
     line: &mut Vec<u8>,
+    format: ViewFormat,
     scenes: &[Scene],
     procs: &[Proc],
     before: Top,
@@ -64,8 +73,8 @@ fn push_frame(
         → f.locals ≡ valuation_of (variables f.procedure) (bits_of before.store.locals)
         → g.locals ≡ valuation_of (variables g.procedure) (bits_of after.store.locals)
         → (before.depth ≡ after.depth → f.procedure ≡ g.procedure)
-        → OnOk result
-        (line.new.items ≡ line.old.items ++ frame_changes f g before.depth after.depth) }
+        → let changes = frame_changes format f g before.depth after.depth in
+        OnOk result (line.new.items ≡ line.old.items ++ changes) }
 {
     let Some(proc) = procedure_at(scenes, procs, after.number) else {
         return Ok(());
@@ -74,16 +83,17 @@ fn push_frame(
         return Ok(());
     }
     if after.depth == before.depth {
-        push_locals(line, proc, before.store.locals, after.store.locals)?;
+        push_locals(line, format, proc, before.store.locals, after.store.locals)?;
         return Ok(());
     }
-    push_values(line, Some(proc), proc.formals(), after.store.locals)?;
+    push_values(line, format, Some(proc), proc.formals(), after.store.locals)?;
     Ok(())
 }
 
 /// Adds the variables that a step changed, with their new values.
 pub(crate) fn push_changes(
     line: &mut Vec<u8>,
+    format: ViewFormat,
     scenes: &[Scene],
     globals: &[Name],
     procs: &[Proc],
@@ -97,10 +107,10 @@ pub(crate) fn push_changes(
         → IsTop t c i before
         → IsTop t d i after
         → IsNext c d i
-        → OnOk result (line.new.items ≡ line.old.items ++ changes_text c d i) }
+        → OnOk result (line.new.items ≡ line.old.items ++ changes_text format c d i) }
 {
     let old = before.store.globals;
-    push_differing(line, None, globals, 0, old, after.store.globals)?;
-    push_frame(line, scenes, procs, before, after)?;
+    push_differing(line, format, None, globals, 0, old, after.store.globals)?;
+    push_frame(line, format, scenes, procs, before, after)?;
     Ok(())
 }

@@ -1,8 +1,12 @@
 //! The head of a view: the setup of the history.
-ghost use Rattle.std.specs.Prelude.{◌≡◌, ◌++◌, [], false, slice_get, unwrap_or, OnOk, IfOk};
+ghost use Rattle.std.specs.Prelude.{◌≡◌, ◌++◌, [], None, false, flat_map, slice_get, unwrap_or, OnOk, IfOk};
 ghost use Rattle.bp_code.specs.Values.{binding};
-ghost use Rattle.bp_view.specs.Heads.{thread_line, thread_lines, value_text, values_text, globals_line, number_line, seed_line, view_head};
+ghost use Rattle.bp_view.specs.Changes.{variables_text};
+ghost use Rattle.bp_view.specs.Heads.{globals_line, head_lines, head_object, limit_members, number_line, seed_line, string_item, thread_line, thread_lines, view_head};
 
+use crate::json_texts::{push_list, push_number, push_optional_number, push_string};
+use crate::options::ViewFormat;
+use crate::variables::push_value;
 use bp_machine::Setup;
 use bp_text::push_bytes;
 use bp_tree::Name;
@@ -41,15 +45,6 @@ fn push_threads(view: &mut Vec<u8>, setup: &Setup) -> Result<(), AllocError>
     Ok(())
 }
 
-/// Adds a global and its value.
-fn push_global(view: &mut Vec<u8>, name: &[u8], value: bool) -> Result<(), AllocError>
-    ensures { OnOk result (view.new.items ≡ view.old.items ++ value_text name.now value) }
-{
-    push_bytes(view, b" ")?;
-    push_bytes(view, name)?;
-    push_bytes(view, if value { b"=1" } else { b"=0" })
-}
-
 /// The initial value of a global, by its place in the declarations.
 fn initial_bit(setup: &Setup, n: usize) -> bool
     ensures { result ≡ unwrap_or (slice_get setup.now.init n) false }
@@ -62,12 +57,18 @@ fn initial_bit(setup: &Setup, n: usize) -> bool
 }
 
 /// Adds the globals and their values.
-fn push_values(view: &mut Vec<u8>, setup: &Setup, globals: &[Name]) -> Result<(), AllocError>
-    ensures { OnOk result
-        (view.new.items ≡ view.old.items ++ values_text (binding globals.now setup.now.init)) }
+fn push_values(
+    view: &mut Vec<u8>,
+    format: ViewFormat,
+    setup: &Setup,
+    globals: &[Name],
+) -> Result<(), AllocError>
+    ensures { let values = binding globals.now setup.now.init in
+        OnOk result (view.new.items ≡ view.old.items ++ variables_text format None values) }
 {
     for (n, name) in globals.iter().enumerate() {
-        push_global(view, name.text().as_bytes(), initial_bit(setup, n))?;
+        let text = name.text().as_bytes();
+        push_value(view, format, None, text, initial_bit(setup, n))?;
     }
     Ok(())
 }
@@ -81,13 +82,13 @@ fn push_globals(view: &mut Vec<u8>, setup: &Setup, globals: &[Name]) -> Result<(
         return Ok(());
     }
     push_bytes(view, b"globals")?;
-    push_values(view, setup, globals)?;
+    push_values(view, ViewFormat::Columns, setup, globals)?;
     push_bytes(view, b"\n")?;
     Ok(())
 }
 
 /// Adds a line with a number after its words.
-fn push_number(view: &mut Vec<u8>, words: &[u8], number: u64) -> Result<(), AllocError>
+fn push_number_line(view: &mut Vec<u8>, words: &[u8], number: u64) -> Result<(), AllocError>
     ensures { OnOk result (view.new.items ≡ view.old.items ++ number_line words.now number) }
 {
     let mut buffer = Buffer::new();
@@ -101,20 +102,20 @@ fn push_seed(view: &mut Vec<u8>, seed: Option<u64>) -> Result<(), AllocError>
     ensures { OnOk result (view.new.items ≡ view.old.items ++ seed_line seed) }
 {
     match seed {
-        Some(seed) => push_number(view, b"seed ", seed),
+        Some(seed) => push_number_line(view, b"seed ", seed),
         None => push_bytes(view, b"seed none\n"),
     }
 }
 
 /// The lines of the setup: the entries, the globals, the limits and the seed, and an empty line.
-pub(crate) fn head_of(alloc: Global, setup: &Setup, globals: &[Name]) -> Result<Vec<u8>, AllocError>
-    ensures { IfOk result (λ v. v.items ≡ view_head globals.now setup.now) }
+fn head_lines(alloc: Global, setup: &Setup, globals: &[Name]) -> Result<Vec<u8>, AllocError>
+    ensures { IfOk result (λ v. v.items ≡ head_lines globals.now setup.now) }
 {
     let mut head = Vec::new(alloc);
     push_threads(&mut head, setup)?;
     push_globals(&mut head, setup, globals)?;
-    push_number(&mut head, b"contexts at most ", u64::from(setup.contexts()))?;
-    push_number(
+    push_number_line(&mut head, b"contexts at most ", u64::from(setup.contexts()))?;
+    push_number_line(
         &mut head,
         b"calls of a thread at most ",
         u64::from(setup.calls()),
@@ -122,4 +123,65 @@ pub(crate) fn head_of(alloc: Global, setup: &Setup, globals: &[Name]) -> Result<
     push_seed(&mut head, setup.seed())?;
     push_bytes(&mut head, b"\n")?;
     Ok(head)
+}
+
+/// Adds a string as an item of a list.
+fn push_item(items: &mut Vec<u8>, text: &[u8]) -> Result<(), AllocError>
+    ensures { OnOk result (items.new.items ≡ items.old.items ++ string_item text.now) }
+{
+    push_bytes(items, b",")?;
+    push_string(items, text)?;
+    Ok(())
+}
+
+/// The entries of the threads as items of a list.
+fn entry_items(alloc: Global, setup: &Setup) -> Result<Vec<u8>, AllocError>
+    ensures { IfOk result (λ v. v.items ≡ flat_map string_item setup.now.entries) }
+{
+    let mut items = Vec::new(alloc);
+    for thread in 0..setup.threads() {
+        push_item(&mut items, entry_of(setup, thread))?;
+    }
+    Ok(items)
+}
+
+/// Adds the limits of a setup, and its seed.
+fn push_limits(head: &mut Vec<u8>, setup: &Setup) -> Result<(), AllocError>
+    ensures { OnOk result (head.new.items ≡ head.old.items ++ limit_members setup.now) }
+{
+    push_number(head, b"contexts", u64::from(setup.contexts()))?;
+    push_number(head, b"calls", u64::from(setup.calls()))?;
+    push_optional_number(head, b"seed", setup.seed())?;
+    Ok(())
+}
+
+/// The object of the setup.
+fn head_object(alloc: Global, setup: &Setup, globals: &[Name]) -> Result<Vec<u8>, AllocError>
+    ensures { IfOk result (λ v. v.items ≡ head_object globals.now setup.now) }
+{
+    let entries = entry_items(alloc, setup)?;
+    let mut values = Vec::new(alloc);
+    push_values(&mut values, ViewFormat::Json, setup, globals)?;
+    let mut head = Vec::new(alloc);
+    push_bytes(&mut head, b"{\"kind\":\"setup\",\"version\":1")?;
+    push_list(&mut head, b"threads", &entries)?;
+    push_list(&mut head, b"globals", &values)?;
+    push_limits(&mut head, setup)?;
+    push_bytes(&mut head, b"}\n")?;
+    Ok(head)
+}
+
+/// The head of a view: the setup of its history.
+pub(crate) fn head_of(
+    alloc: Global,
+    format: ViewFormat,
+    setup: &Setup,
+    globals: &[Name],
+) -> Result<Vec<u8>, AllocError>
+    ensures { IfOk result (λ v. v.items ≡ view_head format globals.now setup.now) }
+{
+    match format {
+        ViewFormat::Columns => head_lines(alloc, setup, globals),
+        ViewFormat::Json => head_object(alloc, setup, globals),
+    }
 }

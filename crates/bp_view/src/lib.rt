@@ -5,6 +5,8 @@ mod changes;
 mod colours;
 mod excerpts;
 mod heads;
+mod json_calls;
+mod json_texts;
 mod lines;
 mod moments;
 mod options;
@@ -18,6 +20,6 @@ mod views;
 mod watching;
 mod writers;
 
-pub use options::ViewOptions;
+pub use options::{ViewFormat, ViewOptions};
 pub use statements::statement_lines;
 pub use views::view;

@@ -101,7 +101,7 @@ fn push_scene(
 }
 
 /// Whether the statement that came next was tried.
-fn is_tried(reply: Reply) -> bool
+pub(crate) fn is_tried(reply: Reply) -> bool
     ensures { result ≡ is_tried reply }
 {
     matches!(reply, Reply::Stepped | Reply::Failed | Reply::Blocked)
@@ -119,7 +119,7 @@ fn push_choice(note: &mut Vec<u8>, reads_choice: bool, call: &Call) -> Result<()
 }
 
 /// Adds the variables that a call changed.
-fn push_changed(
+pub(crate) fn push_changed(
     note: &mut Vec<u8>,
     setting: &Setting<'_>,
     moment: &Moment,
@@ -127,7 +127,8 @@ fn push_changed(
     ensures { (t : Program) (text : List ℕ) (c d : Configuration) (i : ℕ)
         → IsSettingOf t text setting.now
         → Leads t c d i moment.now
-        → OnOk result (note.new.items ≡ note.old.items ++ changes_text c d i) }
+        → let changes = changes_text setting.now.options.format c d i in
+        OnOk result (note.new.items ≡ note.old.items ++ changes) }
 {
     let Some(before) = moment.before else {
         return Ok(());
@@ -141,12 +142,13 @@ fn push_changed(
         procs,
         ..
     } = *setting;
-    push_changes(note, scenes, globals, procs, before, after)?;
+    let format = setting.options.format;
+    push_changes(note, format, scenes, globals, procs, before, after)?;
     Ok(())
 }
 
 /// Whether the statement of a scene reads a choice bit.
-fn reads_choice(scene: Option<&Scene>) -> bool
+pub(crate) fn reads_choice(scene: Option<&Scene>) -> bool
     ensures { result ≡ reads_of_scene (option_map (λ s. s.now) scene.entry) }
 {
     match scene {
@@ -167,7 +169,8 @@ fn write_note(
         → IsSettingOf t text setting.now
         → Leads t c d i moment.now
         → let reads = reads_of_scene (option_map (λ s. s.now) scene.entry) in
-        OnOk result (note.new.items ≡ note_text reads moment.now.call (changes_text c d i)) }
+        let changes = changes_text setting.now.options.format c d i in
+        OnOk result (note.new.items ≡ note_text reads moment.now.call changes) }
 {
     note.clear();
     push_choice(note, reads_choice(scene), &moment.call)?;
@@ -212,7 +215,8 @@ fn push_call(
         → let place = place_of_scene (option_map (λ s. s.now) scene.entry) in
         let fields = fields_of moment.now place in
         let shown = shown_of (option_map (λ s. s.now) scene.entry) moment.now.before in
-        let note = note_text shown.reads moment.now.call (changes_text c d i) in
+        let changes = changes_text setting.now.options.format c d i in
+        let note = note_text shown.reads moment.now.call changes in
         let text = call_text setting.now.widths fields shown note in
         OnOk result (line.new.items ≡ line.old.items ++ text) }
 {
@@ -242,7 +246,8 @@ pub(crate) fn push_line(
         let wanted = setting.now.options.has_colour in
         let colour = colour_of wanted moment.now.call.reply moment.now.is_switch in
         let shown = shown_of (option_map (λ s. s.now) scene.entry) moment.now.before in
-        let note = note_text shown.reads moment.now.call (changes_text c d i) in
+        let changes = changes_text setting.now.options.format c d i in
+        let note = note_text shown.reads moment.now.call changes in
         let text = line_text setting.now.widths colour fields shown note in
         OnOk result (line.new.items ≡ line.old.items ++ text) }
 {

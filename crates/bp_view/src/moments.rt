@@ -1,16 +1,20 @@
 //! The calls of a history, each with what was before and after it.
-ghost use Rattle.std.specs.Prelude.{◌≡◌, ◌++◌, ◌∷◌, [], suc, List, Some, true, false, length, MatchOption, IfOk, MatchResult};
+ghost use Rattle.std.specs.Prelude.{if◌then◌else◌, ◌≡◌, ◌++◌, ◌∷◌, [], suc, List, None, Some, true, false, length, option_map, MatchOption, IfOk, MatchResult};
 ghost use Rattle.bp_tree.specs.Ast.{Program};
 ghost use Rattle.bp_code.specs.StandsFor.{StandsFor};
 ghost use Rattle.bp_machine.specs.declared.calls.Call.{Call as Answered};
 ghost use Rattle.bp_machine.specs.ContextCounts.{last_thread};
 ghost use Rattle.bp_machine.specs.Contexts.{IsLeastWithin};
-ghost use Rattle.bp_machine.specs.Histories.{granted_threads};
+ghost use Rattle.bp_machine.specs.Histories.{configuration_after, granted_threads};
 ghost use Rattle.bp_machine.specs.Replies.{is_granted};
-ghost use Rattle.bp_machine.specs.Sessions.{Stands};
+ghost use Rattle.bp_machine.specs.Answers.{stack_of};
+ghost use Rattle.bp_machine.specs.PrintedRows.{values_printed};
+ghost use Rattle.bp_machine.specs.Sessions.{Stands, IsPrintRefusal};
 ghost use Rattle.bp_trace.specs.OwnCalls.{IsOwnCall, IsOwnRefusal};
+ghost use Rattle.bp_view.specs.JsonCalls.{IsNextPrintIn};
 ghost use Rattle.bp_view.specs.Lines.{is_other, is_switch, IsMomentOf};
 
+use crate::options::ViewFormat;
 use bp_machine::{AskFault, Call, Reply, Session, Top};
 
 /// A call of a history, and what was before and after it.
@@ -115,4 +119,33 @@ pub(crate) fn last_step(last: Option<u32>, call: &Call) -> Option<u32>
         return Some(call.thread);
     }
     last
+}
+
+/// The values that the next statement of a thread prints, where a view of this format shows them.
+pub(crate) fn next_print(
+    session: &Session,
+    format: ViewFormat,
+    thread: u32,
+) -> Result<Option<Vec<bool>>, AskFault>
+    ensures { (t : Program) (h : List Answered)
+        → StandsFor session.now.code t
+        → Stands t session.now h
+        → let now = configuration_after t session.now.setup h in
+        MatchResult result
+        (λ values. IsNextPrintIn format now thread (option_map (λ v. v.items) values))
+        (IsPrintRefusal session.now.setup thread
+        (values_printed now.globals (stack_of now thread))) }
+{
+    match format {
+        ViewFormat::Columns => Ok(None),
+        ViewFormat::Json => session.next_print(thread),
+    }
+}
+
+/// The values that a call printed: those that were next, where it made a step.
+pub(crate) fn printed_by(next: Option<&[bool]>, reply: Reply) -> Option<&[bool]>
+    ensures { let values = option_map (λ v. v.now) next.entry in
+        option_map (λ v. v.now) result ≡ (if is_granted reply then values else None) }
+{
+    if is_step(reply) { next } else { None }
 }

@@ -2,6 +2,15 @@
 ghost use Rattle.std.specs.Prelude.{◌≡◌};
 ghost use Rattle.bp_view.specs.Views.{is_shown};
 
+/// How a view is written.
+#[derive(Clone, Copy, Debug, PartialEq, Eq)]
+pub enum ViewFormat {
+    /// For people, in columns.
+    Columns,
+    /// For programs: one JSON object a line.
+    Json,
+}
+
 /// Which calls a view shows, and how.
 #[derive(Clone, Copy, Debug, PartialEq, Eq)]
 pub struct ViewOptions {
@@ -9,23 +18,49 @@ pub struct ViewOptions {
     pub thread: Option<u32>,
     /// How many of the last calls of the history are shown.
     pub last: Option<u64>,
+    /// The number of the first call that is shown.
+    pub from: Option<u64>,
+    /// The number of the last call that is shown.
+    pub to: Option<u64>,
     /// With the colours of a terminal.
     pub has_colour: bool,
+    pub format: ViewFormat,
 }
 
 impl ViewOptions {
+    ghost use Rattle.bp_view.specs.Views.{is_between, is_late, is_of_thread};
+
+    /// Whether the calls of the thread are shown.
+    fn shows_thread(&self, thread: u32) -> bool
+        ensures { result ≡ is_of_thread self.now.thread thread }
+    {
+        match self.thread {
+            Some(only) => thread == only,
+            None => true,
+        }
+    }
+
+    /// Whether the call of this number is among the last that are shown.
+    fn shows_last(&self, number: u64, count: u64) -> bool
+        ensures { result ≡ is_late self.now.last count number }
+    {
+        match self.last {
+            Some(last) => count.saturating_sub(number) < last,
+            None => true,
+        }
+    }
+
+    /// Whether the call of this number is between the first and the last that are shown.
+    fn shows_between(&self, number: u64) -> bool
+        ensures { result ≡ is_between self.now.from self.now.to number }
+    {
+        self.from.unwrap_or(0) <= number && number <= self.to.unwrap_or(number)
+    }
+
     /// Whether the call of this number is shown, where there are `count` calls.
     pub(crate) fn shows(&self, thread: u32, number: u64, count: u64) -> bool
         ensures { result ≡ is_shown self.now count number thread }
     {
-        let is_of_thread = match self.thread {
-            Some(only) => thread == only,
-            None => true,
-        };
-        let is_late = match self.last {
-            Some(last) => count.saturating_sub(number) < last,
-            None => true,
-        };
-        is_of_thread && is_late
+        self.shows_thread(thread) && self.shows_last(number, count) && self.shows_between(number)
     }
 }

@@ -11,18 +11,22 @@ ghost use Rattle.bp_machine.specs.Reports.{outcome_of};
 ghost use Rattle.bp_machine.specs.Sessions.{Stands};
 ghost use Rattle.bp_machine.specs.Tops.{IsTop};
 ghost use Rattle.bp_view.specs.Lines.{IsSettingOf};
-ghost use Rattle.bp_view.specs.Outcomes.{assertion_text, count_text, counts_line, failure_text, lexeme_value, named_values, values_line, IsAssertionText, IsFoot, IsOutcomeText};
+ghost use Rattle.bp_view.specs.declared.options.ViewFormat.TheVariants.{Columns, Json};
+ghost use Rattle.bp_view.specs.Outcomes.{assertion_in, assertion_members, assertion_text, clean_in, count_text, counts_line, counts_members, failure_in, failure_object, failure_text, foot_text, lexeme_value, named_values, values_line, IsAssertionText, IsFoot, IsOutcomeText};
+ghost use Rattle.bp_view.specs.Places.{position_text};
 ghost use Rattle.bp_view.specs.Statements.{HasLexemes, Lexeme as Read};
 
 use crate::changes::procedure_at;
 use crate::excerpts::{is_word, take_own_lexeme};
+use crate::json_texts::{push_list, push_member, push_number, push_text};
+use crate::options::ViewFormat;
 use crate::scenes::Scene;
 use crate::settings::Setting;
 use crate::variables::push_variable;
 use bp_code::Store;
 use bp_machine::{Outcome, Report, Session, Top};
 use bp_syntax::Lexeme;
-use bp_text::{part_from, push_bytes};
+use bp_text::{Position, part_from, push_bytes};
 use bp_tree::{Name, Proc};
 use itoa::Buffer;
 use std::alloc::{AllocError, Global};
@@ -39,17 +43,18 @@ fn push_count(view: &mut Vec<u8>, words: &[u8], count: u64) -> Result<(), AllocE
 /// Adds the variable that a lexeme names, where it names one, and its value.
 fn push_named(
     values: &mut Vec<u8>,
+    format: ViewFormat,
     globals: &[Name],
     proc: &Proc,
     store: Store,
     lexeme: Lexeme<'_>,
 ) -> Result<(), AllocError>
     ensures { let s = named_store globals.now proc.now (store_of store) in
-        let value = lexeme_value proc.now s lexeme.entry.kind lexeme.entry.text.now in
+        let value = lexeme_value format proc.now s lexeme.entry.kind lexeme.entry.text.now in
         OnOk result (values.new.items ≡ values.old.items ++ value) }
 {
     if is_word(lexeme) {
-        push_variable(values, globals, proc, store, lexeme.text)?;
+        push_variable(values, format, globals, proc, store, lexeme.text)?;
     }
     Ok(())
 }
@@ -57,6 +62,7 @@ fn push_named(
 /// Adds the values of the variables in the first statement of the text.
 fn push_variables(
     values: &mut Vec<u8>,
+    format: ViewFormat,
     globals: &[Name],
     proc: &Proc,
     store: Store,
@@ -65,11 +71,12 @@ fn push_variables(
     ensures { (lexemes : List Read)
         → HasLexemes text.now lexemes
         → let s = named_store globals.now proc.now (store_of store) in
-        OnOk result (values.new.items ≡ values.old.items ++ named_values proc.now s lexemes) }
+        let more = named_values format proc.now s lexemes in
+        OnOk result (values.new.items ≡ values.old.items ++ more) }
 {
     let mut rest = text;
     while let Some(lexeme) = take_own_lexeme(&mut rest) {
-        push_named(values, globals, proc, store, lexeme)?;
+        push_named(values, format, globals, proc, store, lexeme)?;
     }
     Ok(())
 }
@@ -90,7 +97,8 @@ fn values_of(
         → HasLexemes (drop at text.now) lexemes
         → let p = is.frame.procedure in
         let s = frame_store c.globals is.frame in
-        IfOk result (λ v. v.items ≡ named_values p s lexemes) }
+        let format = setting.now.options.format in
+        IfOk result (λ v. v.items ≡ named_values format p s lexemes) }
 {
     let mut values = Vec::new(alloc);
     let Some(start) = start else {
@@ -100,7 +108,15 @@ fn values_of(
         return Ok(values);
     };
     let statement = part_from(text, start as usize);
-    push_variables(&mut values, setting.globals, proc, top.store, statement)?;
+    let format = setting.options.format;
+    push_variables(
+        &mut values,
+        format,
+        setting.globals,
+        proc,
+        top.store,
+        statement,
+    )?;
     Ok(values)
 }
 
@@ -116,7 +132,7 @@ fn push_values_line(view: &mut Vec<u8>, values: &[u8]) -> Result<(), AllocError>
 }
 
 /// Adds where an assertion begins, its words, and the line of its values.
-fn push_assertion(view: &mut Vec<u8>, scene: &Scene, values: &[u8]) -> Result<(), AllocError>
+fn push_assertion_text(view: &mut Vec<u8>, scene: &Scene, values: &[u8]) -> Result<(), AllocError>
     ensures { let words = scene.now.excerpt.words.items in
         let assertion = assertion_text scene.now.place.items words values.now in
         OnOk result (view.new.items ≡ view.old.items ++ assertion) }
@@ -127,6 +143,44 @@ fn push_assertion(view: &mut Vec<u8>, scene: &Scene, values: &[u8]) -> Result<()
     push_bytes(view, scene.excerpt.words.as_slice())?;
     push_values_line(view, values)?;
     Ok(())
+}
+
+/// Adds where an assertion begins, its words and its values, as members of an object.
+fn push_assertion_members(
+    view: &mut Vec<u8>,
+    position: Position,
+    words: &[u8],
+    values: &[u8],
+) -> Result<(), AllocError>
+    ensures { let assertion = assertion_members position words.now values.now in
+        OnOk result (view.new.items ≡ view.old.items ++ assertion) }
+{
+    push_number(view, b"line", position.line as u64)?;
+    push_number(view, b"column", position.column as u64)?;
+    push_text(view, b"statement", words)?;
+    push_list(view, b"values", values)?;
+    Ok(())
+}
+
+/// Adds what is said of an assertion that begins at this position.
+fn push_assertion(
+    view: &mut Vec<u8>,
+    format: ViewFormat,
+    scene: &Scene,
+    position: Position,
+    values: &[u8],
+) -> Result<(), AllocError>
+    ensures { let words = scene.now.excerpt.words.items in
+        let assertion = assertion_in format position words values.now in
+        scene.now.place.items ≡ position_text position
+        → OnOk result (view.new.items ≡ view.old.items ++ assertion) }
+{
+    match format {
+        ViewFormat::Columns => push_assertion_text(view, scene, values),
+        ViewFormat::Json => {
+            push_assertion_members(view, position, scene.excerpt.words.as_slice(), values)
+        }
+    }
 }
 
 /// What is said of the assertion of a thread that failed. The thread still stands at it.
@@ -142,7 +196,9 @@ fn assertion_of(
         → StandsFor session.now.code t
         → Stands t session.now h
         → outcome_of h ≡ Failed thread
-        → IfOk result (λ v. IsAssertionText t text.now session.now.setup h thread v.items) }
+        → let format = setting.now.options.format in
+        let s = session.now.setup in
+        IfOk result (λ v. IsAssertionText format t text.now s h thread v.items) }
 {
     let mut said = Vec::new(alloc);
     let Some(top) = session.top(thread) else {
@@ -151,13 +207,16 @@ fn assertion_of(
     let Some(scene) = setting.scenes.get(top.number as usize) else {
         return Ok(said);
     };
+    let Some(position) = scene.position else {
+        return Ok(said);
+    };
     let values = values_of(alloc, setting, text, scene.start, top)?;
-    push_assertion(&mut said, scene, &values)?;
+    push_assertion(&mut said, setting.options.format, scene, position, &values)?;
     Ok(said)
 }
 
 /// Adds that an assertion of a thread failed, and what is said of it.
-fn push_failed(view: &mut Vec<u8>, thread: u32, assertion: &[u8]) -> Result<(), AllocError>
+fn push_failure_text(view: &mut Vec<u8>, thread: u32, assertion: &[u8]) -> Result<(), AllocError>
     ensures { OnOk result
         (view.new.items ≡ view.old.items ++ failure_text thread assertion.now) }
 {
@@ -165,6 +224,43 @@ fn push_failed(view: &mut Vec<u8>, thread: u32, assertion: &[u8]) -> Result<(), 
     push_bytes(view, b" failed")?;
     push_bytes(view, assertion)?;
     Ok(())
+}
+
+/// Adds the object of a thread whose assertion failed.
+fn push_failure_object(view: &mut Vec<u8>, thread: u32, assertion: &[u8]) -> Result<(), AllocError>
+    ensures { OnOk result
+        (view.new.items ≡ view.old.items ++ failure_object thread assertion.now) }
+{
+    push_count(view, b"{\"thread\":", u64::from(thread))?;
+    push_bytes(view, assertion)?;
+    push_bytes(view, b"}")?;
+    Ok(())
+}
+
+/// Adds that an assertion of a thread failed, in this format.
+fn push_failed(
+    view: &mut Vec<u8>,
+    format: ViewFormat,
+    thread: u32,
+    assertion: &[u8],
+) -> Result<(), AllocError>
+    ensures { OnOk result
+        (view.new.items ≡ view.old.items ++ failure_in format thread assertion.now) }
+{
+    match format {
+        ViewFormat::Columns => push_failure_text(view, thread, assertion),
+        ViewFormat::Json => push_failure_object(view, thread, assertion),
+    }
+}
+
+/// What is said where no assertion failed.
+fn clean_in(format: ViewFormat) -> &'static [u8]
+    ensures { result.now ≡ clean_in format }
+{
+    match format {
+        ViewFormat::Columns => b"no assertion failed",
+        ViewFormat::Json => b"null",
+    }
 }
 
 /// The outcome; that of a failed assertion with its place, its words and its values.
@@ -180,14 +276,17 @@ fn outcome_text(
         → StandsFor session.now.code t
         → Stands t session.now h
         → outcome ≡ outcome_of h
-        → IfOk result (λ v. IsOutcomeText t text.now session.now.setup h outcome v.items) }
+        → let format = setting.now.options.format in
+        let s = session.now.setup in
+        IfOk result (λ v. IsOutcomeText format t text.now s h outcome v.items) }
 {
+    let format = setting.options.format;
     let mut words = Vec::new(alloc);
     match outcome {
-        Outcome::Clean => push_bytes(&mut words, b"no assertion failed")?,
+        Outcome::Clean => push_bytes(&mut words, clean_in(format))?,
         Outcome::Failed { thread } => {
             let assertion = assertion_of(alloc, setting, text, session, thread)?;
-            push_failed(&mut words, thread, &assertion)?;
+            push_failed(&mut words, format, thread, &assertion)?;
         }
     }
     Ok(words)
@@ -201,6 +300,38 @@ fn push_counts(view: &mut Vec<u8>, report: Report) -> Result<(), AllocError>
     push_count(view, b" calls, contexts ", u64::from(report.contexts))?;
     push_count(view, b", open threads ", u64::from(report.left_open))?;
     push_bytes(view, b"\n")?;
+    Ok(())
+}
+
+/// Adds the counts of a report and its outcome, for people.
+fn push_foot_lines(view: &mut Vec<u8>, report: Report, outcome: &[u8]) -> Result<(), AllocError>
+    ensures { OnOk result
+        (view.new.items ≡ view.old.items ++ foot_text Columns report outcome.now) }
+{
+    push_counts(view, report)?;
+    push_bytes(view, outcome)?;
+    push_bytes(view, b"\n")?;
+    Ok(())
+}
+
+/// Adds the counts of a report as members of an object.
+fn push_counts_members(view: &mut Vec<u8>, report: Report) -> Result<(), AllocError>
+    ensures { OnOk result (view.new.items ≡ view.old.items ++ counts_members report) }
+{
+    push_number(view, b"calls", report.calls)?;
+    push_number(view, b"contexts", u64::from(report.contexts))?;
+    push_number(view, b"open", u64::from(report.left_open))?;
+    Ok(())
+}
+
+/// Adds the object of a report and its outcome.
+fn push_foot_object(view: &mut Vec<u8>, report: Report, outcome: &[u8]) -> Result<(), AllocError>
+    ensures { OnOk result (view.new.items ≡ view.old.items ++ foot_text Json report outcome.now) }
+{
+    push_bytes(view, b"{\"kind\":\"end\"")?;
+    push_counts_members(view, report)?;
+    push_member(view, b"failure", outcome)?;
+    push_bytes(view, b"}\n")?;
     Ok(())
 }
 
@@ -218,12 +349,15 @@ pub(crate) fn foot_of(
         → StandsFor session.now.code t
         → Stands t session.now h
         → report.outcome ≡ outcome_of h
-        → IfOk result (λ v. IsFoot t text.now session.now.setup h report v.items) }
+        → let format = setting.now.options.format in
+        let s = session.now.setup in
+        IfOk result (λ v. IsFoot format t text.now s h report v.items) }
 {
     let outcome = outcome_text(alloc, setting, text, session, report.outcome)?;
     let mut foot = Vec::new(alloc);
-    push_counts(&mut foot, report)?;
-    push_bytes(&mut foot, &outcome)?;
-    push_bytes(&mut foot, b"\n")?;
+    match setting.options.format {
+        ViewFormat::Columns => push_foot_lines(&mut foot, report, &outcome)?,
+        ViewFormat::Json => push_foot_object(&mut foot, report, &outcome)?,
+    }
     Ok(foot)
 }

@@ -22,6 +22,8 @@ pub(crate) struct Scene {
     pub(crate) excerpt: Excerpt,
     /// Where the statement begins in the text; none at the end of a procedure.
     pub(crate) start: Option<u32>,
+    /// The same as a line and a column.
+    pub(crate) position: Option<Position>,
     /// The procedure's place among the procedures.
     pub(crate) procedure: usize,
 }
@@ -58,6 +60,7 @@ fn statement_scene(
         place: place_text(alloc, position)?,
         excerpt: excerpt_of(alloc, rest)?,
         start: Some(start),
+        position: Some(position),
         procedure,
     })
 }
@@ -82,6 +85,7 @@ fn end_scene(alloc: Global, name: &[u8], procedure: usize) -> Result<Scene, Allo
             reads_choice: false,
         },
         start: None,
+        position: None,
         procedure,
     })
 }

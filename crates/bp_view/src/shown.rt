@@ -4,15 +4,19 @@ ghost use Rattle.bp_tree.specs.Ast.{Program};
 ghost use Rattle.bp_code.specs.Configurations.{Configuration};
 ghost use Rattle.bp_machine.specs.declared.calls.Call.{Call as Answered};
 ghost use Rattle.bp_machine.specs.Answers.{stack_of};
+ghost use Rattle.bp_machine.specs.Histories.{configuration_after};
 ghost use Rattle.bp_machine.specs.Setups.{SetupOf};
 ghost use Rattle.bp_machine.specs.Tops.{IsTop};
 ghost use Rattle.bp_view.specs.Lines.{shown_of, start_on_stack, Adds, IsMomentOf, IsSettingOf, IsShown};
 ghost use Rattle.bp_view.specs.Places.{place_text};
 ghost use Rattle.bp_view.specs.Scenes.{place_of_scene, AreScenes};
-ghost use Rattle.bp_view.specs.Views.{IsShownLine};
+ghost use Rattle.bp_view.specs.JsonCalls.{next_of, printed_by, IsNextOf, IsPrintedIn};
+ghost use Rattle.bp_view.specs.Views.{IsColumnLine, IsObjectLine, IsShownLine, IsViewLine};
 
+use crate::json_calls::push_object;
 use crate::lines::push_line;
 use crate::moments::Moment;
+use crate::options::ViewFormat;
 use crate::scenes::Scene;
 use crate::settings::Setting;
 use bp_machine::Top;
@@ -29,6 +33,11 @@ fn scene_of<'a>(scenes: &'a [Scene], top: Option<Top>) -> Option<&'a Scene>
         → AreScenes text t scenes.now
         → MatchOption top (stack_of c i ≡ []) (IsTop t c i)
         → IsShown text (stack_of c i) (shown_of (option_map (λ s. s.now) result) top) }
+    ensures next { (t : Program) (text : List ℕ) (c : Configuration) (i : ℕ)
+        → AreScenes text t scenes.now
+        → MatchOption top (stack_of c i ≡ []) (IsTop t c i)
+        → let next = next_of t.procedures (option_map (λ s. s.now) result) top in
+        IsNextOf text (stack_of c i) next }
 {
     match top {
         Some(top) => scenes.get(top.number as usize),
@@ -36,8 +45,8 @@ fn scene_of<'a>(scenes: &'a [Scene], top: Option<Top>) -> Option<&'a Scene>
     }
 }
 
-/// Adds the line of a call, where it is shown. `note` is room for the call's note.
-pub(crate) fn push_shown(
+/// Adds the line of a call in columns. `note` is room for the call's note.
+fn push_column_line(
     view: &mut Vec<u8>,
     note: &mut Vec<u8>,
     setting: &Setting<'_>,
@@ -50,14 +59,84 @@ pub(crate) fn push_shown(
         let w = setting.now.widths in
         let count = setting.now.count in
         OnOk result
+        (Adds (IsColumnLine t text s options w count h x) view.old.items view.new.items) }
+{
+    let scene = scene_of(setting.scenes, moment.before);
+    push_line(view, note, setting, scene, moment)?;
+    Ok(())
+}
+
+/// Adds the object of a call. `note` is room for its lists.
+fn push_object_line(
+    view: &mut Vec<u8>,
+    note: &mut Vec<u8>,
+    setting: &Setting<'_>,
+    moment: &Moment,
+    printed: Option<&[bool]>,
+) -> Result<(), AllocError>
+    ensures { (t : Program) (text : List ℕ) (s : SetupOf) (h : List Answered) (x : Answered)
+        → IsSettingOf t text setting.now
+        → IsMomentOf t s h x moment.now
+        → option_map (λ v. v.now) printed.entry ≡ printed_by (configuration_after t s h) x
+        → let options = setting.now.options in
+        let w = setting.now.widths in
+        let count = setting.now.count in
+        OnOk result
+        (Adds (IsObjectLine t text s options w count h x) view.old.items view.new.items) }
+{
+    let scene = scene_of(setting.scenes, moment.before);
+    push_object(view, note, setting, scene, moment, printed)?;
+    Ok(())
+}
+
+/// Adds the line of a call in the format of the view. `note` is room for the call's note.
+fn push_view_line(
+    view: &mut Vec<u8>,
+    note: &mut Vec<u8>,
+    setting: &Setting<'_>,
+    moment: &Moment,
+    printed: Option<&[bool]>,
+) -> Result<(), AllocError>
+    ensures { (t : Program) (text : List ℕ) (s : SetupOf) (h : List Answered) (x : Answered)
+        → IsSettingOf t text setting.now
+        → IsMomentOf t s h x moment.now
+        → IsPrintedIn setting.now.options.format (configuration_after t s h) x
+        (option_map (λ v. v.now) printed.entry)
+        → let options = setting.now.options in
+        let w = setting.now.widths in
+        let line = IsViewLine t text s options w setting.now.count options.format h x in
+        OnOk result (Adds line view.old.items view.new.items) }
+{
+    match setting.options.format {
+        ViewFormat::Columns => push_column_line(view, note, setting, moment),
+        ViewFormat::Json => push_object_line(view, note, setting, moment, printed),
+    }
+}
+
+/// Adds the line of a call, where it is shown. `note` is room for the call's note.
+pub(crate) fn push_shown(
+    view: &mut Vec<u8>,
+    note: &mut Vec<u8>,
+    setting: &Setting<'_>,
+    moment: &Moment,
+    printed: Option<&[bool]>,
+) -> Result<(), AllocError>
+    ensures { (t : Program) (text : List ℕ) (s : SetupOf) (h : List Answered) (x : Answered)
+        → IsSettingOf t text setting.now
+        → IsMomentOf t s h x moment.now
+        → IsPrintedIn setting.now.options.format (configuration_after t s h) x
+        (option_map (λ v. v.now) printed.entry)
+        → let options = setting.now.options in
+        let w = setting.now.widths in
+        let count = setting.now.count in
+        OnOk result
         (Adds (IsShownLine t text s options w count h x) view.old.items view.new.items) }
 {
     if setting
         .options
         .shows(moment.call.thread, moment.number, setting.count)
     {
-        let scene = scene_of(setting.scenes, moment.before);
-        push_line(view, note, setting, scene, moment)?;
+        push_view_line(view, note, setting, moment, printed)?;
     }
     Ok(())
 }

@@ -4,11 +4,14 @@ ghost use Rattle.bp_check.specs.Tables.{first_index};
 ghost use Rattle.bp_code.specs.Bits.{bits_of, store_of};
 ghost use Rattle.bp_code.specs.StandsFor.{named_store, valuation_of, variables};
 ghost use Rattle.bp_text.specs.OneLine.{on_one_line};
-ghost use Rattle.bp_view.specs.Changes.{owner_text, slot_text, slots_text, variable_text, variables_text};
+ghost use Rattle.bp_view.specs.Changes.{owner_text, slot_text, slots_text, variable_object, variable_text, variable_words, variables_text};
+ghost use Rattle.bp_view.specs.JsonTexts.{string_or_null};
 ghost use Rattle.bp_view.specs.Outcomes.{named_value};
 
+use crate::json_texts::{bit_text, push_member, push_string, push_text};
+use crate::options::ViewFormat;
 use bp_code::Store;
-use bp_text::push_on_one_line;
+use bp_text::{push_bytes, push_on_one_line};
 use bp_tree::{Name, Proc};
 use std::alloc::AllocError;
 
@@ -45,15 +48,15 @@ fn value_text(value: bool) -> &'static [u8]
     if value { b"=1" } else { b"=0" }
 }
 
-/// Adds a variable and its value; the variable is a local of its owner, or a global.
-pub(crate) fn push_value(
+/// Adds a variable and its value, for people.
+fn push_variable_words(
     line: &mut Vec<u8>,
     owner: Option<&Proc>,
     name: &[u8],
     value: bool,
 ) -> Result<(), AllocError>
     ensures { let owner = option_map (λ p. p.now) owner.entry in
-        OnOk result (line.new.items ≡ line.old.items ++ variable_text owner name.now value) }
+        OnOk result (line.new.items ≡ line.old.items ++ variable_words owner name.now value) }
 {
     push_on_one_line(line, b" ")?;
     push_owner(line, owner)?;
@@ -62,19 +65,67 @@ pub(crate) fn push_value(
     Ok(())
 }
 
+/// Adds the name of a local's procedure as a string; null for a global.
+fn push_owner_name(line: &mut Vec<u8>, owner: Option<&Proc>) -> Result<(), AllocError>
+    ensures { let name = option_map (λ p. p.now.name.text) owner.entry in
+        OnOk result (line.new.items ≡ line.old.items ++ string_or_null name) }
+{
+    match owner {
+        Some(proc) => push_string(line, proc.name().text().as_bytes()),
+        None => push_bytes(line, b"null"),
+    }
+}
+
+/// Adds a variable and its value as an object of JSON, after a comma.
+fn push_variable_object(
+    line: &mut Vec<u8>,
+    owner: Option<&Proc>,
+    name: &[u8],
+    value: bool,
+) -> Result<(), AllocError>
+    ensures { let owner = option_map (λ p. p.now) owner.entry in
+        OnOk result (line.new.items ≡ line.old.items ++ variable_object owner name.now value) }
+{
+    push_bytes(line, b",{\"procedure\":")?;
+    push_owner_name(line, owner)?;
+    push_text(line, b"name", name)?;
+    push_member(line, b"value", bit_text(value))?;
+    push_bytes(line, b"}")?;
+    Ok(())
+}
+
+/// Adds a variable and its value; the variable is a local of its owner, or a global.
+pub(crate) fn push_value(
+    line: &mut Vec<u8>,
+    format: ViewFormat,
+    owner: Option<&Proc>,
+    name: &[u8],
+    value: bool,
+) -> Result<(), AllocError>
+    ensures { let owner = option_map (λ p. p.now) owner.entry in
+        OnOk result
+        (line.new.items ≡ line.old.items ++ variable_text format owner name.now value) }
+{
+    match format {
+        ViewFormat::Columns => push_variable_words(line, owner, name, value),
+        ViewFormat::Json => push_variable_object(line, owner, name, value),
+    }
+}
+
 /// Adds the values of the names, the first of which has slot 0.
 pub(crate) fn push_values(
     line: &mut Vec<u8>,
+    format: ViewFormat,
     owner: Option<&Proc>,
     names: &[Name],
     word: u128,
 ) -> Result<(), AllocError>
     ensures { let owner = option_map (λ p. p.now) owner.entry in
         let values = valuation_of names.now (bits_of word) in
-        OnOk result (line.new.items ≡ line.old.items ++ variables_text owner values) }
+        OnOk result (line.new.items ≡ line.old.items ++ variables_text format owner values) }
 {
     for (n, name) in names.iter().enumerate() {
-        push_value(line, owner, name.text().as_bytes(), bit_of(word, n))?;
+        push_value(line, format, owner, name.text().as_bytes(), bit_of(word, n))?;
     }
     Ok(())
 }
@@ -82,6 +133,7 @@ pub(crate) fn push_values(
 /// Adds a variable and its value after a step, where that differs from its value before.
 fn push_slot(
     line: &mut Vec<u8>,
+    format: ViewFormat,
     owner: Option<&Proc>,
     name: &[u8],
     before: bool,
@@ -89,10 +141,10 @@ fn push_slot(
 ) -> Result<(), AllocError>
     ensures { let owner = option_map (λ p. p.now) owner.entry in
         OnOk result
-        (line.new.items ≡ line.old.items ++ slot_text owner name.now before after) }
+        (line.new.items ≡ line.old.items ++ slot_text format owner name.now before after) }
 {
     if before != after {
-        push_value(line, owner, name, after)?;
+        push_value(line, format, owner, name, after)?;
     }
     Ok(())
 }
@@ -101,6 +153,7 @@ fn push_slot(
 /// The first name has this slot.
 pub(crate) fn push_differing(
     line: &mut Vec<u8>,
+    format: ViewFormat,
     owner: Option<&Proc>,
     names: &[Name],
     first: usize,
@@ -109,13 +162,20 @@ pub(crate) fn push_differing(
 ) -> Result<(), AllocError>
     requires { first + length names.now < 2 ^ 64 }
     ensures { let owner = option_map (λ p. p.now) owner.entry in
-        let values = slots_text owner names.now first (bits_of before) (bits_of after) in
+        let values = slots_text format owner names.now first (bits_of before) (bits_of after) in
         OnOk result (line.new.items ≡ line.old.items ++ values) }
 {
     for (n, name) in names.iter().enumerate() {
         let slot = first + n;
         let text = name.text().as_bytes();
-        push_slot(line, owner, text, bit_of(before, slot), bit_of(after, slot))?;
+        push_slot(
+            line,
+            format,
+            owner,
+            text,
+            bit_of(before, slot),
+            bit_of(after, slot),
+        )?;
     }
     Ok(())
 }
@@ -143,6 +203,7 @@ fn local_slot_of(proc: &Proc, name: &[u8]) -> Option<usize>
 /// Adds a variable and its value, where the name is that of one: a local hides a global.
 pub(crate) fn push_variable(
     line: &mut Vec<u8>,
+    format: ViewFormat,
     globals: &[Name],
     proc: &Proc,
     store: Store,
@@ -150,14 +211,14 @@ pub(crate) fn push_variable(
 ) -> Result<(), AllocError>
     ensures { let values = named_store globals.now proc.now (store_of store) in
         OnOk result
-        (line.new.items ≡ line.old.items ++ named_value proc.now values name.now) }
+        (line.new.items ≡ line.old.items ++ named_value format proc.now values name.now) }
 {
     if let Some(slot) = local_slot_of(proc, name) {
-        push_value(line, Some(proc), name, bit_of(store.locals, slot))?;
+        push_value(line, format, Some(proc), name, bit_of(store.locals, slot))?;
         return Ok(());
     }
     if let Some(slot) = slot_of(globals, name) {
-        push_value(line, None, name, bit_of(store.globals, slot))?;
+        push_value(line, format, None, name, bit_of(store.globals, slot))?;
     }
     Ok(())
 }

@@ -1,6 +1,6 @@
 //! Writing a view while its trace is replayed.
 use crate::heads::head_of;
-use crate::moments::{last_step, moment_of};
+use crate::moments::{last_step, moment_of, next_print, printed_by};
 use crate::settings::widths_of;
 use crate::shown::push_shown;
 use crate::writers::ViewWriter;
@@ -14,7 +14,8 @@ impl<'a> Watcher for ViewWriter<'a> {
     ghost sees = { λ first now t s h. Shows t s h first now };
 
     fn begin(&mut self, setup: &Setup) -> Result<(), AllocError> {
-        let head = head_of(*self.view.allocator(), setup, self.setting.globals)?;
+        let (alloc, format) = (*self.view.allocator(), self.setting.options.format);
+        let head = head_of(alloc, format, setup, self.setting.globals)?;
         self.view = head;
         self.setting.widths = widths_of(&self.setting, setup);
         self.last = None;
@@ -25,8 +26,16 @@ impl<'a> Watcher for ViewWriter<'a> {
     fn make(&mut self, session: &mut Session, recorded: &Call) -> Result<Call, AskFault> {
         session.setup().is_in_range();
         let number = self.made.saturating_add(1);
+        let next = next_print(session, self.setting.options.format, recorded.thread)?;
         let moment = moment_of(session, self.last, number, recorded)?;
-        push_shown(&mut self.view, &mut self.note, &self.setting, &moment)?;
+        let printed = printed_by(next.as_deref(), moment.call.reply);
+        push_shown(
+            &mut self.view,
+            &mut self.note,
+            &self.setting,
+            &moment,
+            printed,
+        )?;
         self.last = last_step(self.last, &moment.call);
         self.made = number;
         Ok(moment.call)

@@ -356,10 +356,13 @@ replay_asked : (program file trace : Text) (task : Task) → is_plain file ≡ t
 replay_asked program file trace task plain even asks =
     replay_of file trace task (subst (λ c. IsTaskOf c task) (replay_named program file trace (is_word file plain) (is_word trace even)) asks)
 
+abbrev show_rows : Text → Text → List Row
+show_rows file trace = given (codes "FILE") file ∷ given (codes "TRACE") trace ∷ down (codes "explain") ∷ down (codes "no-explain") ∷ down (codes "json") ∷ []
+
 abbrev show_words : Text → Text → Text → List Text
 show_words program file trace = program ∷ codes "show" ∷ file ∷ trace ∷ []
 
-show_named : (program file trace : Text) → IsWord file → IsWord trace → subcommand_of btrun_app (show_words program file trace) ≡ Some (codes "show", trace_rows file trace)
+show_named : (program file trace : Text) → IsWord file → IsWord trace → subcommand_of btrun_app (show_words program file trace) ≡ Some (codes "show", show_rows file trace)
 unfolding clap_on_literals
 show_named program file trace (no_end, no_long, no_short) (none_ends, none_long, none_short) = rw (no_end, no_long, no_short, none_ends, none_long, none_short) refl
 
@@ -371,9 +374,9 @@ show_faulty : (program file trace : Text) → is_plain file ≡ true → is_plai
 show_faulty program file trace plain even =
     let word = is_word file plain in
     let other = is_word trace even in
-    no_fault (show_words program file trace) (Some (codes "show", trace_rows file trace)) (show_clean program file trace word other) (show_named program file trace word other) refl
+    no_fault (show_words program file trace) (Some (codes "show", show_rows file trace)) (show_clean program file trace word other) (show_named program file trace word other) refl
 
-show_of : (file trace : Text) (task : Task) → IsTaskOf (Some (codes "show", trace_rows file trace)) task → IsPlainShowOf file trace task
+show_of : (file trace : Text) (task : Task) → IsTaskOf (Some (codes "show", show_rows file trace)) task → IsPlainShowOf file trace task
 show_of file trace Bundle asks = absurd asks
 show_of file trace (Check words) asks = absurd (check≢show (sym asks.0))
 show_of file trace (Code words) asks = absurd (code≢show (sym asks.0))
@@ -381,7 +384,7 @@ show_of file trace (Drive words) asks = absurd (drive≢show (sym asks.0))
 show_of file trace (Run words) asks = absurd (run≢show (sym asks.0))
 show_of file trace (Test words) asks = absurd (differ (codes "show") (codes "test") refl asks.0)
 show_of file trace (Replay words) asks = absurd (replay≢show (sym asks.0))
-show_of file trace (Show words) (named, of) = (of.program, of.trace, of.thread, of.last, unasked words.explain (of.explain.always.1 refl) (of.explain.never.1 refl))
+show_of file trace (Show words) (named, of) = (of.program, of.trace, of.thread, of.last, of.from, of.to, of.json.1 refl, unasked words.explain (of.explain.always.1 refl) (of.explain.never.1 refl))
 show_of file trace (Migrate words) asks = absurd (show≢migrate asks.0)
 show_of file trace (Shrink words) asks = absurd (differ (codes "show") (codes "shrink") refl asks.0)
 

@@ -120,12 +120,15 @@ trace_app name = with_rule (file_app name) (required_rule (codes "TRACE"))
 abbrev pub replay_app : App
 replay_app = trace_app (codes "replay")
 
--- `show FILE TRACE [--thread N] [--last N] [--explain] [--no-explain]`
+-- `show FILE TRACE [--thread N] [--last N] [--from N] [--to N] [--json] [--explain] [--no-explain]`
 abbrev pub show_app : App
 show_app =
     with_rules (trace_app (codes "show")) (
     number_rule (codes "thread")
     ∷ long_number_rule (codes "last")
+    ∷ long_number_rule (codes "from")
+    ∷ long_number_rule (codes "to")
+    ∷ flag_rule (codes "json")
     ∷ [])
 
 -- `migrate FILE TRACE [--explain] [--no-explain]`

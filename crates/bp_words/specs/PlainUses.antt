@@ -113,6 +113,9 @@ IsPlainShowOf file trace (task.Show words) =
     × (words.trace.now ≡ trace)
     × (words.thread ≡ None)
     × (words.last ≡ None)
+    × (words.from ≡ None)
+    × (words.to ≡ None)
+    × (words.json ≡ false)
     × (words.explain ≡ on_terminals)
 IsPlainShowOf file trace other = ⊥
 

@@ -11,4 +11,7 @@ pub record IsShowOf (rows : List Row) (words : ShowWords) : Type 0 where
   pub trace : words.trace.now ≡ value_of (codes "TRACE") rows
   pub thread : IsNumberIn 32 (one_of (codes "thread") rows) words.thread
   pub last : IsNumberIn 64 (one_of (codes "last") rows) words.last
+  pub from : IsNumberIn 64 (one_of (codes "from") rows) words.from
+  pub to : IsNumberIn 64 (one_of (codes "to") rows) words.to
+  pub json : IsFlagOf (one_of (codes "json") rows) words.json
   pub explain : IsExplainOf rows words.explain

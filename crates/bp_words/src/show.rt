@@ -5,10 +5,10 @@ ghost use Rattle.clap.specs.declared.builder.command.Command.TheViews.{out-Comma
 ghost use Rattle.bp_words.specs.Commands.{show_app};
 ghost use Rattle.bp_words.specs.ShowWords.{IsShowOf};
 
-use crate::arguments::{long_number_option, number_option};
+use crate::arguments::{flag, long_number_option, number_option};
 use crate::explain::{ExplainWords, explain_words};
 use crate::trace::trace_command;
-use crate::values::{given_long_number, given_number};
+use crate::values::{given_long_number, given_number, is_given};
 use clap::{ArgMatches, Command};
 use std::alloc::{AllocError, Global};
 
@@ -23,6 +23,12 @@ pub struct ShowWords<'a> {
     pub thread: Option<u32>,
     /// How many of the last calls of the history are shown.
     pub last: Option<u64>,
+    /// The number of the first call that is shown.
+    pub from: Option<u64>,
+    /// The number of the last call that is shown.
+    pub to: Option<u64>,
+    /// Whether `--json` was given: each line is then a JSON object.
+    pub json: bool,
     /// When a fault is explained.
     pub explain: ExplainWords,
 }
@@ -48,9 +54,15 @@ pub fn show_command<'a>(alloc: Global) -> Result<Command<'a>, AllocError>
 {
     let thread = "Shows the calls of this thread alone";
     let last = "Shows so many of the last calls";
+    let from = "Shows no call before call N";
+    let to = "Shows no call after call N";
+    let json = "Prints one JSON object a line, for programs";
     trace_command(alloc, "show", ABOUT, NOTES)?
         .arg(number_option(alloc, "thread", thread))?
-        .arg(long_number_option(alloc, "last", last))
+        .arg(long_number_option(alloc, "last", last))?
+        .arg(long_number_option(alloc, "from", from))?
+        .arg(long_number_option(alloc, "to", to))?
+        .arg(flag(alloc, "json", json))
 }
 
 /// What the words after `show` ask for.
@@ -63,6 +75,9 @@ pub fn show_words<'a>(words: &ArgMatches<'a>) -> ShowWords<'a>
         trace: words.get_str("TRACE").unwrap_or(""),
         thread: given_number(words, "thread"),
         last: given_long_number(words, "last"),
+        from: given_long_number(words, "from"),
+        to: given_long_number(words, "to"),
+        json: is_given(words, "json"),
         explain: explain_words(words),
     }
 }

@@ -1,5 +1,5 @@
 -- What a run reads, writes and answers, by the task that its words ask for.
-use Rattle.std.specs.Prelude.{ℕ, Bool, true, false, List, Option, None, Some}
+use Rattle.std.specs.Prelude.{if◌then◌else◌, ℕ, Bool, true, false, List, Option, None, Some}
 use Rattle.bp_commands.specs.Bundles.{bundles}
 use Rattle.bp_commands.specs.Checks.{checks}
 use Rattle.bp_commands.specs.Drives.{drives}
@@ -15,6 +15,7 @@ use Rattle.bp_commands.specs.Tests.{of_test, tests}
 use Rattle.bp_commands.specs.Traces.{migrates, replays, shows}
 use Rattle.bp_test.specs.declared.options.TestOptions.{TestOptions}
 use Rattle.bp_trace.specs.declared.limits.TheConstants.{MAX_SCHEDULE, MAX_TRACE}
+use Rattle.bp_view.specs.declared.options.ViewFormat.TheVariants.{Columns, Json}
 use Rattle.bp_view.specs.declared.options.ViewOptions.{ViewOptions}
 use Rattle.bp_words.specs.ExplainWords.{is_explained}
 use Rattle.bp_words.specs.declared.commands.Task.{Task}
@@ -29,7 +30,10 @@ abbrev pub view_options : ShowWords → Bool → ViewOptions
 view_options words has_colour = record {
   thread = words.thread;
   last = words.last;
+  from = words.from;
+  to = words.to;
   has_colour = has_colour;
+  format = if words.json then Json else Columns;
 }
 
 -- the program of a file is run as these words ask for

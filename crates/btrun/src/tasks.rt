@@ -14,7 +14,7 @@ use bp_commands::{
 };
 use bp_run::{Gate, Open, Spread};
 use bp_test::{Progress, TestOptions};
-use bp_view::ViewOptions;
+use bp_view::{ViewFormat, ViewOptions};
 use bp_words::{DriveWords, FileWords, RunWords, ShowWords, Task, TestWords, TraceWords};
 use std::alloc::Global;
 use std::io::{BufWriter, Read, Write};
@@ -222,7 +222,14 @@ fn view_options(words: &ShowWords<'_>, has_colour: bool) -> ViewOptions
     ViewOptions {
         thread: words.thread,
         last: words.last,
+        from: words.from,
+        to: words.to,
         has_colour,
+        format: if words.json {
+            ViewFormat::Json
+        } else {
+            ViewFormat::Columns
+        },
     }
 }
 

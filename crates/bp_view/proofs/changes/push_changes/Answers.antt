@@ -11,12 +11,12 @@ returns c = λ t text now later i are globals procs was is next.
     let b = bits_of c.args.after.store.globals in
     let f = was.frame in
     let g = is.frame in
-    let top = frame_changes f g c.args.before.depth c.args.after.depth in
+    let top = frame_changes c.args.format f g c.args.before.depth c.args.after.depth in
     let call = rw (was.stack, is.stack) at next.call in
     let frames = c.in_ok-push_frame.ensures t text f g are procs is.next was.locals is.locals (λ e. call (sym was.depth ∙ e ∙ is.depth)) in
-    let stacks = ap₂ stack_changes was.stack is.stack ∙ ap₂ (λ m n. frame_changes f g m n) (sym was.depth) (sym is.depth) in
-    let values = slots_changed None t.globals a b ∙ ap₂ (λ m n. variables_text None (changed m n)) (sym was.globals) (sym is.globals) in
+    let stacks = ap₂ (stack_changes c.args.format) was.stack is.stack ∙ ap₂ (λ m n. frame_changes c.args.format f g m n) (sym was.depth) (sym is.depth) in
+    let values = slots_changed c.args.format None t.globals a b ∙ ap₂ (λ m n. variables_text c.args.format None (changed m n)) (sym was.globals) (sym is.globals) in
     frames
-    ∙ ap (λ x. x ++ top) (c.in_ok-push_differing.ensures ∙ ap (λ xs. old ++ slots_text None xs 0 a b) globals ∙ ap (λ x. old ++ x) values)
-    ∙ append_assoc old (variables_text None (changed now.globals later.globals)) top
-    ∙ ap (λ x. old ++ (variables_text None (changed now.globals later.globals) ++ x)) (sym stacks)
+    ∙ ap (λ x. x ++ top) (c.in_ok-push_differing.ensures ∙ ap (λ xs. old ++ slots_text c.args.format None xs 0 a b) globals ∙ ap (λ x. old ++ x) values)
+    ∙ append_assoc old (variables_text c.args.format None (changed now.globals later.globals)) top
+    ∙ ap (λ x. old ++ (variables_text c.args.format None (changed now.globals later.globals) ++ x)) (sym stacks)

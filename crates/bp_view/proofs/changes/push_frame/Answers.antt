@@ -14,7 +14,7 @@ returns-in_default c = λ t text f g are procs at old new same.
 
 pub returns-then-after-before : goal.returns-then-after-before
 returns-then-after-before c = λ t text f g are procs at old new same.
-    let none = at_return f g c.args.before.depth c.args.after.depth (omega arith) in
+    let none = at_return c.args.format f g c.args.before.depth c.args.after.depth (omega arith) in
     sym (ap (λ x. c.args.line.now.items ++ x) none ∙ append-nil c.args.line.now.items)
 
 pub returns-then-after-before-2 : goal.returns-then-after-before-2
@@ -27,9 +27,9 @@ returns-then-after-before-2 c = λ t text f g are procs at old new same.
     let level : c.args.before.depth ≡ c.args.after.depth = sym c.if-after-before-2.true in
     let before = ap (λ p. valuation_of (variables p) a) (sym (same level)) ∙ sym old in
     c.in_ok-push_locals.ensures
-    ∙ ap (λ p. line ++ variables_text (Some p) (changed (valuation_of (variables p) a) (valuation_of (variables p) b))) is
-    ∙ ap₂ (λ m n. line ++ variables_text (Some g.procedure) (changed m n)) before (sym new)
-    ∙ ap (λ x. line ++ x) (sym (at_level f g c.args.before.depth c.args.after.depth level))
+    ∙ ap (λ p. line ++ variables_text c.args.format (Some p) (changed (valuation_of (variables p) a) (valuation_of (variables p) b))) is
+    ∙ ap₂ (λ m n. line ++ variables_text c.args.format (Some g.procedure) (changed m n)) before (sym new)
+    ∙ ap (λ x. line ++ x) (sym (at_level c.args.format f g c.args.before.depth c.args.after.depth level))
 
 pub returns : goal.returns
 returns c = λ t text f g are procs at old new same.
@@ -40,7 +40,7 @@ returns c = λ t text f g are procs at old new same.
     let formals = sym (first_values g.procedure.formals g.procedure.locals bits) ∙ ap (λ m. take (length g.procedure.formals) m) (sym new) in
     let deeper : c.args.before.depth < c.args.after.depth = grind arith in
     c.in_ok-push_values.ensures
-    ∙ ap (λ xs. line ++ variables_text (Some c.in-Some.proc.now) (valuation_of xs bits)) c.formals.ensures
-    ∙ ap (λ p. line ++ variables_text (Some p) (valuation_of p.formals bits)) is
-    ∙ ap (λ m. line ++ variables_text (Some g.procedure) m) formals
-    ∙ ap (λ x. line ++ x) (sym (at_entry f g c.args.before.depth c.args.after.depth deeper))
+    ∙ ap (λ xs. line ++ variables_text c.args.format (Some c.in-Some.proc.now) (valuation_of xs bits)) c.formals.ensures
+    ∙ ap (λ p. line ++ variables_text c.args.format (Some p) (valuation_of p.formals bits)) is
+    ∙ ap (λ m. line ++ variables_text c.args.format (Some g.procedure) m) formals
+    ∙ ap (λ x. line ++ x) (sym (at_entry c.args.format f g c.args.before.depth c.args.after.depth deeper))

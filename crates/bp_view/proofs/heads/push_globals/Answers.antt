@@ -1,6 +1,7 @@
-use Rattle.std.proofs.Common.{◌≡◌, ◌∙◌, ◌++◌, ◌<◌, ℕ, List, length, codes, ap, sym, append_assoc, arith}
+use Rattle.std.proofs.Common.{◌≡◌, ◌∙◌, ◌++◌, ◌<◌, ℕ, List, None, length, codes, ap, sym, append_assoc, arith}
 use Rattle.bp_code.specs.Values.{binding}
-use Rattle.bp_view.specs.Heads.{values_text}
+use Rattle.bp_view.specs.declared.options.ViewFormat.TheVariants.{Columns}
+use Rattle.bp_view.specs.Changes.{variables_text}
 use Rattle.bp_view.proofs.PartsOfHeads.{line_of_some}
 use Rattle.bp_view.proofs.heads.push_globals.Goals as goal
 
@@ -12,7 +13,7 @@ returns c =
     let xs = c.args.globals.now in
     let bits = c.args.setup.now.init in
     let old = c.args.view.now.items in
-    let values = values_text (binding xs bits) in
+    let values = variables_text Columns None (binding xs bits) in
     let some : 0 < length xs = grind arith in
     c.in_ok-push_bytes-2.ensures
     ∙ ap (λ y. y ++ codes "\n") (c.in_ok-push_values.ensures ∙ ap (λ y. y ++ values) c.in_ok-push_bytes.ensures)

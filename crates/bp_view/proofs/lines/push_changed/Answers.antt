@@ -4,12 +4,12 @@ use Rattle.bp_view.proofs.lines.push_changed.Goals as goal
 
 pub returns-in_default : goal.returns-in_default
 returns-in_default c = λ t text now later i setting leads.
-    let none = idle_changes now later i leads.next (rw c.in_default.is at leads.before) in
+    let none = idle_changes c.args.setting.now.options.format now later i leads.next (rw c.in_default.is at leads.before) in
     sym (ap (λ x. c.args.note.now.items ++ x) none ∙ append-nil c.args.note.now.items)
 
 pub returns-in_default-after : goal.returns-in_default-after
 returns-in_default-after c = λ t text now later i setting leads.
-    let none = ended_changes now later i leads.next (rw c.in_default-after.is at leads.after) in
+    let none = ended_changes c.args.setting.now.options.format now later i leads.next (rw c.in_default-after.is at leads.after) in
     sym (ap (λ x. c.args.note.now.items ++ x) none ∙ append-nil c.args.note.now.items)
 
 pub returns : goal.returns

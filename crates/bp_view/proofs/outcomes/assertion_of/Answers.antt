@@ -2,8 +2,8 @@ use Rattle.std.proofs.Common.{◌≡◌, ◌∙◌, ◌++◌, Some, ap, slice_ge
 use Rattle.bp_machine.specs.Histories.{configuration_after}
 use Rattle.bp_machine.specs.Tops.{IsTop}
 use Rattle.bp_machine.proofs.RealFailures.{real}
-use Rattle.bp_view.specs.Outcomes.{assertion_text}
-use Rattle.bp_view.proofs.AssertionTexts.{assertion_said, start_is, statement}
+use Rattle.bp_view.specs.Outcomes.{assertion_in}
+use Rattle.bp_view.proofs.AssertionTexts.{assertion_said, place_is, position_is, start_is, statement}
 use Rattle.bp_view.proofs.FailedStatements.{stack_stays}
 use Rattle.bp_view.proofs.PlacesOfTops.{got_item, scene_of_top}
 use Rattle.bp_view.proofs.outcomes.assertion_of.Goals as goal
@@ -28,6 +28,23 @@ returns-in_default-get c = λ t h set is stands outcome.
     let some = found.at in
     absurd cc
 
+pub returns-in_default-position : goal.returns-in_default-position
+returns-in_default-position c = λ t h set is stands outcome.
+    let s = c.args.session.now.setup in
+    let i = c.args.thread in
+    let text = c.args.text.now in
+    let scenes = c.args.setting.now.scenes.now in
+    let scene = c.in-Some-get.scene.now in
+    let now = configuration_after t s h in
+    let failure = real t s h i stands.state.legal outcome in
+    let x = c.in-Some.top in
+    let top : IsTop t now i x = rw c.in-Some.is at c.top.ensures t h is stands in
+    let got = got_item c.get.result scenes x.number c.get.ensures.lookup.0 c.get.ensures.lookup.1 in
+    let here : slice_get scenes x.number ≡ Some scene = sym (rw c.in-Some-get.is at got) in
+    let some = position_is t text s h i failure scenes set.scenes x top scene here in
+    let none = c.in_default-position.is in
+    absurd cc
+
 pub returns : goal.returns
 returns c = λ t h set is stands outcome.
     let s = c.args.session.now.setup in
@@ -44,5 +61,8 @@ returns c = λ t h set is stands outcome.
     let begins = start_is t text s h i failure scenes set.scenes x top scene here in
     let words = statement t text s h i failure scenes set.scenes x top scene here in
     let values = c.in_ok-values.ensures t now i failure.stands.at words.lexemes set top begins words.lexemes_are in
-    let said = c.in_ok-push_assertion.ensures ∙ ap (λ y. y ++ assertion_text scene.place.items scene.excerpt.words.items c.deref.result.now) c.new-said.ensures.items in
-    assertion_said t text s h i failure scenes set.scenes x top scene here c.deref.result.now c.push_assertion.new.view.items (c.deref.ensures.value ∙ values) said
+    let format = c.args.setting.now.options.format in
+    let position = c.in-Some-position.position in
+    let place = place_is t text s h i failure scenes set.scenes x top scene here position c.in-Some-position.is in
+    let said = c.in_ok-push_assertion.ensures place ∙ ap (λ y. y ++ assertion_in format position scene.excerpt.words.items c.deref.result.now) c.new-said.ensures.items in
+    assertion_said t text s h i failure scenes set.scenes x top scene here format position c.deref.result.now c.push_assertion.new.view.items c.in-Some-position.is (c.deref.ensures.value ∙ values) said

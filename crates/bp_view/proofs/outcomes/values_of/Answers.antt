@@ -15,6 +15,6 @@ returns c = λ t now i at lexemes set is start has.
     let own = rw c.in-Some-procedure_at.is at c.procedure_at.ensures t text (place p is.frame.left) set.scenes set.procedures is.next in
     let proc : c.in-Some-procedure_at.proc.now ≡ p = cc in
     c.in_ok-push_variables.ensures lexemes read
-    ∙ ap (λ x. x ++ named_values c.in-Some-procedure_at.proc.now (named_store c.args.setting.now.globals.now c.in-Some-procedure_at.proc.now store) lexemes) c.new-values.ensures.items
-    ∙ ap₂ (λ q globals. named_values q (named_store globals q store) lexemes) proc set.globals
-    ∙ ap₂ (λ globals locals. named_values p (record { globals = globals; locals = locals }) lexemes) (sym is.globals) (sym is.locals)
+    ∙ ap (λ x. x ++ named_values c.args.setting.now.options.format c.in-Some-procedure_at.proc.now (named_store c.args.setting.now.globals.now c.in-Some-procedure_at.proc.now store) lexemes) c.new-values.ensures.items
+    ∙ ap₂ (λ q globals. named_values c.args.setting.now.options.format q (named_store globals q store) lexemes) proc set.globals
+    ∙ ap₂ (λ globals locals. named_values c.args.setting.now.options.format p (record { globals = globals; locals = locals }) lexemes) (sym is.globals) (sym is.locals)

@@ -1,5 +1,7 @@
 use Rattle.std.proofs.Common.{◌∙◌, ◌++◌, [], ◌∷◌, ap, map, refl, codes, subst, sym, false}
+use Rattle.std.specs.Prelude.{option_map}
 use Rattle.bp_text.specs.OneLine.{on_one_line}
+use Rattle.bp_text.specs.Positions.{position_at}
 use Rattle.bp_text.proofs.TextsOnOneLine.{one_line_after}
 use Rattle.bp_view.specs.Places.{place_text}
 use Rattle.bp_view.specs.Scenes.{IsEnd, IsStatementAt}
@@ -19,5 +21,6 @@ returns c = λ text ps x has name begins.
       statement = subst (λ s. IsStatementAt text x.procedure s words false) (sym begins) end;
       words = one_line_after _ _ (one_line_after _ _ (rw c.new-words.ensures.items tt) c.in_ok-push_on_one_line.ensures.one_line) c.in_ok-push_on_one_line-2.ensures.one_line;
       start = sym begins;
+      position = ap (option_map (position_at text)) (sym begins);
       procedure = has;
     }

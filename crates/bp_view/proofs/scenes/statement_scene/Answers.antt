@@ -1,4 +1,6 @@
-use Rattle.std.proofs.Common.{◌∙◌, ap, subst, sym}
+use Rattle.std.proofs.Common.{◌∙◌, Some, ap, subst, sym}
+use Rattle.std.specs.Prelude.{option_map}
+use Rattle.bp_text.specs.Positions.{position_at}
 use Rattle.bp_view.specs.Places.{place_text, position_text}
 use Rattle.bp_view.specs.Scenes.{IsStatementAt}
 use Rattle.bp_view.specs.Statements.{IsStatement}
@@ -15,5 +17,6 @@ returns c = λ ps x has begins.
           (subst (λ rest. IsStatement rest words excerpt.reads_choice) c.part_from-rest.ensures c.in_ok-excerpt_of.ensures.is);
       words = c.in_ok-excerpt_of.ensures.one_line;
       start = sym begins;
+      position = ap Some c.requires ∙ ap (option_map (position_at text)) (sym begins);
       procedure = has;
     }

@@ -15,13 +15,13 @@ loop-n-preserved c =
     let x = c.index-names-n.result in
     let old = c.args.line.now.items in
     let owner = option_map (λ p. p.now) c.args.owner in
-    let values = slots_text owner (take n xs) first a b in
+    let values = slots_text c.args.format owner (take n xs) first a b in
     let within : n < length xs = omega arith in
     let name : c.as_bytes-text.result.now ≡ (get_or xs n x).text = c.as_bytes-text.ensures.value ∙ c.text.ensures ∙ ap (λ y. y.text) c.index-names-n.is in
     c.in_ok-push_slot.ensures
-    ∙ ap (λ y. y ++ slot_text owner c.as_bytes-text.result.now c.bit_of.result c.bit_of-in-loop-n.result) c.loop-n.invariant
-    ∙ append_assoc old values (slot_text owner c.as_bytes-text.result.now c.bit_of.result c.bit_of-in-loop-n.result)
-    ∙ ap (λ y. old ++ (values ++ slot_text owner y c.bit_of.result c.bit_of-in-loop-n.result)) name
-    ∙ ap₂ (λ p q. old ++ (values ++ slot_text owner (get_or xs n x).text p q)) c.bit_of.ensures c.bit_of-in-loop-n.ensures
-    ∙ ap (λ y. old ++ y) (sym (slots_more owner xs n first a b x within))
-    ∙ ap (λ k. old ++ slots_text owner (take k xs) first a b) (sym (add-one n))
+    ∙ ap (λ y. y ++ slot_text c.args.format owner c.as_bytes-text.result.now c.bit_of.result c.bit_of-in-loop-n.result) c.loop-n.invariant
+    ∙ append_assoc old values (slot_text c.args.format owner c.as_bytes-text.result.now c.bit_of.result c.bit_of-in-loop-n.result)
+    ∙ ap (λ y. old ++ (values ++ slot_text c.args.format owner y c.bit_of.result c.bit_of-in-loop-n.result)) name
+    ∙ ap₂ (λ p q. old ++ (values ++ slot_text c.args.format owner (get_or xs n x).text p q)) c.bit_of.ensures c.bit_of-in-loop-n.ensures
+    ∙ ap (λ y. old ++ y) (sym (slots_more c.args.format owner xs n first a b x within))
+    ∙ ap (λ k. old ++ slots_text c.args.format owner (take k xs) first a b) (sym (add-one n))

@@ -14,12 +14,12 @@ loop-n-preserved c =
     let x = c.index-names-n.result in
     let old = c.args.line.now.items in
     let owner = option_map (λ p. p.now) c.args.owner in
-    let values = variables_text owner (valuation_of (take n xs) bits) in
+    let values = variables_text c.args.format owner (valuation_of (take n xs) bits) in
     let within : n < length xs = omega arith in
     let name : c.as_bytes.result.now ≡ (get_or xs n x).text = c.as_bytes.ensures.value ∙ c.text.ensures ∙ ap (λ y. y.text) c.index-names-n.is in
     c.in_ok-push_value.ensures
-    ∙ ap (λ y. y ++ variable_text owner c.as_bytes.result.now c.bit_of.result) c.loop-n.invariant
-    ∙ append_assoc old values (variable_text owner c.as_bytes.result.now c.bit_of.result)
-    ∙ ap₂ (λ y v. old ++ (values ++ variable_text owner y v)) name c.bit_of.ensures
-    ∙ ap (λ y. old ++ y) (sym (values_more owner xs n bits x within))
-    ∙ ap (λ k. old ++ variables_text owner (valuation_of (take k xs) bits)) (sym (add-one n))
+    ∙ ap (λ y. y ++ variable_text c.args.format owner c.as_bytes.result.now c.bit_of.result) c.loop-n.invariant
+    ∙ append_assoc old values (variable_text c.args.format owner c.as_bytes.result.now c.bit_of.result)
+    ∙ ap₂ (λ y v. old ++ (values ++ variable_text c.args.format owner y v)) name c.bit_of.ensures
+    ∙ ap (λ y. old ++ y) (sym (values_more c.args.format owner xs n bits x within))
+    ∙ ap (λ k. old ++ variables_text c.args.format owner (valuation_of (take k xs) bits)) (sym (add-one n))

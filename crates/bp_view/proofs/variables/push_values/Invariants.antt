@@ -6,4 +6,4 @@ use Rattle.bp_view.specs.Changes.{variables_text}
 use Rattle.bp_view.proofs.variables.push_values.Given as goal
 
 abbrev pub invariant-loop-n : goal.invariant-loop-n
-invariant-loop-n l = l.line.items ≡ l.initial.line.items ++ variables_text (option_map (λ p. p.now) l.owner) (valuation_of (take l.n l.names) (bits_of l.word))
+invariant-loop-n l = l.line.items ≡ l.initial.line.items ++ variables_text l.format (option_map (λ p. p.now) l.owner) (valuation_of (take l.n l.names) (bits_of l.word))

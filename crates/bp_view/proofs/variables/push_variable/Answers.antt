@@ -17,8 +17,8 @@ returns-in-Some c =
     let global = lookup (valuation_of c.args.globals.now (bits_of c.args.store.globals)) name in
     let local : lookup (valuation_of (variables p) bits) name ≡ Some (bits c.in-Some.slot) = sym (value_of_slot (variables p) bits name) ∙ ap (option_map bits) (sym c.local_slot_of.ensures ∙ c.in-Some.is) in
     c.in_ok-push_value.ensures
-    ∙ ap (λ b. old ++ variable_text (Some p) name b) c.bit_of.ensures
-    ∙ ap (λ o. old ++ resolved_value p name o global) (sym local)
+    ∙ ap (λ b. old ++ variable_text c.args.format (Some p) name b) c.bit_of.ensures
+    ∙ ap (λ o. old ++ resolved_value c.args.format p name o global) (sym local)
 
 pub returns-in_ok-push_value-2 : goal.returns-in_ok-push_value-2
 returns-in_ok-push_value-2 c =
@@ -31,8 +31,8 @@ returns-in_ok-push_value-2 c =
     let local : lookup (valuation_of (variables p) locals) name ≡ None = sym (value_of_slot (variables p) locals name) ∙ ap (option_map locals) (sym c.local_slot_of.ensures ∙ c.in_default.is) in
     let global : lookup (valuation_of globals bits) name ≡ Some (bits c.in-Some-slot_of.slot) = sym (value_of_slot globals bits name) ∙ ap (option_map bits) (sym c.slot_of.ensures.slot ∙ c.in-Some-slot_of.is) in
     c.in_ok-push_value-2.ensures
-    ∙ ap (λ b. old ++ variable_text None name b) c.bit_of-in-Some-slot_of.ensures
-    ∙ ap₂ (λ o g. old ++ resolved_value p name o g) (sym local) (sym global)
+    ∙ ap (λ b. old ++ variable_text c.args.format None name b) c.bit_of-in-Some-slot_of.ensures
+    ∙ ap₂ (λ o g. old ++ resolved_value c.args.format p name o g) (sym local) (sym global)
 
 pub returns-in_default-slot_of : goal.returns-in_default-slot_of
 returns-in_default-slot_of c =
@@ -44,4 +44,4 @@ returns-in_default-slot_of c =
     let bits = bits_of c.args.store.globals in
     let local : lookup (valuation_of (variables p) locals) name ≡ None = sym (value_of_slot (variables p) locals name) ∙ ap (option_map locals) (sym c.local_slot_of.ensures ∙ c.in_default.is) in
     let global : lookup (valuation_of globals bits) name ≡ None = sym (value_of_slot globals bits name) ∙ ap (option_map bits) (sym c.slot_of.ensures.slot ∙ c.in_default-slot_of.is) in
-    sym (ap₂ (λ o g. old ++ resolved_value p name o g) local global ∙ append-nil old)
+    sym (ap₂ (λ o g. old ++ resolved_value c.args.format p name o g) local global ∙ append-nil old)

@@ -23,9 +23,11 @@ returns c =
     let lines = w.seen.lines text known in
     let counted = c.calls_at_end-count.ensures t w.replayed.version r.setup r.history.items c.is_in_range.ensures w.replayed.trace in
     let count : setting.count ≡ length r.history.items = w.seen.count ∙ c.setting_of.ensures.count ∙ counted in
-    let foot : IsFoot t text r.setup r.history.items r.report c.in_ok-foot.foot.items =
-    subst (λ s. IsFoot t text s r.history.items r.report c.in_ok-foot.foot.items) w.setup (c.in_ok-foot.ensures t r.history.items known w.code w.stands w.replayed.report.outcome)
+    let options = w.seen.options ∙ c.setting_of.ensures.options in
+    let own_foot : IsFoot setting.options.format t text r.setup r.history.items r.report c.in_ok-foot.foot.items =
+    subst (λ s. IsFoot setting.options.format t text s r.history.items r.report c.in_ok-foot.foot.items) w.setup (c.in_ok-foot.ensures t r.history.items known w.code w.stands w.replayed.report.outcome)
     in
+    let foot = subst (λ o. IsFoot o.format t text r.setup r.history.items r.report c.in_ok-foot.foot.items) options own_foot in
     let here = rw (count, w.seen.options, c.setting_of.ensures.options) at lines.more_are in
     record {
       replayed = r;
@@ -39,7 +41,8 @@ returns c =
         foot = c.deref.result.now;
         is = c.in_ok-push_bytes.ensures
             ∙ ap (λ x. x ++ c.deref.result.now) lines.is
-            ∙ ap (λ g. (view_head g r.setup ++ lines.more) ++ c.deref.result.now) known.globals;
+            ∙ ap (λ g. (view_head setting.options.format g r.setup ++ lines.more) ++ c.deref.result.now) known.globals
+            ∙ ap (λ o. (view_head o.format t.globals r.setup ++ lines.more) ++ c.deref.result.now) options;
         foot_is = rw c.deref.ensures.value foot;
         lines_are = here;
       };

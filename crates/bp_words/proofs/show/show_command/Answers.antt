@@ -5,4 +5,7 @@ use Rattle.bp_words.proofs.show.show_command.Goals as goal
 pub returns : goal.returns
 returns c =
     let thread = with_argument _ _ _ _ _ c.in_ok-trace_command.ensures c.number_option.ensures c.in_ok-arg.ensures in
-    if_ok c.arg-2.result _ (HasShape show_app) (λ new adds. with_argument _ new _ _ _ thread c.long_number_option.ensures adds) c.arg-2.ensures
+    let last = with_argument _ _ _ _ _ thread c.long_number_option.ensures c.in_ok-arg-2.ensures in
+    let from = with_argument _ _ _ _ _ last c.long_number_option-2.ensures c.in_ok-arg-3.ensures in
+    let to = with_argument _ _ _ _ _ from c.long_number_option-3.ensures c.in_ok-arg-4.ensures in
+    if_ok c.arg-5.result _ (HasShape show_app) (λ new adds. with_argument _ new _ _ _ to c.flag.ensures adds) c.arg-5.ensures

@@ -10,5 +10,8 @@ returns c = record {
   trace = value_read _ _ (c.get_str-2.ensures ∙ first_value-rows (found_of c.args.words.now) (codes "TRACE")) c.unwrap_or-2.result _ c.unwrap_or-2.ensures refl;
   thread = c.given_number.ensures;
   last = c.given_long_number.ensures;
+  from = c.given_long_number-2.ensures;
+  to = c.given_long_number-3.ensures;
+  json = c.is_given.ensures;
   explain = c.explain_words.ensures;
 }

@@ -15,7 +15,7 @@ returns c = λ t. record {
   made = refl;
   lines = λ text are. record {
     more = [];
-    is = c.in_ok-head.ensures ∙ sym (append-nil (view_head c.args.self.now.setting.globals.now c.args.setup.now));
+    is = c.in_ok-head.ensures ∙ sym (append-nil (view_head c.args.self.now.setting.options.format c.args.self.now.setting.globals.now c.args.setup.now));
     more_are = no_lines t text c.args.setup.now c.args.self.now.setting.options c.widths_of-self.result c.args.self.now.setting.count;
   };
 }

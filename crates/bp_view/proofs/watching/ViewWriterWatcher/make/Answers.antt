@@ -1,8 +1,13 @@
-use Rattle.std.proofs.Common.{◌≡◌, ◌∙◌, ◌∷◌, [], suc, length, arith, length-append}
+use Rattle.std.specs.Prelude.{option_map}
+use Rattle.std.proofs.Common.{if◌then◌else◌, None, ap, ◌≡◌, ◌∙◌, ◌∷◌, [], suc, length, arith, length-append, subst, sym}
 use Rattle.std.proofs.Math.Nat.{mul-le-mul_left, mul-le-mul_right}
 use Rattle.bp_machine.specs.declared.limits.TheConstants.{MAX_THREADS}
 use Rattle.bp_machine.proofs.LegalLength.{legal_length}
+use Rattle.bp_machine.specs.Histories.{configuration_after}
+use Rattle.bp_machine.specs.Replies.{is_granted}
+use Rattle.bp_view.specs.JsonCalls.{IsNextPrintIn}
 use Rattle.bp_view.proofs.LinesOfCalls.{one_more}
+use Rattle.bp_view.proofs.PrintedValues.{printed_in}
 use Rattle.bp_view.proofs.watching.ViewWriterWatcher.make.Goals as goal
 
 pub returns-clause-sees : goal.returns-clause-sees
@@ -26,6 +31,13 @@ returns-clause-sees c = λ first t h is stands shows.
       made = number ∙ omega (arith, length-append h (x ∷ []));
       lines = λ text are.
           let moment = c.in_ok-moment.ensures.is t h is stands shows.last number in
-          let shown = c.in_ok-push_shown.ensures t text s h x are moment in
+          let now = configuration_after t s h in
+          let next = c.in_ok-next.ensures t h is stands in
+          let thread = (c.in_ok-moment.ensures.answer t h is stands).thread in
+          let values = option_map (λ v. v.items) c.in_ok-next.next in
+          let own = subst (λ i. IsNextPrintIn setting.options.format now i values) (sym thread) next in
+          let is = c.printed_by-printed.ensures ∙ ap (λ o. if is_granted x.reply then o else None) c.as_deref.ensures.value in
+          let printed = printed_in setting.options.format now x (option_map (λ v. v.now) c.printed_by-printed.result) values own is in
+          let shown = c.in_ok-push_shown.ensures t text s h x are moment printed in
           one_more t text s setting.options setting.widths setting.count h x _ _ _ (shows.lines text are) shown;
     }

@@ -1,6 +1,6 @@
 use Rattle.std.proofs.Common.{◌≡◌, ◌∙◌, ◌++◌, ℕ, List, ap, append_assoc, codes}
 use Rattle.bp_view.specs.Outcomes.{values_line}
-use Rattle.bp_view.proofs.outcomes.push_assertion.Goals as goal
+use Rattle.bp_view.proofs.outcomes.push_assertion_text.Goals as goal
 
 regrouped : (old a b c d e : List ℕ) → ((((old ++ a) ++ b) ++ c) ++ d) ++ e ≡ old ++ ((((a ++ b) ++ c) ++ d) ++ e)
 regrouped old a b c d e = simp append_assoc

@@ -1,6 +1,6 @@
 use Rattle.std.proofs.Common.{◌≡◌, ◌∙◌, ◌++◌, ℕ, List, codes, ap, append_assoc}
 use Rattle.bp_view.specs.Outcomes.{count_text}
-use Rattle.bp_view.proofs.outcomes.push_failed.Goals as goal
+use Rattle.bp_view.proofs.outcomes.push_failure_text.Goals as goal
 
 regrouped : (old a b c : List ℕ) → ((old ++ a) ++ b) ++ c ≡ old ++ ((a ++ b) ++ c)
 regrouped old a b c = simp append_assoc

@@ -2,7 +2,7 @@ use Rattle.std.proofs.Common.{if◌then◌else◌, ◌≡◌, ◌∙◌, ◌++�
 use Rattle.std.specs.Prelude.{option_map}
 use Rattle.bp_text.specs.OneLine.{on_one_line}
 use Rattle.bp_view.specs.Changes.{owner_text}
-use Rattle.bp_view.proofs.variables.push_value.Goals as goal
+use Rattle.bp_view.proofs.variables.push_variable_words.Goals as goal
 
 regrouped : (a b c d e : List ℕ) → (((a ++ b) ++ c) ++ d) ++ e ≡ a ++ (((b ++ c) ++ d) ++ e)
 regrouped a b c d e = simp append_assoc
