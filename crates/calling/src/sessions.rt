@@ -1,0 +1,31 @@
+//! A session, driven by hand.
+
+use crate::starts::start_of;
+use bp_code::code_of;
+use bp_machine::{AskFault, Report, Session};
+use std::alloc::Global;
+
+/// Makes a call of each thread whose line is open.
+fn ask_each(session: &mut Session, threads: u32) -> Result<(), AskFault> {
+    for thread in 0..threads {
+        match session.ask_with(thread, false) {
+            Ok(_) | Err(AskFault::Finished) => {}
+            Err(fault) => return Err(fault),
+        }
+    }
+    Ok(())
+}
+
+/// The report after so many rounds.
+pub fn report_of(alloc: Global, text: &[u8], rounds: u32) -> Option<Report> {
+    let code = code_of(alloc, text).ok()?;
+    let start = start_of(alloc).ok()?;
+    let Ok(setup) = start.setup(alloc, &code, None) else {
+        return None;
+    };
+    let mut session = Session::new(alloc, &code, &setup).ok()?;
+    for _ in 0..rounds {
+        ask_each(&mut session, setup.threads()).ok()?;
+    }
+    Some(session.report())
+}

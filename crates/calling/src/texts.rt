@@ -1,0 +1,22 @@
+//! Reading, checking and compiling a text.
+
+use bp_check::check;
+use bp_code::{Code, compile};
+use bp_syntax::read;
+use std::alloc::Global;
+
+/// The code of a program text, or the number and the place of its first fault.
+pub fn code_or_fault(alloc: Global, text: &[u8]) -> Result<Code, (u32, Option<u32>)> {
+    let tree = match read(alloc, text) {
+        Ok(tree) => tree,
+        Err(fault) => return Err((fault.number(), fault.place())),
+    };
+    let checked = match check(alloc, tree) {
+        Ok(checked) => checked,
+        Err(refusal) => return Err((refusal.number(), refusal.place())),
+    };
+    match compile(alloc, &checked) {
+        Ok(code) => Ok(code),
+        Err(_) => Err((7, None)),
+    }
+}
