@@ -52,7 +52,7 @@ fn explains_where_it_is_asked_for(rt: HostRuntime) -> io::Result<()> {
     let unread = End {
         status: 3,
         printed: b"",
-        errors: b"btrun: 54 Device\nthe file could not be read\n",
+        errors: b"btrun: 54 Device\ncannot open 'q': No such file or directory\n",
     };
     assert!(rt; check_ends(rt.alloc(), BAD, "q", true, unread)?);
     Ok(())
