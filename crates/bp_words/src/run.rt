@@ -33,10 +33,9 @@ const ABOUT: &str = "Runs a program by one worker for each thread and prints the
 
 /// What `run --help` says after the arguments.
 const NOTES: &str = "\
-    The workers take turns as the machine's scheduler has it, so two runs may differ; each \
-    trace is one\n\
-    of a run of the program, and 'btrun replay' takes it. It is printed while the run goes on.\n\
-    The first fault is one line on standard error.\n\n\
+    The machine's scheduler decides who takes the next turn, so two runs may differ. Each\n\
+    trace is one of a run of the program, and 'btrun replay' takes it. It is printed while the\n\
+    run goes on. The first fault is one line on standard error.\n\n\
     Example:\n  btrun run race.bp writer reader --contexts 4 --seed 7\n\n\
     Exit status:\n  0  done, and no assertion failed\n  1  an assertion failed\n  \
     2  the program was refused, or the words were\n  \

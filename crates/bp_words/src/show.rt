@@ -41,8 +41,9 @@ const NOTES: &str = "\
     its step is in, the line and column of the statement, the statement, the choice bit where\n\
     one was read, the reply where it is no step, and the variables that the step changed. A\n\
     line where the context switches begins with '>'. Last comes the outcome. On a terminal a\n\
-    failure is red and a switch is yellow, where NO_COLOR is not set. The first fault is one\n\
-    line on standard error.\n\n\
+    failure is red and a switch is yellow, where NO_COLOR is not set. With --json each line is\n\
+    an object: the setup, the calls, and the outcome. The first fault is one line on standard\n\
+    error.\n\n\
     Example:\n  btrun show race.bp race.trace --last 20\n\n\
     Exit status:\n  0  done, and no assertion failed\n  1  an assertion failed\n  \
     2  an input was refused, or the words were\n  3  memory, a device or the output failed";
