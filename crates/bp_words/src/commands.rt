@@ -51,7 +51,7 @@ pub enum Task<'a> {
 const NOTES: &str = "\
     Without a command standard input is a bundle: a program, a line '%', and a schedule of lines\n\
     'THREAD BIT'. One thread begins with 'main', all globals are 0, and at most 2 contexts and\n\
-    1000 calls are allowed. The trace of the run is printed. A FILE named '-' is standard input.\n\n\
+    1000 calls are allowed. The trace of the run is printed. A FILE '-' is standard input.\n\n\
     Examples:\n  btrun < FILE\n  btrun check FILE\n  btrun code FILE\n  \
     btrun drive FILE SCHEDULE\n  btrun run FILE\n  btrun test FILE\n  btrun replay FILE TRACE\n  \
     btrun show FILE TRACE\n  btrun migrate FILE TRACE\n  btrun shrink FILE TRACE\n\n\
