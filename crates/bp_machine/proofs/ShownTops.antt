@@ -1,5 +1,5 @@
 -- The top of a thread's stack in a session is that of its stack in the configuration.
-use Rattle.std.proofs.Common.{◌≡◌, refl, ap, ℕ, suc, ◌≤◌, List, [], ◌∷◌, None, Some, length, arith, inl, inr, ◌<◌, ◌⊎◌, get_or}
+use Rattle.std.proofs.Common.{◌≡◌, refl, ap, ℕ, zero, suc, ◌≤◌, List, [], ◌∷◌, drop, None, Some, length, arith, inl, inr, ◌<◌, ◌⊎◌, get_or}
 use Rattle.std.specs.Prelude.{slice_get}
 use Rattle.bp_tree.specs.Ast.{Program}
 use Rattle.bp_code.specs.Configurations.{Frame}
@@ -25,6 +25,14 @@ as_long t [] [] shown = refl
 as_long t [] (f ∷ fs) shown = absurd shown
 as_long t (a ∷ acts) [] shown = absurd shown
 as_long t (a ∷ acts) (f ∷ fs) shown = ap suc (as_long t acts fs shown.1)
+
+-- what is left of a stack after so many calls have returned is shown, too
+pub shown_below : (t : Program) (n : ℕ) (acts : List ActivationRecord) (frames : List Frame) → ShowsStack t (activations acts) frames → ShowsStack t (activations (drop n acts)) (drop n frames)
+shown_below t zero acts frames shown = shown
+shown_below t (suc n) [] [] shown = shown
+shown_below t (suc n) [] (f ∷ fs) shown = absurd shown
+shown_below t (suc n) (a ∷ acts) [] shown = absurd shown
+shown_below t (suc n) (a ∷ acts) (f ∷ fs) shown = shown_below t n acts fs shown.1
 
 -- what the top of a stack shows
 pub record TopShown (t : Program) (acts : List ActivationRecord) (frames : List Frame) (top : ActivationRecord) : Type 0 where

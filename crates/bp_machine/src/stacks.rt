@@ -1,5 +1,5 @@
 //! Stacks of frames.
-ghost use Rattle.std.specs.Prelude.{◌≡◌, [], ◌∷◌, ◌<◌, length, reverse, vec_len, vec_capacity, IfOk, OnOk, OnErr};
+ghost use Rattle.std.specs.Prelude.{◌≡◌, [], ◌∷◌, ◌<◌, drop, length, reverse, vec_len, vec_capacity, IfOk, OnOk, OnErr};
 ghost use Rattle.bp_machine.specs.Stacks.{top_of, with_top, entered_top};
 
 use bp_code::Effect;
@@ -88,6 +88,17 @@ impl Stack {
         ensures { result ≡ top_of self.now.frames }
     {
         self.frames.last().copied()
+    }
+
+    /// The frame that is at the top after so many calls have returned.
+    pub(crate) fn below(&self, returned: usize) -> Option<ActivationRecord>
+        ensures { result ≡ top_of (drop returned self.now.frames) }
+    {
+        let count = self.frames.len();
+        if returned < count {
+            return Some(self.frames[count - 1 - returned]);
+        }
+        None
     }
 
     pub(crate) fn len(&self) -> usize

@@ -1,12 +1,12 @@
 //! What a session tells of the machine after the calls that it answered.
-ghost use Rattle.std.specs.Prelude.{◌≡◌, ◌<◌, [], ℕ, List, slice_get, option_map, is_some, length, MatchOption, MatchResult};
+ghost use Rattle.std.specs.Prelude.{◌≡◌, ◌<◌, [], ℕ, List, drop, slice_get, option_map, is_some, length, MatchOption, MatchResult};
 ghost use Rattle.bp_tree.specs.Ast.{Program};
 ghost use Rattle.bp_code.specs.StandsFor.{StandsFor};
 ghost use Rattle.bp_machine.specs.declared.calls.Call.{Call as Answered};
 ghost use Rattle.bp_machine.specs.Contexts.{IsLeastWithin};
 ghost use Rattle.bp_machine.specs.Answers.{stack_of};
 ghost use Rattle.bp_machine.specs.PrintedRows.{values_printed};
-ghost use Rattle.bp_machine.specs.Tops.{IsTop};
+ghost use Rattle.bp_machine.specs.Tops.{IsTop, IsTopOf};
 ghost use Rattle.bp_machine.specs.Setups.{threads};
 ghost use Rattle.bp_machine.specs.Histories.{calls_of_thread, granted_threads, configuration_after, is_finished, open_lines};
 ghost use Rattle.bp_machine.specs.Reports.{IsReport};
@@ -158,18 +158,20 @@ impl Session {
         Ok(printed)
     }
 
-    /// Where a thread continues: none if its stack is empty, or there is no such thread.
-    pub fn top(&self, thread: u32) -> Option<Top>
+    /// Where a thread continues after the topmost calls of its stack, so many, have returned: none
+    /// if its stack has no more frames, or there is no such thread.
+    pub fn top_below(&self, thread: u32, returned: usize) -> Option<Top>
         ensures { (t : Program) (h : List Answered)
             → StandsFor self.now.code t
             → Stands t self.now h
             → let now = configuration_after t self.now.setup h in
-            MatchOption result (stack_of now thread ≡ []) (IsTop t now thread) }
+            let left = drop returned (stack_of now thread) in
+            MatchOption result (left ≡ []) (IsTopOf t now left) }
     {
         let Some(guest) = self.machine.thread(thread) else {
             return None;
         };
-        let Some(top) = guest.stack().top() else {
+        let Some(top) = guest.stack().below(returned) else {
             return None;
         };
         let store = Store {
@@ -179,7 +181,18 @@ impl Session {
         Some(Top {
             number: top.number,
             store,
-            depth: guest.stack().len(),
+            depth: guest.stack().len().saturating_sub(returned),
         })
+    }
+
+    /// Where a thread continues: none if its stack is empty, or there is no such thread.
+    pub fn top(&self, thread: u32) -> Option<Top>
+        ensures { (t : Program) (h : List Answered)
+            → StandsFor self.now.code t
+            → Stands t self.now h
+            → let now = configuration_after t self.now.setup h in
+            MatchOption result (stack_of now thread ≡ []) (IsTop t now thread) }
+    {
+        self.top_below(thread, 0)
     }
 }

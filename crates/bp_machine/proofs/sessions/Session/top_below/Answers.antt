@@ -1,37 +1,42 @@
-use Rattle.std.proofs.Common.{ap, sym, ◌∙◌, length}
+use Rattle.std.proofs.Common.{◌-◌, ap, sym, ◌∙◌, [], arith, drop, drop_of_length-le, length, length-drop}
 use Rattle.std.specs.Prelude.{slice_get}
 use Rattle.bp_code.specs.Bits.{bits_of}
 use Rattle.bp_code.specs.StandsFor.{valuation_of}
 use Rattle.bp_machine.specs.Stacks.{top_of}
 use Rattle.bp_machine.specs.Answers.{stack_of}
 use Rattle.bp_machine.specs.Histories.{configuration_after}
-use Rattle.bp_machine.proofs.ShownTops.{none_shown, top_shown, no_stack}
-use Rattle.bp_machine.proofs.sessions.Session.top.Goals as goal
+use Rattle.bp_machine.proofs.ShownTops.{none_shown, top_shown, shown_below, no_stack}
+use Rattle.bp_machine.proofs.sessions.Session.top_below.Goals as goal
 
 pub returns-in_default : goal.returns-in_default
 returns-in_default c = λ t h is stands.
     let x = c.args.self.now in
     let none = c.in_default.ensures ∙ ap (λ y. slice_get y.machine.state.threads c.args.thread) c.self.view_is in
-    no_stack t x.setup x.machine.state h stands.state c.args.thread none
+    ap (drop c.args.returned) (no_stack t x.setup x.machine.state h stands.state c.args.thread none) ∙ drop_of_length-le [] (omega arith)
 
 pub returns-in_default-top : goal.returns-in_default-top
 returns-in_default-top c = λ t h is stands.
     let x = c.args.self.now in
+    let n = c.args.returned in
     let guest = c.in-Some.guest.now.guest in
+    let frames = stack_of (configuration_after t x.setup h) c.args.thread in
     let has = ap (λ y. slice_get y.machine.state.threads c.args.thread) (sym c.self.view_is) ∙ sym c.in-Some.ensures in
-    let shown = (stands.state.thread c.args.thread guest has).stack in
-    let top = c.in_default-top.ensures ∙ ap top_of c.stack.ensures in
-    none_shown t guest.stack (stack_of (configuration_after t x.setup h) c.args.thread) shown top
+    let shown = shown_below t n guest.stack frames (stands.state.thread c.args.thread guest has).stack in
+    let top = c.in_default-top.ensures ∙ ap (λ s. top_of (drop n s)) c.stack.ensures in
+    none_shown t (drop n guest.stack) (drop n frames) shown top
 
 pub returns : goal.returns
 returns c = λ t h is stands.
     let x = c.args.self.now in
+    let n = c.args.returned in
     let guest = c.in-Some.guest.now.guest in
+    let frames = stack_of (configuration_after t x.setup h) c.args.thread in
     let has = ap (λ y. slice_get y.machine.state.threads c.args.thread) (sym c.self.view_is) ∙ sym c.in-Some.ensures in
-    let shown = (stands.state.thread c.args.thread guest has).stack in
-    let top = c.in-Some-top.ensures ∙ ap top_of c.stack.ensures in
-    let there = top_shown t guest.stack (stack_of (configuration_after t x.setup h) c.args.thread) c.in-Some-top.top shown top in
+    let shown = shown_below t n guest.stack frames (stands.state.thread c.args.thread guest has).stack in
+    let top = c.in-Some-top.ensures ∙ ap (λ s. top_of (drop n s)) c.stack.ensures in
+    let there = top_shown t (drop n guest.stack) (drop n frames) c.in-Some-top.top shown top in
     let globals = c.globals.ensures ∙ ap (λ y. y.machine.state.globals) c.self.view_is in
+    let size = c.saturating_sub.ensures ∙ ap (λ k. k - n) (c.len.ensures ∙ ap length c.stack-2.ensures) ∙ sym (length-drop n guest.stack) in
     record {
       frame = there.frame;
       below = there.below;
@@ -39,5 +44,5 @@ returns c = λ t h is stands.
       next = there.shows.left;
       globals = stands.state.globals ∙ ap (λ g. valuation_of t.globals (bits_of g)) (sym globals);
       locals = there.shows.locals;
-      depth = c.len.ensures ∙ ap length c.stack-2.ensures ∙ there.depth;
+      depth = size ∙ there.depth;
     }
