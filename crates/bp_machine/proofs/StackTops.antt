@@ -1,7 +1,7 @@
 -- A stack that is kept with its top last.
-use Rattle.std.proofs.Common.{◌≡◌, ◌⊎◌, ℕ, zero, suc, ◌+◌, ◌-◌, ◌<◌, ◌≤◌, List, [], ◌∷◌, ◌++◌, drop, drop_of_length-le, length, reverse, None, Some, refl, ap, ◌∙◌, arith, inl, inr}
+use Rattle.std.proofs.Common.{◌≡◌, ◌⊎◌, ℕ, zero, suc, ◌+◌, ◌-◌, ◌<◌, List, [], ◌∷◌, ◌++◌, drop, length, reverse, Some, refl, ap, ◌∙◌, arith, inl, inr}
 use Rattle.std.specs.Prelude.{slice_get, slice_set}
-use Rattle.std.proofs.lemmas.List.{reverse-append, length-append, length-reverse, append_assoc}
+use Rattle.std.proofs.lemmas.List.{reverse-append, length-append, append_assoc}
 use Rattle.std.proofs.Math.Seq.{set-append_seam}
 use Rattle.bp_machine.specs.declared.stacks.ActivationRecord.{ActivationRecord}
 use Rattle.bp_machine.specs.Stacks.{top_of, with_top, entered_top}
@@ -59,7 +59,7 @@ front_at (x ∷ xs) ys zero inside = refl
 front_at (x ∷ xs) ys (suc n) inside = front_at xs ys n (omega (arith, inside))
 
 -- frame n from the end of a list is at the top after n calls have returned
-IsBelow : ℕ → List ActivationRecord → Type 0
+abbrev pub IsBelow : ℕ → List ActivationRecord → Type 0
 IsBelow n xs = n < length xs → slice_get xs (length xs - 1 - n) ≡ top_of (drop n (reverse xs))
 
 one_more : (n : ℕ) (xs ys : List ActivationRecord) (y : ActivationRecord) → IsBelow n ys → xs ≡ ys ++ y ∷ [] → IsBelow (suc n) xs
@@ -73,7 +73,4 @@ pub below_is : (n : ℕ) (xs : List ActivationRecord) → IsBelow n xs
 below_is zero xs inside =
     let size : length xs - 1 - 0 ≡ length xs - 1 = omega arith in
     rw size (top_is xs)
-below_is (suc n) xs = elim (snoc xs) [ inl none ↦ λ inside. absurd (omega (arith, inside, ap length none)) | inr at ↦ one_more n xs at.0 at.1 (below_is n at.0) at.2 ]
-
-pub none_below : (n : ℕ) (xs : List ActivationRecord) → length xs ≤ n → top_of (drop n (reverse xs)) ≡ None
-none_below n xs over = ap top_of (drop_of_length-le (reverse xs) (omega (arith, over, length-reverse xs)))
+below_is (suc n) xs inside = elim (snoc xs) [ inl none ↦ absurd (omega (arith, inside, ap length none)) | inr at ↦ one_more n xs at.0 at.1 (below_is n at.0) at.2 inside ]

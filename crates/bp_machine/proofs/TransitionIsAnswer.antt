@@ -115,7 +115,7 @@ module _ (c : Flat) (t : Program) (alike : StepsAlike c t) (bit : Bool) (gw : �
         comes = comes_of f fs (a ∷ rest) (transition_of d full) done.tells;
       })
 
-  on_stack : (stack : List ActivationRecord) (S : List Frame) (fits : Bool) (v : Transition) → ShowsStack t (activations stack) S → IsTransitionOn c.instructions gw bit fits stack v
+  pub on_stack : (stack : List ActivationRecord) (S : List Frame) (fits : Bool) (v : Transition) → ShowsStack t (activations stack) S → IsTransitionOn c.instructions gw bit fits stack v
       → IsAnswer t g false S fits bit gw stack v
   on_stack [] [] fits v shows is = subst (λ w. IsAnswer t g false [] fits bit gw [] w) (sym is) (record { reply = refl; comes = refl })
   on_stack [] (f ∷ fs) fits v shows is = absurd shows

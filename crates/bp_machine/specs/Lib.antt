@@ -19,3 +19,4 @@ pub mod Starts
 pub mod States
 pub mod Tops
 pub mod Transitions
+pub mod Waiting

@@ -1,5 +1,5 @@
 //! The machine of a session: the globals, the guest threads, and the count of contexts.
-ghost use Rattle.std.specs.Prelude.{◌≡◌, ◌≤◌, ◌<◌, ◌^◌, ◌+◌, ℕ, List, Some, length, slice_get, option_map, OnOk, OnErr};
+ghost use Rattle.std.specs.Prelude.{◌≡◌, ◌≤◌, ◌<◌, ◌^◌, ◌+◌, ℕ, List, Some, true, length, slice_get, option_map, OnOk, OnErr};
 ghost use Rattle.bp_tree.specs.Ast.{Program};
 ghost use Rattle.bp_code.specs.Bits.{bits_of};
 ghost use Rattle.bp_machine.specs.declared.calls.Call.{Call as Answered};
@@ -213,6 +213,16 @@ impl Machine {
         }
         let fits = self.contexts.allows(contexts, thread);
         transition_on(code, self.globals, fits, guest.stack(), bit)
+    }
+
+    /// What a step of the thread results in, where one more is within the contexts and no assertion
+    /// failed.
+    pub(crate) fn judge_step(&self, code: &Code, guest: &GuestThread, bit: bool) -> Transition
+        ensures { let globals = self.now.state.globals in
+            let stack = guest.now.guest.stack in
+            IsTransitionOn code.now.instructions globals bit true stack result }
+    {
+        transition_on(code, self.globals, true, guest.stack(), bit)
     }
 
     /// Makes room for the frame of a call's step; without memory the machine stays.

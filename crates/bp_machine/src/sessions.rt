@@ -10,6 +10,7 @@ ghost use Rattle.bp_machine.specs.KeptSessions.{AreFirstChoices, AreDrawn, IsGiv
 mod judging;
 mod readings;
 mod restarting;
+mod waiting;
 
 use crate::ask_faults::AskFault;
 use crate::calls::Call;

@@ -1,7 +1,8 @@
 //! What a session tells of the machine after the calls that it answered.
 ghost use Rattle.std.specs.Prelude.{◌≡◌, ◌<◌, [], ℕ, List, drop, slice_get, option_map, is_some, length, MatchOption, MatchResult};
 ghost use Rattle.bp_tree.specs.Ast.{Program};
-ghost use Rattle.bp_code.specs.StandsFor.{StandsFor};
+ghost use Rattle.bp_code.specs.Bits.{bits_of};
+ghost use Rattle.bp_code.specs.StandsFor.{valuation_of, StandsFor};
 ghost use Rattle.bp_machine.specs.declared.calls.Call.{Call as Answered};
 ghost use Rattle.bp_machine.specs.Contexts.{IsLeastWithin};
 ghost use Rattle.bp_machine.specs.Answers.{stack_of};
@@ -66,6 +67,16 @@ impl Session {
             return None;
         }
         Some(self.machine.global(n as u8))
+    }
+
+    /// The globals, that of slot n in the bit of weight 2 to the n.
+    pub fn globals(&self) -> u128
+        ensures { (t : Program) (h : List Answered)
+            → Stands t self.now h
+            → let globals = (configuration_after t self.now.setup h).globals in
+            globals ≡ valuation_of t.globals (bits_of result) }
+    {
+        self.machine.globals()
     }
 
     /// The least number of contexts that the steps so far are within.

@@ -14,15 +14,15 @@ returns-in_default c = λ t h is stands.
     let none = c.in_default.ensures ∙ ap (λ y. slice_get y.machine.state.threads c.args.thread) c.self.view_is in
     ap (drop c.args.returned) (no_stack t x.setup x.machine.state h stands.state c.args.thread none) ∙ drop_of_length-le [] (omega arith)
 
-pub returns-in_default-top : goal.returns-in_default-top
-returns-in_default-top c = λ t h is stands.
+pub returns-in_default-below : goal.returns-in_default-below
+returns-in_default-below c = λ t h is stands.
     let x = c.args.self.now in
     let n = c.args.returned in
     let guest = c.in-Some.guest.now.guest in
     let frames = stack_of (configuration_after t x.setup h) c.args.thread in
     let has = ap (λ y. slice_get y.machine.state.threads c.args.thread) (sym c.self.view_is) ∙ sym c.in-Some.ensures in
     let shown = shown_below t n guest.stack frames (stands.state.thread c.args.thread guest has).stack in
-    let top = c.in_default-top.ensures ∙ ap (λ s. top_of (drop n s)) c.stack.ensures in
+    let top = c.in_default-below.ensures ∙ ap (λ s. top_of (drop n s)) c.stack.ensures in
     none_shown t (drop n guest.stack) (drop n frames) shown top
 
 pub returns : goal.returns
@@ -33,8 +33,8 @@ returns c = λ t h is stands.
     let frames = stack_of (configuration_after t x.setup h) c.args.thread in
     let has = ap (λ y. slice_get y.machine.state.threads c.args.thread) (sym c.self.view_is) ∙ sym c.in-Some.ensures in
     let shown = shown_below t n guest.stack frames (stands.state.thread c.args.thread guest has).stack in
-    let top = c.in-Some-top.ensures ∙ ap (λ s. top_of (drop n s)) c.stack.ensures in
-    let there = top_shown t (drop n guest.stack) (drop n frames) c.in-Some-top.top shown top in
+    let top = c.in-Some-below.ensures ∙ ap (λ s. top_of (drop n s)) c.stack.ensures in
+    let there = top_shown t (drop n guest.stack) (drop n frames) c.in-Some-below.top shown top in
     let globals = c.globals.ensures ∙ ap (λ y. y.machine.state.globals) c.self.view_is in
     let size = c.saturating_sub.ensures ∙ ap (λ k. k - n) (c.len.ensures ∙ ap length c.stack-2.ensures) ∙ sym (length-drop n guest.stack) in
     record {

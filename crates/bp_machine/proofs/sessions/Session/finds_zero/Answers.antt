@@ -1,0 +1,25 @@
+use Rattle.std.proofs.Common.{◌∙◌, ap, sym, subst, true, Some}
+use Rattle.bp_tree.specs.Ast.{Program}
+use Rattle.bp_code.specs.StandsFor.{StandsFor}
+use Rattle.bp_code.specs.Alike.{StepsAlike}
+use Rattle.bp_machine.specs.Answers.{stack_of}
+use Rattle.bp_machine.specs.Histories.{configuration_after}
+use Rattle.bp_machine.specs.Sessions.{SessionOf}
+use Rattle.bp_machine.specs.Transitions.{IsTransitionOn}
+use Rattle.bp_machine.specs.Waiting.{is_blocked}
+use Rattle.bp_machine.proofs.TransitionIsAnswer.{on_stack}
+use Rattle.bp_machine.proofs.sessions.Session.finds_zero.Goals as goal
+
+abbrev AllAlike : SessionOf → Type 0
+AllAlike x = (t : Program) → StandsFor x.code t → StepsAlike x.code t
+
+pub returns : goal.returns
+returns c = λ t h i is stands has.
+    let x = c.args.self.now in
+    let guest = c.args.guest.now.guest in
+    let now = configuration_after t x.setup h in
+    let alike = subst AllAlike c.self.view_is c.steps_alike.ensures in
+    let shown = (stands.state.thread i guest has).stack in
+    let judged = subst (λ (y : SessionOf). IsTransitionOn y.code.instructions y.machine.state.globals c.args.bit true guest.stack c.judge_step-transition.result) c.self.view_is c.judge_step-transition.ensures in
+    let answer = on_stack x.code t (alike t is) c.args.bit x.machine.state.globals now.globals stands.state.globals guest.stack (stack_of now i) true c.judge_step-transition.result shown judged in
+    c.is_blocked.ensures ∙ ap is_blocked (ap Some c.reply.ensures ∙ sym answer.reply)

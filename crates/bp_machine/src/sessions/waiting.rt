@@ -1,0 +1,52 @@
+//! Whether a thread waits in a session.
+ghost use Rattle.std.specs.Prelude.{◌≡◌, ℕ, List, Some, slice_get};
+ghost use Rattle.bp_tree.specs.Ast.{Program};
+ghost use Rattle.bp_code.specs.StandsFor.{StandsFor};
+ghost use Rattle.bp_machine.specs.declared.calls.Call.{Call as Answered};
+ghost use Rattle.bp_machine.specs.Histories.{configuration_after};
+ghost use Rattle.bp_machine.specs.Sessions.{Stands};
+ghost use Rattle.bp_machine.specs.Waiting.{finds_zero, is_blocked, waits};
+
+use crate::calls::Reply;
+use crate::sessions::Session;
+use crate::threads::GuestThread;
+use bp_code::steps_alike;
+
+/// Whether a reply is that to an assumption of 0.
+fn is_blocked(reply: Reply) -> bool
+    ensures { result ≡ is_blocked (Some reply) }
+{
+    matches!(reply, Reply::Blocked)
+}
+
+impl Session {
+    /// Whether the next statement of a thread is an assumption of 0 with this choice bit.
+    fn finds_zero(&self, guest: &GuestThread, bit: bool) -> bool
+        ensures { (t : Program) (h : List Answered) (i : ℕ)
+            → StandsFor self.now.code t
+            → Stands t self.now h
+            → slice_get self.now.machine.state.threads i ≡ Some guest.now.guest
+            → let now = configuration_after t self.now.setup h in
+            result ≡ finds_zero t now i bit }
+    {
+        steps_alike(&self.code);
+        let transition = self.machine.judge_step(&self.code, guest, bit);
+        is_blocked(transition.reply())
+    }
+
+    /// Whether a thread waits: its next statement is an assumption of 0 with either choice bit. It
+    /// is not asked whether the thread may make a further call.
+    pub fn waits(&self, thread: u32) -> bool
+        ensures { (t : Program) (h : List Answered)
+            → StandsFor self.now.code t
+            → Stands t self.now h
+            → let now = configuration_after t self.now.setup h in
+            result ≡ waits t now thread }
+    {
+        let Some(guest) = self.machine.thread(thread) else {
+            return false;
+        };
+        let finds_zero = self.finds_zero(guest, false);
+        finds_zero && self.finds_zero(guest, true)
+    }
+}
