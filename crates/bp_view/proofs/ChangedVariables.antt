@@ -64,6 +64,22 @@ module _ (format : ViewFormat) where
       ap (λ z. here ++ z) (values_more owner xs n (λ k. bits (suc k)) x (omega (arith, h)))
       ∙ sym (append_assoc here (variables_text format owner (valuation_of (take n xs) (λ k. bits (suc k)))) (variable_text format owner (get_or xs n x).text (bits (suc n))))
 
+  pub values_append : (owner : Option Procedure) (xs ys : List Name) (bits : Bits)
+      → variables_text format owner (valuation_of (xs ++ ys) bits) ≡ variables_text format owner (valuation_of xs bits) ++ variables_text format owner (valuation_of ys (λ k. bits (length xs + k)))
+  values_append owner [] ys bits =
+      let same : bits ≡ (λ k. bits (0 + k)) = fun_ext (λ k. ap bits (omega arith)) in
+      ap (λ f. variables_text format owner (valuation_of ys f)) same
+  values_append owner (x ∷ xs) ys bits =
+      let here = variable_text format owner x.text (bits 0) in
+      let others = variables_text format owner (valuation_of xs (λ k. bits (suc k))) in
+      let shifted : (λ k. bits (suc (length xs + k))) ≡ (λ k. bits (suc (length xs) + k)) = fun_ext (λ k. ap bits (omega arith)) in
+      ap (λ z. here ++ z) (values_append owner xs ys (λ k. bits (suc k)) ∙ ap (λ f. others ++ variables_text format owner (valuation_of ys f)) shifted)
+      ∙ sym (append_assoc here others (variables_text format owner (valuation_of ys (λ k. bits (suc (length xs) + k)))))
+
+-- from slot 0
+pub from_first : (bits : Bits) → (λ k. bits (0 + k)) ≡ bits
+from_first bits = fun_ext (λ k. ap bits (omega arith))
+
 -- the first of the variables are the formals
 pub first_values : (xs ys : List Name) (bits : Bits) → take (length xs) (valuation_of (xs ++ ys) bits) ≡ valuation_of xs bits
 first_values [] ys bits = refl

@@ -36,13 +36,13 @@ module _ {A : Type 0} (xs : List A) (y : A) (k : ℕ) (z : A) (at : slice_get (x
   found : get_or (xs ++ y ∷ []) k z ≡ z
   found = get_or_from_slice_get (xs ++ y ∷ []) k z z at
 
-  within : k < length xs + 1
+  pub within : k < length xs + 1
   within = omega (arith, slice_get_within (xs ++ y ∷ []) k z at, length-append xs (y ∷ []))
 
-  one_before : k < length xs → slice_get xs k ≡ Some z
+  pub one_before : k < length xs → slice_get xs k ≡ Some z
   one_before p = slice_get-get_or xs k z p ∙ ap Some (sym (get_or_append_left xs (y ∷ []) z k p) ∙ found)
 
-  one_last : k ≡ length xs → y ≡ z
+  pub one_last : k ≡ length xs → y ≡ z
   one_last p = sym (get_or-append_seam xs y [] z) ∙ ap (λ n. get_or (xs ++ y ∷ []) n z) (sym p) ∙ found
 
 module _ (t : Program) (text : List ℕ) (s : SetupOf) (o : ViewOptions) (w : Widths) (count : ℕ) where

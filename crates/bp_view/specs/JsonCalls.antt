@@ -1,6 +1,6 @@
 -- The object of a call in JSON.
 use Rattle.std.specs.Prelude.{if◌then◌else◌, ◌≡◌, ◌&&◌, ℕ, Bool, false, List, [], ◌∷◌, ◌++◌, Option, None, Some, codes, decimal, flat_map, length, option_map, slice_get}
-use Rattle.bp_tree.specs.Ast.{Procedure, Program}
+use Rattle.bp_tree.specs.Ast.{Procedure}
 use Rattle.bp_code.specs.Starts.{start_of_block}
 use Rattle.bp_code.specs.Configurations.{Frame, Configuration}
 use Rattle.bp_machine.specs.declared.calls.Call.{Call}
@@ -12,7 +12,6 @@ use Rattle.bp_machine.specs.Replies.{is_granted}
 use Rattle.bp_machine.specs.declared.tops.Top.{Top}
 use Rattle.bp_text.specs.declared.positions.Position.{Position}
 use Rattle.bp_text.specs.Positions.{position_at}
-use Rattle.bp_view.specs.declared.moments.Moment.{Moment}
 use Rattle.bp_view.specs.declared.options.ViewFormat.{ViewFormat}
 use Rattle.bp_view.specs.declared.options.ViewFormat.TheVariants.{Columns, Json}
 use Rattle.bp_view.specs.declared.scenes.Scene.{Scene}

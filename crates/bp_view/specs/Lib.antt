@@ -1,13 +1,16 @@
 pub mod Changes
 pub mod Colours
+pub mod Frames
 pub mod Heads
 pub mod JsonCalls
 pub mod JsonTexts
 pub mod Lines
 pub mod Outcomes
+pub mod Parts
 pub mod Places
 pub mod Scenes
 pub mod StatementLines
+pub mod States
 pub mod Statements
 pub mod Views
 pub mod Widths

@@ -15,7 +15,7 @@ use Rattle.bp_syntax.specs.declared.tokens.LexemeKind.{LexemeKind}
 use Rattle.bp_view.specs.declared.options.ViewFormat.{ViewFormat}
 use Rattle.bp_view.specs.declared.options.ViewFormat.TheVariants.{Columns, Json}
 use Rattle.bp_view.specs.Changes.{variable_text}
-use Rattle.bp_view.specs.JsonTexts.{list_text, member, number_or_null, string_text}
+use Rattle.bp_view.specs.JsonTexts.{list_text, member, string_text}
 use Rattle.bp_text.specs.declared.positions.Position.{Position}
 use Rattle.bp_text.specs.Positions.{position_at}
 use Rattle.bp_view.specs.Places.{position_text}

@@ -86,7 +86,14 @@ fn push_frame(
         push_locals(line, format, proc, before.store.locals, after.store.locals)?;
         return Ok(());
     }
-    push_values(line, format, Some(proc), proc.formals(), after.store.locals)?;
+    push_values(
+        line,
+        format,
+        Some(proc),
+        proc.formals(),
+        0,
+        after.store.locals,
+    )?;
     Ok(())
 }
 

@@ -4,6 +4,7 @@
 mod changes;
 mod colours;
 mod excerpts;
+mod frames;
 mod heads;
 mod json_calls;
 mod json_texts;
@@ -11,10 +12,13 @@ mod lines;
 mod moments;
 mod options;
 mod outcomes;
+mod played_again;
 mod scenes;
 mod settings;
 mod shown;
+mod standings;
 mod statements;
+mod states;
 mod variables;
 mod views;
 mod watching;
@@ -22,4 +26,5 @@ mod writers;
 
 pub use options::{ViewFormat, ViewOptions};
 pub use statements::statement_lines;
+pub use states::state_at;
 pub use views::view;

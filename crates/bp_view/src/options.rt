@@ -30,6 +30,20 @@ pub struct ViewOptions {
 impl ViewOptions {
     ghost use Rattle.bp_view.specs.Views.{is_between, is_late, is_of_thread};
 
+    /// All calls, without colours.
+    pub(crate) fn all(format: ViewFormat) -> ViewOptions
+        ensures { result.format ≡ format }
+    {
+        ViewOptions {
+            thread: None,
+            last: None,
+            from: None,
+            to: None,
+            has_colour: false,
+            format,
+        }
+    }
+
     /// Whether the calls of the thread are shown.
     fn shows_thread(&self, thread: u32) -> bool
         ensures { result ≡ is_of_thread self.now.thread thread }

@@ -32,7 +32,7 @@ use itoa::Buffer;
 use std::alloc::{AllocError, Global};
 
 /// Adds a number after its words.
-fn push_count(view: &mut Vec<u8>, words: &[u8], count: u64) -> Result<(), AllocError>
+pub(crate) fn push_count(view: &mut Vec<u8>, words: &[u8], count: u64) -> Result<(), AllocError>
     ensures { OnOk result (view.new.items ≡ view.old.items ++ count_text words.now count) }
 {
     let mut buffer = Buffer::new();
@@ -131,8 +131,12 @@ fn push_values_line(view: &mut Vec<u8>, values: &[u8]) -> Result<(), AllocError>
     Ok(())
 }
 
-/// Adds where an assertion begins, its words, and the line of its values.
-fn push_assertion_text(view: &mut Vec<u8>, scene: &Scene, values: &[u8]) -> Result<(), AllocError>
+/// Adds where a statement begins, its words, and the line of these values.
+pub(crate) fn push_assertion_text(
+    view: &mut Vec<u8>,
+    scene: &Scene,
+    values: &[u8],
+) -> Result<(), AllocError>
     ensures { let words = scene.now.excerpt.words.items in
         let assertion = assertion_text scene.now.place.items words values.now in
         OnOk result (view.new.items ≡ view.old.items ++ assertion) }

@@ -112,20 +112,23 @@ pub(crate) fn push_value(
     }
 }
 
-/// Adds the values of the names, the first of which has slot 0.
+/// Adds the values of the names. The first name has this slot.
 pub(crate) fn push_values(
     line: &mut Vec<u8>,
     format: ViewFormat,
     owner: Option<&Proc>,
     names: &[Name],
+    first: usize,
     word: u128,
 ) -> Result<(), AllocError>
+    requires { first + length names.now < 2 ^ 64 }
     ensures { let owner = option_map (λ p. p.now) owner.entry in
-        let values = valuation_of names.now (bits_of word) in
+        let values = valuation_of names.now (λ k. bits_of word (first + k)) in
         OnOk result (line.new.items ≡ line.old.items ++ variables_text format owner values) }
 {
     for (n, name) in names.iter().enumerate() {
-        push_value(line, format, owner, name.text().as_bytes(), bit_of(word, n))?;
+        let bit = bit_of(word, first + n);
+        push_value(line, format, owner, name.text().as_bytes(), bit)?;
     }
     Ok(())
 }

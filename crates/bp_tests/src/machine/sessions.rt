@@ -168,3 +168,34 @@ fn tops_of_threads(rt: HostRuntime) -> Result<(), Fail> {
     assert!(rt; top_of(&session, 0).is_none());
     Ok(())
 }
+
+/// The number of the next instruction and the locals of what is left of a stack after returns.
+fn below_of(session: &Session, returned: usize) -> Option<(u32, u128, usize)> {
+    let top = session.top_below(0, returned)?;
+    Some((top.number, top.store.locals, top.depth))
+}
+
+#[test]
+fn frames_below_the_top(rt: HostRuntime) -> Result<(), Fail> {
+    let text = b"decl x; f(a) begin assume (x); end main() begin f(1); end";
+    let mut session = session_of(rt.alloc(), text, &[true], 1000)?;
+    assert!(rt; below_of(&session, 0) == Some((2, 0, 1)));
+    session.ask_with(0, false)?;
+    assert!(rt; below_of(&session, 0) == Some((0, 1, 2)));
+    assert!(rt; below_of(&session, 1) == Some((3, 0, 1)));
+    assert!(rt; below_of(&session, 2).is_none());
+    Ok(())
+}
+
+#[test]
+fn threads_that_wait(rt: HostRuntime) -> Result<(), Fail> {
+    let text = b"decl x; main() begin assume (x); x := 0; end";
+    let waiting = session_of(rt.alloc(), text, &[false], 1000)?;
+    assert!(rt; waiting.waits(0));
+    assert!(rt; waiting.globals() == 0);
+    let going_on = session_of(rt.alloc(), text, &[true], 1000)?;
+    assert!(rt; !going_on.waits(0));
+    assert!(rt; !going_on.waits(1));
+    assert!(rt; going_on.globals() == 1);
+    Ok(())
+}

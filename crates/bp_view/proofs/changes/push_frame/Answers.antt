@@ -2,7 +2,7 @@ use Rattle.std.proofs.Common.{◌≡◌, ◌∙◌, ◌++◌, ◌<◌, Some, ap,
 use Rattle.bp_code.specs.Bits.{bits_of}
 use Rattle.bp_code.specs.StandsFor.{place, valuation_of, variables}
 use Rattle.bp_view.specs.Changes.{changed, variables_text}
-use Rattle.bp_view.proofs.ChangedVariables.{first_values}
+use Rattle.bp_view.proofs.ChangedVariables.{first_values, from_first}
 use Rattle.bp_view.proofs.ChangesOfFrames.{at_entry, at_level, at_return}
 use Rattle.bp_view.proofs.changes.push_frame.Goals as goal
 
@@ -40,6 +40,7 @@ returns c = λ t text f g are procs at old new same.
     let formals = sym (first_values g.procedure.formals g.procedure.locals bits) ∙ ap (λ m. take (length g.procedure.formals) m) (sym new) in
     let deeper : c.args.before.depth < c.args.after.depth = grind arith in
     c.in_ok-push_values.ensures
+    ∙ ap (λ f. line ++ variables_text c.args.format (Some c.in-Some.proc.now) (valuation_of c.formals.result.now f)) (from_first bits)
     ∙ ap (λ xs. line ++ variables_text c.args.format (Some c.in-Some.proc.now) (valuation_of xs bits)) c.formals.ensures
     ∙ ap (λ p. line ++ variables_text c.args.format (Some p) (valuation_of p.formals bits)) is
     ∙ ap (λ m. line ++ variables_text c.args.format (Some g.procedure) m) formals

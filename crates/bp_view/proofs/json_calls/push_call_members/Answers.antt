@@ -1,5 +1,5 @@
 use Rattle.std.proofs.Common.{◌≡◌, ◌∙◌, ◌++◌, ℕ, List, codes, decimal, ap, append_assoc}
-use Rattle.bp_view.specs.JsonTexts.{member, number_or_null, truth_text}
+use Rattle.bp_view.specs.JsonTexts.{member, number_or_null}
 use Rattle.bp_view.proofs.json_calls.push_call_members.Goals as goal
 
 regrouped : (old a b c d : List ℕ) → (((old ++ a) ++ b) ++ c) ++ d ≡ old ++ (((a ++ b) ++ c) ++ d)

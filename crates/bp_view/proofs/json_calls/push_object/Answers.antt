@@ -1,4 +1,4 @@
-use Rattle.std.proofs.Common.{◌≡◌, ◌∙◌, ◌++◌, ℕ, List, Option, None, Some, Bool, codes, ap, append_assoc, refl, sym}
+use Rattle.std.proofs.Common.{◌≡◌, ◌∙◌, ◌++◌, ℕ, List, Option, None, Some, codes, ap, append_assoc, refl}
 use Rattle.std.specs.Prelude.{option_map}
 use Rattle.bp_tree.specs.Ast.{Procedure}
 use Rattle.bp_machine.specs.declared.tops.Top.{Top}

@@ -1,4 +1,4 @@
-use Rattle.std.proofs.Common.{◌≡◌, ◌++◌, take}
+use Rattle.std.proofs.Common.{◌≡◌, ◌+◌, ◌++◌, take}
 use Rattle.std.specs.Prelude.{option_map}
 use Rattle.bp_code.specs.Bits.{bits_of}
 use Rattle.bp_code.specs.StandsFor.{valuation_of}
@@ -6,4 +6,4 @@ use Rattle.bp_view.specs.Changes.{variables_text}
 use Rattle.bp_view.proofs.variables.push_values.Given as goal
 
 abbrev pub invariant-loop-n : goal.invariant-loop-n
-invariant-loop-n l = l.line.items ≡ l.initial.line.items ++ variables_text l.format (option_map (λ p. p.now) l.owner) (valuation_of (take l.n l.names) (bits_of l.word))
+invariant-loop-n l = l.line.items ≡ l.initial.line.items ++ variables_text l.format (option_map (λ p. p.now) l.owner) (valuation_of (take l.n l.names) (λ k. bits_of l.word (l.first + k)))

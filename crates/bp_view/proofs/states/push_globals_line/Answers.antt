@@ -1,0 +1,31 @@
+use Rattle.std.proofs.Common.{◌≡◌, ◌∙◌, ◌++◌, ◌<◌, ℕ, List, [], ◌∷◌, None, length, codes, ap, sym, refl, append_assoc, arith}
+use Rattle.bp_tree.specs.Ast.{Name}
+use Rattle.bp_code.specs.Bits.{bits_of}
+use Rattle.bp_code.specs.Steps.{Bits}
+use Rattle.bp_code.specs.StandsFor.{valuation_of}
+use Rattle.bp_view.specs.declared.options.ViewFormat.TheVariants.{Columns}
+use Rattle.bp_view.specs.Changes.{variables_text}
+use Rattle.bp_view.specs.Heads.{globals_line}
+use Rattle.bp_view.proofs.ChangedVariables.{from_first}
+use Rattle.bp_view.proofs.states.push_globals_line.Goals as goal
+
+regrouped : (a b c d : List ℕ) → ((a ++ b) ++ c) ++ d ≡ a ++ ((b ++ c) ++ d)
+regrouped a b c d = simp append_assoc
+
+line_of_some : (xs : List Name) (bits : Bits) → 0 < length xs → globals_line (valuation_of xs bits) ≡ (codes "globals" ++ variables_text Columns None (valuation_of xs bits)) ++ codes "\n"
+line_of_some [] bits some = absurd (omega (arith, some))
+line_of_some (x ∷ xs) bits some = refl
+
+pub returns : goal.returns
+returns c =
+    let xs = c.args.globals.now in
+    let bits = bits_of c.args.word in
+    let old = c.args.view.now.items in
+    let values = variables_text Columns None (valuation_of xs bits) in
+    let some : 0 < length xs = grind arith in
+    c.in_ok-push_bytes-2.ensures
+    ∙ ap (λ y. y ++ codes "\n") (c.in_ok-push_values.ensures
+    ∙ ap (λ f. c.push_bytes.new.line.items ++ variables_text Columns None (valuation_of xs f)) (from_first bits)
+    ∙ ap (λ y. y ++ values) c.in_ok-push_bytes.ensures)
+    ∙ regrouped old (codes "globals") values (codes "\n")
+    ∙ ap (λ y. old ++ y) (sym (line_of_some xs bits some))

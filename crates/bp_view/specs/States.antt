@@ -1,0 +1,131 @@
+-- The state after a history: the values of the globals, and how each thread stands.
+use Rattle.std.specs.Prelude.{if◌then◌else◌, ◌≡◌, ℕ, List, [], ◌++◌, None, codes, decimal, length, take}
+use Rattle.bp_tree.specs.Ast.{Program}
+use Rattle.bp_code.specs.Values.{Valuation}
+use Rattle.bp_machine.specs.declared.calls.Call.{Call}
+use Rattle.bp_machine.specs.declared.reports.Outcome.{Outcome}
+use Rattle.bp_machine.specs.declared.reports.Outcome.TheVariants.{Clean, Failed}
+use Rattle.bp_machine.specs.declared.reports.Report.{Report}
+use Rattle.bp_machine.specs.Answers.{stack_of}
+use Rattle.bp_machine.specs.Histories.{configuration_after, is_finished}
+use Rattle.bp_machine.specs.Reports.{outcome_of}
+use Rattle.bp_machine.specs.Setups.{SetupOf, threads}
+use Rattle.bp_machine.specs.Waiting.{waits}
+use Rattle.bp_trace.specs.declared.replaying.Replayed.{Replayed}
+use Rattle.bp_trace.specs.Replayed.{IsReplayed}
+use Rattle.bp_view.specs.declared.options.ViewFormat.{ViewFormat}
+use Rattle.bp_view.specs.declared.options.ViewFormat.TheVariants.{Columns, Json}
+use Rattle.bp_view.specs.declared.standings.Standing.{Standing}
+use Rattle.bp_view.specs.declared.standings.Standing.TheVariants.{Finished, Stopped, Waiting, Open}
+use Rattle.bp_view.specs.Changes.{variables_text}
+use Rattle.bp_view.specs.Frames.{IsStackText}
+use Rattle.bp_view.specs.Heads.{globals_line}
+use Rattle.bp_view.specs.JsonTexts.{list_text, member, string_text}
+use Rattle.bp_view.specs.Parts.{IsInParts}
+
+-- How a thread stands after a history, by the first that applies: its line is finished; an assertion
+-- failed; its next statement is an assumption of 0, whatever its choice bit is; else it goes on.
+abbrev pub standing : Program → SetupOf → List Call → ℕ → Standing
+standing t s h i =
+    let now = configuration_after t s h in
+    if is_finished s h i then Finished
+    else if now.failed then Stopped
+    else if waits t now i then Waiting
+    else Open
+
+abbrev pub standing_words : Standing → List ℕ
+standing_words Finished = codes " is finished"
+standing_words Stopped = codes " is stopped"
+standing_words Waiting = codes " waits"
+standing_words Open = codes " goes on"
+
+abbrev pub standing_name : Standing → List ℕ
+standing_name Finished = codes "finished"
+standing_name Stopped = codes "stopped"
+standing_name Waiting = codes "waiting"
+standing_name Open = codes "open"
+
+-- a thread for people, after an empty line, and the frames of its stack
+abbrev pub thread_state_lines : ℕ → Standing → (frames : List ℕ) → List ℕ
+thread_state_lines i standing frames =
+    codes "\nthread " ++ decimal i ++ standing_words standing ++ codes "\n" ++ frames
+
+-- the same as an object of JSON after a comma
+abbrev pub thread_state_object : ℕ → Standing → (frames : List ℕ) → List ℕ
+thread_state_object i standing frames =
+    codes ",{\"thread\":"
+    ++ decimal i
+    ++ member (codes "standing") (string_text (standing_name standing))
+    ++ member (codes "frames") (list_text frames)
+    ++ codes "}"
+
+abbrev pub thread_state_in : ViewFormat → ℕ → Standing → (frames : List ℕ) → List ℕ
+thread_state_in Columns i standing frames = thread_state_lines i standing frames
+thread_state_in Json i standing frames = thread_state_object i standing frames
+
+-- that an assertion of a thread failed, and no line where none did
+abbrev pub failed_line : Outcome → List ℕ
+failed_line Clean = []
+failed_line (Failed i) = codes "an assertion of thread " ++ decimal i ++ codes " failed\n"
+
+-- the state for people after n of so many calls
+abbrev pub state_lines : (n count : ℕ) → Outcome → Valuation → (threads : List ℕ) → List ℕ
+state_lines n count outcome globals threads =
+    codes "after call "
+    ++ decimal n
+    ++ codes " of "
+    ++ decimal count
+    ++ codes "\n"
+    ++ failed_line outcome
+    ++ globals_line globals
+    ++ threads
+
+-- the thread whose assertion failed, or null
+abbrev pub failed_text : Outcome → List ℕ
+failed_text Clean = codes "null"
+failed_text (Failed i) = decimal i
+
+-- the same as an object of JSON
+abbrev pub state_object : (n count : ℕ) → Outcome → Valuation → (threads : List ℕ) → List ℕ
+state_object n count outcome globals threads =
+    codes "{\"kind\":\"state\",\"version\":1"
+    ++ member (codes "call") (decimal n)
+    ++ member (codes "calls") (decimal count)
+    ++ member (codes "failed") (failed_text outcome)
+    ++ member (codes "globals") (list_text (variables_text Json None globals))
+    ++ member (codes "threads") (list_text threads)
+    ++ codes "}\n"
+
+abbrev pub state_in
+    : ViewFormat → (n count : ℕ) → Outcome → Valuation → (threads : List ℕ) → List ℕ
+state_in Columns n count outcome globals threads = state_lines n count outcome globals threads
+state_in Json n count outcome globals threads = state_object n count outcome globals threads
+
+-- Of a program and its text, in a setup; after the history h.
+module _ (format : ViewFormat) (t : Program) (text : List ℕ) (s : SetupOf) (h : List Call) where
+  -- how thread i stands, and the frames of its stack
+  pub record IsThreadText (i : ℕ) (said : List ℕ) : Type 0 where
+    pub frames : List ℕ
+    pub frames_are : IsStackText format text (stack_of (configuration_after t s h) i) frames
+    pub is : said ≡ thread_state_in format i (standing t s h i) frames
+
+  -- the state after the first calls of a history of so many
+  pub record IsStateText (count : ℕ) (said : List ℕ) : Type 0 where
+    pub threads_text : List ℕ
+    pub threads_are : IsInParts IsThreadText (threads s) threads_text
+    pub is :
+        let globals = (configuration_after t s h).globals in
+        said ≡ state_in format (length h) count (outcome_of h) globals threads_text
+
+-- the state after the first n calls of the history of a trace of the program, or after all where
+-- there are no more, and the report of the whole history
+pub record IsStateOfTrace
+    (format : ViewFormat) (n : ℕ) (t : Program) (text trace : List ℕ) (said : List ℕ)
+    (report : Report)
+    : Type 0 where
+  pub replayed : Replayed
+  pub is : IsReplayed t trace replayed
+  pub state_is :
+      let h = replayed.history.items in
+      IsStateText format t text replayed.setup (take n h) (length h) said
+  pub report_is : report ≡ replayed.report

@@ -1,0 +1,329 @@
+//! The state after a history: the values of the globals, and how each thread stands.
+ghost use Rattle.std.specs.Prelude.{◌≡◌, ◌++◌, ◌<◌, ℕ, List, codes, take, IfOk, MatchResult, OnOk};
+ghost use Rattle.bp_tree.specs.Ast.{Program};
+ghost use Rattle.bp_code.specs.Bits.{bits_of};
+ghost use Rattle.bp_code.specs.StandsFor.{valuation_of, StandsFor};
+ghost use Rattle.bp_machine.specs.declared.calls.Call.{Call as Answered};
+ghost use Rattle.bp_machine.specs.Sessions.{Stands};
+ghost use Rattle.bp_machine.specs.Setups.{threads};
+ghost use Rattle.bp_trace.specs.Replays.{IsReplayRefusal};
+ghost use Rattle.bp_view.specs.Heads.{globals_line};
+ghost use Rattle.bp_view.specs.JsonTexts.{member};
+ghost use Rattle.bp_view.specs.Lines.{Adds, IsSettingOf};
+ghost use Rattle.bp_view.specs.Parts.{IsInParts};
+ghost use Rattle.bp_view.specs.States.{failed_line, failed_text, state_in, state_lines, state_object, thread_state_in, thread_state_lines, thread_state_object, IsStateOfTrace, IsStateText, IsThreadText};
+
+use crate::frames::push_frames;
+use crate::json_texts::{push_list, push_member, push_number, push_text};
+use crate::options::{ViewFormat, ViewOptions};
+use crate::outcomes::push_count;
+use crate::played_again::session_after;
+use crate::scenes::scenes_of;
+use crate::settings::{Setting, setting_of};
+use crate::standings::Standing;
+use crate::variables::push_values;
+use bp_check::Checked;
+use bp_code::Code;
+use bp_machine::{Call, Outcome, Report, Session};
+use bp_text::push_bytes;
+use bp_trace::limits::MAX_TRACE;
+use bp_trace::{ReplayFault, replay};
+use bp_tree::Name;
+use std::alloc::{AllocError, Global};
+
+/// Adds a thread for people, and these frames.
+fn push_thread_lines(
+    view: &mut Vec<u8>,
+    thread: u32,
+    standing: Standing,
+    frames: &[u8],
+) -> Result<(), AllocError>
+    ensures { let thread = thread_state_lines thread standing frames.now in
+        OnOk result (view.new.items ≡ view.old.items ++ thread) }
+{
+    push_count(view, b"\nthread ", u64::from(thread))?;
+    push_bytes(view, standing.words())?;
+    push_bytes(view, b"\n")?;
+    push_bytes(view, frames)?;
+    Ok(())
+}
+
+/// Adds a thread as an object of JSON, after a comma.
+fn push_thread_object(
+    view: &mut Vec<u8>,
+    thread: u32,
+    standing: Standing,
+    frames: &[u8],
+) -> Result<(), AllocError>
+    ensures { let thread = thread_state_object thread standing frames.now in
+        OnOk result (view.new.items ≡ view.old.items ++ thread) }
+{
+    push_count(view, b",{\"thread\":", u64::from(thread))?;
+    push_text(view, b"standing", standing.name())?;
+    push_list(view, b"frames", frames)?;
+    push_bytes(view, b"}")?;
+    Ok(())
+}
+
+/// Adds a thread in this format.
+fn push_thread_in(
+    view: &mut Vec<u8>,
+    format: ViewFormat,
+    thread: u32,
+    standing: Standing,
+    frames: &[u8],
+) -> Result<(), AllocError>
+    ensures { let thread = thread_state_in format thread standing frames.now in
+        OnOk result (view.new.items ≡ view.old.items ++ thread) }
+{
+    match format {
+        ViewFormat::Columns => push_thread_lines(view, thread, standing, frames),
+        ViewFormat::Json => push_thread_object(view, thread, standing, frames),
+    }
+}
+
+/// Room for parts of a state while it is written.
+#[derive(Drop)]
+struct Room {
+    frames: Vec<u8>,
+    note: Vec<u8>,
+}
+
+/// Adds how a thread of the session stands, and the frames of its stack.
+fn push_thread(
+    view: &mut Vec<u8>,
+    room: &mut Room,
+    setting: &Setting<'_>,
+    session: &Session,
+    thread: u32,
+) -> Result<(), AllocError>
+    requires { thread < threads session.now.setup }
+    ensures { (t : Program) (text : List ℕ) (h : List Answered)
+        → IsSettingOf t text setting.now
+        → StandsFor session.now.code t
+        → Stands t session.now h
+        → let format = setting.now.options.format in
+        let said = IsThreadText format t text session.now.setup h thread in
+        OnOk result (Adds said view.old.items view.new.items) }
+{
+    let format = setting.options.format;
+    room.frames.clear();
+    push_frames(&mut room.frames, &mut room.note, setting, session, thread)?;
+    let standing = Standing::of(session, thread);
+    push_thread_in(view, format, thread, standing, &room.frames)?;
+    Ok(())
+}
+
+/// How each thread of the session stands, and the frames of its stack.
+fn threads_of(
+    alloc: Global,
+    setting: &Setting<'_>,
+    session: &Session,
+) -> Result<Vec<u8>, AllocError>
+    ensures { (t : Program) (text : List ℕ) (h : List Answered)
+        → IsSettingOf t text setting.now
+        → StandsFor session.now.code t
+        → Stands t session.now h
+        → let format = setting.now.options.format in
+        let s = session.now.setup in
+        IfOk result (λ v. IsInParts (IsThreadText format t text s h) (threads s) v.items) }
+{
+    session.setup().is_in_range();
+    let mut view = Vec::new(alloc);
+    let mut room = Room {
+        frames: Vec::new(alloc),
+        note: Vec::new(alloc),
+    };
+    for thread in 0..session.setup().threads() {
+        push_thread(&mut view, &mut room, setting, session, thread)?;
+    }
+    Ok(view)
+}
+
+/// What is said of a state before its threads.
+#[derive(Clone, Copy)]
+struct StateHead {
+    /// How many calls were made.
+    number: u64,
+    /// How many calls the history has.
+    count: u64,
+    outcome: Outcome,
+    /// The bits of the globals.
+    globals: u128,
+}
+
+/// Adds that an assertion failed, where one did.
+fn push_failed_line(view: &mut Vec<u8>, outcome: Outcome) -> Result<(), AllocError>
+    ensures { OnOk result (view.new.items ≡ view.old.items ++ failed_line outcome) }
+{
+    if let Outcome::Failed { thread } = outcome {
+        push_count(view, b"an assertion of thread ", u64::from(thread))?;
+        push_bytes(view, b" failed\n")?;
+    }
+    Ok(())
+}
+
+/// Adds the line of the globals, where there are any.
+fn push_globals_line(view: &mut Vec<u8>, globals: &[Name], word: u128) -> Result<(), AllocError>
+    ensures { let values = valuation_of globals.now (bits_of word) in
+        OnOk result (view.new.items ≡ view.old.items ++ globals_line values) }
+{
+    if globals.is_empty() {
+        return Ok(());
+    }
+    push_bytes(view, b"globals")?;
+    push_values(view, ViewFormat::Columns, None, globals, 0, word)?;
+    push_bytes(view, b"\n")?;
+    Ok(())
+}
+
+/// Adds a state for people.
+fn push_state_lines(
+    view: &mut Vec<u8>,
+    globals: &[Name],
+    head: StateHead,
+    threads: &[u8],
+) -> Result<(), AllocError>
+    ensures { let values = valuation_of globals.now (bits_of head.globals) in
+        let state = state_lines head.number head.count head.outcome values threads.now in
+        OnOk result (view.new.items ≡ view.old.items ++ state) }
+{
+    push_count(view, b"after call ", head.number)?;
+    push_count(view, b" of ", head.count)?;
+    push_bytes(view, b"\n")?;
+    push_failed_line(view, head.outcome)?;
+    push_globals_line(view, globals, head.globals)?;
+    push_bytes(view, threads)?;
+    Ok(())
+}
+
+/// Adds the number of the thread whose assertion failed, or null.
+fn push_failed(view: &mut Vec<u8>, outcome: Outcome) -> Result<(), AllocError>
+    ensures { OnOk result
+        (view.new.items ≡ view.old.items ++ member (codes "failed") (failed_text outcome)) }
+{
+    match outcome {
+        Outcome::Clean => push_member(view, b"failed", b"null"),
+        Outcome::Failed { thread } => push_number(view, b"failed", u64::from(thread)),
+    }
+}
+
+/// Adds a state as an object of JSON. `note` is room for the values of the globals.
+fn push_state_object(
+    view: &mut Vec<u8>,
+    note: &mut Vec<u8>,
+    globals: &[Name],
+    head: StateHead,
+    threads: &[u8],
+) -> Result<(), AllocError>
+    ensures { let values = valuation_of globals.now (bits_of head.globals) in
+        let state = state_object head.number head.count head.outcome values threads.now in
+        OnOk result (view.new.items ≡ view.old.items ++ state) }
+{
+    note.clear();
+    push_values(note, ViewFormat::Json, None, globals, 0, head.globals)?;
+    push_bytes(view, b"{\"kind\":\"state\",\"version\":1")?;
+    push_number(view, b"call", head.number)?;
+    push_number(view, b"calls", head.count)?;
+    push_failed(view, head.outcome)?;
+    push_list(view, b"globals", note)?;
+    push_list(view, b"threads", threads)?;
+    push_bytes(view, b"}\n")?;
+    Ok(())
+}
+
+/// The text of a state.
+fn state_text(
+    alloc: Global,
+    format: ViewFormat,
+    globals: &[Name],
+    head: StateHead,
+    threads: &[u8],
+) -> Result<Vec<u8>, AllocError>
+    ensures { let values = valuation_of globals.now (bits_of head.globals) in
+        let state = state_in format head.number head.count head.outcome values threads.now in
+        IfOk result (λ v. v.items ≡ state) }
+{
+    let mut view = Vec::new(alloc);
+    match format {
+        ViewFormat::Columns => push_state_lines(&mut view, globals, head, threads)?,
+        ViewFormat::Json => {
+            let mut note = Vec::new(alloc);
+            push_state_object(&mut view, &mut note, globals, head, threads)?;
+        }
+    }
+    Ok(view)
+}
+
+/// The state of the session, after the first calls of a history that has so many.
+fn state_of(
+    alloc: Global,
+    setting: &Setting<'_>,
+    session: &Session,
+    count: u64,
+) -> Result<Vec<u8>, AllocError>
+    ensures { (t : Program) (text : List ℕ) (h : List Answered)
+        → IsSettingOf t text setting.now
+        → StandsFor session.now.code t
+        → Stands t session.now h
+        → let format = setting.now.options.format in
+        let s = session.now.setup in
+        IfOk result (λ v. IsStateText format t text s h count v.items) }
+{
+    let threads = threads_of(alloc, setting, session)?;
+    let report = session.report();
+    let head = StateHead {
+        number: report.calls,
+        count,
+        outcome: report.outcome,
+        globals: session.globals(),
+    };
+    state_text(
+        alloc,
+        setting.options.format,
+        setting.globals,
+        head,
+        &threads,
+    )
+}
+
+/// The first calls of a history, so many or all.
+fn first_calls(history: &[Call], number: u64) -> &[Call]
+    ensures { result.now ≡ take number history.now }
+{
+    let count = number.min(history.len() as u64);
+    &history[..count as usize]
+}
+
+/// The state after so many calls of the history of a trace of a program, or after all of them,
+/// and the report of the whole history: the values of the globals, and for each thread how it
+/// stands and the frames of its stack. A text that is no trace of the program is refused as
+/// `replay` refuses it.
+pub fn state_at(
+    alloc: Global,
+    text: &[u8],
+    checked: &Checked,
+    code: &Code,
+    trace: &[u8],
+    format: ViewFormat,
+    number: u64,
+) -> Result<(Vec<u8>, Report), ReplayFault>
+    requires { StandsFor code.now checked.now }
+    ensures { MatchResult result
+        (λ p. IsStateOfTrace format number checked.now text.now trace.now p.0.items p.1)
+        (IsReplayRefusal checked.now trace.now) }
+{
+    if trace.len() > MAX_TRACE {
+        return Err(ReplayFault::TooLong);
+    }
+    let scenes = scenes_of(alloc, text, checked)?;
+    let replayed = replay(alloc, code, trace)?;
+    let history = replayed.history.as_slice();
+    let calls = first_calls(history, number);
+    let Ok(session) = session_after(alloc, code, &replayed.setup, calls) else {
+        return Err(ReplayFault::Memory);
+    };
+    let setting = setting_of(scenes.as_slice(), checked, 0, ViewOptions::all(format));
+    let state = state_of(alloc, &setting, &session, history.len() as u64)?;
+    Ok((state, replayed.report))
+}
