@@ -384,7 +384,7 @@ show_of file trace (Drive words) asks = absurd (drive≢show (sym asks.0))
 show_of file trace (Run words) asks = absurd (run≢show (sym asks.0))
 show_of file trace (Test words) asks = absurd (differ (codes "show") (codes "test") refl asks.0)
 show_of file trace (Replay words) asks = absurd (replay≢show (sym asks.0))
-show_of file trace (Show words) (named, of) = (of.program, of.trace, of.thread, of.last, of.from, of.to, of.json.1 refl, unasked words.explain (of.explain.always.1 refl) (of.explain.never.1 refl))
+show_of file trace (Show words) (named, of) = (of.program, of.trace, of.thread, of.last, of.from, of.to, of.at, of.json.1 refl, unasked words.explain (of.explain.always.1 refl) (of.explain.never.1 refl))
 show_of file trace (Migrate words) asks = absurd (show≢migrate asks.0)
 show_of file trace (Shrink words) asks = absurd (differ (codes "show") (codes "shrink") refl asks.0)
 

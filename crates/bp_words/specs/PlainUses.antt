@@ -115,6 +115,7 @@ IsPlainShowOf file trace (task.Show words) =
     × (words.last ≡ None)
     × (words.from ≡ None)
     × (words.to ≡ None)
+    × (words.at ≡ None)
     × (words.json ≡ false)
     × (words.explain ≡ on_terminals)
 IsPlainShowOf file trace other = ⊥

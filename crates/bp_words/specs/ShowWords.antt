@@ -13,5 +13,6 @@ pub record IsShowOf (rows : List Row) (words : ShowWords) : Type 0 where
   pub last : IsNumberIn 64 (one_of (codes "last") rows) words.last
   pub from : IsNumberIn 64 (one_of (codes "from") rows) words.from
   pub to : IsNumberIn 64 (one_of (codes "to") rows) words.to
+  pub at : IsNumberIn 64 (one_of (codes "at") rows) words.at
   pub json : IsFlagOf (one_of (codes "json") rows) words.json
   pub explain : IsExplainOf rows words.explain

@@ -27,6 +27,8 @@ pub struct ShowWords<'a> {
     pub from: Option<u64>,
     /// The number of the last call that is shown.
     pub to: Option<u64>,
+    /// After how many calls the state is shown, in place of the calls.
+    pub at: Option<u64>,
     /// Whether `--json` was given: each line is then a JSON object.
     pub json: bool,
     /// When a fault is explained.
@@ -57,12 +59,14 @@ pub fn show_command<'a>(alloc: Global) -> Result<Command<'a>, AllocError>
     let last = "Shows so many of the last calls";
     let from = "Shows no call before call N";
     let to = "Shows no call after call N";
+    let at = "Shows the state after call N in place of the calls";
     let json = "Prints one JSON object a line, for programs";
     trace_command(alloc, "show", ABOUT, NOTES)?
         .arg(number_option(alloc, "thread", thread))?
         .arg(long_number_option(alloc, "last", last))?
         .arg(long_number_option(alloc, "from", from))?
         .arg(long_number_option(alloc, "to", to))?
+        .arg(long_number_option(alloc, "at", at))?
         .arg(flag(alloc, "json", json))
 }
 
@@ -78,6 +82,7 @@ pub fn show_words<'a>(words: &ArgMatches<'a>) -> ShowWords<'a>
         last: given_long_number(words, "last"),
         from: given_long_number(words, "from"),
         to: given_long_number(words, "to"),
+        at: given_long_number(words, "at"),
         json: is_given(words, "json"),
         explain: explain_words(words),
     }

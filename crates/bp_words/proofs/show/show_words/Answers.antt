@@ -12,6 +12,7 @@ returns c = record {
   last = c.given_long_number.ensures;
   from = c.given_long_number-2.ensures;
   to = c.given_long_number-3.ensures;
+  at = c.given_long_number-4.ensures;
   json = c.is_given.ensures;
   explain = c.explain_words.ensures;
 }
