@@ -37,4 +37,5 @@ complete -c btrun -n '__fish_seen_subcommand_from show' -x -l thread -d 'Show th
 complete -c btrun -n '__fish_seen_subcommand_from show' -x -l last -d 'Show the last calls alone'
 complete -c btrun -n '__fish_seen_subcommand_from show' -x -l from -d 'Show no call before this one'
 complete -c btrun -n '__fish_seen_subcommand_from show' -x -l to -d 'Show no call after this one'
+complete -c btrun -n '__fish_seen_subcommand_from show' -x -l at -d 'Show the state after this call'
 complete -c btrun -n '__fish_seen_subcommand_from show' -l json -d 'Print one JSON object a line'

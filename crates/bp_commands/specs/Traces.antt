@@ -1,5 +1,5 @@
--- The commands on a trace of a program: `replay`, `migrate` and `show`.
-use Rattle.std.specs.Prelude.{◌≡◌, ◌⊎◌, ℕ, List}
+-- The commands on a trace of a program: `replay`, `migrate`, `show` and `show --at`.
+use Rattle.std.specs.Prelude.{◌≡◌, ◌⊎◌, ℕ, List, length, take}
 use Rattle.bp_tree.specs.Ast.{Program}
 use Rattle.bp_code.specs.LawfulTexts.{IsLawfulText}
 use Rattle.bp_machine.specs.declared.calls.Call.{Call}
@@ -11,7 +11,9 @@ use Rattle.bp_trace.specs.declared.replay_faults.ReplayFault.{ReplayFault}
 use Rattle.bp_trace.specs.declared.versions.Version.{Version}
 use Rattle.bp_trace.specs.Replays.{IsTrace, IsReplayRefusal}
 use Rattle.bp_trace.specs.TraceText.{trace_text_2}
+use Rattle.bp_view.specs.declared.options.ViewFormat.{ViewFormat}
 use Rattle.bp_view.specs.declared.options.ViewOptions.{ViewOptions}
+use Rattle.bp_view.specs.States.{IsStateText}
 use Rattle.bp_view.specs.Views.{IsView}
 use Rattle.bp_commands.specs.declared.faults.Fault.{Fault}
 use Rattle.bp_commands.specs.Commands.{Command}
@@ -41,6 +43,10 @@ pub record IsViewText
   pub report : Report
   pub reported : IsReport s h report
   pub is : IsView t text s h report o written
+
+-- the state after the first n calls of a history, or after all where there are no more
+abbrev pub IsStateOf : ViewFormat → ℕ → TextRule
+IsStateOf format n text t s h written = IsStateText format t text s (take n h) (length h) written
 
 -- the text has this lawful program, and the trace is that of a legal history of it
 pub record IsTraceOf
@@ -91,3 +97,7 @@ migrates = on_trace IsMigrationText
 -- it writes a view of the history
 abbrev pub shows : ViewOptions → Command Pair Report
 shows o = on_trace (IsViewText o)
+
+-- it writes the state after n calls of the history
+abbrev pub states : ViewFormat → ℕ → Command Pair Report
+states format n = on_trace (IsStateOf format n)

@@ -26,6 +26,7 @@ mod running;
 mod runs;
 mod showing;
 mod shrinking;
+mod stating;
 mod summaries;
 mod testing;
 
@@ -50,4 +51,5 @@ pub use running::{run_program, run_text};
 pub use runs::{run_by_workers, run_on_bundle, run_on_pair, run_on_program};
 pub use showing::Show;
 pub use shrinking::Shrink;
+pub use stating::ShowState;
 pub use testing::{Test, Tested};

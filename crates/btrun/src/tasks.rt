@@ -6,10 +6,10 @@ ghost use Rattle.bp_commands.specs.Explanations.{ExplainsPair, ExplainsText};
 ghost use Rattle.bp_commands.specs.Files.{pair_of_files, IsRun};
 ghost use Rattle.bp_commands.specs.Given.{text_alone};
 ghost use Rattle.bp_words.specs.ExplainWords.{is_explained};
-ghost use Rattle.btrun.specs.Tasks.{test_options, view_options, IsDriveDone, IsRunDone, IsShowDone, IsTaskDone, IsTestDone};
+ghost use Rattle.btrun.specs.Tasks.{format_of, test_options, view_options, IsDriveDone, IsRunDone, IsShowDone, IsTaskDone, IsTestDone};
 
 use bp_commands::{
-    Check, Code, Drive, Files, Migrate, PairCommand, ProgramCommand, Replay, Show, Shrink, Test,
+    Check, Code, Drive, Files, Migrate, PairCommand, ProgramCommand, Replay, Show, ShowState, Shrink, Test,
     run_by_workers, run_on_bundle, run_on_pair, run_on_program,
 };
 use bp_run::{Gate, Open, Spread};
@@ -215,6 +215,17 @@ fn drive_as_asked<F: Files, W: Write + Drop, E: Write>(
     )
 }
 
+/// How a view is written.
+fn format_of(words: &ShowWords<'_>) -> ViewFormat
+    ensures { result ≡ format_of words.now }
+{
+    if words.json {
+        ViewFormat::Json
+    } else {
+        ViewFormat::Columns
+    }
+}
+
 /// Which calls are shown, and how.
 fn view_options(words: &ShowWords<'_>, has_colour: bool) -> ViewOptions
     ensures { result ≡ view_options words.now has_colour }
@@ -225,15 +236,38 @@ fn view_options(words: &ShowWords<'_>, has_colour: bool) -> ViewOptions
         from: words.from,
         to: words.to,
         has_colour,
-        format: if words.json {
-            ViewFormat::Json
-        } else {
-            ViewFormat::Columns
-        },
+        format: format_of(words),
     }
 }
 
-/// Shows the trace of a file.
+/// Does a command on the program and the trace that the words name.
+fn on_shown<C: PairCommand, F: Files, W: Write + Drop, E: Write>(
+    alloc: Global,
+    command: &C,
+    files: &F,
+    on_terminal: bool,
+    words: &ShowWords<'_>,
+    out: BufWriter<W>,
+    errors: &mut E,
+) -> (u8, W)
+    ensures { let inputs = pair_of_files (C.limit command.now)
+        (F.bytes files.now words.now.program.now) (F.bytes files.now words.now.trace.now) in
+        let old = writer_contents W.contents out in
+        IsRun (C.command command.now) of_report inputs
+        (ExplainsPair (C.beside command.now) words.now.program.now words.now.trace.now)
+        (is_explained words.now.explain on_terminal)
+        old (W.contents result.1)
+        (E.contents errors.old) (E.contents errors.new) result.0 }
+{
+    let (path, trace, explains) = (
+        words.program,
+        words.trace,
+        words.explain.is_explained(on_terminal),
+    );
+    run_on_pair(alloc, command, files, path, trace, explains, out, errors)
+}
+
+/// Shows the trace of a file: the state after so many calls where that is asked for, else the calls.
 fn show_as_asked<F: Files, W: Write + Drop, E: Write>(
     alloc: Global,
     files: &F,
@@ -248,21 +282,17 @@ fn show_as_asked<F: Files, W: Write + Drop, E: Write>(
         (E.contents errors.old) (E.contents errors.new) result.0 }
 {
     let options = view_options(words, has_colour);
-    let (path, trace, explains) = (
-        words.program,
-        words.trace,
-        words.explain.is_explained(on_terminal),
-    );
-    run_on_pair(
-        alloc,
-        &Show { options },
-        files,
-        path,
-        trace,
-        explains,
-        out,
-        errors,
-    )
+    let format = format_of(words);
+    match words.at {
+        Some(number) => {
+            let command = ShowState { number, format };
+            on_shown(alloc, &command, files, on_terminal, words, out, errors)
+        }
+        None => {
+            let command = Show { options };
+            on_shown(alloc, &command, files, on_terminal, words, out, errors)
+        }
+    }
 }
 
 /// Does a task, and answers the exit status and the output.

@@ -1,0 +1,55 @@
+//! The command `show --at`.
+use crate::commands::PairCommand;
+use crate::explanations::Beside;
+use crate::faults::Fault;
+use crate::showing::program_of;
+use bp_machine::Report;
+use bp_text::put;
+use bp_trace::limits::MAX_TRACE;
+use bp_view::{ViewFormat, state_at};
+use std::alloc::Global;
+use std::io::Write;
+
+/// `show --at`: replays a trace of a program, and writes the state after so many of its calls: the
+/// values of the globals, and for each thread how it stands and the frames of its stack.
+#[derive(Clone, Copy)]
+pub struct ShowState {
+    /// After how many calls.
+    pub number: u64,
+    /// How the state is written.
+    pub format: ViewFormat,
+}
+
+impl PairCommand for ShowState {
+    ghost use Rattle.bp_commands.specs.declared.explanations.Beside.{Beside};
+    ghost use Rattle.bp_trace.specs.declared.limits.TheConstants.{MAX_TRACE};
+    ghost use Rattle.bp_commands.specs.Traces.{states};
+
+    ghost command = { λ s. states s.format s.number };
+
+    ghost limit = { λ _. MAX_TRACE };
+
+    ghost beside = { λ _. Beside.Trace };
+
+    fn limit(&self) -> usize {
+        MAX_TRACE
+    }
+
+    fn apply<W: Write>(
+        &self,
+        alloc: Global,
+        text: &[u8],
+        trace: &[u8],
+        out: &mut W,
+    ) -> Result<Report, Fault> {
+        let (checked, code) = program_of(alloc, text)?;
+        let (format, number) = (self.format, self.number);
+        let (state, report) = state_at(alloc, text, &checked, &code, trace, format, number)?;
+        put(out, &state)?;
+        Ok(report)
+    }
+
+    fn beside(&self) -> Beside {
+        Beside::Trace
+    }
+}
