@@ -1,4 +1,5 @@
 pub mod AssertionTexts
+pub mod BegunViews
 pub mod ChangedVariables
 pub mod ChangesOfFrames
 pub mod FailedStatements
@@ -7,10 +8,13 @@ pub mod LongestPlaces
 pub mod NextConfigurations
 pub mod OneStatement
 pub mod PartsOfHeads
+pub mod PlacedStacks
 pub mod PlacesOfTops
 pub mod PrintedValues
 pub mod ProceduresOfPlaces
+pub mod RecordedCalls
 pub mod SceneLists
 pub mod SlotsOfNames
 pub mod ValuesOfStatements
 pub mod WordsOfStatements
+pub mod WholeViews

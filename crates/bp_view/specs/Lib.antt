@@ -11,3 +11,4 @@ pub mod StatementLines
 pub mod Statements
 pub mod Views
 pub mod Widths
+pub mod Writing

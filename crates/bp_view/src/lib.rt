@@ -4,6 +4,7 @@
 mod changes;
 mod colours;
 mod excerpts;
+mod faults;
 mod heads;
 mod json_calls;
 mod json_texts;
@@ -17,9 +18,9 @@ mod shown;
 mod statements;
 mod variables;
 mod views;
-mod watching;
 mod writers;
 
+pub use faults::ViewFault;
 pub use options::{ViewFormat, ViewOptions};
 pub use statements::statement_lines;
 pub use views::view;
