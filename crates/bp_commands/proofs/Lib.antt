@@ -6,3 +6,4 @@ mod Migrated
 mod RunAnswers
 mod ShrunkTraces
 mod TestAnswers
+pub mod ViewedTraces

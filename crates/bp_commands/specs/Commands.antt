@@ -7,7 +7,7 @@ use Rattle.bp_commands.specs.declared.faults.Fault.TheVariants.{Write}
 use Rattle.bp_commands.specs.Given.{Inputs}
 
 -- A command: the texts that it may write of its inputs; what it reports where it has written one
--- whole; for which faults it refuses the inputs; and which faults come after a whole text.
+-- whole; for which faults it refuses the inputs; and which faults end it after this was written.
 pub record Command (X R : Type 0) : Type 1 where
   pub Writes : X → List ℕ → Type 0
   pub Reports : X → List ℕ → R → Type 0
@@ -30,14 +30,14 @@ module _ {X R : Type 0} (command : Command X R) (old new : Option (List ℕ)) wh
       pub writes : command.Writes given text
       pub written : AppendsPart old new text
 
-    -- a text was written whole, and then refused
+    -- a fault ended the command after this was written
     pub record IsSpoilt (f : Fault) : Type 0 where
       pub text : List ℕ
       pub spoils : command.Spoils given text f
       pub written : AppendsAll old new text
 
-    -- the inputs are refused, and nothing is written; or the writer refused; or what was written
-    -- is refused
+    -- the inputs are refused, and nothing is written; or the writer refused; or the fault ended the
+    -- command after something was written
     abbrev pub IsRefusedWith : Fault → Type 0
     IsRefusedWith f =
         (Keeps old new × command.Refuses given f)

@@ -18,6 +18,8 @@ use Rattle.bp_run.specs.declared.run_faults.RunFault.{RunFault}
 use Rattle.bp_run.specs.declared.run_faults.RunFault.TheVariants as run
 use Rattle.bp_test.specs.declared.faults.TestFault.{TestFault}
 use Rattle.bp_test.specs.declared.faults.TestFault.TheVariants as test
+use Rattle.bp_view.specs.declared.faults.ViewFault.{ViewFault}
+use Rattle.bp_view.specs.declared.faults.ViewFault.TheVariants as view
 use Rattle.bp_commands.specs.declared.inputs.InputFault.{InputFault}
 use Rattle.bp_commands.specs.declared.inputs.InputFault.TheVariants as input
 use Rattle.bp_commands.specs.declared.faults.Fault.{Fault}
@@ -62,6 +64,11 @@ fault_of_trace f = Trace f
 abbrev pub fault_of_migration : MigrateFault → Fault
 fault_of_migration (migrate.Replay f) = fault_of_trace f
 fault_of_migration migrate.Write = Write
+
+abbrev pub fault_of_view : ViewFault → Fault
+fault_of_view (view.Replay f) = fault_of_trace f
+fault_of_view view.Memory = Memory
+fault_of_view view.Write = Write
 
 abbrev pub fault_of_run : RunFault → Fault
 fault_of_run (run.Program f) = fault_of_program f

@@ -1,5 +1,5 @@
 -- The commands on a trace of a program: `replay`, `migrate`, `show` and `show --at`.
-use Rattle.std.specs.Prelude.{◌≡◌, ◌⊎◌, ℕ, List, length, take}
+use Rattle.std.specs.Prelude.{◌≡◌, ◌⊎◌, ◌++◌, ℕ, List, length, take}
 use Rattle.bp_tree.specs.Ast.{Program}
 use Rattle.bp_code.specs.LawfulTexts.{IsLawfulText}
 use Rattle.bp_machine.specs.declared.calls.Call.{Call}
@@ -16,6 +16,7 @@ use Rattle.bp_view.specs.declared.options.ViewOptions.{ViewOptions}
 use Rattle.bp_view.specs.States.{IsStateText}
 use Rattle.bp_view.specs.Views.{IsView}
 use Rattle.bp_commands.specs.declared.faults.Fault.{Fault}
+use Rattle.bp_commands.specs.declared.faults.Fault.TheVariants.{Memory}
 use Rattle.bp_commands.specs.Commands.{Command}
 use Rattle.bp_commands.specs.Faults.{fault_of_trace}
 use Rattle.bp_commands.specs.Given.{Pair}
@@ -69,6 +70,12 @@ module _ (is_text : TextRule) where
     pub trace : IsOfTrace given written
     pub reported : IsReport trace.setup trace.history report
 
+  -- memory was refused where a beginning of such a text was written
+  pub record IsBegun (given : Pair) (begun : List ℕ) (f : Fault) : Type 0 where
+    pub rest : List ℕ
+    pub whole : IsOfTrace given (begun ++ rest)
+    pub is : f ≡ Memory
+
 -- the text is that of a lawful program, and the other text is no trace of it
 pub record IsNoTrace (given : Pair) (f : Fault) : Type 0 where
   pub program : Program
@@ -94,9 +101,9 @@ replays = on_trace IsReplayText
 abbrev pub migrates : Command Pair Report
 migrates = on_trace IsMigrationText
 
--- it writes a view of the history
+-- it writes a view of the history, each line as it is made
 abbrev pub shows : ViewOptions → Command Pair Report
-shows o = on_trace (IsViewText o)
+shows o = record (on_trace (IsViewText o)) { Spoils = IsBegun (IsViewText o) }
 
 -- it writes the state after n calls of the history
 abbrev pub states : ViewFormat → ℕ → Command Pair Report

@@ -8,6 +8,7 @@ use bp_syntax::ReadFault;
 use bp_test::TestFault;
 use bp_text::WriteFault;
 use bp_trace::{DriveFault, MigrateFault, ReplayFault};
+use bp_view::ViewFault;
 use std::alloc::AllocError;
 use thiserror::Error;
 
@@ -172,6 +173,21 @@ impl From<MigrateFault> for Fault {
         match fault {
             MigrateFault::Replay(fault) => Fault::from(fault),
             MigrateFault::Write => Fault::Write,
+        }
+    }
+}
+
+impl From<ViewFault> for Fault {
+    ghost use Rattle.bp_commands.specs.Faults.{fault_of_view};
+    ghost use Rattle.std.specs.Prelude.{◌≡◌};
+
+    ghost from_gives = { λ f e. e ≡ fault_of_view f };
+
+    fn from(fault: ViewFault) -> Fault {
+        match fault {
+            ViewFault::Replay(fault) => Fault::from(fault),
+            ViewFault::Memory => Fault::Memory,
+            ViewFault::Write => Fault::Write,
         }
     }
 }

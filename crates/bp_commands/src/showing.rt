@@ -9,7 +9,6 @@ use crate::faults::Fault;
 use bp_check::Checked;
 use bp_code::{Code, CodeFault, compile, lawful_program};
 use bp_machine::Report;
-use bp_text::put;
 use bp_trace::limits::MAX_TRACE;
 use bp_view::{ViewOptions, view};
 use std::alloc::Global;
@@ -57,8 +56,7 @@ impl PairCommand for Show {
         out: &mut W,
     ) -> Result<Report, Fault> {
         let (checked, code) = program_of(alloc, text)?;
-        let (shown, report) = view(alloc, text, &checked, &code, trace, self.options)?;
-        put(out, &shown)?;
+        let report = view(alloc, text, &checked, &code, trace, self.options, out)?;
         Ok(report)
     }
 

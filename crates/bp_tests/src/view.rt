@@ -56,8 +56,9 @@ fn view_of(
         return Err(Fail::from("no program"));
     };
     let code = compile(alloc, &checked)?;
-    match view(alloc, text, &checked, &code, trace, options) {
-        Ok((shown, _)) => Ok(shown),
+    let mut out = Vec::new(alloc);
+    match view(alloc, text, &checked, &code, trace, options, &mut out) {
+        Ok(_) => Ok(out),
         Err(_) => Err(Fail::from("no view")),
     }
 }

@@ -1,4 +1,5 @@
 pub mod AssertionTexts
+pub mod BegunViews
 pub mod ChangedVariables
 pub mod ChangesOfFrames
 pub mod FailedStatements
@@ -9,6 +10,7 @@ pub mod NextConfigurations
 pub mod OneStatement
 pub mod PartsOfHeads
 pub mod PartsOfTexts
+pub mod PlacedStacks
 pub mod PlacesOfTops
 pub mod PlayedFronts
 pub mod PrintedValues
@@ -18,3 +20,4 @@ pub mod SceneLists
 pub mod SlotsOfNames
 pub mod ValuesOfStatements
 pub mod WordsOfStatements
+pub mod WholeViews

@@ -1,5 +1,5 @@
 -- The lines of a history with one more call.
-use Rattle.std.proofs.Common.{◌≡◌, ◌∙◌, ◌⊎◌, inl, inr, ℕ, ◌+◌, ◌<◌, ◌≤◌, List, [], ◌∷◌, ◌++◌, Some, Bool, true, false, cond, length, take, get_or, slice_get, ap, sym, refl, subst, append_assoc, append-nil, arith}
+use Rattle.std.proofs.Common.{◌≡◌, ◌∙◌, ◌⊎◌, inl, inr, ℕ, ◌+◌, ◌<◌, ◌≤◌, List, [], ◌∷◌, ◌++◌, Some, Bool, true, false, cond, length, take, get_or, slice_get, ap, sym, refl, subst, append-nil, arith}
 use Rattle.std.specs.List.{concat}
 use Rattle.std.proofs.Math.Seq.{take-append_seam, get_or-append_seam}
 use Rattle.std.proofs.lemmas.Bool.{cases_lt}
@@ -15,7 +15,6 @@ use Rattle.bp_machine.specs.Setups.{SetupOf}
 use Rattle.bp_machine.proofs.HistoryWithCall.{granted_threads-append}
 use Rattle.bp_view.specs.declared.settings.Widths.{Widths}
 use Rattle.bp_view.specs.declared.options.ViewOptions.{ViewOptions}
-use Rattle.bp_view.specs.Lines.{Adds}
 use Rattle.bp_view.specs.Views.{IsShownLine, AreLines}
 
 last-append : (ts : List ℕ) (i : ℕ) → last_thread (ts ++ i ∷ []) ≡ Some i
@@ -72,17 +71,10 @@ module _ (t : Program) (text : List ℕ) (s : SetupOf) (o : ViewOptions) (w : Wi
             let of_line = subst (λ z. Shown h x z) (one_last are.each line k l f (same ∙ sym are.count_is)) is in
             subst (λ g. Shown g y l) (sym front) (subst (λ z. Shown h z l) (one_last h x k y e same) of_line)
 
-    lines_then : AreLines t text s o w count (h ++ x ∷ []) (lines ++ line)
+    pub lines_then : AreLines t text s o w count (h ++ x ∷ []) (lines ++ line)
     lines_then = record {
       each = are.each ++ line ∷ [];
       count_is = omega (arith, are.count_is, length-append are.each (line ∷ []), length-append h (x ∷ []));
       is = ap (λ z. z ++ line) are.is ∙ ap (λ z. concat are.each ++ z) (sym (append-nil line)) ∙ sym (concat-append are.each (line ∷ []));
       shown = shown_then;
     }
-
-  pub one_more : (h : List Call) (x : Call) (a b c : List ℕ) → Adds (AreLines t text s o w count h) a b → Adds (Shown h x) b c → Adds (AreLines t text s o w count (h ++ x ∷ [])) a c
-  one_more h x a b c all one = record {
-    more = all.more ++ one.more;
-    is = one.is ∙ ap (λ y. y ++ one.more) all.is ∙ append_assoc a all.more one.more;
-    more_are = lines_then h all.more all.more_are x one.more one.more_are;
-  }

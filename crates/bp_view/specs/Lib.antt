@@ -14,3 +14,4 @@ pub mod States
 pub mod Statements
 pub mod Views
 pub mod Widths
+pub mod Writing

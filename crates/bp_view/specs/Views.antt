@@ -2,16 +2,20 @@
 use Rattle.std.specs.Prelude.{◌≡◌, ◌==◌, ◌-◌, ◌&&◌, ℕ, suc, Bool, true, false, nat_le, nat_lt, List, [], ◌∷◌, ◌++◌, Option, None, Some, length, map, take, slice_get, unwrap_or}
 use Rattle.std.specs.List.{concat}
 use Rattle.bp_tree.specs.Ast.{Program}
-use Rattle.bp_code.specs.StandsFor.{places_of}
+use Rattle.bp_code.specs.StandsFor.{places_of, StandsFor}
 use Rattle.bp_code.specs.Starts.{starts_of}
 use Rattle.bp_machine.specs.declared.calls.Call.{Call}
 use Rattle.bp_machine.specs.declared.reports.Report.{Report}
 use Rattle.bp_machine.specs.Answers.{stack_of}
 use Rattle.bp_machine.specs.ContextCounts.{last_thread}
 use Rattle.bp_machine.specs.Histories.{configuration_after, granted_threads}
+use Rattle.bp_machine.specs.Sessions.{Stands}
 use Rattle.bp_machine.specs.Setups.{SetupOf}
 use Rattle.bp_trace.specs.declared.replaying.Replayed.{Replayed}
 use Rattle.bp_trace.specs.Replayed.{IsReplayed}
+use Rattle.bp_trace.specs.Replays.{IsReplayRefusal}
+use Rattle.bp_view.specs.declared.faults.ViewFault.{ViewFault}
+use Rattle.bp_view.specs.declared.faults.ViewFault.TheVariants.{Replay}
 use Rattle.bp_view.specs.declared.settings.Widths.{Widths}
 use Rattle.bp_view.specs.declared.writers.ViewWriter.{ViewWriter}
 use Rattle.bp_view.specs.declared.options.ViewFormat.{ViewFormat}
@@ -21,11 +25,12 @@ use Rattle.bp_view.specs.Changes.{changes_text}
 use Rattle.bp_view.specs.Colours.{colour_of}
 use Rattle.bp_view.specs.Heads.{view_head}
 use Rattle.bp_view.specs.JsonCalls.{call_object, printed_by, Next, IsNextOf}
-use Rattle.bp_view.specs.Lines.{line_text, note_text, Adds, Fields, Shown, AreFields, IsShown, IsSettingOf}
+use Rattle.bp_view.specs.Lines.{line_text, note_text, Fields, Shown, AreFields, IsShown}
 use Rattle.bp_view.specs.Outcomes.{IsFoot}
 use Rattle.bp_view.specs.Places.{place_text}
 use Rattle.bp_view.specs.Scenes.{AreStatements}
-use Rattle.bp_view.specs.Widths.{extent, extent_of, AreWidths}
+use Rattle.bp_view.specs.Widths.{extent, AreWidths}
+use Rattle.bp_view.specs.Writing.{IsStopped, IsWritten}
 
 -- calls of thread i are shown
 abbrev pub is_of_thread : Option ℕ → ℕ → Bool
@@ -125,19 +130,22 @@ pub record IsViewOfTrace
   pub view_is : IsView t text replayed.setup replayed.history.items report o view
   pub report_is : report ≡ replayed.report
 
--- A device: the writer has the lines of the calls of a history, after the head, in the setting
--- that it had at first, but for the widths.
-pub record Shows
-    (t : Program) (s : SetupOf) (h : List Call) (first now : ViewWriter) : Type 0 where
-  pub scenes : now.setting.scenes.now ≡ first.setting.scenes.now
-  pub globals : now.setting.globals.now ≡ first.setting.globals.now
-  pub procedures : now.setting.procs.now ≡ first.setting.procs.now
-  pub options : now.setting.options ≡ first.setting.options
-  pub count : now.setting.count ≡ first.setting.count
-  pub widths : AreWidths s (extent_of now.setting) now.setting.widths
-  pub last : now.last ≡ last_thread (granted_threads h)
-  pub made : now.made ≡ length h
-  pub lines : (text : List ℕ)
-      → IsSettingOf t text now.setting
-      → Adds (AreLines t text s now.setting.options now.setting.widths now.setting.count h)
-      (view_head now.setting.options.format now.setting.globals.now s) now.view.items
+-- A view of a trace was to be written; the bytes of the writer are those before and after it.
+module _ (t : Program) (text trace : List ℕ) (o : ViewOptions) (old new : Option (List ℕ)) where
+  -- a view with this report was written
+  abbrev pub IsViewed : Report → Type 0
+  IsViewed report = IsWritten (λ view. IsViewOfTrace t text trace o view report) old new
+
+  -- the trace is refused, and nothing is written; or the view was not written whole
+  abbrev pub IsViewRefusal : ViewFault → Type 0
+  IsViewRefusal (Replay f) = (new ≡ old) × IsReplayRefusal t trace f
+  IsViewRefusal f =
+      IsStopped (λ view. (report : Report) × IsViewOfTrace t text trace o view report) old new f
+
+-- A device: the writer's session stands after a history of the program, and the writer has the
+-- thread of its last step and its length.
+pub record HasMade (t : Program) (h : List Call) (w : ViewWriter) : Type 0 where
+  pub code : StandsFor w.session.code t
+  pub stands : Stands t w.session h
+  pub last : w.last ≡ last_thread (granted_threads h)
+  pub made : w.made ≡ length h

@@ -4,6 +4,7 @@
 mod changes;
 mod colours;
 mod excerpts;
+mod faults;
 mod frames;
 mod heads;
 mod json_calls;
@@ -21,9 +22,9 @@ mod statements;
 mod states;
 mod variables;
 mod views;
-mod watching;
 mod writers;
 
+pub use faults::ViewFault;
 pub use options::{ViewFormat, ViewOptions};
 pub use statements::statement_lines;
 pub use states::state_at;

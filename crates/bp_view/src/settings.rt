@@ -1,7 +1,7 @@
 //! What the lines of a view have in common: the program's scenes and names, and the widths of the
 //! columns.
-ghost use Rattle.std.specs.Prelude.{◌≡◌, ◌<◌, ◌^◌, map, max};
-ghost use Rattle.bp_view.specs.Widths.{extent_of, longest, AreWidths};
+ghost use Rattle.std.specs.Prelude.{◌≡◌, ◌<◌, ◌^◌, length, map, max};
+ghost use Rattle.bp_view.specs.Widths.{extent, extent_of, longest, AreWidths};
 
 use crate::options::ViewOptions;
 use crate::scenes::Scene;
@@ -36,15 +36,6 @@ pub(crate) struct Setting<'a> {
     pub(crate) options: ViewOptions,
 }
 
-/// The widths before the setup is known.
-const NO_WIDTHS: Widths = Widths {
-    number: 0,
-    thread: 0,
-    context: 0,
-    place: 0,
-    words: 0,
-};
-
 /// The length of the longest place that is printed, and 1 at least.
 fn longest_place(scenes: &[Scene]) -> usize
     ensures { result ≡ max 1 (longest (map (λ s. s.place.items) scenes.now)) }
@@ -68,30 +59,34 @@ fn longest_words(scenes: &[Scene]) -> usize
     longest
 }
 
-/// The widths of the columns of a view with this setting, in this setup.
-pub(crate) fn widths_of(setting: &Setting<'_>, setup: &Setup) -> Widths
-    ensures { AreWidths setup.now (extent_of setting.now) result }
+/// The widths of the columns of a view of `count` calls in this setup.
+fn widths_of(scenes: &[Scene], procs: &[Proc], count: u64, setup: &Setup) -> Widths
+    ensures { let places = map (λ s. s.place.items) scenes.now in
+        let statements = map (λ s. s.excerpt.words.items) scenes.now in
+        AreWidths setup.now (extent count places statements (length procs.now)) result }
 {
-    let indents = 2 * setting.procs.len().min(MAX_INDENTS);
+    let indents = 2 * procs.len().min(MAX_INDENTS);
     Widths {
-        number: digits(setting.count),
+        number: digits(count),
         thread: digits(u64::from(setup.threads())),
         context: digits(u64::from(setup.contexts())),
-        place: longest_place(setting.scenes),
-        words: longest_words(setting.scenes) + indents,
+        place: longest_place(scenes),
+        words: longest_words(scenes) + indents,
     }
 }
 
-/// The setting of a view of `count` calls, before the setup is known.
+/// The setting of a view of `count` calls in this setup.
 pub(crate) fn setting_of<'a>(
     scenes: &'a [Scene],
     checked: &'a Checked,
+    setup: &Setup,
     count: u64,
     options: ViewOptions,
 ) -> Setting<'a>
     ensures scenes { result.scenes.now ≡ scenes.now }
     ensures globals { result.globals.now ≡ checked.now.globals }
     ensures procedures { result.procs.now ≡ checked.now.procedures }
+    ensures widths { AreWidths setup.now (extent_of result) result.widths }
     ensures count { result.count ≡ count }
     ensures options { result.options ≡ options }
 {
@@ -100,7 +95,7 @@ pub(crate) fn setting_of<'a>(
         scenes,
         globals: tree.globals(),
         procs: tree.procs(),
-        widths: NO_WIDTHS,
+        widths: widths_of(scenes, tree.procs(), count, setup),
         count,
         options,
     }

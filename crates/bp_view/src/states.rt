@@ -323,7 +323,8 @@ pub fn state_at(
     let Ok(session) = session_after(alloc, code, &replayed.setup, calls) else {
         return Err(ReplayFault::Memory);
     };
-    let setting = setting_of(scenes.as_slice(), checked, 0, ViewOptions::all(format));
-    let state = state_of(alloc, &setting, &session, history.len() as u64)?;
+    let (count, options) = (history.len() as u64, ViewOptions::all(format));
+    let setting = setting_of(scenes.as_slice(), checked, &replayed.setup, count, options);
+    let state = state_of(alloc, &setting, &session, count)?;
     Ok((state, replayed.report))
 }

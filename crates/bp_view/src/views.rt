@@ -1,59 +1,120 @@
 //! The view of a trace.
-ghost use Rattle.std.specs.Prelude.{MatchResult};
+ghost use Rattle.std.specs.Prelude.{◌≡◌, MatchResult};
 ghost use Rattle.bp_code.specs.StandsFor.{StandsFor};
-ghost use Rattle.bp_trace.specs.Replays.{IsReplayRefusal};
-ghost use Rattle.bp_view.specs.Views.{IsViewOfTrace};
+ghost use Rattle.bp_machine.specs.Reports.{IsReport};
+ghost use Rattle.bp_machine.specs.Setups.{FitsCode};
+ghost use Rattle.bp_trace.specs.Replays.{IsPlayable};
+ghost use Rattle.bp_view.specs.Scenes.{AreScenes};
+ghost use Rattle.bp_view.specs.Views.{IsView, IsViewRefusal, IsViewed};
+ghost use Rattle.bp_view.specs.Writing.{IsStopped, IsWritten};
 
+use crate::faults::ViewFault;
+use crate::heads::head_of;
 use crate::options::ViewOptions;
 use crate::outcomes::foot_of;
-use crate::scenes::scenes_of;
+use crate::scenes::{Scene, scenes_of};
 use crate::settings::setting_of;
 use crate::writers::ViewWriter;
 use bp_check::Checked;
 use bp_code::Code;
-use bp_machine::Report;
-use bp_text::push_bytes;
+use bp_machine::{AskFault, Report, Session};
+use bp_text::put;
 use bp_trace::limits::MAX_TRACE;
-use bp_trace::{ReplayFault, Watched, calls_at_end, replay_watched};
+use bp_trace::{ReplayFault, Replayed, replay};
 use std::alloc::Global;
+use std::io::Write;
 
-/// A view of the history of a trace of a program, and its report. The view has the setup, a line
-/// for each call that is shown, and the foot. A text that is no trace of the program is refused as
-/// `replay` refuses it. The trace is played once, and the view is written meanwhile.
-pub fn view(
+/// The fault of a view whose session was refused a call for memory.
+fn memory_of(fault: AskFault) -> ViewFault
+    requires { fault ≡ AskFault.Memory }
+    ensures { result ≡ ViewFault.Memory }
+{
+    let _ = fault;
+    ViewFault::Memory
+}
+
+/// Writes the view of a trace that was replayed: the head, the line of each call that is shown, and
+/// the foot. A session plays the history once more, and each line is written before the next call.
+fn write_view<W: Write>(
+    alloc: Global,
+    text: &[u8],
+    checked: &Checked,
+    code: &Code,
+    scenes: &[Scene],
+    replayed: &Replayed,
+    options: ViewOptions,
+    out: &mut W,
+) -> Result<(), ViewFault>
+    requires code { StandsFor code.now checked.now }
+    requires fits { FitsCode code.now replayed.now.setup }
+    requires scenes { AreScenes text.now checked.now scenes.now }
+    requires playable { IsPlayable checked.now replayed.now.setup replayed.now.history.items }
+    requires report { IsReport replayed.now.setup replayed.now.history.items replayed.now.report }
+    ensures { let r = replayed.now in
+        let is_view = IsView checked.now text.now r.setup r.history.items r.report options in
+        MatchResult result
+        (λ _. IsWritten is_view (W.contents out.old) (W.contents out.new))
+        (IsStopped is_view (W.contents out.old) (W.contents out.new)) }
+{
+    let history = replayed.history.as_slice();
+    let count = history.len() as u64;
+    let setting = setting_of(scenes, checked, &replayed.setup, count, options);
+    let format = setting.options.format;
+    let head = head_of(alloc, format, &replayed.setup, setting.globals)?;
+    let session = Session::new(alloc, code, &replayed.setup)?;
+    let mut writer = ViewWriter {
+        setting,
+        session,
+        line: Vec::new(alloc),
+        note: Vec::new(alloc),
+        last: None,
+        made: 0,
+    };
+    put(out, &head)?;
+    for recorded in history {
+        if let Err(fault) = writer.make_line(recorded) {
+            return Err(memory_of(fault));
+        }
+        put(out, &writer.line)?;
+    }
+    let foot = foot_of(
+        alloc,
+        &writer.setting,
+        text,
+        &writer.session,
+        replayed.report,
+    )?;
+    put(out, &foot)?;
+    Ok(())
+}
+
+/// Writes a view of the history of a trace of a program, and answers its report. The view has the
+/// setup, a line for each call that is shown, and the foot. A text that is no trace of the program
+/// is refused as `replay` refuses it, and nothing is written. The lines are written as they are
+/// made, after the trace was replayed.
+pub fn view<W: Write>(
     alloc: Global,
     text: &[u8],
     checked: &Checked,
     code: &Code,
     trace: &[u8],
     options: ViewOptions,
-) -> Result<(Vec<u8>, Report), ReplayFault>
+    out: &mut W,
+) -> Result<Report, ViewFault>
     requires { StandsFor code.now checked.now }
-    ensures { MatchResult result
-        (λ p. IsViewOfTrace checked.now text.now trace.now options p.0.items p.1)
-        (IsReplayRefusal checked.now trace.now) }
+    ensures { let old = W.contents out.old in
+        let new = W.contents out.new in
+        MatchResult result
+        (IsViewed checked.now text.now trace.now options old new)
+        (IsViewRefusal checked.now text.now trace.now options old new) }
 {
     if trace.len() > MAX_TRACE {
-        return Err(ReplayFault::TooLong);
+        return Err(ViewFault::Replay(ReplayFault::TooLong));
     }
-    let scenes = scenes_of(alloc, text, checked)?;
-    // The width of a number is that of the greatest, which is read before the calls are played.
-    let count = calls_at_end(trace);
-    let writer = ViewWriter {
-        view: Vec::new(alloc),
-        note: Vec::new(alloc),
-        setting: setting_of(scenes.as_slice(), checked, count, options),
-        last: None,
-        made: 0,
+    let Ok(scenes) = scenes_of(alloc, text, checked) else {
+        return Err(ViewFault::Replay(ReplayFault::Memory));
     };
-    let Watched {
-        replayed,
-        session,
-        watcher,
-    } = replay_watched(alloc, code, trace, writer)?;
-    replayed.setup.is_in_range();
-    let foot = foot_of(alloc, &watcher.setting, text, &session, replayed.report)?;
-    let mut view = watcher.view;
-    push_bytes(&mut view, &foot)?;
-    Ok((view, replayed.report))
+    let replayed = replay(alloc, code, trace)?;
+    write_view(alloc, text, checked, code, &scenes, &replayed, options, out)?;
+    Ok(replayed.report)
 }

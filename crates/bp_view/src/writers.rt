@@ -1,16 +1,72 @@
-//! A view that is being written.
+//! The lines of a view, each made by a session that plays the history once more.
+ghost use Rattle.std.specs.Prelude.{◌≡◌, ◌++◌, ◌∷◌, [], ℕ, List, OnOk, IfErr};
+ghost use Rattle.bp_tree.specs.Ast.{Program};
+ghost use Rattle.bp_machine.specs.declared.calls.Call.{Call as Answered};
+ghost use Rattle.bp_trace.specs.Replays.{IsPlayable};
+ghost use Rattle.bp_view.specs.Lines.{IsSettingOf};
 
+use crate::moments::{last_step, moment_of, next_print, printed_by};
 use crate::settings::Setting;
+use crate::shown::push_shown;
+use bp_machine::{AskFault, Call, Session};
 
-/// A view so far.
+/// Who makes the lines of a view, one for each call of its history.
 #[derive(Drop)]
 pub(crate) struct ViewWriter<'a> {
-    pub(crate) view: Vec<u8>,
+    pub(crate) setting: Setting<'a>,
+    /// It stands after the calls that were made.
+    pub(crate) session: Session,
+    /// The line of the last of them, or nothing where it is not shown.
+    pub(crate) line: Vec<u8>,
     /// Room for a call's note.
     pub(crate) note: Vec<u8>,
-    pub(crate) setting: Setting<'a>,
     /// The thread of the last step.
     pub(crate) last: Option<u32>,
-    /// How many calls there were.
+    /// How many calls were made.
     pub(crate) made: u64,
+}
+
+impl ViewWriter<'_> {
+    ghost use Rattle.bp_view.specs.Views.{HasMade, IsShownLine};
+
+    /// Makes the next call of the history, which is the recorded one, and its line. Of a history
+    /// that may be played no call is refused, unless for memory.
+    pub(crate) fn make_line(&mut self, recorded: &Call) -> Result<(), AskFault>
+        ensures made { (t : Program) (h : List Answered)
+            → HasMade t h self.old
+            → IsPlayable t self.old.session.setup (h ++ recorded.now ∷ [])
+            → OnOk result (HasMade t (h ++ recorded.now ∷ []) self.new) }
+        ensures line { (t : Program) (text : List ℕ) (h : List Answered)
+            → HasMade t h self.old
+            → IsPlayable t self.old.session.setup (h ++ recorded.now ∷ [])
+            → IsSettingOf t text self.old.setting
+            → let s = self.old.session.setup in
+            let x = self.old.setting in
+            OnOk result
+            (IsShownLine t text s x.options x.widths x.count h recorded.now self.new.line.items) }
+        ensures memory { (t : Program) (h : List Answered)
+            → HasMade t h self.old
+            → IsPlayable t self.old.session.setup (h ++ recorded.now ∷ [])
+            → IfErr result (λ f. f ≡ AskFault.Memory) }
+        ensures kept { (self.new.session.setup ≡ self.old.session.setup)
+            × (self.new.setting ≡ self.old.setting) }
+    {
+        self.session.setup().is_in_range();
+        let number = self.made.saturating_add(1);
+        let format = self.setting.options.format;
+        let next = next_print(&self.session, format, recorded.thread)?;
+        let moment = moment_of(&mut self.session, self.last, number, recorded)?;
+        let printed = printed_by(next.as_deref(), moment.call.reply);
+        self.line.clear();
+        push_shown(
+            &mut self.line,
+            &mut self.note,
+            &self.setting,
+            &moment,
+            printed,
+        )?;
+        self.last = last_step(self.last, &moment.call);
+        self.made = number;
+        Ok(())
+    }
 }

@@ -4,7 +4,8 @@ use super::{
     said_of_pair, said_of_program, said_of_room,
 };
 use crate::devices::Short;
-use bp_commands::{Check, Code, Drive, Migrate, PairCommand, ProgramCommand, Shrink};
+use crate::view::{ALL, TEXT, TRACE, VIEW};
+use bp_commands::{Check, Code, Drive, Migrate, PairCommand, ProgramCommand, Show, Shrink};
 use std::alloc::{AllocError, Global};
 
 /// A writer with room for `room` bytes.
@@ -70,6 +71,16 @@ fn writes_a_prefix_of_a_driven_trace(rt: HostRuntime) -> Result<(), AllocError> 
 fn writes_a_prefix_of_a_migrated_trace(rt: HostRuntime) {
     for room in 0..=RACE_TRACE_2.len() {
         assert!(rt; writes_a_trace(rt.alloc(), &Migrate, RACE_TRACE, room, RACE_TRACE_2));
+    }
+}
+
+#[test]
+fn writes_a_prefix_of_a_view(rt: HostRuntime) {
+    let show = Show { options: ALL };
+    for room in 0..=VIEW.len() {
+        let mut out = short(rt.alloc(), room);
+        let said = said_of_pair(rt.alloc(), &show, TEXT, TRACE, &mut out);
+        assert!(rt; has_front(&out, said, VIEW));
     }
 }
 

@@ -33,7 +33,7 @@ returns c =
     } in
     let code = subst (λ k. StandsFor k t) (sym c.in-Ok.ensures.kept.0) c.requires in
     let own = c.in_ok-state.ensures t text calls known code (c.in-Ok.ensures.stands t c.requires) in
-    let format = ap (λ (o : ViewOptions). o.format) c.setting_of-setting.ensures.options ∙ c.all.ensures in
+    let format = ap (λ (o : ViewOptions). o.format) c.setting_of-setting.ensures.options ∙ c.all-options.ensures in
     let written = subst (λ f. IsStateText f t text x.setup calls (length all) said) format own in
     let there = subst (λ s. IsStateText c.args.format t text s calls (length all) said) c.in-Ok.ensures.kept.1 written in
     let first = subst (λ h. IsStateText c.args.format t text r.setup h (length all) said) (c.first_calls-calls.ensures ∙ ap (take c.args.number) c.as_slice-history.ensures.value) there in

@@ -1,0 +1,148 @@
+-- Each history of a program has a view, and what was written of one goes on to a whole one.
+use Rattle.std.proofs.Common.{◌≡◌, ℕ, suc, Bool, true, false, List, [], ◌∷◌, ◌++◌, Option, None, Some, length, drop, ap, sym, refl, subst, append_assoc, append-nil}
+use Rattle.std.specs.Prelude.{option_map}
+use Rattle.bp_tree.specs.Ast.{Program}
+use Rattle.bp_code.specs.Configurations.{Frame}
+use Rattle.bp_code.specs.Flat.{Flat}
+use Rattle.bp_code.specs.Moves.{frame_store}
+use Rattle.bp_code.specs.StandsFor.{StandsFor, place, places_of}
+use Rattle.bp_code.specs.Starts.{start_of_block}
+use Rattle.bp_machine.specs.declared.calls.Call.{Call}
+use Rattle.bp_machine.specs.declared.reports.Outcome.{Outcome}
+use Rattle.bp_machine.specs.declared.reports.Outcome.TheVariants.{Clean, Failed}
+use Rattle.bp_machine.specs.declared.reports.Report.{Report}
+use Rattle.bp_machine.specs.Answers.{stack_of}
+use Rattle.bp_machine.specs.Histories.{configuration_after, granted_threads, IsLegal}
+use Rattle.bp_machine.specs.Replies.{is_granted}
+use Rattle.bp_machine.specs.Reports.{outcome_of, IsRealFailure}
+use Rattle.bp_machine.specs.Setups.{SetupOf}
+use Rattle.bp_machine.proofs.ContextCounts.{opened, opened_least}
+use Rattle.bp_machine.proofs.RealFailures.{real}
+use Rattle.bp_text.specs.Positions.{position_at}
+use Rattle.bp_view.specs.declared.options.ViewFormat.{ViewFormat}
+use Rattle.bp_view.specs.declared.options.ViewFormat.TheVariants.{Columns, Json}
+use Rattle.bp_view.specs.declared.options.ViewOptions.{ViewOptions}
+use Rattle.bp_view.specs.declared.scenes.Scene.{Scene}
+use Rattle.bp_view.specs.declared.settings.Widths.{Widths}
+use Rattle.bp_view.specs.Colours.{colour_of}
+use Rattle.bp_view.specs.JsonCalls.{call_object, nothing_next, printed_by, IsNextOf, Next}
+use Rattle.bp_view.specs.Lines.{indented, is_switch, line_text, note_text, start_on_stack, AreFields, Fields, IsContext, IsShown, Shown}
+use Rattle.bp_view.specs.Outcomes.{assertion_in, clean_in, failure_in, foot_text, named_values, IsAssertionText, IsFoot, IsOutcomeText}
+use Rattle.bp_view.specs.Places.{place_text}
+use Rattle.bp_view.specs.Scenes.{AreScenes, IsStatementAt}
+use Rattle.bp_view.specs.Statements.{shortened, words_after, IsStatement}
+use Rattle.bp_view.specs.Views.{changes_of, is_shown, AreLines, IsShownLine, IsViewLine, IsViewLineIf}
+use Rattle.bp_view.proofs.LinesOfCalls.{lines_then}
+use Rattle.bp_view.proofs.PlacedStacks.{stack_placed, ArePlaced, IsPlaced}
+use Rattle.bp_view.proofs.SceneLists.{scene_at, SceneAt}
+
+module _ (c : Flat) (t : Program) (code : StandsFor c t) (text : List ℕ) (scenes : List Scene) (are : AreScenes text t scenes) (s : SetupOf) where
+  -- the scene of a frame
+  scene_of : (f : Frame) → IsPlaced t f → (n : ℕ) × SceneAt text t.procedures (place f.procedure f.left) scenes n
+  scene_of f placed = (placed.number, scene_at text t.procedures (places_of t.procedures) scenes placed.number (place f.procedure f.left) are placed.at)
+
+  some_shown : (stack : List Frame) → ArePlaced t stack → (shown : Shown) × IsShown text stack shown
+  some_shown [] placed = (record { text = []; reads = false }, (refl, refl))
+  some_shown (f ∷ fs) (here, below) =
+      let (n, found) = scene_of f here in
+      let words = found.scene.excerpt.words.items in (
+        record { text = indented (length (f ∷ fs)) words; reads = found.scene.excerpt.reads_choice },
+        record { words = words; text_is = refl; words_are = found.is.statement; one_line = found.is.words },
+      )
+
+  some_next : (stack : List Frame) → ArePlaced t stack → (next : Next) × IsNextOf text stack next
+  some_next [] placed = (nothing_next, refl)
+  some_next (f ∷ fs) (here, below) =
+      let (n, found) = scene_of f here in
+      let words = found.scene.excerpt.words.items in (
+        record {
+          position = option_map (position_at text) (start_of_block f.left);
+          procedure = Some f.procedure.name.text;
+          depth = length (f ∷ fs);
+          words = Some words;
+          reads = found.scene.excerpt.reads_choice;
+        },
+        record { position = refl; procedure = refl; depth_is = refl; words = words; said = refl; words_are = found.is.statement },
+      )
+
+  some_context : (h : List Call) (x : Call) (b : Bool) → is_granted x.reply ≡ b → (n : Option ℕ) × IsContext h x n
+  some_context h x true granted = (Some (opened None (granted_threads (h ++ x ∷ []))), (granted, opened_least (granted_threads (h ++ x ∷ []))))
+  some_context h x false none = (None, none)
+
+  some_fields : (h : List Call) (x : Call) → (f : Fields) × AreFields t text s h x f
+  some_fields h x =
+      let (n, is) = some_context h x (is_granted x.reply) refl in (
+        record {
+          number = suc (length h);
+          thread = x.thread;
+          context = n;
+          switch = is_switch h x;
+          place = place_text text (start_on_stack (stack_of (configuration_after t s h) x.thread));
+        },
+        record { number = refl; thread = refl; context = is; switch = refl; place = refl },
+      )
+
+  module _ (o : ViewOptions) (w : Widths) (count : ℕ) where
+    view_line : (h : List Call) (x : Call) (format : ViewFormat) → (line : List ℕ) × IsViewLine t text s o w count format h x line
+    view_line h x Columns =
+        let (fields, fields_are) = some_fields h x in
+        let (shown, shown_is) = some_shown (stack_of (configuration_after t s h) x.thread) (stack_placed c t code s h x.thread) in
+        let colour = colour_of o.has_colour x.reply fields.switch in (
+          line_text w colour fields shown (note_text shown.reads x (changes_of t text s o w count h x)),
+          record { fields = fields; fields_are = fields_are; shown = shown; shown_is = shown_is; is = refl },
+        )
+    view_line h x Json =
+        let (fields, fields_are) = some_fields h x in
+        let (next, next_is) = some_next (stack_of (configuration_after t s h) x.thread) (stack_placed c t code s h x.thread) in (
+          call_object fields next x (changes_of t text s o w count h x) (printed_by (configuration_after t s h) x),
+          record { fields = fields; fields_are = fields_are; next = next; next_is = next_is; is = refl },
+        )
+
+    shown_line : (h : List Call) (x : Call) → (line : List ℕ) × IsShownLine t text s o w count h x line
+    shown_line h x = by_shown (is_shown o count (suc (length h)) x.thread)
+      where
+        by_shown : (b : Bool) → (line : List ℕ) × IsViewLineIf t text s o w count b h x line
+        by_shown true = view_line h x o.format
+        by_shown false = ([], refl)
+
+    -- the lines of a front of a history go on to those of all of it
+    pub lines_go_on : (g h : List Call) (lines : List ℕ) → AreLines t text s o w count g lines
+        → (more : List ℕ) × AreLines t text s o w count (g ++ h) (lines ++ more)
+    lines_go_on g [] lines is =
+        ([], subst (λ k. AreLines t text s o w count k (lines ++ [])) (sym (append-nil g)) (subst (AreLines t text s o w count g) (sym (append-nil lines)) is))
+    lines_go_on g (x ∷ xs) lines is =
+        let (line, line_is) = shown_line g x in
+        let next = lines_then t text s o w count g lines is x line line_is in
+        let (more, are_more) = lines_go_on (g ++ x ∷ []) xs (lines ++ line) next in (
+          line ++ more,
+          subst (λ k. AreLines t text s o w count k (lines ++ (line ++ more))) (append_assoc g (x ∷ []) xs)
+              (subst (AreLines t text s o w count ((g ++ x ∷ []) ++ xs)) (append_assoc lines line more) are_more),
+        )
+
+  module _ (format : ViewFormat) where
+    some_assertion : (h : List Call) (i : ℕ) → IsRealFailure t s h i → (said : List ℕ) × IsAssertionText format t text s h i said
+    some_assertion h i failure =
+        let frame = failure.stands.frame in
+        let before = configuration_after t s failure.before in
+        let placed : ArePlaced t (frame ∷ failure.stands.below) = subst (ArePlaced t) failure.stands.stack (stack_placed c t code s failure.before i) in
+        let (n, found) = scene_of frame placed.0 in
+        let words = found.scene.excerpt.words.items in
+        let begins : start_of_block frame.left ≡ Some failure.stands.at = ap start_of_block failure.stands.asserts in
+        let own : IsStatement (drop failure.stands.at text) words found.scene.excerpt.reads_choice =
+        subst (λ at. IsStatementAt text frame.procedure at words found.scene.excerpt.reads_choice) begins found.is.statement
+        in (
+          assertion_in format (position_at text failure.stands.at) (shortened (words_after false own.lexemes))
+              (named_values format frame.procedure (frame_store before.globals frame) own.lexemes),
+          record { failure = failure; lexemes = own.lexemes; lexemes_are = own.lexemes_are; is = refl },
+        )
+
+    some_outcome : (h : List Call) → IsLegal t s h → (outcome : Outcome) → outcome ≡ outcome_of h → (said : List ℕ) × IsOutcomeText format t text s h outcome said
+    some_outcome h legal Clean is = (clean_in format, refl)
+    some_outcome h legal (Failed i) is =
+        let (said, said_is) = some_assertion h i (real t s h i legal (sym is)) in
+        (failure_in format i said, (said, refl, said_is))
+
+    pub some_foot : (h : List Call) → IsLegal t s h → (r : Report) → r.outcome ≡ outcome_of h → (foot : List ℕ) × IsFoot format t text s h r foot
+    some_foot h legal r is =
+        let (said, said_is) = some_outcome h legal r.outcome is in
+        (foot_text format r said, record { outcome = said; is = refl; outcome_is = said_is })

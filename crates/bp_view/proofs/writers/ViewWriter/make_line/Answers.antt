@@ -1,0 +1,63 @@
+use Rattle.std.specs.Prelude.{option_map}
+use Rattle.std.proofs.Common.{if◌then◌else◌, None, ap, ◌≡◌, ◌∙◌, ◌++◌, ◌∷◌, [], suc, length, arith, length-append, subst, sym}
+use Rattle.std.proofs.lemmas.Result.{err_from_is_err_and}
+use Rattle.bp_code.specs.StandsFor.{StandsFor}
+use Rattle.bp_machine.specs.ContextCounts.{last_thread}
+use Rattle.bp_machine.specs.Sessions.{Stands}
+use Rattle.bp_machine.specs.Histories.{configuration_after, granted_threads}
+use Rattle.bp_machine.specs.Replies.{is_granted}
+use Rattle.bp_trace.proofs.PlayableFronts.{own_is}
+use Rattle.bp_view.specs.JsonCalls.{IsNextPrintIn}
+use Rattle.bp_view.specs.Views.{IsShownLine}
+use Rattle.bp_view.proofs.PrintedValues.{printed_in}
+use Rattle.bp_view.proofs.RecordedCalls.{next_number, own_refused, print_refused}
+use Rattle.bp_view.proofs.writers.ViewWriter.make_line.Goals as goal
+
+pub returns-clause-made : goal.returns-clause-made
+returns-clause-made c = λ t h has playable.
+    let s = c.args.self.now.session.setup in
+    let x = c.args.recorded.now in
+    let moment = c.in_ok-moment.moment in
+    let own = own_is t s h x [] playable moment.call (c.in_ok-moment.ensures.answer t h has.code has.stands) in
+    let few = next_number t s h has.stands.state.legal (rw c.setup.ensures at c.is_in_range.ensures) in
+    record {
+      code = subst (λ k. StandsFor k t) (sym c.in_ok-moment.ensures.kept.0) has.code;
+      stands = subst (λ y. Stands t c.moment_of.new.session (h ++ y ∷ [])) own (c.in_ok-moment.ensures.stands t h has.code has.stands);
+      last = c.last_step-self.ensures h has.last ∙ ap (λ y. last_thread (granted_threads (h ++ y ∷ []))) own;
+      made = omega (arith, c.saturating_add-number.ensures, has.made, few, length-append h (x ∷ []));
+    }
+
+pub returns-clause-line : goal.returns-clause-line
+returns-clause-line c = λ t text h has playable known.
+    let s = c.args.self.now.session.setup in
+    let x = c.args.recorded.now in
+    let setting = c.args.self.now.setting in
+    let y = c.in_ok-moment.moment.call in
+    let answer = c.in_ok-moment.ensures.answer t h has.code has.stands in
+    let own = own_is t s h x [] playable y answer in
+    let few = next_number t s h has.stands.state.legal (rw c.setup.ensures at c.is_in_range.ensures) in
+    let number : c.saturating_add-number.result ≡ suc (length h) = omega (arith, c.saturating_add-number.ensures, has.made, few) in
+    let moment = c.in_ok-moment.ensures.is t h has.code has.stands has.last number in
+    let now = configuration_after t s h in
+    let next = c.in_ok-next.ensures t h has.code has.stands in
+    let values = option_map (λ v. v.items) c.in_ok-next.next in
+    let thread = answer.thread in
+    let own_next = subst (λ i. IsNextPrintIn setting.options.format now i values) (sym thread) next in
+    let is = c.printed_by-printed.ensures ∙ ap (λ o. if is_granted y.reply then o else None) c.as_deref.ensures.value in
+    let printed = printed_in setting.options.format now y (option_map (λ v. v.now) c.printed_by-printed.result) values own_next is in
+    let shown = c.in_ok-push_shown.ensures t text s h y known moment printed in
+    let line = shown.is ∙ ap (λ old. old ++ shown.more) c.clear.ensures.items in
+    subst (λ l. IsShownLine t text s setting.options setting.widths setting.count h x l) (sym line)
+    (subst (λ z. IsShownLine t text s setting.options setting.widths setting.count h z shown.more) own shown.more_are)
+
+pub returns-in_err-next-clause-memory : goal.returns-in_err-next-clause-memory
+returns-in_err-next-clause-memory c = λ t h has playable.
+    let p = err_from_is_err_and c.from_residual.result c.from_residual.ensures.1 in
+    let s = c.args.self.now.session.setup in
+    rw (p.1, p.2) (print_refused t s h c.args.recorded.now playable _ c.in_err-next.field-0.0 (c.in_err-next.ensures t h has.code has.stands))
+
+pub returns-in_err-moment-clause-memory : goal.returns-in_err-moment-clause-memory
+returns-in_err-moment-clause-memory c = λ t h has playable.
+    let p = err_from_is_err_and c.from_residual-in_err-moment.result c.from_residual-in_err-moment.ensures.1 in
+    let s = c.args.self.now.session.setup in
+    rw (p.1, p.2) (own_refused t s h c.args.recorded.now playable c.in_err-moment.field-0.0 (c.in_err-moment.ensures.answer t h has.code has.stands))
