@@ -4,11 +4,12 @@ use super::ready::{PROGRAM, entries, output};
 use super::{tell, wants};
 use crate::view::ALL;
 use bp_commands::{
-    Check, Code, Drive, Fault, Migrate, PairCommand, Replay, Show, Shrink, Source, do_on_pair,
-    do_on_program, drive_bundle, run_program,
+    Check, Code, Drive, Fault, Migrate, PairCommand, Replay, Show, ShowState, Shrink, Source,
+    do_on_pair, do_on_program, drive_bundle, run_program,
 };
 use bp_machine::Start;
 use bp_run::{Open, RunOptions};
+use bp_view::ViewFormat;
 use std::alloc::{AllocError, Global};
 use std::sync::Wait;
 use std::test::Fail;
@@ -24,6 +25,7 @@ enum Command {
     Drive,
     Replay,
     Show,
+    State,
     Migrate,
 }
 
@@ -34,6 +36,12 @@ const SCHEDULE: &[u8] = b"0 1\n0 1\n0 0\n0 0\n";
 
 const TRACE: &[u8] = b"btrace 1\nentry main\ninit 00\ncontexts 2\ncalls 1000\nseed none\n\
     0 1 s\n0 1 s\n0 0 s\n0 0 s\nend 4 1\n";
+
+/// The state after the last call of the trace.
+const STATE: ShowState = ShowState {
+    number: 4,
+    format: ViewFormat::Columns,
+};
 
 /// A failure in a frame that a call took.
 const FAILS: &[u8] = b"decl x; main() begin x := 1; f(x); end f(a) begin skip; assert (!a); end";
@@ -71,6 +79,7 @@ fn number(alloc: Global, command: Command, start: &Start, out: &mut Vec<u8>) -> 
         Command::Drive => number_of_pair(alloc, &Drive { start }, SCHEDULE, out),
         Command::Replay => number_of_pair(alloc, &Replay, TRACE, out),
         Command::Show => number_of_pair(alloc, &Show { options: ALL }, TRACE, out),
+        Command::State => number_of_pair(alloc, &STATE, TRACE, out),
         Command::Migrate => number_of_pair(alloc, &Migrate, TRACE, out),
     }
 }
@@ -144,6 +153,14 @@ fn shows(alloc: Global, end: &[u8]) -> Result<bool, Fail> {
 #[test]
 fn show_a_trace(rt: HostRuntime) -> Result<(), Fail> {
     tell(&rt, shows(rt.alloc(), b"no assertion failed\n")?)
+}
+
+#[test]
+fn show_a_state(rt: HostRuntime) -> Result<(), Fail> {
+    tell(
+        &rt,
+        writes(rt.alloc(), Command::State, b"\nvalues main.h=1\n")?,
+    )
 }
 
 #[test]

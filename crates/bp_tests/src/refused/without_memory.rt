@@ -95,6 +95,14 @@ fn stands_after_a_step(session: &Session) -> bool {
         && report.outcome == Outcome::Clean
 }
 
+/// Whether the session tells that its threads go on at one frame each, and the globals.
+fn tells_frames(session: &Session) -> bool {
+    session.globals() == 0
+        && !session.waits(0)
+        && session.top(1).is_some()
+        && session.top_below(1, 1).is_none()
+}
+
 #[test]
 fn sessions(rt: HostRuntime) -> Result<(), Fail> {
     let alloc = rt.alloc();
@@ -105,7 +113,8 @@ fn sessions(rt: HostRuntime) -> Result<(), Fail> {
     begin(&rt)?;
     session.commit(&call);
     wants(*session.code() == code && *session.setup() == setup)?;
-    wants(stands_after_a_step(&session) && open_lines(&setup, &[call]) == 2)
+    wants(stands_after_a_step(&session) && tells_frames(&session))?;
+    wants(open_lines(&setup, &[call]) == 2)
 }
 
 /// Makes a turn of two calls at a board of one thread, takes one of them, gathers the board, and
