@@ -1,5 +1,5 @@
 -- The commands on a trace of a program: `replay`, `migrate`, `show` and `show --at`.
-use Rattle.std.specs.Prelude.{◌≡◌, ◌⊎◌, ◌++◌, ℕ, List, length, take}
+use Rattle.std.specs.Prelude.{◌≡◌, ◌⊎◌, ◌++◌, ℕ, List, Option, None, Some, length, take}
 use Rattle.bp_tree.specs.Ast.{Program}
 use Rattle.bp_code.specs.LawfulTexts.{IsLawfulText}
 use Rattle.bp_machine.specs.declared.calls.Call.{Call}
@@ -108,3 +108,8 @@ shows o = record (on_trace (IsViewText o)) { Spoils = IsBegun (IsViewText o) }
 -- it writes the state after n calls of the history
 abbrev pub states : ViewFormat → ℕ → Command Pair Report
 states format n = on_trace (IsStateOf format n)
+
+-- the one or the other: the state after so many calls where a number is asked for
+abbrev pub shows_or_states : ViewOptions → Option ℕ → Command Pair Report
+shows_or_states o None = shows o
+shows_or_states o (Some n) = states o.format n

@@ -2,19 +2,17 @@
 use Rattle.std.specs.Prelude.{if◌then◌else◌, ℕ, Bool, true, false, List, Option, None, Some}
 use Rattle.bp_commands.specs.Bundles.{bundles}
 use Rattle.bp_commands.specs.Checks.{checks}
-use Rattle.bp_commands.specs.Commands.{Command}
 use Rattle.bp_commands.specs.Drives.{drives}
 use Rattle.bp_commands.specs.declared.explanations.Beside.TheVariants.{Schedule, Trace}
 use Rattle.bp_commands.specs.Ends.{never, of_report}
 use Rattle.bp_commands.specs.Explanations.{ExplainsPair, ExplainsText}
 use Rattle.bp_commands.specs.Files.{pair_of_files, IsRun}
-use Rattle.bp_commands.specs.Given.{bundle_alone, text_alone, Pair}
+use Rattle.bp_commands.specs.Given.{bundle_alone, text_alone}
 use Rattle.bp_commands.specs.Listings.{lists}
 use Rattle.bp_commands.specs.Runs.{runs}
 use Rattle.bp_commands.specs.Shrinks.{shrinks}
 use Rattle.bp_commands.specs.Tests.{of_test, tests}
-use Rattle.bp_commands.specs.Traces.{migrates, replays, shows, states}
-use Rattle.bp_machine.specs.declared.reports.Report.{Report}
+use Rattle.bp_commands.specs.Traces.{migrates, replays, shows_or_states}
 use Rattle.bp_test.specs.declared.options.TestOptions.{TestOptions}
 use Rattle.bp_trace.specs.declared.limits.TheConstants.{MAX_SCHEDULE, MAX_TRACE}
 use Rattle.bp_view.specs.declared.options.ViewFormat.{ViewFormat}
@@ -92,11 +90,6 @@ IsDriveDone bytes on_terminal words old new errors_old errors_new status =
     (is_explained words.explain on_terminal)
     old new errors_old errors_new status
 
--- the state after so many calls, where one is asked for; else the calls
-abbrev pub show_command : ShowWords → Bool → Option ℕ → Command Pair Report
-show_command words has_colour None = shows (view_options words has_colour)
-show_command words has_colour (Some n) = states (format_of words) n
-
 -- the trace of a file is shown, as these words ask for
 abbrev pub IsShowDone
     : (List ℕ → Option (List ℕ)) → Bool → Bool → ShowWords
@@ -104,7 +97,7 @@ abbrev pub IsShowDone
     → Type 0
 IsShowDone bytes has_colour on_terminal words old new errors_old errors_new status =
     let inputs = pair_of_files MAX_TRACE (bytes words.program.now) (bytes words.trace.now) in
-    IsRun (show_command words has_colour words.at) of_report inputs
+    IsRun (shows_or_states (view_options words has_colour) words.at) of_report inputs
     (ExplainsPair Trace words.program.now words.trace.now)
     (is_explained words.explain on_terminal)
     old new errors_old errors_new status
