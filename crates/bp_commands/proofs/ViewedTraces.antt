@@ -1,5 +1,5 @@
 -- What a view of a trace says of the command `show`.
-use Rattle.std.proofs.Common.{◌++◌, ℕ, List, Option, refl, sym, inl, inr, subst}
+use Rattle.std.proofs.Common.{◌≡◌, ◌++◌, ℕ, List, Option, refl, sym, inl, inr, subst}
 use Rattle.std.specs.Io.KnownBytes.{Keeps}
 use Rattle.std.proofs.KnownBytes.{Keeps-refl}
 use Rattle.bp_tree.specs.Ast.{Program}
@@ -27,7 +27,7 @@ module _ (o : ViewOptions) (given : Pair) (t : Program) (of : IsLawfulText given
       setup = is.replayed.setup;
       history = is.replayed.history.items;
       legal = record { of = of; version = is.is.version; is = is.is.trace };
-      is = record { report = r; reported = reported_of; is = is.view_is };
+      is = record { report = r; reported = reported_of; there = is.there; is = is.view_is };
     }
 
     reported : IsTraceReport (IsViewText o) given written r
@@ -41,7 +41,20 @@ module _ (o : ViewOptions) (given : Pair) (t : Program) (of : IsLawfulText given
     pub not_viewed : (f : ViewFault) → IsViewRefusal t given.text given.input o old new f → IsRefusedWith (shows o) old new given (fault_of_view f)
     not_viewed (view.Replay f) found = inl (
       subst (Keeps old) (sym found.0) (Keeps-refl old),
-      inr (record { program = t; lawful = of; cause = f; why = found.1; is = refl }),
+      inr (inl (record { program = t; lawful = of; cause = f; why = found.1; is = refl })),
+    )
+    not_viewed (view.NoThread i) found = inl (
+      subst (Keeps old) (sym found.0) (Keeps-refl old),
+      inr (inr (record {
+        program = t;
+        setup = found.1.replayed.setup;
+        history = found.1.replayed.history.items;
+        legal = record { of = of; version = found.1.is.version; is = found.1.is.trace };
+        thread = i;
+        asked = found.1.asked;
+        past = found.1.past;
+        is = refl;
+      })),
     )
     not_viewed view.Memory found = inr (inr (record {
       text = found.begun;

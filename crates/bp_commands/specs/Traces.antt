@@ -1,12 +1,12 @@
 -- The commands on a trace of a program: `replay`, `migrate`, `show` and `show --at`.
-use Rattle.std.specs.Prelude.{◌≡◌, ◌⊎◌, ◌++◌, ℕ, List, Option, None, Some, length, take}
+use Rattle.std.specs.Prelude.{◌≡◌, ◌⊎◌, ◌≤◌, ◌++◌, ℕ, List, Option, None, Some, length, take}
 use Rattle.bp_tree.specs.Ast.{Program}
 use Rattle.bp_code.specs.LawfulTexts.{IsLawfulText}
 use Rattle.bp_machine.specs.declared.calls.Call.{Call}
 use Rattle.bp_machine.specs.declared.reports.Report.{Report}
 use Rattle.bp_machine.specs.PrintedRows.{printed_rows}
 use Rattle.bp_machine.specs.Reports.{outcome_of, IsReport}
-use Rattle.bp_machine.specs.Setups.{SetupOf}
+use Rattle.bp_machine.specs.Setups.{SetupOf, threads}
 use Rattle.bp_trace.specs.declared.replay_faults.ReplayFault.{ReplayFault}
 use Rattle.bp_trace.specs.declared.versions.Version.{Version}
 use Rattle.bp_trace.specs.Replays.{IsTrace, IsReplayRefusal}
@@ -14,9 +14,9 @@ use Rattle.bp_trace.specs.TraceText.{trace_text_2}
 use Rattle.bp_view.specs.declared.options.ViewFormat.{ViewFormat}
 use Rattle.bp_view.specs.declared.options.ViewOptions.{ViewOptions}
 use Rattle.bp_view.specs.States.{IsStateText}
-use Rattle.bp_view.specs.Views.{IsView}
+use Rattle.bp_view.specs.Views.{IsThere, IsView}
 use Rattle.bp_commands.specs.declared.faults.Fault.{Fault}
-use Rattle.bp_commands.specs.declared.faults.Fault.TheVariants.{Memory}
+use Rattle.bp_commands.specs.declared.faults.Fault.TheVariants.{Memory, NoThread}
 use Rattle.bp_commands.specs.Commands.{Command}
 use Rattle.bp_commands.specs.Faults.{fault_of_trace}
 use Rattle.bp_commands.specs.Given.{Pair}
@@ -43,6 +43,7 @@ pub record IsViewText
     : Type 0 where
   pub report : Report
   pub reported : IsReport s h report
+  pub there : IsThere o.thread (threads s)
   pub is : IsView t text s h report o written
 
 -- the state after the first n calls of a history, or after all where there are no more
@@ -84,6 +85,17 @@ pub record IsNoTrace (given : Pair) (f : Fault) : Type 0 where
   pub why : IsReplayRefusal program given.input cause
   pub is : f ≡ fault_of_trace cause
 
+-- the trace has no thread of a number, of which alone the calls are to be shown
+pub record HasNoThread (o : ViewOptions) (given : Pair) (f : Fault) : Type 0 where
+  pub program : Program
+  pub setup : SetupOf
+  pub history : List Call
+  pub legal : IsTraceOf given.text given.input program setup history
+  pub thread : ℕ
+  pub asked : o.thread ≡ Some thread
+  pub past : threads setup ≤ thread
+  pub is : f ≡ NoThread thread
+
 -- a command that writes such a text of a history
 abbrev pub on_trace : TextRule → Command Pair Report
 on_trace is_text = record {
@@ -103,7 +115,12 @@ migrates = on_trace IsMigrationText
 
 -- it writes a view of the history, each line as it is made
 abbrev pub shows : ViewOptions → Command Pair Report
-shows o = record (on_trace (IsViewText o)) { Spoils = IsBegun (IsViewText o) }
+shows o = record {
+  Writes = IsOfTrace (IsViewText o);
+  Reports = IsTraceReport (IsViewText o);
+  Refuses = λ given f. HasNoCode given.text f ⊎ (IsNoTrace given f ⊎ HasNoThread o given f);
+  Spoils = IsBegun (IsViewText o);
+}
 
 -- it writes the state after n calls of the history
 abbrev pub states : ViewFormat → ℕ → Command Pair Report

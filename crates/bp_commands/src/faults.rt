@@ -34,6 +34,9 @@ pub enum Fault {
     /// The text is no trace of the program.
     #[error("{0}")]
     Trace(ReplayFault),
+    /// The trace has no thread of this number, whose calls alone were asked for.
+    #[error("the trace has no thread {0}")]
+    NoThread(u32),
     /// No assertion failed in the trace.
     #[error("no assertion failed in the trace")]
     NoFailure,
@@ -186,6 +189,7 @@ impl From<ViewFault> for Fault {
     fn from(fault: ViewFault) -> Fault {
         match fault {
             ViewFault::Replay(fault) => Fault::from(fault),
+            ViewFault::NoThread(thread) => Fault::NoThread(thread),
             ViewFault::Memory => Fault::Memory,
             ViewFault::Write => Fault::Write,
         }

@@ -2,8 +2,9 @@
 
 use bp_code::{compile, lawful_program};
 use bp_text::{Position, position_of};
-use bp_view::{ViewFormat, ViewOptions, view};
-use std::alloc::Global;
+use bp_trace::ReplayFault;
+use bp_view::{ViewFault, ViewFormat, ViewOptions, view};
+use std::alloc::{AllocError, Global};
 use std::test::Fail;
 
 pub(crate) const TEXT: &[u8] = b"decl x;\nmain() begin x := 1; assert (x); end\n";
@@ -84,10 +85,25 @@ fn shows_the_calls_of_a_thread(rt: HostRuntime) -> Result<(), Fail> {
     let mut options = ALL;
     options.thread = Some(0);
     let all = view_of(rt.alloc(), TEXT, TRACE, options)?;
-    options.thread = Some(1);
-    let none = view_of(rt.alloc(), TEXT, TRACE, options)?;
     assert!(rt; all.as_slice() == VIEW);
-    assert!(rt; none.as_slice() == NONE);
+    Ok(())
+}
+
+#[test]
+fn shows_no_thread_that_is_not_there(rt: HostRuntime) -> Result<(), Fail> {
+    let alloc = rt.alloc();
+    let Ok(checked) = lawful_program(alloc, TEXT) else {
+        return Err(Fail::from("no program"));
+    };
+    let code = compile(alloc, &checked)?;
+    let mut options = ALL;
+    options.thread = Some(1);
+    let mut out = Vec::new(alloc);
+    let shown = view(alloc, TEXT, &checked, &code, TRACE, options, &mut out);
+    assert!(rt; shown.err() == Some(ViewFault::NoThread(1)));
+    assert!(rt; out.is_empty());
+    let none = view(alloc, TEXT, &checked, &code, b"", options, &mut out);
+    assert!(rt; none.err() == Some(ViewFault::Replay(ReplayFault::Head(1))));
     Ok(())
 }
 
@@ -101,6 +117,27 @@ fn shows_the_calls_between_two(rt: HostRuntime) -> Result<(), Fail> {
     let none = view_of(rt.alloc(), TEXT, TRACE, options)?;
     assert!(rt; late.as_slice() == LAST);
     assert!(rt; none.as_slice() == NONE);
+    Ok(())
+}
+
+/// Whether these are the words of the fault.
+fn says(alloc: Global, fault: &ViewFault, words: &str) -> Result<bool, AllocError> {
+    Ok(format!(in alloc; "{fault}")?.as_str() == words)
+}
+
+#[test]
+fn says_why_no_view_is_written(rt: HostRuntime) -> Result<(), AllocError> {
+    for (fault, words) in [
+        (
+            ViewFault::Replay(ReplayFault::TooLong),
+            "the trace is too long",
+        ),
+        (ViewFault::NoThread(7), "the trace has no thread 7"),
+        (ViewFault::Memory, "out of memory"),
+        (ViewFault::Write, "the output could not be written"),
+    ] {
+        assert!(rt; says(rt.alloc(), &fault, words)?);
+    }
     Ok(())
 }
 

@@ -1,5 +1,5 @@
 -- The view of a history of a program: a line for each of its calls that is shown.
-use Rattle.std.specs.Prelude.{◌≡◌, ◌==◌, ◌-◌, ◌&&◌, ℕ, suc, Bool, true, false, nat_le, nat_lt, List, [], ◌∷◌, ◌++◌, Option, None, Some, length, map, take, slice_get, unwrap_or}
+use Rattle.std.specs.Prelude.{◌≡◌, ◌==◌, ◌<◌, ◌≤◌, ◌-◌, ◌&&◌, ℕ, suc, Bool, true, false, nat_le, nat_lt, List, [], ◌∷◌, ◌++◌, Option, None, Some, length, map, take, slice_get, unwrap_or}
 use Rattle.std.specs.List.{concat}
 use Rattle.bp_tree.specs.Ast.{Program}
 use Rattle.bp_code.specs.StandsFor.{places_of, StandsFor}
@@ -10,12 +10,12 @@ use Rattle.bp_machine.specs.Answers.{stack_of}
 use Rattle.bp_machine.specs.ContextCounts.{last_thread}
 use Rattle.bp_machine.specs.Histories.{configuration_after, granted_threads}
 use Rattle.bp_machine.specs.Sessions.{Stands}
-use Rattle.bp_machine.specs.Setups.{SetupOf}
+use Rattle.bp_machine.specs.Setups.{SetupOf, threads}
 use Rattle.bp_trace.specs.declared.replaying.Replayed.{Replayed}
 use Rattle.bp_trace.specs.Replayed.{IsReplayed}
 use Rattle.bp_trace.specs.Replays.{IsReplayRefusal}
 use Rattle.bp_view.specs.declared.faults.ViewFault.{ViewFault}
-use Rattle.bp_view.specs.declared.faults.ViewFault.TheVariants.{Replay}
+use Rattle.bp_view.specs.declared.faults.ViewFault.TheVariants.{NoThread, Replay}
 use Rattle.bp_view.specs.declared.settings.Widths.{Widths}
 use Rattle.bp_view.specs.declared.writers.ViewWriter.{ViewWriter}
 use Rattle.bp_view.specs.declared.options.ViewFormat.{ViewFormat}
@@ -36,6 +36,11 @@ use Rattle.bp_view.specs.Writing.{IsStopped, IsWritten}
 abbrev pub is_of_thread : Option ℕ → ℕ → Bool
 is_of_thread None i = true
 is_of_thread (Some k) i = i == k
+
+-- a thread whose calls alone are to be shown is one of n threads
+abbrev pub IsThere : Option ℕ → (n : ℕ) → Type 0
+IsThere None n = Unit {0}
+IsThere (Some i) n = i < n
 
 -- call n of `count` calls is shown: fewer than `last` are after it
 abbrev pub is_late : Option ℕ → ℕ → ℕ → Bool
@@ -129,6 +134,7 @@ pub record IsViewOfTrace
   pub is : IsReplayed t trace replayed
   pub view_is : IsView t text replayed.setup replayed.history.items report o view
   pub report_is : report ≡ replayed.report
+  pub there : IsThere o.thread (threads replayed.setup)
 
 -- A view of a trace was to be written; the bytes of the writer are those before and after it.
 module _ (t : Program) (text trace : List ℕ) (o : ViewOptions) (old new : Option (List ℕ)) where
@@ -136,11 +142,24 @@ module _ (t : Program) (text trace : List ℕ) (o : ViewOptions) (old new : Opti
   abbrev pub IsViewed : Report → Type 0
   IsViewed report = IsWritten (λ view. IsViewOfTrace t text trace o view report) old new
 
-  -- the trace is refused, and nothing is written; or the view was not written whole
+  -- the trace has no thread i, of which alone the calls were to be shown
+  pub record HasNoThread (i : ℕ) : Type 0 where
+    pub replayed : Replayed
+    pub is : IsReplayed t trace replayed
+    pub asked : o.thread ≡ Some i
+    pub past : threads replayed.setup ≤ i
+
+  -- the trace is refused, or else the thread, and nothing is written; or the view was not written
+  -- whole
   abbrev pub IsViewRefusal : ViewFault → Type 0
   IsViewRefusal (Replay f) = (new ≡ old) × IsReplayRefusal t trace f
+  IsViewRefusal (NoThread i) = (new ≡ old) × HasNoThread i
   IsViewRefusal f =
       IsStopped (λ view. (report : Report) × IsViewOfTrace t text trace o view report) old new f
+
+-- A device: thread i is to be shown alone, and is none of n threads.
+abbrev pub IsMissing : Option ℕ → (n : ℕ) → ViewFault → Type 0
+IsMissing only n f = (i : ℕ) × (only ≡ Some i) × (n ≤ i) × (f ≡ NoThread i)
 
 -- A device: the writer's session stands after a history of the program, and the writer has the
 -- thread of its last step and its length.

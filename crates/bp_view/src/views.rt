@@ -2,10 +2,10 @@
 ghost use Rattle.std.specs.Prelude.{◌≡◌, MatchResult};
 ghost use Rattle.bp_code.specs.StandsFor.{StandsFor};
 ghost use Rattle.bp_machine.specs.Reports.{IsReport};
-ghost use Rattle.bp_machine.specs.Setups.{FitsCode};
+ghost use Rattle.bp_machine.specs.Setups.{threads, FitsCode};
 ghost use Rattle.bp_trace.specs.Replays.{IsPlayable};
 ghost use Rattle.bp_view.specs.Scenes.{AreScenes};
-ghost use Rattle.bp_view.specs.Views.{IsView, IsViewRefusal, IsViewed};
+ghost use Rattle.bp_view.specs.Views.{IsMissing, IsThere, IsView, IsViewRefusal, IsViewed};
 ghost use Rattle.bp_view.specs.Writing.{IsStopped, IsWritten};
 
 use crate::faults::ViewFault;
@@ -17,7 +17,7 @@ use crate::settings::setting_of;
 use crate::writers::ViewWriter;
 use bp_check::Checked;
 use bp_code::Code;
-use bp_machine::{AskFault, Report, Session};
+use bp_machine::{AskFault, Report, Session, Setup};
 use bp_text::put;
 use bp_trace::limits::MAX_TRACE;
 use bp_trace::{ReplayFault, Replayed, replay};
@@ -31,6 +31,18 @@ fn memory_of(fault: AskFault) -> ViewFault
 {
     let _ = fault;
     ViewFault::Memory
+}
+
+/// Refuses a thread that is not there, where the calls of one thread alone are to be shown.
+fn check_thread(options: ViewOptions, setup: &Setup) -> Result<(), ViewFault>
+    ensures { MatchResult result
+        (λ _. IsThere options.thread (threads setup.now))
+        (λ f. IsMissing options.thread (threads setup.now) f) }
+{
+    match options.thread {
+        Some(thread) if setup.threads() <= thread => Err(ViewFault::NoThread(thread)),
+        _ => Ok(()),
+    }
 }
 
 /// Writes the view of a trace that was replayed: the head, the line of each call that is shown, and
@@ -90,8 +102,8 @@ fn write_view<W: Write>(
 
 /// Writes a view of the history of a trace of a program, and answers its report. The view has the
 /// setup, a line for each call that is shown, and the foot. A text that is no trace of the program
-/// is refused as `replay` refuses it, and nothing is written. The lines are written as they are
-/// made, after the trace was replayed.
+/// is refused as `replay` refuses it, then a thread that is not there, and nothing is written. The
+/// lines are written as they are made, after the trace was replayed.
 pub fn view<W: Write>(
     alloc: Global,
     text: &[u8],
@@ -115,6 +127,7 @@ pub fn view<W: Write>(
         return Err(ViewFault::Replay(ReplayFault::Memory));
     };
     let replayed = replay(alloc, code, trace)?;
+    check_thread(options, &replayed.setup)?;
     write_view(alloc, text, checked, code, &scenes, &replayed, options, out)?;
     Ok(replayed.report)
 }

@@ -13,7 +13,8 @@ use std::fmt::Display;
 const LINES: &[u8] = b"\
     btrun: 44 Reply line 7 wanted s\nbtrun: 6 Syntax at 13\n\
     btrun: 11 TwiceGlobal at 5\nbtrun: 32 UnknownEntry thread 0\nbtrun: 1 TooLong\n\
-    btrun: 42 Line line 3\nbtrun: 48 TooLong\nbtrun: 54 Device\nbtrun: 7 Memory\n";
+    btrun: 42 Line line 3\nbtrun: 36 NoThread thread 7\nbtrun: 48 TooLong\n\
+    btrun: 54 Device\nbtrun: 7 Memory\n";
 
 const DUE: Due = Due {
     calls: 3,
@@ -39,6 +40,7 @@ fn lines(alloc: Global) -> Result<Vec<u8>, WriteFault> {
         Fault::Setup(SetupFault::UnknownEntry(0)),
         Fault::Program(ProgramFault::Read(ReadFault::TooLong)),
         Fault::Schedule(DriveFault::Line(3)),
+        Fault::NoThread(7),
         Fault::TooLong,
         Fault::Device,
         Fault::Memory,
@@ -62,6 +64,7 @@ fn gives_statuses(rt: HostRuntime) {
         Fault::Setup(SetupFault::UnknownEntry(0)),
         Fault::Schedule(DriveFault::AfterFinish(2)),
         Fault::Trace(ReplayFault::NoEnd(COUNTS)),
+        Fault::NoThread(7),
     ] {
         assert_eq!(rt; fault.status(), 2);
     }
@@ -159,6 +162,7 @@ fn says_why_commands_are_refused(rt: HostRuntime) -> Result<(), AllocError> {
             Fault::Trace(ReplayFault::NoEnd(COUNTS)),
             "the trace has no end",
         ),
+        (Fault::NoThread(7), "the trace has no thread 7"),
         (Fault::Start, "a worker could not be started"),
         (
             Fault::Early,
