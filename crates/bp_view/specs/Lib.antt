@@ -4,8 +4,10 @@ pub mod Heads
 pub mod JsonCalls
 pub mod JsonTexts
 pub mod Lines
+pub mod Listings
 pub mod Outcomes
 pub mod Places
+pub mod Programs
 pub mod Scenes
 pub mod StatementLines
 pub mod Statements
