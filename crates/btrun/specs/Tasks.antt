@@ -20,6 +20,8 @@ use Rattle.bp_trace.specs.declared.limits.TheConstants.{MAX_SCHEDULE, MAX_TRACE}
 use Rattle.bp_view.specs.declared.options.ViewFormat.TheVariants.{Columns, Json}
 use Rattle.bp_view.specs.declared.options.ViewOptions.{ViewOptions}
 use Rattle.bp_words.specs.ExplainWords.{is_explained}
+use Rattle.bp_words.specs.declared.check.CheckWords.{CheckWords}
+use Rattle.bp_words.specs.declared.code.CodeWords.{CodeWords}
 use Rattle.bp_words.specs.declared.commands.Task.{Task}
 use Rattle.bp_words.specs.declared.commands.Task.TheVariants.{Bundle, Check, Code, Drive, Run, Test, Replay, Show, Migrate, Shrink}
 use Rattle.bp_words.specs.declared.drive.DriveWords.{DriveWords}
@@ -46,6 +48,28 @@ view_options words has_colour = record {
   has_colour = has_colour;
   format = if words.json then Json else Columns;
 }
+
+-- the program of a file is checked as these words ask for
+abbrev pub IsCheckDone
+    : (List ℕ → Option (List ℕ)) → Bool → CheckWords
+    → Option (List ℕ) → Option (List ℕ) → Option (List ℕ) → Option (List ℕ) → ℕ
+    → Type 0
+IsCheckDone bytes on_terminal words old new errors_old errors_new status =
+    let inputs = text_alone (bytes words.program.now) in
+    IsRun (checks words.json) never inputs
+    (on_text words.program.now) (fault_format words.json words.explain on_terminal)
+    old new errors_old errors_new status
+
+-- the code of the program of a file is listed as these words ask for
+abbrev pub IsCodeDone
+    : (List ℕ → Option (List ℕ)) → Bool → CodeWords
+    → Option (List ℕ) → Option (List ℕ) → Option (List ℕ) → Option (List ℕ) → ℕ
+    → Type 0
+IsCodeDone bytes on_terminal words old new errors_old errors_new status =
+    let inputs = text_alone (bytes words.program.now) in
+    IsRun (lists words.source) never inputs
+    (on_text words.program.now) (fault_format false words.explain on_terminal)
+    old new errors_old errors_new status
 
 -- the program of a file is run as these words ask for
 abbrev pub IsRunDone
@@ -120,15 +144,9 @@ module _
       IsRun bundles of_report (bundle_alone input) on_nothing fault.Line
       old new errors_old errors_new status
   IsTaskDone (Check words) =
-      let inputs = text_alone (bytes words.program.now) in
-      IsRun checks never inputs (on_text words.program.now)
-      (fault_format false words.explain on_terminal)
-      old new errors_old errors_new status
+      IsCheckDone bytes on_terminal words old new errors_old errors_new status
   IsTaskDone (Code words) =
-      let inputs = text_alone (bytes words.program.now) in
-      IsRun lists never inputs (on_text words.program.now)
-      (fault_format false words.explain on_terminal)
-      old new errors_old errors_new status
+      IsCodeDone bytes on_terminal words old new errors_old errors_new status
   IsTaskDone (Drive words) =
       IsDriveDone bytes on_terminal words old new errors_old errors_new status
   IsTaskDone (Run words) = IsRunDone bytes on_terminal words old new errors_old errors_new status

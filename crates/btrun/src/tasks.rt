@@ -5,16 +5,19 @@ ghost use Rattle.bp_commands.specs.Ends.{of_report};
 ghost use Rattle.bp_commands.specs.Files.{pair_of_files, IsRun};
 ghost use Rattle.bp_commands.specs.Given.{text_alone};
 ghost use Rattle.bp_commands.specs.Tellings.{on_pair, on_text};
-ghost use Rattle.btrun.specs.Tasks.{fault_format, test_options, view_options, IsDriveDone, IsRunDone, IsShowDone, IsTaskDone, IsTestDone};
+ghost use Rattle.btrun.specs.Tasks.{fault_format, test_options, view_options, IsCheckDone, IsCodeDone, IsDriveDone, IsRunDone, IsShowDone, IsTaskDone, IsTestDone};
 
 use bp_commands::{
-    Check, Code, Drive, FaultFormat, Files, Migrate, PairCommand, ProgramCommand, Replay, Show, Shrink, Test,
-    run_by_workers, run_on_bundle, run_on_pair, run_on_program,
+    Check, Code, Drive, FaultFormat, Files, Migrate, PairCommand, ProgramCommand, Replay, Show,
+    Shrink, Test, run_by_workers, run_on_bundle, run_on_pair, run_on_program,
 };
 use bp_run::{Gate, Open, Spread};
 use bp_test::{Progress, TestOptions};
 use bp_view::{ViewFormat, ViewOptions};
-use bp_words::{DriveWords, ExplainWords, FileWords, RunWords, ShowWords, Task, TestWords, TraceWords};
+use bp_words::{
+    CheckWords, CodeWords, DriveWords, ExplainWords, RunWords, ShowWords, Task, TestWords,
+    TraceWords,
+};
 use std::alloc::Global;
 use std::io::{BufWriter, Read, Write};
 use std::sync::Wait;
@@ -148,25 +151,42 @@ fn test_as_asked<F: Files, T: Threads + Sync, P: Progress, W: Write + Drop, E: W
     )
 }
 
-fn on_file<C: ProgramCommand, F: Files, W: Write + Drop, E: Write>(
+/// Checks the program of a file.
+fn check_as_asked<F: Files, W: Write + Drop, E: Write>(
     alloc: Global,
-    command: &C,
     files: &F,
     on_terminal: bool,
-    words: &FileWords<'_>,
+    words: &CheckWords<'_>,
     out: BufWriter<W>,
     errors: &mut E,
 ) -> (u8, W)
-    requires { C.allowed command.now }
-    ensures { let inputs = text_alone (F.bytes files.now words.now.program.now) in
-        let old = writer_contents W.contents out in
-        IsRun (C.command command.now) C.Answer.ending inputs
-        (on_text words.now.program.now) (fault_format false words.now.explain on_terminal)
-        old (W.contents result.1)
+    ensures { let old = writer_contents W.contents out in
+        IsCheckDone (F.bytes files.now) on_terminal words.now old (W.contents result.1)
         (E.contents errors.old) (E.contents errors.new) result.0 }
 {
+    let check = Check { json: words.json };
+    let format = fault_format(words.json, words.explain, on_terminal);
+    run_on_program(alloc, &check, files, words.program, format, out, errors)
+}
+
+/// Lists the code of the program of a file.
+fn list_as_asked<F: Files, W: Write + Drop, E: Write>(
+    alloc: Global,
+    files: &F,
+    on_terminal: bool,
+    words: &CodeWords<'_>,
+    out: BufWriter<W>,
+    errors: &mut E,
+) -> (u8, W)
+    ensures { let old = writer_contents W.contents out in
+        IsCodeDone (F.bytes files.now) on_terminal words.now old (W.contents result.1)
+        (E.contents errors.old) (E.contents errors.new) result.0 }
+{
+    let code = Code {
+        source: words.source,
+    };
     let format = fault_format(false, words.explain, on_terminal);
-    run_on_program(alloc, command, files, words.program, format, out, errors)
+    run_on_program(alloc, &code, files, words.program, format, out, errors)
 }
 
 /// Does a command on the program of a file and a trace of it.
@@ -295,8 +315,8 @@ pub fn do_task<
 {
     match task {
         Task::Bundle => run_on_bundle(alloc, input, out, errors),
-        Task::Check(words) => on_file(alloc, &Check, files, on_terminal, words, out, errors),
-        Task::Code(words) => on_file(alloc, &Code, files, on_terminal, words, out, errors),
+        Task::Check(words) => check_as_asked(alloc, files, on_terminal, words, out, errors),
+        Task::Code(words) => list_as_asked(alloc, files, on_terminal, words, out, errors),
         Task::Drive(words) => drive_as_asked(alloc, files, on_terminal, words, out, errors),
         Task::Run(words) => run_as_asked(alloc, threads, files, on_terminal, words, out, errors),
         Task::Test(words) => test_as_asked(

@@ -97,7 +97,13 @@ fn ends_replays(rt: HostRuntime) -> io::Result<()> {
     let alloc = rt.alloc();
     assert!(rt; replay_ends(alloc, RACE_TRACE, failed_assertion(b"outcome failed 0\n"))?);
     assert!(rt; replay_ends(alloc, b"", refusal(b"btrun: 41 Head line 1\n"))?);
-    assert!(rt; replay_ends(alloc, OTHER_REPLY, refusal(b"btrun: 44 Reply line 10 wanted f\n"))?);
+    assert!(rt;
+        replay_ends(
+            alloc,
+            OTHER_REPLY,
+            refusal(b"btrun: 44 Reply line 10 wanted f\n")
+        )?
+    );
     Ok(())
 }
 

@@ -21,7 +21,15 @@ fn check_ends(
     };
     let mut errors = Vec::new(alloc);
     let out = buffer(alloc, 6)?;
-    let (status, out) = run_on_program(alloc, &Check, &pages, path, format, out, &mut errors);
+    let (status, out) = run_on_program(
+        alloc,
+        &Check { json: false },
+        &pages,
+        path,
+        format,
+        out,
+        &mut errors,
+    );
     Ok(is_end(status, &out, &errors, end))
 }
 
@@ -30,14 +38,30 @@ const BAD: &[u8] = b"main() begin end";
 #[test]
 fn ends_checks(rt: HostRuntime) -> io::Result<()> {
     let alloc = rt.alloc();
-    assert!(rt; check_ends(alloc, BAD, "p", FaultFormat::Line, refusal(b"btrun: 6 Syntax at 13\n"))?);
+    assert!(rt;
+        check_ends(
+            alloc,
+            BAD,
+            "p",
+            FaultFormat::Line,
+            refusal(b"btrun: 6 Syntax at 13\n")
+        )?
+    );
     let unread = End {
         status: 3,
         printed: b"",
         errors: b"btrun: 54 Device\n",
     };
     assert!(rt; check_ends(alloc, BAD, "q", FaultFormat::Line, unread)?);
-    assert!(rt; check_ends(alloc, RECURSIVE, "p", FaultFormat::Line, failed_write(b"ok 2 1"))?);
+    assert!(rt;
+        check_ends(
+            alloc,
+            RECURSIVE,
+            "p",
+            FaultFormat::Line,
+            failed_write(b"ok 2 1")
+        )?
+    );
     Ok(())
 }
 
@@ -90,7 +114,15 @@ fn lists_a_long_name(alloc: Global) -> io::Result<bool> {
     };
     let mut errors = Vec::new(alloc);
     let out = buffer(alloc, 20_000)?;
-    let (status, out) = run_on_program(alloc, &Code, &pages, "p", FaultFormat::Line, out, &mut errors);
+    let (status, out) = run_on_program(
+        alloc,
+        &Code { source: false },
+        &pages,
+        "p",
+        FaultFormat::Line,
+        out,
+        &mut errors,
+    );
     let end = End {
         status: 0,
         printed: &listing,
