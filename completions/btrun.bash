@@ -5,7 +5,9 @@
 _btrun_options() {
     local common="--explain --no-explain --help" start="--contexts --calls --init"
     case $1 in
-        check | code | replay | migrate | shrink) echo "$common" ;;
+        replay | migrate | shrink) echo "$common" ;;
+        check) echo "$common --json" ;;
+        code) echo "$common --source" ;;
         drive) echo "$common $start" ;;
         run) echo "$common $start --seed --turn --ring --spread" ;;
         test) echo "$common $start --seed --runs --jobs --stuck --unreached" ;;

@@ -24,6 +24,9 @@ complete -c btrun -n "__fish_seen_subcommand_from $starting" -x -l init -d 'The 
 set -l seeded run test
 complete -c btrun -n "__fish_seen_subcommand_from $seeded" -x -l seed -d 'The seed of the choice bits'
 
+complete -c btrun -n '__fish_seen_subcommand_from check' -l json -d 'Print one JSON object'
+complete -c btrun -n '__fish_seen_subcommand_from code' -l source -d 'Print the statement of each instruction'
+
 complete -c btrun -n '__fish_seen_subcommand_from run' -x -l turn -d 'How many calls a worker makes in a turn'
 complete -c btrun -n '__fish_seen_subcommand_from run' -x -l ring -d 'How many calls wait to be printed'
 complete -c btrun -n '__fish_seen_subcommand_from run' -l spread -d 'Take turns as they are drawn'

@@ -3,6 +3,7 @@ mod Driven
 mod ExplainedRuns
 mod FirstSeparator
 mod Migrated
+mod ObjectsOfReads
 mod RunAnswers
 mod ShrunkTraces
 mod TestAnswers

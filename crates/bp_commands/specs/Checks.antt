@@ -1,9 +1,10 @@
 -- The command `check`.
-use Rattle.std.specs.Prelude.{◌≡◌, ℕ, List, [], ◌∷◌, length, codes, decimal}
+use Rattle.std.specs.Prelude.{if◌then◌else◌, ◌≡◌, ℕ, Bool, List, [], ◌∷◌, length, codes, decimal}
 use Rattle.std.specs.List.{concat}
 use Rattle.bp_tree.specs.Ast.{Program}
 use Rattle.bp_code.specs.LawfulTexts.{IsLawfulText, IsProgramRefusal}
 use Rattle.bp_code.specs.declared.texts.ProgramFault.{ProgramFault}
+use Rattle.bp_view.specs.Programs.{program_object}
 use Rattle.bp_commands.specs.declared.faults.Fault.{Fault}
 use Rattle.bp_commands.specs.Faults.{fault_of_program}
 use Rattle.bp_commands.specs.Commands.{Command}
@@ -27,11 +28,15 @@ pub record IsUnlawful (text : List ℕ) (f : Fault) : Type 0 where
   pub why : IsProgramRefusal text cause
   pub is : f ≡ fault_of_program cause
 
--- it writes the numbers of procedures and globals
-abbrev pub checks : Command (List ℕ) (Unit {0})
-checks = record {
-  Writes = IsOfProgram check_line;
-  Reports = λ text written _. IsOfProgram check_line text written;
+-- what is written of a program, as JSON or not
+abbrev pub check_text : (json : Bool) → Program → List ℕ
+check_text json t = if json then program_object t else check_line t
+
+-- it writes the numbers of procedures and globals, or their names as JSON
+abbrev pub checks : (json : Bool) → Command (List ℕ) (Unit {0})
+checks json = record {
+  Writes = IsOfProgram (check_text json);
+  Reports = λ text written _. IsOfProgram (check_text json) text written;
   Refuses = IsUnlawful;
   Spoils = λ _ _ _. ⊥;
 }

@@ -43,9 +43,15 @@ abbrev pub HasSummary : List ℕ → Option (List ℕ) → Option (List ℕ) →
 HasSummary [] old new = new ≡ old
 HasSummary (b ∷ bs) old new = HasLine (b ∷ bs) old new
 
-module _ {T : Type 0} (ending : Ending T) where
-  -- the status of the answer, and its summary or the line of its fault
+-- the line of a fault was written as lines are
+abbrev pub HasFaultLine : Fault → Option (List ℕ) → Option (List ℕ) → Type 0
+HasFaultLine f old new = HasLine (fault_line f) old new
+
+module _
+    {T : Type 0} (ending : Ending T)
+    (IsReported : Fault → Option (List ℕ) → Option (List ℕ) → Type 0) where
+  -- the status of the answer, and its summary or the report of its fault
   abbrev pub Ends : Result T Fault → ℕ → Option (List ℕ) → Option (List ℕ) → Type 0
   Ends (Ok answer) status old new =
       (status ≡ done_status (ending.failed answer)) × HasSummary (ending.summary answer) old new
-  Ends (Err f) status old new = (status ≡ status_of f) × HasLine (fault_line f) old new
+  Ends (Err f) status old new = (status ≡ status_of f) × IsReported f old new

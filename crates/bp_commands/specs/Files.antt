@@ -3,9 +3,11 @@ use Rattle.std.specs.Prelude.{ℕ, List, Option, None, Some, Result, Bool}
 use Rattle.bp_commands.specs.declared.faults.Fault.{Fault}
 use Rattle.bp_commands.specs.Commands.{Command, Answers}
 use Rattle.bp_commands.specs.Ends.{Ending, Ends}
+use Rattle.bp_commands.specs.declared.fault_formats.FaultFormat.{FaultFormat}
 use Rattle.bp_commands.specs.Explanations.{ExplainsRead, IsTold}
 use Rattle.bp_commands.specs.Flushes.{IsFlushed}
 use Rattle.bp_commands.specs.Given.{Inputs, Pair, text_and}
+use Rattle.bp_commands.specs.Tellings.{is_explained, IsObjectRead, IsReported, Telling}
 
 -- what is left of a file that is opened or not
 abbrev pub rest_of
@@ -19,11 +21,11 @@ abbrev pub pair_of_files
 pair_of_files limit text input left = text_and limit text left.0 input left.1
 
 -- The command was given inputs, and may have left some of them unread. The output and standard
--- error have these bytes before and after the run. Where a refusal is to be explained, these lines
--- explain one of the inputs.
+-- error have these bytes before and after the run. A refusal is reported in this format; where it
+-- is to be explained, these lines explain one of the inputs.
 module _
     {L X R : Type 0} (command : Command X R) (ending : Ending R) (inputs : L → Inputs X)
-    (Explains : X → Fault → List ℕ → Type 0) (asked : Bool)
+    (telling : Telling X) (format : FaultFormat)
     (old new errors_old errors_new : Option (List ℕ)) where
   pub record IsRun (status : ℕ) : Type 0 where
     pub left : L
@@ -33,5 +35,9 @@ module _
     pub final : Result R Fault
     pub flushed : IsFlushed done held final new
     pub told : Option (List ℕ)
-    pub ends : Ends ending final status errors_old told
-    pub explained : IsTold asked (ExplainsRead (inputs left) Explains) final told errors_new
+    pub ends :
+        let reported = IsReported format (IsObjectRead (inputs left) telling.IsObject) in
+        Ends ending reported final status errors_old told
+    pub explained :
+        let explains = ExplainsRead (inputs left) telling.Explains in
+        IsTold (is_explained format) explains final told errors_new

@@ -5,6 +5,7 @@ pub mod Commands
 pub mod Drives
 pub mod Ends
 pub mod Explanations
+pub mod FaultObjects
 pub mod FaultTable
 pub mod Faults
 pub mod Files
@@ -12,10 +13,12 @@ pub mod Flushes
 pub mod Given
 pub mod Inputs
 pub mod Listings
+pub mod Members
 pub mod ProgressTexts
 pub mod ReplayLines
 pub mod Runs
 pub mod Shrinks
 pub mod Summaries
+pub mod Tellings
 pub mod Tests
 pub mod Traces

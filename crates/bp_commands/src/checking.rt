@@ -6,7 +6,8 @@ use crate::commands::ProgramCommand;
 use crate::faults::Fault;
 use bp_check::Checked;
 use bp_code::lawful_program;
-use bp_text::{WriteFault, put_each};
+use bp_text::{WriteFault, put, put_each};
+use bp_view::program_object;
 use itoa::Buffer;
 use std::alloc::Global;
 use std::io::Write;
@@ -24,22 +25,30 @@ pub fn show_check<W: Write>(checked: &Checked, out: &mut W) -> Result<(), WriteF
     put_each(out, &[b"ok ", procedures, b" ", globals, b"\n"])
 }
 
-/// `check`: writes `ok P G` with the numbers of a program's procedures and globals.
+/// `check`: writes `ok P G` with the numbers of a program's procedures and globals, or an object
+/// with their names.
 #[derive(Clone, Copy)]
-pub struct Check;
+pub struct Check {
+    /// Whether the names are written, as a JSON object.
+    pub json: bool,
+}
 
 impl ProgramCommand for Check {
     ghost use Rattle.bp_commands.specs.Checks.{checks};
 
     type Answer = ();
 
-    ghost command = { λ _. checks };
+    ghost command = { λ x. checks x.json };
 
     ghost allowed = { λ _. Unit {0} };
 
     fn apply<W: Write>(&self, alloc: Global, text: &[u8], out: &mut W) -> Result<(), Fault> {
         let checked = lawful_program(alloc, text)?;
-        show_check(&checked, out)?;
+        if self.json {
+            put(out, &program_object(alloc, &checked)?)?;
+        } else {
+            show_check(&checked, out)?;
+        }
         Ok(())
     }
 }

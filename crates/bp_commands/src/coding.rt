@@ -1,27 +1,59 @@
 //! The command `code`.
+ghost use Rattle.std.specs.Prelude.{IfOk};
+ghost use Rattle.bp_code.specs.Listing.{listing_text};
+ghost use Rattle.bp_view.specs.Listings.{IsSourcedListing};
+
 use crate::commands::ProgramCommand;
 use crate::faults::Fault;
-use bp_code::{compile, lawful_program, list};
-use std::alloc::Global;
+use bp_check::Checked;
+use bp_code::{Code as Flat, compile, lawful_program, list};
+use bp_text::put;
+use bp_view::sourced_listing;
+use std::alloc::{AllocError, Global};
 use std::io::Write;
 
-/// `code`: writes the listing of a program's code.
+/// The listing of a program's code, with the source of each instruction.
+fn sourced(
+    alloc: Global,
+    text: &[u8],
+    checked: &Checked,
+    code: &Flat,
+) -> Result<Vec<u8>, AllocError>
+    ensures { let listing = listing_text code.now in
+        IfOk result (λ v. IsSourcedListing text.now checked.now listing v.items) }
+{
+    let mut listing = Vec::new(alloc);
+    // A vector takes all that is written, unless memory is refused.
+    if list(code, &mut listing).is_err() {
+        return Err(AllocError);
+    }
+    sourced_listing(alloc, text, checked, &listing)
+}
+
+/// `code`: writes the listing of a program's code, with the source of each instruction or without.
 #[derive(Clone, Copy)]
-pub struct Code;
+pub struct Code {
+    /// Whether the place and the statement of each instruction are written.
+    pub source: bool,
+}
 
 impl ProgramCommand for Code {
     ghost use Rattle.bp_commands.specs.Listings.{lists};
 
     type Answer = ();
 
-    ghost command = { λ _. lists };
+    ghost command = { λ x. lists x.source };
 
     ghost allowed = { λ _. Unit {0} };
 
     fn apply<W: Write>(&self, alloc: Global, text: &[u8], out: &mut W) -> Result<(), Fault> {
         let checked = lawful_program(alloc, text)?;
         let code = compile(alloc, &checked)?;
-        list(&code, out)?;
+        if self.source {
+            put(out, &sourced(alloc, text, &checked, &code)?)?;
+        } else {
+            list(&code, out)?;
+        }
         Ok(())
     }
 }

@@ -1,6 +1,6 @@
 //! How a run ends: the line on standard error, and the exit status.
 ghost use Rattle.std.specs.Prelude.{◌≡◌};
-ghost use Rattle.bp_commands.specs.Ends.{Ending, Ends, HasSummary, never, of_report};
+ghost use Rattle.bp_commands.specs.Ends.{Ending, Ends, HasFaultLine, HasSummary, never, of_report};
 
 use crate::fault_lines::show_fault;
 use crate::faults::Fault;
@@ -44,7 +44,8 @@ impl Ended for Report {
 /// Ends a run by what its command answered: writes its summary or the line of its fault, where
 /// there is one, and answers the exit status.
 pub fn end<T: Ended, E: Write>(done: &Result<T, Fault>, errors: &mut E) -> u8
-    ensures { Ends T.ending done.now result (E.contents errors.old) (E.contents errors.new) }
+    ensures { Ends T.ending HasFaultLine done.now result
+        (E.contents errors.old) (E.contents errors.new) }
 {
     match done {
         Ok(answer) => {

@@ -6,6 +6,7 @@ ghost use Rattle.bp_commands.specs.Given.{Pair};
 
 use crate::faults::Fault;
 use crate::hints::Hints;
+use crate::messages::sentence;
 use bp_code::ProgramFault;
 use bp_explain::{explain_program, explain_schedule, explain_trace};
 use bp_machine::Start;
@@ -40,7 +41,7 @@ fn any(lines: Result<Vec<u8>, AllocError>) -> Option<Vec<u8>>
 }
 
 /// The explanation of a fault of a program.
-fn of_program(alloc: Global, fault: &Fault, program: Named<'_>) -> Option<Vec<u8>>
+pub(crate) fn of_program(alloc: Global, fault: &Fault, program: Named<'_>) -> Option<Vec<u8>>
     ensures { IfSome result (λ v.
         ExplainsText program.entry.name.now program.entry.text.now fault.now v.items) }
 {
@@ -81,7 +82,7 @@ fn of_input(
 }
 
 /// The explanation of a fault of a program or of what stands beside it.
-fn of_pair(
+pub(crate) fn of_pair(
     alloc: Global,
     beside: Beside,
     fault: &Fault,
@@ -114,11 +115,7 @@ fn put_sentence<E: Write>(alloc: Global, fault: &Fault, hints: Hints<'_>, errors
     ensures { (lines : List ℕ) × IsInWords lines
         × HasLine lines (E.contents errors.old) (E.contents errors.new) }
 {
-    let sentence = match hints.words(alloc, fault) {
-        Some(words) => Ok(words),
-        None => format!(in alloc; "{fault}"),
-    };
-    match sentence {
+    match sentence(alloc, fault, hints) {
         Ok(sentence) => put_words(sentence.as_bytes(), errors),
         Err(_) => put_words(b"out of memory", errors),
     }

@@ -96,6 +96,14 @@ pub(crate) struct Hints<'a> {
 }
 
 impl Hints<'_> {
+    /// Whether it is the file of this name that could not be opened or read.
+    pub(crate) fn is_unread(&self, name: &str) -> bool {
+        match self.unread {
+            Some(unread) => unread.name == name,
+            None => false,
+        }
+    }
+
     /// What is said of a fault in place of its sentence, where there is more to say.
     pub(crate) fn words(&self, alloc: Global, fault: &Fault) -> Option<String> {
         match fault {

@@ -1,22 +1,24 @@
 //! Runs of the commands, from the paths of their files to the exit status.
-ghost use Rattle.std.specs.Prelude.{false};
 ghost use Rattle.std.specs.Io.Buffered.{writer_contents};
 ghost use Rattle.bp_commands.specs.Bundles.{bundles};
 ghost use Rattle.bp_commands.specs.Ends.{of_report};
-ghost use Rattle.bp_commands.specs.Explanations.{ExplainsPair, ExplainsText};
 ghost use Rattle.bp_commands.specs.Files.{pair_of_files, IsRun};
 ghost use Rattle.bp_commands.specs.Given.{bundle_alone, text_alone};
 ghost use Rattle.bp_commands.specs.Runs.{runs};
+ghost use Rattle.bp_commands.specs.Tellings.{on_nothing, on_pair, on_text};
+ghost use Rattle.bp_commands.specs.declared.fault_formats.FaultFormat.{FaultFormat};
 
 use crate::bundles::drive_bundle;
 use crate::commands::{PairCommand, ProgramCommand, do_on_pair, do_on_program};
 use crate::ends::end;
 use crate::explanations::{Named, explain_on_pair, explain_on_program};
+use crate::fault_formats::FaultFormat;
 use crate::files::{Files, InputFile};
 use crate::flushes::flushed;
 use crate::hints::{Hints, Numbers};
 use crate::inputs::Source;
 use crate::running::run_program;
+use crate::tellings::{end_on_pair, end_on_program};
 use bp_run::{Gate, RunOptions};
 use std::alloc::Global;
 use std::io::{BufWriter, Read, Write};
@@ -30,21 +32,20 @@ pub fn run_on_program<C: ProgramCommand, F: Files, W: Write + Drop, E: Write>(
     command: &C,
     files: &F,
     path: &str,
-    explains: bool,
+    format: FaultFormat,
     mut out: BufWriter<W>,
     errors: &mut E,
 ) -> (u8, W)
     requires { C.allowed command.now }
     ensures { let inputs = text_alone (F.bytes files.now path.now) in
         let old = writer_contents W.contents out in
-        IsRun (C.command command.now) C.Answer.ending inputs (ExplainsText path.now) explains
+        IsRun (C.command command.now) C.Answer.ending inputs (on_text path.now) format
         old (W.contents result.1)
         (E.contents errors.old) (E.contents errors.new) result.0 }
 {
     let mut program = InputFile::source(alloc, files, path);
     let done = do_on_program(alloc, command, &mut program, &mut out);
     let (done, output) = flushed(done, out);
-    let status = end(&done, errors);
     let hints = Hints {
         unread: program.reader.unread(),
         numbers: command.start().map(Numbers::of_start),
@@ -53,7 +54,8 @@ pub fn run_on_program<C: ProgramCommand, F: Files, W: Write + Drop, E: Write>(
         name: path,
         text: &program.bytes,
     };
-    explain_on_program(alloc, explains, &done, program, hints, errors);
+    let status = end_on_program(alloc, format, &done, program, hints, errors);
+    explain_on_program(alloc, format.is_explained(), &done, program, hints, errors);
     (status, output)
 }
 
@@ -71,20 +73,19 @@ pub fn run_by_workers<
     gate: &G,
     files: &F,
     path: &str,
-    explains: bool,
+    format: FaultFormat,
     mut out: BufWriter<W>,
     errors: &mut E,
 ) -> (u8, W)
     ensures { let inputs = text_alone (F.bytes files.now path.now) in
         let old = writer_contents W.contents out in
-        IsRun (runs options.now) of_report inputs (ExplainsText path.now) explains
+        IsRun (runs options.now) of_report inputs (on_text path.now) format
         old (W.contents result.1)
         (E.contents errors.old) (E.contents errors.new) result.0 }
 {
     let mut program = InputFile::source(alloc, files, path);
     let done = run_program(alloc, threads, options, gate, &mut program, &mut out);
     let (done, output) = flushed(done, out);
-    let status = end(&done, errors);
     let hints = Hints {
         unread: program.reader.unread(),
         numbers: Some(Numbers::of_run(options)),
@@ -93,7 +94,8 @@ pub fn run_by_workers<
         name: path,
         text: &program.bytes,
     };
-    explain_on_program(alloc, explains, &done, program, hints, errors);
+    let status = end_on_program(alloc, format, &done, program, hints, errors);
+    explain_on_program(alloc, format.is_explained(), &done, program, hints, errors);
     (status, output)
 }
 
@@ -105,7 +107,7 @@ pub fn run_on_pair<C: PairCommand, F: Files, W: Write + Drop, E: Write>(
     files: &F,
     path: &str,
     input_path: &str,
-    explains: bool,
+    format: FaultFormat,
     mut out: BufWriter<W>,
     errors: &mut E,
 ) -> (u8, W)
@@ -113,7 +115,7 @@ pub fn run_on_pair<C: PairCommand, F: Files, W: Write + Drop, E: Write>(
         (F.bytes files.now path.now) (F.bytes files.now input_path.now) in
         let old = writer_contents W.contents out in
         IsRun (C.command command.now) of_report inputs
-        (ExplainsPair (C.beside command.now) path.now input_path.now) explains
+        (on_pair (C.beside command.now) path.now input_path.now) format
         old (W.contents result.1)
         (E.contents errors.old) (E.contents errors.new) result.0 }
 {
@@ -121,7 +123,6 @@ pub fn run_on_pair<C: PairCommand, F: Files, W: Write + Drop, E: Write>(
     let mut input = InputFile::source(alloc, files, input_path);
     let done = do_on_pair(alloc, command, &mut program, &mut input, &mut out);
     let (done, output) = flushed(done, out);
-    let status = end(&done, errors);
     let hints = Hints {
         unread: program.reader.unread().or(input.reader.unread()),
         numbers: command.start().map(Numbers::of_start),
@@ -135,6 +136,10 @@ pub fn run_on_pair<C: PairCommand, F: Files, W: Write + Drop, E: Write>(
         text: &input.bytes,
     };
     let (beside, start) = (command.beside(), command.start());
+    let status = end_on_pair(
+        alloc, beside, format, &done, start, program, input, hints, errors,
+    );
+    let explains = format.is_explained();
     explain_on_pair(
         alloc, beside, explains, &done, start, program, input, hints, errors,
     );
@@ -150,7 +155,7 @@ pub fn run_on_bundle<R: Read + Drop, W: Write + Drop, E: Write>(
 ) -> (u8, W)
     ensures { let inputs = bundle_alone (R.remaining reader) in
         let old = writer_contents W.contents out in
-        IsRun bundles of_report inputs (λ _ _ _. ⊥) false old (W.contents result.1)
+        IsRun bundles of_report inputs on_nothing FaultFormat.Line old (W.contents result.1)
         (E.contents errors.old) (E.contents errors.new) result.0 }
 {
     let mut bundle = Source::new(alloc, reader);

@@ -21,6 +21,8 @@ mod refused;
 #[cfg(test)]
 mod run;
 #[cfg(test)]
+mod sources;
+#[cfg(test)]
 mod states;
 #[cfg(test)]
 mod syntax;

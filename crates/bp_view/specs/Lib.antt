@@ -5,9 +5,11 @@ pub mod Heads
 pub mod JsonCalls
 pub mod JsonTexts
 pub mod Lines
+pub mod Listings
 pub mod Outcomes
 pub mod Parts
 pub mod Places
+pub mod Programs
 pub mod Scenes
 pub mod StatementLines
 pub mod States

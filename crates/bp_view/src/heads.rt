@@ -126,7 +126,7 @@ fn head_lines(alloc: Global, setup: &Setup, globals: &[Name]) -> Result<Vec<u8>,
 }
 
 /// Adds a string as an item of a list.
-fn push_item(items: &mut Vec<u8>, text: &[u8]) -> Result<(), AllocError>
+pub(crate) fn push_item(items: &mut Vec<u8>, text: &[u8]) -> Result<(), AllocError>
     ensures { OnOk result (items.new.items ≡ items.old.items ++ string_item text.now) }
 {
     push_bytes(items, b",")?;

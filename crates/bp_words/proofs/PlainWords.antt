@@ -128,8 +128,11 @@ given id text = record { id = id; values = text ∷ []; count = None; source = S
 abbrev down : Text → Row
 down id = record { id = id; values = codes "false" ∷ []; count = None; source = Some DefaultValue; reading = AsWritten }
 
-abbrev file_row : Text → List Row
-file_row file = given (codes "FILE") file ∷ down (codes "explain") ∷ down (codes "no-explain") ∷ []
+abbrev check_row : Text → List Row
+check_row file = given (codes "FILE") file ∷ down (codes "explain") ∷ down (codes "no-explain") ∷ down (codes "json") ∷ []
+
+abbrev code_row : Text → List Row
+code_row file = given (codes "FILE") file ∷ down (codes "explain") ∷ down (codes "no-explain") ∷ down (codes "source") ∷ []
 
 abbrev explaining_with : Bool → Bool → ExplainWords
 explaining_with always never = record { always = always; never = never }
@@ -147,7 +150,7 @@ is_word file plain = (ends_nothing file plain, is_not_long file plain, is_not_sh
 abbrev check_words : Text → Text → List Text
 check_words program file = program ∷ codes "check" ∷ file ∷ []
 
-check_named : (program file : Text) → IsWord file → subcommand_of btrun_app (check_words program file) ≡ Some (codes "check", file_row file)
+check_named : (program file : Text) → IsWord file → subcommand_of btrun_app (check_words program file) ≡ Some (codes "check", check_row file)
 unfolding clap_on_literals
 check_named program file (no_end, no_long, no_short) = rw (no_end, no_long, no_short) refl
 
@@ -158,11 +161,11 @@ check_clean program file (no_end, no_long, no_short) = rw (no_end, no_long, no_s
 check_faulty : (program file : Text) → is_plain file ≡ true → words_fault (check_words program file) ≡ []
 check_faulty program file plain =
     let word = is_word file plain in
-    no_fault (check_words program file) (Some (codes "check", file_row file)) (check_clean program file word) (check_named program file word) refl
+    no_fault (check_words program file) (Some (codes "check", check_row file)) (check_clean program file word) (check_named program file word) refl
 
-check_of : (file : Text) (task : Task) → IsTaskOf (Some (codes "check", file_row file)) task → IsCheckOf file task
+check_of : (file : Text) (task : Task) → IsTaskOf (Some (codes "check", check_row file)) task → IsCheckOf file task
 check_of file Bundle asks = absurd asks
-check_of file (Check words) (named, of) = (of.program, unasked words.explain (of.explain.always.1 refl) (of.explain.never.1 refl))
+check_of file (Check words) (named, of) = (of.program, of.json.1 refl, unasked words.explain (of.explain.always.1 refl) (of.explain.never.1 refl))
 check_of file (Code words) asks = absurd (check≢code asks.0)
 check_of file (Drive words) asks = absurd (check≢drive asks.0)
 check_of file (Run words) asks = absurd (check≢run asks.0)
@@ -178,7 +181,7 @@ check_asked program file task plain asks = check_of file task (subst (λ c. IsTa
 abbrev code_words : Text → Text → List Text
 code_words program file = program ∷ codes "code" ∷ file ∷ []
 
-code_named : (program file : Text) → IsWord file → subcommand_of btrun_app (code_words program file) ≡ Some (codes "code", file_row file)
+code_named : (program file : Text) → IsWord file → subcommand_of btrun_app (code_words program file) ≡ Some (codes "code", code_row file)
 unfolding clap_on_literals
 code_named program file (no_end, no_long, no_short) = rw (no_end, no_long, no_short) refl
 
@@ -189,11 +192,11 @@ code_clean program file (no_end, no_long, no_short) = rw (no_end, no_long, no_sh
 code_faulty : (program file : Text) → is_plain file ≡ true → words_fault (code_words program file) ≡ []
 code_faulty program file plain =
     let word = is_word file plain in
-    no_fault (code_words program file) (Some (codes "code", file_row file)) (code_clean program file word) (code_named program file word) refl
+    no_fault (code_words program file) (Some (codes "code", code_row file)) (code_clean program file word) (code_named program file word) refl
 
-code_of : (file : Text) (task : Task) → IsTaskOf (Some (codes "code", file_row file)) task → IsCodeOf file task
+code_of : (file : Text) (task : Task) → IsTaskOf (Some (codes "code", code_row file)) task → IsCodeOf file task
 code_of file Bundle asks = absurd asks
-code_of file (Code words) (named, of) = (of.program, unasked words.explain (of.explain.always.1 refl) (of.explain.never.1 refl))
+code_of file (Code words) (named, of) = (of.program, of.source.1 refl, unasked words.explain (of.explain.always.1 refl) (of.explain.never.1 refl))
 code_of file (Check words) asks = absurd (check≢code (sym asks.0))
 code_of file (Drive words) asks = absurd (code≢drive asks.0)
 code_of file (Run words) asks = absurd (code≢run asks.0)

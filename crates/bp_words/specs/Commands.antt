@@ -9,8 +9,9 @@ use Rattle.clap.specs.Simple.{App, new_app, new_rule, on_top, subcommand_of, wit
 use Rattle.clap.specs.declared.builder.action.ArgAction.TheVariants.{SetTrue}
 use Rattle.clap.specs.declared.builder.value_parser.ValueParser.TheVariants as parser
 use Rattle.bp_words.specs.Values.{init_fault}
+use Rattle.bp_words.specs.CheckWords.{IsCheckWordsOf}
+use Rattle.bp_words.specs.CodeWords.{IsCodeWordsOf}
 use Rattle.bp_words.specs.DriveWords.{IsDriveOf}
-use Rattle.bp_words.specs.FileWords.{IsFileWordsOf}
 use Rattle.bp_words.specs.RunWords.{IsRunOf}
 use Rattle.bp_words.specs.ShowWords.{IsShowOf}
 use Rattle.bp_words.specs.TestWords.{IsTestOf}
@@ -35,13 +36,13 @@ file_app name =
     (flag_rule (codes "explain")))
     (flag_rule (codes "no-explain"))
 
--- `check FILE [--explain] [--no-explain]`
+-- `check FILE [--json] [--explain] [--no-explain]`
 abbrev pub check_app : App
-check_app = file_app (codes "check")
+check_app = with_rule (file_app (codes "check")) (flag_rule (codes "json"))
 
--- `code FILE [--explain] [--no-explain]`
+-- `code FILE [--source] [--explain] [--no-explain]`
 abbrev pub code_app : App
-code_app = file_app (codes "code")
+code_app = with_rule (file_app (codes "code")) (flag_rule (codes "source"))
 
 -- an option that has a value
 abbrev pub option_rule : Text → Rule
@@ -186,8 +187,8 @@ IsOurs (Some command) = IsNamed command.0
 -- what the command of this name asks for, with its arguments; a bundle is asked for without one
 abbrev pub IsTaskOfCommand : Text → List Row → Task → Type 0
 IsTaskOfCommand name rows Bundle = ⊥
-IsTaskOfCommand name rows (Check words) = (name ≡ codes "check") × IsFileWordsOf rows words
-IsTaskOfCommand name rows (Code words) = (name ≡ codes "code") × IsFileWordsOf rows words
+IsTaskOfCommand name rows (Check words) = (name ≡ codes "check") × IsCheckWordsOf rows words
+IsTaskOfCommand name rows (Code words) = (name ≡ codes "code") × IsCodeWordsOf rows words
 IsTaskOfCommand name rows (Drive words) = (name ≡ codes "drive") × IsDriveOf rows words
 IsTaskOfCommand name rows (Run words) = (name ≡ codes "run") × IsRunOf rows words
 IsTaskOfCommand name rows (Test words) = (name ≡ codes "test") × IsTestOf rows words

@@ -1,7 +1,8 @@
+pub mod CheckWords
+pub mod CodeWords
 pub mod Commands
 pub mod DriveWords
 pub mod ExplainWords
-pub mod FileWords
 pub mod PlainUses
 pub mod RunWords
 pub mod ShowWords

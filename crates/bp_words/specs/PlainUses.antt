@@ -57,12 +57,14 @@ HasPlainFiles (shrink file trace) = (is_plain file ≡ true) × (is_plain trace 
 
 -- the task is to check this file, and faults are explained on terminals alone
 abbrev pub IsCheckOf : Text → Task → Type 0
-IsCheckOf file (task.Check words) = (words.program.now ≡ file) × (words.explain ≡ on_terminals)
+IsCheckOf file (task.Check words) =
+    (words.program.now ≡ file) × (words.json ≡ false) × (words.explain ≡ on_terminals)
 IsCheckOf file other = ⊥
 
 -- the task is to list the code of this file, and faults are explained on terminals alone
 abbrev pub IsCodeOf : Text → Task → Type 0
-IsCodeOf file (task.Code words) = (words.program.now ≡ file) × (words.explain ≡ on_terminals)
+IsCodeOf file (task.Code words) =
+    (words.program.now ≡ file) × (words.source ≡ false) × (words.explain ≡ on_terminals)
 IsCodeOf file other = ⊥
 
 -- the task is to drive the program of this file by the schedule of that one, under the defaults

@@ -5,8 +5,9 @@ ghost use Rattle.clap.specs.declared.builder.command.Command.TheViews.{out-Comma
 ghost use Rattle.bp_words.specs.Commands.{btrun_app, file_app, program_app, words_fault, IsOurs, IsTaskOf};
 ghost use Rattle.bp_words.specs.PlainUses.{PlainUse, words_of, HasPlainFiles, IsAskedBy};
 
+use crate::check::{CheckWords, check_command, check_words};
+use crate::code::{CodeWords, code_command, code_words};
 use crate::drive::{DriveWords, drive_command, drive_words};
-use crate::files::{FileWords, file_command, file_words};
 use crate::run::{RunWords, run_command, run_words};
 use crate::show::{ShowWords, show_command, show_words};
 use crate::test::{TestWords, test_command, test_words};
@@ -28,9 +29,9 @@ pub enum Task<'a> {
     /// Drive the bundle that standard input has.
     Bundle,
     /// `check FILE`
-    Check(FileWords<'a>),
+    Check(CheckWords<'a>),
     /// `code FILE`
-    Code(FileWords<'a>),
+    Code(CodeWords<'a>),
     /// `drive FILE SCHEDULE [ENTRY]..`
     Drive(DriveWords<'a>),
     /// `run FILE [ENTRY]..`
@@ -58,26 +59,6 @@ const NOTES: &str = "\
     Exit status:\n  0  done, and no assertion failed\n  1  an assertion failed\n  \
     2  the input or the words were refused\n  3  memory, a device or the output failed";
 
-const CHECK_ABOUT: &str =
-    "Checks a program and prints 'ok', its number of procedures and its number of globals";
-
-/// What `check --help` says after the arguments.
-const CHECK_NOTES: &str = "\
-    The first fault is one line on standard error, with the offset of its byte.\n\n\
-    Example:\n  btrun check lock.bp\n\nExit status:\n  0  the program is lawful\n  \
-    2  it is refused, or the words were\n  3  memory, a device or the output failed";
-
-const CODE_ABOUT: &str = "Prints the listing of a program's code";
-
-/// What `code --help` says after the arguments.
-const CODE_NOTES: &str = "\
-    A procedure has a line 'proc NAME FORMALS LOCALS', and after it a line for each instruction,\n\
-    with its number and those of its successors. The first fault is one line on \
-    standard error, with\n\
-    the offset of its byte.\n\nExample:\n  btrun code lock.bp\n\n\
-    Exit status:\n  0  the listing is printed\n  2  the program is refused, or the words were\n  \
-    3  memory, a device or the output failed";
-
 /// What is wrong with the value of `--init`.
 const BAD_INIT: &str = "the value of '--init' has a character other than 0 and 1";
 
@@ -98,8 +79,8 @@ fn command<'a>(alloc: Global) -> Result<Command<'a>, AllocError>
     ensures { IfOk result (λ c. app_of c ≡ btrun_app) }
 {
     program(alloc)
-        .subcommand(file_command(alloc, "check", CHECK_ABOUT, CHECK_NOTES)?)?
-        .subcommand(file_command(alloc, "code", CODE_ABOUT, CODE_NOTES)?)?
+        .subcommand(check_command(alloc)?)?
+        .subcommand(code_command(alloc)?)?
         .subcommand(drive_command(alloc)?)?
         .subcommand(run_command(alloc)?)?
         .subcommand(test_command(alloc)?)?
@@ -115,8 +96,8 @@ fn task_of<'a>(alloc: Global, matches: &ArgMatches<'a>) -> Result<Task<'a>, Allo
     ensures { IfOk result (IsTaskOf (subcommand_rows_of matches.now)) }
 {
     match matches.subcommand() {
-        Some(("check", words)) => Ok(Task::Check(file_words(words))),
-        Some(("code", words)) => Ok(Task::Code(file_words(words))),
+        Some(("check", words)) => Ok(Task::Check(check_words(words))),
+        Some(("code", words)) => Ok(Task::Code(code_words(words))),
         Some(("drive", words)) => Ok(Task::Drive(drive_words(alloc, words)?)),
         Some(("run", words)) => Ok(Task::Run(run_words(alloc, words)?)),
         Some(("test", words)) => Ok(Task::Test(test_words(alloc, words)?)),

@@ -1,23 +1,12 @@
-//! The words of `check` and `code`, and what all commands on files have.
+//! What all commands on files have.
 ghost use Rattle.std.specs.Prelude.{◌≡◌, false, IfOk};
-ghost use Rattle.clap.specs.Words.{app_of, found_of, rows_of};
+ghost use Rattle.clap.specs.Words.{app_of};
 ghost use Rattle.clap.specs.declared.builder.command.Command.TheViews.{out-Command};
 ghost use Rattle.bp_words.specs.Commands.{file_app};
-ghost use Rattle.bp_words.specs.FileWords.{IsFileWordsOf};
 
 use crate::arguments::{flag, required};
-use crate::explain::{ExplainWords, explain_words};
-use clap::{ArgMatches, Command};
+use clap::Command;
 use std::alloc::{AllocError, Global};
-
-/// A program.
-#[derive(Drop)]
-pub struct FileWords<'a> {
-    /// The path of the program's text.
-    pub program: &'a str,
-    /// When a fault is explained.
-    pub explain: ExplainWords,
-}
 
 /// A command of this name, with a file and the flags on explanations.
 pub fn file_command<'a>(
@@ -37,15 +26,4 @@ pub fn file_command<'a>(
         .arg(required(alloc, "FILE", "The file of the program"))?
         .arg(flag(alloc, "explain", explain))?
         .arg(flag(alloc, "no-explain", never))
-}
-
-/// What the words after `check` or `code` ask for.
-pub fn file_words<'a>(words: &ArgMatches<'a>) -> FileWords<'a>
-    ensures { IsFileWordsOf (rows_of (found_of words.now)) result }
-{
-    // FILE is required, so it is there.
-    FileWords {
-        program: words.get_str("FILE").unwrap_or(""),
-        explain: explain_words(words),
-    }
 }

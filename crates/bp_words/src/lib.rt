@@ -2,6 +2,8 @@
 #![tactic(auto)]
 
 mod arguments;
+mod check;
+mod code;
 mod commands;
 mod drive;
 mod explain;
@@ -12,10 +14,11 @@ mod test;
 mod trace;
 mod values;
 
+pub use check::CheckWords;
+pub use code::CodeWords;
 pub use commands::{Task, not_text, read_words};
 pub use drive::DriveWords;
 pub use explain::ExplainWords;
-pub use files::FileWords;
 pub use run::RunWords;
 pub use show::ShowWords;
 pub use test::TestWords;

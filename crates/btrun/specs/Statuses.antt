@@ -3,8 +3,7 @@
 use Rattle.std.specs.Prelude.{◌≡◌, ◌⊎◌, ℕ, List, Option}
 use Rattle.std.specs.declared.io.ErrorKind.{ErrorKind as IoErrorKind}
 use Rattle.std.specs.declared.io.ErrorKind.TheVariants as io
-use Rattle.bp_commands.specs.Ends.{HasLine}
-use Rattle.bp_commands.specs.FaultTable.{fault_line}
+use Rattle.bp_commands.specs.Ends.{HasFaultLine}
 use Rattle.bp_commands.specs.declared.faults.Fault.{Fault}
 use Rattle.bp_commands.specs.declared.faults.Fault.TheVariants as fault
 use Rattle.clap.specs.declared.error.kind.ErrorKind.{ErrorKind}
@@ -25,10 +24,6 @@ IsWordsStatus _ status = status ≡ 2
 abbrev pub IsUnreadStatus : IoErrorKind → ℕ → Type 0
 IsUnreadStatus io.OutOfMemory status = status ≡ 3
 IsUnreadStatus _ status = (status ≡ 2) ⊎ (status ≡ 3)
-
--- the line of a fault, before and after which standard error has these bytes
-abbrev pub HasFaultLine : Fault → Option (List ℕ) → Option (List ℕ) → Type 0
-HasFaultLine f old new = HasLine (fault_line f) old new
 
 -- nothing, or that the help or the version could not be written
 abbrev pub IsPrintedLine : Option (List ℕ) → Option (List ℕ) → Type 0

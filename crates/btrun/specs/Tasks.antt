@@ -5,12 +5,14 @@ use Rattle.bp_commands.specs.Checks.{checks}
 use Rattle.bp_commands.specs.Drives.{drives}
 use Rattle.bp_commands.specs.declared.explanations.Beside.TheVariants.{Schedule, Trace}
 use Rattle.bp_commands.specs.Ends.{never, of_report}
-use Rattle.bp_commands.specs.Explanations.{ExplainsPair, ExplainsText}
+use Rattle.bp_commands.specs.declared.fault_formats.FaultFormat.{FaultFormat}
+use Rattle.bp_commands.specs.declared.fault_formats.FaultFormat.TheVariants as fault
 use Rattle.bp_commands.specs.Files.{pair_of_files, IsRun}
 use Rattle.bp_commands.specs.Given.{bundle_alone, text_alone}
 use Rattle.bp_commands.specs.Listings.{lists}
 use Rattle.bp_commands.specs.Runs.{runs}
 use Rattle.bp_commands.specs.Shrinks.{shrinks}
+use Rattle.bp_commands.specs.Tellings.{on_nothing, on_pair, on_text}
 use Rattle.bp_commands.specs.Tests.{of_test, tests}
 use Rattle.bp_commands.specs.Traces.{migrates, replays, shows_or_states}
 use Rattle.bp_test.specs.declared.options.TestOptions.{TestOptions}
@@ -19,15 +21,26 @@ use Rattle.bp_view.specs.declared.options.ViewFormat.{ViewFormat}
 use Rattle.bp_view.specs.declared.options.ViewFormat.TheVariants.{Columns, Json}
 use Rattle.bp_view.specs.declared.options.ViewOptions.{ViewOptions}
 use Rattle.bp_words.specs.ExplainWords.{is_explained}
+use Rattle.bp_words.specs.declared.check.CheckWords.{CheckWords}
+use Rattle.bp_words.specs.declared.code.CodeWords.{CodeWords}
 use Rattle.bp_words.specs.declared.commands.Task.{Task}
 use Rattle.bp_words.specs.declared.commands.Task.TheVariants.{Bundle, Check, Code, Drive, Run, Test, Replay, Show, Migrate, Shrink}
 use Rattle.bp_words.specs.declared.drive.DriveWords.{DriveWords}
+use Rattle.bp_words.specs.declared.explain.ExplainWords.{ExplainWords}
 use Rattle.bp_words.specs.declared.run.RunWords.{RunWords}
 use Rattle.bp_words.specs.declared.show.ShowWords.{ShowWords}
 use Rattle.bp_words.specs.declared.test.TestWords.{TestWords}
 
 abbrev pub format_of : ShowWords → ViewFormat
 format_of words = if words.json then Json else Columns
+
+-- In which form a fault is reported on a standard error that is a terminal or not: as JSON where
+-- that is asked for, and else with its explanation where that is.
+abbrev pub fault_format : (json : Bool) → ExplainWords → (on_terminal : Bool) → FaultFormat
+fault_format json explain on_terminal =
+    if json then fault.Json
+    else if is_explained explain on_terminal then fault.Explained
+    else fault.Line
 
 -- which calls are shown, and how
 abbrev pub view_options : ShowWords → Bool → ViewOptions
@@ -40,6 +53,28 @@ view_options words has_colour = record {
   format = format_of words;
 }
 
+-- the program of a file is checked as these words ask for
+abbrev pub IsCheckDone
+    : (List ℕ → Option (List ℕ)) → Bool → CheckWords
+    → Option (List ℕ) → Option (List ℕ) → Option (List ℕ) → Option (List ℕ) → ℕ
+    → Type 0
+IsCheckDone bytes on_terminal words old new errors_old errors_new status =
+    let inputs = text_alone (bytes words.program.now) in
+    IsRun (checks words.json) never inputs
+    (on_text words.program.now) (fault_format words.json words.explain on_terminal)
+    old new errors_old errors_new status
+
+-- the code of the program of a file is listed as these words ask for
+abbrev pub IsCodeDone
+    : (List ℕ → Option (List ℕ)) → Bool → CodeWords
+    → Option (List ℕ) → Option (List ℕ) → Option (List ℕ) → Option (List ℕ) → ℕ
+    → Type 0
+IsCodeDone bytes on_terminal words old new errors_old errors_new status =
+    let inputs = text_alone (bytes words.program.now) in
+    IsRun (lists words.source) never inputs
+    (on_text words.program.now) (fault_format false words.explain on_terminal)
+    old new errors_old errors_new status
+
 -- the program of a file is run as these words ask for
 abbrev pub IsRunDone
     : (List ℕ → Option (List ℕ)) → Bool → RunWords
@@ -48,7 +83,7 @@ abbrev pub IsRunDone
 IsRunDone bytes on_terminal words old new errors_old errors_new status =
     let inputs = text_alone (bytes words.program.now) in
     IsRun (runs words.options) of_report inputs
-    (ExplainsText words.program.now) (is_explained words.explain on_terminal)
+    (on_text words.program.now) (fault_format false words.explain on_terminal)
     old new errors_old errors_new status
 
 -- what a test looks for, and among how many runs
@@ -74,7 +109,7 @@ IsTestDone bytes on_terminal words old new errors_old errors_new status =
     let inputs = text_alone (bytes words.program.now) in
     let listed = listed_if words.unreached words.program.now in
     IsRun (tests words.start (test_options words) listed) of_test inputs
-    (ExplainsText words.program.now) (is_explained words.explain on_terminal)
+    (on_text words.program.now) (fault_format false words.explain on_terminal)
     old new errors_old errors_new status
 
 -- the program of a file is driven by the schedule of another, as these words ask for
@@ -86,8 +121,8 @@ IsDriveDone bytes on_terminal words old new errors_old errors_new status =
     let inputs = pair_of_files MAX_SCHEDULE
     (bytes words.program.now) (bytes words.schedule.now) in
     IsRun (drives words.start) of_report inputs
-    (ExplainsPair Schedule words.program.now words.schedule.now)
-    (is_explained words.explain on_terminal)
+    (on_pair Schedule words.program.now words.schedule.now)
+    (fault_format false words.explain on_terminal)
     old new errors_old errors_new status
 
 -- the trace of a file is shown, as these words ask for
@@ -98,8 +133,8 @@ abbrev pub IsShowDone
 IsShowDone bytes has_colour on_terminal words old new errors_old errors_new status =
     let inputs = pair_of_files MAX_TRACE (bytes words.program.now) (bytes words.trace.now) in
     IsRun (shows_or_states (view_options words has_colour) words.at) of_report inputs
-    (ExplainsPair Trace words.program.now words.trace.now)
-    (is_explained words.explain on_terminal)
+    (on_pair Trace words.program.now words.trace.now)
+    (fault_format words.json words.explain on_terminal)
     old new errors_old errors_new status
 
 -- The files have these bytes by their paths, and so has standard input. Colours are wanted or not,
@@ -110,18 +145,12 @@ module _
     (old new errors_old errors_new : Option (List ℕ)) (status : ℕ) where
   abbrev pub IsTaskDone : Task → Type 0
   IsTaskDone Bundle =
-      IsRun bundles of_report (bundle_alone input) (λ _ _ _. ⊥) false
+      IsRun bundles of_report (bundle_alone input) on_nothing fault.Line
       old new errors_old errors_new status
   IsTaskDone (Check words) =
-      let inputs = text_alone (bytes words.program.now) in
-      IsRun checks never inputs (ExplainsText words.program.now)
-      (is_explained words.explain on_terminal)
-      old new errors_old errors_new status
+      IsCheckDone bytes on_terminal words old new errors_old errors_new status
   IsTaskDone (Code words) =
-      let inputs = text_alone (bytes words.program.now) in
-      IsRun lists never inputs (ExplainsText words.program.now)
-      (is_explained words.explain on_terminal)
-      old new errors_old errors_new status
+      IsCodeDone bytes on_terminal words old new errors_old errors_new status
   IsTaskDone (Drive words) =
       IsDriveDone bytes on_terminal words old new errors_old errors_new status
   IsTaskDone (Run words) = IsRunDone bytes on_terminal words old new errors_old errors_new status
@@ -129,20 +158,20 @@ module _
   IsTaskDone (Replay words) =
       let inputs = pair_of_files MAX_TRACE (bytes words.program.now) (bytes words.trace.now) in
       IsRun replays of_report inputs
-      (ExplainsPair Trace words.program.now words.trace.now)
-      (is_explained words.explain on_terminal)
+      (on_pair Trace words.program.now words.trace.now)
+      (fault_format false words.explain on_terminal)
       old new errors_old errors_new status
   IsTaskDone (Show words) =
       IsShowDone bytes has_colour on_terminal words old new errors_old errors_new status
   IsTaskDone (Migrate words) =
       let inputs = pair_of_files MAX_TRACE (bytes words.program.now) (bytes words.trace.now) in
       IsRun migrates of_report inputs
-      (ExplainsPair Trace words.program.now words.trace.now)
-      (is_explained words.explain on_terminal)
+      (on_pair Trace words.program.now words.trace.now)
+      (fault_format false words.explain on_terminal)
       old new errors_old errors_new status
   IsTaskDone (Shrink words) =
       let inputs = pair_of_files MAX_TRACE (bytes words.program.now) (bytes words.trace.now) in
       IsRun shrinks of_report inputs
-      (ExplainsPair Trace words.program.now words.trace.now)
-      (is_explained words.explain on_terminal)
+      (on_pair Trace words.program.now words.trace.now)
+      (fault_format false words.explain on_terminal)
       old new errors_old errors_new status

@@ -1,26 +1,41 @@
 //! What each task does, over any files and streams.
 ghost use Rattle.std.specs.Io.Buffered.{writer_contents};
-ghost use Rattle.std.specs.Prelude.{◌≡◌};
+ghost use Rattle.std.specs.Prelude.{◌≡◌, false};
 ghost use Rattle.bp_commands.specs.Ends.{of_report};
-ghost use Rattle.bp_commands.specs.Explanations.{ExplainsPair, ExplainsText};
 ghost use Rattle.bp_commands.specs.Files.{pair_of_files, IsRun};
 ghost use Rattle.bp_commands.specs.Given.{text_alone};
-ghost use Rattle.bp_words.specs.ExplainWords.{is_explained};
-ghost use Rattle.btrun.specs.Tasks.{format_of, test_options, view_options, IsDriveDone, IsRunDone, IsShowDone, IsTaskDone, IsTestDone};
+ghost use Rattle.bp_commands.specs.Tellings.{on_pair, on_text};
+ghost use Rattle.btrun.specs.Tasks.{fault_format, format_of, test_options, view_options, IsCheckDone, IsCodeDone, IsDriveDone, IsRunDone, IsShowDone, IsTaskDone, IsTestDone};
 
 use bp_commands::{
-    Check, Code, Drive, Files, Migrate, PairCommand, ProgramCommand, Replay, Show, ShowState, Shrink, Test,
-    run_by_workers, run_on_bundle, run_on_pair, run_on_program,
+    Check, Code, Drive, FaultFormat, Files, Migrate, PairCommand, ProgramCommand, Replay, Show,
+    ShowState, Shrink, Test, run_by_workers, run_on_bundle, run_on_pair, run_on_program,
 };
 use bp_run::{Gate, Open, Spread};
 use bp_test::{Progress, TestOptions};
 use bp_view::{ViewFormat, ViewOptions};
-use bp_words::{DriveWords, FileWords, RunWords, ShowWords, Task, TestWords, TraceWords};
+use bp_words::{
+    CheckWords, CodeWords, DriveWords, ExplainWords, RunWords, ShowWords, Task, TestWords,
+    TraceWords,
+};
 use std::alloc::Global;
 use std::io::{BufWriter, Read, Write};
 use std::sync::Wait;
 use std::thread::Threads;
 use std::time::Clock;
+
+/// In which form a fault is reported on a standard error that is a terminal or not.
+fn fault_format(json: bool, explain: ExplainWords, on_terminal: bool) -> FaultFormat
+    ensures { result ≡ fault_format json explain on_terminal }
+{
+    if json {
+        FaultFormat::Json
+    } else if explain.is_explained(on_terminal) {
+        FaultFormat::Explained
+    } else {
+        FaultFormat::Line
+    }
+}
 
 /// Runs the program of a file at a gate.
 fn run_at<F: Files, T: Threads + Wait + Clock + Sync, G: Gate, W: Write + Drop, E: Write>(
@@ -45,7 +60,7 @@ fn run_at<F: Files, T: Threads + Wait + Clock + Sync, G: Gate, W: Write + Drop, 
         gate,
         files,
         path,
-        words.explain.is_explained(on_terminal),
+        fault_format(false, words.explain, on_terminal),
         out,
         errors,
     )
@@ -130,31 +145,48 @@ fn test_as_asked<F: Files, T: Threads + Sync, P: Progress, W: Write + Drop, E: W
         &test,
         files,
         words.program,
-        words.explain.is_explained(on_terminal),
+        fault_format(false, words.explain, on_terminal),
         out,
         errors,
     )
 }
 
-fn on_file<C: ProgramCommand, F: Files, W: Write + Drop, E: Write>(
+/// Checks the program of a file.
+fn check_as_asked<F: Files, W: Write + Drop, E: Write>(
     alloc: Global,
-    command: &C,
     files: &F,
     on_terminal: bool,
-    words: &FileWords<'_>,
+    words: &CheckWords<'_>,
     out: BufWriter<W>,
     errors: &mut E,
 ) -> (u8, W)
-    requires { C.allowed command.now }
-    ensures { let inputs = text_alone (F.bytes files.now words.now.program.now) in
-        let old = writer_contents W.contents out in
-        IsRun (C.command command.now) C.Answer.ending inputs
-        (ExplainsText words.now.program.now) (is_explained words.now.explain on_terminal)
-        old (W.contents result.1)
+    ensures { let old = writer_contents W.contents out in
+        IsCheckDone (F.bytes files.now) on_terminal words.now old (W.contents result.1)
         (E.contents errors.old) (E.contents errors.new) result.0 }
 {
-    let (path, explains) = (words.program, words.explain.is_explained(on_terminal));
-    run_on_program(alloc, command, files, path, explains, out, errors)
+    let check = Check { json: words.json };
+    let format = fault_format(words.json, words.explain, on_terminal);
+    run_on_program(alloc, &check, files, words.program, format, out, errors)
+}
+
+/// Lists the code of the program of a file.
+fn list_as_asked<F: Files, W: Write + Drop, E: Write>(
+    alloc: Global,
+    files: &F,
+    on_terminal: bool,
+    words: &CodeWords<'_>,
+    out: BufWriter<W>,
+    errors: &mut E,
+) -> (u8, W)
+    ensures { let old = writer_contents W.contents out in
+        IsCodeDone (F.bytes files.now) on_terminal words.now old (W.contents result.1)
+        (E.contents errors.old) (E.contents errors.new) result.0 }
+{
+    let code = Code {
+        source: words.source,
+    };
+    let format = fault_format(false, words.explain, on_terminal);
+    run_on_program(alloc, &code, files, words.program, format, out, errors)
 }
 
 /// Does a command on the program of a file and a trace of it.
@@ -171,17 +203,14 @@ fn on_trace<C: PairCommand, F: Files, W: Write + Drop, E: Write>(
         (F.bytes files.now words.now.program.now) (F.bytes files.now words.now.trace.now) in
         let old = writer_contents W.contents out in
         IsRun (C.command command.now) of_report inputs
-        (ExplainsPair (C.beside command.now) words.now.program.now words.now.trace.now)
-        (is_explained words.now.explain on_terminal)
+        (on_pair (C.beside command.now) words.now.program.now words.now.trace.now)
+        (fault_format false words.now.explain on_terminal)
         old (W.contents result.1)
         (E.contents errors.old) (E.contents errors.new) result.0 }
 {
-    let (path, trace, explains) = (
-        words.program,
-        words.trace,
-        words.explain.is_explained(on_terminal),
-    );
-    run_on_pair(alloc, command, files, path, trace, explains, out, errors)
+    let (path, trace) = (words.program, words.trace);
+    let format = fault_format(false, words.explain, on_terminal);
+    run_on_pair(alloc, command, files, path, trace, format, out, errors)
 }
 
 /// Drives the program of a file by the schedule of another.
@@ -198,18 +227,15 @@ fn drive_as_asked<F: Files, W: Write + Drop, E: Write>(
         (E.contents errors.old) (E.contents errors.new) result.0 }
 {
     let start = &words.start;
-    let (path, schedule, explains) = (
-        words.program,
-        words.schedule,
-        words.explain.is_explained(on_terminal),
-    );
+    let (path, schedule) = (words.program, words.schedule);
+    let format = fault_format(false, words.explain, on_terminal);
     run_on_pair(
         alloc,
         &Drive { start },
         files,
         path,
         schedule,
-        explains,
+        format,
         out,
         errors,
     )
@@ -254,17 +280,14 @@ fn on_shown<C: PairCommand, F: Files, W: Write + Drop, E: Write>(
         (F.bytes files.now words.now.program.now) (F.bytes files.now words.now.trace.now) in
         let old = writer_contents W.contents out in
         IsRun (C.command command.now) of_report inputs
-        (ExplainsPair (C.beside command.now) words.now.program.now words.now.trace.now)
-        (is_explained words.now.explain on_terminal)
+        (on_pair (C.beside command.now) words.now.program.now words.now.trace.now)
+        (fault_format words.now.json words.now.explain on_terminal)
         old (W.contents result.1)
         (E.contents errors.old) (E.contents errors.new) result.0 }
 {
-    let (path, trace, explains) = (
-        words.program,
-        words.trace,
-        words.explain.is_explained(on_terminal),
-    );
-    run_on_pair(alloc, command, files, path, trace, explains, out, errors)
+    let (path, trace) = (words.program, words.trace);
+    let format = fault_format(words.json, words.explain, on_terminal);
+    run_on_pair(alloc, command, files, path, trace, format, out, errors)
 }
 
 /// Shows the trace of a file: the state after so many calls where that is asked for, else the calls.
@@ -322,8 +345,8 @@ pub fn do_task<
 {
     match task {
         Task::Bundle => run_on_bundle(alloc, input, out, errors),
-        Task::Check(words) => on_file(alloc, &Check, files, on_terminal, words, out, errors),
-        Task::Code(words) => on_file(alloc, &Code, files, on_terminal, words, out, errors),
+        Task::Check(words) => check_as_asked(alloc, files, on_terminal, words, out, errors),
+        Task::Code(words) => list_as_asked(alloc, files, on_terminal, words, out, errors),
         Task::Drive(words) => drive_as_asked(alloc, files, on_terminal, words, out, errors),
         Task::Run(words) => run_as_asked(alloc, threads, files, on_terminal, words, out, errors),
         Task::Test(words) => test_as_asked(

@@ -3,7 +3,8 @@ ghost use Rattle.std.specs.IoError.{error_kind};
 ghost use Rattle.clap.specs.Words.{kind_of};
 ghost use Rattle.std.specs.Prelude.{◌≡◌, MatchResult};
 ghost use Rattle.bp_commands.specs.declared.faults.Fault.{Fault};
-ghost use Rattle.btrun.specs.Statuses.{HasFaultLine, IsWordsStatus, IsWordsLine, IsUnreadStatus, IsUnreadLine};
+ghost use Rattle.bp_commands.specs.Ends.{HasFaultLine};
+ghost use Rattle.btrun.specs.Statuses.{IsWordsStatus, IsWordsLine, IsUnreadStatus, IsUnreadLine};
 
 use crate::echoes::Echo;
 use bp_commands::{Fault, end};

@@ -46,14 +46,14 @@ fn writes_a_trace<C: PairCommand>(
 #[test]
 fn writes_a_prefix_of_a_line(rt: HostRuntime) {
     for room in 0..=7 {
-        assert!(rt; writes_a_front(rt.alloc(), &Check, room, b"ok 2 1\n"));
+        assert!(rt; writes_a_front(rt.alloc(), &Check { json: false }, room, b"ok 2 1\n"));
     }
 }
 
 #[test]
 fn writes_a_prefix_of_a_listing(rt: HostRuntime) {
     for room in 0..=LISTING.len() {
-        assert!(rt; writes_a_front(rt.alloc(), &Code, room, LISTING));
+        assert!(rt; writes_a_front(rt.alloc(), &Code { source: false }, room, LISTING));
     }
 }
 

@@ -18,21 +18,48 @@ fn does<C: ProgramCommand>(
     said_of_program(alloc, command, text, &mut out) == said && out.as_slice() == lines
 }
 
+/// The names of the recursive program.
+const OBJECT: &[u8] = b"\
+    {\"kind\":\"program\",\"version\":1,\"procedures\":[\
+    {\"name\":\"main\",\"formals\":[],\"locals\":[\"h\"]},\
+    {\"name\":\"A\",\"formals\":[\"a1\",\"a2\"],\"locals\":[]}],\"globals\":[\"g\"]}\n";
+
+const SOURCED: &[u8] = b"\
+    proc main 0 0\n\
+    0 skip 1             ; 1:14    skip\n\
+    1 return             ; -       end of main\n";
+
+#[test]
+fn names_and_lists_with_the_source(rt: HostRuntime) {
+    let alloc = rt.alloc();
+    assert!(rt; does(alloc, &Check { json: true }, RECURSIVE, None, OBJECT));
+    let text = b"main() begin skip; end";
+    assert!(rt; does(alloc, &Code { source: true }, text, None, SOURCED));
+}
+
 #[test]
 fn checks_texts(rt: HostRuntime) {
     let alloc = rt.alloc();
-    assert!(rt; does(alloc, &Check, RECURSIVE, None, b"ok 2 1\n"));
-    assert!(rt; does(alloc, &Check, b"main() begin end", Some((6, Some(13))), b""));
+    assert!(rt; does(alloc, &Check { json: false }, RECURSIVE, None, b"ok 2 1\n"));
+    assert!(rt;
+        does(
+            alloc,
+            &Check { json: false },
+            b"main() begin end",
+            Some((6, Some(13))),
+            b""
+        )
+    );
 }
 
 #[test]
 fn lists_texts(rt: HostRuntime) {
     let alloc = rt.alloc();
-    assert!(rt; does(alloc, &Code, RECURSIVE, None, LISTING));
+    assert!(rt; does(alloc, &Code { source: false }, RECURSIVE, None, LISTING));
     assert!(rt;
         does(
             alloc,
-            &Code,
+            &Code { source: false },
             b"main() begin x := 2; end",
             Some((2, Some(18))),
             b""
@@ -44,7 +71,12 @@ fn lists_texts(rt: HostRuntime) {
 fn left_of(alloc: Global, count: usize) -> Result<Option<usize>, Fail> {
     let text = vec![in alloc; b' '; count]?;
     let mut program = Source::new(alloc, text.as_slice());
-    let done = do_on_program(alloc, &Check, &mut program, &mut Vec::new(alloc));
+    let done = do_on_program(
+        alloc,
+        &Check { json: false },
+        &mut program,
+        &mut Vec::new(alloc),
+    );
     Ok((said(&done) == Some((1, None))).then_some(program.reader.len()))
 }
 

@@ -1,9 +1,25 @@
 //! Runs of the commands on two files: what is printed, the line on standard error, the exit status.
 use super::pages::{End, Pages, buffer, failed_assertion, failed_write, is_end, refusal};
 use super::{RACE, RACE_LINES, RACE_TRACE, RACE_TRACE_2, race};
-use bp_commands::{Drive, Migrate, PairCommand, Replay, run_on_pair};
+use bp_commands::{Drive, FaultFormat, Migrate, PairCommand, Replay, run_on_pair};
 use std::alloc::Global;
 use std::io;
+
+/// Whether a command on a pair of files, over a writer with so much room, ends so, with a fault in
+/// this format.
+fn pair_ends_in<C: PairCommand>(
+    alloc: Global,
+    command: &C,
+    format: FaultFormat,
+    pages: &Pages<'_>,
+    room: usize,
+    end: End<'_>,
+) -> io::Result<bool> {
+    let mut errors = Vec::new(alloc);
+    let out = buffer(alloc, room)?;
+    let (status, out) = run_on_pair(alloc, command, pages, "p", "i", format, out, &mut errors);
+    Ok(is_end(status, &out, &errors, end))
+}
 
 /// Whether a command on a pair of files, over a writer with so much room, ends so.
 fn pair_ends<C: PairCommand>(
@@ -13,10 +29,7 @@ fn pair_ends<C: PairCommand>(
     room: usize,
     end: End<'_>,
 ) -> io::Result<bool> {
-    let mut errors = Vec::new(alloc);
-    let out = buffer(alloc, room)?;
-    let (status, out) = run_on_pair(alloc, command, pages, "p", "i", false, out, &mut errors);
-    Ok(is_end(status, &out, &errors, end))
+    pair_ends_in(alloc, command, FaultFormat::Line, pages, room, end)
 }
 
 #[test]
@@ -65,6 +78,11 @@ fn ends_migrations(rt: HostRuntime) -> io::Result<()> {
     Ok(())
 }
 
+/// A trace of the race whose last call has the reply of a step.
+const OTHER_REPLY: &[u8] = b"\
+    btrace 1\nentry a\nentry b\ninit 0\ncontexts 3\ncalls 1000\nseed none\n\
+    0 0 s\n1 0 s\n0 0 s\nend 3 1\n";
+
 /// Whether replaying this trace ends so.
 fn replay_ends(alloc: Global, trace: &[u8], end: End<'_>) -> io::Result<bool> {
     let pages = Pages {
@@ -79,9 +97,28 @@ fn ends_replays(rt: HostRuntime) -> io::Result<()> {
     let alloc = rt.alloc();
     assert!(rt; replay_ends(alloc, RACE_TRACE, failed_assertion(b"outcome failed 0\n"))?);
     assert!(rt; replay_ends(alloc, b"", refusal(b"btrun: 41 Head line 1\n"))?);
-    let other = b"\
-        btrace 1\nentry a\nentry b\ninit 0\ncontexts 3\ncalls 1000\nseed none\n\
-        0 0 s\n1 0 s\n0 0 s\nend 3 1\n";
-    assert!(rt; replay_ends(alloc, other, refusal(b"btrun: 44 Reply line 10 wanted f\n"))?);
+    assert!(rt;
+        replay_ends(
+            alloc,
+            OTHER_REPLY,
+            refusal(b"btrun: 44 Reply line 10 wanted f\n")
+        )?
+    );
+    Ok(())
+}
+
+#[test]
+fn reports_faults_of_traces_as_objects(rt: HostRuntime) -> io::Result<()> {
+    let pages = Pages {
+        program: RACE,
+        input: OTHER_REPLY,
+    };
+    let other = refusal(
+        b"{\"kind\":\"fault\",\"version\":1,\"number\":44,\"name\":\"Reply\",\"file\":\"i\",\
+        \"offset\":null,\"line\":10,\"column\":null,\"thread\":null,\"wanted\":\"f\",\
+        \"message\":\"expected '0 0 f': the assertion is false\"}\n",
+    );
+    let format = FaultFormat::Json;
+    assert!(rt; pair_ends_in(rt.alloc(), &Replay, format, &pages, 1000, other)?);
     Ok(())
 }

@@ -2,7 +2,7 @@
 use super::RECURSIVE;
 use super::pages::{End, Page, Pages, buffer, failed_assertion, failed_write, is_end, refusal};
 use crate::texts::repeated;
-use bp_commands::{Check, Code, run_on_bundle, run_on_program};
+use bp_commands::{Check, Code, FaultFormat, run_on_bundle, run_on_program};
 use std::alloc::Global;
 use std::io;
 
@@ -12,7 +12,7 @@ fn check_ends(
     alloc: Global,
     text: &[u8],
     path: &str,
-    explains: bool,
+    format: FaultFormat,
     end: End<'_>,
 ) -> io::Result<bool> {
     let pages = Pages {
@@ -21,7 +21,15 @@ fn check_ends(
     };
     let mut errors = Vec::new(alloc);
     let out = buffer(alloc, 6)?;
-    let (status, out) = run_on_program(alloc, &Check, &pages, path, explains, out, &mut errors);
+    let (status, out) = run_on_program(
+        alloc,
+        &Check { json: false },
+        &pages,
+        path,
+        format,
+        out,
+        &mut errors,
+    );
     Ok(is_end(status, &out, &errors, end))
 }
 
@@ -30,14 +38,30 @@ const BAD: &[u8] = b"main() begin end";
 #[test]
 fn ends_checks(rt: HostRuntime) -> io::Result<()> {
     let alloc = rt.alloc();
-    assert!(rt; check_ends(alloc, BAD, "p", false, refusal(b"btrun: 6 Syntax at 13\n"))?);
+    assert!(rt;
+        check_ends(
+            alloc,
+            BAD,
+            "p",
+            FaultFormat::Line,
+            refusal(b"btrun: 6 Syntax at 13\n")
+        )?
+    );
     let unread = End {
         status: 3,
         printed: b"",
         errors: b"btrun: 54 Device\n",
     };
-    assert!(rt; check_ends(alloc, BAD, "q", false, unread)?);
-    assert!(rt; check_ends(alloc, RECURSIVE, "p", false, failed_write(b"ok 2 1"))?);
+    assert!(rt; check_ends(alloc, BAD, "q", FaultFormat::Line, unread)?);
+    assert!(rt;
+        check_ends(
+            alloc,
+            RECURSIVE,
+            "p",
+            FaultFormat::Line,
+            failed_write(b"ok 2 1")
+        )?
+    );
     Ok(())
 }
 
@@ -48,13 +72,35 @@ fn explains_where_it_is_asked_for(rt: HostRuntime) -> io::Result<()> {
         p:1:14: expected a statement or 'decl', not 'end'; write 'skip;' where there is \
         nothing to do\n    main() begin end\n                 ^\n",
     );
-    assert!(rt; check_ends(rt.alloc(), BAD, "p", true, explained)?);
+    assert!(rt; check_ends(rt.alloc(), BAD, "p", FaultFormat::Explained, explained)?);
     let unread = End {
         status: 3,
         printed: b"",
         errors: b"btrun: 54 Device\ncannot open 'q': No such file or directory\n",
     };
-    assert!(rt; check_ends(rt.alloc(), BAD, "q", true, unread)?);
+    assert!(rt; check_ends(rt.alloc(), BAD, "q", FaultFormat::Explained, unread)?);
+    Ok(())
+}
+
+/// A program whose fault is on its second line.
+const BAD_LINE: &[u8] = b"main() begin\n  x := 1; end";
+
+#[test]
+fn reports_faults_as_objects(rt: HostRuntime) -> io::Result<()> {
+    let unknown = refusal(
+        b"{\"kind\":\"fault\",\"version\":1,\"number\":15,\"name\":\"UnknownVariable\",\
+        \"file\":\"p\",\"offset\":15,\"line\":2,\"column\":3,\"thread\":null,\"wanted\":null,\
+        \"message\":\"there is no global 'x', and no formal or local in 'main'\"}\n",
+    );
+    assert!(rt; check_ends(rt.alloc(), BAD_LINE, "p", FaultFormat::Json, unknown)?);
+    let unread = End {
+        status: 3,
+        printed: b"",
+        errors: b"{\"kind\":\"fault\",\"version\":1,\"number\":54,\"name\":\"Device\",\
+            \"file\":\"q\",\"offset\":null,\"line\":null,\"column\":null,\"thread\":null,\
+            \"wanted\":null,\"message\":\"cannot open 'q': No such file or directory\"}\n",
+    };
+    assert!(rt; check_ends(rt.alloc(), BAD_LINE, "q", FaultFormat::Json, unread)?);
     Ok(())
 }
 
@@ -68,7 +114,15 @@ fn lists_a_long_name(alloc: Global) -> io::Result<bool> {
     };
     let mut errors = Vec::new(alloc);
     let out = buffer(alloc, 20_000)?;
-    let (status, out) = run_on_program(alloc, &Code, &pages, "p", false, out, &mut errors);
+    let (status, out) = run_on_program(
+        alloc,
+        &Code { source: false },
+        &pages,
+        "p",
+        FaultFormat::Line,
+        out,
+        &mut errors,
+    );
     let end = End {
         status: 0,
         printed: &listing,

@@ -19,8 +19,8 @@ fn is_unread<C: ProgramCommand>(alloc: Global, command: &C, reads: usize) -> boo
 #[test]
 fn reports_that_a_program_was_not_read(rt: HostRuntime) {
     for reads in 0..2 {
-        assert!(rt; is_unread(rt.alloc(), &Check, reads));
-        assert!(rt; is_unread(rt.alloc(), &Code, reads));
+        assert!(rt; is_unread(rt.alloc(), &Check { json: false }, reads));
+        assert!(rt; is_unread(rt.alloc(), &Code { source: false }, reads));
     }
 }
 

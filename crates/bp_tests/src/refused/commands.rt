@@ -70,8 +70,18 @@ fn number_of_pair<C: PairCommand>(
 fn number(alloc: Global, command: Command, start: &Start, out: &mut Vec<u8>) -> Option<u32> {
     let mut program = Source::new(alloc, PROGRAM);
     match command {
-        Command::Check => number_of(do_on_program(alloc, &Check, &mut program, out)),
-        Command::Code => number_of(do_on_program(alloc, &Code, &mut program, out)),
+        Command::Check => number_of(do_on_program(
+            alloc,
+            &Check { json: false },
+            &mut program,
+            out,
+        )),
+        Command::Code => number_of(do_on_program(
+            alloc,
+            &Code { source: false },
+            &mut program,
+            out,
+        )),
         Command::Bundle => {
             let mut bundle = Source::new(alloc, BUNDLE);
             number_of(drive_bundle(alloc, &mut bundle, out))

@@ -6,8 +6,8 @@ use Rattle.bp_words.proofs.commands.command.Goals as goal
 
 pub returns : goal.returns
 returns c =
-    let check = with_command _ _ _ _ check_app c.program.ensures c.in_ok-file_command.ensures c.in_ok-subcommand.ensures in
-    let code = with_command _ _ _ _ code_app check c.in_ok-file_command-2.ensures c.in_ok-subcommand-2.ensures in
+    let check = with_command _ _ _ _ check_app c.program.ensures c.in_ok-check_command.ensures c.in_ok-subcommand.ensures in
+    let code = with_command _ _ _ _ code_app check c.in_ok-code_command.ensures c.in_ok-subcommand-2.ensures in
     let drive = with_command _ _ _ _ drive_app code c.in_ok-drive_command.ensures c.in_ok-subcommand-3.ensures in
     let run = with_command _ _ _ _ run_app drive c.in_ok-run_command.ensures c.in_ok-subcommand-4.ensures in
     let test = with_command _ _ _ _ test_app run c.in_ok-test_command.ensures c.in_ok-subcommand-5.ensures in

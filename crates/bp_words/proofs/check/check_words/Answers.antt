@@ -2,10 +2,11 @@ use Rattle.std.proofs.Common.{◌∙◌, codes, refl}
 use Rattle.clap.proofs.WalkLemmas.{first_value-rows}
 use Rattle.clap.specs.Matches.{found_of}
 use Rattle.bp_words.proofs.GivenArguments.{value_read}
-use Rattle.bp_words.proofs.files.file_words.Goals as goal
+use Rattle.bp_words.proofs.check.check_words.Goals as goal
 
 pub returns : goal.returns
 returns c = record {
   program = value_read _ _ (c.get_str.ensures ∙ first_value-rows (found_of c.args.words.now) (codes "FILE")) c.unwrap_or.result _ c.unwrap_or.ensures refl;
+  json = c.is_given.ensures;
   explain = c.explain_words.ensures;
 }

@@ -1,0 +1,56 @@
+-- The object that a run writes of a fault is that of the inputs that were read.
+use Rattle.std.proofs.Common.{◌≡◌, ◌⊎◌, ◌∙◌, ℕ, List, Option, None, Result, Ok, Err, refl, subst, sym, inl, inr, ap}
+use Rattle.bp_commands.specs.declared.explanations.Beside.{Beside}
+use Rattle.bp_commands.specs.declared.fault_formats.FaultFormat.{FaultFormat}
+use Rattle.bp_commands.specs.declared.fault_formats.FaultFormat.TheVariants as format
+use Rattle.bp_commands.specs.declared.inputs.InputFault.{InputFault}
+use Rattle.bp_commands.specs.declared.inputs.InputFault.TheVariants as input
+use Rattle.bp_commands.specs.declared.faults.Fault.{Fault}
+use Rattle.bp_commands.specs.Ends.{Ending, Ends}
+use Rattle.bp_commands.specs.Explanations.{AreReadOr}
+use Rattle.bp_commands.specs.Faults.{fault_of_input, fault_of_text}
+use Rattle.bp_commands.specs.Flushes.{IsFlushed}
+use Rattle.bp_commands.specs.Given.{Inputs, Pair, IsTextUnread, IsPairUnread}
+use Rattle.bp_commands.specs.Tellings.{IsObjectRead, IsReported, NamesNoByte}
+
+module _ {X R : Type 0} (inputs : Inputs X) (IsObject : X → Fault → List ℕ → Type 0) (unread : (f : Fault) → inputs.Unread f → NamesNoByte f) (given : X) where
+  same_fault : (f g : Fault) (final : Result R Fault) (held now : Option (List ℕ)) → IsFlushed (Err g) held final now → final ≡ Err f → f ≡ g
+  same_fault f g final held now (inl (keeps, e)) is = cc
+  same_fault f g final held now (inr (lacks, e)) is = cc
+
+  -- a fault that names a byte is of inputs that were read
+  read_or_nowhere : (done final : Result R Fault) (held now : Option (List ℕ)) (f : Fault) → AreReadOr inputs given done → IsFlushed done held final now → final ≡ Err f
+      → inputs.Holds given ⊎ NamesNoByte f
+  read_or_nowhere done final held now f (inl holds) flushed is = inl holds
+  read_or_nowhere (Ok r) final held now f (inr never) flushed is = absurd never
+  read_or_nowhere (Err g) final held now f (inr why) flushed is = inr (subst NamesNoByte (sym (same_fault f g final held now flushed is)) (unread g why))
+
+  reports : (kind : FaultFormat) (done final : Result R Fault) (held now : Option (List ℕ)) (f : Fault) (old new : Option (List ℕ)) → AreReadOr inputs given done → IsFlushed done held final now → final ≡ Err f
+      → IsReported kind (IsObject given) f old new → IsReported kind (IsObjectRead inputs IsObject) f old new
+  reports format.Line done final held now f old new read flushed is reported = reported
+  reports format.Explained done final held now f old new read flushed is reported = reported
+  reports format.Json done final held now f old new read flushed is (object, of, written) =
+      (object, record { given = given; read = read_or_nowhere done final held now f read flushed is; is = of }, written)
+
+  pub ends_read : (ending : Ending R) (kind : FaultFormat) (done final : Result R Fault) (held now : Option (List ℕ)) (status : ℕ) (old new : Option (List ℕ)) → AreReadOr inputs given done → IsFlushed done held final now
+      → Ends ending (IsReported kind (IsObject given)) final status old new → Ends ending (IsReported kind (IsObjectRead inputs IsObject)) final status old new
+  ends_read ending kind done (Ok r) held now status old new read flushed ends = ends
+  ends_read ending kind done (Err f) held now status old new read flushed (status_is, reported) =
+      (status_is, reports kind done (Err f) held now f old new read flushed refl reported)
+
+no_byte_of_text : (cause : InputFault) → NamesNoByte (fault_of_text cause)
+no_byte_of_text input.Device = refl
+no_byte_of_text input.TooLong = refl
+no_byte_of_text input.Memory = refl
+
+no_byte_of_input : (cause : InputFault) → NamesNoByte (fault_of_input cause)
+no_byte_of_input input.Device = refl
+no_byte_of_input input.TooLong = refl
+no_byte_of_input input.Memory = refl
+
+pub no_byte_unread : (old new : Option (List ℕ)) (f : Fault) → IsTextUnread old new f → NamesNoByte f
+no_byte_unread old new f u = subst NamesNoByte (sym u.is) (no_byte_of_text u.cause)
+
+pub no_byte_unread_pair : (limit : ℕ) (text_old text_new old new : Option (List ℕ)) (f : Fault) → IsPairUnread limit text_old text_new old new f → NamesNoByte f
+no_byte_unread_pair limit text_old text_new old new f (inl (untouched, u)) = subst NamesNoByte (sym u.is) (no_byte_of_text u.cause)
+no_byte_unread_pair limit text_old text_new old new f (inr i) = subst NamesNoByte (sym i.unread.is) (no_byte_of_input i.unread.cause)

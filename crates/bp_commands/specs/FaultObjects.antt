@@ -1,0 +1,58 @@
+-- The object of a fault in JSON.
+use Rattle.std.specs.Prelude.{ℕ, List, [], ◌∷◌, ◌++◌, Option, None, Some, codes, decimal}
+use Rattle.std.specs.List.{concat}
+use Rattle.bp_machine.specs.Replies.{letter_of}
+use Rattle.bp_text.specs.Positions.{position_at}
+use Rattle.bp_view.specs.JsonTexts.{member, number_or_null, string_or_null, string_text}
+use Rattle.bp_commands.specs.declared.fault_table.Detail.{Detail}
+use Rattle.bp_commands.specs.declared.fault_table.Detail.TheVariants.{Nothing, Byte, Thread, Line, Wanted}
+use Rattle.bp_commands.specs.declared.faults.Fault.{Fault}
+use Rattle.bp_commands.specs.FaultTable.{fault_row, RowOf}
+
+-- the byte of the program text that a fault names
+abbrev pub byte_of : Detail → Option ℕ
+byte_of (Byte at) = Some at
+byte_of d = None
+
+-- the line that a fault names: that of its byte in this text, or that of a schedule or a trace
+abbrev pub line_in : (text : List ℕ) → Detail → Option ℕ
+line_in text (Byte at) = Some (position_at text at).line
+line_in text (Line n) = Some n
+line_in text (Wanted n r) = Some n
+line_in text d = None
+
+-- the column of the byte that a fault names
+abbrev pub column_in : (text : List ℕ) → Detail → Option ℕ
+column_in text (Byte at) = Some (position_at text at).column
+column_in text d = None
+
+-- the guest thread that a fault names
+abbrev pub thread_of : Detail → Option ℕ
+thread_of (Thread k) = Some k
+thread_of d = None
+
+-- the letter of the reply that is wanted
+abbrev pub letter_text : Detail → Option (List ℕ)
+letter_text (Wanted n r) = Some (letter_of r ∷ [])
+letter_text d = None
+
+-- the facts of a fault's line, the file that it is in, its place in the program text, and a sentence
+abbrev pub fault_members : RowOf → Option (List ℕ) → (text message : List ℕ) → List ℕ
+fault_members r file text message =
+    concat (
+    member (codes "number") (decimal r.number)
+    ∷ member (codes "name") (string_text r.name)
+    ∷ member (codes "file") (string_or_null file)
+    ∷ member (codes "offset") (number_or_null (byte_of r.detail))
+    ∷ member (codes "line") (number_or_null (line_in text r.detail))
+    ∷ member (codes "column") (number_or_null (column_in text r.detail))
+    ∷ member (codes "thread") (number_or_null (thread_of r.detail))
+    ∷ member (codes "wanted") (string_or_null (letter_text r.detail))
+    ∷ member (codes "message") (string_text message)
+    ∷ [])
+
+-- the object of a fault in this file, or in none
+abbrev pub fault_object : Fault → Option (List ℕ) → (text message : List ℕ) → List ℕ
+fault_object f file text message =
+    codes "{\"kind\":\"fault\",\"version\":1"
+    ++ (fault_members (fault_row f) file text message ++ codes "}\n")

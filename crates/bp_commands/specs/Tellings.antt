@@ -1,0 +1,87 @@
+-- What is told of a refusal on standard error, in each format.
+use Rattle.std.specs.Prelude.{◌≡◌, ◌⊎◌, ℕ, List, Option, None, Some, Bool, true, false}
+use Rattle.bp_commands.specs.declared.explanations.Beside.{Beside}
+use Rattle.bp_commands.specs.declared.explanations.Beside.TheVariants as beside
+use Rattle.bp_commands.specs.declared.fault_formats.FaultFormat.{FaultFormat}
+use Rattle.bp_commands.specs.declared.fault_formats.FaultFormat.TheVariants as format
+use Rattle.bp_commands.specs.declared.faults.Fault.{Fault}
+use Rattle.bp_commands.specs.declared.faults.Fault.TheVariants.{Device, TooLong, Program, Setup, Schedule, Trace, NoFailure}
+use Rattle.bp_commands.specs.Ends.{HasFaultLine, HasLine}
+use Rattle.bp_commands.specs.Explanations.{ExplainsPair, ExplainsText}
+use Rattle.bp_commands.specs.FaultObjects.{byte_of, fault_object}
+use Rattle.bp_commands.specs.FaultTable.{fault_row}
+use Rattle.bp_commands.specs.Given.{Inputs, Pair}
+
+-- lines explain the fault after its line
+abbrev pub is_explained : FaultFormat → Bool
+is_explained format.Explained = true
+is_explained other = false
+
+-- The fault is reported in this format: its line was written, or one of these objects in its place;
+-- or a proper prefix where standard error failed.
+abbrev pub IsReported
+    : FaultFormat → (Fault → List ℕ → Type 0) → Fault → Option (List ℕ) → Option (List ℕ) → Type 0
+IsReported format.Json IsObject f old new =
+    (object : List ℕ) × IsObject f object × HasLine object old new
+IsReported other IsObject f old new = HasFaultLine f old new
+
+-- the file that a fault of a command on one program is in
+abbrev pub file_of_text : List ℕ → Fault → Option (List ℕ)
+file_of_text name Device = Some name
+file_of_text name (Program f) = Some name
+file_of_text name f = None
+
+-- The file that a fault of a command on a program and an input beside it is in. Which of them could
+-- not be read is not said.
+abbrev pub IsFileOfPair : Beside → List ℕ → List ℕ → Fault → Option (List ℕ) → Type 0
+IsFileOfPair kind name input_name Device file = (file ≡ Some name) ⊎ (file ≡ Some input_name)
+IsFileOfPair kind name input_name (Program f) file = file ≡ Some name
+IsFileOfPair kind name input_name TooLong file = file ≡ Some input_name
+IsFileOfPair kind name input_name (Schedule f) file = file ≡ Some input_name
+IsFileOfPair kind name input_name (Trace f) file = file ≡ Some input_name
+IsFileOfPair kind name input_name NoFailure file = file ≡ Some input_name
+IsFileOfPair beside.Trace name input_name (Setup f) file = file ≡ Some input_name
+IsFileOfPair kind name input_name f file = file ≡ None
+
+-- the object of a fault of the program in the file of this name
+pub record IsTextObject (name text : List ℕ) (f : Fault) (object : List ℕ) : Type 0 where
+  pub message : List ℕ
+  pub is : object ≡ fault_object f (file_of_text name f) text message
+
+-- the object of a fault of a program, or of the input beside it
+pub record IsPairObject
+    (kind : Beside) (name input_name : List ℕ) (given : Pair) (f : Fault) (object : List ℕ)
+    : Type 0 where
+  pub file : Option (List ℕ)
+  pub named : IsFileOfPair kind name input_name f file
+  pub message : List ℕ
+  pub is : object ≡ fault_object f file given.text message
+
+-- what is told of faults of these inputs: the lines that explain one, and its object
+pub record Telling (X : Type 0) : Type 1 where
+  pub Explains : X → Fault → List ℕ → Type 0
+  pub IsObject : X → Fault → List ℕ → Type 0
+
+abbrev pub on_text : List ℕ → Telling (List ℕ)
+on_text name = record { Explains = ExplainsText name; IsObject = IsTextObject name }
+
+abbrev pub on_pair : Beside → List ℕ → List ℕ → Telling Pair
+on_pair kind name input_name = record {
+  Explains = ExplainsPair kind name input_name;
+  IsObject = IsPairObject kind name input_name;
+}
+
+-- nothing is explained, and no fault has an object
+abbrev pub on_nothing : {X : Type 0} → Telling X
+on_nothing = record { Explains = λ _ _ _. ⊥; IsObject = λ _ _ _. ⊥ }
+
+-- the fault names no byte of the program text
+abbrev pub NamesNoByte : Fault → Type 0
+NamesNoByte f = let r = fault_row f in byte_of r.detail ≡ None
+
+-- the object of a fault of the inputs that were read: of any, where it names no byte of them
+module _ {X : Type 0} (inputs : Inputs X) (IsObject : X → Fault → List ℕ → Type 0) where
+  pub record IsObjectRead (f : Fault) (object : List ℕ) : Type 0 where
+    pub given : X
+    pub read : inputs.Holds given ⊎ NamesNoByte f
+    pub is : IsObject given f object

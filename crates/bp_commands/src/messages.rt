@@ -1,0 +1,44 @@
+//! The sentence that says what a fault is, alone.
+
+use crate::faults::Fault;
+use crate::hints::Hints;
+use bp_text::{first_line, part_from, push_bytes};
+use std::alloc::{AllocError, Global};
+
+/// The fault in a sentence, which says what is known of the command line.
+pub(crate) fn sentence(
+    alloc: Global,
+    fault: &Fault,
+    hints: Hints<'_>,
+) -> Result<String, AllocError> {
+    match hints.words(alloc, fault) {
+        Some(words) => Ok(words),
+        None => format!(in alloc; "{fault}"),
+    }
+}
+
+/// The sentence of an explanation. Its first line has the name of a file, a place, and a space
+/// before it.
+fn sentence_in<'a>(file: &str, lines: &'a [u8]) -> &'a [u8] {
+    let after_name = part_from(first_line(lines), file.len());
+    match after_name.iter().position(|byte| *byte == b' ') {
+        Some(space) => part_from(part_from(after_name, space), 1),
+        None => after_name,
+    }
+}
+
+/// The sentence of the lines that explain a fault of a file; else the fault in a sentence.
+pub(crate) fn message(
+    alloc: Global,
+    lines: Option<Vec<u8>>,
+    file: Option<&str>,
+    fault: &Fault,
+    hints: Hints<'_>,
+) -> Result<Vec<u8>, AllocError> {
+    let mut message = Vec::new(alloc);
+    match lines {
+        Some(lines) => push_bytes(&mut message, sentence_in(file.unwrap_or(""), &lines))?,
+        None => push_bytes(&mut message, sentence(alloc, fault, hints)?.as_bytes())?,
+    }
+    Ok(message)
+}

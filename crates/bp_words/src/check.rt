@@ -1,0 +1,55 @@
+//! The words of `check`.
+ghost use Rattle.std.specs.Prelude.{◌≡◌, false, IfOk};
+ghost use Rattle.clap.specs.Words.{app_of, found_of, rows_of};
+ghost use Rattle.clap.specs.declared.builder.command.Command.TheViews.{out-Command};
+ghost use Rattle.bp_words.specs.Commands.{check_app};
+ghost use Rattle.bp_words.specs.CheckWords.{IsCheckWordsOf};
+
+use crate::arguments::flag;
+use crate::explain::{ExplainWords, explain_words};
+use crate::files::file_command;
+use crate::values::is_given;
+use clap::{ArgMatches, Command};
+use std::alloc::{AllocError, Global};
+
+/// A program that is checked.
+#[derive(Drop)]
+pub struct CheckWords<'a> {
+    /// The path of the program's text.
+    pub program: &'a str,
+    /// Whether `--json` was given: what is printed is then a JSON object, and so is a fault.
+    pub json: bool,
+    /// When a fault is explained.
+    pub explain: ExplainWords,
+}
+
+const ABOUT: &str =
+    "Checks a program and prints 'ok', its number of procedures and its number of globals";
+
+/// What `check --help` says after the arguments.
+const NOTES: &str = "\
+    The first fault is one line on standard error, with the offset of its byte. With --json the\n\
+    names of procedures and variables are printed, and a fault is an object too.\n\n\
+    Example:\n  btrun check lock.bp\n\nExit status:\n  0  the program is lawful\n  \
+    2  it is refused, or the words were\n  3  memory, a device or the output failed";
+
+/// The arguments, options and help of the command.
+pub fn check_command<'a>(alloc: Global) -> Result<Command<'a>, AllocError>
+    ensures { IfOk result
+        (λ c. (app_of c ≡ check_app) × ((out-Command c).has_globals ≡ false)) }
+{
+    let json = "Prints one JSON object, for programs";
+    file_command(alloc, "check", ABOUT, NOTES)?.arg(flag(alloc, "json", json))
+}
+
+/// What the words after `check` ask for.
+pub fn check_words<'a>(words: &ArgMatches<'a>) -> CheckWords<'a>
+    ensures { IsCheckWordsOf (rows_of (found_of words.now)) result }
+{
+    // FILE is required, so it is there.
+    CheckWords {
+        program: words.get_str("FILE").unwrap_or(""),
+        json: is_given(words, "json"),
+        explain: explain_words(words),
+    }
+}
