@@ -1,5 +1,5 @@
 -- A recorded call of a history that may be played is refused for memory alone.
-use Rattle.std.proofs.Common.{◌≡◌, ◌∙◌, ◌<◌, ℕ, ◌+◌, ◌^◌, List, [], ◌∷◌, ◌++◌, Bool, true, Option, None, Some, cond, is_some, length, arith, sym, refl}
+use Rattle.std.proofs.Common.{if◌then◌else◌, ◌≡◌, ◌∙◌, ◌<◌, ℕ, ◌+◌, ◌^◌, List, [], ◌∷◌, ◌++◌, Bool, true, Option, None, Some, is_some, length, arith, sym, refl}
 use Rattle.std.proofs.Math.Nat.{mul-le-mul_left, mul-le-mul_right}
 use Rattle.std.proofs.lemmas.Bool.{false≢true}
 use Rattle.bp_tree.specs.Ast.{Program}
@@ -16,11 +16,11 @@ use Rattle.bp_trace.specs.Replays.{IsPlayable}
 use Rattle.bp_trace.proofs.PlayableFronts.{next_allowed}
 
 -- a recorded bit is handed in exactly where there is no seed
-not_both : (seed : Option ℕ) (bit : Bool) → is_some (cond (is_some seed) None (Some bit)) ≡ true → is_some seed ≡ true → ⊥
+not_both : (seed : Option ℕ) (bit : Bool) → is_some (if is_some seed then None else Some bit) ≡ true → is_some seed ≡ true → ⊥
 not_both (Some k) bit given has = cc
 not_both None bit given has = cc
 
-not_neither : (seed : Option ℕ) (bit : Bool) → cond (is_some seed) None (Some bit) ≡ None → seed ≡ None → ⊥
+not_neither : (seed : Option ℕ) (bit : Bool) → (if is_some seed then None else Some bit) ≡ None → seed ≡ None → ⊥
 not_neither (Some k) bit given none = cc
 not_neither None bit given none = cc
 
