@@ -36,7 +36,7 @@ abbrev pub letter_text : Detail → Option (List ℕ)
 letter_text (Wanted n r) = Some (letter_of r ∷ [])
 letter_text d = None
 
--- the facts of a fault's line, the file that it is in, its place in the program text, and a sentence
+-- the facts of a fault's line, its file, its place in the program text, and a sentence
 abbrev pub fault_members : RowOf → Option (List ℕ) → (text message : List ℕ) → List ℕ
 fault_members r file text message =
     concat (

@@ -290,7 +290,7 @@ fn on_shown<C: PairCommand, F: Files, W: Write + Drop, E: Write>(
     run_on_pair(alloc, command, files, path, trace, format, out, errors)
 }
 
-/// Shows the trace of a file: the state after so many calls where that is asked for, else the calls.
+/// Shows the trace of a file: the state after so many calls where one is asked for, else the calls.
 fn show_as_asked<F: Files, W: Write + Drop, E: Write>(
     alloc: Global,
     files: &F,
