@@ -1,5 +1,6 @@
 //! A run of the program, from its words to its exit status.
 
+use crate::echoes::error_on_lines;
 use crate::host_files::HostFiles;
 use crate::progress_lines::ProgressLine;
 use crate::tasks::do_task;
@@ -90,7 +91,10 @@ fn run_words<T: Threads + Wait + Clock + Sync>(
 ) -> u8 {
     match read_words(rt.alloc(), words) {
         Ok(task) => do_on_host(rt, threads, &task),
-        Err(error) => tell(rt, &error, &mut rt.stderr()),
+        Err(error) => {
+            let error = error_on_lines(rt.alloc(), words, error);
+            tell(rt, &error, &mut rt.stderr())
+        }
     }
 }
 
