@@ -10,11 +10,11 @@ use bp_view::{ViewFormat, state_at};
 use std::alloc::Global;
 use std::io::Write;
 
-/// `show --at`: replays a trace of a program, and writes the state after so many of its calls: the
+/// `show --at`: replays a trace of a program, and writes the state after one of its calls: the
 /// values of the globals, and for each thread how it stands and the frames of its stack.
 #[derive(Clone, Copy)]
 pub struct ShowState {
-    /// After how many calls.
+    /// The number of the call after which the state is shown; 0 is the start.
     pub number: u64,
     /// How the state is written.
     pub format: ViewFormat,

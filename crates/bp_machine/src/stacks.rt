@@ -90,7 +90,7 @@ impl Stack {
         self.frames.last().copied()
     }
 
-    /// The frame that is at the top after so many calls have returned.
+    /// The frame that is at the top once this number of calls has returned.
     pub(crate) fn below(&self, returned: usize) -> Option<ActivationRecord>
         ensures { result ≡ top_of (drop returned self.now.frames) }
     {

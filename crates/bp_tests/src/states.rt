@@ -40,7 +40,7 @@ const FAILED: &[u8] = b"\
     thread 1 is finished\n\
     in main at 1:14: assert (0)\n";
 
-/// The state after so many calls of a trace.
+/// The state after a call of a trace.
 fn state_of(
     alloc: Global,
     text: &[u8],

@@ -11,7 +11,7 @@ pub enum ViewFault {
     /// The text is no trace of the program, or memory was refused before anything was written.
     #[error("{0}")]
     Replay(ReplayFault),
-    /// The trace has no thread of this number, of which alone the calls were to be shown.
+    /// The calls of this thread alone were asked for, and the trace does not have it.
     #[error("the trace has no thread {0}")]
     NoThread(u32),
     /// Memory was refused after the trace was replayed. A beginning of the view is written.

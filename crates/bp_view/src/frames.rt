@@ -119,8 +119,8 @@ fn push_locals(
     Ok(())
 }
 
-/// Adds a frame that continues at this top, after so many calls have returned. `note` is room for
-/// its values.
+/// Adds the frame at this top; `returned` is the number of frames above it. `note` is room for its
+/// values.
 fn push_frame(
     view: &mut Vec<u8>,
     note: &mut Vec<u8>,
@@ -147,8 +147,7 @@ fn push_frame(
     Ok(())
 }
 
-/// Adds the frame of a thread that continues after so many calls have returned. `note` is room for
-/// its values.
+/// Adds the frame of a thread below `returned` others. `note` is room for its values.
 fn push_frame_of(
     view: &mut Vec<u8>,
     note: &mut Vec<u8>,

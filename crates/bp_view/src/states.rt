@@ -255,7 +255,7 @@ fn state_text(
     Ok(view)
 }
 
-/// The state of the session, after the first calls of a history that has so many.
+/// The state of the session, which stands within a history of `count` calls.
 fn state_of(
     alloc: Global,
     setting: &Setting<'_>,
@@ -287,7 +287,7 @@ fn state_of(
     )
 }
 
-/// The first calls of a history, so many or all.
+/// The first `number` calls of a history, or all where there are fewer.
 fn first_calls(history: &[Call], number: u64) -> &[Call]
     ensures { result.now ≡ take number history.now }
 {
@@ -295,9 +295,9 @@ fn first_calls(history: &[Call], number: u64) -> &[Call]
     &history[..count as usize]
 }
 
-/// The state after so many calls of the history of a trace of a program, or after all of them,
-/// and the report of the whole history: the values of the globals, and for each thread how it
-/// stands and the frames of its stack. A text that is no trace of the program is refused as
+/// The state after the first `number` calls of a trace, or after the last where there are fewer,
+/// and the report of the whole trace. The state has the values of the globals, how each thread
+/// stands, and the frames of its stack. A text that is no trace of the program is refused as
 /// `replay` refuses it.
 pub fn state_at(
     alloc: Global,

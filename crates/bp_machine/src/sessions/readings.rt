@@ -169,8 +169,8 @@ impl Session {
         Ok(printed)
     }
 
-    /// Where a thread continues after the topmost calls of its stack, so many, have returned: none
-    /// if its stack has no more frames, or there is no such thread.
+    /// Where a thread continues once its topmost calls have returned; `returned` is their number.
+    /// None if its stack has no more frames, or there is no such thread.
     pub fn top_below(&self, thread: u32, returned: usize) -> Option<Top>
         ensures { (t : Program) (h : List Answered)
             → StandsFor self.now.code t
