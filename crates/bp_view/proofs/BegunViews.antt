@@ -19,16 +19,17 @@ use Rattle.bp_view.specs.declared.options.ViewOptions.{ViewOptions}
 use Rattle.bp_view.specs.declared.scenes.Scene.{Scene}
 use Rattle.bp_view.specs.declared.settings.Setting.{Setting}
 use Rattle.bp_view.specs.declared.writers.ViewWriter.{ViewWriter}
+use Rattle.bp_view.specs.Ends.{IsEnd}
 use Rattle.bp_view.specs.Heads.{view_head}
 use Rattle.bp_view.specs.Lines.{IsSettingOf}
-use Rattle.bp_view.specs.Outcomes.{IsFoot}
 use Rattle.bp_view.specs.Scenes.{AreScenes}
 use Rattle.bp_view.specs.Views.{AreLines, HasMade, IsShownLine, IsView}
 use Rattle.bp_view.specs.Widths.{extent_of, AreWidths}
 use Rattle.bp_view.specs.Writing.{IsBegun, IsCutShort, IsStopped, IsWritten}
 use Rattle.bp_view.proofs.LinesOfCalls.{lines_then, no_lines}
 use Rattle.bp_view.proofs.LongestPlaces.{places_are, words_are, words_items}
-use Rattle.bp_view.proofs.WholeViews.{lines_go_on, some_foot}
+use Rattle.bp_view.proofs.WholeStates.{some_end}
+use Rattle.bp_view.proofs.WholeViews.{lines_go_on}
 
 -- bytes that go on to a text of this kind
 pub record GoesOn (IsText : List ℕ → Type 0) (begun : List ℕ) : Type 0 where
@@ -117,16 +118,16 @@ module _ (t : Program) (text : List ℕ) (s : SetupOf) (setting : Setting) where
     abbrev Whole : List ℕ → Type 0
     Whole = IsView t text s h r o
 
-    whole : (lines foot : List ℕ) → Lines h lines → IsFoot o.format t text s h r foot → Whole (head ++ lines ++ foot)
-    whole lines foot lines_are foot_is = record {
+    whole : (lines end : List ℕ) → Lines h lines → IsEnd o t text s h r end → Whole (head ++ lines ++ end)
+    whole lines end lines_are end_is = record {
       widths = setting.widths;
       statements = words_items setting.scenes.now;
       statements_are = words_are text t.procedures (places_of t.procedures) setting.scenes.now ready.known.scenes;
       widths_are = rw (places_are text t.procedures (places_of t.procedures) setting.scenes.now ready.known.scenes, ready.count, ready.known.procedures) at ready.widths;
       lines = lines;
-      foot = foot;
-      is = ap (λ g. view_head o.format g s ++ lines ++ foot) ready.known.globals;
-      foot_is = foot_is;
+      end = end;
+      is = ap (λ g. view_head o.format g s ++ lines ++ end) ready.known.globals;
+      end_is = end_is;
       lines_are = subst (λ n. AreLines t text s o setting.widths n h lines) ready.count lines_are;
     }
 
@@ -134,10 +135,10 @@ module _ (t : Program) (text : List ℕ) (s : SetupOf) (setting : Setting) where
     lines_go : (g rest : List Call) (lines : List ℕ) → g ++ rest ≡ h → Lines g lines → GoesOn Whole (head ++ lines)
     lines_go g rest lines all are =
         let (more, more_are) = lines_go_on c t ready.code text setting.scenes.now ready.known.scenes s o setting.widths setting.count g rest lines are in
-        let (foot, foot_is) = some_foot c t ready.code text setting.scenes.now ready.known.scenes s o.format h ready.playable.legal r ready.outcome in
+        let (end, end_is) = some_end c t ready.code text setting.scenes.now ready.known.scenes s o h ready.playable.legal r ready.outcome in
         record {
-          rest = more ++ foot;
-          is = subst Whole (regrouped head lines more foot) (whole (lines ++ more) foot (subst (λ k. Lines k (lines ++ more)) all more_are) foot_is);
+          rest = more ++ end;
+          is = subst Whole (regrouped head lines more end) (whole (lines ++ more) end (subst (λ k. Lines k (lines ++ more)) all more_are) end_is);
         }
 
     head_goes : GoesOn Whole head
@@ -204,23 +205,23 @@ module _ (t : Program) (text : List ℕ) (s : SetupOf) (setting : Setting) where
       pub has_all : HasWritten h w a b
       has_all = subst (λ g. HasWritten g w a b) (take_all i h past) there
 
-      -- and the foot
-      module _ (foot given : List ℕ) (same : given ≡ foot) (is : IsFoot w.setting.options.format t text w.session.setup h r foot) where
-        foot_is : IsFoot o.format t text s h r given
-        foot_is =
-            subst (IsFoot o.format t text s h r) (sym same)
-            (subst (λ (v : Setting). IsFoot v.options.format t text s h r foot) has_all.setting_is
-            (subst (λ v. IsFoot w.setting.options.format t text v h r foot) has_all.setup is))
+      -- and the end
+      module _ (end given : List ℕ) (same : given ≡ end) (is : IsEnd w.setting.options t text w.session.setup h r end) where
+        end_is : IsEnd o t text s h r given
+        end_is =
+            subst (IsEnd o t text s h r) (sym same)
+            (subst (λ (v : Setting). IsEnd v.options t text s h r end) has_all.setting_is
+            (subst (λ v. IsEnd w.setting.options t text v h r end) has_all.setup is))
 
-        pub foot_cut : (e : Option (List ℕ)) → AppendsPart b e given → IsCutShort Whole a e
-        foot_cut e part =
-            let all = subst Whole (sym (append-nil ((head ++ has_all.lines) ++ given))) (whole has_all.lines given has_all.lines_are foot_is) in
+        pub end_cut : (e : Option (List ℕ)) → AppendsPart b e given → IsCutShort Whole a e
+        end_cut e part =
+            let all = subst Whole (sym (append-nil ((head ++ has_all.lines) ++ given))) (whole has_all.lines given has_all.lines_are end_is) in
             is_cut Whole a b (head ++ has_all.lines) has_all.grown e given (record { rest = []; is = all }) part
 
         pub all_written : (e : Option (List ℕ)) → AppendsAll b e given → IsWritten Whole a e
         all_written e all = record {
           text = head ++ has_all.lines ++ given;
-          is = whole has_all.lines given has_all.lines_are foot_is;
+          is = whole has_all.lines given has_all.lines_are end_is;
           written = record { grown = Appends-trans a b e (head ++ has_all.lines) given has_all.grown all.grown };
         }
 

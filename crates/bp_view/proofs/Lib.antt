@@ -20,4 +20,5 @@ pub mod SceneLists
 pub mod SlotsOfNames
 pub mod ValuesOfStatements
 pub mod WordsOfStatements
+pub mod WholeStates
 pub mod WholeViews

@@ -10,7 +10,7 @@ use Rattle.bp_view.specs.Parts.{IsInParts}
 use Rattle.bp_view.proofs.LinesOfCalls.{one_before, one_last, within}
 
 module _ (IsPart : ℕ → List ℕ → Type 0) where
-  no_parts : IsInParts IsPart 0 []
+  pub no_parts : IsInParts IsPart 0 []
   no_parts = record {
     parts = [];
     count = refl;
@@ -29,7 +29,7 @@ module _ (IsPart : ℕ → List ℕ → Type 0) where
             let last = one_last are.parts part k p at (same ∙ sym are.count) in
             subst (λ j. IsPart j p) (sym same) (subst (λ q. IsPart n q) last is)
 
-    parts_then : IsInParts IsPart (suc n) (text ++ part)
+    pub parts_then : IsInParts IsPart (suc n) (text ++ part)
     parts_then = record {
       parts = are.parts ++ part ∷ [];
       count = omega (arith, are.count, length-append are.parts (part ∷ []));

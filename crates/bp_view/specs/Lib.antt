@@ -1,5 +1,6 @@
 pub mod Changes
 pub mod Colours
+pub mod Ends
 pub mod Frames
 pub mod Heads
 pub mod JsonCalls

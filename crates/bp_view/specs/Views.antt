@@ -23,10 +23,10 @@ use Rattle.bp_view.specs.declared.options.ViewFormat.TheVariants.{Columns, Json}
 use Rattle.bp_view.specs.declared.options.ViewOptions.{ViewOptions}
 use Rattle.bp_view.specs.Changes.{changes_text}
 use Rattle.bp_view.specs.Colours.{colour_of}
+use Rattle.bp_view.specs.Ends.{IsEnd}
 use Rattle.bp_view.specs.Heads.{view_head}
 use Rattle.bp_view.specs.JsonCalls.{call_object, printed_by, Next, IsNextOf}
 use Rattle.bp_view.specs.Lines.{line_text, note_text, Fields, Shown, AreFields, IsShown}
-use Rattle.bp_view.specs.Outcomes.{IsFoot}
 use Rattle.bp_view.specs.Places.{place_text}
 use Rattle.bp_view.specs.Scenes.{AreStatements}
 use Rattle.bp_view.specs.Widths.{extent, AreWidths}
@@ -109,7 +109,7 @@ module _
         → slice_get each k ≡ Some line
         → IsShownLine (take k h) x line
 
--- the head, a line for each call of the history that is shown, and the foot
+-- the head, a line for each call of the history that is shown, and the end
 pub record IsView
     (t : Program) (text : List ℕ) (s : SetupOf) (h : List Call) (r : Report) (o : ViewOptions)
     (view : List ℕ)
@@ -121,9 +121,9 @@ pub record IsView
       let places = map (place_text text) (starts_of t) in
       AreWidths s (extent (length h) places statements (length t.procedures)) widths
   pub lines : List ℕ
-  pub foot : List ℕ
-  pub is : view ≡ view_head o.format t.globals s ++ lines ++ foot
-  pub foot_is : IsFoot o.format t text s h r foot
+  pub end : List ℕ
+  pub is : view ≡ view_head o.format t.globals s ++ lines ++ end
+  pub end_is : IsEnd o t text s h r end
   pub lines_are : AreLines t text s o widths (length h) h lines
 
 -- the view of the history of a trace of the program, and its report

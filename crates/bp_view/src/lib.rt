@@ -3,6 +3,7 @@
 
 mod changes;
 mod colours;
+mod ends;
 mod excerpts;
 mod faults;
 mod frames;

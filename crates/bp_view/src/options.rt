@@ -22,6 +22,8 @@ pub struct ViewOptions {
     pub from: Option<u64>,
     /// The number of the last call that is shown.
     pub to: Option<u64>,
+    /// Whether the state after the last call follows the foot.
+    pub has_state: bool,
     /// With the colours of a terminal.
     pub has_colour: bool,
     pub format: ViewFormat,
@@ -39,6 +41,7 @@ impl ViewOptions {
             last: None,
             from: None,
             to: None,
+            has_state: false,
             has_colour: false,
             format,
         }

@@ -256,7 +256,7 @@ fn state_text(
 }
 
 /// The state of the session, which stands within a history of `count` calls.
-fn state_of(
+pub(crate) fn state_of(
     alloc: Global,
     setting: &Setting<'_>,
     session: &Session,

@@ -8,10 +8,10 @@ ghost use Rattle.bp_view.specs.Scenes.{AreScenes};
 ghost use Rattle.bp_view.specs.Views.{IsMissing, IsThere, IsView, IsViewRefusal, IsViewed};
 ghost use Rattle.bp_view.specs.Writing.{IsStopped, IsWritten};
 
+use crate::ends::end_of;
 use crate::faults::ViewFault;
 use crate::heads::head_of;
 use crate::options::ViewOptions;
-use crate::outcomes::foot_of;
 use crate::scenes::{Scene, scenes_of};
 use crate::settings::setting_of;
 use crate::writers::ViewWriter;
@@ -46,7 +46,7 @@ fn check_thread(options: ViewOptions, setup: &Setup) -> Result<(), ViewFault>
 }
 
 /// Writes the view of a trace that was replayed: the head, the line of each call that is shown, and
-/// the foot. A session plays the history once more, and each line is written before the next call.
+/// the end. A session plays the history once more, and each line is written before the next call.
 fn write_view<W: Write>(
     alloc: Global,
     text: &[u8],
@@ -89,19 +89,20 @@ fn write_view<W: Write>(
         }
         put(out, &writer.line)?;
     }
-    let foot = foot_of(
+    let end = end_of(
         alloc,
         &writer.setting,
         text,
         &writer.session,
         replayed.report,
     )?;
-    put(out, &foot)?;
+    put(out, &end)?;
     Ok(())
 }
 
 /// Writes a view of the history of a trace of a program, and answers its report. The view has the
-/// setup, a line for each call that is shown, and the foot. A text that is no trace of the program
+/// setup, a line for each call that is shown, the foot, and the state after the last call where that
+/// is asked for. A text that is no trace of the program
 /// is refused as `replay` refuses it, then a thread that is not there, and nothing is written. The
 /// lines are written as they are made, after the trace was replayed.
 pub fn view<W: Write>(

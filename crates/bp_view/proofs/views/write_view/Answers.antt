@@ -1,8 +1,9 @@
-use Rattle.std.proofs.Common.{◌∙◌, refl, subst, sym, take}
+use Rattle.std.proofs.Common.{◌∙◌, ap, refl, subst, sym, take}
 use Rattle.std.proofs.lemmas.Result.{err_from_is_err_and}
 use Rattle.bp_code.specs.StandsFor.{StandsFor}
 use Rattle.bp_view.specs.declared.faults.ViewFault.TheVariants.{Memory, Write}
-use Rattle.bp_view.proofs.BegunViews.{all_written, foot_cut, has_all, head_cut, head_written, known_there, line_cut, line_written, lines_begun, none_begun, playable_next, ready_for, same_end, same_stop}
+use Rattle.bp_view.specs.declared.settings.Setting.{Setting}
+use Rattle.bp_view.proofs.BegunViews.{all_written, end_cut, has_all, head_cut, head_written, known_there, line_cut, line_written, lines_begun, none_begun, playable_next, ready_for, same_end, same_stop}
 use Rattle.bp_view.proofs.views.write_view.Goals as goal
 
 pub returns-in_err-head : goal.returns-in_err-head
@@ -137,9 +138,9 @@ loop-recorded-preserved g c =
     c.make_line.new.self _ (c.in_default.ensures.made t (take i h) has.made (playable_next t text s x code h r ready i _ within w.session.setup has.setup))
     c.in_default.ensures.kept.0 c.in_default.ensures.kept.1 c.in_ok-put-2.ensures
 
-pub returns-in_err-foot : goal.returns-in_err-foot
-returns-in_err-foot g c =
-    let p = err_from_is_err_and c.from_residual-in_err-foot.result c.from_residual-in_err-foot.ensures.1 in
+pub returns-in_err-end : goal.returns-in_err-end
+returns-in_err-end g c =
+    let p = err_from_is_err_and c.from_residual-in_err-end.result c.from_residual-in_err-end.ensures.1 in
     let t = c.args.checked.now in
     let text = c.args.text.now in
     let s = c.args.replayed.now.setup in
@@ -176,7 +177,7 @@ returns-in_err-put-3 g c =
     let there = c.loop-recorded.invariant in
     let has = has_all t text s x code h r ready i past w _ _ there in
     rw (p.1, p.2) (same_stop t text s r h c.args.replayed.now.history.items x.options c.args.options history is.options _ _ Write
-    (foot_cut t text s x code h r ready i past w _ _ there _ _ c.deref-2.ensures.value (c.in_ok-foot.ensures t h (known_there t text s x code h r ready i w _ _ there) has.made.code has.made.stands ready.outcome) _ c.in_err-put-3.ensures))
+    (end_cut t text s x code h r ready i past w _ _ there _ _ c.deref-2.ensures.value (c.in_ok-end.ensures t h (known_there t text s x code h r ready i w _ _ there) has.made.code has.made.stands (ap (λ (y : Setting). y.count) has.setting_is ∙ ready.count) ready.outcome) _ c.in_err-put-3.ensures))
 
 pub returns : goal.returns
 returns g c =
@@ -196,4 +197,4 @@ returns g c =
     let there = c.loop-recorded.invariant in
     let has = has_all t text s x code h r ready i past w _ _ there in
     same_end t text s r h c.args.replayed.now.history.items x.options c.args.options history is.options _ _
-    (all_written t text s x code h r ready i past w _ _ there _ _ c.deref-2.ensures.value (c.in_ok-foot.ensures t h (known_there t text s x code h r ready i w _ _ there) has.made.code has.made.stands ready.outcome) _ c.in_ok-put-3.ensures)
+    (all_written t text s x code h r ready i past w _ _ there _ _ c.deref-2.ensures.value (c.in_ok-end.ensures t h (known_there t text s x code h r ready i w _ _ there) has.made.code has.made.stands (ap (λ (y : Setting). y.count) has.setting_is ∙ ready.count) ready.outcome) _ c.in_ok-put-3.ensures)

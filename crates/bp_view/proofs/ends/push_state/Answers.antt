@@ -1,0 +1,17 @@
+use Rattle.std.proofs.Common.{◌≡◌, true, length, refl, subst, sym}
+use Rattle.bp_view.specs.Ends.{after_foot, IsStateIf}
+use Rattle.bp_view.specs.States.{IsStateText}
+use Rattle.bp_view.proofs.ends.push_state.Goals as goal
+
+pub returns-in_ok-push_after_foot : goal.returns-in_ok-push_after_foot
+returns-in_ok-push_after_foot c = λ t text h known code stands count.
+    let o = c.args.setting.now.options in
+    let s = c.args.session.now.setup in
+    let asked : o.has_state ≡ true = c.if-setting.true in
+    let own = subst (λ n. IsStateText o.format t text s h n c.in_ok-state.state.items) count (c.in_ok-state.ensures t text h known code stands) in
+    let state = subst (IsStateText o.format t text s h (length h)) (sym c.deref.ensures.value) own in
+    record {
+      more = after_foot o.format c.deref.result.now;
+      is = c.in_ok-push_after_foot.ensures;
+      more_are = subst (λ b. IsStateIf o.format t text s h b (after_foot o.format c.deref.result.now)) (sym asked) (c.deref.result.now, refl, state);
+    }
