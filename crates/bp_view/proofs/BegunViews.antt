@@ -1,5 +1,5 @@
 -- What was written of a view, call by call, is the beginning of a whole one.
-use Rattle.std.proofs.Common.{◌≡◌, ◌∙◌, ◌<◌, ◌≤◌, ◌+◌, ℕ, suc, List, [], ◌∷◌, ◌++◌, Option, length, drop, take, get_or, ap, sym, refl, subst, append_assoc, append-nil, drop-cons, take-append-drop}
+use Rattle.std.proofs.Common.{◌≡◌, ◌∙◌, ◌<◌, ◌≤◌, ◌+◌, ℕ, suc, List, [], ◌∷◌, ◌++◌, Option, length, drop, map, take, get_or, ap, sym, refl, subst, append_assoc, append-nil, drop-cons, take-append-drop}
 use Rattle.std.specs.Io.KnownBytes.{Appends}
 use Rattle.std.proofs.KnownBytes.{Appends-nil, Appends-trans}
 use Rattle.std.proofs.lemmas.List.{take_all, take_more}
@@ -24,6 +24,7 @@ use Rattle.bp_view.specs.Heads.{view_head}
 use Rattle.bp_view.specs.Lines.{IsSettingOf}
 use Rattle.bp_view.specs.Scenes.{AreScenes}
 use Rattle.bp_view.specs.Views.{AreLines, HasMade, IsShownLine, IsView}
+use Rattle.bp_view.specs.Watches.{watched_names}
 use Rattle.bp_view.specs.Widths.{extent_of, AreWidths}
 use Rattle.bp_view.specs.Writing.{IsBegun, IsCutShort, IsStopped, IsWritten}
 use Rattle.bp_view.proofs.LinesOfCalls.{lines_then, no_lines}
@@ -54,29 +55,30 @@ pub record IsReady (c : Flat) (t : Program) (text : List ℕ) (s : SetupOf) (h :
   pub code : StandsFor c t
   pub known : IsSettingOf t text setting
   pub widths : AreWidths s (extent_of setting) setting.widths
-  pub count : setting.count ≡ length h
+  pub history : setting.history.now ≡ h
   pub playable : IsPlayable t s h
   pub outcome : r.outcome ≡ outcome_of h
 
 pub ready_for : (c : Flat) (t : Program) (text : List ℕ) (scenes : List Scene) (s : SetupOf) (h k : List Call) (r : Report) (setting : Setting)
     → StandsFor c t → AreScenes text t scenes → setting.scenes.now ≡ scenes → setting.globals.now ≡ t.globals → setting.procs.now ≡ t.procedures
-    → AreWidths s (extent_of setting) setting.widths → setting.count ≡ length h → h ≡ k → IsPlayable t s k → IsReport s k r → IsReady c t text s h r setting
-ready_for c t text scenes s h k r setting code are same globals procedures widths count history playable report = record {
+    → map (λ n. n.now) setting.names.now ≡ watched_names setting.options.watch
+    → AreWidths s (extent_of setting) setting.widths → setting.history.now ≡ h → h ≡ k → IsPlayable t s k → IsReport s k r → IsReady c t text s h r setting
+ready_for c t text scenes s h k r setting code are same globals procedures names widths whole history playable report = record {
   code = code;
-  known = record { scenes = subst (AreScenes text t) (sym same) are; globals = globals; procedures = procedures };
+  known = record { scenes = subst (AreScenes text t) (sym same) are; globals = globals; procedures = procedures; names = names };
   widths = widths;
-  count = count;
+  history = whole;
   playable = subst (IsPlayable t s) (sym history) playable;
   outcome = report.outcome ∙ ap outcome_of (sym history);
 }
 
 -- the line of a call in the setup and the setting of a writer
 shown_in : (t : Program) (text : List ℕ) (s z : SetupOf) (x y : Setting) (h : List Call) (call : Call) (line given : List ℕ) → z ≡ s → y ≡ x → given ≡ line
-    → IsShownLine t text z y.options y.widths y.count h call line → IsShownLine t text s x.options x.widths x.count h call given
+    → IsShownLine t text z y.options y.widths y.history.now h call line → IsShownLine t text s x.options x.widths x.history.now h call given
 shown_in t text s z x y h call line given same_setup same_setting same is =
-    subst (λ l. IsShownLine t text s x.options x.widths x.count h call l) (sym same)
-    (subst (λ (v : Setting). IsShownLine t text s v.options v.widths v.count h call line) same_setting
-    (subst (λ v. IsShownLine t text v y.options y.widths y.count h call line) same_setup is))
+    subst (λ l. IsShownLine t text s x.options x.widths x.history.now h call l) (sym same)
+    (subst (λ (v : Setting). IsShownLine t text s v.options v.widths v.history.now h call line) same_setting
+    (subst (λ v. IsShownLine t text v y.options y.widths y.history.now h call line) same_setup is))
 
 regrouped : (a b c d : List ℕ) → (a ++ (b ++ c)) ++ d ≡ (a ++ b) ++ (c ++ d)
 regrouped a b c d = simp append_assoc
@@ -89,10 +91,10 @@ module _ (t : Program) (text : List ℕ) (s : SetupOf) (setting : Setting) where
   head = view_head o.format setting.globals.now s
 
   abbrev Lines : List Call → List ℕ → Type 0
-  Lines g lines = AreLines t text s o setting.widths setting.count g lines
+  Lines g lines = AreLines t text s o setting.widths setting.history.now g lines
 
   abbrev Shown : List Call → Call → List ℕ → Type 0
-  Shown g x line = IsShownLine t text s o setting.widths setting.count g x line
+  Shown g x line = IsShownLine t text s o setting.widths setting.history.now g x line
 
   -- the writer has made the calls of a history, and the head and the lines of these calls were written
   pub record HasWritten (g : List Call) (w : ViewWriter) (a b : Option (List ℕ)) : Type 0 where
@@ -110,7 +112,7 @@ module _ (t : Program) (text : List ℕ) (s : SetupOf) (setting : Setting) where
     setup = setup;
     setting_is = setting_is;
     lines = [];
-    lines_are = no_lines t text s o setting.widths setting.count;
+    lines_are = no_lines t text s o setting.widths setting.history.now;
     grown = subst (Appends a b) (same ∙ sym (append-nil head)) all.grown;
   }
 
@@ -123,18 +125,18 @@ module _ (t : Program) (text : List ℕ) (s : SetupOf) (setting : Setting) where
       widths = setting.widths;
       statements = words_items setting.scenes.now;
       statements_are = words_are text t.procedures (places_of t.procedures) setting.scenes.now ready.known.scenes;
-      widths_are = rw (places_are text t.procedures (places_of t.procedures) setting.scenes.now ready.known.scenes, ready.count, ready.known.procedures) at ready.widths;
+      widths_are = rw (places_are text t.procedures (places_of t.procedures) setting.scenes.now ready.known.scenes, ready.history, ready.known.procedures) at ready.widths;
       lines = lines;
       end = end;
       is = ap (λ g. view_head o.format g s ++ lines ++ end) ready.known.globals;
       end_is = end_is;
-      lines_are = subst (λ n. AreLines t text s o setting.widths n h lines) ready.count lines_are;
+      lines_are = subst (λ g. AreLines t text s o setting.widths g h lines) ready.history lines_are;
     }
 
     -- the head and the lines of a front go on to a whole view
     lines_go : (g rest : List Call) (lines : List ℕ) → g ++ rest ≡ h → Lines g lines → GoesOn Whole (head ++ lines)
     lines_go g rest lines all are =
-        let (more, more_are) = lines_go_on c t ready.code text setting.scenes.now ready.known.scenes s o setting.widths setting.count g rest lines are in
+        let (more, more_are) = lines_go_on c t ready.code text setting.scenes.now ready.known.scenes s o setting.widths setting.history.now g rest lines are in
         let (end, end_is) = some_end c t ready.code text setting.scenes.now ready.known.scenes s o h ready.playable.legal r ready.outcome in
         record {
           rest = more ++ end;
@@ -142,7 +144,7 @@ module _ (t : Program) (text : List ℕ) (s : SetupOf) (setting : Setting) where
         }
 
     head_goes : GoesOn Whole head
-    head_goes = subst (GoesOn Whole) (append-nil head) (lines_go [] h [] refl (no_lines t text s o setting.widths setting.count))
+    head_goes = subst (GoesOn Whole) (append-nil head) (lines_go [] h [] refl (no_lines t text s o setting.widths setting.history.now))
 
     -- nothing was written
     pub none_begun : (a : Option (List ℕ)) → IsBegun Whole a a
@@ -174,12 +176,12 @@ module _ (t : Program) (text : List ℕ) (s : SetupOf) (setting : Setting) where
       module _ (w : ViewWriter) (a b : Option (List ℕ)) (has : HasWritten (take i h) w a b) where
         -- and a part or all of the line of the next one
         module _ (line given : List ℕ) (same : given ≡ line)
-            (is : IsShownLine t text w.session.setup w.setting.options w.setting.widths w.setting.count (take i h) (get_or h i d) line) where
+            (is : IsShownLine t text w.session.setup w.setting.options w.setting.widths w.setting.history.now (take i h) (get_or h i d) line) where
           line_is : Shown (take i h) (get_or h i d) given
           line_is = shown_in t text s w.session.setup setting w.setting (take i h) (get_or h i d) line given has.setup has.setting_is same is
 
           more_are : Lines (take i h ++ get_or h i d ∷ []) (has.lines ++ given)
-          more_are = lines_then t text s o setting.widths setting.count (take i h) has.lines has.lines_are (get_or h i d) given line_is
+          more_are = lines_then t text s o setting.widths setting.history.now (take i h) has.lines has.lines_are (get_or h i d) given line_is
 
           pub line_cut : (e : Option (List ℕ)) → AppendsPart b e given → IsCutShort Whole a e
           line_cut e part =

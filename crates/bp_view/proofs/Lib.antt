@@ -2,6 +2,7 @@ pub mod AssertionTexts
 pub mod BegunViews
 pub mod ChangedVariables
 pub mod ChangesOfFrames
+pub mod EqualWaits
 pub mod FailedStatements
 pub mod FramesOfTops
 pub mod LinesOfCalls
@@ -19,6 +20,7 @@ pub mod RecordedCalls
 pub mod SceneLists
 pub mod SlotsOfNames
 pub mod ValuesOfStatements
+pub mod WatchedVariables
 pub mod WordsOfStatements
 pub mod WholeStates
 pub mod WholeViews

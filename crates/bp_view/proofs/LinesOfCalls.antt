@@ -44,11 +44,11 @@ module _ {A : Type 0} (xs : List A) (y : A) (k : ℕ) (z : A) (at : slice_get (x
   pub one_last : k ≡ length xs → y ≡ z
   one_last p = sym (get_or-append_seam xs y [] z) ∙ ap (λ n. get_or (xs ++ y ∷ []) n z) (sym p) ∙ found
 
-module _ (t : Program) (text : List ℕ) (s : SetupOf) (o : ViewOptions) (w : Widths) (count : ℕ) where
+module _ (t : Program) (text : List ℕ) (s : SetupOf) (o : ViewOptions) (w : Widths) (whole : List Call) where
   abbrev Shown : List Call → Call → List ℕ → Type 0
-  Shown h x line = IsShownLine t text s o w count h x line
+  Shown h x line = IsShownLine t text s o w whole h x line
 
-  pub no_lines : AreLines t text s o w count [] []
+  pub no_lines : AreLines t text s o w whole [] []
   no_lines = record {
     each = [];
     count_is = refl;
@@ -56,7 +56,7 @@ module _ (t : Program) (text : List ℕ) (s : SetupOf) (o : ViewOptions) (w : Wi
     shown = λ k x line at of_line. let within = slice_get_within [] k x at in absurd (omega (arith, within));
   }
 
-  module _ (h : List Call) (lines : List ℕ) (are : AreLines t text s o w count h lines) (x : Call) (line : List ℕ) (is : Shown h x line) where
+  module _ (h : List Call) (lines : List ℕ) (are : AreLines t text s o w whole h lines) (x : Call) (line : List ℕ) (is : Shown h x line) where
     shown_then : (k : ℕ) (y : Call) (l : List ℕ) → slice_get (h ++ x ∷ []) k ≡ Some y → slice_get (are.each ++ line ∷ []) k ≡ Some l → Shown (take k (h ++ x ∷ [])) y l
     shown_then k y l e f = by_place (cases_lt k (length h))
       where
@@ -71,7 +71,7 @@ module _ (t : Program) (text : List ℕ) (s : SetupOf) (o : ViewOptions) (w : Wi
             let of_line = subst (λ z. Shown h x z) (one_last are.each line k l f (same ∙ sym are.count_is)) is in
             subst (λ g. Shown g y l) (sym front) (subst (λ z. Shown h z l) (one_last h x k y e same) of_line)
 
-    pub lines_then : AreLines t text s o w count (h ++ x ∷ []) (lines ++ line)
+    pub lines_then : AreLines t text s o w whole (h ++ x ∷ []) (lines ++ line)
     lines_then = record {
       each = are.each ++ line ∷ [];
       count_is = omega (arith, are.count_is, length-append are.each (line ∷ []), length-append h (x ∷ []));

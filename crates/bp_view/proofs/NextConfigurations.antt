@@ -12,7 +12,7 @@ use Rattle.bp_machine.specs.declared.calls.Reply.{Reply}
 use Rattle.bp_machine.specs.Answers.{configuration_after_call, configuration_after_step, stack_of}
 use Rattle.bp_machine.specs.Replies.{is_granted}
 use Rattle.bp_view.specs.declared.options.ViewFormat.{ViewFormat}
-use Rattle.bp_view.specs.Changes.{changed, changes_text, stack_changes, variables_text, IsNext, IsSameCall}
+use Rattle.bp_view.specs.Changes.{changed, changed_variables, changes_text, stack_changed, stack_changes, variables_text, IsNext, IsSameCall}
 use Rattle.bp_view.proofs.ChangedVariables.{none_changed}
 
 same_call : (fs : List Frame) → IsSameCall fs fs
@@ -97,7 +97,22 @@ module _ (t : Program) (c : Configuration) (i : ℕ) (bit : Bool) where
       by_reply true = next_of_step (stack_of c i) refl
       by_reply false = same_next c i
 
--- without a stack before or after it a call changes nothing
+-- without a stack before or after it a call changes no variable
+none_changed_after : (fs : List Frame) → stack_changed fs [] ≡ []
+none_changed_after [] = refl
+none_changed_after (f ∷ fs) = refl
+
+module _ (c d : Configuration) (i : ℕ) (next : IsNext c d i) where
+  globals_stay : d.globals ≡ c.globals → changed c.globals d.globals ≡ []
+  globals_stay e = ap (changed c.globals) e ∙ none_changed c.globals
+
+  pub idle_variables : stack_of c i ≡ [] → changed_variables c d i ≡ []
+  idle_variables e = ap₂ (λ x y. x ++ y) (globals_stay (next.idle e)) (ap (λ s. stack_changed s (stack_of d i)) e)
+
+  pub ended_variables : stack_of d i ≡ [] → changed_variables c d i ≡ []
+  ended_variables e = ap₂ (λ x y. x ++ y) (globals_stay (next.ended e)) (ap (stack_changed (stack_of c i)) e ∙ none_changed_after (stack_of c i))
+
+-- and its text is empty
 none_after : (format : ViewFormat) (fs : List Frame) → stack_changes format fs [] ≡ []
 none_after format [] = refl
 none_after format (f ∷ fs) = refl

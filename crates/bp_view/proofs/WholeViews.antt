@@ -31,7 +31,7 @@ use Rattle.bp_view.specs.Outcomes.{assertion_in, clean_in, failure_in, foot_text
 use Rattle.bp_view.specs.Places.{place_text}
 use Rattle.bp_view.specs.Scenes.{AreScenes, IsStatementAt}
 use Rattle.bp_view.specs.Statements.{shortened, words_after, IsStatement}
-use Rattle.bp_view.specs.Views.{changes_of, is_shown, AreLines, IsShownLine, IsViewLine, IsViewLineIf}
+use Rattle.bp_view.specs.Views.{calls_of, changes_of, has_line, AreLines, IsShownLine, IsViewLine, IsViewLineIf}
 use Rattle.bp_view.proofs.LinesOfCalls.{lines_then}
 use Rattle.bp_view.proofs.PlacedStacks.{stack_placed, ArePlaced, IsPlaced}
 use Rattle.bp_view.proofs.SceneLists.{scene_at, SceneAt}
@@ -82,41 +82,41 @@ module _ (c : Flat) (t : Program) (code : StandsFor c t) (text : List ℕ) (scen
         record { number = refl; thread = refl; context = is; switch = refl; place = refl },
       )
 
-  module _ (o : ViewOptions) (w : Widths) (count : ℕ) where
-    view_line : (h : List Call) (x : Call) (format : ViewFormat) → (line : List ℕ) × IsViewLine t text s o w count format h x line
+  module _ (o : ViewOptions) (w : Widths) (whole : List Call) where
+    view_line : (h : List Call) (x : Call) (format : ViewFormat) → (line : List ℕ) × IsViewLine t text s o w whole format h x line
     view_line h x Columns =
         let (fields, fields_are) = some_fields h x in
         let (shown, shown_is) = some_shown (stack_of (configuration_after t s h) x.thread) (stack_placed c t code s h x.thread) in
         let colour = colour_of o.has_colour x.reply fields.switch in (
-          line_text w colour fields shown (note_text shown.reads x (changes_of t text s o w count h x)),
+          line_text w colour fields shown (note_text shown.reads x (calls_of o whole h x) (changes_of t text s o w whole h x)),
           record { fields = fields; fields_are = fields_are; shown = shown; shown_is = shown_is; is = refl },
         )
     view_line h x Json =
         let (fields, fields_are) = some_fields h x in
         let (next, next_is) = some_next (stack_of (configuration_after t s h) x.thread) (stack_placed c t code s h x.thread) in (
-          call_object fields next x (changes_of t text s o w count h x) (printed_by (configuration_after t s h) x),
+          call_object fields next x (changes_of t text s o w whole h x) (printed_by (configuration_after t s h) x),
           record { fields = fields; fields_are = fields_are; next = next; next_is = next_is; is = refl },
         )
 
-    shown_line : (h : List Call) (x : Call) → (line : List ℕ) × IsShownLine t text s o w count h x line
-    shown_line h x = by_shown (is_shown o count (suc (length h)) x.thread)
+    shown_line : (h : List Call) (x : Call) → (line : List ℕ) × IsShownLine t text s o w whole h x line
+    shown_line h x = by_shown (has_line t text s o w whole h x)
       where
-        by_shown : (b : Bool) → (line : List ℕ) × IsViewLineIf t text s o w count b h x line
+        by_shown : (b : Bool) → (line : List ℕ) × IsViewLineIf t text s o w whole b h x line
         by_shown true = view_line h x o.format
         by_shown false = ([], refl)
 
     -- the lines of a front of a history go on to those of all of it
-    pub lines_go_on : (g h : List Call) (lines : List ℕ) → AreLines t text s o w count g lines
-        → (more : List ℕ) × AreLines t text s o w count (g ++ h) (lines ++ more)
+    pub lines_go_on : (g h : List Call) (lines : List ℕ) → AreLines t text s o w whole g lines
+        → (more : List ℕ) × AreLines t text s o w whole (g ++ h) (lines ++ more)
     lines_go_on g [] lines is =
-        ([], subst (λ k. AreLines t text s o w count k (lines ++ [])) (sym (append-nil g)) (subst (AreLines t text s o w count g) (sym (append-nil lines)) is))
+        ([], subst (λ k. AreLines t text s o w whole k (lines ++ [])) (sym (append-nil g)) (subst (AreLines t text s o w whole g) (sym (append-nil lines)) is))
     lines_go_on g (x ∷ xs) lines is =
         let (line, line_is) = shown_line g x in
-        let next = lines_then t text s o w count g lines is x line line_is in
+        let next = lines_then t text s o w whole g lines is x line line_is in
         let (more, are_more) = lines_go_on (g ++ x ∷ []) xs (lines ++ line) next in (
           line ++ more,
-          subst (λ k. AreLines t text s o w count k (lines ++ (line ++ more))) (append_assoc g (x ∷ []) xs)
-              (subst (AreLines t text s o w count ((g ++ x ∷ []) ++ xs)) (append_assoc lines line more) are_more),
+          subst (λ k. AreLines t text s o w whole k (lines ++ (line ++ more))) (append_assoc g (x ∷ []) xs)
+              (subst (AreLines t text s o w whole ((g ++ x ∷ []) ++ xs)) (append_assoc lines line more) are_more),
         )
 
   module _ (format : ViewFormat) where

@@ -48,19 +48,33 @@ changed (x ∷ xs) (y ∷ ys) = if same_bit x.1 y.1 then changed xs ys else y �
 abbrev pub arguments_of : Frame → Valuation
 arguments_of f = take (length f.procedure.formals) f.locals
 
+-- what a call changed in the frame at the top of a stack, by the depths before and after it: the
+-- formals of a procedure that it entered, or the locals that have other values; nothing after a
+-- return
+abbrev pub frame_changed : Frame → Frame → (depth_before depth_after : ℕ) → Valuation
+frame_changed f g m n =
+    if nat_lt m n then arguments_of g
+    else if m == n then changed f.locals g.locals
+    else []
+
+abbrev pub stack_changed : (before after : List Frame) → Valuation
+stack_changed [] after = []
+stack_changed (f ∷ fs) [] = []
+stack_changed (f ∷ fs) (g ∷ gs) = frame_changed f g (length (f ∷ fs)) (length (g ∷ gs))
+
+-- the variables that a call of thread i changed: globals, and those of the top of its stack
+abbrev pub changed_variables : (before after : Configuration) → ℕ → Valuation
+changed_variables c d i =
+    changed c.globals d.globals ++ stack_changed (stack_of c i) (stack_of d i)
+
 module _ (format : ViewFormat) where
   abbrev pub variables_text : Option Procedure → Valuation → List ℕ
   variables_text owner [] = []
   variables_text owner (x ∷ xs) = variable_text format owner x.0 x.1 ++ variables_text owner xs
 
-  -- what a call changed in the frame at the top of a stack, by the depths before and after it: the
-  -- formals of a procedure that it entered, or the locals that have other values; nothing after a
-  -- return
+  -- what a call changed in the frame at the top of a stack
   abbrev pub frame_changes : Frame → Frame → (depth_before depth_after : ℕ) → List ℕ
-  frame_changes f g m n =
-      if nat_lt m n then variables_text (Some g.procedure) (arguments_of g)
-      else if m == n then variables_text (Some g.procedure) (changed f.locals g.locals)
-      else []
+  frame_changes f g m n = variables_text (Some g.procedure) (frame_changed f g m n)
 
   abbrev pub stack_changes : (before after : List Frame) → List ℕ
   stack_changes [] after = []

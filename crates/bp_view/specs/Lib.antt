@@ -16,5 +16,7 @@ pub mod StatementLines
 pub mod States
 pub mod Statements
 pub mod Views
+pub mod Waits
+pub mod Watches
 pub mod Widths
 pub mod Writing

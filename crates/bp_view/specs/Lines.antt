@@ -1,5 +1,5 @@
 -- The line of a call.
-use Rattle.std.specs.Prelude.{if◌then◌else◌, ◌≡◌, ◌==◌, not, ◌&&◌, ◌-◌, ◌*◌, min, ℕ, suc, Bool, false, List, [], ◌∷◌, ◌++◌, Option, None, Some, MatchOption, length, codes, decimal}
+use Rattle.std.specs.Prelude.{if◌then◌else◌, ◌≡◌, ◌==◌, not, nat_lt, ◌&&◌, ◌-◌, ◌*◌, min, ℕ, suc, Bool, false, List, [], ◌∷◌, ◌++◌, Option, None, Some, MatchOption, length, map, codes, decimal}
 use Rattle.bp_tree.specs.Ast.{Program}
 use Rattle.bp_code.specs.Starts.{start_of_block}
 use Rattle.bp_code.specs.Configurations.{Frame, Configuration}
@@ -24,6 +24,7 @@ use Rattle.bp_text.specs.OneLine.{IsOneLine}
 use Rattle.bp_view.specs.Changes.{IsNext}
 use Rattle.bp_view.specs.Colours.{in_colour}
 use Rattle.bp_view.specs.Places.{place_text}
+use Rattle.bp_view.specs.Watches.{watched_names}
 use Rattle.bp_view.specs.declared.scenes.Scene.{Scene}
 use Rattle.bp_view.specs.Scenes.{AreScenes, IsStatementAt}
 
@@ -95,10 +96,16 @@ choice_text reads x =
     if reads && is_tried x.reply then if x.bit then codes " ?=1" else codes " ?=0"
     else []
 
--- the note of a call: its choice bit where its statement reads one, the words of its reply, and
--- what it changed
-abbrev pub note_text : (reads : Bool) → Call → (changes : List ℕ) → List ℕ
-note_text reads x changes = choice_text reads x ++ reply_words x.reply ++ changes
+-- for how many calls a line stands, where these are several
+abbrev pub times_text : ℕ → List ℕ
+times_text calls =
+    if nat_lt 1 calls then codes " " ++ decimal calls ++ codes " times" else []
+
+-- the note of a call: its choice bit where its statement reads one, the words of its reply, for how
+-- many calls the line stands, and what it changed
+abbrev pub note_text : (reads : Bool) → Call → (calls : ℕ) → (changes : List ℕ) → List ℕ
+note_text reads x calls changes =
+    choice_text reads x ++ reply_words x.reply ++ times_text calls ++ changes
 
 -- a note after this many spaces; no space is left where there is no note
 abbrev pub after_room : ℕ → List ℕ → List ℕ
@@ -203,3 +210,4 @@ pub record IsSettingOf (t : Program) (text : List ℕ) (x : Setting) : Type 0 wh
   pub scenes : AreScenes text t x.scenes.now
   pub globals : x.globals.now ≡ t.globals
   pub procedures : x.procs.now ≡ t.procedures
+  pub names : map (λ n. n.now) x.names.now ≡ watched_names x.options.watch

@@ -1,5 +1,5 @@
 -- The view of a history of a program: a line for each of its calls that is shown.
-use Rattle.std.specs.Prelude.{◌≡◌, ◌==◌, ◌<◌, ◌≤◌, ◌-◌, ◌&&◌, ℕ, suc, Bool, true, false, nat_le, nat_lt, List, [], ◌∷◌, ◌++◌, Option, None, Some, length, map, take, slice_get, unwrap_or}
+use Rattle.std.specs.Prelude.{◌≡◌, ◌==◌, ◌<◌, ◌≤◌, ◌-◌, ◌&&◌, ℕ, suc, Bool, true, false, nat_le, nat_lt, List, [], ◌∷◌, ◌++◌, Option, None, Some, drop, length, map, reverse, take, slice_get, unwrap_or}
 use Rattle.std.specs.List.{concat}
 use Rattle.bp_tree.specs.Ast.{Program}
 use Rattle.bp_code.specs.StandsFor.{places_of, StandsFor}
@@ -15,7 +15,7 @@ use Rattle.bp_trace.specs.declared.replaying.Replayed.{Replayed}
 use Rattle.bp_trace.specs.Replayed.{IsReplayed}
 use Rattle.bp_trace.specs.Replays.{IsReplayRefusal}
 use Rattle.bp_view.specs.declared.faults.ViewFault.{ViewFault}
-use Rattle.bp_view.specs.declared.faults.ViewFault.TheVariants.{NoThread, Replay}
+use Rattle.bp_view.specs.declared.faults.ViewFault.TheVariants.{NoThread, NoVariable, Replay}
 use Rattle.bp_view.specs.declared.settings.Widths.{Widths}
 use Rattle.bp_view.specs.declared.writers.ViewWriter.{ViewWriter}
 use Rattle.bp_view.specs.declared.options.ViewFormat.{ViewFormat}
@@ -29,6 +29,8 @@ use Rattle.bp_view.specs.JsonCalls.{call_object, printed_by, Next, IsNextOf}
 use Rattle.bp_view.specs.Lines.{line_text, note_text, Fields, Shown, AreFields, IsShown}
 use Rattle.bp_view.specs.Places.{place_text}
 use Rattle.bp_view.specs.Scenes.{AreStatements}
+use Rattle.bp_view.specs.Waits.{calls_in_line}
+use Rattle.bp_view.specs.Watches.{is_watched, watched_names, AreDeclared, IsUndeclared}
 use Rattle.bp_view.specs.Widths.{extent, AreWidths}
 use Rattle.bp_view.specs.Writing.{IsStopped, IsWritten}
 
@@ -51,14 +53,30 @@ is_late (Some last) count n = nat_lt (count - n) last
 abbrev pub is_between : (from to : Option ℕ) → ℕ → Bool
 is_between from to n = nat_le (unwrap_or from 0) n && nat_le n (unwrap_or to n)
 
+-- call n of thread i, among `count` calls, is asked for
 abbrev pub is_shown : ViewOptions → ℕ → ℕ → ℕ → Bool
 is_shown o count n i =
     is_of_thread o.thread i && (is_late o.last count n && is_between o.from o.to n)
 
--- Of a program and its text, in a setup; the columns have these widths, and there are this many
--- calls.
+-- equal waits have one line: objects are never folded
+abbrev pub folds_in : ViewFormat → Bool → Bool
+folds_in Columns fold = fold
+folds_in Json fold = false
+
+abbrev pub folds : ViewOptions → Bool
+folds o = folds_in o.format o.fold
+
+-- for how many calls the line of x stands, which is the next call of this whole history after h
+abbrev pub calls_of : ViewOptions → (whole h : List Call) → Call → ℕ
+calls_of o whole h x =
+    let n = length h in
+    calls_in_line (folds o) x (reverse (take n whole)) (drop (suc n) whole)
+
+-- Of a program and its text, in a setup; the columns have these widths, and this is the whole
+-- history.
 module _
-    (t : Program) (text : List ℕ) (s : SetupOf) (o : ViewOptions) (w : Widths) (count : ℕ) where
+    (t : Program) (text : List ℕ) (s : SetupOf) (o : ViewOptions) (w : Widths)
+    (whole : List Call) where
   -- what the call x after the history h changed
   abbrev pub changes_of : List Call → Call → List ℕ
   changes_of h x =
@@ -73,7 +91,8 @@ module _
     pub shown_is : IsShown text (stack_of (configuration_after t s h) x.thread) shown
     pub is :
         let colour = colour_of o.has_colour x.reply fields.switch in
-        line ≡ line_text w colour fields shown (note_text shown.reads x (changes_of h x))
+        let note = note_text shown.reads x (calls_of o whole h x) (changes_of h x) in
+        line ≡ line_text w colour fields shown note
 
   -- the object of that call
   pub record IsObjectLine (h : List Call) (x : Call) (line : List ℕ) : Type 0 where
@@ -95,8 +114,20 @@ module _
   IsViewLineIf true h x line = IsViewLine o.format h x line
   IsViewLineIf false h x line = line ≡ []
 
+  -- the call x after the history h is asked for, and changed what is watched
+  abbrev pub is_wanted : List Call → Call → Bool
+  is_wanted h x =
+      let now = configuration_after t s h in
+      let later = configuration_after t s (h ++ x ∷ []) in
+      is_shown o (length whole) (suc (length h)) x.thread
+      && is_watched (watched_names o.watch) now later x.thread
+
+  -- it has a line
+  abbrev pub has_line : List Call → Call → Bool
+  has_line h x = is_wanted h x && nat_lt 0 (calls_of o whole h x)
+
   abbrev pub IsShownLine : List Call → Call → List ℕ → Type 0
-  IsShownLine h x line = IsViewLineIf (is_shown o count (suc (length h)) x.thread) h x line
+  IsShownLine h x line = IsViewLineIf (has_line h x) h x line
 
   -- The lines of a history, one after the other: line k is that of call k, after the k calls before
   -- it.
@@ -124,7 +155,7 @@ pub record IsView
   pub end : List ℕ
   pub is : view ≡ view_head o.format t.globals s ++ lines ++ end
   pub end_is : IsEnd o t text s h r end
-  pub lines_are : AreLines t text s o widths (length h) h lines
+  pub lines_are : AreLines t text s o widths h h lines
 
 -- the view of the history of a trace of the program, and its report
 pub record IsViewOfTrace
@@ -135,6 +166,7 @@ pub record IsViewOfTrace
   pub view_is : IsView t text replayed.setup replayed.history.items report o view
   pub report_is : report ≡ replayed.report
   pub there : IsThere o.thread (threads replayed.setup)
+  pub declared : AreDeclared t (watched_names o.watch)
 
 -- A view of a trace was to be written; the bytes of the writer are those before and after it.
 module _ (t : Program) (text trace : List ℕ) (o : ViewOptions) (old new : Option (List ℕ)) where
@@ -149,11 +181,19 @@ module _ (t : Program) (text trace : List ℕ) (o : ViewOptions) (old new : Opti
     pub asked : o.thread ≡ Some i
     pub past : threads replayed.setup ≤ i
 
-  -- the trace is refused, or else the thread, and nothing is written; or the view was not written
-  -- whole
+  -- the trace has the thread that is asked for, but name n of the watched ones is none of a variable
+  pub record HasNoVariable (n : ℕ) : Type 0 where
+    pub replayed : Replayed
+    pub is : IsReplayed t trace replayed
+    pub there : IsThere o.thread (threads replayed.setup)
+    pub undeclared : IsUndeclared t (watched_names o.watch) n
+
+  -- the trace is refused, or else the thread, or else a name, and nothing is written; or the view
+  -- was not written whole
   abbrev pub IsViewRefusal : ViewFault → Type 0
   IsViewRefusal (Replay f) = (new ≡ old) × IsReplayRefusal t trace f
   IsViewRefusal (NoThread i) = (new ≡ old) × HasNoThread i
+  IsViewRefusal (NoVariable n) = (new ≡ old) × HasNoVariable n
   IsViewRefusal f =
       IsStopped (λ view. (report : Report) × IsViewOfTrace t text trace o view report) old new f
 

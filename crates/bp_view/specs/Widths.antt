@@ -42,4 +42,4 @@ abbrev pub extent_of : Setting → Extent
 extent_of x =
     let places = map (λ s. s.place.items) x.scenes.now in
     let statements = map (λ s. s.excerpt.words.items) x.scenes.now in
-    extent x.count places statements (length x.procs.now)
+    extent (length x.history.now) places statements (length x.procs.now)

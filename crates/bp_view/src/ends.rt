@@ -1,5 +1,5 @@
 //! The end of a view.
-ghost use Rattle.std.specs.Prelude.{◌≡◌, ◌++◌, ℕ, List, length, IfOk, OnOk};
+ghost use Rattle.std.specs.Prelude.{◌≡◌, ◌++◌, ℕ, List, IfOk, OnOk};
 ghost use Rattle.bp_tree.specs.Ast.{Program};
 ghost use Rattle.bp_code.specs.StandsFor.{StandsFor};
 ghost use Rattle.bp_machine.specs.declared.calls.Call.{Call as Answered};
@@ -38,13 +38,13 @@ fn push_state(
         → IsSettingOf t text setting.now
         → StandsFor session.now.code t
         → Stands t session.now h
-        → setting.now.count ≡ length h
+        → setting.now.history.now ≡ h
         → let o = setting.now.options in
         let state = IsStateIf o.format t text session.now.setup h o.has_state in
         OnOk result (Adds state view.old.items view.new.items) }
 {
     if setting.options.has_state {
-        let state = state_of(alloc, setting, session, setting.count)?;
+        let state = state_of(alloc, setting, session, setting.count())?;
         push_after_foot(view, setting.options.format, &state)?;
     }
     Ok(())
@@ -63,7 +63,7 @@ pub(crate) fn end_of(
         → IsSettingOf t text.now setting.now
         → StandsFor session.now.code t
         → Stands t session.now h
-        → setting.now.count ≡ length h
+        → setting.now.history.now ≡ h
         → report.outcome ≡ outcome_of h
         → let s = session.now.setup in
         IfOk result (λ v. IsEnd setting.now.options t text.now s h report v.items) }

@@ -14,6 +14,10 @@ pub enum ViewFault {
     /// The calls of this thread alone were asked for, and the trace does not have it.
     #[error("the trace has no thread {0}")]
     NoThread(u32),
+    /// The calls that change a variable of some names alone were asked for, and no variable of the
+    /// program has this one of the names, from 1.
+    #[error("the program has no variable that is name {0} of --watch")]
+    NoVariable(u64),
     /// Memory was refused after the trace was replayed. A beginning of the view is written.
     #[error("out of memory")]
     Memory,

@@ -25,6 +25,8 @@ mod statements;
 mod states;
 mod variables;
 mod views;
+mod waits;
+mod watches;
 mod writers;
 
 pub use faults::ViewFault;

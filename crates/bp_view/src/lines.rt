@@ -6,7 +6,7 @@ ghost use Rattle.bp_text.specs.Columns.{at_right};
 ghost use Rattle.bp_view.specs.Changes.{changes_text};
 ghost use Rattle.bp_view.specs.Colours.{colour_of};
 ghost use Rattle.bp_view.specs.Scenes.{place_of_scene};
-ghost use Rattle.bp_view.specs.Lines.{reply_words, is_tried, call_text, choice_text, context_text, fields_of, fields_text, line_text, note_text, after_room, indented, reads_of_scene, shown_of, text_of_scene, IsSettingOf, Leads};
+ghost use Rattle.bp_view.specs.Lines.{reply_words, is_tried, call_text, choice_text, context_text, fields_of, fields_text, line_text, note_text, times_text, after_room, indented, reads_of_scene, shown_of, text_of_scene, IsSettingOf, Leads};
 
 use crate::changes::push_changes;
 use crate::colours::Colour;
@@ -157,24 +157,39 @@ pub(crate) fn reads_choice(scene: Option<&Scene>) -> bool
     }
 }
 
-/// Writes the note of a call: the choice bit where it is read, the reply where it is no step, and
-/// the variables that the step changed.
+/// Adds for how many calls a line stands, where these are several.
+fn push_times(note: &mut Vec<u8>, calls: usize) -> Result<(), AllocError>
+    ensures { OnOk result (note.new.items ≡ note.old.items ++ times_text calls) }
+{
+    if calls > 1 {
+        let mut buffer = Buffer::new();
+        push_bytes(note, b" ")?;
+        push_bytes(note, buffer.format(calls).as_bytes())?;
+        push_bytes(note, b" times")?;
+    }
+    Ok(())
+}
+
+/// Writes the note of a call: the choice bit where it is read, the reply where it is no step, for
+/// how many calls the line stands, and the variables that the step changed.
 fn write_note(
     note: &mut Vec<u8>,
     setting: &Setting<'_>,
     scene: Option<&Scene>,
     moment: &Moment,
+    calls: usize,
 ) -> Result<(), AllocError>
     ensures { (t : Program) (text : List ℕ) (c d : Configuration) (i : ℕ)
         → IsSettingOf t text setting.now
         → Leads t c d i moment.now
         → let reads = reads_of_scene (option_map (λ s. s.now) scene.entry) in
         let changes = changes_text setting.now.options.format c d i in
-        OnOk result (note.new.items ≡ note_text reads moment.now.call changes) }
+        OnOk result (note.new.items ≡ note_text reads moment.now.call calls changes) }
 {
     note.clear();
     push_choice(note, reads_choice(scene), &moment.call)?;
     push_bytes(note, reply_words(moment.call.reply))?;
+    push_times(note, calls)?;
     push_changed(note, setting, moment)?;
     Ok(())
 }
@@ -201,13 +216,14 @@ fn place_of<'a>(scene: Option<&'a Scene>) -> &'a [u8]
     }
 }
 
-/// Adds what the columns show of a call. `note` is room for its note.
+/// Adds what the columns show of a call, in a line for this many calls. `note` is room for its note.
 fn push_call(
     line: &mut Vec<u8>,
     note: &mut Vec<u8>,
     setting: &Setting<'_>,
     scene: Option<&Scene>,
     moment: &Moment,
+    calls: usize,
 ) -> Result<(), AllocError>
     ensures { (t : Program) (text : List ℕ) (c d : Configuration) (i : ℕ)
         → IsSettingOf t text setting.now
@@ -216,11 +232,11 @@ fn push_call(
         let fields = fields_of moment.now place in
         let shown = shown_of (option_map (λ s. s.now) scene.entry) moment.now.before in
         let changes = changes_text setting.now.options.format c d i in
-        let note = note_text shown.reads moment.now.call changes in
+        let note = note_text shown.reads moment.now.call calls changes in
         let text = call_text setting.now.widths fields shown note in
         OnOk result (line.new.items ≡ line.old.items ++ text) }
 {
-    write_note(note, setting, scene, moment)?;
+    write_note(note, setting, scene, moment, calls)?;
     push_fields(line, setting.widths, moment, place_of(scene))?;
     let start = line.len();
     push_scene(line, scene, moment.before)?;
@@ -229,14 +245,15 @@ fn push_call(
     Ok(())
 }
 
-/// Adds the line of a call, in colour where that is wanted and the call is a failure or a switch.
-/// `note` is room for the call's note.
+/// Adds the line of a call, which stands for this many calls, in colour where that is wanted and the
+/// call is a failure or a switch. `note` is room for the call's note.
 pub(crate) fn push_line(
     line: &mut Vec<u8>,
     note: &mut Vec<u8>,
     setting: &Setting<'_>,
     scene: Option<&Scene>,
     moment: &Moment,
+    calls: usize,
 ) -> Result<(), AllocError>
     ensures { (t : Program) (text : List ℕ) (c d : Configuration) (i : ℕ)
         → IsSettingOf t text setting.now
@@ -247,14 +264,14 @@ pub(crate) fn push_line(
         let colour = colour_of wanted moment.now.call.reply moment.now.is_switch in
         let shown = shown_of (option_map (λ s. s.now) scene.entry) moment.now.before in
         let changes = changes_text setting.now.options.format c d i in
-        let note = note_text shown.reads moment.now.call changes in
+        let note = note_text shown.reads moment.now.call calls changes in
         let text = line_text setting.now.widths colour fields shown note in
         OnOk result (line.new.items ≡ line.old.items ++ text) }
 {
     let has_colour = setting.options.has_colour;
     let colour = Colour::of(has_colour, moment.call.reply, moment.is_switch);
     push_bytes(line, colour.opening())?;
-    push_call(line, note, setting, scene, moment)?;
+    push_call(line, note, setting, scene, moment, calls)?;
     push_bytes(line, colour.closing())?;
     push_bytes(line, b"\n")?;
     Ok(())

@@ -1,5 +1,5 @@
 //! What a view shows.
-ghost use Rattle.std.specs.Prelude.{◌≡◌};
+ghost use Rattle.std.specs.Prelude.{◌≡◌, None};
 ghost use Rattle.bp_view.specs.Views.{is_shown};
 
 /// How a view is written.
@@ -13,7 +13,7 @@ pub enum ViewFormat {
 
 /// Which calls a view shows, and how.
 #[derive(Clone, Copy, Debug, PartialEq, Eq)]
-pub struct ViewOptions {
+pub struct ViewOptions<'a> {
     /// Of this thread alone.
     pub thread: Option<u32>,
     /// How many of the last calls of the history are shown.
@@ -22,6 +22,12 @@ pub struct ViewOptions {
     pub from: Option<u64>,
     /// The number of the last call that is shown.
     pub to: Option<u64>,
+    /// Those alone that change a variable of one of these names, which commas separate: a global, or
+    /// a formal or a local of any procedure. A step that enters a procedure changes its formals.
+    pub watch: Option<&'a str>,
+    /// Whether more than three equal waits of a thread in succession have one line. Objects are never
+    /// folded.
+    pub fold: bool,
     /// Whether the state after the last call follows the foot.
     pub has_state: bool,
     /// With the colours of a terminal.
@@ -29,18 +35,20 @@ pub struct ViewOptions {
     pub format: ViewFormat,
 }
 
-impl ViewOptions {
-    ghost use Rattle.bp_view.specs.Views.{is_between, is_late, is_of_thread};
+impl ViewOptions<'_> {
+    ghost use Rattle.bp_view.specs.Views.{folds, is_between, is_late, is_of_thread};
 
     /// All calls, without colours.
-    pub(crate) fn all(format: ViewFormat) -> ViewOptions
-        ensures { result.format ≡ format }
+    pub(crate) fn all<'a>(format: ViewFormat) -> ViewOptions<'a>
+        ensures { (result.format ≡ format) × (result.watch ≡ None) }
     {
         ViewOptions {
             thread: None,
             last: None,
             from: None,
             to: None,
+            watch: None,
+            fold: false,
             has_state: false,
             has_colour: false,
             format,
@@ -72,6 +80,13 @@ impl ViewOptions {
         ensures { result ≡ is_between self.now.from self.now.to number }
     {
         self.from.unwrap_or(0) <= number && number <= self.to.unwrap_or(number)
+    }
+
+    /// Whether equal waits have one line.
+    pub(crate) fn folds(&self) -> bool
+        ensures { result ≡ folds self.now }
+    {
+        self.fold && matches!(self.format, ViewFormat::Columns)
     }
 
     /// Whether the call of this number is shown, where there are `count` calls.

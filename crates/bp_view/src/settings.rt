@@ -1,12 +1,15 @@
 //! What the lines of a view have in common: the program's scenes and names, and the widths of the
 //! columns.
-ghost use Rattle.std.specs.Prelude.{◌≡◌, ◌<◌, ◌^◌, length, map, max};
+ghost use Rattle.std.specs.Prelude.{◌≡◌, ◌<◌, ◌-◌, ◌^◌, drop, length, map, max, reverse, take};
+ghost use Rattle.bp_view.specs.Views.{folds, is_shown};
+ghost use Rattle.bp_view.specs.Waits.{calls_in_line};
 ghost use Rattle.bp_view.specs.Widths.{extent, extent_of, longest, AreWidths};
 
 use crate::options::ViewOptions;
 use crate::scenes::Scene;
+use crate::waits::calls_in_line;
 use bp_check::Checked;
-use bp_machine::Setup;
+use bp_machine::{Call, Setup};
 use bp_text::digits;
 use bp_tree::{Name, Proc};
 
@@ -31,9 +34,11 @@ pub(crate) struct Setting<'a> {
     pub(crate) globals: &'a [Name],
     pub(crate) procs: &'a [Proc],
     pub(crate) widths: Widths,
-    /// How many calls the history has.
-    pub(crate) count: u64,
-    pub(crate) options: ViewOptions,
+    /// The whole history.
+    pub(crate) history: &'a [Call],
+    pub(crate) options: ViewOptions<'a>,
+    /// The names of the watched variables, or none.
+    pub(crate) names: &'a [&'a [u8]],
 }
 
 /// The length of the longest place that is printed, and 1 at least.
@@ -75,28 +80,62 @@ fn widths_of(scenes: &[Scene], procs: &[Proc], count: u64, setup: &Setup) -> Wid
     }
 }
 
-/// The setting of a view of `count` calls in this setup.
+impl Setting<'_> {
+    /// How many calls the history has.
+    pub(crate) fn count(&self) -> u64
+        ensures { result ≡ length self.now.history.now }
+    {
+        self.history.len() as u64
+    }
+
+    /// Whether the call of this number is one of those that are asked for.
+    pub(crate) fn shows(&self, thread: u32, number: u64) -> bool
+        ensures { let count = length self.now.history.now in
+            result ≡ is_shown self.now.options count number thread }
+    {
+        self.options.shows(thread, number, self.count())
+    }
+
+    /// For how many calls the line of the call with this number stands.
+    pub(crate) fn calls_in_line(&self, call: &Call, number: u64) -> usize
+        ensures { let whole = self.now.history.now in
+            let before = reverse (take (number - 1) whole) in
+            let folds = folds self.now.options in
+            result ≡ calls_in_line folds call.now before (drop number whole) }
+    {
+        let (first, last) = (number.saturating_sub(1), number);
+        let count = self.count();
+        let before = &self.history[..first.min(count) as usize];
+        let after = &self.history[last.min(count) as usize..];
+        calls_in_line(self.options.folds(), call, before, after)
+    }
+}
+
+/// The setting of a view of a history in this setup.
 pub(crate) fn setting_of<'a>(
     scenes: &'a [Scene],
     checked: &'a Checked,
     setup: &Setup,
-    count: u64,
-    options: ViewOptions,
+    history: &'a [Call],
+    options: ViewOptions<'a>,
+    names: &'a [&'a [u8]],
 ) -> Setting<'a>
     ensures scenes { result.scenes.now ≡ scenes.now }
     ensures globals { result.globals.now ≡ checked.now.globals }
     ensures procedures { result.procs.now ≡ checked.now.procedures }
     ensures widths { AreWidths setup.now (extent_of result) result.widths }
-    ensures count { result.count ≡ count }
-    ensures options { result.options ≡ options }
+    ensures history { result.history.now ≡ history.now }
+    ensures options { result.options ≡ options.entry }
+    ensures names { result.names.now ≡ names.now }
 {
     let tree = checked.tree();
     Setting {
         scenes,
         globals: tree.globals(),
         procs: tree.procs(),
-        widths: widths_of(scenes, tree.procs(), count, setup),
-        count,
+        widths: widths_of(scenes, tree.procs(), history.len() as u64, setup),
+        history,
         options,
+        names,
     }
 }

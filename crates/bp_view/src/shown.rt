@@ -11,7 +11,7 @@ ghost use Rattle.bp_view.specs.Lines.{shown_of, start_on_stack, Adds, IsMomentOf
 ghost use Rattle.bp_view.specs.Places.{place_text};
 ghost use Rattle.bp_view.specs.Scenes.{place_of_scene, AreScenes};
 ghost use Rattle.bp_view.specs.JsonCalls.{next_of, printed_by, IsNextOf, IsPrintedIn};
-ghost use Rattle.bp_view.specs.Views.{IsColumnLine, IsObjectLine, IsShownLine, IsViewLine};
+ghost use Rattle.bp_view.specs.Views.{calls_of, is_wanted, IsColumnLine, IsObjectLine, IsShownLine, IsViewLine};
 
 use crate::json_calls::push_object;
 use crate::lines::push_line;
@@ -19,6 +19,7 @@ use crate::moments::Moment;
 use crate::options::ViewFormat;
 use crate::scenes::Scene;
 use crate::settings::Setting;
+use crate::watches::is_watched;
 use bp_machine::Top;
 use std::alloc::AllocError;
 
@@ -45,24 +46,27 @@ fn scene_of<'a>(scenes: &'a [Scene], top: Option<Top>) -> Option<&'a Scene>
     }
 }
 
-/// Adds the line of a call in columns. `note` is room for the call's note.
+/// Adds the line of a call in columns, which stands for this many calls. `note` is room for the
+/// call's note.
 fn push_column_line(
     view: &mut Vec<u8>,
     note: &mut Vec<u8>,
     setting: &Setting<'_>,
     moment: &Moment,
+    calls: usize,
 ) -> Result<(), AllocError>
     ensures { (t : Program) (text : List ℕ) (s : SetupOf) (h : List Answered) (x : Answered)
         → IsSettingOf t text setting.now
         → IsMomentOf t s h x moment.now
+        → calls ≡ calls_of setting.now.options setting.now.history.now h x
         → let options = setting.now.options in
         let w = setting.now.widths in
-        let count = setting.now.count in
+        let whole = setting.now.history.now in
         OnOk result
-        (Adds (IsColumnLine t text s options w count h x) view.old.items view.new.items) }
+        (Adds (IsColumnLine t text s options w whole h x) view.old.items view.new.items) }
 {
     let scene = scene_of(setting.scenes, moment.before);
-    push_line(view, note, setting, scene, moment)?;
+    push_line(view, note, setting, scene, moment, calls)?;
     Ok(())
 }
 
@@ -80,37 +84,51 @@ fn push_object_line(
         → option_map (λ v. v.now) printed.entry ≡ printed_by (configuration_after t s h) x
         → let options = setting.now.options in
         let w = setting.now.widths in
-        let count = setting.now.count in
+        let whole = setting.now.history.now in
         OnOk result
-        (Adds (IsObjectLine t text s options w count h x) view.old.items view.new.items) }
+        (Adds (IsObjectLine t text s options w whole h x) view.old.items view.new.items) }
 {
     let scene = scene_of(setting.scenes, moment.before);
     push_object(view, note, setting, scene, moment, printed)?;
     Ok(())
 }
 
-/// Adds the line of a call in the format of the view. `note` is room for the call's note.
+/// Adds the line of a call in the format of the view; in columns it stands for this many calls. `note` is room for the call's note.
 fn push_view_line(
     view: &mut Vec<u8>,
     note: &mut Vec<u8>,
     setting: &Setting<'_>,
     moment: &Moment,
     printed: Option<&[bool]>,
+    calls: usize,
 ) -> Result<(), AllocError>
     ensures { (t : Program) (text : List ℕ) (s : SetupOf) (h : List Answered) (x : Answered)
         → IsSettingOf t text setting.now
         → IsMomentOf t s h x moment.now
         → IsPrintedIn setting.now.options.format (configuration_after t s h) x
         (option_map (λ v. v.now) printed.entry)
+        → calls ≡ calls_of setting.now.options setting.now.history.now h x
         → let options = setting.now.options in
         let w = setting.now.widths in
-        let line = IsViewLine t text s options w setting.now.count options.format h x in
+        let line = IsViewLine t text s options w setting.now.history.now options.format h x in
         OnOk result (Adds line view.old.items view.new.items) }
 {
     match setting.options.format {
-        ViewFormat::Columns => push_column_line(view, note, setting, moment),
+        ViewFormat::Columns => push_column_line(view, note, setting, moment, calls),
         ViewFormat::Json => push_object_line(view, note, setting, moment, printed),
     }
+}
+
+/// Whether a call is asked for, and changed what is watched.
+fn is_wanted(setting: &Setting<'_>, moment: &Moment) -> bool
+    ensures { (t : Program) (text : List ℕ) (s : SetupOf) (h : List Answered) (x : Answered)
+        → IsSettingOf t text setting.now
+        → IsMomentOf t s h x moment.now
+        → let w = setting.now.widths in
+        let whole = setting.now.history.now in
+        result ≡ is_wanted t text s setting.now.options w whole h x }
+{
+    setting.shows(moment.call.thread, moment.number) && is_watched(setting, moment)
 }
 
 /// Adds the line of a call, where it is shown. `note` is room for the call's note.
@@ -128,15 +146,16 @@ pub(crate) fn push_shown(
         (option_map (λ v. v.now) printed.entry)
         → let options = setting.now.options in
         let w = setting.now.widths in
-        let count = setting.now.count in
+        let whole = setting.now.history.now in
         OnOk result
-        (Adds (IsShownLine t text s options w count h x) view.old.items view.new.items) }
+        (Adds (IsShownLine t text s options w whole h x) view.old.items view.new.items) }
 {
-    if setting
-        .options
-        .shows(moment.call.thread, moment.number, setting.count)
-    {
-        push_view_line(view, note, setting, moment, printed)?;
+    if !is_wanted(setting, moment) {
+        return Ok(());
+    }
+    let calls = setting.calls_in_line(&moment.call, moment.number);
+    if calls > 0 {
+        push_view_line(view, note, setting, moment, printed, calls)?;
     }
     Ok(())
 }

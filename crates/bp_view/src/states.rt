@@ -323,8 +323,15 @@ pub fn state_at(
     let Ok(session) = session_after(alloc, code, &replayed.setup, calls) else {
         return Err(ReplayFault::Memory);
     };
-    let (count, options) = (history.len() as u64, ViewOptions::all(format));
-    let setting = setting_of(scenes.as_slice(), checked, &replayed.setup, count, options);
-    let state = state_of(alloc, &setting, &session, count)?;
+    let options = ViewOptions::all(format);
+    let setting = setting_of(
+        scenes.as_slice(),
+        checked,
+        &replayed.setup,
+        history,
+        options,
+        &[],
+    );
+    let state = state_of(alloc, &setting, &session, setting.count())?;
     Ok((state, replayed.report))
 }

@@ -184,7 +184,7 @@ pub(crate) fn push_differing(
 }
 
 /// The slot of the first of these names that is spelled so, where one is.
-fn slot_of(names: &[Name], name: &[u8]) -> Option<usize>
+pub(crate) fn slot_of(names: &[Name], name: &[u8]) -> Option<usize>
     ensures slot { result ≡ first_index names.now name.now }
     ensures within { MatchOption result Unit (λ k. k < length names.now) }
 {
@@ -192,7 +192,7 @@ fn slot_of(names: &[Name], name: &[u8]) -> Option<usize>
 }
 
 /// The slot of a local; the formals of the procedure have the first slots.
-fn local_slot_of(proc: &Proc, name: &[u8]) -> Option<usize>
+pub(crate) fn local_slot_of(proc: &Proc, name: &[u8]) -> Option<usize>
     ensures { result ≡ first_index (variables proc.now) name.now }
 {
     let formals = proc.formals();

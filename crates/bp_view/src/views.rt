@@ -1,11 +1,12 @@
 //! The view of a trace.
-ghost use Rattle.std.specs.Prelude.{◌≡◌, MatchResult};
+ghost use Rattle.std.specs.Prelude.{◌≡◌, map, MatchResult};
 ghost use Rattle.bp_code.specs.StandsFor.{StandsFor};
 ghost use Rattle.bp_machine.specs.Reports.{IsReport};
 ghost use Rattle.bp_machine.specs.Setups.{threads, FitsCode};
 ghost use Rattle.bp_trace.specs.Replays.{IsPlayable};
 ghost use Rattle.bp_view.specs.Scenes.{AreScenes};
 ghost use Rattle.bp_view.specs.Views.{IsMissing, IsThere, IsView, IsViewRefusal, IsViewed};
+ghost use Rattle.bp_view.specs.Watches.{watched_names};
 ghost use Rattle.bp_view.specs.Writing.{IsStopped, IsWritten};
 
 use crate::ends::end_of;
@@ -14,6 +15,7 @@ use crate::heads::head_of;
 use crate::options::ViewOptions;
 use crate::scenes::{Scene, scenes_of};
 use crate::settings::setting_of;
+use crate::watches::{check_names, watched_names};
 use crate::writers::ViewWriter;
 use bp_check::Checked;
 use bp_code::Code;
@@ -34,10 +36,10 @@ fn memory_of(fault: AskFault) -> ViewFault
 }
 
 /// Refuses a thread that is not there, where the calls of one thread alone are to be shown.
-fn check_thread(options: ViewOptions, setup: &Setup) -> Result<(), ViewFault>
+fn check_thread(options: ViewOptions<'_>, setup: &Setup) -> Result<(), ViewFault>
     ensures { MatchResult result
-        (λ _. IsThere options.thread (threads setup.now))
-        (λ f. IsMissing options.thread (threads setup.now) f) }
+        (λ _. IsThere options.entry.thread (threads setup.now))
+        (λ f. IsMissing options.entry.thread (threads setup.now) f) }
 {
     match options.thread {
         Some(thread) if setup.threads() <= thread => Err(ViewFault::NoThread(thread)),
@@ -54,7 +56,8 @@ fn write_view<W: Write>(
     code: &Code,
     scenes: &[Scene],
     replayed: &Replayed,
-    options: ViewOptions,
+    options: ViewOptions<'_>,
+    names: &[&[u8]],
     out: &mut W,
 ) -> Result<(), ViewFault>
     requires code { StandsFor code.now checked.now }
@@ -62,15 +65,15 @@ fn write_view<W: Write>(
     requires scenes { AreScenes text.now checked.now scenes.now }
     requires playable { IsPlayable checked.now replayed.now.setup replayed.now.history.items }
     requires report { IsReport replayed.now.setup replayed.now.history.items replayed.now.report }
+    requires names { map (λ n. n.now) names.now ≡ watched_names options.watch }
     ensures { let r = replayed.now in
-        let is_view = IsView checked.now text.now r.setup r.history.items r.report options in
+        let is_view = IsView checked.now text.now r.setup r.history.items r.report options.entry in
         MatchResult result
         (λ _. IsWritten is_view (W.contents out.old) (W.contents out.new))
         (IsStopped is_view (W.contents out.old) (W.contents out.new)) }
 {
     let history = replayed.history.as_slice();
-    let count = history.len() as u64;
-    let setting = setting_of(scenes, checked, &replayed.setup, count, options);
+    let setting = setting_of(scenes, checked, &replayed.setup, history, options, names);
     let format = setting.options.format;
     let head = head_of(alloc, format, &replayed.setup, setting.globals)?;
     let session = Session::new(alloc, code, &replayed.setup)?;
@@ -103,7 +106,8 @@ fn write_view<W: Write>(
 /// Writes a view of the history of a trace of a program, and answers its report. The view has the
 /// setup, a line for each call that is shown, the foot, and the state after the last call where that
 /// is asked for. A text that is no trace of the program
-/// is refused as `replay` refuses it, then a thread that is not there, and nothing is written. The
+/// is refused as `replay` refuses it, then a thread that is not there, then a watched name that no
+/// variable has; and nothing is written. The
 /// lines are written as they are made, after the trace was replayed.
 pub fn view<W: Write>(
     alloc: Global,
@@ -111,12 +115,13 @@ pub fn view<W: Write>(
     checked: &Checked,
     code: &Code,
     trace: &[u8],
-    options: ViewOptions,
+    options: ViewOptions<'_>,
     out: &mut W,
 ) -> Result<Report, ViewFault>
     requires { StandsFor code.now checked.now }
     ensures { let old = W.contents out.old in
         let new = W.contents out.new in
+        let options = options.entry in
         MatchResult result
         (IsViewed checked.now text.now trace.now options old new)
         (IsViewRefusal checked.now text.now trace.now options old new) }
@@ -127,8 +132,14 @@ pub fn view<W: Write>(
     let Ok(scenes) = scenes_of(alloc, text, checked) else {
         return Err(ViewFault::Replay(ReplayFault::Memory));
     };
+    let Ok(names) = watched_names(alloc, options.watch) else {
+        return Err(ViewFault::Replay(ReplayFault::Memory));
+    };
     let replayed = replay(alloc, code, trace)?;
     check_thread(options, &replayed.setup)?;
-    write_view(alloc, text, checked, code, &scenes, &replayed, options, out)?;
+    check_names(checked, &names)?;
+    write_view(
+        alloc, text, checked, code, &scenes, &replayed, options, &names, out,
+    )?;
     Ok(replayed.report)
 }

@@ -43,7 +43,7 @@ impl ViewWriter<'_> {
             → let s = self.old.session.setup in
             let x = self.old.setting in
             OnOk result
-            (IsShownLine t text s x.options x.widths x.count h recorded.now self.new.line.items) }
+            (IsShownLine t text s x.options x.widths x.history.now h recorded.now self.new.line.items) }
         ensures memory { (t : Program) (h : List Answered)
             → HasMade t h self.old
             → IsPlayable t self.old.session.setup (h ++ recorded.now ∷ [])

@@ -1,12 +1,13 @@
-use Rattle.std.proofs.Common.{◌≡◌, true, length, refl, subst, sym}
+use Rattle.std.proofs.Common.{◌≡◌, ◌∙◌, true, length, ap, refl, subst, sym}
 use Rattle.bp_view.specs.Ends.{after_foot, IsStateIf}
 use Rattle.bp_view.specs.States.{IsStateText}
 use Rattle.bp_view.proofs.ends.push_state.Goals as goal
 
 pub returns-in_ok-push_after_foot : goal.returns-in_ok-push_after_foot
-returns-in_ok-push_after_foot c = λ t text h known code stands count.
+returns-in_ok-push_after_foot c = λ t text h known code stands whole.
     let o = c.args.setting.now.options in
     let s = c.args.session.now.setup in
+    let count : c.count.result ≡ length h = c.count.ensures ∙ ap length whole in
     let asked : o.has_state ≡ true = c.if-setting.true in
     let own = subst (λ n. IsStateText o.format t text s h n c.in_ok-state.state.items) count (c.in_ok-state.ensures t text h known code stands) in
     let state = subst (IsStateText o.format t text s h (length h)) (sym c.deref.ensures.value) own in

@@ -18,7 +18,7 @@ returns c = λ t text now later i setting leads.
     let colour = colour_of c.args.setting.now.options.has_colour moment.call.reply moment.is_switch in
     let scene = option_map (λ s. s.now) c.args.scene in
     let shown = shown_of scene moment.before in
-    let note = note_text shown.reads moment.call (changes_text c.args.setting.now.options.format now later i) in
+    let note = note_text shown.reads moment.call c.args.calls (changes_text c.args.setting.now.options.format now later i) in
     let more = call_text c.args.setting.now.widths (fields_of moment (place_of_scene scene)) shown note in
     let call = c.in_ok-push_call.ensures t text now later i setting leads in
     c.in_ok-push_bytes-3.ensures

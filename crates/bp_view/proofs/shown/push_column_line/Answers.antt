@@ -5,24 +5,24 @@ use Rattle.bp_view.specs.Changes.{changes_text}
 use Rattle.bp_view.specs.Colours.{colour_of}
 use Rattle.bp_view.specs.Lines.{fields_of, line_text, note_text, shown_of}
 use Rattle.bp_view.specs.Scenes.{place_of_scene}
-use Rattle.bp_view.specs.Views.{IsColumnLine}
+use Rattle.bp_view.specs.Views.{calls_of, IsColumnLine}
 use Rattle.bp_view.proofs.shown.push_column_line.Goals as goal
 
 pub returns : goal.returns
-returns c = λ t text s h x setting of.
+returns c = λ t text s h x setting of calls.
     let m = c.args.moment.now in
     let old = c.args.view.now.items in
     let o = c.args.setting.now.options in
     let w = c.args.setting.now.widths in
+    let whole = c.args.setting.now.history.now in
     let now = configuration_after t s h in
     let changes = changes_text o.format now (configuration_after t s (h ++ x ∷ [])) x.thread in
     let scene = option_map (λ s. s.now) c.scene_of-scene.result in
     let fields = fields_of m (place_of_scene scene) in
     let shown = shown_of scene m.before in
-    let line = line_text w (colour_of o.has_colour x.reply m.is_switch) fields shown (note_text shown.reads x changes) in
+    let line = line_text w (colour_of o.has_colour x.reply m.is_switch) fields shown (note_text shown.reads x (calls_of o whole h x) changes) in
     let thread = ap (λ y. y.thread) of.call in
-    let count = c.args.setting.now.count in
-    let is_line : IsColumnLine t text s o w count h x line = record {
+    let is_line : IsColumnLine t text s o w whole h x line = record {
       fields = fields;
       fields_are = record {
         number = of.number;
@@ -38,6 +38,7 @@ returns c = λ t text s h x setting of.
     record {
       more = line;
       is = c.in_ok-push_line.ensures t text now (configuration_after t s (h ++ x ∷ [])) x.thread setting of.leads
-          ∙ ap (λ y. old ++ line_text w (colour_of o.has_colour y.reply m.is_switch) fields shown (note_text shown.reads y changes)) of.call;
+          ∙ ap (λ y. old ++ line_text w (colour_of o.has_colour y.reply m.is_switch) fields shown (note_text shown.reads y c.args.calls changes)) of.call
+          ∙ ap (λ n. old ++ line_text w (colour_of o.has_colour x.reply m.is_switch) fields shown (note_text shown.reads x n changes)) calls;
       more_are = is_line;
     }

@@ -1,13 +1,14 @@
-use Rattle.std.proofs.Common.{◌++◌, ℕ, List, Option, refl, subst, sym}
+use Rattle.std.proofs.Common.{◌∙◌, ◌++◌, ℕ, List, Option, ap, map, refl, subst, sym}
 use Rattle.std.proofs.lemmas.Result.{err_from_is_err_and}
 use Rattle.bp_tree.specs.Ast.{Program}
 use Rattle.bp_machine.specs.Setups.{threads}
 use Rattle.bp_trace.specs.declared.replaying.Replayed.{Replayed}
 use Rattle.bp_trace.specs.Replayed.{IsReplayed}
 use Rattle.bp_view.specs.declared.faults.ViewFault.{ViewFault}
-use Rattle.bp_view.specs.declared.faults.ViewFault.TheVariants.{Memory, NoThread, Replay, Write}
+use Rattle.bp_view.specs.declared.faults.ViewFault.TheVariants.{Memory, NoThread, NoVariable, Replay, Write}
 use Rattle.bp_view.specs.declared.options.ViewOptions.{ViewOptions}
 use Rattle.bp_view.specs.Views.{IsMissing, IsThere, IsView, IsViewed, IsViewOfTrace, IsViewRefusal}
+use Rattle.bp_view.specs.Watches.{watched_names, AreDeclared, IsNameFault}
 use Rattle.bp_view.specs.Writing.{IsStopped, IsWritten}
 use Rattle.bp_view.proofs.views.view.Goals as goal
 
@@ -17,8 +18,13 @@ module _ (t : Program) (text trace : List ℕ) (o : ViewOptions) (r : Replayed) 
       subst (IsViewRefusal t text trace o a a) (sym same) (refl, record { replayed = r; is = is; asked = asked; past = past })
 
 module _ (t : Program) (text trace : List ℕ) (o : ViewOptions) (r : Replayed) (is : IsReplayed t trace r) (there : IsThere o.thread (threads r.setup)) where
+  unnamed : (a : Option (List ℕ)) (f : ViewFault) → IsNameFault t (watched_names o.watch) f → IsViewRefusal t text trace o a a f
+  unnamed a f (n, same, undeclared) =
+      subst (IsViewRefusal t text trace o a a) (sym same) (refl, record { replayed = r; is = is; there = there; undeclared = undeclared })
+
+module _ (t : Program) (text trace : List ℕ) (o : ViewOptions) (r : Replayed) (is : IsReplayed t trace r) (there : IsThere o.thread (threads r.setup)) (declared : AreDeclared t (watched_names o.watch)) where
   of_trace : (view : List ℕ) → IsView t text r.setup r.history.items r.report o view → IsViewOfTrace t text trace o view r.report
-  of_trace view view_is = record { replayed = r; is = is; view_is = view_is; report_is = refl; there = there }
+  of_trace view view_is = record { replayed = r; is = is; view_is = view_is; report_is = refl; there = there; declared = declared }
 
   viewed : (a b : Option (List ℕ)) → IsWritten (IsView t text r.setup r.history.items r.report o) a b → IsViewed t text trace o a b r.report
   viewed a b done = record { text = done.text; is = of_trace done.text done.is; written = done.written }
@@ -26,6 +32,7 @@ module _ (t : Program) (text trace : List ℕ) (o : ViewOptions) (r : Replayed) 
   stopped : (a b : Option (List ℕ)) (f : ViewFault) → IsStopped (IsView t text r.setup r.history.items r.report o) a b f → IsViewRefusal t text trace o a b f
   stopped a b (Replay f) why = absurd why
   stopped a b (NoThread i) why = absurd why
+  stopped a b (NoVariable n) why = absurd why
   stopped a b Memory why = record { begun = why.begun; rest = why.rest; is = (r.report, of_trace (why.begun ++ why.rest) why.is); written = why.written }
   stopped a b Write why = record { text = why.text; is = (r.report, of_trace why.text why.is); written = why.written }
 
@@ -35,12 +42,29 @@ returns-in_err-check_thread g c =
     let is = c.in_ok-replayed.ensures c.args.checked.now c.requires in
     rw (p.1, p.2) (missing c.args.checked.now c.args.text.now c.args.trace.now c.args.options c.in_ok-replayed.replayed is _ c.in_err-check_thread.field-0.0 c.in_err-check_thread.ensures)
 
+pub returns-in_err-check_names : goal.returns-in_err-check_names
+returns-in_err-check_names g c =
+    let t = c.args.checked.now in
+    let o = c.args.options in
+    let p = err_from_is_err_and c.from_residual-in_err-check_names.result c.from_residual-in_err-check_names.ensures.1 in
+    let is = c.in_ok-replayed.ensures t c.requires in
+    let names = ap (map (λ n. n.now)) c.deref.ensures.value ∙ c.in-Ok-watched_names.ensures in
+    let fault = subst (λ ns. IsNameFault t ns c.in_err-check_names.field-0.0) names c.in_err-check_names.ensures in
+    rw (p.1, p.2) (unnamed t c.args.text.now c.args.trace.now o c.in_ok-replayed.replayed is c.in_ok-check_thread.ensures _ c.in_err-check_names.field-0.0 fault)
+
 pub returns-in_err-write_view : goal.returns-in_err-write_view
 returns-in_err-write_view g c =
+    let t = c.args.checked.now in
+    let o = c.args.options in
     let p = err_from_is_err_and c.from_residual-in_err-write_view.result c.from_residual-in_err-write_view.ensures.1 in
-    let is = c.in_ok-replayed.ensures c.args.checked.now c.requires in
-    rw (p.1, p.2) (stopped c.args.checked.now c.args.text.now c.args.trace.now c.args.options c.in_ok-replayed.replayed is c.in_ok-check_thread.ensures _ _ c.in_err-write_view.field-0.0 c.in_err-write_view.ensures)
+    let is = c.in_ok-replayed.ensures t c.requires in
+    let names = ap (map (λ n. n.now)) c.deref.ensures.value ∙ c.in-Ok-watched_names.ensures in
+    let declared = subst (AreDeclared t) names c.in_ok-check_names.ensures in
+    rw (p.1, p.2) (stopped t c.args.text.now c.args.trace.now o c.in_ok-replayed.replayed is c.in_ok-check_thread.ensures declared _ _ c.in_err-write_view.field-0.0 c.in_err-write_view.ensures)
 
 pub returns : goal.returns
 returns g c =
-    viewed c.args.checked.now c.args.text.now c.args.trace.now c.args.options c.in_ok-replayed.replayed (c.in_ok-replayed.ensures c.args.checked.now c.requires) c.in_ok-check_thread.ensures _ _ c.in_ok-write_view.ensures
+    let t = c.args.checked.now in
+    let names = ap (map (λ n. n.now)) c.deref.ensures.value ∙ c.in-Ok-watched_names.ensures in
+    let declared = subst (AreDeclared t) names c.in_ok-check_names.ensures in
+    viewed t c.args.text.now c.args.trace.now c.args.options c.in_ok-replayed.replayed (c.in_ok-replayed.ensures t c.requires) c.in_ok-check_thread.ensures declared _ _ c.in_ok-write_view.ensures

@@ -1,8 +1,10 @@
-use Rattle.std.proofs.Common.{◌∙◌, ap, refl, subst, sym, take}
+use Rattle.std.proofs.Common.{◌∙◌, ap, map, refl, subst, sym, take}
 use Rattle.std.proofs.lemmas.Result.{err_from_is_err_and}
 use Rattle.bp_code.specs.StandsFor.{StandsFor}
 use Rattle.bp_view.specs.declared.faults.ViewFault.TheVariants.{Memory, Write}
+use Rattle.bp_view.specs.declared.options.ViewOptions.{ViewOptions}
 use Rattle.bp_view.specs.declared.settings.Setting.{Setting}
+use Rattle.bp_view.specs.Watches.{watched_names}
 use Rattle.bp_view.proofs.BegunViews.{all_written, end_cut, has_all, head_cut, head_written, known_there, line_cut, line_written, lines_begun, none_begun, playable_next, ready_for, same_end, same_stop}
 use Rattle.bp_view.proofs.views.write_view.Goals as goal
 
@@ -18,7 +20,7 @@ returns-in_err-head g c =
     let code = c.args.code.now in
     let is = c.setting_of-setting.ensures in
     let history = c.as_slice-history.ensures.value in
-    let ready = ready_for code t text c.args.scenes.now s h c.args.replayed.now.history.items r x c.requires.code c.requires.scenes is.scenes is.globals is.procedures is.widths is.count history c.requires.playable c.requires.report in
+    let ready = ready_for code t text c.args.scenes.now s h c.args.replayed.now.history.items r x c.requires.code c.requires.scenes is.scenes is.globals is.procedures (ap (map (λ n. n.now)) is.names ∙ c.requires.names ∙ ap (λ (y : ViewOptions). watched_names y.watch) (sym is.options)) is.widths is.history history c.requires.playable c.requires.report in
     rw (p.1, p.2) (same_stop t text s r h c.args.replayed.now.history.items x.options c.args.options history is.options _ _ Memory (none_begun t text s x code h r ready _))
 
 pub returns-in_err-session : goal.returns-in_err-session
@@ -33,7 +35,7 @@ returns-in_err-session g c =
     let code = c.args.code.now in
     let is = c.setting_of-setting.ensures in
     let history = c.as_slice-history.ensures.value in
-    let ready = ready_for code t text c.args.scenes.now s h c.args.replayed.now.history.items r x c.requires.code c.requires.scenes is.scenes is.globals is.procedures is.widths is.count history c.requires.playable c.requires.report in
+    let ready = ready_for code t text c.args.scenes.now s h c.args.replayed.now.history.items r x c.requires.code c.requires.scenes is.scenes is.globals is.procedures (ap (map (λ n. n.now)) is.names ∙ c.requires.names ∙ ap (λ (y : ViewOptions). watched_names y.watch) (sym is.options)) is.widths is.history history c.requires.playable c.requires.report in
     rw (p.1, p.2) (same_stop t text s r h c.args.replayed.now.history.items x.options c.args.options history is.options _ _ Memory (none_begun t text s x code h r ready _))
 
 pub returns-in_err-put : goal.returns-in_err-put
@@ -48,7 +50,7 @@ returns-in_err-put g c =
     let code = c.args.code.now in
     let is = c.setting_of-setting.ensures in
     let history = c.as_slice-history.ensures.value in
-    let ready = ready_for code t text c.args.scenes.now s h c.args.replayed.now.history.items r x c.requires.code c.requires.scenes is.scenes is.globals is.procedures is.widths is.count history c.requires.playable c.requires.report in
+    let ready = ready_for code t text c.args.scenes.now s h c.args.replayed.now.history.items r x c.requires.code c.requires.scenes is.scenes is.globals is.procedures (ap (map (λ n. n.now)) is.names ∙ c.requires.names ∙ ap (λ (y : ViewOptions). watched_names y.watch) (sym is.options)) is.widths is.history history c.requires.playable c.requires.report in
     rw (p.1, p.2) (same_stop t text s r h c.args.replayed.now.history.items x.options c.args.options history is.options _ _ Write (head_cut t text s x code h r ready _ _ _ (c.deref.ensures.value ∙ c.in_ok-head.ensures) c.in_err-put.ensures))
 
 pub loop-recorded-init : goal.loop-recorded-init
@@ -70,7 +72,7 @@ memory_of-requires g c =
     let code = c.args.code.now in
     let is = c.setting_of-setting.ensures in
     let history = c.as_slice-history.ensures.value in
-    let ready = ready_for code t text c.args.scenes.now s h c.args.replayed.now.history.items r x c.requires.code c.requires.scenes is.scenes is.globals is.procedures is.widths is.count history c.requires.playable c.requires.report in
+    let ready = ready_for code t text c.args.scenes.now s h c.args.replayed.now.history.items r x c.requires.code c.requires.scenes is.scenes is.globals is.procedures (ap (map (λ n. n.now)) is.names ∙ c.requires.names ∙ ap (λ (y : ViewOptions). watched_names y.watch) (sym is.options)) is.widths is.history history c.requires.playable c.requires.report in
     let i = c.loop-recorded.recorded-index in
     let w = c.loop-recorded.writer in
     let has = c.loop-recorded.invariant in
@@ -88,7 +90,7 @@ returns-in-Err g c =
     let code = c.args.code.now in
     let is = c.setting_of-setting.ensures in
     let history = c.as_slice-history.ensures.value in
-    let ready = ready_for code t text c.args.scenes.now s h c.args.replayed.now.history.items r x c.requires.code c.requires.scenes is.scenes is.globals is.procedures is.widths is.count history c.requires.playable c.requires.report in
+    let ready = ready_for code t text c.args.scenes.now s h c.args.replayed.now.history.items r x c.requires.code c.requires.scenes is.scenes is.globals is.procedures (ap (map (λ n. n.now)) is.names ∙ c.requires.names ∙ ap (λ (y : ViewOptions). watched_names y.watch) (sym is.options)) is.widths is.history history c.requires.playable c.requires.report in
     let i = c.loop-recorded.recorded-index in
     let w = c.loop-recorded.writer in
     let has = c.loop-recorded.invariant in
@@ -108,7 +110,7 @@ returns-in_err-put-2 g c =
     let code = c.args.code.now in
     let is = c.setting_of-setting.ensures in
     let history = c.as_slice-history.ensures.value in
-    let ready = ready_for code t text c.args.scenes.now s h c.args.replayed.now.history.items r x c.requires.code c.requires.scenes is.scenes is.globals is.procedures is.widths is.count history c.requires.playable c.requires.report in
+    let ready = ready_for code t text c.args.scenes.now s h c.args.replayed.now.history.items r x c.requires.code c.requires.scenes is.scenes is.globals is.procedures (ap (map (λ n. n.now)) is.names ∙ c.requires.names ∙ ap (λ (y : ViewOptions). watched_names y.watch) (sym is.options)) is.widths is.history history c.requires.playable c.requires.report in
     let i = c.loop-recorded.recorded-index in
     let w = c.loop-recorded.writer in
     let has = c.loop-recorded.invariant in
@@ -128,7 +130,7 @@ loop-recorded-preserved g c =
     let code = c.args.code.now in
     let is = c.setting_of-setting.ensures in
     let history = c.as_slice-history.ensures.value in
-    let ready = ready_for code t text c.args.scenes.now s h c.args.replayed.now.history.items r x c.requires.code c.requires.scenes is.scenes is.globals is.procedures is.widths is.count history c.requires.playable c.requires.report in
+    let ready = ready_for code t text c.args.scenes.now s h c.args.replayed.now.history.items r x c.requires.code c.requires.scenes is.scenes is.globals is.procedures (ap (map (λ n. n.now)) is.names ∙ c.requires.names ∙ ap (λ (y : ViewOptions). watched_names y.watch) (sym is.options)) is.widths is.history history c.requires.playable c.requires.report in
     let i = c.loop-recorded.recorded-index in
     let w = c.loop-recorded.writer in
     let has = c.loop-recorded.invariant in
@@ -150,7 +152,7 @@ returns-in_err-end g c =
     let code = c.args.code.now in
     let is = c.setting_of-setting.ensures in
     let history = c.as_slice-history.ensures.value in
-    let ready = ready_for code t text c.args.scenes.now s h c.args.replayed.now.history.items r x c.requires.code c.requires.scenes is.scenes is.globals is.procedures is.widths is.count history c.requires.playable c.requires.report in
+    let ready = ready_for code t text c.args.scenes.now s h c.args.replayed.now.history.items r x c.requires.code c.requires.scenes is.scenes is.globals is.procedures (ap (map (λ n. n.now)) is.names ∙ c.requires.names ∙ ap (λ (y : ViewOptions). watched_names y.watch) (sym is.options)) is.widths is.history history c.requires.playable c.requires.report in
     let i = c.loop-recorded.recorded-index in
     let w = c.loop-recorded.writer in
     let past = c.loop-recorded-test.false in
@@ -170,14 +172,14 @@ returns-in_err-put-3 g c =
     let code = c.args.code.now in
     let is = c.setting_of-setting.ensures in
     let history = c.as_slice-history.ensures.value in
-    let ready = ready_for code t text c.args.scenes.now s h c.args.replayed.now.history.items r x c.requires.code c.requires.scenes is.scenes is.globals is.procedures is.widths is.count history c.requires.playable c.requires.report in
+    let ready = ready_for code t text c.args.scenes.now s h c.args.replayed.now.history.items r x c.requires.code c.requires.scenes is.scenes is.globals is.procedures (ap (map (λ n. n.now)) is.names ∙ c.requires.names ∙ ap (λ (y : ViewOptions). watched_names y.watch) (sym is.options)) is.widths is.history history c.requires.playable c.requires.report in
     let i = c.loop-recorded.recorded-index in
     let w = c.loop-recorded.writer in
     let past = c.loop-recorded-test.false in
     let there = c.loop-recorded.invariant in
     let has = has_all t text s x code h r ready i past w _ _ there in
     rw (p.1, p.2) (same_stop t text s r h c.args.replayed.now.history.items x.options c.args.options history is.options _ _ Write
-    (end_cut t text s x code h r ready i past w _ _ there _ _ c.deref-2.ensures.value (c.in_ok-end.ensures t h (known_there t text s x code h r ready i w _ _ there) has.made.code has.made.stands (ap (λ (y : Setting). y.count) has.setting_is ∙ ready.count) ready.outcome) _ c.in_err-put-3.ensures))
+    (end_cut t text s x code h r ready i past w _ _ there _ _ c.deref-2.ensures.value (c.in_ok-end.ensures t h (known_there t text s x code h r ready i w _ _ there) has.made.code has.made.stands (ap (λ (y : Setting). y.history.now) has.setting_is ∙ ready.history) ready.outcome) _ c.in_err-put-3.ensures))
 
 pub returns : goal.returns
 returns g c =
@@ -190,11 +192,11 @@ returns g c =
     let code = c.args.code.now in
     let is = c.setting_of-setting.ensures in
     let history = c.as_slice-history.ensures.value in
-    let ready = ready_for code t text c.args.scenes.now s h c.args.replayed.now.history.items r x c.requires.code c.requires.scenes is.scenes is.globals is.procedures is.widths is.count history c.requires.playable c.requires.report in
+    let ready = ready_for code t text c.args.scenes.now s h c.args.replayed.now.history.items r x c.requires.code c.requires.scenes is.scenes is.globals is.procedures (ap (map (λ n. n.now)) is.names ∙ c.requires.names ∙ ap (λ (y : ViewOptions). watched_names y.watch) (sym is.options)) is.widths is.history history c.requires.playable c.requires.report in
     let i = c.loop-recorded.recorded-index in
     let w = c.loop-recorded.writer in
     let past = c.loop-recorded-test.false in
     let there = c.loop-recorded.invariant in
     let has = has_all t text s x code h r ready i past w _ _ there in
     same_end t text s r h c.args.replayed.now.history.items x.options c.args.options history is.options _ _
-    (all_written t text s x code h r ready i past w _ _ there _ _ c.deref-2.ensures.value (c.in_ok-end.ensures t h (known_there t text s x code h r ready i w _ _ there) has.made.code has.made.stands (ap (λ (y : Setting). y.count) has.setting_is ∙ ready.count) ready.outcome) _ c.in_ok-put-3.ensures)
+    (all_written t text s x code h r ready i past w _ _ there _ _ c.deref-2.ensures.value (c.in_ok-end.ensures t h (known_there t text s x code h r ready i w _ _ there) has.made.code has.made.stands (ap (λ (y : Setting). y.history.now) has.setting_is ∙ ready.history) ready.outcome) _ c.in_ok-put-3.ensures)

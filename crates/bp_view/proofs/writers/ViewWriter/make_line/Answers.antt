@@ -47,8 +47,8 @@ returns-clause-line c = λ t text h has playable known.
     let printed = printed_in setting.options.format now y (option_map (λ v. v.now) c.printed_by-printed.result) values own_next is in
     let shown = c.in_ok-push_shown.ensures t text s h y known moment printed in
     let line = shown.is ∙ ap (λ old. old ++ shown.more) c.clear.ensures.items in
-    subst (λ l. IsShownLine t text s setting.options setting.widths setting.count h x l) (sym line)
-    (subst (λ z. IsShownLine t text s setting.options setting.widths setting.count h z shown.more) own shown.more_are)
+    subst (λ l. IsShownLine t text s setting.options setting.widths setting.history.now h x l) (sym line)
+    (subst (λ z. IsShownLine t text s setting.options setting.widths setting.history.now h z shown.more) own shown.more_are)
 
 pub returns-in_err-next-clause-memory : goal.returns-in_err-next-clause-memory
 returns-in_err-next-clause-memory c = λ t h has playable.

@@ -1,0 +1,60 @@
+-- The calls that change a watched variable.
+use Rattle.std.specs.Prelude.{◌≡◌, ◌==◌, ◌||◌, ℕ, suc, Bool, true, false, List, [], ◌∷◌, Option, None, Some, is_some, bytes_eq, slice_get, take}
+use Rattle.std.specs.Borrow.{Bor}
+use Rattle.std.specs.List.{list_all, list_any, slice_split}
+use Rattle.bp_tree.specs.Ast.{Procedure, Program}
+use Rattle.bp_check.specs.Tables.{first_index}
+use Rattle.bp_code.specs.Configurations.{Configuration}
+use Rattle.bp_code.specs.StandsFor.{variables}
+use Rattle.bp_code.specs.Values.{Valuation}
+use Rattle.bp_view.specs.declared.faults.ViewFault.{ViewFault}
+use Rattle.bp_view.specs.declared.faults.ViewFault.TheVariants.{NoVariable}
+use Rattle.bp_view.specs.Changes.{changed_variables}
+
+-- the names that are watched: those that a list has between its commas, and none without a list
+abbrev pub watched_names : Option (Bor (List ℕ)) → List (List ℕ)
+watched_names None = []
+watched_names (Some list) = slice_split (λ b. b == 44) list.now
+
+-- a formal or local of one of these procedures has this name
+abbrev pub has_local : List Procedure → List ℕ → Bool
+has_local ps x = list_any (λ p. is_some (first_index (variables p) x)) ps
+
+-- a variable of the program has this name
+abbrev pub declares : Program → List ℕ → Bool
+declares t x = is_some (first_index t.globals x) || has_local t.procedures x
+
+-- each of these names is that of a variable
+abbrev pub AreDeclared : Program → List (List ℕ) → Type 0
+AreDeclared t names = list_all (declares t) names ≡ true
+
+-- name n, from 1, is the first of these that is none of a variable
+pub record IsUndeclared (t : Program) (names : List (List ℕ)) (n : ℕ) : Type 0 where
+  pub before : ℕ
+  pub number : n ≡ suc before
+  pub name : List ℕ
+  pub at : slice_get names before ≡ Some name
+  pub undeclared : declares t name ≡ false
+  pub first : AreDeclared t (take before names)
+
+-- A device: that is why a view is refused.
+abbrev pub IsNameFault : Program → List (List ℕ) → ViewFault → Type 0
+IsNameFault t names f = (n : ℕ) × (f ≡ NoVariable n) × IsUndeclared t names n
+
+-- A device: this is one of the names.
+abbrev pub is_among : List (Bor (List ℕ)) → List ℕ → Bool
+is_among names x = list_any (λ n. bytes_eq n.now x) names
+
+module _ (names : List (List ℕ)) where
+  -- this is one of the names
+  abbrev pub is_named : List ℕ → Bool
+  is_named x = list_any (λ n. bytes_eq n x) names
+
+  -- one of these variables has such a name
+  abbrev pub has_named : Valuation → Bool
+  has_named values = list_any (λ v. is_named v.0) values
+
+-- a call of thread i changed a watched variable; where no name is watched, each call counts
+abbrev pub is_watched : List (List ℕ) → (before after : Configuration) → ℕ → Bool
+is_watched [] c d i = true
+is_watched (n ∷ ns) c d i = has_named (n ∷ ns) (changed_variables c d i)
