@@ -27,7 +27,7 @@ module _ (o : ViewOptions) (given : Pair) (t : Program) (of : IsLawfulText given
       setup = is.replayed.setup;
       history = is.replayed.history.items;
       legal = record { of = of; version = is.is.version; is = is.is.trace };
-      is = record { report = r; reported = reported_of; there = is.there; is = is.view_is };
+      is = record { report = r; reported = reported_of; there = is.there; declared = is.declared; is = is.view_is };
     }
 
     reported : IsTraceReport (IsViewText o) given written r
@@ -45,7 +45,7 @@ module _ (o : ViewOptions) (given : Pair) (t : Program) (of : IsLawfulText given
     )
     not_viewed (view.NoThread i) found = inl (
       subst (Keeps old) (sym found.0) (Keeps-refl old),
-      inr (inr (record {
+      inr (inr (inl (record {
         program = t;
         setup = found.1.replayed.setup;
         history = found.1.replayed.history.items;
@@ -54,7 +54,20 @@ module _ (o : ViewOptions) (given : Pair) (t : Program) (of : IsLawfulText given
         asked = found.1.asked;
         past = found.1.past;
         is = refl;
-      })),
+      }))),
+    )
+    not_viewed (view.NoVariable n) found = inl (
+      subst (Keeps old) (sym found.0) (Keeps-refl old),
+      inr (inr (inr (record {
+        program = t;
+        setup = found.1.replayed.setup;
+        history = found.1.replayed.history.items;
+        legal = record { of = of; version = found.1.is.version; is = found.1.is.trace };
+        there = found.1.there;
+        number = n;
+        undeclared = found.1.undeclared;
+        is = refl;
+      }))),
     )
     not_viewed view.Memory found = inr (inr (record {
       text = found.begun;

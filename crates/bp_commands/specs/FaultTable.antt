@@ -100,6 +100,7 @@ fault_row (fault.Setup f) = setup_row f
 fault_row (fault.Schedule f) = schedule_row f
 fault_row (fault.Trace f) = trace_row f
 fault_row (fault.NoThread i) = row 36 (codes "NoThread") (Thread i)
+fault_row (fault.NoVariable n) = row 37 (codes "NoVariable") Nothing
 fault_row fault.NoFailure = row 56 (codes "NoFailure") Nothing
 fault_row fault.Start = row 53 (codes "Start") Nothing
 fault_row fault.Early = row 55 (codes "Early") Nothing

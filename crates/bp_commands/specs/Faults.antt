@@ -23,7 +23,7 @@ use Rattle.bp_view.specs.declared.faults.ViewFault.TheVariants as view
 use Rattle.bp_commands.specs.declared.inputs.InputFault.{InputFault}
 use Rattle.bp_commands.specs.declared.inputs.InputFault.TheVariants as input
 use Rattle.bp_commands.specs.declared.faults.Fault.{Fault}
-use Rattle.bp_commands.specs.declared.faults.Fault.TheVariants.{Device, TooLong, Program, Setup, Schedule, Trace, NoThread, Start, Early, Write, Memory}
+use Rattle.bp_commands.specs.declared.faults.Fault.TheVariants.{Device, TooLong, Program, Setup, Schedule, Trace, NoThread, NoVariable, Start, Early, Write, Memory}
 
 -- an input beside the program, or a bundle
 abbrev pub fault_of_input : InputFault → Fault
@@ -68,6 +68,7 @@ fault_of_migration migrate.Write = Write
 abbrev pub fault_of_view : ViewFault → Fault
 fault_of_view (view.Replay f) = fault_of_trace f
 fault_of_view (view.NoThread i) = NoThread i
+fault_of_view (view.NoVariable n) = NoVariable n
 fault_of_view view.Memory = Memory
 fault_of_view view.Write = Write
 

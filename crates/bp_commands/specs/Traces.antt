@@ -15,8 +15,9 @@ use Rattle.bp_view.specs.declared.options.ViewFormat.{ViewFormat}
 use Rattle.bp_view.specs.declared.options.ViewOptions.{ViewOptions}
 use Rattle.bp_view.specs.States.{IsStateText}
 use Rattle.bp_view.specs.Views.{IsThere, IsView}
+use Rattle.bp_view.specs.Watches.{watched_names, AreDeclared, IsUndeclared}
 use Rattle.bp_commands.specs.declared.faults.Fault.{Fault}
-use Rattle.bp_commands.specs.declared.faults.Fault.TheVariants.{Memory, NoThread}
+use Rattle.bp_commands.specs.declared.faults.Fault.TheVariants.{Memory, NoThread, NoVariable}
 use Rattle.bp_commands.specs.Commands.{Command}
 use Rattle.bp_commands.specs.Faults.{fault_of_trace}
 use Rattle.bp_commands.specs.Given.{Pair}
@@ -44,6 +45,7 @@ pub record IsViewText
   pub report : Report
   pub reported : IsReport s h report
   pub there : IsThere o.thread (threads s)
+  pub declared : AreDeclared t (watched_names o.watch)
   pub is : IsView t text s h report o written
 
 -- the state after the first n calls of a history, or after all where there are no more
@@ -96,6 +98,17 @@ pub record HasNoThread (o : ViewOptions) (given : Pair) (f : Fault) : Type 0 whe
   pub past : threads setup ≤ thread
   pub is : f ≡ NoThread thread
 
+-- the trace has the thread that is asked for, and a watched name is that of no variable
+pub record HasNoVariable (o : ViewOptions) (given : Pair) (f : Fault) : Type 0 where
+  pub program : Program
+  pub setup : SetupOf
+  pub history : List Call
+  pub legal : IsTraceOf given.text given.input program setup history
+  pub there : IsThere o.thread (threads setup)
+  pub number : ℕ
+  pub undeclared : IsUndeclared program (watched_names o.watch) number
+  pub is : f ≡ NoVariable number
+
 -- a command that writes such a text of a history
 abbrev pub on_trace : TextRule → Command Pair Report
 on_trace is_text = record {
@@ -118,7 +131,9 @@ abbrev pub shows : ViewOptions → Command Pair Report
 shows o = record {
   Writes = IsOfTrace (IsViewText o);
   Reports = IsTraceReport (IsViewText o);
-  Refuses = λ given f. HasNoCode given.text f ⊎ (IsNoTrace given f ⊎ HasNoThread o given f);
+  Refuses = λ given f.
+      HasNoCode given.text f
+      ⊎ (IsNoTrace given f ⊎ (HasNoThread o given f ⊎ HasNoVariable o given f));
   Spoils = IsBegun (IsViewText o);
 }
 

@@ -37,6 +37,9 @@ pub enum Fault {
     /// The trace has no thread of this number, whose calls alone were asked for.
     #[error("the trace has no thread {0}")]
     NoThread(u32),
+    /// No variable of the program has this one of the watched names, from 1.
+    #[error("the program has no variable that is name {0} of --watch")]
+    NoVariable(u64),
     /// No assertion failed in the trace.
     #[error("no assertion failed in the trace")]
     NoFailure,
@@ -190,6 +193,7 @@ impl From<ViewFault> for Fault {
         match fault {
             ViewFault::Replay(fault) => Fault::from(fault),
             ViewFault::NoThread(thread) => Fault::NoThread(thread),
+            ViewFault::NoVariable(n) => Fault::NoVariable(n),
             ViewFault::Memory => Fault::Memory,
             ViewFault::Write => Fault::Write,
         }

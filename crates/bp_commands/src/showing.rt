@@ -28,12 +28,12 @@ pub(crate) fn program_of(alloc: Global, text: &[u8]) -> Result<(Checked, Code), 
 /// `show`: replays a trace of a program, and writes a view of its history, for people: the setup, a
 /// line for each call that is shown, and the outcome.
 #[derive(Clone, Copy)]
-pub struct Show {
+pub struct Show<'a> {
     /// Which calls are shown, and how.
-    pub options: ViewOptions,
+    pub options: ViewOptions<'a>,
 }
 
-impl PairCommand for Show {
+impl PairCommand for Show<'_> {
     ghost use Rattle.bp_commands.specs.declared.explanations.Beside.{Beside};
     ghost use Rattle.bp_trace.specs.declared.limits.TheConstants.{MAX_TRACE};
     ghost use Rattle.bp_commands.specs.Traces.{shows};
