@@ -3,6 +3,7 @@
 
 mod changes;
 mod colours;
+mod contexts;
 mod excerpts;
 mod faults;
 mod frames;
@@ -19,6 +20,7 @@ mod programs;
 mod scenes;
 mod settings;
 mod shown;
+mod spans;
 mod standings;
 mod statements;
 mod states;
@@ -26,6 +28,7 @@ mod variables;
 mod views;
 mod writers;
 
+pub use contexts::contexts_of;
 pub use faults::ViewFault;
 pub use listings::sourced_listing;
 pub use options::{ViewFormat, ViewOptions};

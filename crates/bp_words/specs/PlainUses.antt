@@ -118,6 +118,7 @@ IsPlainShowOf file trace (task.Show words) =
     × (words.from ≡ None)
     × (words.to ≡ None)
     × (words.at ≡ None)
+    × (words.contexts ≡ false)
     × (words.json ≡ false)
     × (words.explain ≡ on_terminals)
 IsPlainShowOf file trace other = ⊥

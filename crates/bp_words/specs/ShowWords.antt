@@ -14,5 +14,6 @@ pub record IsShowOf (rows : List Row) (words : ShowWords) : Type 0 where
   pub from : IsNumberIn 64 (one_of (codes "from") rows) words.from
   pub to : IsNumberIn 64 (one_of (codes "to") rows) words.to
   pub at : IsNumberIn 64 (one_of (codes "at") rows) words.at
+  pub contexts : IsFlagOf (one_of (codes "contexts") rows) words.contexts
   pub json : IsFlagOf (one_of (codes "json") rows) words.json
   pub explain : IsExplainOf rows words.explain

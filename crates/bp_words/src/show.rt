@@ -29,6 +29,8 @@ pub struct ShowWords<'a> {
     pub to: Option<u64>,
     /// After how many calls the state is shown, in place of the calls.
     pub at: Option<u64>,
+    /// Whether `--contexts` was given: the contexts are shown, in place of the calls.
+    pub contexts: bool,
     /// Whether `--json` was given: each line is then a JSON object.
     pub json: bool,
     /// When a fault is explained.
@@ -60,6 +62,7 @@ pub fn show_command<'a>(alloc: Global) -> Result<Command<'a>, AllocError>
     let from = "Shows no call before call N";
     let to = "Shows no call after call N";
     let at = "Shows the state after call N in place of the calls";
+    let contexts = "Shows one line for each context in place of the calls";
     let json = "Prints one JSON object a line, for programs";
     trace_command(alloc, "show", ABOUT, NOTES)?
         .arg(number_option(alloc, "thread", thread))?
@@ -67,6 +70,7 @@ pub fn show_command<'a>(alloc: Global) -> Result<Command<'a>, AllocError>
         .arg(long_number_option(alloc, "from", from))?
         .arg(long_number_option(alloc, "to", to))?
         .arg(long_number_option(alloc, "at", at))?
+        .arg(flag(alloc, "contexts", contexts))?
         .arg(flag(alloc, "json", json))
 }
 
@@ -83,6 +87,7 @@ pub fn show_words<'a>(words: &ArgMatches<'a>) -> ShowWords<'a>
         from: given_long_number(words, "from"),
         to: given_long_number(words, "to"),
         at: given_long_number(words, "at"),
+        contexts: is_given(words, "contexts"),
         json: is_given(words, "json"),
         explain: explain_words(words),
     }

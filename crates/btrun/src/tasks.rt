@@ -9,7 +9,8 @@ ghost use Rattle.btrun.specs.Tasks.{fault_format, format_of, test_options, view_
 
 use bp_commands::{
     Check, Code, Drive, FaultFormat, Files, Migrate, PairCommand, ProgramCommand, Replay, Show,
-    ShowState, Shrink, Test, run_by_workers, run_on_bundle, run_on_pair, run_on_program,
+    ShowContexts, ShowState, Shrink, Test, run_by_workers, run_on_bundle, run_on_pair,
+    run_on_program,
 };
 use bp_run::{Gate, Open, Spread};
 use bp_test::{Progress, TestOptions};
@@ -290,7 +291,8 @@ fn on_shown<C: PairCommand, F: Files, W: Write + Drop, E: Write>(
     run_on_pair(alloc, command, files, path, trace, format, out, errors)
 }
 
-/// Shows the trace of a file: the state after so many calls where one is asked for, else the calls.
+/// Shows the trace of a file: the state after so many calls where one is asked for, else the
+/// contexts where they are, else the calls.
 fn show_as_asked<F: Files, W: Write + Drop, E: Write>(
     alloc: Global,
     files: &F,
@@ -309,6 +311,10 @@ fn show_as_asked<F: Files, W: Write + Drop, E: Write>(
     match words.at {
         Some(number) => {
             let command = ShowState { number, format };
+            on_shown(alloc, &command, files, on_terminal, words, out, errors)
+        }
+        None if words.contexts => {
+            let command = ShowContexts { format };
             on_shown(alloc, &command, files, on_terminal, words, out, errors)
         }
         None => {

@@ -9,4 +9,5 @@ returns c =
     let from = with_argument _ _ _ _ _ last c.long_number_option-2.ensures c.in_ok-arg-3.ensures in
     let to = with_argument _ _ _ _ _ from c.long_number_option-3.ensures c.in_ok-arg-4.ensures in
     let at = with_argument _ _ _ _ _ to c.long_number_option-4.ensures c.in_ok-arg-5.ensures in
-    if_ok c.arg-6.result _ (HasShape show_app) (λ new adds. with_argument _ new _ _ _ at c.flag.ensures adds) c.arg-6.ensures
+    let contexts = with_argument _ _ _ _ _ at c.flag.ensures c.in_ok-arg-6.ensures in
+    if_ok c.arg-7.result _ (HasShape show_app) (λ new adds. with_argument _ new _ _ _ contexts c.flag-2.ensures adds) c.arg-7.ensures

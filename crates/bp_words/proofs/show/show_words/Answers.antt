@@ -13,6 +13,7 @@ returns c = record {
   from = c.given_long_number-2.ensures;
   to = c.given_long_number-3.ensures;
   at = c.given_long_number-4.ensures;
-  json = c.is_given.ensures;
+  contexts = c.is_given.ensures;
+  json = c.is_given-2.ensures;
   explain = c.explain_words.ensures;
 }
