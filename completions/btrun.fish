@@ -41,4 +41,5 @@ complete -c btrun -n '__fish_seen_subcommand_from show' -x -l last -d 'Show the 
 complete -c btrun -n '__fish_seen_subcommand_from show' -x -l from -d 'Show no call before this one'
 complete -c btrun -n '__fish_seen_subcommand_from show' -x -l to -d 'Show no call after this one'
 complete -c btrun -n '__fish_seen_subcommand_from show' -x -l at -d 'Show the state after this call'
+complete -c btrun -n '__fish_seen_subcommand_from show' -l contexts -d 'Show a line for each context'
 complete -c btrun -n '__fish_seen_subcommand_from show' -l json -d 'Print one JSON object a line'

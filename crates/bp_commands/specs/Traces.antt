@@ -1,5 +1,6 @@
--- The commands on a trace of a program: `replay`, `migrate`, `show` and `show --at`.
-use Rattle.std.specs.Prelude.{◌≡◌, ◌⊎◌, ◌≤◌, ◌++◌, ℕ, List, Option, None, Some, length, take}
+-- The commands on a trace of a program: `replay`, `migrate`, `show`, `show --at` and
+-- `show --contexts`.
+use Rattle.std.specs.Prelude.{◌≡◌, ◌⊎◌, ◌≤◌, ◌++◌, ℕ, Bool, true, false, List, Option, None, Some, length, take}
 use Rattle.bp_tree.specs.Ast.{Program}
 use Rattle.bp_code.specs.LawfulTexts.{IsLawfulText}
 use Rattle.bp_machine.specs.declared.calls.Call.{Call}
@@ -13,6 +14,7 @@ use Rattle.bp_trace.specs.Replays.{IsTrace, IsReplayRefusal}
 use Rattle.bp_trace.specs.TraceText.{trace_text_2}
 use Rattle.bp_view.specs.declared.options.ViewFormat.{ViewFormat}
 use Rattle.bp_view.specs.declared.options.ViewOptions.{ViewOptions}
+use Rattle.bp_view.specs.ContextLines.{AreContextLines}
 use Rattle.bp_view.specs.States.{IsStateText}
 use Rattle.bp_view.specs.Views.{IsThere, IsView}
 use Rattle.bp_view.specs.Watches.{watched_names, AreDeclared, IsUndeclared}
@@ -51,6 +53,10 @@ pub record IsViewText
 -- the state after the first n calls of a history, or after all where there are no more
 abbrev pub IsStateOf : ViewFormat → ℕ → TextRule
 IsStateOf format n text t s h written = IsStateText format t text s (take n h) (length h) written
+
+-- a line for each context of a history
+abbrev pub AreContextsOf : ViewFormat → TextRule
+AreContextsOf format text t s h written = AreContextLines format t text s h written
 
 -- the text has this lawful program, and the trace is that of a legal history of it
 pub record IsTraceOf
@@ -141,7 +147,13 @@ shows o = record {
 abbrev pub states : ViewFormat → ℕ → Command Pair Report
 states format n = on_trace (IsStateOf format n)
 
--- the one or the other: the state after so many calls where a number is asked for
-abbrev pub shows_or_states : ViewOptions → Option ℕ → Command Pair Report
-shows_or_states o None = shows o
-shows_or_states o (Some n) = states o.format n
+-- it writes a line for each context of the history
+abbrev pub lists_contexts : ViewFormat → Command Pair Report
+lists_contexts format = on_trace (AreContextsOf format)
+
+-- one of the three: the state after so many calls where a number is asked for, else the contexts
+-- where they are, else the calls
+abbrev pub shows_as : ViewOptions → (contexts : Bool) → Option ℕ → Command Pair Report
+shows_as o contexts (Some n) = states o.format n
+shows_as o true None = lists_contexts o.format
+shows_as o false None = shows o

@@ -11,6 +11,8 @@ mod code;
 #[cfg(test)]
 mod commands;
 #[cfg(test)]
+mod contexts;
+#[cfg(test)]
 mod devices;
 #[cfg(test)]
 mod explain;

@@ -30,6 +30,13 @@ const LAST: &[u8] = b"\
     \x204 0 - -                 ended\n\n\
     4 calls, contexts 1, open threads 0\nno assertion failed\n";
 
+/// The same with the first call alone.
+const FIRST: &[u8] = b"\
+    thread 0 begins in main\nglobals x=0\ncontexts at most 2\ncalls of a thread at most 1000\n\
+    seed none\n\n\
+    \x201 0 1 2:14  x := 1      x=1\n\n\
+    4 calls, contexts 1, open threads 0\nno assertion failed\n";
+
 /// The same with no call.
 const NONE: &[u8] = b"\
     thread 0 begins in main\nglobals x=0\ncontexts at most 2\ncalls of a thread at most 1000\n\
@@ -37,11 +44,14 @@ const NONE: &[u8] = b"\
     4 calls, contexts 1, open threads 0\nno assertion failed\n";
 
 /// All calls, without colours.
-pub(crate) const ALL: ViewOptions = ViewOptions {
+pub(crate) const ALL: ViewOptions<'static> = ViewOptions {
     thread: None,
     last: None,
     from: None,
     to: None,
+    watch: None,
+    fold: false,
+    has_state: false,
     has_colour: false,
     format: ViewFormat::Columns,
 };
@@ -51,7 +61,7 @@ fn view_of(
     alloc: Global,
     text: &[u8],
     trace: &[u8],
-    options: ViewOptions,
+    options: ViewOptions<'_>,
 ) -> Result<Vec<u8>, Fail> {
     let Ok(checked) = lawful_program(alloc, text) else {
         return Err(Fail::from("no program"));
@@ -108,6 +118,31 @@ fn shows_no_thread_that_is_not_there(rt: HostRuntime) -> Result<(), Fail> {
 }
 
 #[test]
+fn shows_the_calls_that_change_a_watched_variable(rt: HostRuntime) -> Result<(), Fail> {
+    let mut options = ALL;
+    options.watch = Some("x");
+    let watched = view_of(rt.alloc(), TEXT, TRACE, options)?;
+    assert!(rt; watched.as_slice() == FIRST);
+    Ok(())
+}
+
+#[test]
+fn watches_no_variable_that_is_not_there(rt: HostRuntime) -> Result<(), Fail> {
+    let alloc = rt.alloc();
+    let Ok(checked) = lawful_program(alloc, TEXT) else {
+        return Err(Fail::from("no program"));
+    };
+    let code = compile(alloc, &checked)?;
+    let mut options = ALL;
+    options.watch = Some("x,y");
+    let mut out = Vec::new(alloc);
+    let shown = view(alloc, TEXT, &checked, &code, TRACE, options, &mut out);
+    assert!(rt; shown.err() == Some(ViewFault::NoVariable(2)));
+    assert!(rt; out.is_empty());
+    Ok(())
+}
+
+#[test]
 fn shows_the_calls_between_two(rt: HostRuntime) -> Result<(), Fail> {
     let mut options = ALL;
     options.from = Some(4);
@@ -133,6 +168,10 @@ fn says_why_no_view_is_written(rt: HostRuntime) -> Result<(), AllocError> {
             "the trace is too long",
         ),
         (ViewFault::NoThread(7), "the trace has no thread 7"),
+        (
+            ViewFault::NoVariable(2),
+            "the program has no variable that is name 2 of --watch",
+        ),
         (ViewFault::Memory, "out of memory"),
         (ViewFault::Write, "the output could not be written"),
     ] {

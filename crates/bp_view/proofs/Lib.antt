@@ -1,3 +1,4 @@
+pub mod AllContexts
 pub mod AssertionTexts
 pub mod BegunViews
 pub mod ChangedVariables
@@ -18,7 +19,10 @@ pub mod PrintedValues
 pub mod ProceduresOfPlaces
 pub mod RecordedCalls
 pub mod SceneLists
+pub mod ScenesOfSpots
 pub mod SlotsOfNames
+pub mod SpansOfHistories
+pub mod StepsInContexts
 pub mod ValuesOfStatements
 pub mod WatchedVariables
 pub mod WordsOfStatements

@@ -1,5 +1,6 @@
 pub mod Changes
 pub mod Colours
+pub mod ContextLines
 pub mod Ends
 pub mod Frames
 pub mod Heads
@@ -12,6 +13,7 @@ pub mod Parts
 pub mod Places
 pub mod Programs
 pub mod Scenes
+pub mod Spans
 pub mod StatementLines
 pub mod States
 pub mod Statements

@@ -90,7 +90,7 @@ fn bit_or_null(bit: Option<bool>) -> &'static [u8]
 }
 
 /// Adds the key of one more member of an object.
-fn push_key(line: &mut Vec<u8>, key: &[u8]) -> Result<(), AllocError>
+pub(crate) fn push_key(line: &mut Vec<u8>, key: &[u8]) -> Result<(), AllocError>
     ensures { OnOk result
         (line.new.items ≡ line.old.items ++ codes ",\"" ++ key.now ++ codes "\":") }
 {

@@ -3,6 +3,7 @@
 
 mod changes;
 mod colours;
+mod contexts;
 mod ends;
 mod excerpts;
 mod faults;
@@ -20,6 +21,7 @@ mod programs;
 mod scenes;
 mod settings;
 mod shown;
+mod spans;
 mod standings;
 mod statements;
 mod states;
@@ -29,6 +31,7 @@ mod waits;
 mod watches;
 mod writers;
 
+pub use contexts::contexts_of;
 pub use faults::ViewFault;
 pub use listings::sourced_listing;
 pub use options::{ViewFormat, ViewOptions};

@@ -195,7 +195,7 @@ fn write_note(
 }
 
 /// Adds the note of a call after this many spaces; no space if the note is empty.
-fn push_note(line: &mut Vec<u8>, room: usize, note: &[u8]) -> Result<(), AllocError>
+pub(crate) fn push_note(line: &mut Vec<u8>, room: usize, note: &[u8]) -> Result<(), AllocError>
     ensures { OnOk result (line.new.items ≡ line.old.items ++ after_room room note.now) }
 {
     if note.is_empty() {
@@ -207,7 +207,7 @@ fn push_note(line: &mut Vec<u8>, room: usize, note: &[u8]) -> Result<(), AllocEr
 }
 
 /// The place that is printed of a scene.
-fn place_of<'a>(scene: Option<&'a Scene>) -> &'a [u8]
+pub(crate) fn place_of<'a>(scene: Option<&'a Scene>) -> &'a [u8]
     ensures { result.now ≡ place_of_scene (option_map (λ s. s.now) scene.entry) }
 {
     match scene {

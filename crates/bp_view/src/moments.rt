@@ -32,7 +32,7 @@ pub(crate) struct Moment {
 }
 
 /// Whether a call made a step.
-fn is_step(reply: Reply) -> bool
+pub(crate) fn is_step(reply: Reply) -> bool
     ensures { result ≡ is_granted reply }
 {
     matches!(reply, Reply::Stepped | Reply::Failed)

@@ -1,6 +1,9 @@
 -- What plain words ask for: they have no fault, and name the command and its files.
 use Rattle.std.proofs.Common.{arith, get_or, refl, sym, subst, ap, ap₂, codes, not, rules, inl, inr, Bool, true, false, List, Option, Some, None, [], ◌∷◌, ◌≡◌, ◌==◌, ◌∙◌}
+use Rattle.std.specs.Prelude.{is_some, option_map}
+use Rattle.std.specs.Borrow.{Bor}
 use Rattle.std.specs.Str.{bytes_eq}
+use Rattle.std.proofs.lemmas.Bool.{false≢true}
 use Rattle.clap.specs.Kinds.{or_else}
 use Rattle.clap.specs.Lexer.{long_of, short_of}
 use Rattle.clap.specs.Words.{HasKind, Kinds, Row, Text, fault_of, kind_of, subcommand_of}
@@ -360,7 +363,7 @@ replay_asked program file trace task plain even asks =
     replay_of file trace task (subst (λ c. IsTaskOf c task) (replay_named program file trace (is_word file plain) (is_word trace even)) asks)
 
 abbrev show_rows : Text → Text → List Row
-show_rows file trace = given (codes "FILE") file ∷ given (codes "TRACE") trace ∷ down (codes "explain") ∷ down (codes "no-explain") ∷ down (codes "json") ∷ []
+show_rows file trace = given (codes "FILE") file ∷ given (codes "TRACE") trace ∷ down (codes "explain") ∷ down (codes "no-explain") ∷ down (codes "fold") ∷ down (codes "state") ∷ down (codes "contexts") ∷ down (codes "json") ∷ []
 
 abbrev show_words : Text → Text → Text → List Text
 show_words program file trace = program ∷ codes "show" ∷ file ∷ trace ∷ []
@@ -379,6 +382,10 @@ show_faulty program file trace plain even =
     let other = is_word trace even in
     no_fault (show_words program file trace) (Some (codes "show", show_rows file trace)) (show_clean program file trace word other) (show_named program file trace word other) refl
 
+no_text : (o : Option (Bor Text)) → option_map (λ s. s.now) o ≡ None → o ≡ None
+no_text None is = refl
+no_text (Some text) is = absurd (false≢true (sym (ap is_some is)))
+
 show_of : (file trace : Text) (task : Task) → IsTaskOf (Some (codes "show", show_rows file trace)) task → IsPlainShowOf file trace task
 show_of file trace Bundle asks = absurd asks
 show_of file trace (Check words) asks = absurd (check≢show (sym asks.0))
@@ -387,7 +394,7 @@ show_of file trace (Drive words) asks = absurd (drive≢show (sym asks.0))
 show_of file trace (Run words) asks = absurd (run≢show (sym asks.0))
 show_of file trace (Test words) asks = absurd (differ (codes "show") (codes "test") refl asks.0)
 show_of file trace (Replay words) asks = absurd (replay≢show (sym asks.0))
-show_of file trace (Show words) (named, of) = (of.program, of.trace, of.thread, of.last, of.from, of.to, of.at, of.json.1 refl, unasked words.explain (of.explain.always.1 refl) (of.explain.never.1 refl))
+show_of file trace (Show words) (named, of) = (of.program, of.trace, of.thread, of.last, of.from, of.to, no_text words.watch of.watch, of.fold.1 refl, of.state.1 refl, of.at, of.contexts.1 refl, of.json.1 refl, unasked words.explain (of.explain.always.1 refl) (of.explain.never.1 refl))
 show_of file trace (Migrate words) asks = absurd (show≢migrate asks.0)
 show_of file trace (Shrink words) asks = absurd (differ (codes "show") (codes "shrink") refl asks.0)
 

@@ -121,8 +121,8 @@ trace_app name = with_rule (file_app name) (required_rule (codes "TRACE"))
 abbrev pub replay_app : App
 replay_app = trace_app (codes "replay")
 
--- `show FILE TRACE [--thread N] [--last N] [--from N] [--to N] [--at N] [--json] [--explain]
--- [--no-explain]`
+-- `show FILE TRACE [--thread N] [--last N] [--from N] [--to N] [--watch NAMES] [--fold] [--state]
+-- [--at N] [--contexts] [--json] [--explain] [--no-explain]`
 abbrev pub show_app : App
 show_app =
     with_rules (trace_app (codes "show")) (
@@ -130,7 +130,11 @@ show_app =
     ∷ long_number_rule (codes "last")
     ∷ long_number_rule (codes "from")
     ∷ long_number_rule (codes "to")
+    ∷ option_rule (codes "watch")
+    ∷ flag_rule (codes "fold")
+    ∷ flag_rule (codes "state")
     ∷ long_number_rule (codes "at")
+    ∷ flag_rule (codes "contexts")
     ∷ flag_rule (codes "json")
     ∷ [])
 

@@ -117,7 +117,11 @@ IsPlainShowOf file trace (task.Show words) =
     × (words.last ≡ None)
     × (words.from ≡ None)
     × (words.to ≡ None)
+    × (words.watch ≡ None)
+    × (words.fold ≡ false)
+    × (words.state ≡ false)
     × (words.at ≡ None)
+    × (words.contexts ≡ false)
     × (words.json ≡ false)
     × (words.explain ≡ on_terminals)
 IsPlainShowOf file trace other = ⊥

@@ -5,7 +5,7 @@ ghost use Rattle.clap.specs.declared.builder.command.Command.TheViews.{out-Comma
 ghost use Rattle.bp_words.specs.Commands.{show_app};
 ghost use Rattle.bp_words.specs.ShowWords.{IsShowOf};
 
-use crate::arguments::{flag, long_number_option, number_option};
+use crate::arguments::{flag, long_number_option, number_option, option};
 use crate::explain::{ExplainWords, explain_words};
 use crate::trace::trace_command;
 use crate::values::{given_long_number, given_number, is_given};
@@ -27,8 +27,16 @@ pub struct ShowWords<'a> {
     pub from: Option<u64>,
     /// The number of the last call that is shown.
     pub to: Option<u64>,
+    /// The names of variables, which commas separate: the calls that change one of these alone.
+    pub watch: Option<&'a str>,
+    /// Whether `--fold` was given: equal waits have one line.
+    pub fold: bool,
+    /// Whether `--state` was given: the state after the last call follows.
+    pub state: bool,
     /// After how many calls the state is shown, in place of the calls.
     pub at: Option<u64>,
+    /// Whether `--contexts` was given: the contexts are shown, in place of the calls.
+    pub contexts: bool,
     /// Whether `--json` was given: each line is then a JSON object.
     pub json: bool,
     /// When a fault is explained.
@@ -59,14 +67,22 @@ pub fn show_command<'a>(alloc: Global) -> Result<Command<'a>, AllocError>
     let last = "Shows so many of the last calls";
     let from = "Shows no call before call N";
     let to = "Shows no call after call N";
+    let watch = "Shows the calls alone that change one of these variables, as x,y";
+    let fold = "Shows more than three equal waits of a thread as one line";
+    let state = "Shows the state after the last call too";
     let at = "Shows the state after call N in place of the calls";
+    let contexts = "Shows one line for each context in place of the calls";
     let json = "Prints one JSON object a line, for programs";
     trace_command(alloc, "show", ABOUT, NOTES)?
         .arg(number_option(alloc, "thread", thread))?
         .arg(long_number_option(alloc, "last", last))?
         .arg(long_number_option(alloc, "from", from))?
         .arg(long_number_option(alloc, "to", to))?
+        .arg(option(alloc, "watch", "NAMES", watch))?
+        .arg(flag(alloc, "fold", fold))?
+        .arg(flag(alloc, "state", state))?
         .arg(long_number_option(alloc, "at", at))?
+        .arg(flag(alloc, "contexts", contexts))?
         .arg(flag(alloc, "json", json))
 }
 
@@ -82,7 +98,11 @@ pub fn show_words<'a>(words: &ArgMatches<'a>) -> ShowWords<'a>
         last: given_long_number(words, "last"),
         from: given_long_number(words, "from"),
         to: given_long_number(words, "to"),
+        watch: words.get_str("watch"),
+        fold: is_given(words, "fold"),
+        state: is_given(words, "state"),
         at: given_long_number(words, "at"),
+        contexts: is_given(words, "contexts"),
         json: is_given(words, "json"),
         explain: explain_words(words),
     }

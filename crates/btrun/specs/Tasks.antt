@@ -14,7 +14,7 @@ use Rattle.bp_commands.specs.Runs.{runs}
 use Rattle.bp_commands.specs.Shrinks.{shrinks}
 use Rattle.bp_commands.specs.Tellings.{on_nothing, on_pair, on_text}
 use Rattle.bp_commands.specs.Tests.{of_test, tests}
-use Rattle.bp_commands.specs.Traces.{migrates, replays, shows_or_states}
+use Rattle.bp_commands.specs.Traces.{migrates, replays, shows_as}
 use Rattle.bp_test.specs.declared.options.TestOptions.{TestOptions}
 use Rattle.bp_trace.specs.declared.limits.TheConstants.{MAX_SCHEDULE, MAX_TRACE}
 use Rattle.bp_view.specs.declared.options.ViewFormat.{ViewFormat}
@@ -49,6 +49,9 @@ view_options words has_colour = record {
   last = words.last;
   from = words.from;
   to = words.to;
+  watch = words.watch;
+  fold = words.fold;
+  has_state = words.state;
   has_colour = has_colour;
   format = format_of words;
 }
@@ -132,7 +135,7 @@ abbrev pub IsShowDone
     → Type 0
 IsShowDone bytes has_colour on_terminal words old new errors_old errors_new status =
     let inputs = pair_of_files MAX_TRACE (bytes words.program.now) (bytes words.trace.now) in
-    IsRun (shows_or_states (view_options words has_colour) words.at) of_report inputs
+    IsRun (shows_as (view_options words has_colour) words.contexts words.at) of_report inputs
     (on_pair Trace words.program.now words.trace.now)
     (fault_format words.json words.explain on_terminal)
     old new errors_old errors_new status

@@ -9,7 +9,8 @@ ghost use Rattle.btrun.specs.Tasks.{fault_format, format_of, test_options, view_
 
 use bp_commands::{
     Check, Code, Drive, FaultFormat, Files, Migrate, PairCommand, ProgramCommand, Replay, Show,
-    ShowState, Shrink, Test, run_by_workers, run_on_bundle, run_on_pair, run_on_program,
+    ShowContexts, ShowState, Shrink, Test, run_by_workers, run_on_bundle, run_on_pair,
+    run_on_program,
 };
 use bp_run::{Gate, Open, Spread};
 use bp_test::{Progress, TestOptions};
@@ -253,7 +254,7 @@ fn format_of(words: &ShowWords<'_>) -> ViewFormat
 }
 
 /// Which calls are shown, and how.
-fn view_options(words: &ShowWords<'_>, has_colour: bool) -> ViewOptions
+fn view_options<'a>(words: &ShowWords<'a>, has_colour: bool) -> ViewOptions<'a>
     ensures { result ≡ view_options words.now has_colour }
 {
     ViewOptions {
@@ -261,6 +262,9 @@ fn view_options(words: &ShowWords<'_>, has_colour: bool) -> ViewOptions
         last: words.last,
         from: words.from,
         to: words.to,
+        watch: words.watch,
+        fold: words.fold,
+        has_state: words.state,
         has_colour,
         format: format_of(words),
     }
@@ -290,7 +294,8 @@ fn on_shown<C: PairCommand, F: Files, W: Write + Drop, E: Write>(
     run_on_pair(alloc, command, files, path, trace, format, out, errors)
 }
 
-/// Shows the trace of a file: the state after so many calls where one is asked for, else the calls.
+/// Shows the trace of a file: the state after so many calls where one is asked for, else the
+/// contexts where they are, else the calls.
 fn show_as_asked<F: Files, W: Write + Drop, E: Write>(
     alloc: Global,
     files: &F,
@@ -309,6 +314,10 @@ fn show_as_asked<F: Files, W: Write + Drop, E: Write>(
     match words.at {
         Some(number) => {
             let command = ShowState { number, format };
+            on_shown(alloc, &command, files, on_terminal, words, out, errors)
+        }
+        None if words.contexts => {
+            let command = ShowContexts { format };
             on_shown(alloc, &command, files, on_terminal, words, out, errors)
         }
         None => {

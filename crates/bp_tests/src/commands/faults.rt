@@ -13,7 +13,7 @@ use std::fmt::Display;
 const LINES: &[u8] = b"\
     btrun: 44 Reply line 7 wanted s\nbtrun: 6 Syntax at 13\n\
     btrun: 11 TwiceGlobal at 5\nbtrun: 32 UnknownEntry thread 0\nbtrun: 1 TooLong\n\
-    btrun: 42 Line line 3\nbtrun: 36 NoThread thread 7\nbtrun: 48 TooLong\n\
+    btrun: 42 Line line 3\nbtrun: 36 NoThread thread 7\nbtrun: 37 NoVariable\nbtrun: 48 TooLong\n\
     btrun: 54 Device\nbtrun: 7 Memory\n";
 
 const DUE: Due = Due {
@@ -41,6 +41,7 @@ fn lines(alloc: Global) -> Result<Vec<u8>, WriteFault> {
         Fault::Program(ProgramFault::Read(ReadFault::TooLong)),
         Fault::Schedule(DriveFault::Line(3)),
         Fault::NoThread(7),
+        Fault::NoVariable(2),
         Fault::TooLong,
         Fault::Device,
         Fault::Memory,
@@ -163,6 +164,10 @@ fn says_why_commands_are_refused(rt: HostRuntime) -> Result<(), AllocError> {
             "the trace has no end",
         ),
         (Fault::NoThread(7), "the trace has no thread 7"),
+        (
+            Fault::NoVariable(2),
+            "the program has no variable that is name 2 of --watch",
+        ),
         (Fault::Start, "a worker could not be started"),
         (
             Fault::Early,

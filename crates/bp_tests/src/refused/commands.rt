@@ -4,8 +4,8 @@ use super::ready::{PROGRAM, entries, output};
 use super::{tell, wants};
 use crate::view::ALL;
 use bp_commands::{
-    Check, Code, Drive, Fault, Migrate, PairCommand, Replay, Show, ShowState, Shrink, Source,
-    do_on_pair, do_on_program, drive_bundle, run_program,
+    Check, Code, Drive, Fault, Migrate, PairCommand, Replay, Show, ShowContexts, ShowState, Shrink,
+    Source, do_on_pair, do_on_program, drive_bundle, run_program,
 };
 use bp_machine::Start;
 use bp_run::{Open, RunOptions};
@@ -26,6 +26,7 @@ enum Command {
     Replay,
     Show,
     State,
+    Contexts,
     Migrate,
 }
 
@@ -40,6 +41,10 @@ const TRACE: &[u8] = b"btrace 1\nentry main\ninit 00\ncontexts 2\ncalls 1000\nse
 /// The state after the last call of the trace.
 const STATE: ShowState = ShowState {
     number: 4,
+    format: ViewFormat::Columns,
+};
+
+const CONTEXTS: ShowContexts = ShowContexts {
     format: ViewFormat::Columns,
 };
 
@@ -90,6 +95,7 @@ fn number(alloc: Global, command: Command, start: &Start, out: &mut Vec<u8>) -> 
         Command::Replay => number_of_pair(alloc, &Replay, TRACE, out),
         Command::Show => number_of_pair(alloc, &Show { options: ALL }, TRACE, out),
         Command::State => number_of_pair(alloc, &STATE, TRACE, out),
+        Command::Contexts => number_of_pair(alloc, &CONTEXTS, TRACE, out),
         Command::Migrate => number_of_pair(alloc, &Migrate, TRACE, out),
     }
 }
@@ -171,6 +177,11 @@ fn show_a_state(rt: HostRuntime) -> Result<(), Fail> {
         &rt,
         writes(rt.alloc(), Command::State, b"\nvalues main.h=1\n")?,
     )
+}
+
+#[test]
+fn show_contexts(rt: HostRuntime) -> Result<(), Fail> {
+    tell(&rt, writes(rt.alloc(), Command::Contexts, b" x=1 y=1\n")?)
 }
 
 #[test]

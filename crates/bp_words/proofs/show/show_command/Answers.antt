@@ -8,5 +8,9 @@ returns c =
     let last = with_argument _ _ _ _ _ thread c.long_number_option.ensures c.in_ok-arg-2.ensures in
     let from = with_argument _ _ _ _ _ last c.long_number_option-2.ensures c.in_ok-arg-3.ensures in
     let to = with_argument _ _ _ _ _ from c.long_number_option-3.ensures c.in_ok-arg-4.ensures in
-    let at = with_argument _ _ _ _ _ to c.long_number_option-4.ensures c.in_ok-arg-5.ensures in
-    if_ok c.arg-6.result _ (HasShape show_app) (λ new adds. with_argument _ new _ _ _ at c.flag.ensures adds) c.arg-6.ensures
+    let watch = with_argument _ _ _ _ _ to c.option.ensures c.in_ok-arg-5.ensures in
+    let fold = with_argument _ _ _ _ _ watch c.flag.ensures c.in_ok-arg-6.ensures in
+    let state = with_argument _ _ _ _ _ fold c.flag-2.ensures c.in_ok-arg-7.ensures in
+    let at = with_argument _ _ _ _ _ state c.long_number_option-4.ensures c.in_ok-arg-8.ensures in
+    let contexts = with_argument _ _ _ _ _ at c.flag-3.ensures c.in_ok-arg-9.ensures in
+    if_ok c.arg-10.result _ (HasShape show_app) (λ new adds. with_argument _ new _ _ _ contexts c.flag-4.ensures adds) c.arg-10.ensures

@@ -12,7 +12,11 @@ returns c = record {
   last = c.given_long_number.ensures;
   from = c.given_long_number-2.ensures;
   to = c.given_long_number-3.ensures;
+  watch = c.get_str-3.ensures ∙ first_value-rows (found_of c.args.words.now) (codes "watch");
+  fold = c.is_given.ensures;
+  state = c.is_given-2.ensures;
   at = c.given_long_number-4.ensures;
-  json = c.is_given.ensures;
+  contexts = c.is_given-3.ensures;
+  json = c.is_given-4.ensures;
   explain = c.explain_words.ensures;
 }

@@ -1,0 +1,14 @@
+use Rattle.std.proofs.Common.{List, ℕ, suc}
+use Rattle.bp_tree.specs.Ast.{Program}
+use Rattle.bp_machine.specs.declared.calls.Call.{Call}
+use Rattle.bp_machine.specs.Setups.{SetupOf}
+use Rattle.bp_view.specs.ContextLines.{IsContextLine}
+use Rattle.bp_view.specs.Lines.{Adds, IsSettingOf}
+use Rattle.bp_view.specs.Parts.{IsInParts}
+use Rattle.bp_view.specs.Spans.{AreSpans}
+use Rattle.bp_view.proofs.contexts.push_contexts.Given as goal
+
+abbrev pub invariant-loop-n : goal.invariant-loop-n
+invariant-loop-n l =
+    (t : Program) (text : List ℕ) (s : SetupOf) (h : List Call) → IsSettingOf t text l.setting → AreSpans t s h l.spans
+    → Adds (IsInParts (λ k part. IsContextLine l.setting.options.format t text s h l.setting.widths (suc k) part) l.n) l.initial.view.items l.view.items
