@@ -2,6 +2,7 @@ pub mod AssertionTexts
 pub mod BegunViews
 pub mod ChangedVariables
 pub mod ChangesOfFrames
+pub mod CodeObjects
 pub mod FailedStatements
 pub mod FramesOfTops
 pub mod LinesOfCalls

@@ -3,6 +3,7 @@ pub mod Colours
 pub mod Frames
 pub mod Heads
 pub mod JsonCalls
+pub mod JsonListings
 pub mod JsonTexts
 pub mod Lines
 pub mod Listings
@@ -14,6 +15,7 @@ pub mod Scenes
 pub mod StatementLines
 pub mod States
 pub mod Statements
+pub mod Unreached
 pub mod Views
 pub mod Widths
 pub mod Writing
