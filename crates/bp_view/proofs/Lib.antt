@@ -3,6 +3,7 @@ pub mod AssertionTexts
 pub mod BegunViews
 pub mod ChangedVariables
 pub mod ChangesOfFrames
+pub mod CodeObjects
 pub mod EqualWaits
 pub mod FailedStatements
 pub mod FramesOfTops
@@ -25,6 +26,6 @@ pub mod SpansOfHistories
 pub mod StepsInContexts
 pub mod ValuesOfStatements
 pub mod WatchedVariables
-pub mod WordsOfStatements
 pub mod WholeStates
 pub mod WholeViews
+pub mod WordsOfStatements

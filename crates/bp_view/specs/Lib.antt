@@ -5,6 +5,7 @@ pub mod Ends
 pub mod Frames
 pub mod Heads
 pub mod JsonCalls
+pub mod JsonListings
 pub mod JsonTexts
 pub mod Lines
 pub mod Listings
@@ -17,6 +18,7 @@ pub mod Spans
 pub mod StatementLines
 pub mod States
 pub mod Statements
+pub mod Unreached
 pub mod Views
 pub mod Waits
 pub mod Watches

@@ -23,15 +23,14 @@ use Rattle.bp_view.specs.Heads.{globals_line}
 use Rattle.bp_view.specs.JsonTexts.{list_text, member, string_text}
 use Rattle.bp_view.specs.Parts.{IsInParts}
 
--- How a thread stands after a history, by the first that applies: its line is finished; an
--- assertion failed; its next statement is an assumption of 0, whatever its choice bit is; else it
--- goes on.
+-- How a thread stands after a history, by the first that applies: its line is finished; its next
+-- statement is an assumption of 0, whatever its choice bit is; an assertion failed; else it goes on.
 abbrev pub standing : Program → SetupOf → List Call → ℕ → Standing
 standing t s h i =
     let now = configuration_after t s h in
     if is_finished s h i then Finished
-    else if now.failed then Stopped
     else if waits t now i then Waiting
+    else if now.failed then Stopped
     else Open
 
 abbrev pub standing_words : Standing → List ℕ

@@ -38,7 +38,7 @@ fn reply_name(reply: Reply) -> &'static [u8]
 }
 
 /// The same number in 64 bits.
-fn wide(number: Option<u32>) -> Option<u64>
+pub(crate) fn wide(number: Option<u32>) -> Option<u64>
     ensures { result ≡ number }
 {
     match number {
@@ -72,7 +72,7 @@ pub(crate) fn push_position(
 }
 
 /// The name of the procedure with this number.
-fn name_at(procs: &[Proc], number: usize) -> Option<&[u8]>
+pub(crate) fn name_at(procs: &[Proc], number: usize) -> Option<&[u8]>
     ensures { option_map (λ s. s.now) result ≡ name_at procs.now number }
 {
     match procs.get(number) {

@@ -14,10 +14,10 @@ use bp_machine::Session;
 pub(crate) enum Standing {
     /// It makes no further call.
     Finished,
-    /// An assertion failed, so its next call is its last.
-    Stopped,
     /// Its next statement is an assumption of 0.
     Waiting,
+    /// An assertion failed, so its next call is its last.
+    Stopped,
     /// It goes on.
     Open,
 }
@@ -34,11 +34,11 @@ impl Standing {
         if session.is_finished(thread) {
             return Standing::Finished;
         }
-        if session.is_failed() {
-            return Standing::Stopped;
-        }
         if session.waits(thread) {
             return Standing::Waiting;
+        }
+        if session.is_failed() {
+            return Standing::Stopped;
         }
         Standing::Open
     }
