@@ -11,7 +11,7 @@ _btrun_options() {
         drive) echo "$common $start" ;;
         run) echo "$common $start --seed --turn --ring --spread" ;;
         test) echo "$common $start --seed --runs --jobs --stuck --unreached" ;;
-        show) echo "$common --thread --last --from --to --at --contexts --json" ;;
+        show) echo "$common --thread --last --from --to --watch --fold --state --at --contexts --json" ;;
     esac
 }
 
@@ -19,7 +19,7 @@ _btrun() {
     local word=${COMP_WORDS[COMP_CWORD]} before=${COMP_WORDS[COMP_CWORD - 1]} words
     case ${COMP_WORDS[1]}$before in
         show--contexts) ;;
-        *--contexts | *--calls | *--init | *--seed | *--turn | *--ring | *--runs | *--jobs | *--thread | *--last | *--from | *--to | *--at) return ;;
+        *--contexts | *--calls | *--init | *--seed | *--turn | *--ring | *--runs | *--jobs | *--thread | *--last | *--from | *--to | *--watch | *--at) return ;;
     esac
     if ((COMP_CWORD == 1)); then
         words="check code drive run test replay show migrate shrink help --help --version"

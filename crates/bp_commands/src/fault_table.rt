@@ -157,7 +157,7 @@ impl Fault {
             Fault::Schedule(fault) => schedule_row(fault),
             Fault::Trace(fault) => trace_row(fault),
             Fault::NoThread(thread) => new_row(36, b"NoThread", Detail::Thread(*thread)),
-            Fault::NoVariable(_) => new_row(37, b"NoVariable", Detail::Nothing),
+            Fault::NoVariable(_) => new_row(57, b"NoVariable", Detail::Nothing),
             Fault::NoFailure => new_row(56, b"NoFailure", Detail::Nothing),
             Fault::Start => new_row(53, b"Start", Detail::Nothing),
             Fault::Early => new_row(55, b"Early", Detail::Nothing),

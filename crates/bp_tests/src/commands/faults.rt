@@ -13,7 +13,7 @@ use std::fmt::Display;
 const LINES: &[u8] = b"\
     btrun: 44 Reply line 7 wanted s\nbtrun: 6 Syntax at 13\n\
     btrun: 11 TwiceGlobal at 5\nbtrun: 32 UnknownEntry thread 0\nbtrun: 1 TooLong\n\
-    btrun: 42 Line line 3\nbtrun: 36 NoThread thread 7\nbtrun: 37 NoVariable\nbtrun: 48 TooLong\n\
+    btrun: 42 Line line 3\nbtrun: 36 NoThread thread 7\nbtrun: 57 NoVariable\nbtrun: 48 TooLong\n\
     btrun: 54 Device\nbtrun: 7 Memory\n";
 
 const DUE: Due = Due {
