@@ -12,6 +12,7 @@ mod run;
 mod show;
 mod test;
 mod trace;
+mod usages;
 mod values;
 
 pub use check::CheckWords;
@@ -23,3 +24,4 @@ pub use run::RunWords;
 pub use show::ShowWords;
 pub use test::TestWords;
 pub use trace::TraceWords;
+pub use usages::with_usage;
