@@ -14,6 +14,7 @@ mod test;
 mod trace;
 mod usages;
 mod values;
+mod version;
 
 pub use check::CheckWords;
 pub use code::CodeWords;
