@@ -7,10 +7,10 @@ _btrun_options() {
     case $1 in
         replay | migrate | shrink) echo "$common" ;;
         check) echo "$common --json" ;;
-        code) echo "$common --source" ;;
+        code) echo "$common --source --json" ;;
         drive) echo "$common $start" ;;
         run) echo "$common $start --seed --turn --ring --spread" ;;
-        test) echo "$common $start --seed --runs --jobs --stuck --unreached" ;;
+        test) echo "$common $start --seed --runs --jobs --stuck --unreached --json" ;;
         show) echo "$common --thread --last --from --to --watch --fold --state --at --contexts --json" ;;
     esac
 }

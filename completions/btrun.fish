@@ -26,6 +26,7 @@ complete -c btrun -n "__fish_seen_subcommand_from $seeded" -x -l seed -d 'The se
 
 complete -c btrun -n '__fish_seen_subcommand_from check' -l json -d 'Print one JSON object'
 complete -c btrun -n '__fish_seen_subcommand_from code' -l source -d 'Print the statement of each instruction'
+complete -c btrun -n '__fish_seen_subcommand_from code' -l json -d 'Print one JSON object a line'
 
 complete -c btrun -n '__fish_seen_subcommand_from run' -x -l turn -d 'How many calls a worker makes in a turn'
 complete -c btrun -n '__fish_seen_subcommand_from run' -x -l ring -d 'How many calls wait to be printed'
@@ -35,6 +36,7 @@ complete -c btrun -n '__fish_seen_subcommand_from test' -x -l runs -d 'How many 
 complete -c btrun -n '__fish_seen_subcommand_from test' -x -l jobs -d 'How many blocks of runs are made side by side'
 complete -c btrun -n '__fish_seen_subcommand_from test' -l stuck -d 'Also stop at a run in which all open threads wait'
 complete -c btrun -n '__fish_seen_subcommand_from test' -l unreached -d 'List the statements that no run reached'
+complete -c btrun -n '__fish_seen_subcommand_from test' -l json -d 'Write the summary as JSON objects'
 
 complete -c btrun -n '__fish_seen_subcommand_from show' -x -l thread -d 'Show the calls of this thread alone'
 complete -c btrun -n '__fish_seen_subcommand_from show' -x -l last -d 'Show the last calls alone'

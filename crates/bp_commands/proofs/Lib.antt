@@ -1,4 +1,5 @@
 mod Answered
+mod CountsMembers
 mod Driven
 mod ExplainedRuns
 mod FirstSeparator

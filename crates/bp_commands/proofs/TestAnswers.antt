@@ -1,5 +1,5 @@
 -- What testing a program says of the command `test`.
-use Rattle.std.proofs.Common.{◌≡◌, refl, sym, subst, inl, inr, ℕ, List, [], Option, None, Some, map}
+use Rattle.std.proofs.Common.{◌≡◌, refl, sym, subst, inl, inr, ℕ, Bool, List, [], Option, None, Some, map}
 use Rattle.std.specs.Io.KnownBytes.{Appends, Keeps}
 use Rattle.std.proofs.KnownBytes.{Appends-nil, Keeps-refl}
 use Rattle.bp_tree.specs.Ast.{Program}
@@ -23,13 +23,13 @@ use Rattle.bp_commands.specs.declared.faults.Fault.TheVariants.{Memory}
 use Rattle.bp_commands.specs.declared.testing.Tested.{Tested}
 use Rattle.bp_commands.specs.Tests.{tests, AreListed, IsTestable}
 
-module _ (start : StartOf) (x : TestOptions) (listed : Option (List ℕ)) (text : List ℕ) (t : Program) (lawful : IsLawfulText text t) where
+module _ (start : StartOf) (x : TestOptions) (listed : Option (List ℕ)) (json : Bool) (text : List ℕ) (t : Program) (lawful : IsLawfulText text t) where
   -- the program takes this setup
   module _ (s : SetupOf) (setup : s ≡ setup_from start None t) (fine : setup_fault t (setup_from start None t) ≡ None) (old new : Option (List ℕ)) where
     abbrev taken : SetupOf
     taken = setup_from start None t
 
-    abbrev testable : IsTestable start x listed text
+    abbrev testable : IsTestable start x listed json text
     testable = record { program = t; lawful = lawful; fine = fine }
 
     written_alone : (Holds : SetupOf → List Call → Type 0) (run : ℕ) (r : Report) (is : IsWrittenRun t taken x old new Holds run r)
@@ -66,14 +66,14 @@ module _ (start : StartOf) (x : TestOptions) (listed : Option (List ℕ)) (text 
       written = is.written;
     }
 
-    pub done : (tested : Tested) → tested.options ≡ x → AreListed listed text t (map (λ v. v.items) tested.lines.items) → IsFound t s x old new tested.found → IsDoneWith (tests start x listed) old new text tested
-    done tested options lines is = let found = alone tested.found (subst (λ y. IsFound t y x old new tested.found) setup is) in record {
+    pub done : (tested : Tested) → tested.options ≡ x → tested.json ≡ json → AreListed json listed text t (map (λ v. v.items) tested.lines.items) → IsFound t s x old new tested.found → IsDoneWith (tests start x listed json) old new text tested
+    done tested options form lines is = let found = alone tested.found (subst (λ y. IsFound t y x old new tested.found) setup is) in record {
       text = found.text_is;
-      reports = record { testable = testable; found = found.found; options_are = options; lines = lines };
+      reports = record { testable = testable; found = found.found; options_are = options; json_is = form; lines = lines };
       written = found.written;
     }
 
-    refused_of : (f : TestFault) → IsTestRefusal t taken x old new f → IsRefusedWith (tests start x listed) old new text (fault_of_test f)
+    refused_of : (f : TestFault) → IsTestRefusal t taken x old new f → IsRefusedWith (tests start x listed json) old new text (fault_of_test f)
     refused_of fault.Memory same =
         inl (subst (Keeps old) (sym same) (Keeps-refl old), inr (inr (refl, testable)))
     refused_of fault.Write cut = inr (inl (
@@ -97,15 +97,15 @@ module _ (start : StartOf) (x : TestOptions) (listed : Option (List ℕ)) (text 
       },
     ))
 
-    pub refused : (f : TestFault) → IsTestRefusal t s x old new f → IsRefusedWith (tests start x listed) old new text (fault_of_test f)
+    pub refused : (f : TestFault) → IsTestRefusal t s x old new f → IsRefusedWith (tests start x listed json) old new text (fault_of_test f)
     refused f is = refused_of f (subst (λ y. IsTestRefusal t y x old new f) setup is)
 
-    pub lacks_memory : (out : Option (List ℕ)) → IsRefusedWith (tests start x listed) out out text Memory
+    pub lacks_memory : (out : Option (List ℕ)) → IsRefusedWith (tests start x listed json) out out text Memory
     lacks_memory out = inl (Keeps-refl out, inr (inr (refl, testable)))
 
   -- the program does not take the setup, and nothing is written
   pub setup_refused : (out : Option (List ℕ)) (cause : SetupFault) → IsSetupRefusal t (setup_from start None t) cause
-      → IsRefusedWith (tests start x listed) out out text (fault_of_setup cause)
+      → IsRefusedWith (tests start x listed json) out out text (fault_of_setup cause)
   setup_refused out cause why = inl (
     Keeps-refl out,
     inr (inl (record {

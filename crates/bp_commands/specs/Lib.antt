@@ -19,6 +19,7 @@ pub mod ReplayLines
 pub mod Runs
 pub mod Shrinks
 pub mod Summaries
+pub mod SummaryObjects
 pub mod Tellings
 pub mod Tests
 pub mod Traces

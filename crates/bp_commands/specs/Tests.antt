@@ -1,5 +1,5 @@
 -- The command `test`.
-use Rattle.std.specs.Prelude.{◌≡◌, ◌⊎◌, ℕ, Bool, true, false, List, [], Option, None, Some, map, option_map}
+use Rattle.std.specs.Prelude.{if◌then◌else◌, ◌≡◌, ◌⊎◌, ℕ, Bool, true, false, List, [], Option, None, Some, map, option_map}
 use Rattle.std.specs.Borrow.{Bor}
 use Rattle.bp_tree.specs.Ast.{Program}
 use Rattle.bp_code.specs.LawfulTexts.{IsLawfulText}
@@ -12,6 +12,7 @@ use Rattle.bp_test.specs.declared.testing.Found.{Found}
 use Rattle.bp_test.specs.declared.testing.Found.TheVariants.{Nothing, Failed, Stuck}
 use Rattle.bp_test.specs.Tests.{IsFound, IsSought, IsWrittenRun}
 use Rattle.bp_view.specs.StatementLines.{AreStatementLines}
+use Rattle.bp_view.specs.Unreached.{AreUnreachedObjects}
 use Rattle.bp_commands.specs.declared.faults.Fault.{Fault}
 use Rattle.bp_commands.specs.declared.faults.Fault.TheVariants.{Memory}
 use Rattle.bp_commands.specs.declared.testing.Tested.{Tested}
@@ -20,6 +21,7 @@ use Rattle.bp_commands.specs.Ends.{Ending}
 use Rattle.bp_commands.specs.Faults.{fault_of_setup}
 use Rattle.bp_commands.specs.Listings.{HasNoCode}
 use Rattle.bp_commands.specs.Summaries.{summary_text}
+use Rattle.bp_commands.specs.SummaryObjects.{summary_objects}
 
 -- a test found what it looks for
 abbrev pub has_found : Found → Bool
@@ -27,20 +29,29 @@ has_found Nothing = false
 has_found (Failed run report) = true
 has_found (Stuck run report) = true
 
+-- what a user reads of a test, as JSON or not
+abbrev pub summary_of : Tested → List ℕ
+summary_of x = if x.json then summary_objects x else summary_text x
+
 -- a test has a summary
 abbrev pub of_test : Ending Tested
-of_test = record { failed = λ x. has_found x.found; summary = summary_text }
+of_test = record { failed = λ x. has_found x.found; summary = summary_of }
 
 abbrev pub name_of : Option (Bor (List ℕ)) → Option (List ℕ)
 name_of o = option_map (λ name. name.now) o
 
--- the lines of the program's statements, where its text has a name by which they are listed
-abbrev pub AreListed : Option (List ℕ) → List ℕ → Program → List (List ℕ) → Type 0
-AreListed None text t lines = lines ≡ []
-AreListed (Some name) text t lines = AreStatementLines name text t lines
+-- the lines of the program's statements, as JSON or not, where its text has a name by which they
+-- are listed
+abbrev pub AreListed
+    : (json : Bool) → Option (List ℕ) → List ℕ → Program → List (List ℕ) → Type 0
+AreListed json None text t lines = lines ≡ []
+AreListed false (Some name) text t lines = AreStatementLines name text t lines
+AreListed true (Some name) text t lines = AreUnreachedObjects name text t lines
 
 -- the program of a text is tested from this start, as these options ask
-module _ (start : StartOf) (x : TestOptions) (listed : Option (List ℕ)) (text : List ℕ) where
+module _
+    (start : StartOf) (x : TestOptions) (listed : Option (List ℕ)) (json : Bool)
+    (text : List ℕ) where
   -- the text is that of a lawful program that takes the setup
   pub record IsTestable : Type 0 where
     pub program : Program
@@ -64,7 +75,8 @@ module _ (start : StartOf) (x : TestOptions) (listed : Option (List ℕ)) (text 
         let t = testable.program in
         IsFound t (setup_from start None t) x (Some []) (Some written) tested.found
     pub options_are : tested.options ≡ x
-    pub lines : AreListed listed text testable.program (map (λ v. v.items) tested.lines.items)
+    pub json_is : tested.json ≡ json
+    pub lines : AreListed json listed text testable.program (map (λ v. v.items) tested.lines.items)
 
   -- the text is that of a lawful program, which does not take the setup
   pub record IsStartRefused (f : Fault) : Type 0 where
@@ -81,11 +93,13 @@ module _ (start : StartOf) (x : TestOptions) (listed : Option (List ℕ)) (text 
   abbrev pub IsTestRefused : Fault → Type 0
   IsTestRefused f = HasNoCode text f ⊎ (IsStartRefused f ⊎ LacksMemory f)
 
--- it writes the trace of the first run that the test looks for, or nothing
-abbrev pub tests : StartOf → TestOptions → Option (List ℕ) → Command (List ℕ) Tested
-tests start x listed = record {
-  Writes = IsOfTest start x listed;
-  Reports = IsTestReport start x listed;
-  Refuses = IsTestRefused start x listed;
+-- It writes the trace of the first run that the test looks for, or nothing. The statements that no
+-- run reached are listed by a name or not, and the summary is JSON or not.
+abbrev pub tests
+    : StartOf → TestOptions → Option (List ℕ) → (json : Bool) → Command (List ℕ) Tested
+tests start x listed json = record {
+  Writes = IsOfTest start x listed json;
+  Reports = IsTestReport start x listed json;
+  Refuses = IsTestRefused start x listed json;
   Spoils = λ _ _ _. ⊥;
 }

@@ -8,7 +8,7 @@ use crate::faults::Fault;
 use bp_check::Checked;
 use bp_code::{Code as Flat, compile, lawful_program, list};
 use bp_text::put;
-use bp_view::sourced_listing;
+use bp_view::{code_objects, sourced_listing};
 use std::alloc::{AllocError, Global};
 use std::io::Write;
 
@@ -30,11 +30,21 @@ fn sourced(
     sourced_listing(alloc, text, checked, &listing)
 }
 
+/// How the code of a program is listed.
+#[derive(Clone, Copy, Debug, PartialEq, Eq)]
+pub enum ListingForm {
+    /// A line for each procedure and each instruction.
+    Lines,
+    /// The same, and on the line of an instruction its place and its statement.
+    Sourced,
+    /// A JSON object on each line, with the place and the statement of each instruction.
+    Json,
+}
+
 /// `code`: writes the listing of a program's code, with the source of each instruction or without.
 #[derive(Clone, Copy)]
 pub struct Code {
-    /// Whether the place and the statement of each instruction are written.
-    pub source: bool,
+    pub form: ListingForm,
 }
 
 impl ProgramCommand for Code {
@@ -42,17 +52,18 @@ impl ProgramCommand for Code {
 
     type Answer = ();
 
-    ghost command = { λ x. lists x.source };
+    ghost command = { λ x. lists x.form };
 
     ghost allowed = { λ _. Unit {0} };
 
     fn apply<W: Write>(&self, alloc: Global, text: &[u8], out: &mut W) -> Result<(), Fault> {
         let checked = lawful_program(alloc, text)?;
         let code = compile(alloc, &checked)?;
-        if self.source {
-            put(out, &sourced(alloc, text, &checked, &code)?)?;
-        } else {
-            list(&code, out)?;
+        let form = self.form;
+        match form {
+            ListingForm::Lines => list(&code, out)?,
+            ListingForm::Sourced => put(out, &sourced(alloc, text, &checked, &code)?)?,
+            ListingForm::Json => put(out, &code_objects(alloc, text, &checked, &code)?)?,
         }
         Ok(())
     }

@@ -33,12 +33,13 @@ mod showing;
 mod shrinking;
 mod stating;
 mod summaries;
+mod summary_objects;
 mod tellings;
 mod testing;
 
 pub use bundles::drive_bundle;
 pub use checking::{Check, show_check};
-pub use coding::Code;
+pub use coding::{Code, ListingForm};
 pub use commands::{PairCommand, ProgramCommand, do_on_pair, do_on_program};
 pub use driving::Drive;
 pub use ends::{Ended, end};

@@ -56,7 +56,10 @@ fn put_finding<W: Write>(options: &TestOptions, found: Found, out: &mut W) -> Re
 }
 
 /// Writes numbers, each after its words.
-fn put_labelled<W: Write>(numbers: &[(&[u8], u64)], out: &mut W) -> Result<(), WriteFault>
+pub(crate) fn put_labelled<W: Write>(
+    numbers: &[(&[u8], u64)],
+    out: &mut W,
+) -> Result<(), WriteFault>
     ensures { let text = flat_map (λ x. labelled x.0.now x.1) numbers.now in
         Writes (W.contents out.old) (W.contents out.new) text result }
 {
@@ -101,7 +104,7 @@ fn line_unless(is_reached: bool, line: &Vec<u8>) -> &[u8]
 }
 
 /// Writes the lines of the statements that no run reached.
-fn put_unreached<W: Write>(
+pub(crate) fn put_unreached<W: Write>(
     lines: &[Vec<u8>],
     reached: &[bool],
     out: &mut W,

@@ -7,10 +7,11 @@ use crate::ends::Ended;
 use crate::faults::Fault;
 use crate::showing::program_of;
 use crate::summaries::put_summary;
+use crate::summary_objects::put_summary_objects;
 use bp_check::Checked;
 use bp_machine::Start;
 use bp_test::{Counts, Found, Progress, TestOptions, test};
-use bp_view::statement_lines;
+use bp_view::{statement_lines, unreached_objects};
 use std::alloc::{AllocError, Global};
 use std::io::Write;
 use std::thread::Threads;
@@ -29,6 +30,8 @@ pub struct Test<'a, R, P> {
     pub options: TestOptions,
     /// The name of the program's text, where its statements that no run reached are listed.
     pub listed: Option<&'a str>,
+    /// Whether the summary is JSON objects.
+    pub json: bool,
 }
 
 /// What a test found, and how well the program was tested.
@@ -42,6 +45,8 @@ pub struct Tested {
     pub lines: Vec<Vec<u8>>,
     /// For each instruction of the code, whether a run reached it.
     pub reached: Vec<bool>,
+    /// Whether the summary is JSON objects. The lines of the statements then are objects too.
+    pub json: bool,
 }
 
 impl Ended for Tested {
@@ -54,22 +59,28 @@ impl Ended for Tested {
     }
 
     fn summarize<E: Write>(&self, errors: &mut E) {
-        let _ = put_summary(self, errors);
+        let _ = if self.json {
+            put_summary_objects(self, errors)
+        } else {
+            put_summary(self, errors)
+        };
     }
 }
 
 /// The lines of the statements of a program, where its text has a name by which they are listed.
 fn lines_of(
     alloc: Global,
+    json: bool,
     listed: Option<&str>,
     text: &[u8],
     checked: &Checked,
 ) -> Result<Vec<Vec<u8>>, AllocError>
     ensures { let name = name_of listed.entry in
         IfOk result (λ v.
-        AreListed name text.now checked.now (map (λ line. line.items) v.items)) }
+        AreListed json name text.now checked.now (map (λ line. line.items) v.items)) }
 {
     match listed {
+        Some(name) if json => unreached_objects(alloc, name, text, checked),
         Some(name) => statement_lines(alloc, name, text, checked),
         None => Ok(Vec::new(alloc)),
     }
@@ -81,14 +92,14 @@ impl<R: Threads + Sync, P: Progress> ProgramCommand for Test<'_, R, P> {
 
     type Answer = Tested;
 
-    ghost command = { λ x. tests x.start.now x.options (name_of x.listed) };
+    ghost command = { λ x. tests x.start.now x.options (name_of x.listed) x.json };
 
     ghost allowed = { λ _. IsSync R.row };
 
     fn apply<W: Write>(&self, alloc: Global, text: &[u8], out: &mut W) -> Result<Tested, Fault> {
         let (checked, code) = program_of(alloc, text)?;
         let setup = self.start.setup(alloc, &code, None)?;
-        let lines = lines_of(alloc, self.listed, text, &checked)?;
+        let lines = lines_of(alloc, self.json, self.listed, text, &checked)?;
         let options = self.options;
         let (runtime, progress) = (self.runtime, self.progress);
         let tested = test(runtime, alloc, &code, &setup, &options, progress, out)?;
@@ -98,6 +109,7 @@ impl<R: Threads + Sync, P: Progress> ProgramCommand for Test<'_, R, P> {
             counts: tested.tally.counts(&code),
             lines,
             reached: tested.tally.reached,
+            json: self.json,
         })
     }
 

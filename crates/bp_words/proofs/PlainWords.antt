@@ -135,7 +135,7 @@ abbrev check_row : Text → List Row
 check_row file = given (codes "FILE") file ∷ down (codes "explain") ∷ down (codes "no-explain") ∷ down (codes "json") ∷ []
 
 abbrev code_row : Text → List Row
-code_row file = given (codes "FILE") file ∷ down (codes "explain") ∷ down (codes "no-explain") ∷ down (codes "source") ∷ []
+code_row file = given (codes "FILE") file ∷ down (codes "explain") ∷ down (codes "no-explain") ∷ down (codes "source") ∷ down (codes "json") ∷ []
 
 abbrev explaining_with : Bool → Bool → ExplainWords
 explaining_with always never = record { always = always; never = never }
@@ -199,7 +199,7 @@ code_faulty program file plain =
 
 code_of : (file : Text) (task : Task) → IsTaskOf (Some (codes "code", code_row file)) task → IsCodeOf file task
 code_of file Bundle asks = absurd asks
-code_of file (Code words) (named, of) = (of.program, of.source.1 refl, unasked words.explain (of.explain.always.1 refl) (of.explain.never.1 refl))
+code_of file (Code words) (named, of) = (of.program, of.source.1 refl, of.json.1 refl, unasked words.explain (of.explain.always.1 refl) (of.explain.never.1 refl))
 code_of file (Check words) asks = absurd (check≢code (sym asks.0))
 code_of file (Drive words) asks = absurd (code≢drive asks.0)
 code_of file (Run words) asks = absurd (code≢run asks.0)
@@ -299,7 +299,7 @@ test_words program file = program ∷ codes "test" ∷ file ∷ []
 
 abbrev test_rows : Text → List Row
 test_rows file =
-    given (codes "FILE") file ∷ down (codes "explain") ∷ down (codes "no-explain") ∷ down (codes "stuck") ∷ down (codes "unreached") ∷ []
+    given (codes "FILE") file ∷ down (codes "explain") ∷ down (codes "no-explain") ∷ down (codes "stuck") ∷ down (codes "unreached") ∷ down (codes "json") ∷ []
 
 test_named : (program file : Text) → IsWord file → subcommand_of btrun_app (test_words program file) ≡ Some (codes "test", test_rows file)
 unfolding clap_on_literals
@@ -320,7 +320,7 @@ test_of file (Check words) asks = absurd (differ (codes "test") (codes "check") 
 test_of file (Code words) asks = absurd (differ (codes "test") (codes "code") refl asks.0)
 test_of file (Drive words) asks = absurd (differ (codes "test") (codes "drive") refl asks.0)
 test_of file (Run words) asks = absurd (differ (codes "test") (codes "run") refl asks.0)
-test_of file (Test words) (named, of) = (of.program, unasked words.explain (of.explain.always.1 refl) (of.explain.never.1 refl), start_is words.start of.entries of.init of.contexts of.calls, of.seed, of.runs, of.jobs, of.stuck.1 refl, of.unreached.1 refl)
+test_of file (Test words) (named, of) = (of.program, unasked words.explain (of.explain.always.1 refl) (of.explain.never.1 refl), start_is words.start of.entries of.init of.contexts of.calls, of.seed, of.runs, of.jobs, of.stuck.1 refl, of.unreached.1 refl, of.json.1 refl)
 test_of file (Replay words) asks = absurd (differ (codes "test") (codes "replay") refl asks.0)
 test_of file (Show words) asks = absurd (differ (codes "test") (codes "show") refl asks.0)
 test_of file (Migrate words) asks = absurd (differ (codes "test") (codes "migrate") refl asks.0)

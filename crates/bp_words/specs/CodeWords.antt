@@ -9,4 +9,5 @@ use Rattle.bp_words.specs.declared.code.CodeWords.{CodeWords}
 pub record IsCodeWordsOf (rows : List Row) (words : CodeWords) : Type 0 where
   pub program : words.program.now ≡ value_of (codes "FILE") rows
   pub source : IsFlagOf (one_of (codes "source") rows) words.source
+  pub json : IsFlagOf (one_of (codes "json") rows) words.json
   pub explain : IsExplainOf rows words.explain

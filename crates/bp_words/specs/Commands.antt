@@ -40,9 +40,12 @@ file_app name =
 abbrev pub check_app : App
 check_app = with_rule (file_app (codes "check")) (flag_rule (codes "json"))
 
--- `code FILE [--source] [--explain] [--no-explain]`
+-- `code FILE [--source] [--json] [--explain] [--no-explain]`
 abbrev pub code_app : App
-code_app = with_rule (file_app (codes "code")) (flag_rule (codes "source"))
+code_app =
+    with_rule
+    (with_rule (file_app (codes "code")) (flag_rule (codes "source")))
+    (flag_rule (codes "json"))
 
 -- an option that has a value
 abbrev pub option_rule : Text → Rule
@@ -98,7 +101,7 @@ run_app =
     ∷ [])
 
 -- `test FILE [ENTRY].. [--seed N] [--contexts N] [--calls N] [--init BITS] [--runs N] [--jobs N]
--- [--stuck] [--unreached] [--explain] [--no-explain]`
+-- [--stuck] [--unreached] [--json] [--explain] [--no-explain]`
 abbrev pub test_app : App
 test_app =
     with_rules (file_app (codes "test")) (
@@ -111,6 +114,7 @@ test_app =
     ∷ number_rule (codes "jobs")
     ∷ flag_rule (codes "stuck")
     ∷ flag_rule (codes "unreached")
+    ∷ flag_rule (codes "json")
     ∷ [])
 
 -- a command of this name, a file and a trace

@@ -64,7 +64,10 @@ IsCheckOf file other = ⊥
 -- the task is to list the code of this file, and faults are explained on terminals alone
 abbrev pub IsCodeOf : Text → Task → Type 0
 IsCodeOf file (task.Code words) =
-    (words.program.now ≡ file) × (words.source ≡ false) × (words.explain ≡ on_terminals)
+    (words.program.now ≡ file)
+    × (words.source ≡ false)
+    × (words.json ≡ false)
+    × (words.explain ≡ on_terminals)
 IsCodeOf file other = ⊥
 
 -- the task is to drive the program of this file by the schedule of that one, under the defaults
@@ -96,6 +99,7 @@ IsPlainTestOf file (task.Test words) =
     × (words.jobs ≡ DEFAULT_JOBS)
     × (words.stuck ≡ false)
     × (words.unreached ≡ false)
+    × (words.json ≡ false)
 IsPlainTestOf file other = ⊥
 
 -- the files are these, and faults are explained on terminals alone

@@ -21,4 +21,5 @@ pub record IsTestOf (rows : List Row) (words : TestWords) : Type 0 where
   pub jobs : IsNumberOf 32 DEFAULT_JOBS (one_of (codes "jobs") rows) words.jobs
   pub stuck : IsFlagOf (one_of (codes "stuck") rows) words.stuck
   pub unreached : IsFlagOf (one_of (codes "unreached") rows) words.unreached
+  pub json : IsFlagOf (one_of (codes "json") rows) words.json
   pub explain : IsExplainOf rows words.explain

@@ -19,6 +19,8 @@ pub struct CodeWords<'a> {
     pub program: &'a str,
     /// Whether `--source` was given: the statement of each instruction is then listed too.
     pub source: bool,
+    /// Whether `--json` was given: what is printed is then JSON objects, and so is a fault.
+    pub json: bool,
     /// When a fault is explained.
     pub explain: ExplainWords,
 }
@@ -28,9 +30,9 @@ const ABOUT: &str = "Prints the listing of a program's code";
 /// What `code --help` says after the arguments.
 const NOTES: &str = "\
     A procedure has a line 'proc NAME FORMALS LOCALS', and after it a line for each instruction,\n\
-    with its number and those of its successors. The first fault is one line on \
-    standard error, with\n\
-    the offset of its byte.\n\nExample:\n  btrun code lock.bp\n\n\
+    with its number and those of its successors. With --json each line is a JSON object, and\n\
+    so is a fault. The first fault is one line on standard error, with the offset of its byte.\n\n\
+    Example:\n  btrun code lock.bp\n\n\
     Exit status:\n  0  the listing is printed\n  2  the program is refused, or the words were\n  \
     3  memory, a device or the output failed";
 
@@ -40,7 +42,10 @@ pub fn code_command<'a>(alloc: Global) -> Result<Command<'a>, AllocError>
         (λ c. (app_of c ≡ code_app) × ((out-Command c).has_globals ≡ false)) }
 {
     let source = "Prints the line, the column and the statement of each instruction after it";
-    file_command(alloc, "code", ABOUT, NOTES)?.arg(flag(alloc, "source", source))
+    let json = "Prints JSON objects, for programs: each instruction with its statement";
+    file_command(alloc, "code", ABOUT, NOTES)?
+        .arg(flag(alloc, "source", source))?
+        .arg(flag(alloc, "json", json))
 }
 
 /// What the words after `code` ask for.
@@ -51,6 +56,7 @@ pub fn code_words<'a>(words: &ArgMatches<'a>) -> CodeWords<'a>
     CodeWords {
         program: words.get_str("FILE").unwrap_or(""),
         source: is_given(words, "source"),
+        json: is_given(words, "json"),
         explain: explain_words(words),
     }
 }

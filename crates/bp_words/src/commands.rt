@@ -16,12 +16,10 @@ use crate::trace::{
     TraceWords, trace_command, trace_words,
 };
 use crate::values::has_bad_init;
+use crate::version::version;
 use clap::error::ErrorKind;
 use clap::{ArgMatches, Command, Error};
 use std::alloc::{AllocError, Global};
-
-/// The version of the program.
-const VERSION: &str = "0.1.0";
 
 /// What the user wants done.
 #[derive(Drop)]
@@ -67,7 +65,7 @@ fn program<'a>(alloc: Global) -> Command<'a>
     ensures { app_of result ≡ program_app }
 {
     Command::new(alloc, "btrun")
-        .version(VERSION)
+        .version(version())
         .about(
             "Runs concurrent Boolean programs. \
             Without a command it reads a bundle from standard input and prints its trace",

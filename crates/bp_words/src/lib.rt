@@ -12,7 +12,9 @@ mod run;
 mod show;
 mod test;
 mod trace;
+mod usages;
 mod values;
+mod version;
 
 pub use check::CheckWords;
 pub use code::CodeWords;
@@ -23,3 +25,4 @@ pub use run::RunWords;
 pub use show::ShowWords;
 pub use test::TestWords;
 pub use trace::TraceWords;
+pub use usages::with_usage;

@@ -36,6 +36,8 @@ pub struct TestWords<'a> {
     pub stuck: bool,
     /// Whether `--unreached` was given: the statements that no run reached are then listed.
     pub unreached: bool,
+    /// Whether `--json` was given: the summary is then JSON objects, and so is a fault.
+    pub json: bool,
 }
 
 const ABOUT: &str =
@@ -48,6 +50,7 @@ const NOTES: &str = "\
     ends where an assertion failed, or where no thread can go on. The trace of the first run in\n\
     which an assertion failed is printed, and 'btrun replay' takes it. A summary on standard\n\
     error says what was found, and what the runs reached. The first fault is one line there.\n\
+    With --json each line on standard error is a JSON object.\n\
     What is found and printed does not depend on the number of jobs.\n\n\
     Example:\n  btrun test race.bp writer reader --contexts 4 --runs 100000\n\n\
     Exit status:\n  0  nothing was found in any run\n  \
@@ -69,6 +72,7 @@ pub fn test_command<'a>(alloc: Global) -> Result<Command<'a>, AllocError>
     let jobs = "How many blocks of runs are made side by side, at most 64 [default: 1]";
     let stuck = "Also stop at a run in which all open threads wait for ever";
     let unreached = "List the statements that no run reached, on standard error";
+    let json = "Write the summary as JSON objects, for programs";
     file_command(alloc, "test", ABOUT, NOTES)?
         .arg(values(alloc, "ENTRY", entries))?
         .arg(long_number_option(alloc, "seed", seed))?
@@ -78,7 +82,8 @@ pub fn test_command<'a>(alloc: Global) -> Result<Command<'a>, AllocError>
         .arg(long_number_option(alloc, "runs", runs))?
         .arg(number_option(alloc, "jobs", jobs))?
         .arg(flag(alloc, "stuck", stuck))?
-        .arg(flag(alloc, "unreached", unreached))
+        .arg(flag(alloc, "unreached", unreached))?
+        .arg(flag(alloc, "json", json))
 }
 
 /// What the words after `test` ask for.
@@ -100,5 +105,6 @@ pub fn test_words<'a>(alloc: Global, words: &ArgMatches<'a>) -> Result<TestWords
         jobs: number(words, "jobs", DEFAULT_JOBS),
         stuck: is_given(words, "stuck"),
         unreached: is_given(words, "unreached"),
+        json: is_given(words, "json"),
     })
 }

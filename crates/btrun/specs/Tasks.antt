@@ -4,6 +4,8 @@ use Rattle.bp_commands.specs.Bundles.{bundles}
 use Rattle.bp_commands.specs.Checks.{checks}
 use Rattle.bp_commands.specs.Drives.{drives}
 use Rattle.bp_commands.specs.declared.explanations.Beside.TheVariants.{Schedule, Trace}
+use Rattle.bp_commands.specs.declared.coding.ListingForm.{ListingForm}
+use Rattle.bp_commands.specs.declared.coding.ListingForm.TheVariants as listing
 use Rattle.bp_commands.specs.Ends.{never, of_report}
 use Rattle.bp_commands.specs.declared.fault_formats.FaultFormat.{FaultFormat}
 use Rattle.bp_commands.specs.declared.fault_formats.FaultFormat.TheVariants as fault
@@ -67,6 +69,13 @@ IsCheckDone bytes on_terminal words old new errors_old errors_new status =
     (on_text words.program.now) (fault_format words.json words.explain on_terminal)
     old new errors_old errors_new status
 
+-- how the code of a program is listed: JSON has the source of each instruction too
+abbrev pub listing_form : CodeWords → ListingForm
+listing_form words =
+    if words.json then listing.Json
+    else if words.source then listing.Sourced
+    else listing.Lines
+
 -- the code of the program of a file is listed as these words ask for
 abbrev pub IsCodeDone
     : (List ℕ → Option (List ℕ)) → Bool → CodeWords
@@ -74,8 +83,8 @@ abbrev pub IsCodeDone
     → Type 0
 IsCodeDone bytes on_terminal words old new errors_old errors_new status =
     let inputs = text_alone (bytes words.program.now) in
-    IsRun (lists words.source) never inputs
-    (on_text words.program.now) (fault_format false words.explain on_terminal)
+    IsRun (lists (listing_form words)) never inputs
+    (on_text words.program.now) (fault_format words.json words.explain on_terminal)
     old new errors_old errors_new status
 
 -- the program of a file is run as these words ask for
@@ -111,8 +120,8 @@ abbrev pub IsTestDone
 IsTestDone bytes on_terminal words old new errors_old errors_new status =
     let inputs = text_alone (bytes words.program.now) in
     let listed = listed_if words.unreached words.program.now in
-    IsRun (tests words.start (test_options words) listed) of_test inputs
-    (on_text words.program.now) (fault_format false words.explain on_terminal)
+    IsRun (tests words.start (test_options words) listed words.json) of_test inputs
+    (on_text words.program.now) (fault_format words.json words.explain on_terminal)
     old new errors_old errors_new status
 
 -- the program of a file is driven by the schedule of another, as these words ask for

@@ -2,7 +2,7 @@
 ghost use Rattle.clap.specs.Words.{kind_of};
 ghost use Rattle.std.specs.Prelude.{◌≡◌};
 
-use bp_words::read_words;
+use bp_words::{read_words, with_usage};
 use clap::Error;
 use std::alloc::{AllocError, Global};
 use std::fmt::{self, Display, Formatter, Write};
@@ -30,7 +30,8 @@ fn all_on_one_line(alloc: Global, words: &[String]) -> Result<Vec<String>, Alloc
 }
 
 /// The error of words, with the line feeds of the words escaped where the same is wrong with them
-/// then. Where memory is refused it stays as it is.
+/// then. After a bad value it says how the command is used. Where memory is refused it stays as it
+/// is.
 pub(crate) fn error_on_lines(alloc: Global, words: &[String], error: Error) -> Error
     ensures { kind_of result ≡ kind_of error }
 {
@@ -41,7 +42,7 @@ pub(crate) fn error_on_lines(alloc: Global, words: &[String], error: Error) -> E
         return error;
     };
     if other.kind() == error.kind() {
-        return other;
+        return with_usage(alloc, &lines, other);
     }
     error
 }

@@ -5,7 +5,7 @@ use bp_test::Progress;
 use std::time::Instant;
 
 /// The line of progress on standard error. It is shown where the test has a start: standard error
-/// is a terminal, and NO_PROGRESS is not set to a text.
+/// is a terminal, NO_PROGRESS is not set to a text, and no JSON was asked for.
 #[derive(Drop)]
 pub struct ProgressLine<'a> {
     pub rt: &'a HostRuntime,

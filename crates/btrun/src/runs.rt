@@ -31,9 +31,18 @@ fn has_colour(rt: &HostRuntime) -> bool {
     !is_set(rt, "NO_COLOR") && rt.stdout().is_terminal()
 }
 
+/// Whether what the task writes on standard error is JSON.
+fn has_json(task: &Task<'_>) -> bool {
+    match task {
+        Task::Test(words) => words.json,
+        _ => false,
+    }
+}
+
 /// The line of progress of a test that starts now.
-fn progress_line(rt: &HostRuntime) -> ProgressLine<'_> {
-    let is_wanted = !is_set(rt, "NO_PROGRESS") && rt.stderr().is_terminal();
+fn progress_line<'a>(rt: &'a HostRuntime, task: &Task<'_>) -> ProgressLine<'a> {
+    let is_asked_not_to = has_json(task) || is_set(rt, "NO_PROGRESS");
+    let is_wanted = !is_asked_not_to && rt.stderr().is_terminal();
     let start = if is_wanted {
         Instant::now(rt).ok()
     } else {
@@ -67,7 +76,7 @@ fn do_on_host<T: Threads + Wait + Clock + Sync>(
     };
     say_that_it_waits(rt, task);
     let colour = has_colour(rt);
-    let progress = progress_line(rt);
+    let progress = progress_line(rt, task);
     do_task(
         alloc,
         threads,

@@ -5,12 +5,12 @@ ghost use Rattle.bp_commands.specs.Ends.{of_report};
 ghost use Rattle.bp_commands.specs.Files.{pair_of_files, IsRun};
 ghost use Rattle.bp_commands.specs.Given.{text_alone};
 ghost use Rattle.bp_commands.specs.Tellings.{on_pair, on_text};
-ghost use Rattle.btrun.specs.Tasks.{fault_format, format_of, test_options, view_options, IsCheckDone, IsCodeDone, IsDriveDone, IsRunDone, IsShowDone, IsTaskDone, IsTestDone};
+ghost use Rattle.btrun.specs.Tasks.{fault_format, format_of, listing_form, test_options, view_options, IsCheckDone, IsCodeDone, IsDriveDone, IsRunDone, IsShowDone, IsTaskDone, IsTestDone};
 
 use bp_commands::{
-    Check, Code, Drive, FaultFormat, Files, Migrate, PairCommand, ProgramCommand, Replay, Show,
-    ShowContexts, ShowState, Shrink, Test, run_by_workers, run_on_bundle, run_on_pair,
-    run_on_program,
+    Check, Code, Drive, FaultFormat, Files, ListingForm, Migrate, PairCommand, ProgramCommand,
+    Replay, Show, ShowContexts, ShowState, Shrink, Test, run_by_workers, run_on_bundle,
+    run_on_pair, run_on_program,
 };
 use bp_run::{Gate, Open, Spread};
 use bp_test::{Progress, TestOptions};
@@ -140,13 +140,14 @@ fn test_as_asked<F: Files, T: Threads + Sync, P: Progress, W: Write + Drop, E: W
         start: &words.start,
         options: test_options(words),
         listed: words.unreached.then_some(words.program),
+        json: words.json,
     };
     run_on_program(
         alloc,
         &test,
         files,
         words.program,
-        fault_format(false, words.explain, on_terminal),
+        fault_format(words.json, words.explain, on_terminal),
         out,
         errors,
     )
@@ -170,6 +171,19 @@ fn check_as_asked<F: Files, W: Write + Drop, E: Write>(
     run_on_program(alloc, &check, files, words.program, format, out, errors)
 }
 
+/// How the code of a program is listed. JSON has the source of each instruction too.
+fn listing_form(words: &CodeWords<'_>) -> ListingForm
+    ensures { result ≡ listing_form words.now }
+{
+    if words.json {
+        ListingForm::Json
+    } else if words.source {
+        ListingForm::Sourced
+    } else {
+        ListingForm::Lines
+    }
+}
+
 /// Lists the code of the program of a file.
 fn list_as_asked<F: Files, W: Write + Drop, E: Write>(
     alloc: Global,
@@ -184,9 +198,9 @@ fn list_as_asked<F: Files, W: Write + Drop, E: Write>(
         (E.contents errors.old) (E.contents errors.new) result.0 }
 {
     let code = Code {
-        source: words.source,
+        form: listing_form(words),
     };
-    let format = fault_format(false, words.explain, on_terminal);
+    let format = fault_format(words.json, words.explain, on_terminal);
     run_on_program(alloc, &code, files, words.program, format, out, errors)
 }
 

@@ -5,7 +5,9 @@ use super::{
 };
 use crate::devices::Short;
 use crate::view::{ALL, TEXT, TRACE, VIEW};
-use bp_commands::{Check, Code, Drive, Migrate, PairCommand, ProgramCommand, Show, Shrink};
+use bp_commands::{
+    Check, Code, Drive, ListingForm, Migrate, PairCommand, ProgramCommand, Show, Shrink,
+};
 use std::alloc::{AllocError, Global};
 
 /// A writer with room for `room` bytes.
@@ -53,7 +55,16 @@ fn writes_a_prefix_of_a_line(rt: HostRuntime) {
 #[test]
 fn writes_a_prefix_of_a_listing(rt: HostRuntime) {
     for room in 0..=LISTING.len() {
-        assert!(rt; writes_a_front(rt.alloc(), &Code { source: false }, room, LISTING));
+        assert!(rt;
+            writes_a_front(
+                rt.alloc(),
+                &Code {
+                    form: ListingForm::Lines
+                },
+                room,
+                LISTING
+            )
+        );
     }
 }
 

@@ -1,6 +1,6 @@
 //! Commands on a program.
 use super::{LISTING, RECURSIVE, Said, said, said_of_program};
-use bp_commands::{Check, Code, ProgramCommand, Source, do_on_program};
+use bp_commands::{Check, Code, ListingForm, ProgramCommand, Source, do_on_program};
 use std::alloc::Global;
 use std::test::Fail;
 
@@ -29,12 +29,44 @@ const SOURCED: &[u8] = b"\
     0 skip 1             ; 1:14    skip\n\
     1 return             ; -       end of main\n";
 
+/// The same code as objects.
+const CODE_OBJECTS: &[u8] = b"\
+    {\"kind\":\"code\",\"version\":1,\"procedures\":[\
+    {\"name\":\"main\",\"formals\":0,\"locals\":0,\"entry\":0}],\"instructions\":2}\n\
+    {\"kind\":\"instruction\",\"number\":0,\"procedure\":\"main\",\"operation\":\"skip\",\
+    \"next\":1,\"other\":null,\"callee\":null,\"line\":1,\"column\":14,\
+    \"statement\":\"skip\"}\n\
+    {\"kind\":\"instruction\",\"number\":1,\"procedure\":\"main\",\"operation\":\"return\",\
+    \"next\":null,\"other\":null,\"callee\":null,\"line\":null,\"column\":null,\
+    \"statement\":\"end of main\"}\n";
+
 #[test]
 fn names_and_lists_with_the_source(rt: HostRuntime) {
     let alloc = rt.alloc();
     assert!(rt; does(alloc, &Check { json: true }, RECURSIVE, None, OBJECT));
     let text = b"main() begin skip; end";
-    assert!(rt; does(alloc, &Code { source: true }, text, None, SOURCED));
+    assert!(rt;
+        does(
+            alloc,
+            &Code {
+                form: ListingForm::Sourced
+            },
+            text,
+            None,
+            SOURCED
+        )
+    );
+    assert!(rt;
+        does(
+            alloc,
+            &Code {
+                form: ListingForm::Json
+            },
+            text,
+            None,
+            CODE_OBJECTS
+        )
+    );
 }
 
 #[test]
@@ -55,11 +87,23 @@ fn checks_texts(rt: HostRuntime) {
 #[test]
 fn lists_texts(rt: HostRuntime) {
     let alloc = rt.alloc();
-    assert!(rt; does(alloc, &Code { source: false }, RECURSIVE, None, LISTING));
     assert!(rt;
         does(
             alloc,
-            &Code { source: false },
+            &Code {
+                form: ListingForm::Lines
+            },
+            RECURSIVE,
+            None,
+            LISTING
+        )
+    );
+    assert!(rt;
+        does(
+            alloc,
+            &Code {
+                form: ListingForm::Lines
+            },
             b"main() begin x := 2; end",
             Some((2, Some(18))),
             b""

@@ -2,7 +2,7 @@
 use super::RECURSIVE;
 use super::pages::{End, Page, Pages, buffer, failed_assertion, failed_write, is_end, refusal};
 use crate::texts::repeated;
-use bp_commands::{Check, Code, FaultFormat, run_on_bundle, run_on_program};
+use bp_commands::{Check, Code, FaultFormat, ListingForm, run_on_bundle, run_on_program};
 use std::alloc::Global;
 use std::io;
 
@@ -116,7 +116,9 @@ fn lists_a_long_name(alloc: Global) -> io::Result<bool> {
     let out = buffer(alloc, 20_000)?;
     let (status, out) = run_on_program(
         alloc,
-        &Code { source: false },
+        &Code {
+            form: ListingForm::Lines,
+        },
         &pages,
         "p",
         FaultFormat::Line,

@@ -5,6 +5,11 @@ use bp_test::{TestOptions, Untold};
 use std::alloc::{AllocError, Global};
 use std::thread::Threads;
 
+/// The name under which statements that no run reached are listed, where the summary is JSON.
+fn listed_if<'a>(json: bool) -> Option<&'a str> {
+    if json { Some("p.bp") } else { None }
+}
+
 /// A test of a program from this start, with seed 42: whether an assertion failed, what was
 /// written, and what is said of it. There is no answer where the text is refused.
 fn tested<'a, R: Threads + Sync>(
@@ -12,6 +17,7 @@ fn tested<'a, R: Threads + Sync>(
     alloc: Global,
     start: &'a Start,
     text: &[u8],
+    json: bool,
     runs: u64,
     out: &mut Vec<u8>,
     errors: &mut Vec<u8>,
@@ -26,7 +32,8 @@ fn tested<'a, R: Threads + Sync>(
             jobs: 1,
             with_stuck: false,
         },
-        listed: None,
+        listed: listed_if(json),
+        json,
     };
     let mut program = Source::new(alloc, text);
     let Ok(answer) = do_on_program(alloc, &test, &mut program, out) else {
@@ -42,13 +49,14 @@ fn writes<'a, R: Threads + Sync>(
     alloc: Global,
     start: &'a Start,
     text: &[u8],
+    json: bool,
     failed: Option<bool>,
     written: &[u8],
     told: &[u8],
 ) -> Result<bool, AllocError> {
     let mut out = Vec::new(alloc);
     let mut errors = Vec::new(alloc);
-    let answer = tested(rt, alloc, start, text, 3, &mut out, &mut errors)?;
+    let answer = tested(rt, alloc, start, text, json, 3, &mut out, &mut errors)?;
     Ok(answer == failed && out.as_slice() == written && errors.as_slice() == told)
 }
 
@@ -70,6 +78,7 @@ fn writes_the_first_run_that_fails(rt: HostRuntime) -> Result<(), AllocError> {
             rt.alloc(),
             &start,
             b"main() begin assert (0); end",
+            false,
             Some(true),
             FAILED,
             told
@@ -92,6 +101,7 @@ fn writes_nothing_where_no_run_fails(rt: HostRuntime) -> Result<(), AllocError> 
             rt.alloc(),
             &start,
             b"main() begin skip; end",
+            false,
             Some(false),
             b"",
             told
@@ -103,6 +113,44 @@ fn writes_nothing_where_no_run_fails(rt: HostRuntime) -> Result<(), AllocError> 
 #[test]
 fn tests_no_program_that_is_refused(rt: HostRuntime) -> Result<(), AllocError> {
     let start = Start::defaults(rt.alloc())?;
-    assert!(rt; writes(&rt, rt.alloc(), &start, b"main() begin end", None, b"", b"")?);
+    assert!(rt;
+        writes(
+            &rt,
+            rt.alloc(),
+            &start,
+            b"main() begin end",
+            false,
+            None,
+            b"",
+            b""
+        )?
+    );
+    Ok(())
+}
+
+#[test]
+fn says_in_json_what_no_run_reached(rt: HostRuntime) -> Result<(), AllocError> {
+    let start = Start::defaults(rt.alloc())?;
+    let told = b"{\"kind\":\"test\",\"version\":1,\"found\":\"failed\",\"run\":0,\"of\":3,\
+        \"runs\":1,\"calls\":1,\"longest\":1,\
+        \"ended\":{\"finished\":0,\"out_of_contexts\":0,\"cut_off\":0,\"stuck\":0},\
+        \"contexts\":{\"least\":1,\"middle\":1,\"most\":1},\
+        \"statements\":{\"reached\":1,\"all\":2},\
+        \"assertions\":{\"reached\":1,\"all\":1},\
+        \"threads\":{\"reached\":1,\"all\":1}}\n\
+        {\"kind\":\"unreached\",\"file\":\"p.bp\",\"line\":1,\"column\":26,\
+        \"statement\":\"skip\"}\n";
+    assert!(rt;
+        writes(
+            &rt,
+            rt.alloc(),
+            &start,
+            b"main() begin assert (0); skip; end",
+            true,
+            Some(true),
+            FAILED,
+            told
+        )?
+    );
     Ok(())
 }

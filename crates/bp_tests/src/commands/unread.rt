@@ -2,7 +2,8 @@
 use super::{race, said, said_of_pair, said_of_program};
 use crate::devices::{Broken, Starved};
 use bp_commands::{
-    Check, Code, Drive, Migrate, PairCommand, ProgramCommand, Replay, Shrink, Source, drive_bundle,
+    Check, Code, Drive, ListingForm, Migrate, PairCommand, ProgramCommand, Replay, Shrink, Source,
+    drive_bundle,
 };
 use std::alloc::{AllocError, Global};
 use std::io::Read;
@@ -20,7 +21,15 @@ fn is_unread<C: ProgramCommand>(alloc: Global, command: &C, reads: usize) -> boo
 fn reports_that_a_program_was_not_read(rt: HostRuntime) {
     for reads in 0..2 {
         assert!(rt; is_unread(rt.alloc(), &Check { json: false }, reads));
-        assert!(rt; is_unread(rt.alloc(), &Code { source: false }, reads));
+        assert!(rt;
+            is_unread(
+                rt.alloc(),
+                &Code {
+                    form: ListingForm::Lines
+                },
+                reads
+            )
+        );
     }
 }
 

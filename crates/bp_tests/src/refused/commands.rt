@@ -4,8 +4,8 @@ use super::ready::{PROGRAM, entries, output};
 use super::{tell, wants};
 use crate::view::ALL;
 use bp_commands::{
-    Check, Code, Drive, Fault, Migrate, PairCommand, Replay, Show, ShowContexts, ShowState, Shrink,
-    Source, do_on_pair, do_on_program, drive_bundle, run_program,
+    Check, Code, Drive, Fault, ListingForm, Migrate, PairCommand, Replay, Show, ShowContexts,
+    ShowState, Shrink, Source, do_on_pair, do_on_program, drive_bundle, run_program,
 };
 use bp_machine::Start;
 use bp_run::{Open, RunOptions};
@@ -83,7 +83,9 @@ fn number(alloc: Global, command: Command, start: &Start, out: &mut Vec<u8>) -> 
         )),
         Command::Code => number_of(do_on_program(
             alloc,
-            &Code { source: false },
+            &Code {
+                form: ListingForm::Lines,
+            },
             &mut program,
             out,
         )),

@@ -8,5 +8,6 @@ pub returns : goal.returns
 returns c = record {
   program = value_read _ _ (c.get_str.ensures ∙ first_value-rows (found_of c.args.words.now) (codes "FILE")) c.unwrap_or.result _ c.unwrap_or.ensures refl;
   source = c.is_given.ensures;
+  json = c.is_given-2.ensures;
   explain = c.explain_words.ensures;
 }

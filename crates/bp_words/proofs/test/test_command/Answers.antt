@@ -12,4 +12,5 @@ returns c =
     let runs = with_argument _ _ _ _ _ init c.long_number_option-2.ensures c.in_ok-arg-6.ensures in
     let jobs = with_argument _ _ _ _ _ runs c.number_option-3.ensures c.in_ok-arg-7.ensures in
     let stuck = with_argument _ _ _ _ _ jobs c.flag.ensures c.in_ok-arg-8.ensures in
-    if_ok c.arg-9.result _ (HasShape test_app) (λ new adds. with_argument _ new _ _ _ stuck c.flag-2.ensures adds) c.arg-9.ensures
+    let unreached = with_argument _ _ _ _ _ stuck c.flag-2.ensures c.in_ok-arg-9.ensures in
+    if_ok c.arg-10.result _ (HasShape test_app) (λ new adds. with_argument _ new _ _ _ unreached c.flag-3.ensures adds) c.arg-10.ensures

@@ -16,5 +16,6 @@ returns c = record {
   jobs = c.number-3.ensures;
   stuck = c.is_given.ensures;
   unreached = c.is_given-2.ensures;
+  json = c.is_given-3.ensures;
   explain = c.explain_words.ensures;
 }

@@ -1,0 +1,71 @@
+-- The numbers of a test with the text of JSON between them are the members of its object.
+use Rattle.std.proofs.Common.{◌≡◌, ◌∙◌, List, ℕ, [], ◌∷◌, ◌++◌, codes, decimal, ap, sym, append_assoc, append-nil}
+use Rattle.std.specs.List.{concat}
+use Rattle.bp_test.specs.declared.counts.Counts.{Counts}
+use Rattle.bp_commands.specs.Summaries.{labelled}
+use Rattle.bp_commands.specs.SummaryObjects.{counts_members}
+
+abbrev pub counts_pieces : Counts → List ℕ
+counts_pieces x =
+    concat (
+    labelled (codes ",\"runs\":") x.runs
+    ∷ labelled (codes ",\"calls\":") x.calls
+    ∷ labelled (codes ",\"longest\":") x.longest
+    ∷ labelled (codes ",\"ended\":{\"finished\":") x.ends.finished
+    ∷ labelled (codes ",\"out_of_contexts\":") x.ends.out_of_contexts
+    ∷ labelled (codes ",\"cut_off\":") x.ends.cut_off
+    ∷ labelled (codes ",\"stuck\":") x.ends.stuck
+    ∷ labelled (codes "},\"contexts\":{\"least\":") x.contexts.least
+    ∷ labelled (codes ",\"middle\":") x.contexts.middle
+    ∷ labelled (codes ",\"most\":") x.contexts.most
+    ∷ labelled (codes "},\"statements\":{\"reached\":") x.statements.reached
+    ∷ labelled (codes ",\"all\":") x.statements.all
+    ∷ labelled (codes "},\"assertions\":{\"reached\":") x.assertions.reached
+    ∷ labelled (codes ",\"all\":") x.assertions.all
+    ∷ labelled (codes "},\"threads\":{\"reached\":") x.threads.reached
+    ∷ labelled (codes ",\"all\":") x.threads.all
+    ∷ [])
+
+-- objects of two, three and four numbers, and what follows them
+after_2 : (a b p q e rest : List ℕ) → (p ++ ((a ++ (q ++ (b ++ []))) ++ e)) ++ rest ≡ p ++ (a ++ (q ++ (b ++ (e ++ rest))))
+after_2 a b p q e rest = simp append_assoc
+
+after_3 : (a b c p q r e rest : List ℕ) → (p ++ ((a ++ (q ++ (b ++ (r ++ (c ++ []))))) ++ e)) ++ rest ≡ p ++ (a ++ (q ++ (b ++ (r ++ (c ++ (e ++ rest))))))
+after_3 a b c p q r e rest = simp append_assoc
+
+after_4 : (a b c d p q r s e rest : List ℕ) → (p ++ ((a ++ (q ++ (b ++ (r ++ (c ++ (s ++ (d ++ []))))))) ++ e)) ++ rest ≡ p ++ (a ++ (q ++ (b ++ (r ++ (c ++ (s ++ (d ++ (e ++ rest))))))))
+after_4 a b c d p q r s e rest = simp append_assoc
+
+-- all pieces in turn
+in_turn : (w1 d1 w2 d2 w3 d3 w4 d4 w5 d5 w6 d6 w7 d7 w8 d8 w9 d9 w10 d10 w11 d11 w12 d12 w13 d13 w14 d14 w15 d15 w16 d16 e : List ℕ) → concat (concat (w1 ∷ d1 ∷ []) ∷ concat (w2 ∷ d2 ∷ []) ∷ concat (w3 ∷ d3 ∷ []) ∷ concat (w4 ∷ d4 ∷ []) ∷ concat (w5 ∷ d5 ∷ []) ∷ concat (w6 ∷ d6 ∷ []) ∷ concat (w7 ∷ d7 ∷ []) ∷ concat (w8 ∷ d8 ∷ []) ∷ concat (w9 ∷ d9 ∷ []) ∷ concat (w10 ∷ d10 ∷ []) ∷ concat (w11 ∷ d11 ∷ []) ∷ concat (w12 ∷ d12 ∷ []) ∷ concat (w13 ∷ d13 ∷ []) ∷ concat (w14 ∷ d14 ∷ []) ∷ concat (w15 ∷ d15 ∷ []) ∷ concat (w16 ∷ d16 ∷ []) ∷ []) ++ e ≡ w1 ++ (d1 ++ (w2 ++ (d2 ++ (w3 ++ (d3 ++ (w4 ++ (d4 ++ (w5 ++ (d5 ++ (w6 ++ (d6 ++ (w7 ++ (d7 ++ (w8 ++ (d8 ++ (w9 ++ (d9 ++ (w10 ++ (d10 ++ (w11 ++ (d11 ++ (w12 ++ (d12 ++ (w13 ++ (d13 ++ (w14 ++ (d14 ++ (w15 ++ (d15 ++ (w16 ++ (d16 ++ e)))))))))))))))))))))))))))))))
+in_turn w1 d1 w2 d2 w3 d3 w4 d4 w5 d5 w6 d6 w7 d7 w8 d8 w9 d9 w10 d10 w11 d11 w12 d12 w13 d13 w14 d14 w15 d15 w16 d16 e = simp (append_assoc, append-nil)
+
+pub pieces_are : (x : Counts) → counts_pieces x ++ codes "}" ≡ counts_members x
+pieces_are x =
+    let runs = decimal x.runs in
+    let calls = decimal x.calls in
+    let longest = decimal x.longest in
+    let finished = decimal x.ends.finished in
+    let refused = decimal x.ends.out_of_contexts in
+    let cut = decimal x.ends.cut_off in
+    let stuck = decimal x.ends.stuck in
+    let least = decimal x.contexts.least in
+    let middle = decimal x.contexts.middle in
+    let most = decimal x.contexts.most in
+    let statements = decimal x.statements.reached in
+    let all_statements = decimal x.statements.all in
+    let assertions = decimal x.assertions.reached in
+    let all_assertions = decimal x.assertions.all in
+    let threads = decimal x.threads.reached in
+    let all_threads = decimal x.threads.all in
+    let ended = codes ",\"ended\":{\"finished\":" ++ ((finished ++ (codes ",\"out_of_contexts\":" ++ (refused ++ (codes ",\"cut_off\":" ++ (cut ++ (codes ",\"stuck\":" ++ (stuck ++ []))))))) ++ codes "}") in
+    let contexts = codes ",\"contexts\":{\"least\":" ++ ((least ++ (codes ",\"middle\":" ++ (middle ++ (codes ",\"most\":" ++ (most ++ []))))) ++ codes "}") in
+    let of_statements = codes ",\"statements\":{\"reached\":" ++ ((statements ++ (codes ",\"all\":" ++ (all_statements ++ []))) ++ codes "}") in
+    let of_assertions = codes ",\"assertions\":{\"reached\":" ++ ((assertions ++ (codes ",\"all\":" ++ (all_assertions ++ []))) ++ codes "}") in
+    let of_threads = codes ",\"threads\":{\"reached\":" ++ ((threads ++ (codes ",\"all\":" ++ (all_threads ++ []))) ++ codes "}") in
+    in_turn (codes ",\"runs\":") runs (codes ",\"calls\":") calls (codes ",\"longest\":") longest (codes ",\"ended\":{\"finished\":") finished (codes ",\"out_of_contexts\":") refused (codes ",\"cut_off\":") cut (codes ",\"stuck\":") stuck (codes "},\"contexts\":{\"least\":") least (codes ",\"middle\":") middle (codes ",\"most\":") most (codes "},\"statements\":{\"reached\":") statements (codes ",\"all\":") all_statements (codes "},\"assertions\":{\"reached\":") assertions (codes ",\"all\":") all_assertions (codes "},\"threads\":{\"reached\":") threads (codes ",\"all\":") all_threads (codes "}")
+    ∙ sym (ap (λ y. codes ",\"runs\":" ++ (runs ++ (codes ",\"calls\":" ++ (calls ++ (codes ",\"longest\":" ++ (longest ++ y)))))) (after_4 finished refused cut stuck (codes ",\"ended\":{\"finished\":") (codes ",\"out_of_contexts\":") (codes ",\"cut_off\":") (codes ",\"stuck\":") (codes "}") (contexts ++ (of_statements ++ (of_assertions ++ (of_threads ++ []))))
+    ∙ ap (λ y. codes ",\"ended\":{\"finished\":" ++ (finished ++ (codes ",\"out_of_contexts\":" ++ (refused ++ (codes ",\"cut_off\":" ++ (cut ++ (codes ",\"stuck\":" ++ (stuck ++ (codes "}" ++ y))))))))) (after_3 least middle most (codes ",\"contexts\":{\"least\":") (codes ",\"middle\":") (codes ",\"most\":") (codes "}") (of_statements ++ (of_assertions ++ (of_threads ++ [])))
+    ∙ ap (λ y. codes ",\"contexts\":{\"least\":" ++ (least ++ (codes ",\"middle\":" ++ (middle ++ (codes ",\"most\":" ++ (most ++ (codes "}" ++ y))))))) (after_2 statements all_statements (codes ",\"statements\":{\"reached\":") (codes ",\"all\":") (codes "}") (of_assertions ++ (of_threads ++ []))
+    ∙ ap (λ y. codes ",\"statements\":{\"reached\":" ++ (statements ++ (codes ",\"all\":" ++ (all_statements ++ (codes "}" ++ y))))) (after_2 assertions all_assertions (codes ",\"assertions\":{\"reached\":") (codes ",\"all\":") (codes "}") (of_threads ++ [])
+    ∙ ap (λ y. codes ",\"assertions\":{\"reached\":" ++ (assertions ++ (codes ",\"all\":" ++ (all_assertions ++ (codes "}" ++ y))))) (after_2 threads all_threads (codes ",\"threads\":{\"reached\":") (codes ",\"all\":") (codes "}") []))))))
