@@ -1,5 +1,5 @@
 -- The numbers of a test with the text of JSON between them are the members of its object.
-use Rattle.std.proofs.Common.{◌≡◌, ◌∙◌, List, ℕ, [], ◌∷◌, ◌++◌, codes, decimal, ap, sym, append_assoc, append-nil}
+use Rattle.std.proofs.Common.{◌≡◌, ◌∙◌, List, ℕ, [], ◌∷◌, ◌++◌, codes, decimal, ap, refl, sym, append_assoc, append-nil}
 use Rattle.std.specs.List.{concat}
 use Rattle.bp_test.specs.declared.counts.Counts.{Counts}
 use Rattle.bp_commands.specs.Summaries.{labelled}
@@ -36,9 +36,21 @@ after_3 a b c p q r e rest = simp append_assoc
 after_4 : (a b c d p q r s e rest : List ℕ) → (p ++ ((a ++ (q ++ (b ++ (r ++ (c ++ (s ++ (d ++ []))))))) ++ e)) ++ rest ≡ p ++ (a ++ (q ++ (b ++ (r ++ (c ++ (s ++ (d ++ (e ++ rest))))))))
 after_4 a b c d p q r s e rest = simp append_assoc
 
--- all pieces in turn
-in_turn : (w1 d1 w2 d2 w3 d3 w4 d4 w5 d5 w6 d6 w7 d7 w8 d8 w9 d9 w10 d10 w11 d11 w12 d12 w13 d13 w14 d14 w15 d15 w16 d16 e : List ℕ) → concat (concat (w1 ∷ d1 ∷ []) ∷ concat (w2 ∷ d2 ∷ []) ∷ concat (w3 ∷ d3 ∷ []) ∷ concat (w4 ∷ d4 ∷ []) ∷ concat (w5 ∷ d5 ∷ []) ∷ concat (w6 ∷ d6 ∷ []) ∷ concat (w7 ∷ d7 ∷ []) ∷ concat (w8 ∷ d8 ∷ []) ∷ concat (w9 ∷ d9 ∷ []) ∷ concat (w10 ∷ d10 ∷ []) ∷ concat (w11 ∷ d11 ∷ []) ∷ concat (w12 ∷ d12 ∷ []) ∷ concat (w13 ∷ d13 ∷ []) ∷ concat (w14 ∷ d14 ∷ []) ∷ concat (w15 ∷ d15 ∷ []) ∷ concat (w16 ∷ d16 ∷ []) ∷ []) ++ e ≡ w1 ++ (d1 ++ (w2 ++ (d2 ++ (w3 ++ (d3 ++ (w4 ++ (d4 ++ (w5 ++ (d5 ++ (w6 ++ (d6 ++ (w7 ++ (d7 ++ (w8 ++ (d8 ++ (w9 ++ (d9 ++ (w10 ++ (d10 ++ (w11 ++ (d11 ++ (w12 ++ (d12 ++ (w13 ++ (d13 ++ (w14 ++ (d14 ++ (w15 ++ (d15 ++ (w16 ++ (d16 ++ e)))))))))))))))))))))))))))))))
-in_turn w1 d1 w2 d2 w3 d3 w4 d4 w5 d5 w6 d6 w7 d7 w8 d8 w9 d9 w10 d10 w11 d11 w12 d12 w13 d13 w14 d14 w15 d15 w16 d16 e = simp (append_assoc, append-nil)
+-- numbers with their words in turn, and what follows them
+abbrev in_turn : List (List ℕ × ℕ) → List ℕ → List ℕ
+in_turn [] e = e
+in_turn (x ∷ xs) e = x.0 ++ (decimal x.1 ++ in_turn xs e)
+
+abbrev pieces : List (List ℕ × ℕ) → List ℕ
+pieces [] = []
+pieces (x ∷ xs) = labelled x.0 x.1 ++ pieces xs
+
+one_piece : (w d rest e : List ℕ) → ((w ++ (d ++ [])) ++ rest) ++ e ≡ w ++ (d ++ (rest ++ e))
+one_piece w d rest e = simp (append_assoc, append-nil)
+
+turned : (xs : List (List ℕ × ℕ)) (e : List ℕ) → pieces xs ++ e ≡ in_turn xs e
+turned [] e = refl
+turned (x ∷ xs) e = one_piece x.0 (decimal x.1) (pieces xs) e ∙ ap (λ y. x.0 ++ (decimal x.1 ++ y)) (turned xs e)
 
 pub pieces_are : (x : Counts) → counts_pieces x ++ codes "}" ≡ counts_members x
 pieces_are x =
@@ -63,7 +75,7 @@ pieces_are x =
     let of_statements = codes ",\"statements\":{\"reached\":" ++ ((statements ++ (codes ",\"all\":" ++ (all_statements ++ []))) ++ codes "}") in
     let of_assertions = codes ",\"assertions\":{\"reached\":" ++ ((assertions ++ (codes ",\"all\":" ++ (all_assertions ++ []))) ++ codes "}") in
     let of_threads = codes ",\"threads\":{\"reached\":" ++ ((threads ++ (codes ",\"all\":" ++ (all_threads ++ []))) ++ codes "}") in
-    in_turn (codes ",\"runs\":") runs (codes ",\"calls\":") calls (codes ",\"longest\":") longest (codes ",\"ended\":{\"finished\":") finished (codes ",\"out_of_contexts\":") refused (codes ",\"cut_off\":") cut (codes ",\"stuck\":") stuck (codes "},\"contexts\":{\"least\":") least (codes ",\"middle\":") middle (codes ",\"most\":") most (codes "},\"statements\":{\"reached\":") statements (codes ",\"all\":") all_statements (codes "},\"assertions\":{\"reached\":") assertions (codes ",\"all\":") all_assertions (codes "},\"threads\":{\"reached\":") threads (codes ",\"all\":") all_threads (codes "}")
+    turned ((codes ",\"runs\":", x.runs) ∷ (codes ",\"calls\":", x.calls) ∷ (codes ",\"longest\":", x.longest) ∷ (codes ",\"ended\":{\"finished\":", x.ends.finished) ∷ (codes ",\"out_of_contexts\":", x.ends.out_of_contexts) ∷ (codes ",\"cut_off\":", x.ends.cut_off) ∷ (codes ",\"stuck\":", x.ends.stuck) ∷ (codes "},\"contexts\":{\"least\":", x.contexts.least) ∷ (codes ",\"middle\":", x.contexts.middle) ∷ (codes ",\"most\":", x.contexts.most) ∷ (codes "},\"statements\":{\"reached\":", x.statements.reached) ∷ (codes ",\"all\":", x.statements.all) ∷ (codes "},\"assertions\":{\"reached\":", x.assertions.reached) ∷ (codes ",\"all\":", x.assertions.all) ∷ (codes "},\"threads\":{\"reached\":", x.threads.reached) ∷ (codes ",\"all\":", x.threads.all) ∷ []) (codes "}")
     ∙ sym (ap (λ y. codes ",\"runs\":" ++ (runs ++ (codes ",\"calls\":" ++ (calls ++ (codes ",\"longest\":" ++ (longest ++ y)))))) (after_4 finished refused cut stuck (codes ",\"ended\":{\"finished\":") (codes ",\"out_of_contexts\":") (codes ",\"cut_off\":") (codes ",\"stuck\":") (codes "}") (contexts ++ (of_statements ++ (of_assertions ++ (of_threads ++ []))))
     ∙ ap (λ y. codes ",\"ended\":{\"finished\":" ++ (finished ++ (codes ",\"out_of_contexts\":" ++ (refused ++ (codes ",\"cut_off\":" ++ (cut ++ (codes ",\"stuck\":" ++ (stuck ++ (codes "}" ++ y))))))))) (after_3 least middle most (codes ",\"contexts\":{\"least\":") (codes ",\"middle\":") (codes ",\"most\":") (codes "}") (of_statements ++ (of_assertions ++ (of_threads ++ [])))
     ∙ ap (λ y. codes ",\"contexts\":{\"least\":" ++ (least ++ (codes ",\"middle\":" ++ (middle ++ (codes ",\"most\":" ++ (most ++ (codes "}" ++ y))))))) (after_2 statements all_statements (codes ",\"statements\":{\"reached\":") (codes ",\"all\":") (codes "}") (of_assertions ++ (of_threads ++ []))
