@@ -181,7 +181,7 @@ module _ (t : Program) (text trace : List ℕ) (o : ViewOptions) (old new : Opti
     pub asked : o.thread ≡ Some i
     pub past : threads replayed.setup ≤ i
 
-  -- the trace has the thread that is asked for, but name n of the watched ones is none of a variable
+  -- the trace has the thread that is asked for, but no variable has name n of the watched names
   pub record HasNoVariable (n : ℕ) : Type 0 where
     pub replayed : Replayed
     pub is : IsReplayed t trace replayed

@@ -50,8 +50,8 @@ fn push_state(
     Ok(())
 }
 
-/// The foot of the view of a history with this report, after which the session stands, and the state
-/// of the session where it is asked for.
+/// The foot of the view of a history with this report, and the state after it where that is asked
+/// for. The session stands after the history.
 pub(crate) fn end_of(
     alloc: Global,
     setting: &Setting<'_>,

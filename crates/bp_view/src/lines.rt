@@ -216,7 +216,7 @@ pub(crate) fn place_of<'a>(scene: Option<&'a Scene>) -> &'a [u8]
     }
 }
 
-/// Adds what the columns show of a call, in a line for this many calls. `note` is room for its note.
+/// Adds what the columns show of a call, in a line for this many calls. `note` is room for the note.
 fn push_call(
     line: &mut Vec<u8>,
     note: &mut Vec<u8>,
@@ -245,8 +245,8 @@ fn push_call(
     Ok(())
 }
 
-/// Adds the line of a call, which stands for this many calls, in colour where that is wanted and the
-/// call is a failure or a switch. `note` is room for the call's note.
+/// Adds the line of a call, which stands for this many calls. It is in colour where that is wanted
+/// and the call is a failure or a switch. `note` is room for the call's note.
 pub(crate) fn push_line(
     line: &mut Vec<u8>,
     note: &mut Vec<u8>,

@@ -93,7 +93,8 @@ fn push_object_line(
     Ok(())
 }
 
-/// Adds the line of a call in the format of the view; in columns it stands for this many calls. `note` is room for the call's note.
+/// Adds the line of a call in the format of the view. In columns it stands for this many calls.
+/// `note` is room for the call's note.
 fn push_view_line(
     view: &mut Vec<u8>,
     note: &mut Vec<u8>,

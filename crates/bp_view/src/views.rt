@@ -104,11 +104,12 @@ fn write_view<W: Write>(
 }
 
 /// Writes a view of the history of a trace of a program, and answers its report. The view has the
-/// setup, a line for each call that is shown, the foot, and the state after the last call where that
-/// is asked for. A text that is no trace of the program
-/// is refused as `replay` refuses it, then a thread that is not there, then a watched name that no
-/// variable has; and nothing is written. The
-/// lines are written as they are made, after the trace was replayed.
+/// setup, a line for each call that is shown, and the foot. The state after the last call follows
+/// where it is asked for. The lines are written as they are made, after the trace was replayed.
+///
+/// A text that is no trace of the program is refused as `replay` refuses it. Then a thread is
+/// refused that is not there, and then a watched name that no variable has. Nothing is written of a
+/// refused one.
 pub fn view<W: Write>(
     alloc: Global,
     text: &[u8],

@@ -42,8 +42,9 @@ impl ViewWriter<'_> {
             → IsSettingOf t text self.old.setting
             → let s = self.old.session.setup in
             let x = self.old.setting in
-            OnOk result
-            (IsShownLine t text s x.options x.widths x.history.now h recorded.now self.new.line.items) }
+            let whole = x.history.now in
+            let line = self.new.line.items in
+            OnOk result (IsShownLine t text s x.options x.widths whole h recorded.now line) }
         ensures memory { (t : Program) (h : List Answered)
             → HasMade t h self.old
             → IsPlayable t self.old.session.setup (h ++ recorded.now ∷ [])

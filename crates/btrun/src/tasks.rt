@@ -308,8 +308,8 @@ fn on_shown<C: PairCommand, F: Files, W: Write + Drop, E: Write>(
     run_on_pair(alloc, command, files, path, trace, format, out, errors)
 }
 
-/// Shows the trace of a file: the state after so many calls where one is asked for, else the
-/// contexts where they are, else the calls.
+/// Shows the trace of a file: the state after a number of calls, its contexts, or its calls, by the
+/// first of these that is asked for.
 fn show_as_asked<F: Files, W: Write + Drop, E: Write>(
     alloc: Global,
     files: &F,
