@@ -151,8 +151,8 @@ states format n = on_trace (IsStateOf format n)
 abbrev pub lists_contexts : ViewFormat → Command Pair Report
 lists_contexts format = on_trace (AreContextsOf format)
 
--- one of the three: the state after so many calls where a number is asked for, else the contexts
--- where they are, else the calls
+-- The first of these that is asked for: the state after a number of calls, the contexts. If none
+-- is, the calls.
 abbrev pub shows_as : ViewOptions → (contexts : Bool) → Option ℕ → Command Pair Report
 shows_as o contexts (Some n) = states o.format n
 shows_as o true None = lists_contexts o.format
