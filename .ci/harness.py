@@ -67,7 +67,7 @@ class Report:
     """Counts tests, and prints a line for each that is told."""
 
     def __init__(self):
-        self.passed = self.failed = 0
+        self.passed = self.failed = self.skipped = 0
 
     def count(self, is_passed):
         """Counts a test without a line."""
@@ -81,7 +81,12 @@ class Report:
         print("%s ... %s" % (name, wrong or told))
         self.count(not wrong)
 
+    def skip(self, name, tool):
+        """Counts a test that is left out, since this machine does not have its tool."""
+        print("skipped: %s wants %s" % (name, tool))
+        self.skipped += 1
+
     def end(self):
-        """Prints the closing count. The exit status is 0 if there were tests and all passed."""
-        print("%d passed, %d failed" % (self.passed, self.failed))
+        """Prints the closing count. The exit status is 0 if there were tests and none failed."""
+        print("%d passed, %d failed, %d skipped" % (self.passed, self.failed, self.skipped))
         return 1 if self.failed or not self.passed else 0

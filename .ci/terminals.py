@@ -1,9 +1,7 @@
-#!/usr/bin/env python3
-"""Runs the built program on a terminal and off it, and looks at colours, progress and explanations.
+"""Runs the built program on a terminal and off it, and looks at colours, progress and explanations. It is a part of
+.ci/cases.
 
-Usage: .ci/terminals [PROGRAM]
-
-PROGRAM is crates/btrun/out/btrun if left out. The terminal is a pseudoterminal. A failure is red and a switch is
+The terminal is a pseudoterminal. A failure is red and a switch is
 yellow there, unless NO_COLOR is set to a text; elsewhere nothing has a colour. A line of progress is shown and cleared
 there, unless NO_PROGRESS is set to a text; elsewhere there is none. A fault is explained there, unless --no-explain is
 given; elsewhere it is only with --explain.
@@ -12,7 +10,6 @@ import os
 import pty
 import re
 import subprocess
-import sys
 import tempfile
 from pathlib import Path
 
@@ -114,8 +111,8 @@ def test_waiting(report, program):
     report.tell("waiting off a terminal", "" if told == fault else "said %r" % told)
 
 
-def main():
-    program, report = harness.program_under_test(), harness.Report()
+def test_terminals(report, program):
+    """Looks at what the program prints on a terminal and off it."""
     bare = {name: value for name, value in os.environ.items() if name not in ("NO_COLOR", "NO_PROGRESS")}
     with tempfile.TemporaryDirectory() as room:
         for name, text in (("p.bp", PROGRAM), ("clean.bp", CLEAN), ("empty.bp", EMPTY), ("failed", TRACE), ("clean", OTHER)):
@@ -133,8 +130,3 @@ def main():
                 ("with NO_COLOR empty", shown_on_terminal(words, {**bare, "NO_COLOR": ""}), painted(plain, colour)),
             ):
                 report.tell("terminal %s %s" % (trace, told), "" if printed == wanted else "printed %r" % printed)
-    return report.end()
-
-
-if __name__ == "__main__":
-    sys.exit(main())
