@@ -201,25 +201,6 @@ impl Session {
         self.prepare_given(thread, None)
     }
 
-    /// The same where the setup has no seed: answers the call that `ask_with` would answer.
-    pub fn prepare_with(&mut self, thread: u32, bit: bool) -> Result<Call, AskFault>
-        ensures answer { (t : Program) (h : List Answered)
-            → StandsFor self.old.code t
-            → Stands t self.old h
-            → MatchResult result
-            (IsNextCall t self.old.setup h thread (Some bit))
-            (IsAskRefusal t self.old.setup h thread (Some bit)) }
-        ensures asked { IfOk result (λ c. (c.thread ≡ thread) × (c.bit ≡ bit)) }
-        ensures stands { (t : Program) (h : List Answered)
-            → Stands t self.old h
-            → Stands t self.new h }
-        ensures ready { IfOk result (λ c. self.new.ready ≡ Some c) }
-        ensures kept { (self.new.code ≡ self.old.code) × (self.new.setup ≡ self.old.setup) }
-        ensures same { OnErr result (self.new ≡ self.old) }
-    {
-        self.prepare_given(thread, Some(bit))
-    }
-
     /// Makes the call that the session is prepared for.
     pub fn commit(&mut self, call: &Call)
         requires { self.old.ready ≡ Some call.now }

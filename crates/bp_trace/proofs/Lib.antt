@@ -8,7 +8,6 @@ mod HeadStopsAt
 mod HeadTexts
 mod InitBits
 mod Joined
-mod EndCounts
 mod LineThread
 pub mod LinesDriveAgain
 mod LinesOfHistory

@@ -5,7 +5,6 @@
 mod body_lines;
 mod call_lines;
 mod driving;
-mod end_counts;
 mod end_lines;
 mod faults;
 mod heads;
@@ -26,7 +25,6 @@ mod watchers;
 
 pub use call_lines::write_call;
 pub use driving::drive;
-pub use end_counts::calls_at_end;
 pub use faults::DriveFault;
 pub use judging::Printed;
 pub use laws::{
