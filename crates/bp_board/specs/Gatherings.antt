@@ -1,5 +1,5 @@
 -- What a board is gathered to.
-use Rattle.std.specs.Prelude.{◌≡◌, ◌<◌, ◌==◌, ◌↔◌, IsTrue, ℕ, Bool, List, ◌++◌, length, not, Some}
+use Rattle.std.specs.Prelude.{◌≡◌, ◌<◌, ◌==◌, ◌↔◌, IsTrue, ℕ, Bool, List, ◌++◌, length, not, Option, Some}
 use Rattle.std.specs.List.{sum_by, count_by, All}
 use Rattle.bp_tree.specs.Ast.{Program}
 use Rattle.bp_code.specs.Flat.{Flat}
@@ -10,7 +10,7 @@ use Rattle.bp_machine.specs.Reports.{IsReport}
 use Rattle.bp_machine.specs.SeededHistories.{HasSeededBits}
 use Rattle.bp_machine.specs.Setups.{SetupOf, threads}
 use Rattle.bp_board.specs.Seats.{SeatOf, open_amount}
-use Rattle.bp_board.specs.Stopping.{HaveStopped}
+use Rattle.bp_board.specs.Stopping.{TellsEarly}
 use Rattle.bp_board.specs.Taps.{TapOf}
 
 abbrev pub calls_of_seats : List SeatOf → ℕ
@@ -44,11 +44,11 @@ pub record AreOwn
 
 -- What was taken and what is left are one legal history, with the bits of the seed, which the
 -- report is of; the tap gives what is left. The seats are one for each thread, and together they
--- have its calls and its open lines. It is said whether each open line stands before a call, and
--- whether each seat agrees with the history.
+-- have its calls and its open lines. It is said which thread stopped early, if one did, and whether
+-- each seat agrees with the history.
 pub record IsGathered
     (t : Program) (s : SetupOf) (taken : List Call) (seats : List SeatOf) (tap : TapOf) (r : Report)
-    (has_stopped agree : Bool)
+    (early : Option ℕ) (agree : Bool)
     : Type 0 where
   pub left : List Call
   pub rest : tap.rest ≡ Some left
@@ -59,5 +59,5 @@ pub record IsGathered
   pub one_each : AreOnePerThread (threads s) seats
   pub calls : calls_of_seats seats ≡ length (taken ++ left)
   pub open_are : open_seats seats ≡ r.left_open
-  pub stops : IsTrue has_stopped ↔ HaveStopped t s (taken ++ left)
+  pub stops : TellsEarly t s (taken ++ left) early
   pub agreement : IsTrue agree ↔ AreSeatsOf s (taken ++ left) seats

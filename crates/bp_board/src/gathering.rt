@@ -11,7 +11,7 @@ use crate::boards::Board;
 use crate::desks::Desk;
 use crate::ledgers::Calls;
 use crate::seats::Seat;
-use crate::stopping::have_stopped;
+use crate::stopping::stopped_early;
 use crate::taps::Tap;
 use bp_code::Code;
 use bp_machine::{Report, Session, Setup};
@@ -24,14 +24,14 @@ use thiserror::Error;
 pub struct Foreign;
 
 /// A gathered board: the seats, the tap, which gives what was not taken yet, the report of the
-/// history, whether each line that is open stands before a call, and whether each seat agrees with
-/// the machine on the calls of its thread, and on whether its line is finished.
+/// history, the first thread whose line is open although its next step is no call, and whether each
+/// seat agrees with the machine on the calls of its thread, and on whether its line is finished.
 #[derive(Drop)]
 pub struct Gathered<C: Calls, O: Ledger> {
     pub seats: Vec<Seat<C, O>>,
     pub tap: Tap<C>,
     pub report: Report,
-    pub has_stopped: bool,
+    pub early: Option<u32>,
     pub agree: bool,
 }
 
@@ -166,7 +166,7 @@ fn joined<C: Calls, O: Ledger>(
     ensures gathered { (t : Program)
         → StandsFor code.now t
         → IfOk result (λ g.
-        IsGathered t setup.now tap.taken seats.items g.tap g.report g.has_stopped g.agree) }
+        IsGathered t setup.now tap.taken seats.items g.tap g.report g.early g.agree) }
 {
     let Desk {
         session,
@@ -207,7 +207,7 @@ fn joined<C: Calls, O: Ledger>(
         line,
     });
     let agree = agree(&session, seats.as_slice());
-    let has_stopped = have_stopped(&session);
+    let early = stopped_early(&session);
     let report = session.report();
     let Tap {
         mut from,
@@ -220,7 +220,7 @@ fn joined<C: Calls, O: Ledger>(
         seats,
         tap,
         report,
-        has_stopped,
+        early,
         agree,
     })
 }
@@ -237,12 +237,13 @@ pub fn gather<C: Calls, O: Ledger>(
     code: &Code,
     setup: &Setup,
 ) -> Result<Gathered<C, O>, Foreign>
+    ensures own { OnOk result (AreOwn C.code C.setup seats.items code.now setup.now) }
     ensures foreign { OnErr result (AreOwn C.code C.setup seats.items code.now setup.now → ⊥) }
     ensures seats { IfOk result (λ g. g.seats.items ≡ seats.items) }
     ensures gathered { (t : Program)
         → StandsFor code.now t
         → IfOk result (λ g.
-        IsGathered t setup.now tap.taken seats.items g.tap g.report g.has_stopped g.agree) }
+        IsGathered t setup.now tap.taken seats.items g.tap g.report g.early g.agree) }
 {
     let Board { desk } = board;
     let desk = desk.into_inner();

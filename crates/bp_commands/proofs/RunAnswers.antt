@@ -2,7 +2,7 @@
 use Rattle.std.proofs.Common.{◌≡◌, refl, sym, subst, inl, inr, List, ℕ, Option}
 use Rattle.std.specs.Io.KnownBytes.{Keeps}
 use Rattle.std.proofs.KnownBytes.{Keeps-refl}
-use Rattle.bp_machine.specs.declared.reports.Report.{Report}
+use Rattle.bp_run.specs.declared.answers.RunReport.{RunReport}
 use Rattle.bp_run.specs.declared.run_faults.RunFault.{RunFault}
 use Rattle.bp_run.specs.declared.run_faults.RunFault.TheVariants as run
 use Rattle.bp_run.specs.Options.{OptionsOf, setup_under}
@@ -14,9 +14,10 @@ use Rattle.bp_commands.specs.declared.faults.Fault.TheVariants.{Early}
 use Rattle.bp_commands.specs.Runs.{runs, IsRunReport, IsEarly}
 
 module _ (o : OptionsOf) (text : List ℕ) (old new : Option (List ℕ)) where
-  pub done : (r : Report) → IsTracedRun o text old new r → IsDoneWith (runs o) old new text r
+  pub done : (r : RunReport) → IsTracedRun o text old new r → IsDoneWith (runs o) old new text r
   done r is =
-      let played = is.has.played in
+      let from = is.has.played in
+      let played = from.played in
       let written = trace_text (setup_under o is.program) played.history in
       let reports : IsRunReport o text written r = record {
         program = is.program;
@@ -24,15 +25,21 @@ module _ (o : OptionsOf) (text : List ℕ) (old new : Option (List ℕ)) where
         has = record {
           fine = is.has.fine;
           played = record {
-            history = played.history;
-            written = refl;
-            report = played.report;
-            legal = played.legal;
-            seeded = played.seeded;
-            steps = played.steps;
-            within = played.within;
-            failure = played.failure;
-            stopped = played.stopped;
+            played = record {
+              history = played.history;
+              written = refl;
+              report = played.report;
+              legal = played.legal;
+              seeded = played.seeded;
+              steps = played.steps;
+              within = played.within;
+              failure = played.failure;
+              stopped = played.stopped;
+            };
+            one_each = from.one_each;
+            made = from.made;
+            left = from.left;
+            agreement = from.agreement;
           };
         };
       } in
@@ -48,23 +55,21 @@ module _ (o : OptionsOf) (text : List ℕ) (old new : Option (List ℕ)) where
   refused run.Memory found = inl (kept found.0, inr (inr (inl (refl, found.1))))
   refused run.Start found =
       inl (kept found.has.refused, inr (inr (inr (record { runnable = record { program = found.program; of = found.of; has = found.has.fine }; is = refl }))))
-  refused run.Early found =
+  refused (run.Early i) found =
       let stopped = found.has.refused in
       let written = trace_text (setup_under o found.program) stopped.history in
-      let early : IsEarly o text written Early = record {
+      let early : IsEarly o text written (Early i) = record {
+        thread = i;
         stopped = record {
           program = found.program;
           of = found.of;
           has = record {
             fine = found.has.fine;
-            seats = found.has.seats;
             refused = record {
               history = stopped.history;
               legal = stopped.legal;
               seeded = stopped.seeded;
               written = refl;
-              one_each = stopped.one_each;
-              made = stopped.made;
               early = stopped.early;
             };
           };

@@ -4,6 +4,7 @@ use Rattle.bp_text.specs.Writing.{AppendsAll, AppendsPart}
 use Rattle.bp_machine.specs.declared.reports.Outcome.{Outcome}
 use Rattle.bp_machine.specs.declared.reports.Outcome.TheVariants.{Clean, Failed}
 use Rattle.bp_machine.specs.declared.reports.Report.{Report}
+use Rattle.bp_run.specs.declared.answers.RunReport.{RunReport}
 use Rattle.bp_commands.specs.declared.faults.Fault.{Fault}
 use Rattle.bp_commands.specs.FaultTable.{fault_line, status_of}
 
@@ -24,6 +25,10 @@ pub record Ending (T : Type 0) : Type 0 where
 -- a report has no summary
 abbrev pub of_report : Ending Report
 of_report = record { failed = report_failed; summary = λ _. [] }
+
+-- nor has what a run by workers answers
+abbrev pub of_run : Ending RunReport
+of_run = record { failed = λ r. report_failed r.report; summary = λ _. [] }
 
 -- no assertion fails, and there is no summary
 abbrev pub never : {T : Type 0} → Ending T

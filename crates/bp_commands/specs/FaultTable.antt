@@ -103,7 +103,7 @@ fault_row (fault.NoThread i) = row 36 (codes "NoThread") (Thread i)
 fault_row (fault.NoVariable n) = row 57 (codes "NoVariable") Nothing
 fault_row fault.NoFailure = row 56 (codes "NoFailure") Nothing
 fault_row fault.Start = row 53 (codes "Start") Nothing
-fault_row fault.Early = row 55 (codes "Early") Nothing
+fault_row (fault.Early k) = row 55 (codes "Early") (Thread k)
 fault_row fault.Write = write_row
 fault_row fault.Memory = memory_row
 

@@ -76,7 +76,7 @@ abbrev pub fault_of_run : RunFault → Fault
 fault_of_run (run.Program f) = fault_of_program f
 fault_of_run (run.Setup f) = fault_of_setup f
 fault_of_run run.Start = Start
-fault_of_run run.Early = Early
+fault_of_run (run.Early i) = Early i
 fault_of_run run.Write = Write
 fault_of_run run.Memory = Memory
 

@@ -1,10 +1,10 @@
 -- The command `run`.
 use Rattle.std.specs.Prelude.{◌≡◌, ◌⊎◌, ℕ, List, [], None, Some}
 use Rattle.bp_machine.specs.declared.calls.Call.{Call}
-use Rattle.bp_machine.specs.declared.reports.Report.{Report}
 use Rattle.bp_machine.specs.declared.setup_faults.SetupFault.{SetupFault}
 use Rattle.bp_machine.specs.Histories.{IsLegal}
 use Rattle.bp_machine.specs.SeededHistories.{HasSeededBits}
+use Rattle.bp_run.specs.declared.answers.RunReport.{RunReport}
 use Rattle.bp_run.specs.declared.run_faults.RunFault.TheVariants as run
 use Rattle.bp_run.specs.Options.{OptionsOf, setup_under, options_fault, IsOptionsRefusal}
 use Rattle.bp_run.specs.Runs.{OfProgram, IsTracedRun, IsRefusedInPlay}
@@ -30,7 +30,7 @@ module _ (o : OptionsOf) (text : List ℕ) where
     pub is : written ≡ trace_text (setup_under o runnable.program) history
 
   -- what an empty output has after a run with this report
-  abbrev pub IsRunReport : List ℕ → Report → Type 0
+  abbrev pub IsRunReport : List ℕ → RunReport → Type 0
   IsRunReport written report = IsTracedRun o text (Some []) (Some written) report
 
   -- the options are refused for the program of the text
@@ -50,8 +50,9 @@ module _ (o : OptionsOf) (text : List ℕ) where
 
   -- what an empty output has after a run in which a worker stopped early: the trace of a history
   pub record IsEarly (written : List ℕ) (f : Fault) : Type 0 where
-    pub stopped : IsRefusedInPlay o text (Some []) (Some written) run.Early
-    pub is : f ≡ Early
+    pub thread : ℕ
+    pub stopped : IsRefusedInPlay o text (Some []) (Some written) (run.Early thread)
+    pub is : f ≡ Early thread
 
   abbrev pub IsRunRefused : Fault → Type 0
   IsRunRefused f =
@@ -61,7 +62,7 @@ module _ (o : OptionsOf) (text : List ℕ) where
       ⊎ IsNotStarted f))
 
 -- it writes the trace of the history that the workers make
-abbrev pub runs : OptionsOf → Command (List ℕ) Report
+abbrev pub runs : OptionsOf → Command (List ℕ) RunReport
 runs o = record {
   Writes = IsOfRun o;
   Reports = IsRunReport o;

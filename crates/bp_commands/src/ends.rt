@@ -1,10 +1,11 @@
 //! How a run ends: the line on standard error, and the exit status.
 ghost use Rattle.std.specs.Prelude.{◌≡◌};
-ghost use Rattle.bp_commands.specs.Ends.{Ending, Ends, HasFaultLine, HasSummary, never, of_report};
+ghost use Rattle.bp_commands.specs.Ends.{Ending, Ends, HasFaultLine, HasSummary, never, of_report, of_run};
 
 use crate::fault_lines::show_fault;
 use crate::faults::Fault;
 use bp_machine::{Outcome, Report};
+use bp_run::RunReport;
 use std::io::Write;
 
 /// What a command answers.
@@ -36,6 +37,16 @@ impl Ended for Report {
 
     fn has_failed(&self) -> bool {
         matches!(self.outcome, Outcome::Failed { .. })
+    }
+
+    fn summarize<E: Write>(&self, _errors: &mut E) {}
+}
+
+impl Ended for RunReport {
+    ghost ending = { of_run };
+
+    fn has_failed(&self) -> bool {
+        self.report.has_failed()
     }
 
     fn summarize<E: Write>(&self, _errors: &mut E) {}

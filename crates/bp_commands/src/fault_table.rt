@@ -160,7 +160,7 @@ impl Fault {
             Fault::NoVariable(_) => new_row(57, b"NoVariable", Detail::Nothing),
             Fault::NoFailure => new_row(56, b"NoFailure", Detail::Nothing),
             Fault::Start => new_row(53, b"Start", Detail::Nothing),
-            Fault::Early => new_row(55, b"Early", Detail::Nothing),
+            Fault::Early(thread) => new_row(55, b"Early", Detail::Thread(*thread)),
             Fault::Write => write_row(),
             Fault::Memory => memory_row(),
         }

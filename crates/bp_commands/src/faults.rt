@@ -46,9 +46,10 @@ pub enum Fault {
     /// A worker could not be started.
     #[error("a worker could not be started")]
     Start,
-    /// A worker stopped although its thread could continue. The trace is written.
-    #[error("a worker stopped before its thread was finished")]
-    Early,
+    /// The worker of this thread stopped although the line is open and the next step takes no
+    /// memory. The trace is written.
+    #[error("the worker of thread {0} stopped before the thread was finished")]
+    Early(u32),
     /// The output could not be written.
     #[error("the output could not be written")]
     Write,
@@ -211,7 +212,7 @@ impl From<RunFault> for Fault {
             RunFault::Program(fault) => Fault::from(fault),
             RunFault::Setup(fault) => Fault::from(fault),
             RunFault::Start => Fault::Start,
-            RunFault::Early => Fault::Early,
+            RunFault::Early(thread) => Fault::Early(thread),
             RunFault::Write => Fault::Write,
             RunFault::Memory => Fault::Memory,
         }

@@ -7,8 +7,7 @@ ghost use Rattle.bp_commands.specs.Runs.{runs};
 
 use crate::faults::Fault;
 use crate::inputs::{Source, read_text};
-use bp_machine::Report;
-use bp_run::{Gate, RunOptions, run};
+use bp_run::{Gate, RunOptions, RunReport, run};
 use std::alloc::Global;
 use std::io::{Read, Write};
 use std::sync::Wait;
@@ -24,7 +23,7 @@ pub fn run_text<G: Gate, W: Write, T: Threads + Wait + Clock + Sync>(
     gate: &G,
     text: &[u8],
     out: &mut W,
-) -> Result<Report, Fault>
+) -> Result<RunReport, Fault>
     ensures { AnswersOf (runs options.now) text.now
         (W.contents out.old) (W.contents out.new) result }
 {
@@ -39,7 +38,7 @@ pub fn run_program<G: Gate, R: Read, W: Write, T: Threads + Wait + Clock + Sync>
     gate: &G,
     program: &mut Source<R>,
     out: &mut W,
-) -> Result<Report, Fault>
+) -> Result<RunReport, Fault>
     ensures answers { let inputs = text_alone
         (R.remaining program.old.reader) (R.remaining program.new.reader) in
         Answers (runs options.now) inputs (W.contents out.old) (W.contents out.new) result }

@@ -1,7 +1,7 @@
 //! Runs of the commands, from the paths of their files to the exit status.
 ghost use Rattle.std.specs.Io.Buffered.{writer_contents};
 ghost use Rattle.bp_commands.specs.Bundles.{bundles};
-ghost use Rattle.bp_commands.specs.Ends.{of_report};
+ghost use Rattle.bp_commands.specs.Ends.{of_report, of_run};
 ghost use Rattle.bp_commands.specs.Files.{pair_of_files, IsRun};
 ghost use Rattle.bp_commands.specs.Given.{bundle_alone, text_alone};
 ghost use Rattle.bp_commands.specs.Runs.{runs};
@@ -79,7 +79,7 @@ pub fn run_by_workers<
 ) -> (u8, W)
     ensures { let inputs = text_alone (F.bytes files.now path.now) in
         let old = writer_contents W.contents out in
-        IsRun (runs options.now) of_report inputs (on_text path.now) format
+        IsRun (runs options.now) of_run inputs (on_text path.now) format
         old (W.contents result.1)
         (E.contents errors.old) (E.contents errors.new) result.0 }
 {

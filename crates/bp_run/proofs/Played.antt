@@ -1,5 +1,5 @@
 -- What playing a setup comes to, from what the stage, the gathering and the rest promise.
-use Rattle.std.proofs.Common.{◌≡◌, ◌<◌, ℕ, length, length-append, arith, is_some, Bool, true, false, List, [], ◌++◌, Option, Some, sym, ◌∙◌, ap, subst, append_assoc}
+use Rattle.std.proofs.Common.{◌≡◌, ◌<◌, ℕ, length, length-append, arith, is_some, Bool, true, false, List, [], ◌++◌, Option, None, Some, sym, ◌∙◌, ap, subst, append_assoc}
 use Rattle.std.proofs.lemmas.List.{append-nil}
 use Rattle.std.proofs.lemmas.Option.{same_Some}
 use Rattle.bp_tree.specs.Ast.{Program}
@@ -13,6 +13,7 @@ use Rattle.bp_machine.specs.Laws.{StepsAreARun, StepsAreWithin, FailuresAreReal}
 use Rattle.bp_machine.specs.Setups.{SetupOf}
 use Rattle.bp_board.specs.Gatherings.{IsGathered}
 use Rattle.bp_board.specs.Seats.{SeatOf}
+use Rattle.bp_board.specs.Stopping.{TellsEarly}
 use Rattle.bp_board.specs.Taps.{TapOf}
 use Rattle.bp_trace.specs.declared.versions.Version.TheVariants.{One}
 use Rattle.bp_trace.specs.TraceText.{head_text, end_line, trace_text}
@@ -22,11 +23,11 @@ use Rattle.bp_run.specs.Played.{IsPlayedFrom, IsEarly, IsCutTrace}
 use Rattle.bp_run.proofs.Inks.{inks_then}
 use Rattle.bp_run.proofs.Scribing.{lines_append}
 
-pub has_rest : (t : Program) (s : SetupOf) (taken : List Call) (seats : List SeatOf) (tap : TapOf) (r : Report) (b a : Bool) → IsGathered t s taken seats tap r b a → is_some tap.rest ≡ true
+pub has_rest : (t : Program) (s : SetupOf) (taken : List Call) (seats : List SeatOf) (tap : TapOf) (r : Report) (b : Option ℕ) (a : Bool) → IsGathered t s taken seats tap r b a → is_some tap.rest ≡ true
 has_rest t s taken seats tap r b a g = ap is_some g.rest
 
-module _ (t : Program) (s : SetupOf) (old c1 c2 c3 : Option (List ℕ)) (f1 f2 f3 : Bool) (taken : List Call) (rest_now : Option (List Call)) (seats : List SeatOf) (tap : TapOf) (r : Report) (has_stopped agree : Bool)
-    (staged : IsInked old c1 f1 (head_text One s ++ lines_of taken)) (g : IsGathered t s taken seats tap r has_stopped agree) (rest : IsRestScribed c1 f1 c2 f2 tap.rest rest_now) (all : rest_now ≡ Some [])
+module _ (t : Program) (s : SetupOf) (old c1 c2 c3 : Option (List ℕ)) (f1 f2 f3 : Bool) (taken : List Call) (rest_now : Option (List Call)) (seats : List SeatOf) (tap : TapOf) (r : Report) (early : Option ℕ) (agree : Bool)
+    (staged : IsInked old c1 f1 (head_text One s ++ lines_of taken)) (g : IsGathered t s taken seats tap r early agree) (rest : IsRestScribed c1 f1 c2 f2 tap.rest rest_now) (all : rest_now ≡ Some [])
     (ended : Inks c2 f2 c3 f3 (end_line r.calls r.left_open)) where
   -- what was left is what was gathered to be left
   same : rest.more ≡ g.left
@@ -52,8 +53,8 @@ module _ (t : Program) (s : SetupOf) (old c1 c2 c3 : Option (List ℕ)) (f1 f2 f
       subst (λ w. IsInked old c3 f3 w) bytes
       (inks_then c1 c2 c3 f1 f2 f3 (lines_of rest.more) (end_line r.calls r.left_open) rest.inks ended old (head_text One s ++ lines_of taken) staged)
 
-  pub played : StepsAreARun → StepsAreWithin → FailuresAreReal → f3 ≡ false → has_stopped ≡ true → agree ≡ true → IsPlayedFrom t s old c3 seats r
-  played run within real fine stopped alike =
+  pub played : StepsAreARun → StepsAreWithin → FailuresAreReal → f3 ≡ false → early ≡ None → IsPlayedFrom t s old c3 seats agree r
+  played run within real fine none =
       let all_written : AppendsAll old c3 (trace_text s (taken ++ g.left)) = subst (λ b. IsInked old c3 b (trace_text s (taken ++ g.left))) fine inked in record {
         played = record {
           history = taken ++ g.left;
@@ -64,24 +65,22 @@ module _ (t : Program) (s : SetupOf) (old c1 c2 c3 : Option (List ℕ)) (f1 f2 f
           steps = run t s (taken ++ g.left) g.legal;
           within = within t s (taken ++ g.left) g.legal;
           failure = λ i e. real t s (taken ++ g.left) i g.legal (sym g.report.outcome ∙ e);
-          stopped = g.stops.0 stopped;
+          stopped = subst (TellsEarly t s (taken ++ g.left)) none g.stops;
         };
         one_each = g.one_each;
-        agree = g.agreement.0 alike;
+        agreement = g.agreement;
         made = g.calls;
         left = g.open_are;
       }
 
-  pub early : f3 ≡ false → (has_stopped ≡ true → agree ≡ true → ⊥) → IsEarly t s old c3 seats
-  early fine one_fails =
+  pub stopped_early : (i : ℕ) → f3 ≡ false → early ≡ Some i → IsEarly t s old c3 i
+  stopped_early i fine one =
       let all_written : AppendsAll old c3 (trace_text s (taken ++ g.left)) = subst (λ b. IsInked old c3 b (trace_text s (taken ++ g.left))) fine inked in record {
         history = taken ++ g.left;
         legal = g.legal;
         seeded = g.seeded;
         written = all_written.grown;
-        one_each = g.one_each;
-        made = g.calls;
-        early = λ stopped alike. one_fails (g.stops.1 stopped) (g.agreement.1 alike);
+        early = subst (TellsEarly t s (taken ++ g.left)) one g.stops;
       }
 
   pub cut : f3 ≡ true → IsCutTrace t s old c3
@@ -93,8 +92,8 @@ module _ (t : Program) (s : SetupOf) (old c1 c2 c3 : Option (List ℕ)) (f1 f2 f
   }
 
 -- The pen stopped before the end: the calls that were taken are written, or a part of their lines.
-module _ (t : Program) (s : SetupOf) (old now : Option (List ℕ)) (failed : Bool) (taken : List Call) (seats : List SeatOf) (tap : TapOf) (r : Report) (has_stopped agree : Bool)
-    (staged : IsInked old now failed (head_text One s ++ lines_of taken)) (g : IsGathered t s taken seats tap r has_stopped agree) where
+module _ (t : Program) (s : SetupOf) (old now : Option (List ℕ)) (failed : Bool) (taken : List Call) (seats : List SeatOf) (tap : TapOf) (r : Report) (early : Option ℕ) (agree : Bool)
+    (staged : IsInked old now failed (head_text One s ++ lines_of taken)) (g : IsGathered t s taken seats tap r early agree) where
   begun : List ℕ
   begun = head_text One s ++ lines_of taken
 

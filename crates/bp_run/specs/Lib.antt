@@ -1,3 +1,4 @@
+pub mod Counts
 pub mod Faults
 pub mod Inks
 pub mod Options

@@ -1,5 +1,5 @@
 -- What comes of playing a program on a setup by real threads.
-use Rattle.std.specs.Prelude.{◌≡◌, ℕ, List, Option, length}
+use Rattle.std.specs.Prelude.{◌≡◌, ◌↔◌, IsTrue, ℕ, Bool, List, Option, length}
 use Rattle.std.specs.Io.KnownBytes.{Appends}
 use Rattle.bp_tree.specs.Ast.{Program}
 use Rattle.bp_text.specs.Writing.{AppendsPart}
@@ -13,7 +13,7 @@ use Rattle.bp_machine.specs.SeededHistories.{HasSeededBits}
 use Rattle.bp_machine.specs.Setups.{SetupOf, start, threads}
 use Rattle.bp_board.specs.Gatherings.{AreOnePerThread, AreSeatsOf, calls_of_seats, open_seats}
 use Rattle.bp_board.specs.Seats.{SeatOf}
-use Rattle.bp_board.specs.Stopping.{HaveStopped}
+use Rattle.bp_board.specs.Stopping.{HaveStopped, StoppedEarly}
 use Rattle.bp_trace.specs.TraceText.{trace_text}
 use Rattle.bp_run.specs.declared.run_faults.RunFault.{RunFault}
 use Rattle.bp_run.specs.declared.run_faults.RunFault.TheVariants.{Start, Early, Write, Memory}
@@ -35,27 +35,25 @@ module _ (t : Program) (s : SetupOf) (old new : Option (List ℕ)) where
     pub failure : (i : ℕ) → r.outcome ≡ Failed i → IsRealFailure t s history i
     pub stopped : HaveStopped t s history
 
-  -- The same of a board whose seats came back so: one for each thread, which has counted the
-  -- calls of its thread in the history, and is open exactly where its line is not finished. So
-  -- together they have exactly the calls of the history and the lines that it leaves open.
-  pub record IsPlayedFrom (seats : List SeatOf) (r : Report) : Type 0 where
+  -- The same of a board whose seats came back so: one for each thread. Together they have counted
+  -- exactly the calls of the history, and those that are open are as many as the lines that it
+  -- leaves open. It is said whether each seat has counted the calls of its thread, and is open
+  -- exactly where its line is not finished.
+  pub record IsPlayedFrom (seats : List SeatOf) (agree : Bool) (r : Report) : Type 0 where
     pub played : IsPlayed r
     pub one_each : AreOnePerThread (threads s) seats
-    pub agree : AreSeatsOf s played.history seats
     pub made : calls_of_seats seats ≡ length played.history
     pub left : open_seats seats ≡ r.left_open
+    pub agreement : IsTrue agree ↔ AreSeatsOf s played.history seats
 
-  -- The trace of one legal history was written, with the bits of the seed, and one seat for each
-  -- thread came back. A worker ended although the next step of its thread was no call, or a seat
-  -- does not agree with the history on its thread.
-  pub record IsEarly (seats : List SeatOf) : Type 0 where
+  -- The trace of one legal history was written, with the bits of the seed. In it the line of this
+  -- thread is open, although its next step is no call.
+  pub record IsEarly (thread : ℕ) : Type 0 where
     pub history : List Call
     pub legal : IsLegal t s history
     pub seeded : HasSeededBits s history
     pub written : Appends old new (trace_text s history)
-    pub one_each : AreOnePerThread (threads s) seats
-    pub made : calls_of_seats seats ≡ length history
-    pub early : HaveStopped t s history → AreSeatsOf s history seats → ⊥
+    pub early : StoppedEarly t s history thread
 
   -- a proper prefix of the trace of one legal history was written, with the bits of the seed
   pub record IsCutTrace : Type 0 where
@@ -65,9 +63,9 @@ module _ (t : Program) (s : SetupOf) (old new : Option (List ℕ)) where
     pub written : AppendsPart old new (trace_text s history)
 
   -- why there is no report, and what was written
-  abbrev pub IsPlayRefusal : List SeatOf → RunFault → Type 0
-  IsPlayRefusal seats Start = new ≡ old
-  IsPlayRefusal seats Early = IsEarly seats
-  IsPlayRefusal seats Write = IsCutTrace
-  IsPlayRefusal seats Memory = new ≡ old
-  IsPlayRefusal seats f = ⊥
+  abbrev pub IsPlayRefusal : RunFault → Type 0
+  IsPlayRefusal Start = new ≡ old
+  IsPlayRefusal (Early thread) = IsEarly thread
+  IsPlayRefusal Write = IsCutTrace
+  IsPlayRefusal Memory = new ≡ old
+  IsPlayRefusal f = ⊥

@@ -2,6 +2,7 @@
 //! while they run.
 #![tactic(auto)]
 
+mod answers;
 mod bells;
 mod gates;
 pub mod limits;
@@ -16,6 +17,7 @@ mod spreads;
 mod stages;
 mod workers;
 
+pub use answers::{RunReport, WorkerCount};
 pub use gates::{Gate, Open};
 pub use playing::{PlayedBoard, play};
 pub use run_faults::RunFault;

@@ -25,19 +25,23 @@ use std::thread::Threads;
 use std::time::Clock;
 
 /// The result of playing a board: the seats that came back, and the report of its history, or why
-/// there is none. With a report it is said whether all workers have done their work. No seat comes
-/// back where playing was refused before the head was written.
+/// there is none. With a report it is said whether all workers have done their work, and whether
+/// each seat agrees with the history. No seat comes back where playing was refused before the head
+/// was written.
 #[derive(Drop)]
 pub struct PlayedBoard<C: Calls, O: Ledger> {
     pub seats: Vec<Seat<C, O>>,
     pub all_done: bool,
+    pub agree: bool,
     pub answer: Result<Report, RunFault>,
 }
 
-/// Whether all workers have done their work, what playing a board answers, and the pen.
+/// Whether all workers have done their work, whether the seats agree with the history, what playing
+/// a board answers, and the pen.
 #[derive(Drop)]
 struct Finished<'a, W> {
     all_done: bool,
+    agree: bool,
     answer: Result<Report, RunFault>,
     pen: Pen<'a, W>,
 }
@@ -50,6 +54,7 @@ fn refused<'a, W>(pen: Pen<'a, W>, fault: RunFault) -> Finished<'a, W>
 {
     Finished {
         all_done: false,
+        agree: false,
         answer: Err(fault),
         pen,
     }
@@ -99,8 +104,9 @@ fn play_with<
         (t : Program)
         → StandsFor code.now t
         → MatchResult result.answer
-        (IsPlayedFrom t setup.now old new back.new.items)
-        (IsPlayRefusal t setup.now old new back.new.items) }
+        (IsPlayedFrom t setup.now old new back.new.items result.agree)
+        (IsPlayRefusal t setup.now old new) }
+    ensures seats { OnOk result.answer (AreOnePerThread (threads setup.now) back.new.items) }
     ensures done { OnOk result.answer (TellsShut result.all_done back.new.items) }
 {
     histories_keep_their_laws();
@@ -131,7 +137,7 @@ fn play_with<
         seats,
         mut tap,
         report,
-        has_stopped,
+        early,
         agree,
     } = gathered;
     *back = seats;
@@ -143,12 +149,12 @@ fn play_with<
     if pen.failed {
         return refused(pen, RunFault::Write);
     }
-    // The seats of the workers should always agree. Only their sums are proved to.
-    if !has_stopped || !agree {
-        return refused(pen, RunFault::Early);
+    if let Some(thread) = early {
+        return refused(pen, RunFault::Early(thread));
     }
     Finished {
         all_done,
+        agree,
         answer: Ok(report),
         pen,
     }
@@ -156,8 +162,9 @@ fn play_with<
 
 /// Plays a board that was opened for this code and setup: one worker for each seat makes the calls
 /// of its thread, and the calling thread writes the trace while the workers run. It gives the seats
-/// back: each has made as many calls as the history that was written has of its thread. Where one
-/// has not, or stopped too early, playing is refused once the trace is written.
+/// back: together they have made as many calls as the history that was written has, and it is said
+/// whether each has made those of its thread. Where a worker stopped too early, playing is refused
+/// once the trace is written.
 pub fn play<
     C: Calls + Send + Sync,
     O: Ledger + Send + Sync,
@@ -186,14 +193,16 @@ pub fn play<
         (t : Program)
         → StandsFor code.now t
         → MatchResult result.answer
-        (IsPlayedFrom t setup.now old new result.seats.items)
-        (IsPlayRefusal t setup.now old new result.seats.items) }
+        (IsPlayedFrom t setup.now old new result.seats.items result.agree)
+        (IsPlayRefusal t setup.now old new) }
+    ensures seats { OnOk result.answer (AreOnePerThread (threads setup.now) result.seats.items) }
     ensures done { OnOk result.answer (TellsShut result.all_done result.seats.items) }
 {
     let pen = Pen::new(out);
     let mut back = Vec::new(alloc);
     let Finished {
         all_done,
+        agree,
         answer,
         pen: _,
     } = play_with(
@@ -202,6 +211,7 @@ pub fn play<
     PlayedBoard {
         seats: back,
         all_done,
+        agree,
         answer,
     }
 }

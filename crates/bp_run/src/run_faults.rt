@@ -16,10 +16,10 @@ pub enum RunFault {
     /// A worker could not be started; those that were started have ended. Nothing is written.
     #[error("a worker could not be started")]
     Start,
-    /// A worker ended although the next step of its thread takes no memory, or its seat does not
-    /// agree with the machine on its thread. The trace is written.
-    #[error("a worker stopped before its thread was finished")]
-    Early,
+    /// The worker of this thread ended although the line is open and the next step takes no memory.
+    /// The trace is written.
+    #[error("the worker of thread {0} stopped before the thread was finished")]
+    Early(u32),
     /// A write or a flush failed, and the workers stopped. A proper prefix of the trace of a history
     /// is written.
     #[error("the output could not be written")]
@@ -41,7 +41,7 @@ impl RunFault {
             RunFault::Program(fault) => fault.number(),
             RunFault::Setup(fault) => fault.number(),
             RunFault::Start => 53,
-            RunFault::Early => 55,
+            RunFault::Early(_) => 55,
             RunFault::Write => 51,
             RunFault::Memory => 7,
         }
@@ -54,7 +54,8 @@ impl RunFault {
         match self {
             RunFault::Program(fault) => fault.place(),
             RunFault::Setup(fault) => fault.place(),
-            RunFault::Start | RunFault::Early | RunFault::Write | RunFault::Memory => None,
+            RunFault::Early(thread) => Some(*thread),
+            RunFault::Start | RunFault::Write | RunFault::Memory => None,
         }
     }
 }

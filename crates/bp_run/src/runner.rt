@@ -1,21 +1,22 @@
 //! Running a program by real threads, one for each guest thread.
-ghost use Rattle.std.specs.Prelude.{◌≡◌, ◌≤◌, ◌<◌, List, true, is_some, IfOk, MatchResult};
+ghost use Rattle.std.specs.Prelude.{◌≡◌, ◌≤◌, ◌<◌, map, true, is_some, IfOk, MatchResult};
 ghost use Rattle.bp_tree.specs.Ast.{Program};
 ghost use Rattle.bp_code.specs.StandsFor.{StandsFor};
 ghost use Rattle.bp_machine.specs.Setups.{threads, FitsCode};
 ghost use Rattle.bp_board.specs.declared.limits.TheConstants.{MAX_TURN, MAX_RING};
 ghost use Rattle.bp_board.specs.Kits.{IsNamed};
-ghost use Rattle.bp_board.specs.Seats.{SeatOf};
-ghost use Rattle.bp_run.specs.Played.{IsPlayed, IsPlayRefusal};
+ghost use Rattle.bp_run.specs.Counts.{seat_of_worker};
+ghost use Rattle.bp_run.specs.Played.{IsPlayedFrom, IsPlayRefusal};
 ghost use Rattle.bp_run.specs.Runs.{IsTracedRun, IsRunRefusal};
 
+use crate::answers::{RunReport, counts_of};
 use crate::gates::Gate;
 use crate::playing::play;
 use crate::run_faults::RunFault;
 use crate::run_options::RunOptions;
 use bp_board::{Board, Calls, Kit};
 use bp_code::{Code, code_of};
-use bp_machine::{Report, Setup};
+use bp_machine::Setup;
 use std::alloc::{AllocError, Global};
 use std::io::Write;
 use std::marker::Brand;
@@ -51,7 +52,7 @@ fn open_and_play<
     turn: u32,
     gate: &G,
     out: &mut W,
-) -> Result<Report, RunFault>
+) -> Result<RunReport, RunFault>
     requires named { IsNamed kit C.name C.parts O.name O.parts C.ring }
     requires code { code.now ≡ C.code }
     requires setup { setup.now ≡ C.setup }
@@ -64,19 +65,25 @@ fn open_and_play<
         (t : Program)
         → StandsFor code.now t
         → MatchResult result
-        (IsPlayed t setup.now old new)
-        (λ f. (seats : List SeatOf) × IsPlayRefusal t setup.now old new seats f) }
+        (λ r. let seats = map seat_of_worker r.workers.items in
+        IsPlayedFrom t setup.now old new seats r.counts_agree r.report)
+        (IsPlayRefusal t setup.now old new) }
 {
-    let Ok((board, seats, tap)) = Board::<C, O>::open(alloc, kit, code, setup) else {
-        return Err(RunFault::Memory);
-    };
-    play(rt, alloc, board, seats, tap, code, setup, turn, gate, out).answer
+    let room = Vec::with_capacity(alloc, setup.threads() as usize)?;
+    let (board, seats, tap) = Board::<C, O>::open(alloc, kit, code, setup)?;
+    let played = play(rt, alloc, board, seats, tap, code, setup, turn, gate, out);
+    let report = played.answer?;
+    Ok(RunReport {
+        report,
+        workers: counts_of(played.seats, room),
+        counts_agree: played.agree,
+    })
 }
 
 /// Runs the program of a text under these options, and writes the trace: one worker for each guest
 /// thread makes its calls, and the calling thread writes them while the workers run. It answers the
-/// report of the history that was written. The contract does not say which legal history that is;
-/// its bits are those of the seed.
+/// report of the history that was written, and how many calls each worker made, by its own count.
+/// The contract does not say which legal history that is; its bits are those of the seed.
 ///
 /// The refusals come in the order of `RunFault`. Nothing is written before all workers were
 /// started. Where a write or a flush fails the workers stop, and a proper prefix of the trace of a
@@ -89,7 +96,7 @@ pub fn run<G: Gate, W: Write, R: Threads + Wait + Clock + Sync>(
     options: &RunOptions,
     gate: &G,
     out: &mut W,
-) -> Result<Report, RunFault>
+) -> Result<RunReport, RunFault>
     ensures { let old = W.contents out.old in
         let new = W.contents out.new in
         MatchResult result

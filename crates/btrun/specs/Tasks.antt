@@ -6,7 +6,7 @@ use Rattle.bp_commands.specs.Drives.{drives}
 use Rattle.bp_commands.specs.declared.explanations.Beside.TheVariants.{Schedule, Trace}
 use Rattle.bp_commands.specs.declared.coding.ListingForm.{ListingForm}
 use Rattle.bp_commands.specs.declared.coding.ListingForm.TheVariants as listing
-use Rattle.bp_commands.specs.Ends.{never, of_report}
+use Rattle.bp_commands.specs.Ends.{never, of_report, of_run}
 use Rattle.bp_commands.specs.declared.fault_formats.FaultFormat.{FaultFormat}
 use Rattle.bp_commands.specs.declared.fault_formats.FaultFormat.TheVariants as fault
 use Rattle.bp_commands.specs.Files.{pair_of_files, IsRun}
@@ -94,7 +94,7 @@ abbrev pub IsRunDone
     → Type 0
 IsRunDone bytes on_terminal words old new errors_old errors_new status =
     let inputs = text_alone (bytes words.program.now) in
-    IsRun (runs words.options) of_report inputs
+    IsRun (runs words.options) of_run inputs
     (on_text words.program.now) (fault_format false words.explain on_terminal)
     old new errors_old errors_new status
 

@@ -3,7 +3,7 @@
 use super::ready::{output, tell, wants};
 use super::runs::is_replayed;
 use bp_machine::{Outcome, Reply, Report, Start};
-use bp_run::{Gate, RunOptions, run};
+use bp_run::{Gate, RunOptions, RunReport, run};
 use std::alloc::{AllocError, Global};
 use std::sync::Wait;
 use std::sync::atomic::{AtomicU64, Ordering};
@@ -114,6 +114,20 @@ fn is_right(gate: &Held, trace: &[u8], report: Report) -> bool {
         && gate.missed.load(Ordering::SeqCst) == 0
 }
 
+/// Whether the worker of `b` counted what the others did not make, and left its line open where it
+/// is.
+fn is_counted(done: &RunReport) -> bool {
+    match done.workers.get(CALLER as usize) {
+        Some(worker) => {
+            done.counts_agree
+                && worker.thread == CALLER
+                && worker.calls.saturating_add(OTHERS) == done.report.calls
+                && worker.is_open == (done.report.left_open == 1)
+        }
+        None => false,
+    }
+}
+
 /// Whether the worker of `b` was refused memory. The run itself may be, and has then written
 /// nothing.
 fn is_caller_refused<R: Threads + Wait + Clock + Sync>(
@@ -123,10 +137,10 @@ fn is_caller_refused<R: Threads + Wait + Clock + Sync>(
     let options = options(alloc)?;
     let (gate, mut out) = (Held::new(), output(alloc)?);
     match run(rt, alloc, PROGRAM, &options, &gate, &mut out) {
-        Ok(report) => {
-            wants(is_right(&gate, &out, report))?;
-            wants(is_replayed(alloc, PROGRAM, &out, report)?)?;
-            Ok(report.left_open == 1)
+        Ok(done) => {
+            wants(is_right(&gate, &out, done.report) && is_counted(&done))?;
+            wants(is_replayed(alloc, PROGRAM, &out, done.report)?)?;
+            Ok(done.report.left_open == 1)
         }
         Err(fault) => {
             wants(matches!(fault.number(), 7 | 53) && out.is_empty())?;

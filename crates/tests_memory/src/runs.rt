@@ -47,7 +47,7 @@ fn report<R: Threads + Wait + Clock + Sync>(
     out: &mut Vec<u8>,
 ) -> Result<Option<Report>, Fail> {
     match run(rt, alloc, PROGRAM, options, &Open, out) {
-        Ok(report) => Ok(Some(report)),
+        Ok(done) => Ok(Some(done.report)),
         Err(fault) => {
             wants(matches!(fault.number(), 7 | 53) && out.is_empty())?;
             Ok(None)

@@ -10,7 +10,7 @@ mod writers;
 
 use bp_code::{Code, code_of};
 use bp_machine::{Outcome, Report, Start};
-use bp_run::{Gate, RunFault, RunOptions, run};
+use bp_run::{Gate, RunFault, RunOptions, RunReport, run};
 use bp_trace::replay;
 use std::alloc::{AllocError, Global};
 use std::sync::Wait;
@@ -122,8 +122,19 @@ fn replays(alloc: Global, text: &[u8], trace: &[u8], report: &Report) -> bool {
     }
 }
 
-/// How many calls a run with these numbers makes, where it ends clean with no line open, and its
-/// trace replays to its report.
+/// Whether each worker counted the calls of its thread: in all those of the report, and as many
+/// lines are open.
+fn are_counted(done: &RunReport) -> bool {
+    let (mut calls, mut open): (u64, u32) = (0, 0);
+    for worker in done.workers.iter() {
+        calls = calls.saturating_add(worker.calls);
+        open = open.saturating_add(u32::from(worker.is_open));
+    }
+    done.counts_agree && calls == done.report.calls && open == done.report.left_open
+}
+
+/// How many calls a run with these numbers makes, where it ends clean with no line open, its workers
+/// counted them, and its trace replays to its report.
 fn clean_calls<G: Gate, R: Threads + Wait + Clock + Sync>(
     rt: &R,
     alloc: Global,
@@ -133,10 +144,11 @@ fn clean_calls<G: Gate, R: Threads + Wait + Clock + Sync>(
 ) -> Result<Option<u64>, AllocError> {
     let options = options(alloc, numbers)?;
     let mut out = Vec::new(alloc);
-    let Ok(report) = run(rt, alloc, text, &options, gate, &mut out) else {
+    let Ok(done) = run(rt, alloc, text, &options, gate, &mut out) else {
         return Ok(None);
     };
+    let report = done.report;
     let is_clean = report.left_open == 0 && report.outcome == Outcome::Clean;
-    let is_told = is_clean && replays(alloc, text, &out, &report);
+    let is_told = is_clean && are_counted(&done) && replays(alloc, text, &out, &report);
     Ok(is_told.then_some(report.calls))
 }

@@ -1,5 +1,5 @@
 use Rattle.std.specs.Io.Buffered.{writer_contents}
-use Rattle.bp_commands.specs.Ends.{of_report}
+use Rattle.bp_commands.specs.Ends.{of_run}
 use Rattle.bp_commands.specs.Explanations.{ExplainsText, AreReadOr}
 use Rattle.bp_commands.specs.Tellings.{is_explained, IsTextObject}
 use Rattle.bp_commands.specs.Files.{rest_of}
@@ -24,6 +24,6 @@ returns g c =
       final = c.flushed-done.result.0;
       flushed = c.flushed-done.ensures;
       told = g.E.Write.contents c.end_on_program-status.new.errors;
-      ends = ends_read inputs (IsTextObject path) (no_byte_unread _ _) text of_report c.args.format _ _ _ _ _ _ _ holds c.flushed-done.ensures (rw c.deref.ensures.value at c.end_on_program-status.ensures);
+      ends = ends_read inputs (IsTextObject path) (no_byte_unread _ _) text of_run c.args.format _ _ _ _ _ _ _ holds c.flushed-done.ensures (rw c.deref.ensures.value at c.end_on_program-status.ensures);
       explained = tells inputs (ExplainsText path) (text_unread path _ _) text (is_explained c.args.format) _ _ _ _ _ _ holds c.flushed-done.ensures (rw (c.deref.ensures.value, c.is_explained.ensures) at c.explain_on_program.ensures);
     }
