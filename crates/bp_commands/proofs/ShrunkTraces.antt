@@ -67,6 +67,7 @@ module _ (given : Pair) (t : Program) (of : IsLawfulText given.text t) (r : Repl
       trace = is_trace;
       same = subst (λ k. g.setup ≡ budgeted r.setup k) (sym contexts_are) shrunk.setup;
       used = rw contexts_are shrunk.report.contexts;
+      steps = shrunk.steps;
       number = number;
       failed = fails;
       fails = shrunk.fails;

@@ -5,7 +5,7 @@ use Rattle.bp_machine.specs.declared.calls.Call.{Call}
 use Rattle.bp_machine.specs.declared.reports.Outcome.TheVariants.{Clean}
 use Rattle.bp_machine.specs.declared.reports.Report.{Report}
 use Rattle.bp_machine.specs.Contexts.{IsLeastWithin}
-use Rattle.bp_machine.specs.Histories.{granted_threads}
+use Rattle.bp_machine.specs.Histories.{granted_calls, granted_threads}
 use Rattle.bp_machine.specs.Reports.{outcome_of, is_failure}
 use Rattle.bp_machine.specs.Setups.{SetupOf}
 use Rattle.bp_test.specs.Failing.{FailsAt}
@@ -20,7 +20,7 @@ use Rattle.bp_commands.specs.Listings.{HasNoCode}
 use Rattle.bp_commands.specs.Traces.{IsOfTrace, IsTraceOf, IsTraceReport, IsNoTrace}
 
 -- The trace of a history in which the same assertion of the same thread failed as in h, at the
--- instruction of one number, by no more calls and no more contexts. Its setup is that of h but for
+-- instruction of one number, by no more calls and no more contexts. Each of its calls made a step. Its setup is that of h but for
 -- the seed, of which there is none, and the contexts, which are those that it uses.
 pub record IsShrunkText
     (text : List ℕ) (t : Program) (s : SetupOf) (h : List Call) (written : List ℕ)
@@ -30,6 +30,7 @@ pub record IsShrunkText
   pub trace : IsTrace t One setup history written
   pub same : setup ≡ budgeted s setup.contexts
   pub used : IsLeastWithin setup.contexts (granted_threads history)
+  pub steps : granted_calls history ≡ history
   pub number : ℕ
   pub failed : FailsAt t s h number
   pub fails : FailsAt t setup history number

@@ -35,6 +35,16 @@ threads_of (x ∷ xs) = here (is_granted x.reply) (threads_of xs)
     here true e = ap (λ ts. x.thread ∷ ts) e
     here false e = e
 
+-- all granted calls are granted
+pub granted_again : (h : List Call) → granted_calls (granted_calls h) ≡ granted_calls h
+granted_again [] = refl
+granted_again (x ∷ xs) = here (is_granted x.reply) refl (granted_again xs)
+  where
+    here : (b : Bool) → is_granted x.reply ≡ b → granted_calls (granted_calls xs) ≡ granted_calls xs
+        → granted_calls (cond b (x ∷ granted_calls xs) (granted_calls xs)) ≡ cond b (x ∷ granted_calls xs) (granted_calls xs)
+    here true is e = ap (λ b. cond b (x ∷ granted_calls (granted_calls xs)) (granted_calls (granted_calls xs))) is ∙ ap (λ zs. x ∷ zs) e
+    here false is e = e
+
 pub fewer_calls : (h : List Call) → length (granted_calls h) ≤ length h
 fewer_calls [] = omega arith
 fewer_calls (x ∷ xs) = here (is_granted x.reply) (fewer_calls xs)

@@ -1,5 +1,6 @@
 -- What a run adds to a test.
-use Rattle.std.proofs.Common.{◌≡◌, ◌≢◌, ℕ, ◌+◌, ◌<◌, ◌%◌, ◌^◌, Bool, true, false, ◌||◌, ◌&&◌, nat_le, List, Option, Some, IfSome, refl, ap, sym, ◌∙◌, subst, arith, inl, inr}
+use Rattle.std.proofs.Common.{◌≡◌, ◌≢◌, ℕ, ◌+◌, ◌<◌, ◌%◌, ◌^◌, Bool, true, false, ◌||◌, ◌&&◌, nat_le, List, Option, None, Some, IfSome, refl, ap, sym, ◌∙◌, subst, arith, inl, inr}
+use Rattle.std.specs.Prelude.{IfNone, MatchOption}
 use Rattle.std.proofs.lemmas.Bool.Decides.{nat_tests}
 use Rattle.bp_tree.specs.Ast.{Program}
 use Rattle.bp_code.specs.Flat.{Flat}
@@ -116,6 +117,13 @@ module _ (c : Flat) (s : SetupOf) (with_stuck : Bool) (seed run : ℕ) (old x : 
       report = report_is t is;
     }
 
+  fails_at : StandsForAll x h → (t : Program) → StandsFor c t → (number : Option ℕ) → ((u : Program) (g : List Call) → StandsFor x.code u → Stands u x g → IfSome number (FailsAt u x.setup g)) → IfSome number (FailsAt t (setup_of_run s seed run) h)
+  fails_at stands t is number fails = subst (λ z. IfSome number (FailsAt t z h)) setup_is (fails t h (own_program t is) (stands t (own_program t is)))
+
   -- and where that is
-  pub fails_there : StandsForAll x h → (t : Program) → StandsFor c t → (number : Option ℕ) → ((u : Program) (g : List Call) → StandsFor x.code u → Stands u x g → IfSome number (FailsAt u x.setup g)) → IfSome number (FailsAt t (setup_of_run s seed run) h)
-  fails_there stands t is number fails = subst (λ z. IfSome number (FailsAt t z h)) setup_is (fails t h (own_program t is) (stands t (own_program t is)))
+  pub fails_there : StandsForAll x h → (t : Program) → StandsFor c t → (number : Option ℕ)
+      → ((u : Program) (g : List Call) → StandsFor x.code u → Stands u x g → IfSome number (FailsAt u x.setup g))
+      → ((u : Program) (g : List Call) → StandsFor x.code u → Stands u x g → IfNone number (outcome_of g ≡ Clean))
+      → MatchOption number (outcome_of h ≡ Clean) (FailsAt t (setup_of_run s seed run) h)
+  fails_there stands t is (Some n) fails none = fails_at stands t is (Some n) fails
+  fails_there stands t is None fails none = none t h (own_program t is) (stands t (own_program t is))

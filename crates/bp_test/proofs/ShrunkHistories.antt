@@ -43,6 +43,7 @@ module _ (t : Program) (s : SetupOf) (h : List Call) (r : Report) (number : Opti
     fine = is.fine;
     legal = is.legal;
     report = is.report;
+    steps = is.steps;
     outcome = is.outcome ∙ sym driven.report.outcome ∙ no_more.outcome ∙ given.outcome;
     fails = subst (λ o. IfSome o (FailsAt t g.setup g.history.items)) no_more.number_is is.fails;
     calls = let few = is.calls in omega (arith, few, driven.report.calls, no_more.calls, given.calls);

@@ -5,7 +5,7 @@ use Rattle.bp_code.specs.StandsFor.{StandsFor}
 use Rattle.bp_machine.specs.declared.calls.Call.{Call}
 use Rattle.bp_machine.specs.declared.reports.Report.{Report}
 use Rattle.bp_machine.specs.Contexts.{IsLeastWithin}
-use Rattle.bp_machine.specs.Histories.{granted_threads, IsLegal}
+use Rattle.bp_machine.specs.Histories.{granted_calls, granted_threads, IsLegal}
 use Rattle.bp_machine.specs.Reports.{outcome_of, IsReport}
 use Rattle.bp_machine.specs.Setups.{SetupOf, setup_fault, FitsCode}
 use Rattle.bp_test.specs.declared.searches.Driven.{Driven}
@@ -21,14 +21,16 @@ unseeded s = record s { seed = None }
 abbrev pub budgeted : SetupOf → ℕ → SetupOf
 budgeted s k = record s { contexts = k; seed = None }
 
--- g is a legal history, in the setup of the contexts that it uses, with the outcome of h, which
--- fails at the instruction of this number, if one is known, by no more calls and no more contexts
+-- g is a legal history, in the setup of the contexts that it uses, each of whose calls made a step.
+-- It has the outcome of h, and fails at the instruction of this number, if one is known, by no more
+-- calls and no more contexts.
 pub record IsShrunk (t : Program) (s : SetupOf) (h : List Call) (number : Option ℕ) (g : Shrunk)
     : Type 0 where
   pub setup : g.setup ≡ budgeted s g.report.contexts
   pub fine : setup_fault t g.setup ≡ None
   pub legal : IsLegal t g.setup g.history.items
   pub report : IsReport g.setup g.history.items g.report
+  pub steps : granted_calls g.history.items ≡ g.history.items
   pub outcome : outcome_of g.history.items ≡ outcome_of h
   pub fails : IfSome number (FailsAt t g.setup g.history.items)
   pub calls : length g.history.items ≤ length h

@@ -1,5 +1,5 @@
 -- What a test of a program finds.
-use Rattle.std.specs.Prelude.{◌≡◌, ◌⊎◌, ◌<◌, ◌≤◌, ◌+◌, ◌%◌, ◌^◌, ℕ, Bool, true, List, Option, None, Some, IfSome}
+use Rattle.std.specs.Prelude.{◌≡◌, ◌⊎◌, ◌<◌, ◌≤◌, ◌+◌, ◌%◌, ◌^◌, ℕ, Bool, true, List, Option, None, Some, MatchOption}
 use Rattle.bp_tree.specs.Ast.{Program}
 use Rattle.bp_text.specs.Writing.{AppendsAll, AppendsPart}
 use Rattle.bp_machine.specs.declared.calls.Call.{Call}
@@ -68,13 +68,15 @@ HasCleanRuns t s with_stuck seed from to =
     (r : ℕ) → from ≤ r → r < to
     → (h : List Call) × IsCleanSample t (setup_of_run s seed r) with_stuck h
 
--- the first of these runs that the test looks for
+-- the first of these runs that the test looks for, and the instruction at which it fails, if it does
 pub record IsFoundRun (t : Program) (s : SetupOf) (with_stuck : Bool) (seed from to : ℕ)
     (f : FoundRun) : Type 0 where
   pub among : (from ≤ f.run) × (f.run < to)
   pub others : HasCleanRuns t s with_stuck seed from f.run
   pub found : IsSoughtSample t (setup_of_run s seed f.run) with_stuck f.history.items f.report
-  pub at : IfSome f.number (FailsAt t (setup_of_run s seed f.run) f.history.items)
+  pub at : MatchOption f.number
+      (outcome_of f.history.items ≡ Clean)
+      (FailsAt t (setup_of_run s seed f.run) f.history.items)
 
 -- what was found among these runs
 abbrev pub IsFirstFound : Program → SetupOf → Bool → ℕ → ℕ → ℕ → Option FoundRun → Type 0

@@ -15,7 +15,7 @@ returns-then-is_sought c = λ t is.
       found = sought_sample c.args.code.now c.args.setup.now c.args.plan.now.with_stuck c.args.plan.now.seed c.loop-run.run c.loop-run.session now.session c.run_once.new.history.items _ refl before.code before.setup now.ensures.code now.ensures.setup
           now.ensures.stands now.ensures.over c.report-report.result c.report-report.ensures (sym c.is_sought.ensures ∙ c.if-is_sought.true) t is;
       at = fails_there c.args.code.now c.args.setup.now c.args.plan.now.with_stuck c.args.plan.now.seed c.loop-run.run c.loop-run.session now.session c.run_once.new.history.items _ refl before.code before.setup now.ensures.code now.ensures.setup
-          now.ensures.stands t is c.failed_instruction-number.result c.failed_instruction-number.ensures.at;
+          now.ensures.stands t is c.failed_instruction-number.result c.failed_instruction-number.ensures.at c.failed_instruction-number.ensures.none;
     }
 
 pub loop-run-preserved : goal.loop-run-preserved

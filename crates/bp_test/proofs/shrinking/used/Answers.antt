@@ -4,7 +4,7 @@ use Rattle.bp_machine.specs.Histories.{granted_calls, granted_threads, open_line
 use Rattle.bp_machine.specs.Reports.{outcome_of}
 use Rattle.bp_machine.specs.Setups.{SetupOf}
 use Rattle.bp_test.specs.Failing.{FailsAt}
-use Rattle.bp_test.proofs.GrantedCalls.{fewer_calls, same_outcome, granted_legal, granted_fails, granted_same}
+use Rattle.bp_test.proofs.GrantedCalls.{fewer_calls, granted_again, same_outcome, granted_legal, granted_fails, granted_same}
 use Rattle.bp_test.proofs.shrinking.used.Goals as goal
 
 pub returns : goal.returns
@@ -30,6 +30,7 @@ returns c = λ t is.
         left_open = c.open_lines.ensures ∙ ap (open_lines own) c.as_slice-calls.ensures.value;
         contexts = subst (λ g. IsLeastWithin k (granted_threads g)) (sym items) (subst (λ ts. IsLeastWithin k ts) (sym (granted_same t s k h each back driven.legal within)) driven.report.contexts);
       };
+      steps = ap granted_calls items ∙ granted_again h ∙ sym items;
       outcome = ap outcome_of items ∙ same_outcome h;
       fails = subst (λ g. IfSome number (FailsAt t own g)) (sym items) (subst (λ x. IfSome number (FailsAt t x (granted_calls h))) (sym setup) (granted_fails t s k h each back driven.legal within number driven.fails));
       calls = let few = fewer_calls h in let sized = ap length items in omega (arith, few, sized);
