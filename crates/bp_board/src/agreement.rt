@@ -22,9 +22,9 @@ fn agrees<C: Calls, O: Ledger>(session: &Session, seat: &Seat<C, O>) -> bool
         && seat.is_open != session.is_finished(seat.thread)
 }
 
-/// Whether each of the seats does so. The ledgers tie only the sums over all seats to the machine, so
-/// this is checked at run time for each seat. Of seats whose calls were all made at the board of the
-/// session none should differ.
+/// Whether each of the seats does so. The ledgers tie only the sums over all seats to the machine,
+/// so this is checked at run time for each seat. Of seats whose calls were all made at the board of
+/// the session none should differ.
 pub(crate) fn agree<C: Calls, O: Ledger>(session: &Session, seats: &[Seat<C, O>]) -> bool
     requires { threads session.now.setup ≡ C.parts }
     ensures { (t : Program) (h : List Answered)

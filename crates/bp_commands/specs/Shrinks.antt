@@ -20,8 +20,9 @@ use Rattle.bp_commands.specs.Listings.{HasNoCode}
 use Rattle.bp_commands.specs.Traces.{IsOfTrace, IsTraceOf, IsTraceReport, IsNoTrace}
 
 -- The trace of a history in which the same assertion of the same thread failed as in h, at the
--- instruction of one number, by no more calls and no more contexts. Each of its calls made a step. Its setup is that of h but for
--- the seed, of which there is none, and the contexts, which are those that it uses.
+-- instruction of one number, by no more calls and no more contexts. Each of its calls made a step.
+-- Its setup is that of h but for the seed, of which there is none, and the contexts, which are
+-- those that it uses.
 pub record IsShrunkText
     (text : List ℕ) (t : Program) (s : SetupOf) (h : List Call) (written : List ℕ)
     : Type 0 where

@@ -68,7 +68,7 @@ HasCleanRuns t s with_stuck seed from to =
     (r : ℕ) → from ≤ r → r < to
     → (h : List Call) × IsCleanSample t (setup_of_run s seed r) with_stuck h
 
--- the first of these runs that the test looks for, and the instruction at which it fails, if it does
+-- the first of these runs that the test looks for, and at which instruction it fails, if it does
 pub record IsFoundRun (t : Program) (s : SetupOf) (with_stuck : Bool) (seed from to : ℕ)
     (f : FoundRun) : Type 0 where
   pub among : (from ≤ f.run) × (f.run < to)

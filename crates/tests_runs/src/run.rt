@@ -133,8 +133,8 @@ fn are_counted(done: &RunReport) -> bool {
     done.counts_agree && calls == done.report.calls && open == done.report.left_open
 }
 
-/// How many calls a run with these numbers makes, where it ends clean with no line open, its workers
-/// counted them, and its trace replays to its report.
+/// How many calls a run with these numbers makes, where it ends clean with no line open, its
+/// workers counted them, and its trace replays to its report.
 fn clean_calls<G: Gate, R: Threads + Wait + Clock + Sync>(
     rt: &R,
     alloc: Global,

@@ -1,5 +1,5 @@
-//! Tests of `bp_syntax`: trees of texts. Which texts are read, and at which place and how others are
-//! refused, is shown by the cases of the command `check`, and by `.ci/productions`.
+//! Tests of `bp_syntax`: trees of texts. Which texts are read, and at which place and how others
+//! are refused, is shown by the cases of the command `check`, and by `.ci/productions`.
 mod operators;
 
 use bp_syntax::{
