@@ -1,4 +1,3 @@
-pub mod Blocking
 pub mod BlocksInOrder
 pub mod CodesShared
 pub mod FirstFound

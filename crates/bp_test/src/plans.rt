@@ -2,7 +2,6 @@
 ghost use Rattle.std.specs.Prelude.{◌≡◌, IfOk};
 ghost use Rattle.bp_machine.specs.Setups.{FitsCode};
 
-use crate::options::TestOptions;
 use crate::runs::run_once;
 use bp_code::Code;
 use bp_machine::{Session, Setup};
@@ -34,25 +33,24 @@ fn is_cut_off(session: &Session) -> bool {
 }
 
 impl Plan {
-    /// The plan of a test with these options. It makes pilots: runs with the first 64 of its seeds,
-    /// whose switches are spread over powers of two. The lengths of those that were cut off by the
-    /// allowed calls are not kept.
+    /// The plan of a test that begins with this seed. It makes pilots: runs with the first 64 of its
+    /// seeds, whose switches are spread over powers of two. The lengths of those that were cut off by
+    /// the allowed calls are not kept. How many runs and jobs there are is no part of a plan.
     pub fn new(
         alloc: Global,
         code: &Code,
         setup: &Setup,
-        options: &TestOptions,
+        seed: u64,
+        with_stuck: bool,
     ) -> Result<Plan, AllocError>
         requires { FitsCode code.now setup.now }
-        ensures seed { IfOk result (λ p. p.seed ≡ options.now.seed) }
-        ensures stuck { IfOk result (λ p. p.with_stuck ≡ options.now.with_stuck) }
+        ensures seed { IfOk result (λ p. p.seed ≡ seed) }
+        ensures stuck { IfOk result (λ p. p.with_stuck ≡ with_stuck) }
     {
         let mut session = Session::new(alloc, code, setup)?;
         let mut history = Vec::new(alloc);
         let mut reached = Vec::new(alloc);
         let mut lengths = Vec::new(alloc);
-        let seed = options.seed;
-        let with_stuck = options.with_stuck;
         for pilot in 0..PILOTS {
             let own = seed.wrapping_add(pilot);
             session = run_once(session, own, &[], &mut history, &mut reached)?;

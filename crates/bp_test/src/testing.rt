@@ -71,7 +71,7 @@ pub fn test<R: Threads + Sync, P: Progress, W: Write>(
         (λ x. IsFound t setup.now options.now old new x.found)
         (IsTestRefusal t setup.now options.now old new) }
 {
-    let plan = Plan::new(alloc, code, setup, options)?;
+    let plan = Plan::new(alloc, code, setup, options.seed, options.with_stuck)?;
     let jobs = options.jobs.clamp(1, MAX_JOBS) as usize;
     let made = search(rt, alloc, code, setup, &plan, options.runs, jobs, progress);
     progress.end();

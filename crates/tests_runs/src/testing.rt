@@ -147,7 +147,7 @@ fn jobs_make_each_run_once(rt: HostRuntime) -> Result<(), Fail> {
 fn each_fails(alloc: Global, text: &[u8], runs: u64) -> Result<bool, Fail> {
     let code = code_of(alloc, text)?;
     let setup = setup_of(alloc, &code, &["main"])?;
-    let plan = Plan::new(alloc, &code, &setup, &options_of(runs))?;
+    let plan = Plan::new(alloc, &code, &setup, SEED, false)?;
     for run in 0..runs {
         let block = first_found(alloc, &code, &setup, &plan, run, runs)?;
         if block.found.map(|f| f.run) != Some(run) {
@@ -177,7 +177,7 @@ fn are_same(one: &Option<FoundRun>, other: &Option<FoundRun>) -> bool {
 fn blocks_agree(alloc: Global) -> Result<bool, Fail> {
     let code = code_of(alloc, RACE)?;
     let setup = setup_of(alloc, &code, &["writer", "reader"])?;
-    let plan = Plan::new(alloc, &code, &setup, &options_of(1_000))?;
+    let plan = Plan::new(alloc, &code, &setup, SEED, false)?;
     let all = first_found(alloc, &code, &setup, &plan, 0, 1_000)?.found;
     let Some(run) = all.as_ref().map(|f| f.run) else {
         return Ok(false);
@@ -197,7 +197,7 @@ fn blocks_find_the_same(rt: HostRuntime) -> Result<(), Fail> {
 fn shrinks_a_race(alloc: Global) -> Result<bool, Fail> {
     let code = code_of(alloc, RACE)?;
     let setup = setup_of(alloc, &code, &["writer", "reader"])?;
-    let plan = Plan::new(alloc, &code, &setup, &options_of(1_000))?;
+    let plan = Plan::new(alloc, &code, &setup, SEED, false)?;
     let Block { found, .. } = first_found(alloc, &code, &setup, &plan, 0, 1_000)?;
     let Some(failed) = found else {
         return Ok(false);
