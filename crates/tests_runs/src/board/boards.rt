@@ -6,7 +6,7 @@ ghost use Rattle.bp_board.specs.Kits.{IsNamed};
 
 use super::{Act, Example, LOOP, kit_of, loop_calls, own, setup_of};
 use bp_board::limits::MAX_TURN;
-use bp_board::{Board, Calls, Kit, gather};
+use bp_board::{Board, Calls, Kit, Seat, gather};
 use bp_code::Code;
 use bp_machine::{AskFault, Call, Reply, Setup};
 use std::alloc::Global;
@@ -17,13 +17,19 @@ use std::sync::ledger::Ledger;
 use std::test::Fail;
 use tests_common::code_of;
 
-/// What is done at a board, how many lines are open then, and what the gathered tap gives before it
-/// gives nothing.
+/// What is done at a board, how many lines and seats are open then, how many contexts were used, and
+/// what the gathered tap gives before it gives nothing.
 #[derive(Clone, Copy)]
 struct Scene<'a> {
     acts: &'a [Act],
     left_open: u32,
+    contexts: u32,
     rest: &'a [Call],
+}
+
+/// How many of these seats are open.
+fn open_seats<C: Calls, O: Ledger>(seats: &[Seat<C, O>]) -> usize {
+    seats.iter().filter(|seat| seat.is_open()).count()
 }
 
 /// Plays at a board of this kit.
@@ -71,6 +77,8 @@ fn play_with<C: Calls, O: Ledger, R: Wait + Abort>(
         taken.saturating_add(scene.rest.len() as u64)
     );
     assert_eq!(rt; gathered.report.left_open, scene.left_open);
+    assert_eq!(rt; gathered.report.contexts, scene.contexts);
+    assert_eq!(rt; open_seats(&gathered.seats), scene.left_open as usize);
     for call in scene.rest {
         assert!(rt; gathered.tap.next() == Some(*call));
     }
@@ -102,6 +110,7 @@ fn takes_turns(rt: HostRuntime) -> Result<(), Fail> {
     let all = Scene {
         acts: &acts,
         left_open: 0,
+        contexts: 1,
         rest: &calls,
     };
     play(&rt, rt.alloc(), LOOP, all)
@@ -117,6 +126,7 @@ fn ends_a_turn_where_no_call_is_left(rt: HostRuntime) -> Result<(), Fail> {
     let two = Scene {
         acts: &acts,
         left_open: 0,
+        contexts: 1,
         rest: &calls,
     };
     play(&rt, rt.alloc(), Example { calls: 2, ..LOOP }, two)
@@ -134,6 +144,7 @@ fn is_busy_where_the_ring_is_full(rt: HostRuntime) -> Result<(), Fail> {
     let four = Scene {
         acts: &acts,
         left_open: 1,
+        contexts: 1,
         rest: &calls[1..5],
     };
     play(&rt, rt.alloc(), Example { ring: 4, ..LOOP }, four)
@@ -150,6 +161,7 @@ fn plays_the_thread_of_the_seat(rt: HostRuntime) -> Result<(), Fail> {
     let second = Scene {
         acts: &acts,
         left_open: 2,
+        contexts: 1,
         rest: &calls,
     };
     play(&rt, rt.alloc(), Example { threads: 2, ..LOOP }, second)
@@ -166,6 +178,7 @@ fn tap_after_gather(rt: HostRuntime) -> Result<(), Fail> {
     let later = Scene {
         acts: &acts,
         left_open: 0,
+        contexts: 1,
         rest: &calls[2..9],
     };
     play(&rt, rt.alloc(), Example { ring: 16, ..LOOP }, later)
@@ -193,6 +206,7 @@ fn assume_never(rt: HostRuntime) -> Result<(), Fail> {
     let blocked = Scene {
         acts: &acts,
         left_open: 0,
+        contexts: 0,
         rest: &calls,
     };
     play(&rt, rt.alloc(), never, blocked)
