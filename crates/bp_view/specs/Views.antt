@@ -1,5 +1,5 @@
 -- The view of a history of a program: a line for each of its calls that is shown.
-use Rattle.std.specs.Prelude.{◌≡◌, ◌==◌, ◌<◌, ◌≤◌, ◌-◌, ◌&&◌, ℕ, suc, Bool, true, false, nat_le, nat_lt, List, [], ◌∷◌, ◌++◌, Option, None, Some, drop, length, map, reverse, take, slice_get, unwrap_or}
+use Rattle.std.specs.Prelude.{◌≡◌, ◌==◌, ◌<◌, ◌≤◌, ◌-◌, ◌&&◌, ℕ, suc, Bool, true, false, nat_le, nat_lt, List, [], ◌∷◌, ◌++◌, Option, None, Some, drop, length, map, max, reverse, take, slice_get, unwrap_or}
 use Rattle.std.specs.List.{concat}
 use Rattle.bp_tree.specs.Ast.{Program}
 use Rattle.bp_code.specs.StandsFor.{places_of, StandsFor}
@@ -66,11 +66,30 @@ folds_in Json fold = false
 abbrev pub folds : ViewOptions → Bool
 folds o = folds_in o.format o.fold
 
--- for how many calls the line of x stands, which is the next call of this whole history after h
+-- how many of `count` calls are before all those whose numbers are asked for
+abbrev pub before_last : Option ℕ → ℕ → ℕ
+before_last None count = 0
+before_last (Some last) count = count - last
+
+abbrev pub skipped : ViewOptions → ℕ → ℕ
+skipped o count = max (unwrap_or o.from 0 - 1) (before_last o.last count)
+
+-- the number of the last of `count` calls that is asked for
+abbrev pub last_number : ViewOptions → ℕ → ℕ
+last_number o count = unwrap_or o.to count
+
+-- for how many calls the line of call n stands, which is x in this whole history: calls whose
+-- numbers are not asked for are in no line
+abbrev pub calls_at : ViewOptions → (whole : List Call) → (n : ℕ) → Call → ℕ
+calls_at o whole n x =
+    let count = length whole in
+    let before = drop (skipped o count) (take (n - 1) whole) in
+    let after = take (last_number o count - n) (drop n whole) in
+    calls_in_line (folds o) x (reverse before) after
+
+-- that of x, which is the next call of this whole history after h
 abbrev pub calls_of : ViewOptions → (whole h : List Call) → Call → ℕ
-calls_of o whole h x =
-    let n = length h in
-    calls_in_line (folds o) x (reverse (take n whole)) (drop (suc n) whole)
+calls_of o whole h x = calls_at o whole (suc (length h)) x
 
 -- Of a program and its text, in a setup; the columns have these widths, and this is the whole
 -- history.

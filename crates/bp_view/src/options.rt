@@ -37,7 +37,7 @@ pub struct ViewOptions<'a> {
 }
 
 impl ViewOptions<'_> {
-    ghost use Rattle.bp_view.specs.Views.{folds, is_between, is_late, is_of_thread};
+    ghost use Rattle.bp_view.specs.Views.{before_last, folds, is_between, is_late, is_of_thread, last_number, skipped};
 
     /// All calls, without colours.
     pub(crate) fn all<'a>(format: ViewFormat) -> ViewOptions<'a>
@@ -81,6 +81,31 @@ impl ViewOptions<'_> {
         ensures { result ≡ is_between self.now.from self.now.to number }
     {
         self.from.unwrap_or(0) <= number && number <= self.to.unwrap_or(number)
+    }
+
+    /// How many of `count` calls are before the last ones that are asked for.
+    fn before_last(&self, count: u64) -> u64
+        ensures { result ≡ before_last self.now.last count }
+    {
+        match self.last {
+            Some(last) => count.saturating_sub(last),
+            None => 0,
+        }
+    }
+
+    /// How many of `count` calls are before all those whose numbers are asked for.
+    pub(crate) fn skipped(&self, count: u64) -> u64
+        ensures { result ≡ skipped self.now count }
+    {
+        let before_first = self.from.unwrap_or(0).saturating_sub(1);
+        before_first.max(self.before_last(count))
+    }
+
+    /// The number of the last of `count` calls that is asked for.
+    pub(crate) fn last_number(&self, count: u64) -> u64
+        ensures { result ≡ last_number self.now count }
+    {
+        self.to.unwrap_or(count)
     }
 
     /// Whether equal waits have one line.

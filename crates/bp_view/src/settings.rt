@@ -1,8 +1,7 @@
 //! What the lines of a view have in common: the program's scenes and names, and the widths of the
 //! columns.
-ghost use Rattle.std.specs.Prelude.{◌≡◌, ◌<◌, ◌-◌, ◌^◌, drop, length, map, max, reverse, take};
-ghost use Rattle.bp_view.specs.Views.{folds, is_shown};
-ghost use Rattle.bp_view.specs.Waits.{calls_in_line};
+ghost use Rattle.std.specs.Prelude.{◌≡◌, ◌<◌, ◌^◌, drop, length, map, max, take};
+ghost use Rattle.bp_view.specs.Views.{calls_at, is_shown};
 ghost use Rattle.bp_view.specs.Widths.{extent, extent_of, longest, AreWidths};
 
 use crate::options::ViewOptions;
@@ -25,6 +24,22 @@ pub(crate) struct Widths {
     pub(crate) context: usize,
     pub(crate) place: usize,
     pub(crate) words: usize,
+}
+
+/// The first calls, this many.
+fn calls_to(calls: &[Call], count: u64) -> &[Call]
+    ensures { result.now ≡ take count calls.now }
+{
+    let end = count.min(calls.len() as u64) as usize;
+    &calls[..end]
+}
+
+/// The calls after the first ones, this many.
+fn calls_from(calls: &[Call], count: u64) -> &[Call]
+    ensures { result.now ≡ drop count calls.now }
+{
+    let start = count.min(calls.len() as u64) as usize;
+    &calls[start..]
 }
 
 /// What a view shows its calls of.
@@ -99,14 +114,16 @@ impl Setting<'_> {
     /// For how many calls the line of the call with this number stands.
     pub(crate) fn calls_in_line(&self, call: &Call, number: u64) -> usize
         ensures { let whole = self.now.history.now in
-            let before = reverse (take (number - 1) whole) in
-            let folds = folds self.now.options in
-            result ≡ calls_in_line folds call.now before (drop number whole) }
+            result ≡ calls_at self.now.options whole number call.now }
     {
-        let (first, last) = (number.saturating_sub(1), number);
         let count = self.count();
-        let before = &self.history[..first.min(count) as usize];
-        let after = &self.history[last.min(count) as usize..];
+        let earlier = calls_to(self.history, number.saturating_sub(1));
+        let before = calls_from(earlier, self.options.skipped(count));
+        let later = calls_from(self.history, number);
+        let after = calls_to(
+            later,
+            self.options.last_number(count).saturating_sub(number),
+        );
         calls_in_line(self.options.folds(), call, before, after)
     }
 }

@@ -1,7 +1,6 @@
-use Rattle.std.proofs.Common.{◌≡◌, ◌∙◌, ◌-◌, ◌&&◌, [], length, nat_lt, true, false, take, drop, reverse, ap, ap₂, sym, refl, subst, append-nil, arith}
+use Rattle.std.proofs.Common.{◌≡◌, ◌∙◌, ◌&&◌, [], nat_lt, true, false, ap, ap₂, sym, refl, subst, append-nil, arith}
 use Rattle.std.proofs.lemmas.Bool.Decides.{nat_tests}
-use Rattle.bp_view.specs.Views.{calls_of, folds, has_line, is_wanted, IsViewLineIf}
-use Rattle.bp_view.specs.Waits.{calls_in_line}
+use Rattle.bp_view.specs.Views.{calls_at, calls_of, has_line, is_wanted, IsViewLineIf}
 use Rattle.bp_view.proofs.shown.push_shown.Goals as goal
 
 pub returns-in_ok-push_view_line : goal.returns-in_ok-push_view_line
@@ -9,12 +8,8 @@ returns-in_ok-push_view_line c = λ t text s h x setting of printed.
     let o = c.args.setting.now.options in
     let w = c.args.setting.now.widths in
     let whole = c.args.setting.now.history.now in
-    let m = c.args.moment.now in
-    let before : m.number - 1 ≡ length h = omega (arith, of.number) in
     let calls : c.calls_in_line-calls.result ≡ calls_of o whole h x =
-    c.calls_in_line-calls.ensures
-    ∙ ap (λ y. calls_in_line (folds o) y (reverse (take (m.number - 1) whole)) (drop m.number whole)) of.call
-    ∙ ap₂ (λ k n. calls_in_line (folds o) x (reverse (take k whole)) (drop n whole)) before of.number in
+    c.calls_in_line-calls.ensures ∙ ap₂ (calls_at o whole) of.number of.call in
     let some : nat_lt 0 c.calls_in_line-calls.result ≡ true = grind (arith, nat_tests, c.if-calls-gt0.true) in
     let wanted : is_wanted t text s o w whole h x ≡ true = sym (c.is_wanted.ensures t text s h x setting of) ∙ c.if-not-is_wanted.false in
     let has : has_line t text s o w whole h x ≡ true = ap₂ (λ p q. p && q) wanted (ap (nat_lt 0) (sym calls) ∙ some) in
@@ -30,12 +25,8 @@ returns-else-calls-gt0 c = λ t text s h x setting of printed.
     let o = c.args.setting.now.options in
     let w = c.args.setting.now.widths in
     let whole = c.args.setting.now.history.now in
-    let m = c.args.moment.now in
-    let before : m.number - 1 ≡ length h = omega (arith, of.number) in
     let calls : c.calls_in_line-calls.result ≡ calls_of o whole h x =
-    c.calls_in_line-calls.ensures
-    ∙ ap (λ y. calls_in_line (folds o) y (reverse (take (m.number - 1) whole)) (drop m.number whole)) of.call
-    ∙ ap₂ (λ k n. calls_in_line (folds o) x (reverse (take k whole)) (drop n whole)) before of.number in
+    c.calls_in_line-calls.ensures ∙ ap₂ (calls_at o whole) of.number of.call in
     let none : nat_lt 0 c.calls_in_line-calls.result ≡ false = grind (arith, nat_tests, c.if-calls-gt0.false) in
     let wanted : is_wanted t text s o w whole h x ≡ true = sym (c.is_wanted.ensures t text s h x setting of) ∙ c.if-not-is_wanted.false in
     let has : has_line t text s o w whole h x ≡ false = ap₂ (λ p q. p && q) wanted (ap (nat_lt 0) (sym calls) ∙ none) in
