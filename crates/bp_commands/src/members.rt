@@ -5,8 +5,12 @@ ghost use Rattle.bp_view.specs.JsonTexts.{member, number_or_null, string_byte, s
 ghost use Rattle.bp_commands.specs.Members.{member_text, name_in, value_text};
 
 use bp_text::{WriteFault, put, put_each};
+use bp_view::hex_digit;
 use itoa::Buffer;
 use std::io::Write;
+
+/// The control byte after the printable ones.
+const DELETE: u8 = 127;
 
 /// The value of a member.
 #[derive(Clone, Copy)]
@@ -44,8 +48,9 @@ fn put_byte<W: Write>(byte: u8, out: &mut W) -> Result<(), WriteFault>
 {
     if byte == b'"' || byte == b'\\' {
         put(out, &[b'\\', byte])
-    } else if byte < b' ' || b'~' < byte {
-        put(out, b"?")
+    } else if byte < b' ' || byte == DELETE {
+        let digits = [hex_digit(byte / 16), hex_digit(byte % 16)];
+        put_each(out, &[b"\\u00", &digits])
     } else {
         put(out, &[byte])
     }

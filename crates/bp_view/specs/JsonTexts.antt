@@ -1,12 +1,23 @@
--- Texts of JSON: strings, bits, lists and members of objects. All their bytes are printable ASCII.
-use Rattle.std.specs.Prelude.{if◌then◌else◌, ◌==◌, ◌||◌, ℕ, nat_lt, Bool, List, [], ◌∷◌, ◌++◌, Option, None, Some, codes, decimal, drop, flat_map}
+-- Texts of JSON: strings, bits, lists and members of objects.
+use Rattle.std.specs.Prelude.{if◌then◌else◌, ◌==◌, ◌||◌, ◌+◌, ◌/◌, ◌%◌, ℕ, nat_lt, Bool, List, [], ◌∷◌, ◌++◌, Option, None, Some, codes, decimal, drop, flat_map}
 
--- a byte of a string: a backslash comes before a quotation mark and a backslash, and a question mark
--- stands for a byte that is not printable
+-- the hexadecimal digit of a number below 16
+abbrev pub hex_digit : ℕ → ℕ
+hex_digit n = if nat_lt n 10 then 48 + n else 87 + n
+
+-- a quotation mark and a backslash, which have a backslash before them in a string
+abbrev pub is_marked : ℕ → Bool
+is_marked b = b == 34 || b == 92
+
+-- a control byte, which a string has by its number
+abbrev pub is_control : ℕ → Bool
+is_control b = nat_lt b 32 || b == 127
+
+-- a byte of a string
 abbrev pub string_byte : ℕ → List ℕ
 string_byte b =
-    if b == 34 || b == 92 then 92 ∷ b ∷ []
-    else if nat_lt b 32 || nat_lt 126 b then 63 ∷ []
+    if is_marked b then 92 ∷ b ∷ []
+    else if is_control b then codes "\\u00" ++ hex_digit (b / 16) ∷ hex_digit (b % 16) ∷ []
     else b ∷ []
 
 abbrev pub string_text : List ℕ → List ℕ

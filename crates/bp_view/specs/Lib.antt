@@ -6,6 +6,7 @@ pub mod Frames
 pub mod Heads
 pub mod JsonCalls
 pub mod JsonListings
+pub mod JsonStrings
 pub mod JsonTexts
 pub mod Lines
 pub mod Listings
@@ -16,8 +17,8 @@ pub mod Programs
 pub mod Scenes
 pub mod Spans
 pub mod StatementLines
-pub mod States
 pub mod Statements
+pub mod States
 pub mod Unreached
 pub mod Views
 pub mod Waits

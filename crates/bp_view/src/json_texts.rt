@@ -1,10 +1,28 @@
 //! Texts of JSON, and members of its objects.
-ghost use Rattle.std.specs.Prelude.{◌≡◌, ◌++◌, codes, decimal, flat_map, option_map, OnOk};
-ghost use Rattle.bp_view.specs.JsonTexts.{bit_or_null, bit_text, list_text, member, number_or_null, string_byte, string_or_null, string_text, truth_text};
+ghost use Rattle.std.specs.Prelude.{◌≡◌, ◌<◌, ◌++◌, codes, decimal, flat_map, option_map, OnOk};
+ghost use Rattle.bp_view.specs.JsonTexts.{bit_or_null, bit_text, hex_digit, list_text, member, number_or_null, string_byte, string_or_null, string_text, truth_text};
 
 use bp_text::{part_from, push_bytes};
 use itoa::Buffer;
 use std::alloc::AllocError;
+
+/// The control byte after the printable ones.
+const DELETE: u8 = 127;
+
+/// The code of the letter a, less ten.
+const LETTERS: u8 = b'a' - 10;
+
+/// The hexadecimal digit of a number below 16.
+pub fn hex_digit(number: u8) -> u8
+    requires { number < 16 }
+    ensures { result ≡ hex_digit number }
+{
+    if number < 10 {
+        b'0' + number
+    } else {
+        LETTERS + number
+    }
+}
 
 /// Adds a byte of a string.
 fn push_byte(line: &mut Vec<u8>, byte: u8) -> Result<(), AllocError>
@@ -13,8 +31,10 @@ fn push_byte(line: &mut Vec<u8>, byte: u8) -> Result<(), AllocError>
     if byte == b'"' || byte == b'\\' {
         line.push(b'\\')?;
         line.push(byte)?;
-    } else if byte < b' ' || b'~' < byte {
-        line.push(b'?')?;
+    } else if byte < b' ' || byte == DELETE {
+        push_bytes(line, b"\\u00")?;
+        line.push(hex_digit(byte / 16))?;
+        line.push(hex_digit(byte % 16))?;
     } else {
         line.push(byte)?;
     }

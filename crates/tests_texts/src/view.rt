@@ -3,7 +3,9 @@
 
 use bp_check::Checked;
 use bp_code::{compile, lawful_program};
-use bp_view::{ViewFormat, ViewOptions, contexts_of, program_object, state_at, view};
+use bp_view::{
+    ViewFormat, ViewOptions, contexts_of, program_object, state_at, strings_are_read_back, view,
+};
 use std::alloc::Global;
 use std::test::Fail;
 
@@ -120,6 +122,11 @@ fn lines_of_contexts(alloc: Global) -> Result<Vec<u8>, Fail> {
 fn shows_a_line_for_each_context(rt: HostRuntime) -> Result<(), Fail> {
     assert!(rt; lines_of_contexts(rt.alloc())?.as_slice() == CONTEXTS);
     Ok(())
+}
+
+#[test]
+fn laws(_rt: HostRuntime) {
+    strings_are_read_back();
 }
 
 fn names_all(alloc: Global) -> Result<bool, Fail> {
