@@ -1,6 +1,5 @@
 -- The object that a run writes of a fault is that of the inputs that were read.
-use Rattle.std.proofs.Common.{◌≡◌, ◌⊎◌, ◌∙◌, ℕ, List, Option, None, Result, Ok, Err, refl, subst, sym, inl, inr, ap}
-use Rattle.bp_commands.specs.declared.explanations.Beside.{Beside}
+use Rattle.std.proofs.Common.{◌≡◌, ◌⊎◌, ℕ, List, Option, Result, Ok, Err, refl, subst, sym, inl, inr}
 use Rattle.bp_commands.specs.declared.fault_formats.FaultFormat.{FaultFormat}
 use Rattle.bp_commands.specs.declared.fault_formats.FaultFormat.TheVariants as format
 use Rattle.bp_commands.specs.declared.inputs.InputFault.{InputFault}
@@ -10,7 +9,7 @@ use Rattle.bp_commands.specs.Ends.{Ending, Ends}
 use Rattle.bp_commands.specs.Explanations.{AreReadOr}
 use Rattle.bp_commands.specs.Faults.{fault_of_input, fault_of_text}
 use Rattle.bp_commands.specs.Flushes.{IsFlushed}
-use Rattle.bp_commands.specs.Given.{Inputs, Pair, IsTextUnread, IsPairUnread}
+use Rattle.bp_commands.specs.Given.{Inputs, IsTextUnread, IsPairUnread}
 use Rattle.bp_commands.specs.Tellings.{IsObjectRead, IsReported, NamesNoByte}
 
 module _ {X R : Type 0} (inputs : Inputs X) (IsObject : X → Fault → List ℕ → Type 0) (unread : (f : Fault) → inputs.Unread f → NamesNoByte f) (given : X) where

@@ -1,5 +1,5 @@
 -- What a view of a trace says of the command `show`.
-use Rattle.std.proofs.Common.{◌≡◌, ◌++◌, ℕ, List, Option, refl, sym, inl, inr, subst}
+use Rattle.std.proofs.Common.{◌++◌, ℕ, List, Option, refl, sym, inl, inr, subst}
 use Rattle.std.specs.Io.KnownBytes.{Keeps}
 use Rattle.std.proofs.KnownBytes.{Keeps-refl}
 use Rattle.bp_tree.specs.Ast.{Program}

@@ -1,12 +1,12 @@
 -- How a run ends: its exit status, and what it leaves on standard error.
-use Rattle.std.specs.Prelude.{◌≡◌, ◌⊎◌, ℕ, List, [], ◌∷◌, Option, Result, Ok, Err, Bool, true, false}
+use Rattle.std.specs.Prelude.{◌≡◌, ◌⊎◌, ℕ, List, [], ◌∷◌, Option, None, Result, Ok, Err, Bool, true, false}
 use Rattle.bp_text.specs.Writing.{AppendsAll, AppendsPart}
 use Rattle.bp_machine.specs.declared.reports.Outcome.{Outcome}
 use Rattle.bp_machine.specs.declared.reports.Outcome.TheVariants.{Clean, Failed}
 use Rattle.bp_machine.specs.declared.reports.Report.{Report}
 use Rattle.bp_run.specs.declared.answers.RunReport.{RunReport}
 use Rattle.bp_commands.specs.declared.faults.Fault.{Fault}
-use Rattle.bp_commands.specs.FaultTable.{fault_line, status_of}
+use Rattle.bp_commands.specs.FaultTable.{exit_status, fault_line, status_of}
 
 -- an assertion failed
 abbrev pub has_failed : Outcome → Bool
@@ -34,11 +34,6 @@ of_run = record { failed = λ r. report_failed r.report; summary = λ _. [] }
 abbrev pub never : {T : Type 0} → Ending T
 never = record { failed = λ _. false; summary = λ _. [] }
 
--- the status of a run that was done, in which an assertion failed or not
-abbrev pub done_status : Bool → ℕ
-done_status true = 1
-done_status false = 0
-
 -- the line was written, or a proper prefix of it where standard error failed
 abbrev pub HasLine : List ℕ → Option (List ℕ) → Option (List ℕ) → Type 0
 HasLine line old new = AppendsAll old new line ⊎ AppendsPart old new line
@@ -58,5 +53,5 @@ module _
   -- the status of the answer, and its summary or the report of its fault
   abbrev pub Ends : Result T Fault → ℕ → Option (List ℕ) → Option (List ℕ) → Type 0
   Ends (Ok answer) status old new =
-      (status ≡ done_status (ending.failed answer)) × HasSummary (ending.summary answer) old new
+      (status ≡ exit_status (ending.failed answer) None) × HasSummary (ending.summary answer) old new
   Ends (Err f) status old new = (status ≡ status_of f) × IsReported f old new

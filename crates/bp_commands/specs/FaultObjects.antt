@@ -5,7 +5,7 @@ use Rattle.bp_machine.specs.Replies.{letter_of}
 use Rattle.bp_text.specs.Positions.{position_at}
 use Rattle.bp_view.specs.JsonTexts.{member, number_or_null, string_or_null, string_text}
 use Rattle.bp_commands.specs.declared.fault_table.Detail.{Detail}
-use Rattle.bp_commands.specs.declared.fault_table.Detail.TheVariants.{Nothing, Byte, Thread, Line, Wanted}
+use Rattle.bp_commands.specs.declared.fault_table.Detail.TheVariants.{Byte, Thread, Line, Wanted}
 use Rattle.bp_commands.specs.declared.faults.Fault.{Fault}
 use Rattle.bp_commands.specs.FaultTable.{fault_row, RowOf}
 

@@ -1,5 +1,5 @@
 -- The table of the faults, and their lines.
-use Rattle.std.specs.Prelude.{if◌then◌else◌, ◌==◌, ◌||◌, ◌&&◌, nat_le, Bool, ℕ, List, [], ◌∷◌, ◌++◌, Option, None, Some, codes, decimal}
+use Rattle.std.specs.Prelude.{if◌then◌else◌, ◌==◌, ◌||◌, ◌&&◌, nat_le, Bool, ℕ, List, [], ◌∷◌, ◌++◌, Option, None, Some, codes, decimal, true, false}
 use Rattle.std.specs.List.{concat}
 use Rattle.bp_syntax.specs.declared.faults.ReadFault.{ReadFault}
 use Rattle.bp_syntax.specs.declared.faults.ReadFault.TheVariants as read
@@ -111,9 +111,15 @@ fault_row fault.Memory = memory_row
 abbrev pub is_of_the_machine : ℕ → Bool
 is_of_the_machine n = n == 7 || nat_le 51 n && nat_le n 55
 
+-- the exit status of a run that a fault of this number ended, or in which an assertion failed or not
+abbrev pub exit_status : (has_failed : Bool) → Option ℕ → ℕ
+exit_status failed (Some n) = if is_of_the_machine n then 3 else 2
+exit_status true None = 1
+exit_status false None = 0
+
 -- the exit status of a run that the fault ended
 abbrev pub status_of : Fault → ℕ
-status_of f = let r = fault_row f in if is_of_the_machine r.number then 3 else 2
+status_of f = exit_status false (Some (fault_row f).number)
 
 -- the byte, thread or line that a fault names, and the reply that it wants
 abbrev pub detail_place : Detail → Option ℕ

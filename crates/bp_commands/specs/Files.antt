@@ -1,5 +1,5 @@
 -- A run of a command, from its inputs to the exit status, and what it leaves on both streams.
-use Rattle.std.specs.Prelude.{ℕ, List, Option, None, Some, Result, Bool}
+use Rattle.std.specs.Prelude.{ℕ, List, Option, None, Some, Result}
 use Rattle.bp_commands.specs.declared.faults.Fault.{Fault}
 use Rattle.bp_commands.specs.Commands.{Command, Answers}
 use Rattle.bp_commands.specs.Ends.{Ending, Ends}

@@ -13,6 +13,9 @@ use bp_machine::{Report, Start};
 use std::alloc::Global;
 use std::io::{Read, Write};
 
+/// Why a bundle is not driven.
+pub type BundleFault = Fault;
+
 /// Reads a bundle, a program and a schedule, drives the program by the schedule, and writes the
 /// trace: one thread begins with `main`, all globals are 0, and at most 2 contexts and 1,000 calls
 /// are allowed. At most 1,048,577 bytes are read.
@@ -20,7 +23,7 @@ pub fn drive_bundle<R: Read, W: Write>(
     alloc: Global,
     bundle: &mut Source<R>,
     out: &mut W,
-) -> Result<Report, Fault>
+) -> Result<Report, BundleFault>
     ensures { let inputs = bundle_alone
         (R.remaining bundle.old.reader) (R.remaining bundle.new.reader) in
         Answers bundles inputs (W.contents out.old) (W.contents out.new) result }

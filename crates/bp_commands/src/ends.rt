@@ -3,6 +3,7 @@ ghost use Rattle.std.specs.Prelude.{◌≡◌};
 ghost use Rattle.bp_commands.specs.Ends.{Ending, Ends, HasFaultLine, HasSummary, never, of_report, of_run};
 
 use crate::fault_lines::show_fault;
+use crate::fault_table::exit_status;
 use crate::faults::Fault;
 use bp_machine::{Outcome, Report};
 use bp_run::RunReport;
@@ -61,7 +62,7 @@ pub fn end<T: Ended, E: Write>(done: &Result<T, Fault>, errors: &mut E) -> u8
     match done {
         Ok(answer) => {
             answer.summarize(errors);
-            u8::from(answer.has_failed())
+            exit_status(answer.has_failed(), None)
         }
         Err(fault) => {
             // Where standard error fails, the status still reports the fault.

@@ -1,6 +1,6 @@
 //! The table of the faults: the number, the name, and what the fault names.
 ghost use Rattle.std.specs.Prelude.{◌≡◌};
-ghost use Rattle.bp_commands.specs.FaultTable.{check_row, fault_row, long_row, memory_row, place_of, read_row, row_of, schedule_row, setup_row, status_of, trace_row, wanted_of, write_row};
+ghost use Rattle.bp_commands.specs.FaultTable.{check_row, exit_status, fault_row, long_row, memory_row, place_of, read_row, row_of, schedule_row, setup_row, status_of, trace_row, wanted_of, write_row};
 
 use crate::faults::Fault;
 use bp_check::CheckFault;
@@ -8,6 +8,19 @@ use bp_code::ProgramFault;
 use bp_machine::{Reply, SetupFault};
 use bp_syntax::ReadFault;
 use bp_trace::{DriveFault, ReplayFault};
+
+/// The exit status of a run. By the number of the fault that ended it, it is 3 for memory, devices,
+/// the output and workers that do not start or stop early, and 2 for any other. Without a fault it
+/// is 1 where an assertion failed, else 0.
+pub fn exit_status(has_failed: bool, fault: Option<u32>) -> u8
+    ensures { result ≡ exit_status has_failed fault }
+{
+    match fault {
+        Some(7 | 51..=55) => 3,
+        Some(_) => 2,
+        None => u8::from(has_failed),
+    }
+}
 
 /// What a fault names.
 #[derive(Clone, Copy)]
@@ -166,15 +179,18 @@ impl Fault {
         }
     }
 
-    /// The exit status of a run that the fault ended, by its number: 3 for memory, devices, the
-    /// output and workers that do not start or stop early, 2 for any other.
+    /// The number that users know the fault by.
+    pub fn number(&self) -> u32
+        ensures { let row = fault_row self.now in result ≡ row.number }
+    {
+        self.row().number
+    }
+
+    /// The exit status of a run that the fault ended.
     pub fn status(&self) -> u8
         ensures { result ≡ status_of self.now }
     {
-        match self.row().number {
-            7 | 51..=55 => 3,
-            _ => 2,
-        }
+        exit_status(false, Some(self.number()))
     }
 
     /// The byte, line or thread that the fault names, where it names one.

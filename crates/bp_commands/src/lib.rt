@@ -37,7 +37,7 @@ mod summary_objects;
 mod tellings;
 mod testing;
 
-pub use bundles::drive_bundle;
+pub use bundles::{BundleFault, drive_bundle};
 pub use checking::{Check, show_check};
 pub use coding::{Code, ListingForm};
 pub use commands::{PairCommand, ProgramCommand, do_on_pair, do_on_program};
@@ -46,7 +46,7 @@ pub use ends::{Ended, end};
 pub use explanations::Beside;
 pub use fault_formats::FaultFormat;
 pub use fault_lines::show_fault;
-pub use fault_table::{Detail, Row};
+pub use fault_table::{Detail, Row, exit_status};
 pub use faults::Fault;
 pub use files::{Files, InputFile};
 pub use flushes::flushed;
