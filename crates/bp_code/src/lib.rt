@@ -24,6 +24,7 @@ pub mod stores;
 pub mod texts;
 mod translate;
 
+pub use bp_text::{WriteFault, put};
 pub use code::Code;
 pub use effects::Effect;
 pub use headings::Heading;

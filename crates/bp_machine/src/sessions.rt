@@ -198,7 +198,11 @@ impl Session {
         ensures kept { (self.new.code ≡ self.old.code) × (self.new.setup ≡ self.old.setup) }
         ensures same { OnErr result (self.new ≡ self.old) }
     {
-        self.prepare_given(thread, None)
+        steps_alike(&self.code);
+        let prepared = self.judged(thread, None)?;
+        self.machine.reserve(thread, prepared.transition)?;
+        self.prepared = Some(prepared);
+        Ok(prepared.call)
     }
 
     /// Makes the call that the session is prepared for.

@@ -6,4 +6,5 @@ mod LinesOfTexts
 mod NumberOfDigits
 pub mod Numerals
 pub mod PositionsOfParts
+mod StringsReadBack
 pub mod TextsOnOneLine

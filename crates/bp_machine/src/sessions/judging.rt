@@ -39,7 +39,7 @@ impl Session {
 
     /// What a call of the thread results in, where this bit or none is handed in.
     #[inline(always)]
-    fn judged(&self, thread: u32, given: Option<bool>) -> Result<Prepared, AskFault>
+    pub(super) fn judged(&self, thread: u32, given: Option<bool>) -> Result<Prepared, AskFault>
         ensures { MatchResult result
             (IsJudged self.now thread given)
             (IsKeptRefusal self.now thread given) }
@@ -60,32 +60,6 @@ impl Session {
         })
     }
 
-    /// Prepares a call of the thread, where this bit or none is handed in.
-    pub(super) fn prepare_given(
-        &mut self,
-        thread: u32,
-        given: Option<bool>,
-    ) -> Result<Call, AskFault>
-        ensures answer { (t : Program) (h : List Answered)
-            → StandsFor self.old.code t
-            → Stands t self.old h
-            → MatchResult result
-            (IsNextCall t self.old.setup h thread given)
-            (IsAskRefusal t self.old.setup h thread given) }
-        ensures asked { IfOk result (λ c. (c.thread ≡ thread) × IsGiven given c.bit) }
-        ensures stands { (t : Program) (h : List Answered)
-            → Stands t self.old h
-            → Stands t self.new h }
-        ensures ready { IfOk result (λ c. self.new.ready ≡ Some c) }
-        ensures kept { (self.new.code ≡ self.old.code) × (self.new.setup ≡ self.old.setup) }
-        ensures same { OnErr result (self.new ≡ self.old) }
-    {
-        steps_alike(&self.code);
-        let prepared = self.judged(thread, given)?;
-        self.machine.reserve(thread, prepared.transition)?;
-        self.prepared = Some(prepared);
-        Ok(prepared.call)
-    }
     /// Makes a call of the thread, where this bit or none is handed in.
     #[inline(always)]
     pub(super) fn make_given(&mut self, thread: u32, given: Option<bool>) -> Result<Call, AskFault>

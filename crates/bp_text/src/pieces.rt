@@ -1,0 +1,153 @@
+//! Pieces of a text, each of which says what stands there, and the calls that write them.
+ghost use Rattle.std.specs.Prelude.{◌≡◌, ◌++◌, decimal, flat_map, OnOk};
+ghost use Rattle.bp_text.specs.Pieces.{key_text, piece_text, truth_text};
+ghost use Rattle.bp_text.specs.Writing.{Writes};
+
+use crate::columns::{
+    push_bytes, push_left, push_right, push_spaces, put_left, put_right, put_spaces,
+};
+use crate::json_strings::{push_string, put_string};
+use crate::one_line::{push_on_one_line, put_on_one_line};
+use crate::writing::{WriteFault, put, put_each};
+use itoa::Buffer;
+use std::alloc::AllocError;
+use std::io::Write;
+
+/// A piece of a text.
+#[derive(Clone, Copy)]
+pub enum Piece<'a> {
+    /// These bytes.
+    Bytes(&'a [u8]),
+    /// The decimal of a number.
+    Number(u64),
+    /// This number of spaces.
+    Spaces(usize),
+    /// The bytes at the left of a field of this width.
+    Left(usize, &'a [u8]),
+    /// The bytes at the right of a field of this width.
+    Right(usize, &'a [u8]),
+    /// The decimal of a number at the right of a field of this width.
+    NumberRight(usize, u64),
+    /// The bytes, with a space for each line feed.
+    OneLine(&'a [u8]),
+    /// The key of one more member of an object of JSON, after a comma.
+    Key(&'a [u8]),
+    /// The bytes as a string of JSON.
+    Text(&'a [u8]),
+    /// A byte as a string of JSON.
+    Letter(u8),
+    /// A number, or null.
+    NumberOrNull(Option<u64>),
+    /// A string of JSON, or null.
+    TextOrNull(Option<&'a [u8]>),
+    /// `true` or `false`.
+    Truth(bool),
+}
+
+/// The text of a truth value.
+fn truth_text(value: bool) -> &'static [u8]
+    ensures { result.now ≡ truth_text value }
+{
+    if value { b"true" } else { b"false" }
+}
+
+/// Writes the decimal of a number.
+fn put_number<W: Write>(number: u64, out: &mut W) -> Result<(), WriteFault>
+    ensures { Writes (W.contents out.old) (W.contents out.new) (decimal number) result }
+{
+    let mut buffer = Buffer::new();
+    put(out, buffer.format(number).as_bytes())
+}
+
+/// Writes a piece.
+fn put_piece<W: Write>(piece: Piece<'_>, out: &mut W) -> Result<(), WriteFault>
+    ensures { Writes (W.contents out.old) (W.contents out.new) (piece_text piece.entry) result }
+{
+    match piece {
+        Piece::Bytes(bytes) => put(out, bytes),
+        Piece::Number(number) => put_number(number, out),
+        Piece::Spaces(count) => put_spaces(count, out),
+        Piece::Left(width, bytes) => put_left(width, bytes, out),
+        Piece::Right(width, bytes) => put_right(width, bytes, out),
+        Piece::NumberRight(width, number) => {
+            let mut buffer = Buffer::new();
+            put_right(width, buffer.format(number).as_bytes(), out)
+        }
+        Piece::OneLine(bytes) => put_on_one_line(bytes, out),
+        Piece::Key(key) => put_each(out, &[b",\"", key, b"\":"]),
+        Piece::Text(text) => put_string(text, out),
+        Piece::Letter(letter) => put_string(&[letter], out),
+        Piece::NumberOrNull(Some(number)) => put_number(number, out),
+        Piece::NumberOrNull(None) => put(out, b"null"),
+        Piece::TextOrNull(Some(text)) => put_string(text, out),
+        Piece::TextOrNull(None) => put(out, b"null"),
+        Piece::Truth(value) => put(out, truth_text(value)),
+    }
+}
+
+/// Writes the pieces one after the other. It needs no memory.
+pub fn put_pieces<W: Write>(out: &mut W, pieces: &[Piece<'_>]) -> Result<(), WriteFault>
+    ensures { let text = flat_map piece_text pieces.now in
+        Writes (W.contents out.old) (W.contents out.new) text result }
+{
+    for piece in pieces {
+        put_piece(*piece, out)?;
+    }
+    Ok(())
+}
+
+/// Adds the decimal of a number.
+fn push_number(line: &mut Vec<u8>, number: u64) -> Result<(), AllocError>
+    ensures { OnOk result (line.new.items ≡ line.old.items ++ decimal number) }
+{
+    let mut buffer = Buffer::new();
+    push_bytes(line, buffer.format(number).as_bytes())
+}
+
+/// Adds the key of one more member of an object.
+fn push_key(line: &mut Vec<u8>, key: &[u8]) -> Result<(), AllocError>
+    ensures { OnOk result (line.new.items ≡ line.old.items ++ key_text key.now) }
+{
+    push_bytes(line, b",\"")?;
+    push_bytes(line, key)?;
+    push_bytes(line, b"\":")?;
+    Ok(())
+}
+
+/// Adds a piece. Texts that are made often are made by one call for each piece, since a slice of
+/// pieces takes twice as long.
+#[inline(always)]
+pub fn push_piece(line: &mut Vec<u8>, piece: Piece<'_>) -> Result<(), AllocError>
+    ensures { OnOk result (line.new.items ≡ line.old.items ++ piece_text piece.entry) }
+{
+    match piece {
+        Piece::Bytes(bytes) => push_bytes(line, bytes),
+        Piece::Number(number) => push_number(line, number),
+        Piece::Spaces(count) => push_spaces(line, count),
+        Piece::Left(width, bytes) => push_left(line, width, bytes),
+        Piece::Right(width, bytes) => push_right(line, width, bytes),
+        Piece::NumberRight(width, number) => {
+            let mut buffer = Buffer::new();
+            push_right(line, width, buffer.format(number).as_bytes())
+        }
+        Piece::OneLine(bytes) => push_on_one_line(line, bytes),
+        Piece::Key(key) => push_key(line, key),
+        Piece::Text(text) => push_string(line, text),
+        Piece::Letter(letter) => push_string(line, &[letter]),
+        Piece::NumberOrNull(Some(number)) => push_number(line, number),
+        Piece::NumberOrNull(None) => push_bytes(line, b"null"),
+        Piece::TextOrNull(Some(text)) => push_string(line, text),
+        Piece::TextOrNull(None) => push_bytes(line, b"null"),
+        Piece::Truth(value) => push_bytes(line, truth_text(value)),
+    }
+}
+
+/// Adds the pieces one after the other.
+pub fn push_pieces(line: &mut Vec<u8>, pieces: &[Piece<'_>]) -> Result<(), AllocError>
+    ensures { OnOk result (line.new.items ≡ line.old.items ++ flat_map piece_text pieces.now) }
+{
+    for piece in pieces {
+        push_piece(line, *piece)?;
+    }
+    Ok(())
+}
