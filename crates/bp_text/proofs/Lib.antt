@@ -5,6 +5,7 @@ pub mod Lengths
 mod LinesOfTexts
 mod NumberOfDigits
 pub mod Numerals
+pub mod PiecesInTurn
 pub mod PositionsOfParts
 mod StringsReadBack
 pub mod TextsOnOneLine

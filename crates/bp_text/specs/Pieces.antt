@@ -1,11 +1,11 @@
 -- What the pieces of a text say.
-use Rattle.std.specs.Prelude.{if◌then◌else◌, ℕ, Bool, List, [], ◌∷◌, Option, None, Some, codes, decimal, map, option_map}
+use Rattle.std.specs.Prelude.{if◌then◌else◌, ℕ, Bool, List, [], ◌∷◌, Option, None, Some, codes, decimal, drop, map, option_map}
 use Rattle.std.specs.List.{concat}
 use Rattle.bp_text.specs.Columns.{at_left, at_right, spaces}
 use Rattle.bp_text.specs.JsonStrings.{string_text}
 use Rattle.bp_text.specs.OneLine.{on_one_line}
 use Rattle.bp_text.specs.declared.pieces.Piece.{Piece}
-use Rattle.bp_text.specs.declared.pieces.Piece.TheVariants.{Bytes, Number, Spaces, Left, Right, NumberRight, OneLine, Key, Text, Letter, NumberOrNull, TextOrNull, Truth}
+use Rattle.bp_text.specs.declared.pieces.Piece.TheVariants.{Bytes, Number, Spaces, Left, Right, NumberRight, OneLine, Key, Text, Letter, NumberOrNull, TextOrNull, Truth, Bit, BitOrNull, List as AsList}
 
 abbrev pub string_or_null : Option (List ℕ) → List ℕ
 string_or_null None = codes "null"
@@ -17,6 +17,17 @@ number_or_null (Some n) = decimal n
 
 abbrev pub truth_text : Bool → List ℕ
 truth_text b = if b then codes "true" else codes "false"
+
+abbrev pub bit_text : Bool → List ℕ
+bit_text bit = if bit then codes "1" else codes "0"
+
+abbrev pub bit_or_null : Option Bool → List ℕ
+bit_or_null None = codes "null"
+bit_or_null (Some bit) = bit_text bit
+
+-- a list of these items, each of which begins with a comma
+abbrev pub list_text : (items : List ℕ) → List ℕ
+list_text items = concat (codes "[" ∷ drop 1 items ∷ codes "]" ∷ [])
 
 -- the key of one more member of an object of JSON, after a comma
 abbrev pub key_text : List ℕ → List ℕ
@@ -37,3 +48,6 @@ piece_text (Letter b) = string_text (b ∷ [])
 piece_text (NumberOrNull n) = number_or_null n
 piece_text (TextOrNull text) = string_or_null (option_map (λ s. s.now) text)
 piece_text (Truth b) = truth_text b
+piece_text (Bit bit) = bit_text bit
+piece_text (BitOrNull bit) = bit_or_null bit
+piece_text (AsList items) = list_text items.now

@@ -1,6 +1,6 @@
 //! Pieces of a text, each of which says what stands there, and the calls that write them.
 ghost use Rattle.std.specs.Prelude.{◌≡◌, ◌++◌, decimal, flat_map, OnOk};
-ghost use Rattle.bp_text.specs.Pieces.{key_text, piece_text, truth_text};
+ghost use Rattle.bp_text.specs.Pieces.{bit_text, key_text, list_text, piece_text, truth_text};
 ghost use Rattle.bp_text.specs.Writing.{Writes};
 
 use crate::columns::{
@@ -8,6 +8,7 @@ use crate::columns::{
 };
 use crate::json_strings::{push_string, put_string};
 use crate::one_line::{push_on_one_line, put_on_one_line};
+use crate::parts::part_from;
 use crate::writing::{WriteFault, put, put_each};
 use itoa::Buffer;
 use std::alloc::AllocError;
@@ -42,6 +43,12 @@ pub enum Piece<'a> {
     TextOrNull(Option<&'a [u8]>),
     /// `true` or `false`.
     Truth(bool),
+    /// 1 or 0.
+    Bit(bool),
+    /// 1 or 0, or null.
+    BitOrNull(Option<bool>),
+    /// The items of a list of JSON, each of which begins with a comma, as a list.
+    List(&'a [u8]),
 }
 
 /// The text of a truth value.
@@ -49,6 +56,13 @@ fn truth_text(value: bool) -> &'static [u8]
     ensures { result.now ≡ truth_text value }
 {
     if value { b"true" } else { b"false" }
+}
+
+/// The digit of a bit.
+fn bit_text(bit: bool) -> &'static [u8]
+    ensures { result.now ≡ bit_text bit }
+{
+    if bit { b"1" } else { b"0" }
 }
 
 /// Writes the decimal of a number.
@@ -82,6 +96,9 @@ fn put_piece<W: Write>(piece: Piece<'_>, out: &mut W) -> Result<(), WriteFault>
         Piece::TextOrNull(Some(text)) => put_string(text, out),
         Piece::TextOrNull(None) => put(out, b"null"),
         Piece::Truth(value) => put(out, truth_text(value)),
+        Piece::Bit(bit) | Piece::BitOrNull(Some(bit)) => put(out, bit_text(bit)),
+        Piece::BitOrNull(None) => put(out, b"null"),
+        Piece::List(items) => put_each(out, &[b"[", part_from(items, 1), b"]"]),
     }
 }
 
@@ -114,6 +131,16 @@ fn push_key(line: &mut Vec<u8>, key: &[u8]) -> Result<(), AllocError>
     Ok(())
 }
 
+/// Adds items as a list.
+fn push_list(line: &mut Vec<u8>, items: &[u8]) -> Result<(), AllocError>
+    ensures { OnOk result (line.new.items ≡ line.old.items ++ list_text items.now) }
+{
+    push_bytes(line, b"[")?;
+    push_bytes(line, part_from(items, 1))?;
+    push_bytes(line, b"]")?;
+    Ok(())
+}
+
 /// Adds a piece. Texts that are made often are made by one call for each piece, since a slice of
 /// pieces takes twice as long.
 #[inline(always)]
@@ -139,6 +166,9 @@ pub fn push_piece(line: &mut Vec<u8>, piece: Piece<'_>) -> Result<(), AllocError
         Piece::TextOrNull(Some(text)) => push_string(line, text),
         Piece::TextOrNull(None) => push_bytes(line, b"null"),
         Piece::Truth(value) => push_bytes(line, truth_text(value)),
+        Piece::Bit(bit) | Piece::BitOrNull(Some(bit)) => push_bytes(line, bit_text(bit)),
+        Piece::BitOrNull(None) => push_bytes(line, b"null"),
+        Piece::List(items) => push_list(line, items),
     }
 }
 
