@@ -1,5 +1,5 @@
 -- What a call leaves of a thread's stack, and of the globals.
-use Rattle.std.proofs.Common.{if◌then◌else◌, ◌≡◌, ◌∙◌, ◌<◌, ◌≤◌, ◌⊎◌, inl, inr, ℕ, Bool, true, false, List, [], ◌∷◌, ◌++◌, Option, None, Some, length, ap, ap₂, sym, refl, arith}
+use Rattle.std.proofs.Common.{if◌then◌else◌, ◌≡◌, ◌∙◌, ◌<◌, ◌≤◌, ◌⊎◌, inl, inr, ℕ, Bool, true, false, List, [], ◌∷◌, Option, None, Some, length, sym, refl, arith}
 use Rattle.std.specs.Prelude.{unwrap_or, slice_set}
 use Rattle.std.proofs.lemmas.Bool.{cases_lt}
 use Rattle.std.proofs.lemmas.List.{get_or_past, get_or-set_same}
@@ -11,9 +11,7 @@ use Rattle.bp_code.specs.Values.{Valuation, decision_value, expression_values}
 use Rattle.bp_machine.specs.declared.calls.Reply.{Reply}
 use Rattle.bp_machine.specs.Answers.{configuration_after_call, configuration_after_step, stack_of}
 use Rattle.bp_machine.specs.Replies.{is_granted}
-use Rattle.bp_view.specs.declared.options.ViewFormat.{ViewFormat}
-use Rattle.bp_view.specs.Changes.{changed, changed_variables, changes_text, stack_changed, stack_changes, variables_text, IsNext, IsSameCall}
-use Rattle.bp_view.proofs.ChangedVariables.{none_changed}
+use Rattle.bp_view.specs.Changes.{IsNext, IsSameCall}
 
 same_call : (fs : List Frame) → IsSameCall fs fs
 same_call [] = tt
@@ -96,33 +94,3 @@ module _ (t : Program) (c : Configuration) (i : ℕ) (bit : Bool) where
       by_reply : (b : Bool) → IsNext c (if b then unwrap_or (configuration_after_step t c i bit (stack_of c i)) c else c) i
       by_reply true = next_of_step (stack_of c i) refl
       by_reply false = same_next c i
-
--- without a stack before or after it a call changes no variable
-none_changed_after : (fs : List Frame) → stack_changed fs [] ≡ []
-none_changed_after [] = refl
-none_changed_after (f ∷ fs) = refl
-
-module _ (c d : Configuration) (i : ℕ) (next : IsNext c d i) where
-  globals_stay : d.globals ≡ c.globals → changed c.globals d.globals ≡ []
-  globals_stay e = ap (changed c.globals) e ∙ none_changed c.globals
-
-  pub idle_variables : stack_of c i ≡ [] → changed_variables c d i ≡ []
-  idle_variables e = ap₂ (λ x y. x ++ y) (globals_stay (next.idle e)) (ap (λ s. stack_changed s (stack_of d i)) e)
-
-  pub ended_variables : stack_of d i ≡ [] → changed_variables c d i ≡ []
-  ended_variables e = ap₂ (λ x y. x ++ y) (globals_stay (next.ended e)) (ap (stack_changed (stack_of c i)) e ∙ none_changed_after (stack_of c i))
-
--- and its text is empty
-none_after : (format : ViewFormat) (fs : List Frame) → stack_changes format fs [] ≡ []
-none_after format [] = refl
-none_after format (f ∷ fs) = refl
-
-module _ (format : ViewFormat) (c d : Configuration) (i : ℕ) (next : IsNext c d i) where
-  same_globals : d.globals ≡ c.globals → variables_text format None (changed c.globals d.globals) ≡ []
-  same_globals e = ap (λ g. variables_text format None (changed c.globals g)) e ∙ ap (variables_text format None) (none_changed c.globals)
-
-  pub idle_changes : stack_of c i ≡ [] → changes_text format c d i ≡ []
-  idle_changes e = ap₂ (λ x y. x ++ y) (same_globals (next.idle e)) (ap (λ s. stack_changes format s (stack_of d i)) e)
-
-  pub ended_changes : stack_of d i ≡ [] → changes_text format c d i ≡ []
-  ended_changes e = ap₂ (λ x y. x ++ y) (same_globals (next.ended e)) (ap (λ s. stack_changes format (stack_of c i) s) e ∙ none_after format (stack_of c i))

@@ -1,8 +1,7 @@
 -- What a call changed, as its note says it.
-use Rattle.std.specs.Prelude.{if◌then◌else◌, ◌≡◌, ◌==◌, ℕ, suc, Bool, nat_lt, List, [], ◌∷◌, ◌++◌, Option, None, Some, codes, length, map, option_map, take}
-use Rattle.bp_tree.specs.Ast.{Name, Procedure}
+use Rattle.std.specs.Prelude.{if◌then◌else◌, ◌≡◌, ◌==◌, ℕ, Bool, nat_lt, List, [], ◌∷◌, ◌++◌, Option, None, Some, codes, length, map, option_map, take}
+use Rattle.bp_tree.specs.Ast.{Procedure}
 use Rattle.bp_code.specs.Configurations.{Frame, Configuration}
-use Rattle.bp_code.specs.Steps.{Bits}
 use Rattle.bp_code.specs.Values.{Valuation, same_bit}
 use Rattle.bp_machine.specs.Answers.{stack_of}
 use Rattle.bp_view.specs.declared.options.ViewFormat.{ViewFormat}
@@ -57,44 +56,10 @@ frame_changed f g m n =
     else if m == n then changed f.locals g.locals
     else []
 
-abbrev pub stack_changed : (before after : List Frame) → Valuation
-stack_changed [] after = []
-stack_changed (f ∷ fs) [] = []
-stack_changed (f ∷ fs) (g ∷ gs) = frame_changed f g (length (f ∷ fs)) (length (g ∷ gs))
-
--- the variables that a call of thread i changed: globals, and those of the top of its stack
-abbrev pub changed_variables : (before after : Configuration) → ℕ → Valuation
-changed_variables c d i =
-    changed c.globals d.globals ++ stack_changed (stack_of c i) (stack_of d i)
-
 module _ (format : ViewFormat) where
   abbrev pub variables_text : Option Procedure → Valuation → List ℕ
   variables_text owner [] = []
   variables_text owner (x ∷ xs) = variable_text format owner x.0 x.1 ++ variables_text owner xs
-
-  -- what a call changed in the frame at the top of a stack
-  abbrev pub frame_changes : Frame → Frame → (depth_before depth_after : ℕ) → List ℕ
-  frame_changes f g m n = variables_text (Some g.procedure) (frame_changed f g m n)
-
-  abbrev pub stack_changes : (before after : List Frame) → List ℕ
-  stack_changes [] after = []
-  stack_changes (f ∷ fs) [] = []
-  stack_changes (f ∷ fs) (g ∷ gs) = frame_changes f g (length (f ∷ fs)) (length (g ∷ gs))
-
-  -- what a call of thread i changed: the globals, and the top of its stack
-  abbrev pub changes_text : (before after : Configuration) → ℕ → List ℕ
-  changes_text c d i =
-      variables_text None (changed c.globals d.globals)
-      ++ stack_changes (stack_of c i) (stack_of d i)
-
-  -- A device: the same of names whose slots begin with this one.
-  abbrev pub slot_text : Option Procedure → List ℕ → (before after : Bool) → List ℕ
-  slot_text owner name a b = if same_bit a b then [] else variable_text format owner name b
-
-  abbrev pub slots_text : Option Procedure → List Name → ℕ → (before after : Bits) → List ℕ
-  slots_text owner [] first a b = []
-  slots_text owner (x ∷ xs) first a b =
-      slot_text owner x.text (a first) (b first) ++ slots_text owner xs (suc first) a b
 
 -- A device: where the stacks have the same depth, their top frames are of the same procedure.
 abbrev pub IsSameCall : (before after : List Frame) → Type 0

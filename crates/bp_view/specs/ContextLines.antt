@@ -18,7 +18,8 @@ use Rattle.bp_trace.specs.Replayed.{IsReplayed}
 use Rattle.bp_view.specs.declared.options.ViewFormat.{ViewFormat}
 use Rattle.bp_view.specs.declared.options.ViewFormat.TheVariants.{Columns, Json}
 use Rattle.bp_view.specs.declared.settings.Widths.{Widths}
-use Rattle.bp_view.specs.Changes.{changed, variables_text}
+use Rattle.bp_view.specs.ChangeFacts.{entries_text, owned}
+use Rattle.bp_view.specs.Changes.{changed}
 use Rattle.bp_view.specs.JsonTexts.{list_text, member}
 use Rattle.bp_view.specs.Lines.{after_room, start_on_stack, IsContext}
 use Rattle.bp_view.specs.Parts.{IsInParts}
@@ -126,7 +127,7 @@ module _ (format : ViewFormat) (t : Program) (text : List ℕ) (s : SetupOf) (h 
         let after = configuration_after t s (take (suc last) h) in
         let from = start_on_stack (stack_of before thread) in
         let to = start_on_stack (stack_of after thread) in
-        let changes = variables_text format None (changed before.globals after.globals) in
+        let changes = entries_text format (owned None (changed before.globals after.globals)) in
         line ≡ context_in format w text (numbers n thread (suc first) (suc last)) from to changes
 
   -- a line for each context of the history

@@ -21,7 +21,7 @@ use Rattle.bp_view.specs.declared.writers.ViewWriter.{ViewWriter}
 use Rattle.bp_view.specs.declared.options.ViewFormat.{ViewFormat}
 use Rattle.bp_view.specs.declared.options.ViewFormat.TheVariants.{Columns, Json}
 use Rattle.bp_view.specs.declared.options.ViewOptions.{ViewOptions}
-use Rattle.bp_view.specs.Changes.{changes_text}
+use Rattle.bp_view.specs.ChangeFacts.{changes_between, entries_text, is_seen, Entry}
 use Rattle.bp_view.specs.Colours.{colour_of}
 use Rattle.bp_view.specs.Ends.{IsEnd}
 use Rattle.bp_view.specs.Heads.{view_head}
@@ -30,7 +30,7 @@ use Rattle.bp_view.specs.Lines.{line_text, note_text, Fields, Shown, AreFields, 
 use Rattle.bp_view.specs.Places.{place_text}
 use Rattle.bp_view.specs.Scenes.{AreStatements}
 use Rattle.bp_view.specs.Waits.{calls_in_line}
-use Rattle.bp_view.specs.Watches.{is_watched, watched_names, AreDeclared, IsUndeclared}
+use Rattle.bp_view.specs.Watches.{watched_names, AreDeclared, IsUndeclared}
 use Rattle.bp_view.specs.Widths.{extent, AreWidths}
 use Rattle.bp_view.specs.Writing.{IsStopped, IsWritten}
 
@@ -91,16 +91,19 @@ calls_at o whole n x =
 abbrev pub calls_of : ViewOptions → (whole h : List Call) → Call → ℕ
 calls_of o whole h x = calls_at o whole (suc (length h)) x
 
+-- what the call x after the history h of a program changed
+abbrev pub changes_by : Program → SetupOf → (h : List Call) → Call → List Entry
+changes_by t s h x =
+    changes_between (configuration_after t s h) (configuration_after t s (h ++ x ∷ [])) x.thread
+
 -- Of a program and its text, in a setup; the columns have these widths, and this is the whole
 -- history.
 module _
     (t : Program) (text : List ℕ) (s : SetupOf) (o : ViewOptions) (w : Widths)
     (whole : List Call) where
-  -- what the call x after the history h changed
+  -- the text of what the call x after the history h changed
   abbrev pub changes_of : List Call → Call → List ℕ
-  changes_of h x =
-      let now = configuration_after t s h in
-      changes_text o.format now (configuration_after t s (h ++ x ∷ [])) x.thread
+  changes_of h x = entries_text o.format (changes_by t s h x)
 
   -- the line of that call, in columns
   pub record IsColumnLine (h : List Call) (x : Call) (line : List ℕ) : Type 0 where
@@ -136,10 +139,8 @@ module _
   -- the call x after the history h is asked for, and changed what is watched
   abbrev pub is_wanted : List Call → Call → Bool
   is_wanted h x =
-      let now = configuration_after t s h in
-      let later = configuration_after t s (h ++ x ∷ []) in
       is_shown o (length whole) (suc (length h)) x.thread
-      && is_watched (watched_names o.watch) now later x.thread
+      && is_seen (watched_names o.watch) (changes_by t s h x)
 
   -- it has a line
   abbrev pub has_line : List Call → Call → Bool

@@ -1,15 +1,12 @@
--- The calls that change a watched variable.
-use Rattle.std.specs.Prelude.{◌≡◌, ◌==◌, ◌||◌, ℕ, suc, Bool, true, false, List, [], ◌∷◌, Option, None, Some, is_some, bytes_eq, slice_get, take}
+-- The names of the watched variables.
+use Rattle.std.specs.Prelude.{◌≡◌, ◌==◌, ◌||◌, ℕ, suc, Bool, true, false, List, [], Option, None, Some, is_some, bytes_eq, slice_get, take}
 use Rattle.std.specs.Borrow.{Bor}
 use Rattle.std.specs.List.{list_all, list_any, slice_split}
 use Rattle.bp_tree.specs.Ast.{Procedure, Program}
 use Rattle.bp_check.specs.Tables.{first_index}
-use Rattle.bp_code.specs.Configurations.{Configuration}
 use Rattle.bp_code.specs.StandsFor.{variables}
-use Rattle.bp_code.specs.Values.{Valuation}
 use Rattle.bp_view.specs.declared.faults.ViewFault.{ViewFault}
 use Rattle.bp_view.specs.declared.faults.ViewFault.TheVariants.{NoVariable}
-use Rattle.bp_view.specs.Changes.{changed_variables}
 
 -- the names that are watched: those that a list has between its commas, and none without a list
 abbrev pub watched_names : Option (Bor (List ℕ)) → List (List ℕ)
@@ -49,12 +46,3 @@ module _ (names : List (List ℕ)) where
   -- this is one of the names
   abbrev pub is_named : List ℕ → Bool
   is_named x = list_any (λ n. bytes_eq n x) names
-
-  -- one of these variables has such a name
-  abbrev pub has_named : Valuation → Bool
-  has_named values = list_any (λ v. is_named v.0) values
-
--- a call of thread i changed a watched variable; where no name is watched, each call counts
-abbrev pub is_watched : List (List ℕ) → (before after : Configuration) → ℕ → Bool
-is_watched [] c d i = true
-is_watched (n ∷ ns) c d i = has_named (n ∷ ns) (changed_variables c d i)

@@ -16,14 +16,14 @@ ghost use Rattle.bp_view.specs.Parts.{IsInParts};
 ghost use Rattle.bp_view.specs.Scenes.{AreScenes};
 ghost use Rattle.bp_view.specs.Spans.{numbers_of, position_of_scene, AreSpans, IsSceneFrom, IsSpan};
 
+use crate::change_facts::{Change, add_differing};
 use crate::json_texts::{push_key, push_list, push_number};
-use crate::lines::{place_of, push_note};
+use crate::lines::{place_of, push_changed, push_note};
 use crate::options::{ViewFormat, ViewOptions};
 use crate::outcomes::push_count;
 use crate::scenes::{Scene, scenes_of};
 use crate::settings::{Setting, Widths, setting_of};
 use crate::spans::{Span, spans_of};
-use crate::variables::push_differing;
 use bp_check::Checked;
 use bp_code::Code;
 use bp_machine::{Report, Top};
@@ -187,11 +187,12 @@ fn push_context_in(
     }
 }
 
-/// Adds the line of the context of this number. `note` is room for what it changed.
-fn push_context(
+/// Adds the line of the context of this number. `note` and `changes` are room for what it changed.
+fn push_context<'a>(
     view: &mut Vec<u8>,
     note: &mut Vec<u8>,
-    setting: &Setting<'_>,
+    changes: &mut Vec<Change<'a>>,
+    setting: &Setting<'a>,
     number: u64,
     span: &Span,
 ) -> Result<(), AllocError>
@@ -206,17 +207,20 @@ fn push_context(
     let from = scene_of(setting.scenes, span.before.top);
     let to = scene_of(setting.scenes, span.after.top);
     let (before, after) = (span.before.globals, span.after.globals);
+    changes.clear();
+    add_differing(changes, None, globals, 0, before, after)?;
     note.clear();
-    push_differing(note, format, None, globals, 0, before, after)?;
+    push_changed(note, format, changes)?;
     push_context_in(view, format, setting.widths, number, span, from, to, note)?;
     Ok(())
 }
 
-/// Adds a line for each context. `note` is room for what one changed.
-fn push_contexts(
+/// Adds a line for each context. `note` and `changes` are room for what one changed.
+fn push_contexts<'a>(
     view: &mut Vec<u8>,
     note: &mut Vec<u8>,
-    setting: &Setting<'_>,
+    changes: &mut Vec<Change<'a>>,
+    setting: &Setting<'a>,
     spans: &[Span],
 ) -> Result<(), AllocError>
     ensures { (t : Program) (text : List ℕ) (s : SetupOf) (h : List Answered)
@@ -227,7 +231,7 @@ fn push_contexts(
         OnOk result (Adds lines view.old.items view.new.items) }
 {
     for (n, span) in spans.iter().enumerate() {
-        push_context(view, note, setting, n as u64 + 1, span)?;
+        push_context(view, note, changes, setting, n as u64 + 1, span)?;
     }
     Ok(())
 }
@@ -270,8 +274,9 @@ fn contexts_text(
     let format = setting.options.format;
     let mut view = Vec::new(alloc);
     let mut note = Vec::new(alloc);
+    let mut changes = Vec::new(alloc);
     push_contexts_head(&mut view, format, setting.count(), spans.len() as u64)?;
-    push_contexts(&mut view, &mut note, setting, spans)?;
+    push_contexts(&mut view, &mut note, &mut changes, setting, spans)?;
     Ok(view)
 }
 

@@ -1,20 +1,20 @@
 //! The object of a call in JSON.
-ghost use Rattle.std.specs.Prelude.{◌≡◌, ◌++◌, [], ℕ, List, codes, drop, flat_map, option_map, slice_get, OnOk};
-ghost use Rattle.bp_tree.specs.Ast.{Program};
-ghost use Rattle.bp_code.specs.Configurations.{Configuration};
+ghost use Rattle.std.specs.Prelude.{◌≡◌, ◌++◌, [], ℕ, List, codes, drop, flat_map, map, option_map, slice_get, OnOk};
 ghost use Rattle.bp_machine.specs.Replies.{is_granted};
 ghost use Rattle.bp_text.specs.declared.positions.Position.{Position as Place};
-ghost use Rattle.bp_view.specs.Changes.{changes_text};
+ghost use Rattle.bp_view.specs.ChangeFacts.{entries_text, entry_of};
 ghost use Rattle.bp_view.specs.JsonCalls.{bit_item, call_members, call_object, choice_of, name_at, next_members, next_of, nothing_next, position_members, printed_text, reply_members, reply_name};
 ghost use Rattle.bp_view.specs.JsonTexts.{list_text, member, string_or_null};
-ghost use Rattle.bp_view.specs.Lines.{fields_of, reads_of_scene, IsSettingOf, Leads};
+ghost use Rattle.bp_view.specs.Lines.{fields_of, reads_of_scene};
 
+use crate::change_facts::Change;
 use crate::json_texts::{
     bit_text, push_list, push_member, push_number, push_optional_bit, push_optional_number,
     push_optional_text, push_text, truth_text,
 };
 use crate::lines::{is_tried, push_changed, reads_choice};
 use crate::moments::Moment;
+use crate::options::ViewFormat;
 use crate::scenes::Scene;
 use crate::settings::Setting;
 use bp_machine::{Call, Reply, Top};
@@ -192,17 +192,14 @@ fn push_printed(
 fn push_changed_list(
     line: &mut Vec<u8>,
     note: &mut Vec<u8>,
-    setting: &Setting<'_>,
-    moment: &Moment,
+    format: ViewFormat,
+    changes: &[Change<'_>],
 ) -> Result<(), AllocError>
-    ensures { (t : Program) (text : List ℕ) (c d : Configuration) (i : ℕ)
-        → IsSettingOf t text setting.now
-        → Leads t c d i moment.now
-        → let changes = list_text (changes_text setting.now.options.format c d i) in
+    ensures { let changes = list_text (entries_text format (map entry_of changes.now)) in
         OnOk result (line.new.items ≡ line.old.items ++ member (codes "changes") changes) }
 {
     note.clear();
-    push_changed(note, setting, moment)?;
+    push_changed(note, format, changes)?;
     push_list(line, b"changes", note)?;
     Ok(())
 }
@@ -214,15 +211,14 @@ pub(crate) fn push_object(
     setting: &Setting<'_>,
     scene: Option<&Scene>,
     moment: &Moment,
+    changes: &[Change<'_>],
     printed: Option<&[bool]>,
 ) -> Result<(), AllocError>
-    ensures { (t : Program) (text place : List ℕ) (c d : Configuration) (i : ℕ)
-        → IsSettingOf t text setting.now
-        → Leads t c d i moment.now
+    ensures { (place : List ℕ)
         → let fields = fields_of moment.now place in
         let next = next_of setting.now.procs.now (option_map (λ s. s.now) scene.entry)
         moment.now.before in
-        let changes = changes_text setting.now.options.format c d i in
+        let changes = entries_text setting.now.options.format (map entry_of changes.now) in
         let printed = option_map (λ v. v.now) printed.entry in
         let text = call_object fields next moment.now.call changes printed in
         OnOk result (line.new.items ≡ line.old.items ++ text) }
@@ -231,7 +227,7 @@ pub(crate) fn push_object(
     push_call_members(line, moment)?;
     push_next(line, setting.procs, scene, moment.before)?;
     push_reply(line, reads_choice(scene), &moment.call)?;
-    push_changed_list(line, note, setting, moment)?;
+    push_changed_list(line, note, setting.options.format, changes)?;
     push_printed(line, note, printed)?;
     push_bytes(line, b"}\n")?;
     Ok(())

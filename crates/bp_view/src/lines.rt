@@ -1,18 +1,18 @@
 //! The line of a call.
-ghost use Rattle.std.specs.Prelude.{◌≡◌, ◌++◌, ℕ, List, codes, decimal, option_map, OnOk};
-ghost use Rattle.bp_tree.specs.Ast.{Program};
-ghost use Rattle.bp_code.specs.Configurations.{Configuration};
+ghost use Rattle.std.specs.Prelude.{◌≡◌, ◌++◌, codes, decimal, map, option_map, OnOk};
 ghost use Rattle.bp_text.specs.Columns.{at_right};
-ghost use Rattle.bp_view.specs.Changes.{changes_text};
+ghost use Rattle.bp_view.specs.ChangeFacts.{entries_text, entry_of};
 ghost use Rattle.bp_view.specs.Colours.{colour_of};
 ghost use Rattle.bp_view.specs.Scenes.{place_of_scene};
-ghost use Rattle.bp_view.specs.Lines.{reply_words, is_tried, call_text, choice_text, context_text, fields_of, fields_text, line_text, note_text, times_text, after_room, indented, reads_of_scene, shown_of, text_of_scene, IsSettingOf, Leads};
+ghost use Rattle.bp_view.specs.Lines.{reply_words, is_tried, call_text, choice_text, context_text, fields_of, fields_text, line_text, note_text, times_text, after_room, indented, reads_of_scene, shown_of, text_of_scene};
 
-use crate::changes::push_changes;
+use crate::change_facts::Change;
 use crate::colours::Colour;
 use crate::moments::Moment;
+use crate::options::ViewFormat;
 use crate::scenes::Scene;
 use crate::settings::{MAX_INDENTS, Setting, Widths};
+use crate::variables::push_value;
 use bp_machine::{Call, Reply, Top};
 use bp_text::{push_bytes, push_left, push_right, push_spaces};
 use itoa::Buffer;
@@ -121,29 +121,15 @@ fn push_choice(note: &mut Vec<u8>, reads_choice: bool, call: &Call) -> Result<()
 /// Adds the variables that a call changed.
 pub(crate) fn push_changed(
     note: &mut Vec<u8>,
-    setting: &Setting<'_>,
-    moment: &Moment,
+    format: ViewFormat,
+    changes: &[Change<'_>],
 ) -> Result<(), AllocError>
-    ensures { (t : Program) (text : List ℕ) (c d : Configuration) (i : ℕ)
-        → IsSettingOf t text setting.now
-        → Leads t c d i moment.now
-        → let changes = changes_text setting.now.options.format c d i in
+    ensures { let changes = entries_text format (map entry_of changes.now) in
         OnOk result (note.new.items ≡ note.old.items ++ changes) }
 {
-    let Some(before) = moment.before else {
-        return Ok(());
-    };
-    let Some(after) = moment.after else {
-        return Ok(());
-    };
-    let Setting {
-        scenes,
-        globals,
-        procs,
-        ..
-    } = *setting;
-    let format = setting.options.format;
-    push_changes(note, format, scenes, globals, procs, before, after)?;
+    for change in changes {
+        push_value(note, format, change.owner, change.name, change.value)?;
+    }
     Ok(())
 }
 
@@ -177,20 +163,18 @@ fn write_note(
     setting: &Setting<'_>,
     scene: Option<&Scene>,
     moment: &Moment,
+    changes: &[Change<'_>],
     calls: usize,
 ) -> Result<(), AllocError>
-    ensures { (t : Program) (text : List ℕ) (c d : Configuration) (i : ℕ)
-        → IsSettingOf t text setting.now
-        → Leads t c d i moment.now
-        → let reads = reads_of_scene (option_map (λ s. s.now) scene.entry) in
-        let changes = changes_text setting.now.options.format c d i in
+    ensures { let reads = reads_of_scene (option_map (λ s. s.now) scene.entry) in
+        let changes = entries_text setting.now.options.format (map entry_of changes.now) in
         OnOk result (note.new.items ≡ note_text reads moment.now.call calls changes) }
 {
     note.clear();
     push_choice(note, reads_choice(scene), &moment.call)?;
     push_bytes(note, reply_words(moment.call.reply))?;
     push_times(note, calls)?;
-    push_changed(note, setting, moment)?;
+    push_changed(note, setting.options.format, changes)?;
     Ok(())
 }
 
@@ -223,20 +207,18 @@ fn push_call(
     setting: &Setting<'_>,
     scene: Option<&Scene>,
     moment: &Moment,
+    changes: &[Change<'_>],
     calls: usize,
 ) -> Result<(), AllocError>
-    ensures { (t : Program) (text : List ℕ) (c d : Configuration) (i : ℕ)
-        → IsSettingOf t text setting.now
-        → Leads t c d i moment.now
-        → let place = place_of_scene (option_map (λ s. s.now) scene.entry) in
+    ensures { let place = place_of_scene (option_map (λ s. s.now) scene.entry) in
         let fields = fields_of moment.now place in
         let shown = shown_of (option_map (λ s. s.now) scene.entry) moment.now.before in
-        let changes = changes_text setting.now.options.format c d i in
+        let changes = entries_text setting.now.options.format (map entry_of changes.now) in
         let note = note_text shown.reads moment.now.call calls changes in
         let text = call_text setting.now.widths fields shown note in
         OnOk result (line.new.items ≡ line.old.items ++ text) }
 {
-    write_note(note, setting, scene, moment, calls)?;
+    write_note(note, setting, scene, moment, changes, calls)?;
     push_fields(line, setting.widths, moment, place_of(scene))?;
     let start = line.len();
     push_scene(line, scene, moment.before)?;
@@ -253,17 +235,15 @@ pub(crate) fn push_line(
     setting: &Setting<'_>,
     scene: Option<&Scene>,
     moment: &Moment,
+    changes: &[Change<'_>],
     calls: usize,
 ) -> Result<(), AllocError>
-    ensures { (t : Program) (text : List ℕ) (c d : Configuration) (i : ℕ)
-        → IsSettingOf t text setting.now
-        → Leads t c d i moment.now
-        → let place = place_of_scene (option_map (λ s. s.now) scene.entry) in
+    ensures { let place = place_of_scene (option_map (λ s. s.now) scene.entry) in
         let fields = fields_of moment.now place in
         let wanted = setting.now.options.has_colour in
         let colour = colour_of wanted moment.now.call.reply moment.now.is_switch in
         let shown = shown_of (option_map (λ s. s.now) scene.entry) moment.now.before in
-        let changes = changes_text setting.now.options.format c d i in
+        let changes = entries_text setting.now.options.format (map entry_of changes.now) in
         let note = note_text shown.reads moment.now.call calls changes in
         let text = line_text setting.now.widths colour fields shown note in
         OnOk result (line.new.items ≡ line.old.items ++ text) }
@@ -271,7 +251,7 @@ pub(crate) fn push_line(
     let has_colour = setting.options.has_colour;
     let colour = Colour::of(has_colour, moment.call.reply, moment.is_switch);
     push_bytes(line, colour.opening())?;
-    push_call(line, note, setting, scene, moment, calls)?;
+    push_call(line, note, setting, scene, moment, changes, calls)?;
     push_bytes(line, colour.closing())?;
     push_bytes(line, b"\n")?;
     Ok(())

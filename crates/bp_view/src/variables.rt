@@ -4,7 +4,7 @@ ghost use Rattle.bp_check.specs.Tables.{first_index};
 ghost use Rattle.bp_code.specs.Bits.{bits_of, store_of};
 ghost use Rattle.bp_code.specs.StandsFor.{named_store, valuation_of, variables};
 ghost use Rattle.bp_text.specs.OneLine.{on_one_line};
-ghost use Rattle.bp_view.specs.Changes.{owner_text, slot_text, slots_text, variable_object, variable_text, variable_words, variables_text};
+ghost use Rattle.bp_view.specs.Changes.{owner_text, variable_object, variable_text, variable_words, variables_text};
 ghost use Rattle.bp_view.specs.JsonTexts.{string_or_null};
 ghost use Rattle.bp_view.specs.Outcomes.{named_value};
 
@@ -129,56 +129,6 @@ pub(crate) fn push_values(
     for (n, name) in names.iter().enumerate() {
         let bit = bit_of(word, first + n);
         push_value(line, format, owner, name.text().as_bytes(), bit)?;
-    }
-    Ok(())
-}
-
-/// Adds a variable and its value after a step, where that differs from its value before.
-fn push_slot(
-    line: &mut Vec<u8>,
-    format: ViewFormat,
-    owner: Option<&Proc>,
-    name: &[u8],
-    before: bool,
-    after: bool,
-) -> Result<(), AllocError>
-    ensures { let owner = option_map (λ p. p.now) owner.entry in
-        OnOk result
-        (line.new.items ≡ line.old.items ++ slot_text format owner name.now before after) }
-{
-    if before != after {
-        push_value(line, format, owner, name, after)?;
-    }
-    Ok(())
-}
-
-/// Adds the names whose bits differ in the words before and after a step, with their bits after.
-/// The first name has this slot.
-pub(crate) fn push_differing(
-    line: &mut Vec<u8>,
-    format: ViewFormat,
-    owner: Option<&Proc>,
-    names: &[Name],
-    first: usize,
-    before: u128,
-    after: u128,
-) -> Result<(), AllocError>
-    requires { first + length names.now < 2 ^ 64 }
-    ensures { let owner = option_map (λ p. p.now) owner.entry in
-        let values = slots_text format owner names.now first (bits_of before) (bits_of after) in
-        OnOk result (line.new.items ≡ line.old.items ++ values) }
-{
-    for (n, name) in names.iter().enumerate() {
-        let slot = first + n;
-        let text = name.text().as_bytes();
-        push_slot(
-            line,
-            format,
-            owner,
-            text,
-            bit_of(before, slot),
-            bit_of(after, slot),
-        )?;
     }
     Ok(())
 }

@@ -82,6 +82,7 @@ fn write_view<W: Write>(
         session,
         line: Vec::new(alloc),
         note: Vec::new(alloc),
+        changes: Vec::new(alloc),
         last: None,
         made: 0,
     };

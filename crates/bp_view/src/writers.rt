@@ -5,6 +5,7 @@ ghost use Rattle.bp_machine.specs.declared.calls.Call.{Call as Answered};
 ghost use Rattle.bp_trace.specs.Replays.{IsPlayable};
 ghost use Rattle.bp_view.specs.Lines.{IsSettingOf};
 
+use crate::change_facts::Change;
 use crate::moments::{last_step, moment_of, next_print, printed_by};
 use crate::settings::Setting;
 use crate::shown::push_shown;
@@ -20,6 +21,8 @@ pub(crate) struct ViewWriter<'a> {
     pub(crate) line: Vec<u8>,
     /// Room for a call's note.
     pub(crate) note: Vec<u8>,
+    /// Room for what a call changed.
+    pub(crate) changes: Vec<Change<'a>>,
     /// The thread of the last step.
     pub(crate) last: Option<u32>,
     /// How many calls were made.
@@ -62,6 +65,7 @@ impl ViewWriter<'_> {
         push_shown(
             &mut self.line,
             &mut self.note,
+            &mut self.changes,
             &self.setting,
             &moment,
             printed,

@@ -1,8 +1,8 @@
-use Rattle.std.proofs.Common.{◌≡◌, ◌∙◌, ◌++◌, ℕ, List, Option, None, Some, codes, ap, append_assoc, refl}
+use Rattle.std.proofs.Common.{◌≡◌, ◌∙◌, ◌++◌, ℕ, List, Option, None, Some, codes, map, ap, append_assoc, refl}
 use Rattle.std.specs.Prelude.{option_map}
 use Rattle.bp_tree.specs.Ast.{Procedure}
 use Rattle.bp_machine.specs.declared.tops.Top.{Top}
-use Rattle.bp_view.specs.Changes.{changes_text}
+use Rattle.bp_view.specs.ChangeFacts.{entries_text, entry_of}
 use Rattle.bp_view.specs.declared.scenes.Scene.{Scene}
 use Rattle.bp_view.specs.JsonCalls.{call_members, next_members, next_of, printed_text, reply_members}
 use Rattle.bp_view.specs.JsonTexts.{list_text, member}
@@ -18,7 +18,7 @@ reads_same ps (Some scene) None = refl
 reads_same ps (Some scene) (Some top) = refl
 
 pub returns : goal.returns
-returns c = λ t text place now later i setting leads.
+returns c = λ place.
     let old = c.args.line.now.items in
     let m = c.args.moment.now in
     let ps = c.args.setting.now.procs.now in
@@ -28,12 +28,12 @@ returns c = λ t text place now later i setting leads.
     let call = call_members (fields_of m place) in
     let following = next_members next in
     let reply = reply_members c.reads_choice.result m.call in
-    let changes = member (codes "changes") (list_text (changes_text c.args.setting.now.options.format now later i)) in
+    let changes = member (codes "changes") (list_text (entries_text c.args.setting.now.options.format (map entry_of c.args.changes.now))) in
     let printed = member (codes "printed") (printed_text (option_map (λ v. v.now) c.args.printed)) in
     let ended = codes "}\n" in
     c.in_ok-push_bytes-2.ensures
     ∙ ap (λ x. x ++ ended) (c.in_ok-push_printed.ensures
-    ∙ ap (λ x. x ++ printed) (c.in_ok-push_changed_list.ensures t text now later i setting leads
+    ∙ ap (λ x. x ++ printed) (c.in_ok-push_changed_list.ensures
     ∙ ap (λ x. x ++ changes) (c.in_ok-push_reply.ensures
     ∙ ap (λ x. x ++ reply) (c.in_ok-push_next.ensures
     ∙ ap (λ x. x ++ following) (c.in_ok-push_call_members.ensures

@@ -1,5 +1,5 @@
-use Rattle.std.proofs.Common.{◌≡◌, ◌∙◌, ◌++◌, ◌-◌, ℕ, List, ap, ap₂, length, length-append, append_assoc, arith}
-use Rattle.bp_view.specs.Changes.{changes_text}
+use Rattle.std.proofs.Common.{◌≡◌, ◌∙◌, ◌++◌, ◌-◌, ℕ, List, map, ap, ap₂, length, length-append, append_assoc, arith}
+use Rattle.bp_view.specs.ChangeFacts.{entries_text, entry_of}
 use Rattle.bp_view.specs.Lines.{after_room, fields_of, fields_text, reads_of_scene, text_of_scene, note_text}
 use Rattle.std.specs.Prelude.{option_map}
 use Rattle.bp_view.proofs.lines.push_call.Goals as goal
@@ -8,14 +8,14 @@ regrouped : (line fields words note : List ℕ) → ((line ++ fields) ++ words) 
 regrouped line fields words note = simp append_assoc
 
 pub returns : goal.returns
-returns c = λ t text now later i setting leads.
+returns c =
     let w = c.args.setting.now.widths in
     let moment = c.args.moment.now in
     let scene = option_map (λ s. s.now) c.args.scene in
     let fields = fields_text w (fields_of moment c.place_of.result.now) in
     let words = text_of_scene scene moment.before in
-    let note = note_text (reads_of_scene scene) moment.call c.args.calls (changes_text c.args.setting.now.options.format now later i) in
-    let written = c.deref.ensures.value ∙ c.in_ok-write_note.ensures t text now later i setting leads in
+    let note = note_text (reads_of_scene scene) moment.call c.args.calls (entries_text c.args.setting.now.options.format (map entry_of c.args.changes.now)) in
+    let written = c.deref.ensures.value ∙ c.in_ok-write_note.ensures in
     let long = length-append c.push_fields.new.line.items words in
     let whole = ap length c.in_ok-push_scene.ensures in
     let room : c.saturating_sub.result ≡ w.words - length words = omega (arith, long, whole) in

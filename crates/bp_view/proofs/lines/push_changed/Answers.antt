@@ -1,19 +1,16 @@
-use Rattle.std.proofs.Common.{◌∙◌, ◌++◌, ap, append-nil, sym}
-use Rattle.bp_view.proofs.NextConfigurations.{ended_changes, idle_changes}
+use Rattle.std.proofs.Common.{◌≤◌, ◌∙◌, ◌++◌, List, length, flat_map, ap, arith}
+use Rattle.std.proofs.lemmas.List.{take_all}
+use Rattle.bp_view.specs.declared.change_facts.Change.{Change}
+use Rattle.bp_view.specs.ChangeFacts.{entry_of, entry_text}
+use Rattle.bp_view.proofs.ChangedEntries.{entries_of}
 use Rattle.bp_view.proofs.lines.push_changed.Goals as goal
 
-pub returns-in_default : goal.returns-in_default
-returns-in_default c = λ t text now later i setting leads.
-    let none = idle_changes c.args.setting.now.options.format now later i leads.next (rw c.in_default.is at leads.before) in
-    sym (ap (λ x. c.args.note.now.items ++ x) none ∙ append-nil c.args.note.now.items)
-
-pub returns-in_default-after : goal.returns-in_default-after
-returns-in_default-after c = λ t text now later i setting leads.
-    let none = ended_changes c.args.setting.now.options.format now later i leads.next (rw c.in_default-after.is at leads.after) in
-    sym (ap (λ x. c.args.note.now.items ++ x) none ∙ append-nil c.args.note.now.items)
-
 pub returns : goal.returns
-returns c = λ t text now later i setting leads.
-    let was = rw c.in-Some.is at leads.before in
-    let is = rw c.in-Some-after.is at leads.after in
-    c.in_ok-push_changes.ensures t text now later i setting.scenes setting.globals setting.procedures was is leads.next
+returns c =
+    let xs = c.args.changes.now in
+    let n = c.loop-change.change-index in
+    let old = c.args.note.now.items in
+    let all : length xs ≤ n = omega arith in
+    c.loop-change.invariant
+    ∙ ap (λ (ys : List Change). old ++ flat_map (λ x. entry_text c.args.format (entry_of x)) ys) (take_all n xs all)
+    ∙ ap (λ ys. old ++ ys) (entries_of c.args.format xs)

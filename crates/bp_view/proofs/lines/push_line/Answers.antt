@@ -1,6 +1,6 @@
-use Rattle.std.proofs.Common.{◌≡◌, ◌∙◌, ◌++◌, [], ◌∷◌, ℕ, List, ap, append_assoc}
+use Rattle.std.proofs.Common.{◌≡◌, ◌∙◌, ◌++◌, [], ◌∷◌, ℕ, List, map, ap, append_assoc}
 use Rattle.std.specs.Prelude.{option_map}
-use Rattle.bp_view.specs.Changes.{changes_text}
+use Rattle.bp_view.specs.ChangeFacts.{entries_text, entry_of}
 use Rattle.bp_view.specs.Lines.{call_text, fields_of, note_text, shown_of}
 use Rattle.bp_view.specs.Scenes.{place_of_scene}
 use Rattle.bp_view.specs.Colours.{colour_of, opening, closing}
@@ -10,7 +10,7 @@ regrouped : (a b c d e : List ℕ) → (((a ++ b) ++ c) ++ d) ++ e ≡ a ++ (((b
 regrouped a b c d e = simp append_assoc
 
 pub returns : goal.returns
-returns c = λ t text now later i setting leads.
+returns c =
     let old = c.args.line.now.items in
     let first = c.opening.result.now in
     let last = c.closing.result.now in
@@ -18,9 +18,9 @@ returns c = λ t text now later i setting leads.
     let colour = colour_of c.args.setting.now.options.has_colour moment.call.reply moment.is_switch in
     let scene = option_map (λ s. s.now) c.args.scene in
     let shown = shown_of scene moment.before in
-    let note = note_text shown.reads moment.call c.args.calls (changes_text c.args.setting.now.options.format now later i) in
+    let note = note_text shown.reads moment.call c.args.calls (entries_text c.args.setting.now.options.format (map entry_of c.args.changes.now)) in
     let more = call_text c.args.setting.now.widths (fields_of moment (place_of_scene scene)) shown note in
-    let call = c.in_ok-push_call.ensures t text now later i setting leads in
+    let call = c.in_ok-push_call.ensures in
     c.in_ok-push_bytes-3.ensures
     ∙ ap (λ x. x ++ (10 ∷ [])) (c.in_ok-push_bytes-2.ensures
     ∙ ap (λ x. x ++ last) (call ∙ ap (λ x. x ++ more) c.in_ok-push_bytes.ensures))

@@ -1,0 +1,6 @@
+use Rattle.std.proofs.Common.{◌≡◌, ◌++◌, flat_map, take}
+use Rattle.bp_view.specs.ChangeFacts.{entry_of, entry_text}
+use Rattle.bp_view.proofs.lines.push_changed.Given as goal
+
+abbrev pub invariant-loop-change : goal.invariant-loop-change
+invariant-loop-change l = l.note.items ≡ l.initial.note.items ++ flat_map (λ x. entry_text l.format (entry_of x)) (take l.change-index l.changes)
