@@ -17,12 +17,4 @@ mod runs;
 #[cfg(test)]
 mod sessions;
 #[cfg(test)]
-mod setups;
-#[cfg(test)]
-mod testing;
-#[cfg(test)]
-mod texts;
-#[cfg(test)]
-mod traces;
-#[cfg(test)]
 mod without_memory;

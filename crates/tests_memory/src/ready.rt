@@ -6,7 +6,6 @@ use bp_board::Kit;
 use bp_board::limits::MAX_RING;
 use bp_code::Code;
 use bp_machine::Setup;
-use bp_syntax::{ReadFault, Tree, read};
 use std::alloc::{AllocError, Global};
 use std::test::Fail;
 use tests_common::{code_of, mains};
@@ -18,14 +17,6 @@ pub(super) const PROGRAM: &[u8] = b"decl x, y; \
 
 /// A procedure that calls itself, so that each step takes a frame.
 pub(super) const CALLS: &[u8] = b"decl x, y; main() begin f(0); end f(a) begin f(!a); end";
-
-/// The tree of the program.
-pub(super) fn tree(alloc: Global) -> Result<Tree, ReadFault> {
-    match read(alloc, PROGRAM) {
-        Ok(tree) => Ok(tree),
-        Err(_) => read(alloc, PROGRAM),
-    }
-}
 
 /// The code of a program with two globals.
 pub(super) fn code(alloc: Global, text: &[u8]) -> Result<Code, Fail> {

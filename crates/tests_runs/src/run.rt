@@ -1,10 +1,8 @@
 //! Runs of small programs by real threads, and what their traces replay to.
 mod meetings;
 mod orders;
-mod refusals;
 mod rings;
 mod runs;
-mod turns;
 mod works;
 mod writers;
 

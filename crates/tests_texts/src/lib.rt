@@ -1,4 +1,4 @@
-//! Tests of the public calls on texts: reading, checking, compiling, traces and views. They stand
+//! Tests of the public calls on texts: reading, checking, compiling and traces. They stand
 //! here, and not in those crates, since a crate with tests is proved once more with them.
 #![tactic(auto)]
 
@@ -14,5 +14,3 @@ mod text;
 mod trace;
 #[cfg(test)]
 mod tree;
-#[cfg(test)]
-mod view;

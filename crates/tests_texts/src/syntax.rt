@@ -2,10 +2,7 @@
 //! are refused, is shown by the cases of the command `check`, and by `.ci/productions`.
 mod operators;
 
-use bp_syntax::{
-    Decider, Expr, Form, Name, Proc, Stmt, Tree, has_names_on_one_line, has_one_cut,
-    has_one_refusal, has_one_tree, read,
-};
+use bp_syntax::{Decider, Expr, Form, Name, Proc, Stmt, Tree, read};
 use std::alloc::Global;
 use std::test::Fail;
 
@@ -59,43 +56,6 @@ fn reads_and_copies_a_small_program(alloc: Global) -> Result<bool, Fail> {
 #[test]
 fn reads_declarations_and_a_procedure(rt: HostRuntime) -> Result<(), Fail> {
     assert!(rt; reads_and_copies_a_small_program(rt.alloc())?);
-    Ok(())
-}
-
-/// Whether the tree declares nothing.
-fn is_empty(tree: &Tree) -> bool {
-    tree.globals().is_empty() && tree.procs().is_empty()
-}
-
-#[test]
-fn reads_the_empty_text(rt: HostRuntime) -> Result<(), Fail> {
-    has_one_cut();
-    has_one_tree();
-    has_one_refusal();
-    has_names_on_one_line();
-    let tree = read(rt.alloc(), b"")?;
-    assert!(rt; is_empty(&tree));
-    Ok(())
-}
-
-/// Whether the names are spelled like these.
-fn are_spelled(names: &[Name], texts: &[&str]) -> bool {
-    names.len() == texts.len()
-        && names
-            .iter()
-            .zip(texts)
-            .all(|(name, text)| name.text() == *text)
-}
-
-fn is_fourth_at(names: &[Name], at: u32) -> bool {
-    matches!(names, [_, _, _, fourth, _] if fourth.at() == at)
-}
-
-#[test]
-fn takes_braces_as_part_of_a_name(rt: HostRuntime) -> Result<(), Fail> {
-    let tree = read(rt.alloc(), b"decl {}, {a{b}, {a//b}, {if }, a;")?;
-    let texts = ["{}", "{a{b}", "{a//b}", "{if }", "a"];
-    assert!(rt; are_spelled(tree.globals(), &texts) && is_fourth_at(tree.globals(), 24));
     Ok(())
 }
 

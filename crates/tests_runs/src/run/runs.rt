@@ -1,7 +1,5 @@
 //! Whole runs: their traces, and what those replay to.
-use super::{
-    ENDLESS, IF, IF_TRACE, LOOP, LOOP_TRACE, Numbers, ONE, SKIP, clean_calls, writes, written,
-};
+use super::{ENDLESS, Numbers, clean_calls, written};
 use bp_machine::Reply;
 use bp_run::{Gate, Open};
 use std::alloc::{AllocError, Global};
@@ -27,18 +25,6 @@ fn three(ring: u32) -> Numbers {
         turn: 3,
         ring,
     }
-}
-
-#[test]
-fn seeded_if(rt: HostRuntime) -> Result<(), AllocError> {
-    assert!(&rt; writes(&rt, rt.alloc(), IF, ONE, &Open, IF_TRACE)?);
-    Ok(())
-}
-
-#[test]
-fn seeded_loop(rt: HostRuntime) -> Result<(), AllocError> {
-    assert!(&rt; writes(&rt, rt.alloc(), LOOP, ONE, &Open, LOOP_TRACE)?);
-    Ok(())
 }
 
 /// The lines of a text that begin with this byte, each of six bytes.
@@ -129,17 +115,5 @@ fn many_calls(rt: HostRuntime) -> Result<(), AllocError> {
     for (turn, ring) in [(1, 1), (1, 65_536), (64, 1), (64, 65_536)] {
         assert!(&rt; has_many_calls(&rt, rt.alloc(), turn, ring)?);
     }
-    Ok(())
-}
-
-#[test]
-fn many_workers(rt: HostRuntime) -> Result<(), AllocError> {
-    let numbers = Numbers {
-        threads: 64,
-        contexts: 1000,
-        turn: 1,
-        ..ONE
-    };
-    assert!(&rt; clean_calls(&rt, rt.alloc(), SKIP, numbers, &Open)? == Some(192));
     Ok(())
 }

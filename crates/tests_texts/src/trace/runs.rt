@@ -1,12 +1,11 @@
-//! Driving, replaying and migrating: what the calls answer. What they write, and what they refuse,
-//! is in the cases of the program.
+//! What a replay answers: setup, history, rows and report, and what is due where it is refused.
 ghost use Rattle.std.specs.Prelude.{◌≡◌, None, IfOk};
 ghost use Rattle.bp_machine.specs.Setups.{FitsCode};
 
 use super::call;
 use bp_code::Code;
 use bp_machine::{Call, Outcome, Reply, Report, Setup};
-use bp_trace::{Counts, Due, Printed, ReplayFault, Replayed, drive, migrate, replay};
+use bp_trace::{Counts, Due, Printed, ReplayFault, Replayed, replay};
 use std::alloc::Global;
 use std::test::Fail;
 use tests_common::{code_of, names};
@@ -32,21 +31,6 @@ fn setup_of(alloc: Global, code: &Code) -> Result<Setup, Fail>
 {
     let entries = names(alloc, &["main"])?;
     Ok(Setup::new(alloc, code, &entries, &[true, false], 2, 1000, None)?)
-}
-
-/// Whether a schedule drives the program to its trace and report.
-fn is_driven(alloc: Global) -> Result<bool, Fail> {
-    let code = code_of(alloc, SWAP)?;
-    let setup = setup_of(alloc, &code)?;
-    let mut out = Vec::new(alloc);
-    let report = drive(alloc, &code, &setup, b"0 0\n0 1\n0 0\n0 0\n", &mut out)?;
-    Ok(report == REPORT && out.as_slice() == ONE)
-}
-
-#[test]
-fn driven_program(rt: HostRuntime) -> Result<(), Fail> {
-    assert!(rt; is_driven(rt.alloc())?);
-    Ok(())
 }
 
 /// The calls of the traces.
@@ -90,22 +74,6 @@ fn is_replayed(alloc: Global, text: &[u8]) -> Result<bool, Fail> {
 fn replayed_traces(rt: HostRuntime) -> Result<(), Fail> {
     for text in [ONE, TWO] {
         assert!(rt; is_replayed(rt.alloc(), text)?);
-    }
-    Ok(())
-}
-
-/// Whether the trace is migrated to that of version 2.
-fn is_migrated(alloc: Global, text: &[u8]) -> Result<bool, Fail> {
-    let code = code_of(alloc, SWAP)?;
-    let mut out = Vec::new(alloc);
-    let report = migrate(alloc, &code, text, &mut out)?;
-    Ok(report == REPORT && out.as_slice() == TWO)
-}
-
-#[test]
-fn migrated_traces(rt: HostRuntime) -> Result<(), Fail> {
-    for text in [ONE, TWO] {
-        assert!(rt; is_migrated(rt.alloc(), text)?);
     }
     Ok(())
 }
