@@ -17,8 +17,8 @@ use std::sync::ledger::Ledger;
 use std::test::Fail;
 use tests_common::code_of;
 
-/// What is done at a board, how many lines and seats are open then, how many contexts were used, and
-/// what the gathered tap gives before it gives nothing.
+/// What is done at a board, how many lines and seats are open then, how many contexts were used,
+/// and what the gathered tap gives before it gives nothing.
 #[derive(Clone, Copy)]
 struct Scene<'a> {
     acts: &'a [Act],
