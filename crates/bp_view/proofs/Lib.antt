@@ -1,6 +1,7 @@
 pub mod AllContexts
 pub mod AssertionTexts
 pub mod BegunViews
+mod CallsOfLines
 pub mod ChangedEntries
 pub mod ChangedVariables
 pub mod ChangesOfFrames

@@ -47,3 +47,4 @@ pub use statements::statement_lines;
 pub use states::state_at;
 pub use unreached::unreached_objects;
 pub use views::view;
+pub use waits::lines_stand_for_each_call_once;
