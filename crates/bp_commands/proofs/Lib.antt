@@ -1,5 +1,4 @@
 mod Answered
-mod CountsMembers
 mod Driven
 mod ExplainedRuns
 mod FirstSeparator

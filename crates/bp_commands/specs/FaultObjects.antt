@@ -1,9 +1,11 @@
 -- The object of a fault in JSON.
-use Rattle.std.specs.Prelude.{ℕ, List, [], ◌∷◌, ◌++◌, Option, None, Some, codes, decimal}
+use Rattle.std.specs.Prelude.{ℕ, List, [], ◌∷◌, Option, None, Some, codes, decimal, option_map}
+use Rattle.std.specs.Borrow.{Bor}
 use Rattle.std.specs.List.{concat}
 use Rattle.bp_machine.specs.Replies.{letter_of}
 use Rattle.bp_text.specs.Positions.{position_at}
-use Rattle.bp_view.specs.JsonTexts.{member, number_or_null, string_or_null, string_text}
+use Rattle.bp_text.specs.JsonStrings.{string_text}
+use Rattle.bp_text.specs.Pieces.{key_text, number_or_null, string_or_null}
 use Rattle.bp_commands.specs.declared.fault_table.Detail.{Detail}
 use Rattle.bp_commands.specs.declared.fault_table.Detail.TheVariants.{Byte, Thread, Line, Wanted}
 use Rattle.bp_commands.specs.declared.faults.Fault.{Fault}
@@ -36,23 +38,27 @@ abbrev pub letter_text : Detail → Option (List ℕ)
 letter_text (Wanted n r) = Some (letter_of r ∷ [])
 letter_text d = None
 
--- the facts of a fault's line, its file, its place in the program text, and a sentence
-abbrev pub fault_members : RowOf → Option (List ℕ) → (text message : List ℕ) → List ℕ
-fault_members r file text message =
+-- a name, where there is one
+abbrev pub name_in : Option (Bor (List ℕ)) → Option (List ℕ)
+name_in name = option_map (λ text. text.now) name
+
+-- the object of a row of the table: the facts of the fault's line, its file, its place in the program
+-- text, and a sentence
+abbrev pub row_object : RowOf → Option (List ℕ) → (text message : List ℕ) → List ℕ
+row_object r file text message =
     concat (
-    member (codes "number") (decimal r.number)
-    ∷ member (codes "name") (string_text r.name)
-    ∷ member (codes "file") (string_or_null file)
-    ∷ member (codes "offset") (number_or_null (byte_of r.detail))
-    ∷ member (codes "line") (number_or_null (line_in text r.detail))
-    ∷ member (codes "column") (number_or_null (column_in text r.detail))
-    ∷ member (codes "thread") (number_or_null (thread_of r.detail))
-    ∷ member (codes "wanted") (string_or_null (letter_text r.detail))
-    ∷ member (codes "message") (string_text message)
-    ∷ [])
+    codes "{\"kind\":\"fault\",\"version\":1"
+    ∷ key_text (codes "number") ∷ decimal r.number
+    ∷ key_text (codes "name") ∷ string_text r.name
+    ∷ key_text (codes "file") ∷ string_or_null file
+    ∷ key_text (codes "offset") ∷ number_or_null (byte_of r.detail)
+    ∷ key_text (codes "line") ∷ number_or_null (line_in text r.detail)
+    ∷ key_text (codes "column") ∷ number_or_null (column_in text r.detail)
+    ∷ key_text (codes "thread") ∷ number_or_null (thread_of r.detail)
+    ∷ key_text (codes "wanted") ∷ string_or_null (letter_text r.detail)
+    ∷ key_text (codes "message") ∷ string_text message
+    ∷ codes "}\n" ∷ [])
 
 -- the object of a fault in this file, or in none
 abbrev pub fault_object : Fault → Option (List ℕ) → (text message : List ℕ) → List ℕ
-fault_object f file text message =
-    codes "{\"kind\":\"fault\",\"version\":1"
-    ++ (fault_members (fault_row f) file text message ++ codes "}\n")
+fault_object f file text message = row_object (fault_row f) file text message

@@ -13,7 +13,6 @@ pub mod Flushes
 pub mod Given
 pub mod Inputs
 pub mod Listings
-pub mod Members
 pub mod ProgressTexts
 pub mod ReplayLines
 pub mod Runs

@@ -30,31 +30,27 @@ finding_text x Nothing = nothing_text (nothing_words x.with_stuck) x.runs
 finding_text x (Failed run report) = found_text (codes "an assertion failed") run x.runs
 finding_text x (Stuck run report) = found_text (codes "all open threads wait") run x.runs
 
--- a number after words
-abbrev pub labelled : List ℕ → ℕ → List ℕ
-labelled words n = concat (words ∷ decimal n ∷ [])
-
 -- how many runs were made, how they ended, and what they reached
 abbrev pub counts_text : Counts → List ℕ
 counts_text x =
     concat (
-    labelled (codes "runs ") x.runs
-    ∷ labelled (codes ", calls ") x.calls
-    ∷ labelled (codes ", longest ") x.longest
-    ∷ labelled (codes "\nended: finished ") x.ends.finished
-    ∷ labelled (codes ", out of contexts ") x.ends.out_of_contexts
-    ∷ labelled (codes ", cut off ") x.ends.cut_off
-    ∷ labelled (codes ", stuck ") x.ends.stuck
-    ∷ labelled (codes "\ncontexts: least ") x.contexts.least
-    ∷ labelled (codes ", middle ") x.contexts.middle
-    ∷ labelled (codes ", most ") x.contexts.most
-    ∷ labelled (codes "\nreached: statements ") x.statements.reached
-    ∷ labelled (codes " of ") x.statements.all
-    ∷ labelled (codes ", assertions ") x.assertions.reached
-    ∷ labelled (codes " of ") x.assertions.all
-    ∷ labelled (codes ", threads ") x.threads.reached
-    ∷ labelled (codes " of ") x.threads.all
-    ∷ [])
+    codes "runs " ∷ decimal x.runs
+    ∷ codes ", calls " ∷ decimal x.calls
+    ∷ codes ", longest " ∷ decimal x.longest
+    ∷ codes "\nended: finished " ∷ decimal x.ends.finished
+    ∷ codes ", out of contexts " ∷ decimal x.ends.out_of_contexts
+    ∷ codes ", cut off " ∷ decimal x.ends.cut_off
+    ∷ codes ", stuck " ∷ decimal x.ends.stuck
+    ∷ codes "\ncontexts: least " ∷ decimal x.contexts.least
+    ∷ codes ", middle " ∷ decimal x.contexts.middle
+    ∷ codes ", most " ∷ decimal x.contexts.most
+    ∷ codes "\nreached: statements " ∷ decimal x.statements.reached
+    ∷ codes " of " ∷ decimal x.statements.all
+    ∷ codes ", assertions " ∷ decimal x.assertions.reached
+    ∷ codes " of " ∷ decimal x.assertions.all
+    ∷ codes ", threads " ∷ decimal x.threads.reached
+    ∷ codes " of " ∷ decimal x.threads.all
+    ∷ codes "\n" ∷ [])
 
 -- the line of a statement that was not reached
 abbrev pub line_unless : Bool → Vec ℕ Global → List ℕ
@@ -71,5 +67,4 @@ unreached_text (line ∷ lines) (is_reached ∷ marks) =
 abbrev pub summary_text : Tested → List ℕ
 summary_text x =
     finding_text x.options x.found
-    ++ (counts_text x.counts
-    ++ (codes "\n" ++ unreached_text x.lines.items x.reached.items))
+    ++ (counts_text x.counts ++ unreached_text x.lines.items x.reached.items)

@@ -1,14 +1,12 @@
 -- What a tool reads of a test on standard error: an object of what was found and of what the runs
 -- reached, and one for each statement that no run reached.
-use Rattle.std.specs.Prelude.{ℕ, List, [], ◌∷◌, ◌++◌, Option, None, Some, codes, decimal, drop}
+use Rattle.std.specs.Prelude.{ℕ, List, [], ◌∷◌, ◌++◌, Option, None, Some, codes, decimal}
 use Rattle.std.specs.List.{concat}
 use Rattle.bp_test.specs.declared.counts.Counts.{Counts}
-use Rattle.bp_test.specs.declared.counts.Share.{Share}
-use Rattle.bp_test.specs.declared.tallies.ContextsUsed.{ContextsUsed}
-use Rattle.bp_test.specs.declared.tallies.Ends.{Ends}
 use Rattle.bp_test.specs.declared.testing.Found.{Found}
 use Rattle.bp_test.specs.declared.testing.Found.TheVariants.{Nothing, Failed, Stuck}
-use Rattle.bp_view.specs.JsonTexts.{member, number_or_null, string_text}
+use Rattle.bp_text.specs.JsonStrings.{string_text}
+use Rattle.bp_text.specs.Pieces.{key_text, number_or_null}
 use Rattle.bp_commands.specs.declared.testing.Tested.{Tested}
 use Rattle.bp_commands.specs.Summaries.{unreached_text}
 
@@ -23,63 +21,39 @@ found_run Nothing = None
 found_run (Failed run report) = Some run
 found_run (Stuck run report) = Some run
 
-abbrev pub number_member : (key : List ℕ) → ℕ → List ℕ
-number_member key n = member key (decimal n)
-
--- an object of these members, each of which begins with a comma
-abbrev pub object_text : List (List ℕ) → List ℕ
-object_text members = codes "{" ++ drop 1 (concat members) ++ codes "}"
-
--- how many runs ended in each way
-abbrev pub ends_object : Ends → List ℕ
-ends_object x =
-    object_text (
-    number_member (codes "finished") x.finished
-    ∷ number_member (codes "out_of_contexts") x.out_of_contexts
-    ∷ number_member (codes "cut_off") x.cut_off
-    ∷ number_member (codes "stuck") x.stuck ∷ [])
-
--- how many contexts the runs used
-abbrev pub contexts_object : ContextsUsed → List ℕ
-contexts_object x =
-    object_text (
-    number_member (codes "least") x.least
-    ∷ number_member (codes "middle") x.middle
-    ∷ number_member (codes "most") x.most ∷ [])
-
--- how many of some things were reached
-abbrev pub share_object : Share → List ℕ
-share_object x =
-    object_text (
-    number_member (codes "reached") x.reached
-    ∷ number_member (codes "all") x.all ∷ [])
-
 -- what was found, and in which run of how many
-abbrev pub finding_members : (name : List ℕ) → (run : Option ℕ) → (runs : ℕ) → List ℕ
-finding_members name run runs =
+abbrev pub finding_members : Found → (runs : ℕ) → List ℕ
+finding_members found runs =
     concat (
-    member (codes "found") (string_text name)
-    ∷ member (codes "run") (number_or_null run)
-    ∷ number_member (codes "of") runs ∷ [])
+    codes "{\"kind\":\"test\",\"version\":1"
+    ∷ key_text (codes "found") ∷ string_text (found_name found)
+    ∷ key_text (codes "run") ∷ number_or_null (found_run found)
+    ∷ key_text (codes "of") ∷ decimal runs ∷ [])
 
--- how many runs were made, how they ended, and what they reached
+-- how many runs were made, how they ended, how many contexts they used, and what they reached
 abbrev pub counts_members : Counts → List ℕ
 counts_members x =
     concat (
-    number_member (codes "runs") x.runs
-    ∷ number_member (codes "calls") x.calls
-    ∷ number_member (codes "longest") x.longest
-    ∷ member (codes "ended") (ends_object x.ends)
-    ∷ member (codes "contexts") (contexts_object x.contexts)
-    ∷ member (codes "statements") (share_object x.statements)
-    ∷ member (codes "assertions") (share_object x.assertions)
-    ∷ member (codes "threads") (share_object x.threads) ∷ [])
+    key_text (codes "runs") ∷ decimal x.runs
+    ∷ key_text (codes "calls") ∷ decimal x.calls
+    ∷ key_text (codes "longest") ∷ decimal x.longest
+    ∷ codes ",\"ended\":{\"finished\":" ∷ decimal x.ends.finished
+    ∷ key_text (codes "out_of_contexts") ∷ decimal x.ends.out_of_contexts
+    ∷ key_text (codes "cut_off") ∷ decimal x.ends.cut_off
+    ∷ key_text (codes "stuck") ∷ decimal x.ends.stuck
+    ∷ codes "},\"contexts\":{\"least\":" ∷ decimal x.contexts.least
+    ∷ key_text (codes "middle") ∷ decimal x.contexts.middle
+    ∷ key_text (codes "most") ∷ decimal x.contexts.most
+    ∷ codes "},\"statements\":{\"reached\":" ∷ decimal x.statements.reached
+    ∷ key_text (codes "all") ∷ decimal x.statements.all
+    ∷ codes "},\"assertions\":{\"reached\":" ∷ decimal x.assertions.reached
+    ∷ key_text (codes "all") ∷ decimal x.assertions.all
+    ∷ codes "},\"threads\":{\"reached\":" ∷ decimal x.threads.reached
+    ∷ key_text (codes "all") ∷ decimal x.threads.all
+    ∷ codes "}}\n" ∷ [])
 
 abbrev pub summary_object : Tested → List ℕ
-summary_object x =
-    codes "{\"kind\":\"test\",\"version\":1"
-    ++ (finding_members (found_name x.found) (found_run x.found) x.options.runs
-    ++ (counts_members x.counts ++ codes "}\n"))
+summary_object x = finding_members x.found x.options.runs ++ counts_members x.counts
 
 -- the summary, and the objects of the statements that were not reached
 abbrev pub summary_objects : Tested → List ℕ

@@ -1,15 +1,14 @@
 //! The object of a fault in JSON. It is written without memory, so that refused memory has one too.
 ghost use Rattle.std.specs.Prelude.{◌≡◌};
 ghost use Rattle.bp_text.specs.Writing.{Writes};
-ghost use Rattle.bp_view.specs.JsonTexts.{number_or_null, string_or_null};
-ghost use Rattle.bp_commands.specs.FaultObjects.{byte_of, column_in, fault_members, fault_object, letter_text, line_in, thread_of};
+ghost use Rattle.bp_text.specs.Pieces.{piece_text, string_or_null};
+ghost use Rattle.bp_commands.specs.FaultObjects.{byte_of, column_in, fault_object, letter_text, line_in, name_in, row_object, thread_of};
 ghost use Rattle.bp_commands.specs.FaultTable.{row_of};
-ghost use Rattle.bp_commands.specs.Members.{name_in, value_text};
 
 use crate::fault_table::{Detail, Row};
 use crate::faults::Fault;
-use crate::members::{Value, number_or_null, put_members, text_or_null};
-use bp_text::{WriteFault, position_of, put};
+use bp_text::Piece::{Bytes, Key, Letter, Number, NumberOrNull, Text, TextOrNull};
+use bp_text::{Piece, WriteFault, position_of, put_pieces};
 use std::io::Write;
 
 /// The byte of the program text that a fault names.
@@ -54,17 +53,27 @@ fn column_in(text: &[u8], detail: Detail) -> Option<u64>
 }
 
 /// The letter of the reply that is wanted, as a trace has it.
-fn wanted_letter<'a>(detail: Detail) -> Value<'a>
-    ensures { value_text result ≡ string_or_null (letter_text detail) }
+fn wanted_letter<'a>(detail: Detail) -> Piece<'a>
+    ensures { piece_text result ≡ string_or_null (letter_text detail) }
 {
     match detail {
-        Detail::Wanted(_, reply) => Value::Letter(reply.letter()),
-        _ => Value::Null,
+        Detail::Wanted(_, reply) => Letter(reply.letter()),
+        _ => TextOrNull(None),
     }
 }
 
-/// Writes the members of a fault's object after the version.
-fn put_fault_members<'a, W: Write>(
+/// The bytes of a name, where there is one.
+fn bytes_of<'a>(name: Option<&'a str>) -> Option<&'a [u8]>
+    ensures { name_in result ≡ name_in name.entry }
+{
+    match name {
+        Some(name) => Some(name.as_bytes()),
+        None => None,
+    }
+}
+
+/// Writes the object of a row of the table.
+fn put_row_object<'a, W: Write>(
     row: Row,
     file: Option<&'a str>,
     text: &[u8],
@@ -72,22 +81,35 @@ fn put_fault_members<'a, W: Write>(
     out: &mut W,
 ) -> Result<(), WriteFault>
     ensures { let r = row_of row in
-        let members = fault_members r (name_in file.entry) text.now message.entry.now in
-        Writes (W.contents out.old) (W.contents out.new) members result }
+        let object = row_object r (name_in file.entry) text.now message.entry.now in
+        Writes (W.contents out.old) (W.contents out.new) object result }
 {
     let detail = row.detail;
-    let members: [(&'a [u8], Value<'a>); 9] = [
-        (b"number", Value::Number(u64::from(row.number))),
-        (b"name", Value::Text(row.name)),
-        (b"file", text_or_null(file)),
-        (b"offset", number_or_null(byte_of(detail))),
-        (b"line", number_or_null(line_in(text, detail))),
-        (b"column", number_or_null(column_in(text, detail))),
-        (b"thread", number_or_null(thread_of(detail))),
-        (b"wanted", wanted_letter(detail)),
-        (b"message", Value::Text(message)),
-    ];
-    put_members(&members, out)
+    put_pieces(
+        out,
+        &[
+            Bytes(b"{\"kind\":\"fault\",\"version\":1"),
+            Key(b"number"),
+            Number(u64::from(row.number)),
+            Key(b"name"),
+            Text(row.name),
+            Key(b"file"),
+            TextOrNull(bytes_of(file)),
+            Key(b"offset"),
+            NumberOrNull(byte_of(detail)),
+            Key(b"line"),
+            NumberOrNull(line_in(text, detail)),
+            Key(b"column"),
+            NumberOrNull(column_in(text, detail)),
+            Key(b"thread"),
+            NumberOrNull(thread_of(detail)),
+            Key(b"wanted"),
+            wanted_letter(detail),
+            Key(b"message"),
+            Text(message),
+            Bytes(b"}\n"),
+        ],
+    )
 }
 
 /// Writes the object of a fault: its row of the table, the file that it is in, its place there, and
@@ -103,7 +125,5 @@ pub(crate) fn put_fault_object<'a, W: Write>(
         let object = fault_object fault.now file text.now message.entry.now in
         Writes (W.contents out.old) (W.contents out.new) object result }
 {
-    put(out, b"{\"kind\":\"fault\",\"version\":1")?;
-    put_fault_members(fault.row(), file, text, message, out)?;
-    put(out, b"}\n")
+    put_row_object(fault.row(), file, text, message, out)
 }

@@ -20,7 +20,6 @@ mod flushes;
 mod hints;
 mod inputs;
 pub mod limits;
-mod members;
 mod messages;
 mod migrating;
 mod outlining;

@@ -1,13 +1,13 @@
 //! The summary of a test: what was found, and how well the program was tested.
-ghost use Rattle.std.specs.Prelude.{◌≡◌, flat_map};
+ghost use Rattle.std.specs.Prelude.{◌≡◌};
 ghost use Rattle.bp_text.specs.Writing.{Writes};
-ghost use Rattle.bp_commands.specs.Summaries.{counts_text, finding_text, found_text, labelled};
+ghost use Rattle.bp_commands.specs.Summaries.{counts_text, finding_text, found_text};
 ghost use Rattle.bp_commands.specs.Summaries.{line_unless, nothing_text, nothing_words, summary_text, unreached_text};
 
 use crate::testing::Tested;
 use bp_test::{Counts, Found, TestOptions};
-use bp_text::{WriteFault, put, put_each};
-use itoa::Buffer;
+use bp_text::Piece::{Bytes, Number};
+use bp_text::{WriteFault, put, put_pieces};
 use std::io::Write;
 
 /// Writes what was found in one of this many runs.
@@ -15,15 +15,21 @@ fn put_found<W: Write>(words: &[u8], run: u64, runs: u64, out: &mut W) -> Result
     ensures { let text = found_text words.now run runs in
         Writes (W.contents out.old) (W.contents out.new) text result }
 {
-    let mut number = Buffer::new();
-    let mut all = Buffer::new();
-    let run = number.format(run).as_bytes();
-    let runs = all.format(runs).as_bytes();
-    put_each(out, &[words, b" in run ", run, b" of ", runs, b"\n"])
+    put_pieces(
+        out,
+        &[
+            Bytes(words),
+            Bytes(b" in run "),
+            Number(run),
+            Bytes(b" of "),
+            Number(runs),
+            Bytes(b"\n"),
+        ],
+    )
 }
 
 /// What was looked for and not found.
-fn nothing_words<'a>(with_stuck: bool) -> &'a [u8]
+fn nothing_words(with_stuck: bool) -> &'static [u8]
     ensures { result.now ≡ nothing_words with_stuck }
 {
     if with_stuck {
@@ -38,9 +44,15 @@ fn put_nothing<W: Write>(words: &[u8], runs: u64, out: &mut W) -> Result<(), Wri
     ensures { let text = nothing_text words.now runs in
         Writes (W.contents out.old) (W.contents out.new) text result }
 {
-    let mut all = Buffer::new();
-    let runs = all.format(runs).as_bytes();
-    put_each(out, &[words, b" in ", runs, b" runs\n"])
+    put_pieces(
+        out,
+        &[
+            Bytes(words),
+            Bytes(b" in "),
+            Number(runs),
+            Bytes(b" runs\n"),
+        ],
+    )
 }
 
 /// Writes what was found.
@@ -55,45 +67,49 @@ fn put_finding<W: Write>(options: &TestOptions, found: Found, out: &mut W) -> Re
     }
 }
 
-/// Writes numbers, each after its words.
-pub(crate) fn put_labelled<W: Write>(
-    numbers: &[(&[u8], u64)],
-    out: &mut W,
-) -> Result<(), WriteFault>
-    ensures { let text = flat_map (λ x. labelled x.0.now x.1) numbers.now in
-        Writes (W.contents out.old) (W.contents out.new) text result }
-{
-    for (words, number) in numbers {
-        let mut buffer = Buffer::new();
-        put_each(out, &[*words, buffer.format(*number).as_bytes()])?;
-    }
-    Ok(())
-}
-
 /// Writes how many runs were made, how they ended, and what they reached.
 fn put_counts<W: Write>(counts: &Counts, out: &mut W) -> Result<(), WriteFault>
     ensures { let text = counts_text counts.now in
         Writes (W.contents out.old) (W.contents out.new) text result }
 {
-    let numbers: [(&[u8], u64); 16] = [
-        (b"runs ", counts.runs),
-        (b", calls ", counts.calls),
-        (b", longest ", counts.longest),
-        (b"\nended: finished ", counts.ends.finished),
-        (b", out of contexts ", counts.ends.out_of_contexts),
-        (b", cut off ", counts.ends.cut_off),
-        (b", stuck ", counts.ends.stuck),
-        (b"\ncontexts: least ", counts.contexts.least),
-        (b", middle ", counts.contexts.middle),
-        (b", most ", counts.contexts.most),
-        (b"\nreached: statements ", counts.statements.reached),
-        (b" of ", counts.statements.all),
-        (b", assertions ", counts.assertions.reached),
-        (b" of ", counts.assertions.all),
-        (b", threads ", counts.threads.reached),
-        (b" of ", counts.threads.all),
-    ];
-    put_labelled(&numbers, out)
+    put_pieces(
+        out,
+        &[
+            Bytes(b"runs "),
+            Number(counts.runs),
+            Bytes(b", calls "),
+            Number(counts.calls),
+            Bytes(b", longest "),
+            Number(counts.longest),
+            Bytes(b"\nended: finished "),
+            Number(counts.ends.finished),
+            Bytes(b", out of contexts "),
+            Number(counts.ends.out_of_contexts),
+            Bytes(b", cut off "),
+            Number(counts.ends.cut_off),
+            Bytes(b", stuck "),
+            Number(counts.ends.stuck),
+            Bytes(b"\ncontexts: least "),
+            Number(counts.contexts.least),
+            Bytes(b", middle "),
+            Number(counts.contexts.middle),
+            Bytes(b", most "),
+            Number(counts.contexts.most),
+            Bytes(b"\nreached: statements "),
+            Number(counts.statements.reached),
+            Bytes(b" of "),
+            Number(counts.statements.all),
+            Bytes(b", assertions "),
+            Number(counts.assertions.reached),
+            Bytes(b" of "),
+            Number(counts.assertions.all),
+            Bytes(b", threads "),
+            Number(counts.threads.reached),
+            Bytes(b" of "),
+            Number(counts.threads.all),
+            Bytes(b"\n"),
+        ],
+    )
 }
 
 /// The line of a statement that was not reached.
@@ -132,6 +148,5 @@ pub(crate) fn put_summary<W: Write>(tested: &Tested, out: &mut W) -> Result<(), 
 {
     put_finding(&tested.options, tested.found, out)?;
     put_counts(&tested.counts, out)?;
-    put(out, b"\n")?;
     put_unreached(tested.lines.as_slice(), tested.reached.as_slice(), out)
 }

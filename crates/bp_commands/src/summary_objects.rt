@@ -4,15 +4,15 @@ ghost use Rattle.std.specs.Prelude.{◌≡◌};
 ghost use Rattle.bp_text.specs.Writing.{Writes};
 ghost use Rattle.bp_commands.specs.SummaryObjects.{counts_members, finding_members, found_name, found_run, summary_object, summary_objects};
 
-use crate::members::{Value, number_or_null, put_members};
-use crate::summaries::{put_labelled, put_unreached};
+use crate::summaries::put_unreached;
 use crate::testing::Tested;
 use bp_test::{Counts, Found};
-use bp_text::{WriteFault, put};
+use bp_text::Piece::{Bytes, Key, Number, NumberOrNull, Text};
+use bp_text::{WriteFault, put_pieces};
 use std::io::Write;
 
 /// The word for what was found.
-fn found_name<'a>(found: Found) -> &'a [u8]
+fn found_name(found: Found) -> &'static [u8]
     ensures { result.now ≡ found_name found }
 {
     match found {
@@ -33,21 +33,22 @@ fn found_run(found: Found) -> Option<u64>
 }
 
 /// Writes what was found, and in which run of this many.
-fn put_finding_members<'a, W: Write>(
-    name: &'a [u8],
-    run: Option<u64>,
-    runs: u64,
-    out: &mut W,
-) -> Result<(), WriteFault>
-    ensures { let text = finding_members name.entry.now run runs in
+fn put_finding_members<W: Write>(found: Found, runs: u64, out: &mut W) -> Result<(), WriteFault>
+    ensures { let text = finding_members found runs in
         Writes (W.contents out.old) (W.contents out.new) text result }
 {
-    let members: [(&'a [u8], Value<'a>); 3] = [
-        (b"found", Value::Text(name)),
-        (b"run", number_or_null(run)),
-        (b"of", Value::Number(runs)),
-    ];
-    put_members(&members, out)
+    put_pieces(
+        out,
+        &[
+            Bytes(b"{\"kind\":\"test\",\"version\":1"),
+            Key(b"found"),
+            Text(found_name(found)),
+            Key(b"run"),
+            NumberOrNull(found_run(found)),
+            Key(b"of"),
+            Number(runs),
+        ],
+    )
 }
 
 /// Writes how many runs were made, how they ended, and what they reached.
@@ -55,26 +56,44 @@ fn put_counts_members<W: Write>(counts: &Counts, out: &mut W) -> Result<(), Writ
     ensures { let text = counts_members counts.now in
         Writes (W.contents out.old) (W.contents out.new) text result }
 {
-    let numbers: [(&[u8], u64); 16] = [
-        (b",\"runs\":", counts.runs),
-        (b",\"calls\":", counts.calls),
-        (b",\"longest\":", counts.longest),
-        (b",\"ended\":{\"finished\":", counts.ends.finished),
-        (b",\"out_of_contexts\":", counts.ends.out_of_contexts),
-        (b",\"cut_off\":", counts.ends.cut_off),
-        (b",\"stuck\":", counts.ends.stuck),
-        (b"},\"contexts\":{\"least\":", counts.contexts.least),
-        (b",\"middle\":", counts.contexts.middle),
-        (b",\"most\":", counts.contexts.most),
-        (b"},\"statements\":{\"reached\":", counts.statements.reached),
-        (b",\"all\":", counts.statements.all),
-        (b"},\"assertions\":{\"reached\":", counts.assertions.reached),
-        (b",\"all\":", counts.assertions.all),
-        (b"},\"threads\":{\"reached\":", counts.threads.reached),
-        (b",\"all\":", counts.threads.all),
-    ];
-    put_labelled(&numbers, out)?;
-    put(out, b"}")
+    put_pieces(
+        out,
+        &[
+            Key(b"runs"),
+            Number(counts.runs),
+            Key(b"calls"),
+            Number(counts.calls),
+            Key(b"longest"),
+            Number(counts.longest),
+            Bytes(b",\"ended\":{\"finished\":"),
+            Number(counts.ends.finished),
+            Key(b"out_of_contexts"),
+            Number(counts.ends.out_of_contexts),
+            Key(b"cut_off"),
+            Number(counts.ends.cut_off),
+            Key(b"stuck"),
+            Number(counts.ends.stuck),
+            Bytes(b"},\"contexts\":{\"least\":"),
+            Number(counts.contexts.least),
+            Key(b"middle"),
+            Number(counts.contexts.middle),
+            Key(b"most"),
+            Number(counts.contexts.most),
+            Bytes(b"},\"statements\":{\"reached\":"),
+            Number(counts.statements.reached),
+            Key(b"all"),
+            Number(counts.statements.all),
+            Bytes(b"},\"assertions\":{\"reached\":"),
+            Number(counts.assertions.reached),
+            Key(b"all"),
+            Number(counts.assertions.all),
+            Bytes(b"},\"threads\":{\"reached\":"),
+            Number(counts.threads.reached),
+            Key(b"all"),
+            Number(counts.threads.all),
+            Bytes(b"}}\n"),
+        ],
+    )
 }
 
 /// Writes the object of what was found and of what the runs reached.
@@ -82,16 +101,8 @@ fn put_summary_object<W: Write>(tested: &Tested, out: &mut W) -> Result<(), Writ
     ensures { let text = summary_object tested.now in
         Writes (W.contents out.old) (W.contents out.new) text result }
 {
-    put(out, b"{\"kind\":\"test\",\"version\":1")?;
-    let found = tested.found;
-    put_finding_members(
-        found_name(found),
-        found_run(found),
-        tested.options.runs,
-        out,
-    )?;
-    put_counts_members(&tested.counts, out)?;
-    put(out, b"}\n")
+    put_finding_members(tested.found, tested.options.runs, out)?;
+    put_counts_members(&tested.counts, out)
 }
 
 /// Writes the summary of a test as objects, each on a line.

@@ -4,7 +4,7 @@ ghost use Rattle.bp_commands.specs.Ends.{Ends, HasLine};
 ghost use Rattle.bp_commands.specs.FaultObjects.{fault_object};
 ghost use Rattle.bp_commands.specs.FaultTable.{status_of};
 ghost use Rattle.bp_commands.specs.Given.{Pair};
-ghost use Rattle.bp_commands.specs.Members.{name_in};
+ghost use Rattle.bp_commands.specs.FaultObjects.{name_in};
 ghost use Rattle.bp_commands.specs.Tellings.{file_of_text, IsFileOfPair, IsPairObject, IsReported, IsTextObject};
 
 use crate::ends::{Ended, end};

@@ -26,7 +26,6 @@ pub mod ScenesOfSpots
 pub mod SlotsOfNames
 pub mod SpansOfHistories
 pub mod StepsInContexts
-pub mod StringsReadBack
 pub mod ValuesOfStatements
 pub mod WatchedVariables
 pub mod WholeStates

@@ -1,35 +1,36 @@
 -- What a call changed, as its note says it.
 use Rattle.std.specs.Prelude.{if◌then◌else◌, ◌≡◌, ◌==◌, ℕ, Bool, nat_lt, List, [], ◌∷◌, ◌++◌, Option, None, Some, codes, length, map, option_map, take}
+use Rattle.std.specs.List.{concat}
 use Rattle.bp_tree.specs.Ast.{Procedure}
 use Rattle.bp_code.specs.Configurations.{Frame, Configuration}
 use Rattle.bp_code.specs.Values.{Valuation, same_bit}
 use Rattle.bp_machine.specs.Answers.{stack_of}
 use Rattle.bp_view.specs.declared.options.ViewFormat.{ViewFormat}
 use Rattle.bp_view.specs.declared.options.ViewFormat.TheVariants.{Columns, Json}
-use Rattle.bp_view.specs.JsonTexts.{bit_text, member, string_or_null, string_text}
+use Rattle.bp_text.specs.JsonStrings.{string_text}
 use Rattle.bp_text.specs.OneLine.{on_one_line}
+use Rattle.bp_text.specs.Pieces.{bit_text, key_text, string_or_null}
 
 -- the procedure of a local, and a dot; a global has none
 abbrev pub owner_text : Option Procedure → List ℕ
 owner_text None = []
-owner_text (Some p) = map on_one_line p.name.text ++ codes "."
+owner_text (Some p) = concat (map on_one_line p.name.text ∷ codes "." ∷ [])
 
 -- a variable with its value, for people
 abbrev pub variable_words : Option Procedure → List ℕ → Bool → List ℕ
 variable_words owner name value =
-    codes " "
-    ++ owner_text owner
-    ++ map on_one_line name
-    ++ (if value then codes "=1" else codes "=0")
+    concat (
+    codes " " ∷ owner_text owner
+    ∷ map on_one_line name ∷ codes "=" ∷ bit_text value ∷ [])
 
 -- the same as an object of JSON after a comma
 abbrev pub variable_object : Option Procedure → List ℕ → Bool → List ℕ
 variable_object owner name value =
-    codes ",{\"procedure\":"
-    ++ string_or_null (option_map (λ p. p.name.text) owner)
-    ++ member (codes "name") (string_text name)
-    ++ member (codes "value") (bit_text value)
-    ++ codes "}"
+    concat (
+    codes ",{\"procedure\":" ∷ string_or_null (option_map (λ p. p.name.text) owner)
+    ∷ key_text (codes "name") ∷ string_text name
+    ∷ key_text (codes "value") ∷ bit_text value
+    ∷ codes "}" ∷ [])
 
 -- the same in a view of this format
 abbrev pub variable_text : ViewFormat → Option Procedure → List ℕ → Bool → List ℕ

@@ -1,6 +1,7 @@
 -- The contexts of a history, a line for each: its thread, its first and its last call, where its
 -- thread stands before and after it, and the globals that it changed.
-use Rattle.std.specs.Prelude.{◌≡◌, ◌≤◌, ◌-◌, ℕ, suc, List, [], ◌++◌, Option, None, Some, codes, decimal, length, map, option_map, slice_get, take}
+use Rattle.std.specs.Prelude.{◌≡◌, ◌≤◌, ◌-◌, ℕ, suc, List, [], ◌∷◌, ◌++◌, Option, None, Some, codes, decimal, length, map, option_map, slice_get, take}
+use Rattle.std.specs.List.{concat}
 use Rattle.bp_tree.specs.Ast.{Program}
 use Rattle.bp_code.specs.StandsFor.{places_of}
 use Rattle.bp_code.specs.Starts.{starts_of}
@@ -12,6 +13,7 @@ use Rattle.bp_machine.specs.Histories.{configuration_after, granted_threads}
 use Rattle.bp_machine.specs.Setups.{SetupOf}
 use Rattle.bp_text.specs.declared.positions.Position.{Position}
 use Rattle.bp_text.specs.Columns.{at_left, at_right}
+use Rattle.bp_text.specs.Pieces.{key_text, list_text}
 use Rattle.bp_text.specs.Positions.{position_at}
 use Rattle.bp_trace.specs.declared.replaying.Replayed.{Replayed}
 use Rattle.bp_trace.specs.Replayed.{IsReplayed}
@@ -20,7 +22,6 @@ use Rattle.bp_view.specs.declared.options.ViewFormat.TheVariants.{Columns, Json}
 use Rattle.bp_view.specs.declared.settings.Widths.{Widths}
 use Rattle.bp_view.specs.ChangeFacts.{entries_text, owned}
 use Rattle.bp_view.specs.Changes.{changed}
-use Rattle.bp_view.specs.JsonTexts.{list_text, member}
 use Rattle.bp_view.specs.Lines.{after_room, start_on_stack, IsContext}
 use Rattle.bp_view.specs.Parts.{IsInParts}
 use Rattle.bp_view.specs.Places.{place_text}
@@ -78,21 +79,33 @@ context_line w x from to changes =
 abbrev pub position_or_null : Option Position → List ℕ
 position_or_null None = codes "null"
 position_or_null (Some p) =
-    codes "{\"line\":" ++ decimal p.line ++ member (codes "column") (decimal p.column) ++ codes "}"
+    concat (
+    codes "{\"line\":" ∷ decimal p.line
+    ∷ key_text (codes "column") ∷ decimal p.column
+    ∷ codes "}" ∷ [])
+
+-- the numbers of a context as members of its object, and the key of the next one
+abbrev pub number_members : ContextNumbers → List ℕ
+number_members x =
+    concat (
+    codes "{\"kind\":\"context\""
+    ∷ key_text (codes "context") ∷ decimal x.number
+    ∷ key_text (codes "thread") ∷ decimal x.thread
+    ∷ key_text (codes "first") ∷ decimal x.first
+    ∷ key_text (codes "last") ∷ decimal x.last
+    ∷ key_text (codes "from") ∷ [])
 
 -- a context as an object of JSON
 abbrev pub context_object
     : ContextNumbers → (from to : Option Position) → (changes : List ℕ) → List ℕ
 context_object x from to changes =
-    codes "{\"kind\":\"context\""
-    ++ member (codes "context") (decimal x.number)
-    ++ member (codes "thread") (decimal x.thread)
-    ++ member (codes "first") (decimal x.first)
-    ++ member (codes "last") (decimal x.last)
-    ++ member (codes "from") (position_or_null from)
-    ++ member (codes "to") (position_or_null to)
-    ++ member (codes "changes") (list_text changes)
-    ++ codes "}\n"
+    concat (
+    number_members x
+    ∷ position_or_null from
+    ∷ key_text (codes "to")
+    ∷ position_or_null to
+    ∷ concat (key_text (codes "changes") ∷ list_text changes ∷ codes "}\n" ∷ [])
+    ∷ [])
 
 -- the same in a view of this format, where the statements begin at these offsets of the text
 abbrev pub context_in
@@ -108,10 +121,11 @@ context_in Json w text x from to changes =
 abbrev pub contexts_head : ViewFormat → (calls contexts : ℕ) → List ℕ
 contexts_head Columns calls contexts = []
 contexts_head Json calls contexts =
+    concat (
     codes "{\"kind\":\"contexts\",\"version\":1"
-    ++ member (codes "calls") (decimal calls)
-    ++ member (codes "contexts") (decimal contexts)
-    ++ codes "}\n"
+    ∷ key_text (codes "calls") ∷ decimal calls
+    ∷ key_text (codes "contexts") ∷ decimal contexts
+    ∷ codes "}\n" ∷ [])
 
 -- Of a program and its text; after the history h in a setup.
 module _ (format : ViewFormat) (t : Program) (text : List ℕ) (s : SetupOf) (h : List Call) where

@@ -1,16 +1,18 @@
 -- The frames of a stack, each with what it has next and the values of its locals.
-use Rattle.std.specs.Prelude.{if◌then◌else◌, ◌≡◌, ◌==◌, ℕ, Bool, List, ◌++◌, Option, Some, codes, length, map, option_map, slice_get}
+use Rattle.std.specs.Prelude.{if◌then◌else◌, ◌≡◌, ◌==◌, ℕ, Bool, List, [], ◌∷◌, ◌++◌, Option, Some, codes, length, map, option_map, slice_get}
+use Rattle.std.specs.List.{concat}
 use Rattle.bp_tree.specs.Ast.{Procedure}
 use Rattle.bp_code.specs.Starts.{start_of_block}
 use Rattle.bp_code.specs.Configurations.{Frame}
 use Rattle.bp_text.specs.declared.positions.Position.{Position}
+use Rattle.bp_text.specs.JsonStrings.{string_text}
 use Rattle.bp_text.specs.OneLine.{on_one_line}
+use Rattle.bp_text.specs.Pieces.{key_text, list_text, number_or_null}
 use Rattle.bp_text.specs.Positions.{position_at}
 use Rattle.bp_view.specs.declared.options.ViewFormat.{ViewFormat}
 use Rattle.bp_view.specs.declared.options.ViewFormat.TheVariants.{Columns, Json}
 use Rattle.bp_view.specs.Changes.{variables_text}
-use Rattle.bp_view.specs.JsonCalls.{position_members}
-use Rattle.bp_view.specs.JsonTexts.{list_text, member, string_text}
+use Rattle.bp_view.specs.JsonTexts.{column_of, line_of}
 use Rattle.bp_view.specs.Outcomes.{assertion_text}
 use Rattle.bp_view.specs.Parts.{IsInParts}
 use Rattle.bp_view.specs.Places.{place_text}
@@ -32,12 +34,13 @@ frame_lines n p place words values =
 -- the same as an object of JSON after a comma
 abbrev pub frame_object : Procedure → Option Position → (words values : List ℕ) → List ℕ
 frame_object p position words values =
-    codes ",{\"procedure\":"
-    ++ string_text p.name.text
-    ++ position_members position
-    ++ member (codes "statement") (string_text words)
-    ++ member (codes "locals") (list_text values)
-    ++ codes "}"
+    concat (
+    codes ",{\"procedure\":" ∷ string_text p.name.text
+    ∷ key_text (codes "line") ∷ number_or_null (line_of position)
+    ∷ key_text (codes "column") ∷ number_or_null (column_of position)
+    ∷ key_text (codes "statement") ∷ string_text words
+    ∷ key_text (codes "locals") ∷ list_text values
+    ∷ codes "}" ∷ [])
 
 -- the same in a view of this format, where the next statement begins at this offset of the text
 abbrev pub frame_in

@@ -1,12 +1,14 @@
 -- The head of a view: the setup of its history.
 use Rattle.std.specs.Prelude.{ℕ, suc, List, [], ◌∷◌, ◌++◌, Option, None, Some, codes, decimal, flat_map}
+use Rattle.std.specs.List.{concat}
 use Rattle.bp_tree.specs.Ast.{Name}
 use Rattle.bp_code.specs.Values.{Valuation, binding}
 use Rattle.bp_machine.specs.Setups.{SetupOf}
+use Rattle.bp_text.specs.JsonStrings.{string_text}
+use Rattle.bp_text.specs.Pieces.{key_text, list_text, number_or_null}
 use Rattle.bp_view.specs.declared.options.ViewFormat.{ViewFormat}
 use Rattle.bp_view.specs.declared.options.ViewFormat.TheVariants.{Columns, Json}
 use Rattle.bp_view.specs.Changes.{variables_text}
-use Rattle.bp_view.specs.JsonTexts.{list_text, member, number_or_null, string_text}
 
 -- the number of a thread, and the procedure in which it begins
 abbrev pub thread_line : ℕ → List ℕ → List ℕ
@@ -43,22 +45,29 @@ head_lines globals s =
 
 -- a string of a list
 abbrev pub string_item : List ℕ → List ℕ
-string_item text = codes "," ++ string_text text
+string_item text = concat (codes "," ∷ string_text text ∷ [])
 
+-- the limits of a setup and its seed, and the end of its object
 abbrev pub limit_members : SetupOf → List ℕ
 limit_members s =
-    member (codes "contexts") (decimal s.contexts)
-    ++ member (codes "calls") (decimal s.calls)
-    ++ member (codes "seed") (number_or_null s.seed)
+    concat (
+    key_text (codes "contexts") ∷ decimal s.contexts
+    ∷ key_text (codes "calls") ∷ decimal s.calls
+    ∷ key_text (codes "seed") ∷ number_or_null s.seed
+    ∷ codes "}\n" ∷ [])
 
 -- the same as an object of JSON, which says the version of the format
 abbrev pub head_object : List Name → SetupOf → List ℕ
 head_object globals s =
+    concat (
+    concat (
     codes "{\"kind\":\"setup\",\"version\":1"
-    ++ member (codes "threads") (list_text (flat_map string_item s.entries))
-    ++ member (codes "globals") (list_text (variables_text Json None (binding globals s.init)))
-    ++ limit_members s
-    ++ codes "}\n"
+    ∷ key_text (codes "threads") ∷ list_text (flat_map string_item s.entries) ∷ [])
+    ∷ concat (
+    key_text (codes "globals")
+    ∷ list_text (variables_text Json None (binding globals s.init)) ∷ [])
+    ∷ limit_members s
+    ∷ [])
 
 -- the head of a view of this format
 abbrev pub view_head : ViewFormat → List Name → SetupOf → List ℕ

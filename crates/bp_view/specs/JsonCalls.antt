@@ -1,5 +1,6 @@
 -- The object of a call in JSON.
 use Rattle.std.specs.Prelude.{if◌then◌else◌, ◌≡◌, ◌&&◌, ℕ, Bool, false, List, [], ◌∷◌, ◌++◌, Option, None, Some, codes, decimal, flat_map, length, option_map, slice_get}
+use Rattle.std.specs.List.{concat}
 use Rattle.bp_tree.specs.Ast.{Procedure}
 use Rattle.bp_code.specs.Starts.{start_of_block}
 use Rattle.bp_code.specs.Configurations.{Frame, Configuration}
@@ -11,11 +12,14 @@ use Rattle.bp_machine.specs.PrintedRows.{values_printed}
 use Rattle.bp_machine.specs.Replies.{is_granted}
 use Rattle.bp_machine.specs.declared.tops.Top.{Top}
 use Rattle.bp_text.specs.declared.positions.Position.{Position}
+use Rattle.bp_text.specs.JsonStrings.{string_text}
+use Rattle.bp_text.specs.Pieces.{bit_or_null, bit_text, key_text, list_text, number_or_null, string_or_null, truth_text}
 use Rattle.bp_text.specs.Positions.{position_at}
 use Rattle.bp_view.specs.declared.options.ViewFormat.{ViewFormat}
 use Rattle.bp_view.specs.declared.options.ViewFormat.TheVariants.{Columns, Json}
+use Rattle.bp_view.specs.declared.json_calls.Following.{Following}
 use Rattle.bp_view.specs.declared.scenes.Scene.{Scene}
-use Rattle.bp_view.specs.JsonTexts.{bit_or_null, bit_text, list_text, member, number_or_null, string_or_null, string_text, truth_text}
+use Rattle.bp_view.specs.JsonTexts.{column_of, line_of}
 use Rattle.bp_view.specs.Lines.{is_tried, Fields}
 use Rattle.bp_view.specs.Scenes.{IsStatementAt}
 
@@ -28,14 +32,6 @@ reply_name Full = codes "stack full"
 reply_name Blocked = codes "waits"
 reply_name Failed = codes "failed"
 reply_name Stepped = codes "stepped"
-
--- the number of a call, its thread, the context of its step, and whether it is a switch
-abbrev pub call_members : Fields → List ℕ
-call_members f =
-    member (codes "number") (decimal f.number)
-    ++ member (codes "thread") (decimal f.thread)
-    ++ member (codes "context") (number_or_null f.context)
-    ++ member (codes "switch") (truth_text f.switch)
 
 -- What a thread has next: where its statement begins, in which procedure, how many frames the stack
 -- has, and the words of the statement.
@@ -51,26 +47,27 @@ abbrev pub nothing_next : Next
 nothing_next =
     record { position = None; procedure = None; depth = 0; words = None; reads = false }
 
-abbrev pub position_members : Option Position → List ℕ
-position_members position =
-    member (codes "line") (number_or_null (option_map (λ p. p.line) position))
-    ++ member (codes "column") (number_or_null (option_map (λ p. p.column) position))
-
-abbrev pub next_members : Next → List ℕ
-next_members next =
-    position_members next.position
-    ++ member (codes "procedure") (string_or_null next.procedure)
-    ++ member (codes "depth") (decimal next.depth)
-    ++ member (codes "statement") (string_or_null next.words)
-
 -- the choice bit of a call whose statement reads one, where it was tried
 abbrev pub choice_of : (reads : Bool) → Call → Option Bool
 choice_of reads x = if reads && is_tried x.reply then Some x.bit else None
 
-abbrev pub reply_members : (reads : Bool) → Call → List ℕ
-reply_members reads x =
-    member (codes "choice") (bit_or_null (choice_of reads x))
-    ++ member (codes "reply") (string_text (reply_name x.reply))
+-- the texts of the members of a call that have one value each: its own, what its thread has next, and
+-- the reply
+abbrev pub member_texts : Fields → Next → Call → List (List ℕ)
+member_texts f next x =
+    codes "{\"kind\":\"call\""
+    ∷ key_text (codes "number") ∷ decimal f.number
+    ∷ key_text (codes "thread") ∷ decimal f.thread
+    ∷ key_text (codes "context") ∷ number_or_null f.context
+    ∷ key_text (codes "switch") ∷ truth_text f.switch
+    ∷ key_text (codes "line") ∷ number_or_null (line_of next.position)
+    ∷ key_text (codes "column") ∷ number_or_null (column_of next.position)
+    ∷ key_text (codes "procedure") ∷ string_or_null next.procedure
+    ∷ key_text (codes "depth") ∷ decimal next.depth
+    ∷ key_text (codes "statement") ∷ string_or_null next.words
+    ∷ key_text (codes "choice") ∷ bit_or_null (choice_of next.reads x)
+    ∷ key_text (codes "reply") ∷ string_text (reply_name x.reply)
+    ∷ []
 
 -- the values that a call prints in this configuration: those of a step at a print
 abbrev pub printed_by : Configuration → Call → Option (List Bool)
@@ -89,23 +86,21 @@ IsPrintedIn Columns c x printed = Unit {0}
 IsPrintedIn Json c x printed = printed ≡ printed_by c x
 
 abbrev pub bit_item : Bool → List ℕ
-bit_item bit = codes "," ++ bit_text bit
+bit_item bit = concat (codes "," ∷ bit_text bit ∷ [])
 
 abbrev pub printed_text : Option (List Bool) → List ℕ
 printed_text None = codes "null"
 printed_text (Some values) = list_text (flat_map bit_item values)
 
--- a call: its own members, what its thread had next, the reply, what it changed and what it printed
+-- a call: the members that have one value each, what it changed and what it printed
 abbrev pub call_object
     : Fields → Next → Call → (changes : List ℕ) → (printed : Option (List Bool)) → List ℕ
 call_object f next x changes printed =
-    codes "{\"kind\":\"call\""
-    ++ call_members f
-    ++ next_members next
-    ++ reply_members next.reads x
-    ++ member (codes "changes") (list_text changes)
-    ++ member (codes "printed") (printed_text printed)
-    ++ codes "}\n"
+    concat (
+    concat (member_texts f next x)
+    ∷ key_text (codes "changes") ∷ list_text changes
+    ∷ key_text (codes "printed") ∷ printed_text printed
+    ∷ codes "}\n" ∷ [])
 
 -- the statement that a frame has next, or its procedure's end, at this depth of a stack
 pub record IsNextAt (text : List ℕ) (f : Frame) (depth : ℕ) (next : Next) : Type 0 where
@@ -120,6 +115,17 @@ pub record IsNextAt (text : List ℕ) (f : Frame) (depth : ℕ) (next : Next) : 
 abbrev pub IsNextOf : List ℕ → List Frame → Next → Type 0
 IsNextOf text [] next = next ≡ nothing_next
 IsNextOf text (f ∷ fs) next = IsNextAt text f (length (f ∷ fs)) next
+
+-- what a value of what is next says
+abbrev pub next_in : Following → Next
+next_in x =
+    record {
+      position = x.position;
+      procedure = option_map (λ s. s.now) x.procedure;
+      depth = x.depth;
+      words = option_map (λ s. s.now) x.words;
+      reads = x.reads_choice;
+    }
 
 -- a device: what the code says of a scene, at the top of a stack
 abbrev pub name_at : List Procedure → ℕ → Option (List ℕ)

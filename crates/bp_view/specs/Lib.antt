@@ -7,7 +7,6 @@ pub mod Frames
 pub mod Heads
 pub mod JsonCalls
 pub mod JsonListings
-pub mod JsonStrings
 pub mod JsonTexts
 pub mod Lines
 pub mod Listings

@@ -1,5 +1,6 @@
 -- The foot of a view: the report of its history.
 use Rattle.std.specs.Prelude.{if◌then◌else◌, ◌≡◌, ℕ, Bool, false, List, [], ◌∷◌, ◌++◌, Option, None, Some, codes, decimal, drop}
+use Rattle.std.specs.List.{concat}
 use Rattle.bp_tree.specs.Ast.{Procedure, Program}
 use Rattle.bp_code.specs.Effects.{Store}
 use Rattle.bp_code.specs.Moves.{frame_store}
@@ -15,8 +16,9 @@ use Rattle.bp_syntax.specs.declared.tokens.LexemeKind.{LexemeKind}
 use Rattle.bp_view.specs.declared.options.ViewFormat.{ViewFormat}
 use Rattle.bp_view.specs.declared.options.ViewFormat.TheVariants.{Columns, Json}
 use Rattle.bp_view.specs.Changes.{variable_text}
-use Rattle.bp_view.specs.JsonTexts.{list_text, member, string_text}
 use Rattle.bp_text.specs.declared.positions.Position.{Position}
+use Rattle.bp_text.specs.JsonStrings.{string_text}
+use Rattle.bp_text.specs.Pieces.{key_text, list_text}
 use Rattle.bp_text.specs.Positions.{position_at}
 use Rattle.bp_view.specs.Places.{position_text}
 use Rattle.bp_view.specs.Statements.{is_word, role_of, shortened, words_after, HasLexemes, Lexeme}
@@ -71,10 +73,12 @@ assertion_text place words values =
 -- the same as the members of an object
 abbrev pub assertion_members : Position → (words values : List ℕ) → List ℕ
 assertion_members position words values =
-    member (codes "line") (decimal position.line)
-    ++ member (codes "column") (decimal position.column)
-    ++ member (codes "statement") (string_text words)
-    ++ member (codes "values") (list_text values)
+    concat (
+    key_text (codes "line") ∷ decimal position.line
+    ∷ key_text (codes "column") ∷ decimal position.column
+    ∷ key_text (codes "statement") ∷ string_text words
+    ∷ key_text (codes "values") ∷ list_text values
+    ∷ [])
 
 -- the same in a view of this format
 abbrev pub assertion_in : ViewFormat → Position → (words values : List ℕ) → List ℕ
@@ -100,7 +104,8 @@ pub record IsAssertionText
 
 -- an object of the thread whose assertion failed, and what is said of the assertion
 abbrev pub failure_object : ℕ → List ℕ → List ℕ
-failure_object i assertion = codes "{\"thread\":" ++ decimal i ++ assertion ++ codes "}"
+failure_object i assertion =
+    concat (codes "{\"thread\":" ∷ decimal i ∷ assertion ∷ codes "}" ∷ [])
 
 abbrev pub failure_in : ViewFormat → ℕ → List ℕ → List ℕ
 failure_in Columns i assertion = failure_text i assertion
@@ -119,21 +124,17 @@ IsOutcomeText format t text s h (Failed i) outcome =
     × (outcome ≡ failure_in format i said)
     × IsAssertionText format t text s h i said
 
--- the same counts as members of an object
-abbrev pub counts_members : Report → List ℕ
-counts_members r =
-    member (codes "calls") (decimal r.calls)
-    ++ member (codes "contexts") (decimal r.contexts)
-    ++ member (codes "open") (decimal r.left_open)
-
 -- the counts of a report, and the text of its outcome
 abbrev pub foot_text : ViewFormat → Report → (outcome : List ℕ) → List ℕ
 foot_text Columns r outcome = counts_line r ++ outcome ++ codes "\n"
 foot_text Json r outcome =
+    concat (
     codes "{\"kind\":\"end\""
-    ++ counts_members r
-    ++ member (codes "failure") outcome
-    ++ codes "}\n"
+    ∷ key_text (codes "calls") ∷ decimal r.calls
+    ∷ key_text (codes "contexts") ∷ decimal r.contexts
+    ∷ key_text (codes "open") ∷ decimal r.left_open
+    ∷ key_text (codes "failure") ∷ outcome
+    ∷ codes "}\n" ∷ [])
 
 -- the counts of the report of a history, and its outcome
 pub record IsFoot

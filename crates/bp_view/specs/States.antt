@@ -1,5 +1,6 @@
 -- The state after a history: the values of the globals, and how each thread stands.
-use Rattle.std.specs.Prelude.{if◌then◌else◌, ◌≡◌, ℕ, List, [], ◌++◌, None, codes, decimal, length, take}
+use Rattle.std.specs.Prelude.{if◌then◌else◌, ◌≡◌, ℕ, List, [], ◌∷◌, ◌++◌, Option, None, Some, codes, decimal, length, take}
+use Rattle.std.specs.List.{concat}
 use Rattle.bp_tree.specs.Ast.{Program}
 use Rattle.bp_code.specs.Values.{Valuation}
 use Rattle.bp_machine.specs.declared.calls.Call.{Call}
@@ -11,6 +12,8 @@ use Rattle.bp_machine.specs.Histories.{configuration_after, is_finished}
 use Rattle.bp_machine.specs.Reports.{outcome_of}
 use Rattle.bp_machine.specs.Setups.{SetupOf, threads}
 use Rattle.bp_machine.specs.Waiting.{waits}
+use Rattle.bp_text.specs.JsonStrings.{string_text}
+use Rattle.bp_text.specs.Pieces.{key_text, list_text, number_or_null}
 use Rattle.bp_trace.specs.declared.replaying.Replayed.{Replayed}
 use Rattle.bp_trace.specs.Replayed.{IsReplayed}
 use Rattle.bp_view.specs.declared.options.ViewFormat.{ViewFormat}
@@ -20,7 +23,6 @@ use Rattle.bp_view.specs.declared.standings.Standing.TheVariants.{Finished, Stop
 use Rattle.bp_view.specs.Changes.{variables_text}
 use Rattle.bp_view.specs.Frames.{IsStackText}
 use Rattle.bp_view.specs.Heads.{globals_line}
-use Rattle.bp_view.specs.JsonTexts.{list_text, member, string_text}
 use Rattle.bp_view.specs.Parts.{IsInParts}
 
 -- How a thread stands after a history, by the first that applies: its line is finished; its next
@@ -54,11 +56,11 @@ thread_state_lines i standing frames =
 -- the same as an object of JSON after a comma
 abbrev pub thread_state_object : ℕ → Standing → (frames : List ℕ) → List ℕ
 thread_state_object i standing frames =
-    codes ",{\"thread\":"
-    ++ decimal i
-    ++ member (codes "standing") (string_text (standing_name standing))
-    ++ member (codes "frames") (list_text frames)
-    ++ codes "}"
+    concat (
+    codes ",{\"thread\":" ∷ decimal i
+    ∷ key_text (codes "standing") ∷ string_text (standing_name standing)
+    ∷ key_text (codes "frames") ∷ list_text frames
+    ∷ codes "}" ∷ [])
 
 abbrev pub thread_state_in : ViewFormat → ℕ → Standing → (frames : List ℕ) → List ℕ
 thread_state_in Columns i standing frames = thread_state_lines i standing frames
@@ -81,21 +83,29 @@ state_lines n count outcome globals threads =
     ++ globals_line globals
     ++ threads
 
--- the thread whose assertion failed, or null
-abbrev pub failed_text : Outcome → List ℕ
-failed_text Clean = codes "null"
-failed_text (Failed i) = decimal i
+-- the thread whose assertion failed
+abbrev pub failed_thread : Outcome → Option ℕ
+failed_thread Clean = None
+failed_thread (Failed i) = Some i
+
+-- the members of a state that have one value each, and the key of the globals
+abbrev pub state_members : (n count : ℕ) → Outcome → List ℕ
+state_members n count outcome =
+    concat (
+    codes "{\"kind\":\"state\",\"version\":1"
+    ∷ key_text (codes "call") ∷ decimal n
+    ∷ key_text (codes "calls") ∷ decimal count
+    ∷ key_text (codes "failed") ∷ number_or_null (failed_thread outcome)
+    ∷ key_text (codes "globals") ∷ [])
 
 -- the same as an object of JSON
 abbrev pub state_object : (n count : ℕ) → Outcome → Valuation → (threads : List ℕ) → List ℕ
 state_object n count outcome globals threads =
-    codes "{\"kind\":\"state\",\"version\":1"
-    ++ member (codes "call") (decimal n)
-    ++ member (codes "calls") (decimal count)
-    ++ member (codes "failed") (failed_text outcome)
-    ++ member (codes "globals") (list_text (variables_text Json None globals))
-    ++ member (codes "threads") (list_text threads)
-    ++ codes "}\n"
+    concat (
+    state_members n count outcome
+    ∷ list_text (variables_text Json None globals)
+    ∷ key_text (codes "threads") ∷ list_text threads
+    ∷ codes "}\n" ∷ [])
 
 abbrev pub state_in
     : ViewFormat → (n count : ℕ) → Outcome → Valuation → (threads : List ℕ) → List ℕ

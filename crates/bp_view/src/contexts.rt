@@ -9,25 +9,23 @@ ghost use Rattle.bp_machine.specs.Setups.{SetupOf};
 ghost use Rattle.bp_machine.specs.Tops.{IsTop};
 ghost use Rattle.bp_text.specs.Columns.{at_right};
 ghost use Rattle.bp_trace.specs.Replays.{IsReplayRefusal};
-ghost use Rattle.bp_view.specs.ContextLines.{context_in, context_line, context_object, contexts_head, ends_text, position_or_null, AreContextsOfTrace, IsContextLine};
-ghost use Rattle.bp_view.specs.JsonTexts.{member};
+ghost use Rattle.bp_view.specs.ContextLines.{context_in, context_line, context_object, contexts_head, ends_text, number_members, position_or_null, AreContextsOfTrace, IsContextLine};
 ghost use Rattle.bp_view.specs.Lines.{start_on_stack, Adds, IsSettingOf};
 ghost use Rattle.bp_view.specs.Parts.{IsInParts};
 ghost use Rattle.bp_view.specs.Scenes.{AreScenes};
 ghost use Rattle.bp_view.specs.Spans.{numbers_of, position_of_scene, AreSpans, IsSceneFrom, IsSpan};
 
 use crate::change_facts::{Change, add_differing};
-use crate::json_texts::{push_key, push_list, push_number};
 use crate::lines::{place_of, push_changed, push_note};
 use crate::options::{ViewFormat, ViewOptions};
-use crate::outcomes::push_count;
 use crate::scenes::{Scene, scenes_of};
 use crate::settings::{Setting, Widths, setting_of};
 use crate::spans::{Span, spans_of};
 use bp_check::Checked;
 use bp_code::Code;
 use bp_machine::{Report, Top};
-use bp_text::{Position, push_bytes, push_left, push_right};
+use bp_text::Piece::{Bytes, Key, List, Number};
+use bp_text::{Position, push_bytes, push_left, push_pieces, push_right};
 use bp_trace::limits::MAX_TRACE;
 use bp_trace::{ReplayFault, replay};
 use itoa::Buffer;
@@ -117,20 +115,38 @@ fn push_position_or_null(view: &mut Vec<u8>, position: Option<Position>) -> Resu
     let Some(position) = position else {
         return push_bytes(view, b"null");
     };
-    push_count(view, b"{\"line\":", position.line as u64)?;
-    push_number(view, b"column", position.column as u64)?;
-    push_bytes(view, b"}")?;
-    Ok(())
+    push_pieces(
+        view,
+        &[
+            Bytes(b"{\"line\":"),
+            Number(position.line as u64),
+            Key(b"column"),
+            Number(position.column as u64),
+            Bytes(b"}"),
+        ],
+    )
 }
 
-/// Adds a member that is a place or null.
-fn push_place(view: &mut Vec<u8>, key: &[u8], position: Option<Position>) -> Result<(), AllocError>
-    ensures { OnOk result
-        (view.new.items ≡ view.old.items ++ member key.now (position_or_null position)) }
+/// Adds the numbers of a context as members of its object.
+fn push_numbers(view: &mut Vec<u8>, number: u64, span: &Span) -> Result<(), AllocError>
+    ensures { let numbers = number_members (numbers_of number span.now) in
+        OnOk result (view.new.items ≡ view.old.items ++ numbers) }
 {
-    push_key(view, key)?;
-    push_position_or_null(view, position)?;
-    Ok(())
+    push_pieces(
+        view,
+        &[
+            Bytes(b"{\"kind\":\"context\""),
+            Key(b"context"),
+            Number(number),
+            Key(b"thread"),
+            Number(u64::from(span.thread)),
+            Key(b"first"),
+            Number(span.first),
+            Key(b"last"),
+            Number(span.last),
+            Key(b"from"),
+        ],
+    )
 }
 
 /// Adds a context as an object of JSON.
@@ -145,15 +161,11 @@ fn push_context_object(
     ensures { let context = context_object (numbers_of number span.now) from to changes.now in
         OnOk result (view.new.items ≡ view.old.items ++ context) }
 {
-    push_bytes(view, b"{\"kind\":\"context\"")?;
-    push_number(view, b"context", number)?;
-    push_number(view, b"thread", u64::from(span.thread))?;
-    push_number(view, b"first", span.first)?;
-    push_number(view, b"last", span.last)?;
-    push_place(view, b"from", from)?;
-    push_place(view, b"to", to)?;
-    push_list(view, b"changes", changes)?;
-    push_bytes(view, b"}\n")?;
+    push_numbers(view, number, span)?;
+    push_position_or_null(view, from)?;
+    push_pieces(view, &[Key(b"to")])?;
+    push_position_or_null(view, to)?;
+    push_pieces(view, &[Key(b"changes"), List(changes), Bytes(b"}\n")])?;
     Ok(())
 }
 
@@ -247,10 +259,17 @@ fn push_contexts_head(
         OnOk result (view.new.items ≡ view.old.items ++ head) }
 {
     if let ViewFormat::Json = format {
-        push_bytes(view, b"{\"kind\":\"contexts\",\"version\":1")?;
-        push_number(view, b"calls", calls)?;
-        push_number(view, b"contexts", contexts)?;
-        push_bytes(view, b"}\n")?;
+        push_pieces(
+            view,
+            &[
+                Bytes(b"{\"kind\":\"contexts\",\"version\":1"),
+                Key(b"calls"),
+                Number(calls),
+                Key(b"contexts"),
+                Number(contexts),
+                Bytes(b"}\n"),
+            ],
+        )?;
     }
     Ok(())
 }

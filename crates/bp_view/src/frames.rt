@@ -15,15 +15,15 @@ ghost use Rattle.bp_view.specs.Frames.{frame_in, frame_lines, frame_object, lead
 ghost use Rattle.bp_view.specs.Lines.{Adds, IsSettingOf};
 ghost use Rattle.bp_view.specs.Places.{place_text};
 
-use crate::json_calls::push_position;
-use crate::json_texts::{push_list, push_string, push_text};
+use crate::json_texts::{column_of, line_of};
 use crate::options::ViewFormat;
 use crate::outcomes::push_assertion_text;
 use crate::scenes::Scene;
 use crate::settings::Setting;
 use crate::variables::push_values;
 use bp_machine::{Session, Top};
-use bp_text::{push_bytes, push_on_one_line};
+use bp_text::Piece::{Bytes, Key, List, NumberOrNull, Text};
+use bp_text::{push_bytes, push_on_one_line, push_pieces};
 use bp_tree::Proc;
 use std::alloc::AllocError;
 
@@ -54,23 +54,33 @@ fn push_frame_lines(
 }
 
 /// Adds a frame as an object of JSON, after a comma.
-fn push_frame_object(
+fn push_frame_object<'a>(
     view: &mut Vec<u8>,
-    proc: &Proc,
-    scene: &Scene,
-    values: &[u8],
+    proc: &'a Proc,
+    scene: &'a Scene,
+    values: &'a [u8],
 ) -> Result<(), AllocError>
-    ensures { let words = scene.now.excerpt.words.items in
-        let frame = frame_object proc.now scene.now.position words values.now in
+    ensures { let words = scene.entry.now.excerpt.words.items in
+        let position = scene.entry.now.position in
+        let frame = frame_object proc.entry.now position words values.entry.now in
         OnOk result (view.new.items ≡ view.old.items ++ frame) }
 {
-    push_bytes(view, b",{\"procedure\":")?;
-    push_string(view, proc.name().text().as_bytes())?;
-    push_position(view, scene.position)?;
-    push_text(view, b"statement", scene.excerpt.words.as_slice())?;
-    push_list(view, b"locals", values)?;
-    push_bytes(view, b"}")?;
-    Ok(())
+    push_pieces(
+        view,
+        &[
+            Bytes(b",{\"procedure\":"),
+            Text(proc.name().text().as_bytes()),
+            Key(b"line"),
+            NumberOrNull(line_of(scene.position)),
+            Key(b"column"),
+            NumberOrNull(column_of(scene.position)),
+            Key(b"statement"),
+            Text(scene.excerpt.words.as_slice()),
+            Key(b"locals"),
+            List(values),
+            Bytes(b"}"),
+        ],
+    )
 }
 
 /// Adds a frame in this format.

@@ -4,11 +4,11 @@ ghost use Rattle.bp_code.specs.Values.{binding};
 ghost use Rattle.bp_view.specs.Changes.{variables_text};
 ghost use Rattle.bp_view.specs.Heads.{globals_line, head_lines, head_object, limit_members, number_line, seed_line, string_item, thread_line, thread_lines, view_head};
 
-use crate::json_texts::{push_list, push_number, push_optional_number, push_string};
 use crate::options::ViewFormat;
 use crate::variables::push_value;
 use bp_machine::Setup;
-use bp_text::push_bytes;
+use bp_text::Piece::{Bytes, Key, List, Number, NumberOrNull, Text};
+use bp_text::{push_bytes, push_pieces};
 use bp_tree::Name;
 use itoa::Buffer;
 use std::alloc::{AllocError, Global};
@@ -129,9 +129,7 @@ fn head_lines(alloc: Global, setup: &Setup, globals: &[Name]) -> Result<Vec<u8>,
 pub(crate) fn push_item(items: &mut Vec<u8>, text: &[u8]) -> Result<(), AllocError>
     ensures { OnOk result (items.new.items ≡ items.old.items ++ string_item text.now) }
 {
-    push_bytes(items, b",")?;
-    push_string(items, text)?;
-    Ok(())
+    push_pieces(items, &[Bytes(b","), Text(text)])
 }
 
 /// The entries of the threads as items of a list.
@@ -145,14 +143,22 @@ fn entry_items(alloc: Global, setup: &Setup) -> Result<Vec<u8>, AllocError>
     Ok(items)
 }
 
-/// Adds the limits of a setup, and its seed.
+/// Adds the limits of a setup, and its seed, and ends the object.
 fn push_limits(head: &mut Vec<u8>, setup: &Setup) -> Result<(), AllocError>
     ensures { OnOk result (head.new.items ≡ head.old.items ++ limit_members setup.now) }
 {
-    push_number(head, b"contexts", u64::from(setup.contexts()))?;
-    push_number(head, b"calls", u64::from(setup.calls()))?;
-    push_optional_number(head, b"seed", setup.seed())?;
-    Ok(())
+    push_pieces(
+        head,
+        &[
+            Key(b"contexts"),
+            Number(u64::from(setup.contexts())),
+            Key(b"calls"),
+            Number(u64::from(setup.calls())),
+            Key(b"seed"),
+            NumberOrNull(setup.seed()),
+            Bytes(b"}\n"),
+        ],
+    )
 }
 
 /// The object of the setup.
@@ -163,11 +169,16 @@ fn head_object(alloc: Global, setup: &Setup, globals: &[Name]) -> Result<Vec<u8>
     let mut values = Vec::new(alloc);
     push_values(&mut values, ViewFormat::Json, setup, globals)?;
     let mut head = Vec::new(alloc);
-    push_bytes(&mut head, b"{\"kind\":\"setup\",\"version\":1")?;
-    push_list(&mut head, b"threads", &entries)?;
-    push_list(&mut head, b"globals", &values)?;
+    push_pieces(
+        &mut head,
+        &[
+            Bytes(b"{\"kind\":\"setup\",\"version\":1"),
+            Key(b"threads"),
+            List(&entries),
+        ],
+    )?;
+    push_pieces(&mut head, &[Key(b"globals"), List(&values)])?;
     push_limits(&mut head, setup)?;
-    push_bytes(&mut head, b"}\n")?;
     Ok(head)
 }
 

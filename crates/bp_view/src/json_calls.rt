@@ -1,26 +1,43 @@
 //! The object of a call in JSON.
-ghost use Rattle.std.specs.Prelude.{◌≡◌, ◌++◌, [], ℕ, List, codes, drop, flat_map, map, option_map, slice_get, OnOk};
-ghost use Rattle.bp_machine.specs.Replies.{is_granted};
-ghost use Rattle.bp_text.specs.declared.positions.Position.{Position as Place};
+ghost use Rattle.std.specs.Prelude.{◌≡◌, ◌++◌, [], ℕ, List, flat_map, map, option_map, OnOk};
+ghost use Rattle.std.specs.List.{concat};
+ghost use Rattle.bp_text.specs.Pieces.{list_text};
 ghost use Rattle.bp_view.specs.ChangeFacts.{entries_text, entry_of};
-ghost use Rattle.bp_view.specs.JsonCalls.{bit_item, call_members, call_object, choice_of, name_at, next_members, next_of, nothing_next, position_members, printed_text, reply_members, reply_name};
-ghost use Rattle.bp_view.specs.JsonTexts.{list_text, member, string_or_null};
-ghost use Rattle.bp_view.specs.Lines.{fields_of, reads_of_scene};
+ghost use Rattle.bp_view.specs.JsonCalls.{bit_item, call_object, choice_of, member_texts, name_at, next_in, next_of, nothing_next, printed_text, reply_name};
+ghost use Rattle.bp_view.specs.Lines.{fields_of};
 
 use crate::change_facts::Change;
-use crate::json_texts::{
-    bit_text, push_list, push_member, push_number, push_optional_bit, push_optional_number,
-    push_optional_text, push_text, truth_text,
-};
-use crate::lines::{is_tried, push_changed, reads_choice};
+use crate::json_texts::{column_of, line_of, wide};
+use crate::lines::{is_tried, push_changed};
 use crate::moments::Moment;
 use crate::options::ViewFormat;
 use crate::scenes::Scene;
 use crate::settings::Setting;
 use bp_machine::{Call, Reply, Top};
-use bp_text::{Position, push_bytes};
+use bp_text::Piece::{
+    Bit, BitOrNull, Bytes, Key, List, Number, NumberOrNull, Text, TextOrNull, Truth,
+};
+use bp_text::{Position, push_piece, push_pieces};
 use bp_tree::Proc;
 use std::alloc::AllocError;
+
+/// Adds these pieces, a call for each: a slice of them would take twice as long.
+macro_rules! push_all {
+    ($line:expr; $($piece:expr),* $(,)?) => {{
+        $( push_piece($line, $piece)?; )*
+    }};
+}
+
+/// What a thread has next: where its statement begins, in which procedure, how many frames its
+/// stack has, the words of the statement, and whether it reads a choice bit.
+#[derive(Clone, Copy)]
+struct Following<'a> {
+    position: Option<Position>,
+    procedure: Option<&'a [u8]>,
+    depth: u64,
+    words: Option<&'a [u8]>,
+    reads_choice: bool,
+}
 
 /// What is said of a reply.
 fn reply_name(reply: Reply) -> &'static [u8]
@@ -37,40 +54,6 @@ fn reply_name(reply: Reply) -> &'static [u8]
     }
 }
 
-/// The same number in 64 bits.
-pub(crate) fn wide(number: Option<u32>) -> Option<u64>
-    ensures { result ≡ number }
-{
-    match number {
-        Some(number) => Some(u64::from(number)),
-        None => None,
-    }
-}
-
-/// Adds the number of a call, its thread, the context of its step, and whether it is a switch.
-fn push_call_members(line: &mut Vec<u8>, moment: &Moment) -> Result<(), AllocError>
-    ensures { OnOk result
-        (line.new.items ≡ line.old.items ++ call_members (fields_of moment.now [])) }
-{
-    push_number(line, b"number", moment.number)?;
-    push_number(line, b"thread", u64::from(moment.call.thread))?;
-    push_optional_number(line, b"context", wide(moment.context))?;
-    push_member(line, b"switch", truth_text(moment.is_switch))?;
-    Ok(())
-}
-
-/// Adds the line and the column at which a statement begins.
-pub(crate) fn push_position(
-    line: &mut Vec<u8>,
-    position: Option<Position>,
-) -> Result<(), AllocError>
-    ensures { OnOk result (line.new.items ≡ line.old.items ++ position_members position) }
-{
-    push_optional_number(line, b"line", position.map(|p| p.line as u64))?;
-    push_optional_number(line, b"column", position.map(|p| p.column as u64))?;
-    Ok(())
-}
-
 /// The name of the procedure with this number.
 pub(crate) fn name_at(procs: &[Proc], number: usize) -> Option<&[u8]>
     ensures { option_map (λ s. s.now) result ≡ name_at procs.now number }
@@ -81,51 +64,37 @@ pub(crate) fn name_at(procs: &[Proc], number: usize) -> Option<&[u8]>
     }
 }
 
-/// Adds that a thread has ended.
-fn push_nothing_next(line: &mut Vec<u8>) -> Result<(), AllocError>
-    ensures { OnOk result (line.new.items ≡ line.old.items ++ next_members nothing_next) }
-{
-    push_position(line, None)?;
-    push_optional_text(line, b"procedure", None)?;
-    push_number(line, b"depth", 0)?;
-    push_optional_text(line, b"statement", None)?;
-    Ok(())
-}
+/// A thread that has ended has nothing next.
+const NOTHING: Following<'static> = Following {
+    position: None,
+    procedure: None,
+    depth: 0,
+    words: None,
+    reads_choice: false,
+};
 
-/// Adds what a thread has next at the top of its stack.
-fn push_next_at(
-    line: &mut Vec<u8>,
-    procs: &[Proc],
-    scene: &Scene,
-    top: Top,
-) -> Result<(), AllocError>
-    ensures { let next = next_of procs.now (Some scene.now) (Some top) in
-        OnOk result (line.new.items ≡ line.old.items ++ next_members next) }
-{
-    push_position(line, scene.position)?;
-    push_optional_text(line, b"procedure", name_at(procs, scene.procedure))?;
-    push_number(line, b"depth", top.depth as u64)?;
-    push_text(line, b"statement", scene.excerpt.words.as_slice())?;
-    Ok(())
-}
-
-/// Adds what a thread has next.
-fn push_next(
-    line: &mut Vec<u8>,
-    procs: &[Proc],
-    scene: Option<&Scene>,
-    before: Option<Top>,
-) -> Result<(), AllocError>
-    ensures { let next = next_of procs.now (option_map (λ s. s.now) scene.entry) before in
-        OnOk result (line.new.items ≡ line.old.items ++ next_members next) }
+/// What a thread has next, where a scene shows it at the top of its stack.
+fn what_follows<'a>(procs: &'a [Proc], scene: Option<&'a Scene>, top: Option<Top>) -> Following<'a>
+    ensures { let scene = option_map (λ s. s.now) scene.entry in
+        next_in result ≡ next_of procs.entry.now scene top }
 {
     let Some(scene) = scene else {
-        return push_nothing_next(line);
+        return NOTHING;
     };
-    let Some(top) = before else {
-        return push_nothing_next(line);
+    let reads_choice = scene.excerpt.reads_choice;
+    let Some(top) = top else {
+        return Following {
+            reads_choice,
+            ..NOTHING
+        };
     };
-    push_next_at(line, procs, scene, top)
+    Following {
+        position: scene.position,
+        procedure: name_at(procs, scene.procedure),
+        depth: top.depth as u64,
+        words: Some(scene.excerpt.words.as_slice()),
+        reads_choice,
+    }
 }
 
 /// The choice bit of a call whose statement reads one, where it was tried.
@@ -139,22 +108,37 @@ fn choice_of(reads_choice: bool, call: &Call) -> Option<bool>
     }
 }
 
-/// Adds the choice bit and the reply of a call.
-fn push_reply(line: &mut Vec<u8>, reads_choice: bool, call: &Call) -> Result<(), AllocError>
-    ensures { OnOk result
-        (line.new.items ≡ line.old.items ++ reply_members reads_choice call.now) }
+/// Adds the members of a call that have one value each.
+fn push_members(line: &mut Vec<u8>, moment: &Moment, next: Following<'_>) -> Result<(), AllocError>
+    ensures { let texts = member_texts (fields_of moment.now []) (next_in next.entry) moment.now.call in
+        OnOk result (line.new.items ≡ line.old.items ++ concat texts) }
 {
-    push_optional_bit(line, b"choice", choice_of(reads_choice, call))?;
-    push_text(line, b"reply", reply_name(call.reply))?;
-    Ok(())
-}
-
-/// Adds a bit as an item of a list.
-fn push_bit_item(items: &mut Vec<u8>, bit: bool) -> Result<(), AllocError>
-    ensures { OnOk result (items.new.items ≡ items.old.items ++ bit_item bit) }
-{
-    push_bytes(items, b",")?;
-    push_bytes(items, bit_text(bit))?;
+    push_all!(
+        line;
+        Bytes(b"{\"kind\":\"call\""),
+        Key(b"number"),
+        Number(moment.number),
+        Key(b"thread"),
+        Number(u64::from(moment.call.thread)),
+        Key(b"context"),
+        NumberOrNull(wide(moment.context)),
+        Key(b"switch"),
+        Truth(moment.is_switch),
+        Key(b"line"),
+        NumberOrNull(line_of(next.position)),
+        Key(b"column"),
+        NumberOrNull(column_of(next.position)),
+        Key(b"procedure"),
+        TextOrNull(next.procedure),
+        Key(b"depth"),
+        Number(next.depth),
+        Key(b"statement"),
+        TextOrNull(next.words),
+        Key(b"choice"),
+        BitOrNull(choice_of(next.reads_choice, &moment.call)),
+        Key(b"reply"),
+        Text(reply_name(moment.call.reply)),
+    );
     Ok(())
 }
 
@@ -163,32 +147,31 @@ fn push_bit_items(items: &mut Vec<u8>, bits: &[bool]) -> Result<(), AllocError>
     ensures { OnOk result (items.new.items ≡ items.old.items ++ flat_map bit_item bits.now) }
 {
     for bit in bits {
-        push_bit_item(items, *bit)?;
+        push_pieces(items, &[Bytes(b","), Bit(*bit)])?;
     }
     Ok(())
 }
 
-/// Adds the values that a call printed. `note` is room for them.
+/// Adds the values that a call printed, or null. `note` is room for them.
 fn push_printed(
     line: &mut Vec<u8>,
     note: &mut Vec<u8>,
     printed: Option<&[bool]>,
 ) -> Result<(), AllocError>
-    ensures { let printed = option_map (λ v. v.now) printed.entry in
-        OnOk result
-        (line.new.items ≡ line.old.items ++ member (codes "printed") (printed_text printed)) }
+    ensures { let printed = printed_text (option_map (λ v. v.now) printed.entry) in
+        OnOk result (line.new.items ≡ line.old.items ++ printed) }
 {
     match printed {
         Some(values) => {
             note.clear();
             push_bit_items(note, values)?;
-            push_list(line, b"printed", note)
+            push_piece(line, List(note))
         }
-        None => push_member(line, b"printed", b"null"),
+        None => push_piece(line, Bytes(b"null")),
     }
 }
 
-/// Adds the variables that a call changed. `note` is room for them.
+/// Adds the variables that a call changed, as a list. `note` is room for them.
 fn push_changed_list(
     line: &mut Vec<u8>,
     note: &mut Vec<u8>,
@@ -196,12 +179,11 @@ fn push_changed_list(
     changes: &[Change<'_>],
 ) -> Result<(), AllocError>
     ensures { let changes = list_text (entries_text format (map entry_of changes.now)) in
-        OnOk result (line.new.items ≡ line.old.items ++ member (codes "changes") changes) }
+        OnOk result (line.new.items ≡ line.old.items ++ changes) }
 {
     note.clear();
     push_changed(note, format, changes)?;
-    push_list(line, b"changes", note)?;
-    Ok(())
+    push_piece(line, List(note))
 }
 
 /// Adds the object of a call. `note` is room for its lists.
@@ -223,12 +205,15 @@ pub(crate) fn push_object(
         let text = call_object fields next moment.now.call changes printed in
         OnOk result (line.new.items ≡ line.old.items ++ text) }
 {
-    push_bytes(line, b"{\"kind\":\"call\"")?;
-    push_call_members(line, moment)?;
-    push_next(line, setting.procs, scene, moment.before)?;
-    push_reply(line, reads_choice(scene), &moment.call)?;
+    push_members(
+        line,
+        moment,
+        what_follows(setting.procs, scene, moment.before),
+    )?;
+    push_piece(line, Key(b"changes"))?;
     push_changed_list(line, note, setting.options.format, changes)?;
+    push_piece(line, Key(b"printed"))?;
     push_printed(line, note, printed)?;
-    push_bytes(line, b"}\n")?;
+    push_piece(line, Bytes(b"}\n"))?;
     Ok(())
 }

@@ -1,18 +1,15 @@
 //! The code of a program in JSON: its procedures, and its instructions with their source.
 ghost use Rattle.std.specs.Prelude.{◌≡◌, ◌++◌, ◌<◌, ◌^◌, flat_map, length, IfOk, OnOk};
-ghost use Rattle.bp_code.specs.Kinds.{callee_of, next_of, other_of};
 ghost use Rattle.bp_code.specs.StandsFor.{StandsFor};
-ghost use Rattle.bp_view.specs.JsonListings.{code_object, heading_item, instruction_object, instruction_objects, operation_name, successor_members, IsCodeInJson};
-ghost use Rattle.bp_view.specs.JsonTexts.{member};
+ghost use Rattle.bp_view.specs.JsonListings.{code_object, heading_item, instruction_object, instruction_objects, operation_name, IsCodeInJson};
 
-use crate::json_calls::{name_at, push_position, wide};
-use crate::json_texts::{
-    push_list, push_number, push_optional_number, push_optional_text, push_string, push_text,
-};
+use crate::json_calls::name_at;
+use crate::json_texts::{column_of, line_of, wide};
 use crate::scenes::{Scene, scenes_of};
 use bp_check::Checked;
 use bp_code::{Code, Heading, Instr, Kind};
-use bp_text::push_bytes;
+use bp_text::Piece::{Bytes, Key, List, Number, NumberOrNull, Text, TextOrNull};
+use bp_text::push_pieces;
 use bp_tree::Proc;
 use std::alloc::{AllocError, Global};
 
@@ -38,13 +35,20 @@ fn operation_name(kind: Kind) -> &'static [u8]
 fn push_heading(items: &mut Vec<u8>, heading: &Heading) -> Result<(), AllocError>
     ensures { OnOk result (items.new.items ≡ items.old.items ++ heading_item heading.now) }
 {
-    push_bytes(items, b",{\"name\":")?;
-    push_string(items, heading.name().as_bytes())?;
-    push_number(items, b"formals", u64::from(heading.formals()))?;
-    push_number(items, b"locals", u64::from(heading.locals()))?;
-    push_number(items, b"entry", u64::from(heading.entry()))?;
-    push_bytes(items, b"}")?;
-    Ok(())
+    push_pieces(
+        items,
+        &[
+            Bytes(b",{\"name\":"),
+            Text(heading.name().as_bytes()),
+            Key(b"formals"),
+            Number(u64::from(heading.formals())),
+            Key(b"locals"),
+            Number(u64::from(heading.locals())),
+            Key(b"entry"),
+            Number(u64::from(heading.entry())),
+            Bytes(b"}"),
+        ],
+    )
 }
 
 /// Adds the objects of procedures as items of a list.
@@ -64,43 +68,55 @@ fn push_code(out: &mut Vec<u8>, alloc: Global, code: &Code) -> Result<(), AllocE
 {
     let mut procedures = Vec::new(alloc);
     push_headings(&mut procedures, code.headings())?;
-    push_bytes(out, b"{\"kind\":\"code\",\"version\":1")?;
-    push_list(out, b"procedures", &procedures)?;
-    push_number(out, b"instructions", code.len() as u64)?;
-    push_bytes(out, b"}\n")?;
-    Ok(())
-}
-
-/// Adds the numbers of the instructions that can follow an instruction.
-fn push_successors(out: &mut Vec<u8>, instr: &Instr) -> Result<(), AllocError>
-    ensures { OnOk result (out.new.items ≡ out.old.items ++ successor_members instr.now) }
-{
-    push_optional_number(out, b"next", wide(instr.next()))?;
-    push_optional_number(out, b"other", wide(instr.other()))?;
-    push_optional_number(out, b"callee", wide(instr.callee()))?;
-    Ok(())
+    push_pieces(
+        out,
+        &[
+            Bytes(b"{\"kind\":\"code\",\"version\":1"),
+            Key(b"procedures"),
+            List(&procedures),
+            Key(b"instructions"),
+            Number(code.len() as u64),
+            Bytes(b"}\n"),
+        ],
+    )
 }
 
 /// Adds the object of the instruction with this number, and what is shown of it.
-fn push_instruction(
+fn push_instruction<'a>(
     out: &mut Vec<u8>,
-    procs: &[Proc],
+    procs: &'a [Proc],
     number: u32,
     instr: &Instr,
-    scene: &Scene,
+    scene: &'a Scene,
 ) -> Result<(), AllocError>
-    ensures { let object = instruction_object procs.now number instr.now scene.now in
+    ensures { let object = instruction_object procs.entry.now number instr.now scene.entry.now in
         OnOk result (out.new.items ≡ out.old.items ++ object) }
 {
-    push_bytes(out, b"{\"kind\":\"instruction\"")?;
-    push_number(out, b"number", u64::from(number))?;
-    push_optional_text(out, b"procedure", name_at(procs, scene.procedure))?;
-    push_text(out, b"operation", operation_name(instr.kind()))?;
-    push_successors(out, instr)?;
-    push_position(out, scene.position)?;
-    push_text(out, b"statement", scene.excerpt.words.as_slice())?;
-    push_bytes(out, b"}\n")?;
-    Ok(())
+    push_pieces(
+        out,
+        &[
+            Bytes(b"{\"kind\":\"instruction\""),
+            Key(b"number"),
+            Number(u64::from(number)),
+            Key(b"procedure"),
+            TextOrNull(name_at(procs, scene.procedure)),
+            Key(b"operation"),
+            Text(operation_name(instr.kind())),
+            Key(b"next"),
+            NumberOrNull(wide(instr.next())),
+            Key(b"other"),
+            NumberOrNull(wide(instr.other())),
+            Key(b"callee"),
+            NumberOrNull(wide(instr.callee())),
+            Key(b"line"),
+            NumberOrNull(line_of(scene.position)),
+            Key(b"column"),
+            NumberOrNull(column_of(scene.position)),
+            Key(b"statement"),
+            Text(scene.excerpt.words.as_slice()),
+            Bytes(b"}\n"),
+        ],
+    )
 }
 
 /// Adds the objects of the instructions of a code, each with its scene.

@@ -12,13 +12,12 @@ ghost use Rattle.bp_machine.specs.Sessions.{Stands};
 ghost use Rattle.bp_machine.specs.Tops.{IsTop};
 ghost use Rattle.bp_view.specs.Lines.{IsSettingOf};
 ghost use Rattle.bp_view.specs.declared.options.ViewFormat.TheVariants.{Columns, Json};
-ghost use Rattle.bp_view.specs.Outcomes.{assertion_in, assertion_members, assertion_text, clean_in, count_text, counts_line, counts_members, failure_in, failure_object, failure_text, foot_text, lexeme_value, named_values, values_line, IsAssertionText, IsFoot, IsOutcomeText};
+ghost use Rattle.bp_view.specs.Outcomes.{assertion_in, assertion_members, assertion_text, clean_in, count_text, counts_line, failure_in, failure_object, failure_text, foot_text, lexeme_value, named_values, values_line, IsAssertionText, IsFoot, IsOutcomeText};
 ghost use Rattle.bp_view.specs.Places.{position_text};
 ghost use Rattle.bp_view.specs.Statements.{HasLexemes, Lexeme as Read};
 
 use crate::changes::procedure_at;
 use crate::excerpts::{is_word, take_own_lexeme};
-use crate::json_texts::{push_list, push_member, push_number, push_text};
 use crate::options::ViewFormat;
 use crate::scenes::Scene;
 use crate::settings::Setting;
@@ -26,7 +25,8 @@ use crate::variables::push_variable;
 use bp_code::Store;
 use bp_machine::{Outcome, Report, Session, Top};
 use bp_syntax::Lexeme;
-use bp_text::{Position, part_from, push_bytes};
+use bp_text::Piece::{Bytes, Key, List, Number, Text};
+use bp_text::{Position, part_from, push_bytes, push_pieces};
 use bp_tree::{Name, Proc};
 use itoa::Buffer;
 use std::alloc::{AllocError, Global};
@@ -150,20 +150,28 @@ pub(crate) fn push_assertion_text(
 }
 
 /// Adds where an assertion begins, its words and its values, as members of an object.
-fn push_assertion_members(
+fn push_assertion_members<'a>(
     view: &mut Vec<u8>,
     position: Position,
-    words: &[u8],
-    values: &[u8],
+    words: &'a [u8],
+    values: &'a [u8],
 ) -> Result<(), AllocError>
-    ensures { let assertion = assertion_members position words.now values.now in
+    ensures { let assertion = assertion_members position words.entry.now values.entry.now in
         OnOk result (view.new.items ≡ view.old.items ++ assertion) }
 {
-    push_number(view, b"line", position.line as u64)?;
-    push_number(view, b"column", position.column as u64)?;
-    push_text(view, b"statement", words)?;
-    push_list(view, b"values", values)?;
-    Ok(())
+    push_pieces(
+        view,
+        &[
+            Key(b"line"),
+            Number(position.line as u64),
+            Key(b"column"),
+            Number(position.column as u64),
+            Key(b"statement"),
+            Text(words),
+            Key(b"values"),
+            List(values),
+        ],
+    )
 }
 
 /// Adds what is said of an assertion that begins at this position.
@@ -235,10 +243,15 @@ fn push_failure_object(view: &mut Vec<u8>, thread: u32, assertion: &[u8]) -> Res
     ensures { OnOk result
         (view.new.items ≡ view.old.items ++ failure_object thread assertion.now) }
 {
-    push_count(view, b"{\"thread\":", u64::from(thread))?;
-    push_bytes(view, assertion)?;
-    push_bytes(view, b"}")?;
-    Ok(())
+    push_pieces(
+        view,
+        &[
+            Bytes(b"{\"thread\":"),
+            Number(u64::from(thread)),
+            Bytes(assertion),
+            Bytes(b"}"),
+        ],
+    )
 }
 
 /// Adds that an assertion of a thread failed, in this format.
@@ -318,25 +331,25 @@ fn push_foot_lines(view: &mut Vec<u8>, report: Report, outcome: &[u8]) -> Result
     Ok(())
 }
 
-/// Adds the counts of a report as members of an object.
-fn push_counts_members(view: &mut Vec<u8>, report: Report) -> Result<(), AllocError>
-    ensures { OnOk result (view.new.items ≡ view.old.items ++ counts_members report) }
-{
-    push_number(view, b"calls", report.calls)?;
-    push_number(view, b"contexts", u64::from(report.contexts))?;
-    push_number(view, b"open", u64::from(report.left_open))?;
-    Ok(())
-}
-
 /// Adds the object of a report and its outcome.
 fn push_foot_object(view: &mut Vec<u8>, report: Report, outcome: &[u8]) -> Result<(), AllocError>
     ensures { OnOk result (view.new.items ≡ view.old.items ++ foot_text Json report outcome.now) }
 {
-    push_bytes(view, b"{\"kind\":\"end\"")?;
-    push_counts_members(view, report)?;
-    push_member(view, b"failure", outcome)?;
-    push_bytes(view, b"}\n")?;
-    Ok(())
+    push_pieces(
+        view,
+        &[
+            Bytes(b"{\"kind\":\"end\""),
+            Key(b"calls"),
+            Number(report.calls),
+            Key(b"contexts"),
+            Number(u64::from(report.contexts)),
+            Key(b"open"),
+            Number(u64::from(report.left_open)),
+            Key(b"failure"),
+            Bytes(outcome),
+            Bytes(b"}\n"),
+        ],
+    )
 }
 
 /// The report of the history after which the session stands, and what is said of an assertion

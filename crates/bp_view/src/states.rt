@@ -8,13 +8,11 @@ ghost use Rattle.bp_machine.specs.Sessions.{Stands};
 ghost use Rattle.bp_machine.specs.Setups.{threads};
 ghost use Rattle.bp_trace.specs.Replays.{IsReplayRefusal};
 ghost use Rattle.bp_view.specs.Heads.{globals_line};
-ghost use Rattle.bp_view.specs.JsonTexts.{member};
 ghost use Rattle.bp_view.specs.Lines.{Adds, IsSettingOf};
 ghost use Rattle.bp_view.specs.Parts.{IsInParts};
-ghost use Rattle.bp_view.specs.States.{failed_line, failed_text, state_in, state_lines, state_object, thread_state_in, thread_state_lines, thread_state_object, IsStateOfTrace, IsStateText, IsThreadText};
+ghost use Rattle.bp_view.specs.States.{failed_line, failed_thread, state_in, state_lines, state_members, state_object, thread_state_in, thread_state_lines, thread_state_object, IsStateOfTrace, IsStateText, IsThreadText};
 
 use crate::frames::push_frames;
-use crate::json_texts::{push_list, push_member, push_number, push_text};
 use crate::options::{ViewFormat, ViewOptions};
 use crate::outcomes::push_count;
 use crate::played_again::session_after;
@@ -25,7 +23,8 @@ use crate::variables::push_values;
 use bp_check::Checked;
 use bp_code::Code;
 use bp_machine::{Call, Outcome, Report, Session};
-use bp_text::push_bytes;
+use bp_text::Piece::{Bytes, Key, List, Number, NumberOrNull, Text};
+use bp_text::{push_bytes, push_piece, push_pieces};
 use bp_trace::limits::MAX_TRACE;
 use bp_trace::{ReplayFault, replay};
 use bp_tree::Name;
@@ -58,11 +57,18 @@ fn push_thread_object(
     ensures { let thread = thread_state_object thread standing frames.now in
         OnOk result (view.new.items ≡ view.old.items ++ thread) }
 {
-    push_count(view, b",{\"thread\":", u64::from(thread))?;
-    push_text(view, b"standing", standing.name())?;
-    push_list(view, b"frames", frames)?;
-    push_bytes(view, b"}")?;
-    Ok(())
+    push_pieces(
+        view,
+        &[
+            Bytes(b",{\"thread\":"),
+            Number(u64::from(thread)),
+            Key(b"standing"),
+            Text(standing.name()),
+            Key(b"frames"),
+            List(frames),
+            Bytes(b"}"),
+        ],
+    )
 }
 
 /// Adds a thread in this format.
@@ -197,15 +203,34 @@ fn push_state_lines(
     Ok(())
 }
 
-/// Adds the number of the thread whose assertion failed, or null.
-fn push_failed(view: &mut Vec<u8>, outcome: Outcome) -> Result<(), AllocError>
-    ensures { OnOk result
-        (view.new.items ≡ view.old.items ++ member (codes "failed") (failed_text outcome)) }
+/// The number of the thread whose assertion failed.
+fn failed_thread(outcome: Outcome) -> Option<u64>
+    ensures { result ≡ failed_thread outcome }
 {
     match outcome {
-        Outcome::Clean => push_member(view, b"failed", b"null"),
-        Outcome::Failed { thread } => push_number(view, b"failed", u64::from(thread)),
+        Outcome::Clean => None,
+        Outcome::Failed { thread } => Some(u64::from(thread)),
     }
+}
+
+/// Adds the members of a state that have one value each, and the key of the globals.
+fn push_state_members(view: &mut Vec<u8>, head: StateHead) -> Result<(), AllocError>
+    ensures { let members = state_members head.number head.count head.outcome in
+        OnOk result (view.new.items ≡ view.old.items ++ members) }
+{
+    push_pieces(
+        view,
+        &[
+            Bytes(b"{\"kind\":\"state\",\"version\":1"),
+            Key(b"call"),
+            Number(head.number),
+            Key(b"calls"),
+            Number(head.count),
+            Key(b"failed"),
+            NumberOrNull(failed_thread(head.outcome)),
+            Key(b"globals"),
+        ],
+    )
 }
 
 /// Adds a state as an object of JSON. `note` is room for the values of the globals.
@@ -222,13 +247,11 @@ fn push_state_object(
 {
     note.clear();
     push_values(note, ViewFormat::Json, None, globals, 0, head.globals)?;
-    push_bytes(view, b"{\"kind\":\"state\",\"version\":1")?;
-    push_number(view, b"call", head.number)?;
-    push_number(view, b"calls", head.count)?;
-    push_failed(view, head.outcome)?;
-    push_list(view, b"globals", note)?;
-    push_list(view, b"threads", threads)?;
-    push_bytes(view, b"}\n")?;
+    push_state_members(view, head)?;
+    push_piece(view, List(note))?;
+    push_piece(view, Key(b"threads"))?;
+    push_piece(view, List(threads))?;
+    push_piece(view, Bytes(b"}\n"))?;
     Ok(())
 }
 

@@ -2,27 +2,37 @@
 ghost use Rattle.std.specs.Prelude.{◌≡◌, map, IfOk};
 ghost use Rattle.bp_view.specs.Unreached.{object_of_scene, AreUnreachedObjects};
 
-use crate::json_calls::push_position;
-use crate::json_texts::push_text;
+use crate::json_texts::{column_of, line_of};
 use crate::scenes::{Scene, scenes_of};
 use bp_check::Checked;
-use bp_text::push_bytes;
+use bp_text::Piece::{Bytes, Key, NumberOrNull, Text};
+use bp_text::push_pieces;
 use std::alloc::{AllocError, Global};
 
 /// The object of an instruction's statement: the file's name, the place and the statement's text.
 /// It is empty at the end of a procedure.
-fn object_of(alloc: Global, file: &str, scene: &Scene) -> Result<Vec<u8>, AllocError>
-    ensures { IfOk result (λ v. v.items ≡ object_of_scene file.now scene.now) }
+fn object_of<'a>(alloc: Global, file: &'a str, scene: &'a Scene) -> Result<Vec<u8>, AllocError>
+    ensures { IfOk result (λ v. v.items ≡ object_of_scene file.entry.now scene.entry.now) }
 {
     let mut line = Vec::new(alloc);
     if scene.start.is_none() {
         return Ok(line);
     }
-    push_bytes(&mut line, b"{\"kind\":\"unreached\"")?;
-    push_text(&mut line, b"file", file.as_bytes())?;
-    push_position(&mut line, scene.position)?;
-    push_text(&mut line, b"statement", scene.excerpt.words.as_slice())?;
-    push_bytes(&mut line, b"}\n")?;
+    push_pieces(
+        &mut line,
+        &[
+            Bytes(b"{\"kind\":\"unreached\""),
+            Key(b"file"),
+            Text(file.as_bytes()),
+            Key(b"line"),
+            NumberOrNull(line_of(scene.position)),
+            Key(b"column"),
+            NumberOrNull(column_of(scene.position)),
+            Key(b"statement"),
+            Text(scene.excerpt.words.as_slice()),
+            Bytes(b"}\n"),
+        ],
+    )?;
     Ok(line)
 }
 

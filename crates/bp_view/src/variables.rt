@@ -1,17 +1,16 @@
 //! The names of the bits of a store, and their values.
-ghost use Rattle.std.specs.Prelude.{if◌then◌else◌, ◌≡◌, ◌<◌, ◌+◌, ◌^◌, ◌++◌, [], codes, length, map, option_map, OnOk, MatchOption};
+ghost use Rattle.std.specs.Prelude.{◌≡◌, ◌<◌, ◌+◌, ◌^◌, ◌++◌, flat_map, length, option_map, OnOk, MatchOption};
 ghost use Rattle.bp_check.specs.Tables.{first_index};
 ghost use Rattle.bp_code.specs.Bits.{bits_of, store_of};
 ghost use Rattle.bp_code.specs.StandsFor.{named_store, valuation_of, variables};
-ghost use Rattle.bp_text.specs.OneLine.{on_one_line};
 ghost use Rattle.bp_view.specs.Changes.{owner_text, variable_object, variable_text, variable_words, variables_text};
-ghost use Rattle.bp_view.specs.JsonTexts.{string_or_null};
+ghost use Rattle.bp_text.specs.Pieces.{piece_text};
 ghost use Rattle.bp_view.specs.Outcomes.{named_value};
 
-use crate::json_texts::{bit_text, push_member, push_string, push_text};
 use crate::options::ViewFormat;
 use bp_code::Store;
-use bp_text::{push_bytes, push_on_one_line};
+use bp_text::Piece::{Bit, Bytes, Key, OneLine, Text, TextOrNull};
+use bp_text::{Piece, push_piece};
 use bp_tree::{Name, Proc};
 use std::alloc::AllocError;
 
@@ -28,24 +27,15 @@ pub(crate) fn bit_of(word: u128, slot: usize) -> bool
     (word >> slot) & 1 == 1
 }
 
-/// Adds the name of a local's procedure and a dot; nothing for a global.
-fn push_owner(line: &mut Vec<u8>, owner: Option<&Proc>) -> Result<(), AllocError>
+/// The name of a local's procedure and a dot; nothing for a global.
+fn owner_pieces<'a>(owner: Option<&'a Proc>) -> [Piece<'a>; 2]
     ensures { let owner = option_map (λ p. p.now) owner.entry in
-        OnOk result (line.new.items ≡ line.old.items ++ owner_text owner) }
+        flat_map piece_text result ≡ owner_text owner }
 {
-    if let Some(proc) = owner {
-        push_on_one_line(line, proc.name().text().as_bytes())?;
-        push_on_one_line(line, b".")?;
+    match owner {
+        Some(proc) => [OneLine(proc.name().text().as_bytes()), Bytes(b".")],
+        None => [Bytes(b""), Bytes(b"")],
     }
-    Ok(())
-}
-
-/// The sign of equality and the digit of a value.
-fn value_text(value: bool) -> &'static [u8]
-    ensures is { result.now ≡ (if value then codes "=1" else codes "=0") }
-    ensures one_line { map on_one_line result.now ≡ result.now }
-{
-    if value { b"=1" } else { b"=0" }
 }
 
 /// Adds a variable and its value, for people.
@@ -58,21 +48,24 @@ fn push_variable_words(
     ensures { let owner = option_map (λ p. p.now) owner.entry in
         OnOk result (line.new.items ≡ line.old.items ++ variable_words owner name.now value) }
 {
-    push_on_one_line(line, b" ")?;
-    push_owner(line, owner)?;
-    push_on_one_line(line, name)?;
-    push_on_one_line(line, value_text(value))?;
+    let [owner, dot] = owner_pieces(owner);
+    push_piece(line, Bytes(b" "))?;
+    push_piece(line, owner)?;
+    push_piece(line, dot)?;
+    push_piece(line, OneLine(name))?;
+    push_piece(line, Bytes(b"="))?;
+    push_piece(line, Bit(value))?;
     Ok(())
 }
 
-/// Adds the name of a local's procedure as a string; null for a global.
-fn push_owner_name(line: &mut Vec<u8>, owner: Option<&Proc>) -> Result<(), AllocError>
+/// The name of a local's procedure; none for a global.
+fn owner_name<'a>(owner: Option<&'a Proc>) -> Option<&'a [u8]>
     ensures { let name = option_map (λ p. p.now.name.text) owner.entry in
-        OnOk result (line.new.items ≡ line.old.items ++ string_or_null name) }
+        option_map (λ s. s.now) result ≡ name }
 {
     match owner {
-        Some(proc) => push_string(line, proc.name().text().as_bytes()),
-        None => push_bytes(line, b"null"),
+        Some(proc) => Some(proc.name().text().as_bytes()),
+        None => None,
     }
 }
 
@@ -86,11 +79,13 @@ fn push_variable_object(
     ensures { let owner = option_map (λ p. p.now) owner.entry in
         OnOk result (line.new.items ≡ line.old.items ++ variable_object owner name.now value) }
 {
-    push_bytes(line, b",{\"procedure\":")?;
-    push_owner_name(line, owner)?;
-    push_text(line, b"name", name)?;
-    push_member(line, b"value", bit_text(value))?;
-    push_bytes(line, b"}")?;
+    push_piece(line, Bytes(b",{\"procedure\":"))?;
+    push_piece(line, TextOrNull(owner_name(owner)))?;
+    push_piece(line, Key(b"name"))?;
+    push_piece(line, Text(name))?;
+    push_piece(line, Key(b"value"))?;
+    push_piece(line, Bit(value))?;
+    push_piece(line, Bytes(b"}"))?;
     Ok(())
 }
 

@@ -2,7 +2,7 @@ use Rattle.std.proofs.Common.{List, ℕ, Option, Result, Ok, Err, inl, inr}
 use Rattle.bp_text.specs.Writing.{Writes}
 use Rattle.bp_commands.specs.Ends.{HasLine}
 use Rattle.bp_commands.specs.FaultObjects.{fault_object}
-use Rattle.bp_commands.specs.Members.{name_in}
+use Rattle.bp_commands.specs.FaultObjects.{name_in}
 use Rattle.bp_commands.proofs.tellings.end_by_object.Goals as goal
 
 has_line : {T E : Type 0} → (line : List ℕ) (old new : Option (List ℕ)) (r : Result T E) → Writes old new line r → HasLine line old new

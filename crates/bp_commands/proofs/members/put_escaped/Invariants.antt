@@ -1,8 +1,0 @@
-use Rattle.std.proofs.Common.{flat_map, take}
-use Rattle.std.specs.Io.KnownBytes.{Appends}
-use Rattle.bp_view.specs.JsonTexts.{string_byte}
-use Rattle.bp_commands.proofs.members.put_escaped.Given as goal
-
-abbrev pub invariant-loop-byte : goal.invariant-loop-byte
-invariant-loop-byte g l =
-    Appends (g.W.Write.contents l.fn.out) (g.W.Write.contents l.out) (flat_map string_byte (take l.byte-index l.text))
