@@ -1,9 +1,10 @@
 -- With which tokens a text may continue.
-use Rattle.std.specs.Prelude.{◌⊎◌, ℕ, List, ◌∷◌, ◌++◌, length}
+use Rattle.std.specs.Prelude.{◌≢◌, ◌⊎◌, ℕ, List, ◌∷◌, ◌++◌, length}
 use Rattle.bp_tree.specs.Ast.{Program}
 use Rattle.bp_syntax.specs.Texts.{IsTextOf, IsRefusal}
 use Rattle.bp_syntax.specs.Tokens.{IsReal}
 use Rattle.bp_syntax.specs.declared.tokens.TokenKind.{TokenKind}
+use Rattle.bp_syntax.specs.declared.tokens.TokenKind.TheVariants.{Name}
 use Rattle.bp_syntax.specs.declared.faults.ReadFault.TheVariants.{Syntax}
 
 -- the text is a program
@@ -24,3 +25,12 @@ pub record MayFollowAs (front : List ℕ) (kind : TokenKind) : Type 0 where
   pub token : List ℕ
   pub real : IsReal (record { kind = kind; at = 0; text = token })
   pub follows : MayFollow front token
+
+-- A kind is offered after the front where a token of it may follow, and nowhere else. For names one
+-- is tried: where they are not offered, that one may not follow.
+pub record IsJudged (front : List ℕ) (kind : TokenKind) (offered : Type 0) : Type 0 where
+  pub only : offered → MayFollowAs front kind
+  pub all : kind ≢ Name → MayFollowAs front kind → offered
+  pub name : List ℕ
+  pub real : IsReal (record { kind = kind; at = 0; text = name })
+  pub tried : MayFollow front name → offered

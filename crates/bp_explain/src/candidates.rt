@@ -1,7 +1,8 @@
 //! The tokens that may come next in a text.
-ghost use Rattle.std.specs.Prelude.{◌≡◌, ◌↔◌, ◌++◌, ◌∷◌, IsTrue, IfOk, All};
+ghost use Rattle.std.specs.Prelude.{◌≡◌, ◌↔◌, ◌++◌, ◌∷◌, IsTrue, IfOk, Contains};
 ghost use Rattle.bp_syntax.specs.declared.faults.ReadFault.TheVariants.{Syntax, Memory};
-ghost use Rattle.bp_explain.specs.Followers.{IsProgram, BeginsProgram, MayFollow, MayFollowAs};
+ghost use Rattle.bp_syntax.specs.declared.tokens.TokenKind.{TokenKind};
+ghost use Rattle.bp_explain.specs.Followers.{IsProgram, BeginsProgram, MayFollow, IsJudged};
 
 use bp_syntax::{ReadFault, TOKEN_KINDS, TokenKind, has_one_refusal, read, spelling_of};
 use std::alloc::{AllocError, Global};
@@ -57,14 +58,16 @@ pub(crate) fn may_follow(alloc: Global, front: &[u8], token: &str) -> Result<boo
     begins_program(alloc, text.as_slice())
 }
 
-/// The kinds of the tokens that may follow the front.
+/// The kinds of the tokens that may follow the front. One name is tried for all.
 pub(crate) fn kinds_behind(alloc: Global, front: &[u8]) -> Result<Vec<TokenKind>, AllocError>
-    ensures { IfOk result (λ v. All (MayFollowAs front.now) v.items) }
+    ensures { IfOk result (λ v. (kind : TokenKind)
+        → IsJudged front.now kind (Contains v.items kind)) }
 {
     let mut kinds = Vec::new(alloc);
-    for kind in TOKEN_KINDS {
-        if may_follow(alloc, front, spelling_of(kind))? {
-            kinds.push(kind)?;
+    let all = TOKEN_KINDS;
+    for kind in &all {
+        if may_follow(alloc, front, spelling_of(*kind))? {
+            kinds.push(*kind)?;
         }
     }
     Ok(kinds)

@@ -1,24 +1,21 @@
-use Rattle.std.proofs.Common.{◌∙◌, ap, ℕ, List}
-use Rattle.std.proofs.lemmas.List.Elements.{All-push}
-use Rattle.bp_syntax.specs.Tokens.{IsReal}
-use Rattle.bp_syntax.specs.declared.tokens.TokenKind.{TokenKind}
-use Rattle.bp_explain.specs.Followers.{MayFollow, MayFollowAs}
+use Rattle.std.proofs.Common.{sym, ap, ◌∙◌, arith}
+use Rattle.std.proofs.lemmas.Bool.{false≢true}
+use Rattle.bp_explain.proofs.AllKinds.{all_judged, offered, left_out}
 use Rattle.bp_explain.proofs.candidates.kinds_behind.Goals as goal
 use Rattle.bp_explain.proofs.candidates.kinds_behind.Goals.{then-branch+in_ok-push, else-branch}
 
-follows_as :
-    (front token : List ℕ) (kind : TokenKind)
-    → IsReal (record { kind = kind; at = 0; text = token })
-    → MayFollow front token
-    → MayFollowAs front kind
-follows_as front token kind real follows =
-    record { token = token; real = real; follows = follows }
-
 pub loop-kind-preserved : goal.loop-kind-preserved
 loop-kind-preserved c =
+    let front = c.args.front.now in
+    let kinds = c.loop-kind.kinds.items in
     elim c.if-branch.branch [
       | then-branch+in_ok-push w ↦
-          let follows = follows_as c.args.front.now c.spelling_of.result.now _ c.spelling_of.ensures (c.in_ok-may_follow.ensures.0 w.if-branch.true) in
-          rw (ap (λ v. v.items) w.kinds-is ∙ w.in_ok-push.ensures.items) (All-push (MayFollowAs c.args.front.now) c.loop-kind.kinds.items _ c.loop-kind.invariant follows)
-      | else-branch w ↦ rw (ap (λ v. v.items) w.kinds-is) c.loop-kind.invariant
+          offered front kinds c.loop-kind.kind-index c.spelling_of.result.now c.spelling_of.ensures c.loop-kind.invariant c.if-branch.kinds.items (c.in_ok-may_follow.ensures.0 w.if-branch.true) (ap (λ v. v.items) w.kinds-is ∙ w.in_ok-push.ensures.items)
+      | else-branch w ↦
+          left_out front kinds c.loop-kind.kind-index c.spelling_of.result.now c.spelling_of.ensures c.loop-kind.invariant c.if-branch.kinds.items (λ f. false≢true (sym w.if-branch.false ∙ c.in_ok-may_follow.ensures.1 f)) (ap (λ v. v.items) w.kinds-is)
     ]
+
+pub returns : goal.returns
+returns c =
+    let all = c.loop-kind-test.false in
+    all_judged c.args.front.now c.loop-kind.kinds.items c.loop-kind.kind-index c.loop-kind.invariant (omega (arith, all))
