@@ -1,5 +1,5 @@
 -- What explains a fault of a program, of a trace and of a schedule.
-use Rattle.std.specs.Prelude.{◌≡◌, ◌⊎◌, ◌≤◌, ℕ, ◌+◌, List, [], ◌∷◌, Option, Some, length, take, drop}
+use Rattle.std.specs.Prelude.{◌≡◌, ◌⊎◌, ◌≤◌, ℕ, List, [], ◌∷◌, Option, Some, length, take, drop}
 use Rattle.bp_syntax.specs.Cut.{HasTokens}
 use Rattle.bp_syntax.specs.declared.faults.ReadFault.TheVariants as read
 use Rattle.bp_check.specs.declared.faults.CheckFault.TheVariants as check
@@ -7,16 +7,15 @@ use Rattle.bp_code.specs.LawfulTexts.{program_fault_place}
 use Rattle.bp_code.specs.declared.texts.ProgramFault.{ProgramFault}
 use Rattle.bp_code.specs.declared.texts.ProgramFault.TheVariants.{Read, Check}
 use Rattle.bp_machine.specs.declared.setup_faults.SetupFault.{SetupFault}
-use Rattle.bp_machine.specs.declared.setup_faults.SetupFault.TheVariants as setup
 use Rattle.bp_text.specs.Excerpts.{excerpt_of_place, excerpt_of_line, excerpt_of_fault}
 use Rattle.bp_text.specs.Positions.{position_at}
 use Rattle.bp_trace.specs.declared.faults.DriveFault.{DriveFault}
 use Rattle.bp_trace.specs.declared.faults.DriveFault.TheVariants as drive
 use Rattle.bp_trace.specs.declared.replay_faults.ReplayFault.{ReplayFault}
 use Rattle.bp_trace.specs.declared.replay_faults.ReplayFault.TheVariants as replay
-use Rattle.bp_explain.specs.declared.trace_heads.TheConstants.{FIRST_ENTRY}
 use Rattle.bp_explain.specs.Explanations.{file_head, line_head, place_head, IsExplanation}
 use Rattle.bp_explain.specs.Followers.{MayFollow}
+use Rattle.bp_explain.specs.TraceParts.{IsSetupLine, IsWrongByte}
 
 -- the explanation names this place of a text, where there is one, and shows its line with a caret
 abbrev pub ExplainsPlace : List ℕ → List ℕ → Option ℕ → List ℕ → Type 0
@@ -64,22 +63,22 @@ ShowsLine text n excerpt =
     ((at : ℕ) × IsOnLine text n at × (excerpt ≡ excerpt_of_place text at))
     ⊎ (excerpt ≡ excerpt_of_line text n)
 
--- the explanation names this line of the text, and shows it with a caret or without
-pub record PointsIntoLine (name text : List ℕ) (n : ℕ) (explained : List ℕ) : Type 0 where
+-- the explanation names this line of the trace, and shows it: with a caret below what is wrong in
+-- its call, where that is on the line
+pub record ExplainsCall (name trace : List ℕ) (n : ℕ) (fault : ReplayFault) (explained : List ℕ)
+    : Type 0 where
   pub excerpt : List ℕ
-  pub shows : ShowsLine text n excerpt
+  pub shows : ShowsLine trace n excerpt
+  pub caret : (at : ℕ)
+      → IsWrongByte trace fault at
+      → IsOnLine trace n at
+      → excerpt ≡ excerpt_of_place trace at
   pub is : IsExplanation (line_head name n) excerpt explained
-
--- the fault of a setup is about this line of a trace: that of its entry, where it names one
-abbrev pub IsSetupLine : SetupFault → ℕ → Type 0
-IsSetupLine (setup.UnknownEntry thread) n = n ≡ thread + FIRST_ENTRY
-IsSetupLine (setup.EntryHasFormals thread) n = n ≡ thread + FIRST_ENTRY
-IsSetupLine fault n = Unit {0}
 
 -- the explanation of a fault of a setup that a trace says
 abbrev pub ExplainsSetup : List ℕ → List ℕ → SetupFault → List ℕ → Type 0
 ExplainsSetup name trace fault explained =
-    (n : ℕ) × IsSetupLine fault n × ExplainsLine name trace n explained
+    (n : ℕ) × IsSetupLine trace fault n × ExplainsLine name trace n explained
 
 -- the explanation names the line after a trace, where its end is due, and shows nothing
 abbrev pub ExplainsNoEnd : List ℕ → List ℕ → List ℕ → Type 0
@@ -97,9 +96,11 @@ ExplainsTrace name trace (replay.Head n) explained = ExplainsLine name trace n e
 ExplainsTrace name trace (replay.Line n) explained = ExplainsLine name trace n explained
 ExplainsTrace name trace (replay.EndCount n counts) explained = ExplainsLine name trace n explained
 ExplainsTrace name trace (replay.AfterFinish n made) explained =
-    PointsIntoLine name trace n explained
-ExplainsTrace name trace (replay.Bit n due) explained = PointsIntoLine name trace n explained
-ExplainsTrace name trace (replay.Reply n due) explained = PointsIntoLine name trace n explained
+    ExplainsCall name trace n (replay.AfterFinish n made) explained
+ExplainsTrace name trace (replay.Bit n due) explained =
+    ExplainsCall name trace n (replay.Bit n due) explained
+ExplainsTrace name trace (replay.Reply n due) explained =
+    ExplainsCall name trace n (replay.Reply n due) explained
 
 -- the explanation of a fault of a schedule: none of refused memory and of an output that failed
 abbrev pub ExplainsSchedule : List ℕ → List ℕ → DriveFault → List ℕ → Type 0

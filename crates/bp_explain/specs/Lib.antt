@@ -1,3 +1,5 @@
+pub mod CallReading
 pub mod Explained
 pub mod Explanations
 pub mod Followers
+pub mod TraceParts

@@ -1,6 +1,8 @@
 //! The line of a call of a trace, with a caret below what is wrong in the call.
-ghost use Rattle.std.specs.Prelude.{IfOk, IfSome};
+ghost use Rattle.std.specs.Prelude.{◌≡◌, ℕ, IfOk, IfSome};
+ghost use Rattle.bp_text.specs.Excerpts.{excerpt_of_place};
 ghost use Rattle.bp_explain.specs.Explained.{IsOnLine, ShowsLine};
+ghost use Rattle.bp_explain.specs.TraceParts.{IsWrongByte};
 
 use crate::recorded_calls::recorded_call;
 use bp_text::{position_of, push_line, push_place};
@@ -8,7 +10,9 @@ use bp_trace::ReplayFault;
 use std::alloc::{AllocError, Global};
 
 /// The byte of a trace that is wrong in the call that the fault names.
-fn place_of(trace: &[u8], fault: &ReplayFault) -> Option<usize> {
+fn place_of(trace: &[u8], fault: &ReplayFault) -> Option<usize>
+    ensures { (at : ℕ) → IsWrongByte trace.now fault.now at → result ≡ Some at }
+{
     match fault {
         ReplayFault::AfterFinish(_, made) => Some(recorded_call(trace, *made)?.bit_at),
         ReplayFault::Bit(_, due) => Some(recorded_call(trace, due.calls)?.bit_at),
@@ -19,7 +23,11 @@ fn place_of(trace: &[u8], fault: &ReplayFault) -> Option<usize> {
 
 /// The same, where it is on this line.
 fn place_on_line(trace: &[u8], number: usize, fault: &ReplayFault) -> Option<usize>
-    ensures { IfSome result (λ at. IsOnLine trace.now number at) }
+    ensures on_line { IfSome result (λ at. IsOnLine trace.now number at) }
+    ensures is { (at : ℕ)
+        → IsWrongByte trace.now fault.now at
+        → IsOnLine trace.now number at
+        → result ≡ Some at }
 {
     let at = place_of(trace, fault)?;
     if position_of(trace, at).line != number {
@@ -35,7 +43,11 @@ pub(crate) fn excerpt_in_line(
     number: usize,
     fault: &ReplayFault,
 ) -> Result<Vec<u8>, AllocError>
-    ensures { IfOk result (λ v. ShowsLine trace.now number v.items) }
+    ensures shows { IfOk result (λ v. ShowsLine trace.now number v.items) }
+    ensures caret { IfOk result (λ v. (at : ℕ)
+        → IsWrongByte trace.now fault.now at
+        → IsOnLine trace.now number at
+        → v.items ≡ excerpt_of_place trace.now at) }
 {
     let mut excerpt = Vec::new(alloc);
     let Some(at) = place_on_line(trace, number, fault) else {

@@ -94,7 +94,8 @@ pub(crate) fn push_finished(out: &mut Vec<u8>, trace: &[u8], made: u64) -> Resul
     let Some(Recorded { thread, .. }) = recorded_call(trace, made) else {
         return Ok(());
     };
-    push_all(out, &[b"thread "])?;
-    push_number(out, thread as usize)?;
-    push_all(out, &[b" has made its last call before"])
+    push_all(
+        out,
+        &[b"thread ", thread, b" has made its last call before"],
+    )
 }

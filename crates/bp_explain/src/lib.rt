@@ -25,7 +25,6 @@ mod recorded_calls;
 mod schedules;
 mod sentences;
 mod setup_sentences;
-mod symbols;
 mod syntax_sentences;
 mod tokens_at;
 mod trace_heads;

@@ -1,50 +1,103 @@
 //! Where the calls of a trace stand in it.
-ghost use Rattle.std.specs.Prelude.{◌<◌, ◌≤◌, length};
+ghost use Rattle.std.specs.Prelude.{◌≡◌, ◌<◌, ◌≤◌, ◌+◌, ℕ, List, length, MatchOption, IsSomeAnd};
+ghost use Rattle.bp_trace.specs.Pieces.{Symbol};
+ghost use Rattle.bp_trace.specs.Writable.{Without};
+ghost use Rattle.bp_trace.specs.declared.versions.Version.{Version};
+ghost use Rattle.bp_explain.specs.CallReading.{symbol_size, goes_on, CutsAt, HasSymbols};
+ghost use Rattle.bp_explain.specs.TraceParts.{BeginsWithHead, HasCall, bit_place, reply_place};
 
-use crate::numbers::number_at_front;
-use crate::symbols::take_symbol;
-use crate::trace_heads::body_of;
-use bp_text::take_line;
+use crate::trace_heads::{body_of, is_version_two};
+use bp_text::part_from;
 
-/// A call of a trace: its thread, and the bytes of its choice bit and of the letter of its reply.
+/// A call of a trace: the digits of its thread, and the bytes of its choice bit and of the letter
+/// of its reply.
 #[derive(Clone, Copy, Debug)]
-pub(crate) struct Recorded {
-    pub(crate) thread: u32,
+pub(crate) struct Recorded<'a> {
+    pub(crate) thread: &'a [u8],
     pub(crate) bit_at: usize,
     pub(crate) reply_at: usize,
 }
 
-/// The call of a line that has `before` calls in front of it there. If the line is too short, how
-/// many of them remain for the next line. The symbols of the line end at byte `end` of the trace.
-fn call_on_line(thread: u32, symbols: &[u8], end: usize, before: u64) -> Result<Recorded, u64> {
-    let mut rest = symbols;
-    let mut before = before;
-    while let Some(symbol) = take_symbol(&mut rest) {
-        if before == 0 {
-            return Ok(Recorded {
-                thread,
-                bit_at: end.saturating_sub(symbol.behind_digit).saturating_sub(1),
-                reply_at: end.saturating_sub(rest.len()).saturating_sub(1),
-            });
-        }
-        before -= 1;
+/// What is left of a line of calls, and how many calls are still to be passed over.
+#[derive(Clone, Copy, Debug)]
+struct Passed<'a> {
+    rest: &'a [u8],
+    left: u64,
+}
+
+/// How many bytes a choice bit and a reply have on a line of this trace. In version 1 a space is
+/// between them.
+fn size_of_symbols(trace: &[u8]) -> usize
+    ensures is { (b : BeginsWithHead trace.now) → result ≡ symbol_size b.version }
+    ensures some { 0 < result }
+    ensures few { result ≤ 3 }
+{
+    if is_version_two(trace) { 2 } else { 3 }
+}
+
+/// The thread that a line of calls begins with, and what follows it and a space.
+fn cut_at_space(text: &[u8]) -> Option<(&[u8], &[u8])>
+    ensures { MatchOption result
+        (Without 32 text.now)
+        (λ p. CutsAt 32 text.now p.0.now p.1.now) }
+{
+    let Some(place) = text.iter().position(|byte| *byte == b' ') else {
+        return None;
+    };
+    let (thread, rest) = text.split_at(place);
+    Some((thread, &rest[1..]))
+}
+
+/// Whether the text goes on, and not with the end of a line.
+fn goes_on(text: &[u8]) -> bool
+    ensures { result ≡ goes_on text.now }
+{
+    match text.first() {
+        Some(byte) => *byte != b'\n',
+        None => false,
     }
-    Err(before)
+}
+
+/// Passes over this many symbols of a line, which have this size, or as many as it has.
+fn behind_symbols(text: &[u8], size: usize, count: u64) -> Passed<'_>
+    requires { 0 < size }
+    ensures is { (v : Version) (xs : List Symbol) (more : List ℕ)
+        → size ≡ symbol_size v
+        → HasSymbols v count text.now xs more
+        → (result.rest.now ≡ more) × (result.left + length xs ≡ count) }
+    ensures shorter { length result.rest.now ≤ length text.now }
+{
+    let mut rest = text;
+    let mut left = count;
+    while left > 0 && goes_on(rest) {
+        rest = part_from(rest, size);
+        left -= 1;
+    }
+    Passed { rest, left }
 }
 
 /// The call of a trace that follows the first `before` calls.
-pub(crate) fn recorded_call(trace: &[u8], before: u64) -> Option<Recorded> {
+pub(crate) fn recorded_call(trace: &[u8], before: u64) -> Option<Recorded<'_>>
+    ensures { (c : HasCall trace.now before)
+        → IsSomeAnd result (λ r.
+        (r.bit_at ≡ bit_place trace.now before c)
+        × (r.reply_at ≡ reply_place trace.now before c)) }
+{
+    let size = size_of_symbols(trace);
     let mut rest = body_of(trace);
-    let mut before = before;
-    let mut at = trace.len().saturating_sub(rest.len());
-    while let Some(line) = take_line(&mut rest) {
-        let (thread, symbols) = number_at_front(line.words)?;
-        let end = at.saturating_add(line.words.len());
-        match call_on_line(thread, symbols, end, before) {
-            Ok(call) => return Some(call),
-            Err(left) => before = left,
+    let mut left = before;
+    while let Some((thread, symbols)) = cut_at_space(rest) {
+        let passed = behind_symbols(symbols, size, left);
+        if goes_on(passed.rest) {
+            let bit_at = trace.len().saturating_sub(passed.rest.len());
+            return Some(Recorded {
+                thread,
+                bit_at,
+                reply_at: bit_at + (size - 1),
+            });
         }
-        at = trace.len().saturating_sub(rest.len());
+        rest = part_from(passed.rest, 1);
+        left = passed.left;
     }
     None
 }

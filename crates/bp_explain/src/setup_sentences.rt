@@ -1,31 +1,39 @@
 //! Sentences on the head of a trace that says no setup of the program.
-ghost use Rattle.bp_explain.specs.Explained.{IsSetupLine};
+ghost use Rattle.std.specs.Prelude.{◌≡◌, nat_lt};
+ghost use Rattle.bp_machine.specs.declared.limits.TheConstants.{MAX_CONTEXTS};
+ghost use Rattle.bp_explain.specs.TraceParts.{BeginsWithHead, IsSetupLine, threads_line_number};
 
 use crate::declared::first_procedure;
 use crate::guesses::push_near_entry;
 use crate::sentences::{push_all, push_count, push_number, push_quoted};
-use crate::trace_heads::{FIRST_ENTRY, entry_count, entry_of, init_line};
+use crate::trace_heads::{FIRST_ENTRY, entries_of, entry_count, entry_of, init_line};
 use bp_machine::SetupFault;
 use bp_machine::limits::{MAX_CALLS, MAX_CONTEXTS, MAX_THREADS};
 use bp_syntax::Tree;
-use bp_text::{line_of, number_of, part_from};
+use bp_text::{number_of, part_from, take_line};
 use std::alloc::AllocError;
 
 /// What begins the line of the contexts.
 const CONTEXTS: &[u8] = b"contexts ";
 
-/// The line of the first thread that is not there, or is one too many.
-fn line_of_threads(trace: &[u8]) -> usize {
+/// The line of the first entry that is not there, or is one too many.
+fn line_of_threads(trace: &[u8]) -> usize
+    ensures { (b : BeginsWithHead trace.now) → result ≡ threads_line_number b.setup }
+{
     if entry_count(trace) == 0 {
         FIRST_ENTRY
     } else {
-        MAX_THREADS + FIRST_ENTRY
+        FIRST_ENTRY + MAX_THREADS
     }
 }
 
 /// Whether the contexts that a trace says are too many.
-fn has_many_contexts(trace: &[u8]) -> bool {
-    let Some(line) = line_of(trace, init_line(trace).saturating_add(1)) else {
+fn has_many_contexts(trace: &[u8]) -> bool
+    ensures { (b : BeginsWithHead trace.now) → result ≡ nat_lt MAX_CONTEXTS b.setup.contexts }
+{
+    let mut rest = entries_of(trace).settings;
+    let _init = take_line(&mut rest);
+    let Some(line) = take_line(&mut rest) else {
         return false;
     };
     match number_of(part_from(line.words, CONTEXTS.len())) {
@@ -36,16 +44,16 @@ fn has_many_contexts(trace: &[u8]) -> bool {
 
 /// The line of a trace that the fault is about.
 pub(crate) fn line_of_setup(trace: &[u8], fault: SetupFault) -> usize
-    ensures { IsSetupLine fault result }
+    ensures { IsSetupLine trace.now fault result }
 {
     match fault {
         SetupFault::Threads | SetupFault::Memory => line_of_threads(trace),
         SetupFault::UnknownEntry(thread) | SetupFault::EntryHasFormals(thread) => {
-            thread as usize + FIRST_ENTRY
+            FIRST_ENTRY + thread as usize
         }
         SetupFault::InitLength => init_line(trace),
-        SetupFault::OutOfRange if has_many_contexts(trace) => init_line(trace).saturating_add(1),
-        SetupFault::OutOfRange => init_line(trace).saturating_add(2),
+        SetupFault::OutOfRange if has_many_contexts(trace) => init_line(trace) + 1,
+        SetupFault::OutOfRange => init_line(trace) + 2,
     }
 }
 

@@ -1,6 +1,13 @@
 //! The lines of a trace's head: which is which.
+ghost use Rattle.std.specs.Prelude.{◌≡◌, ◌≢◌, ◌↔◌, ◌<◌, ◌≤◌, ◌+◌, ◌++◌, ℕ, Bool, List, length, IsNone, IsTrue, IfSome, IsSomeAnd, MatchOption};
+ghost use Rattle.std.specs.List.{concat};
+ghost use Rattle.bp_machine.specs.Setups.{threads};
+ghost use Rattle.bp_trace.specs.declared.versions.Version.TheVariants.{Two};
+ghost use Rattle.bp_trace.specs.Heads.{IsEntryName};
+ghost use Rattle.bp_trace.specs.TraceText.{entry_line, init_line, setting_lines};
+ghost use Rattle.bp_explain.specs.TraceParts.{BeginsWithHead, init_line_number};
 
-use bp_text::{line_of, part_before, part_from, take_line, text_from_line};
+use bp_text::{line_of, part_before, part_from, take_line};
 
 /// What begins an entry line.
 pub(crate) const ENTRY: &[u8] = b"entry ";
@@ -8,21 +15,66 @@ pub(crate) const ENTRY: &[u8] = b"entry ";
 /// The line on which the first entry is due.
 pub(crate) const FIRST_ENTRY: usize = 2;
 
-/// How many lines of a head are after its entries.
-const LINES_BEHIND_ENTRIES: usize = 4;
+/// What follows the word that begins an entry line.
+fn behind_word(text: &[u8]) -> Option<&[u8]>
+    ensures { MatchOption result
+        ((rest : List ℕ) → text.now ≢ ENTRY.now ++ rest)
+        (λ rest. text.now ≡ ENTRY.now ++ rest.now) }
+{
+    text.strip_prefix(ENTRY)
+}
+
+/// What follows the entry line that begins the text.
+fn behind_entry(text: &[u8]) -> Option<&[u8]>
+    ensures entry { (name rest : List ℕ)
+        → IsEntryName name
+        → text.now ≡ entry_line name ++ rest
+        → IsSomeAnd result (λ r. r.now ≡ rest) }
+    ensures init { (bits : List Bool) (rest : List ℕ)
+        → text.now ≡ init_line bits ++ rest
+        → IsNone result }
+    ensures shorter { IfSome result (λ r. length r.now < length text.now) }
+{
+    let mut rest = behind_word(text)?;
+    let line = take_line(&mut rest)?;
+    if line.words.is_empty() || !line.is_ended {
+        return None;
+    }
+    Some(rest)
+}
+
+/// The entry lines of the head of a trace.
+#[derive(Clone, Copy, Debug)]
+pub(crate) struct Entries<'a> {
+    /// How many there are.
+    pub(crate) count: usize,
+    /// What follows them.
+    pub(crate) settings: &'a [u8],
+}
+
+/// The entry lines of the head of this trace.
+pub(crate) fn entries_of(trace: &[u8]) -> Entries<'_>
+    ensures count { (b : BeginsWithHead trace.now) → result.count ≡ threads b.setup }
+    ensures settings { (b : BeginsWithHead trace.now)
+        → result.settings.now ≡ concat (setting_lines b.setup) ++ b.rest }
+    ensures few { result.count + length result.settings.now ≤ length trace.now }
+{
+    let mut settings = trace;
+    let _version = take_line(&mut settings);
+    let mut count = 0usize;
+    while let Some(rest) = behind_entry(settings) {
+        settings = rest;
+        count += 1;
+    }
+    Entries { count, settings }
+}
 
 /// How many entry lines a trace has.
-pub(crate) fn entry_count(trace: &[u8]) -> usize {
-    let mut rest = text_from_line(trace, FIRST_ENTRY);
-    let mut count = 0usize;
-    while let Some(line) = take_line(&mut rest) {
-        let has_name = line.words.len() > ENTRY.len();
-        if !line.is_ended || !has_name || !line.words.starts_with(ENTRY) {
-            return count;
-        }
-        count = count.saturating_add(1);
-    }
-    count
+pub(crate) fn entry_count(trace: &[u8]) -> usize
+    ensures is { (b : BeginsWithHead trace.now) → result ≡ threads b.setup }
+    ensures few { result ≤ length trace.now }
+{
+    entries_of(trace).count
 }
 
 /// The name on the entry line of a thread.
@@ -34,16 +86,28 @@ pub(crate) fn entry_of(trace: &[u8], thread: usize) -> &[u8] {
 }
 
 /// The number of the line on which the initial bits are due.
-pub(crate) fn init_line(trace: &[u8]) -> usize {
-    entry_count(trace).saturating_add(FIRST_ENTRY)
+pub(crate) fn init_line(trace: &[u8]) -> usize
+    ensures is { (b : BeginsWithHead trace.now) → result ≡ init_line_number b.setup }
+    ensures few { result ≤ length trace.now + FIRST_ENTRY }
+{
+    entry_count(trace) + FIRST_ENTRY
 }
 
 /// The lines of a trace after its head.
-pub(crate) fn body_of(trace: &[u8]) -> &[u8] {
-    text_from_line(trace, init_line(trace).saturating_add(LINES_BEHIND_ENTRIES))
+pub(crate) fn body_of(trace: &[u8]) -> &[u8]
+    ensures { (b : BeginsWithHead trace.now) → result.now ≡ b.rest }
+{
+    let mut rest = entries_of(trace).settings;
+    let _init = take_line(&mut rest);
+    let _contexts = take_line(&mut rest);
+    let _calls = take_line(&mut rest);
+    let _seed = take_line(&mut rest);
+    rest
 }
 
 /// Whether the trace is of version 2.
-pub(crate) fn is_version_two(trace: &[u8]) -> bool {
+pub(crate) fn is_version_two(trace: &[u8]) -> bool
+    ensures { (b : BeginsWithHead trace.now) → IsTrue result ↔ (b.version ≡ Two) }
+{
     trace.starts_with(b"btrace 2\n")
 }

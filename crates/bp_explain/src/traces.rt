@@ -1,6 +1,6 @@
 //! Explanations of the faults of traces.
 ghost use Rattle.std.specs.Prelude.{IfOk};
-ghost use Rattle.bp_explain.specs.Explained.{ExplainsLine, ExplainsNoEnd, ExplainsSetup, ExplainsTrace, PointsIntoLine};
+ghost use Rattle.bp_explain.specs.Explained.{ExplainsCall, ExplainsLine, ExplainsNoEnd, ExplainsSetup, ExplainsTrace};
 ghost use Rattle.bp_explain.specs.Explanations.{IsPlain};
 
 use crate::call_excerpts::excerpt_in_line;
@@ -96,7 +96,7 @@ fn explain_call(
     fault: &ReplayFault,
     number: u32,
 ) -> Result<Vec<u8>, AllocError>
-    ensures is { IfOk result (λ v. PointsIntoLine name.now trace.now number v.items) }
+    ensures is { IfOk result (λ v. ExplainsCall name.now trace.now number fault.now v.items) }
     ensures plain { IfOk result (λ v. IsPlain v.items) }
 {
     let mut sentence = Vec::new(alloc);

@@ -1,4 +1,4 @@
-use Rattle.std.proofs.Common.{◌≡◌, ◌≤◌, [], ℕ, List, IsTrue, length, take, drop, arith, rules}
+use Rattle.std.proofs.Common.{◌≤◌, [], ℕ, List, IsTrue, length, take, arith, rules}
 use Rattle.std.proofs.lemmas.List.{length-take}
 use Rattle.bp_syntax.specs.Cut.{HasTokens}
 use Rattle.bp_explain.proofs.syntax_sentences.semicolon_place.Goals as goal

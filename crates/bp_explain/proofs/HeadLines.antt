@@ -1,0 +1,157 @@
+-- The lines of a head, taken one after the other.
+use Rattle.std.proofs.Common.{◌≡◌, ◌==◌, ◌+◌, ◌<◌, ◌≢◌, ◌^◌, ℕ, Bool, true, false, List, [], ◌∷◌, ◌++◌, Option, None, Some, length, map, refl, ap, sym, ◌∙◌, arith, append_assoc, codes, decimal, rules}
+use Rattle.std.specs.List.{AllByRecursion, concat, after_first}
+use Rattle.std.specs.Str.Parse.{AllDigits}
+use Rattle.std.proofs.lemmas.Str.Parse.{digit_from_value}
+use Rattle.std.proofs.lemmas.Fmt.{digits_decimal}
+use Rattle.std.proofs.lemmas.List.{append_cancel_left}
+use Rattle.std.proofs.lemmas.List.Folds.{concat-append}
+use Rattle.bp_text.proofs.Numerals.{numerals}
+use Rattle.bp_text.specs.Excerpts.{first_line}
+use Rattle.bp_machine.specs.Setups.{SetupOf, threads}
+use Rattle.bp_trace.specs.declared.versions.Version.{Version}
+use Rattle.bp_trace.specs.declared.versions.Version.TheVariants.{One, Two}
+use Rattle.bp_trace.specs.Heads.{IsEntryName, HasHead}
+use Rattle.bp_trace.specs.Schedules.{bit_digit}
+use Rattle.bp_trace.specs.TraceText.{entry_line, field_line, init_digits, init_line, seed_word, limit_lines, setting_lines, head_text}
+use Rattle.bp_trace.specs.Writable.{Without}
+use Rattle.bp_explain.proofs.FirstCuts.{line_first, rest_after, low_free, all_of_both}
+
+abbrev after_line : List ℕ → List ℕ
+after_line text = after_first (λ b. b == 10) text
+
+-- ---- what has no line feed
+
+digits_without : (byte : ℕ) → byte < 48 → (ds : List ℕ) → AllDigits 10 ds → Without byte ds
+digits_without byte low [] p = tt
+digits_without byte low (d ∷ ds) p = (λ e. absurd (omega (arith, digit_from_value d p.0, e)), digits_without byte low ds p.1)
+
+pub decimal_without : (byte : ℕ) → byte < 48 → (n : ℕ) → n < 2 ^ 64 → Without byte (decimal n)
+decimal_without byte low n fits = digits_without byte low (decimal n) (digits_decimal numerals n fits)
+
+digit_high : (b : Bool) → 48 < bit_digit b + 1
+digit_high true = omega arith
+digit_high false = omega arith
+
+bits_without : (bs : List Bool) → Without 10 (map bit_digit bs)
+bits_without [] = tt
+bits_without (b ∷ bs) = (λ e. absurd (omega (arith, digit_high b, e)), bits_without bs)
+
+init_without : (bs : List Bool) → Without 10 (init_digits bs)
+init_without [] = low_free (codes "-") (search rules)
+init_without (b ∷ bs) = bits_without (b ∷ bs)
+
+seed_without : (o : Option ℕ) → ((n : ℕ) → o ≡ Some n → n < 2 ^ 64) → Without 10 (seed_word o)
+seed_without None fits = low_free (codes "none") (search rules)
+seed_without (Some n) fits = decimal_without 10 (omega arith) n (fits n refl)
+
+-- ---- a line of a word and a value
+
+module _ (word value more : List ℕ) (p : Without 10 word) (q : Without 10 value) where
+  cut_field : field_line word value ++ more ≡ (word ++ value) ++ 10 ∷ more
+  cut_field = append_assoc word (value ++ codes "\n") more ∙ ap (λ t. word ++ t) (append_assoc value (codes "\n") more) ∙ sym (append_assoc word value (10 ∷ more))
+
+  field_without : Without 10 (word ++ value)
+  field_without = all_of_both (λ b. b ≢ 10) word value p q
+
+  field_first : (text : List ℕ) → text ≡ field_line word value ++ more → first_line text ≡ word ++ value
+  field_first text e = line_first text (word ++ value) more field_without (e ∙ cut_field)
+
+  field_after : (text : List ℕ) → text ≡ field_line word value ++ more → after_line text ≡ more
+  field_after text e = rest_after text (word ++ value) more field_without (e ∙ cut_field)
+
+-- ---- the lines after the entries
+
+module _ (s : SetupOf) (has : HasHead s) (rest : List ℕ) where
+  abbrev seed_on : List ℕ
+  seed_on = field_line (codes "seed ") (seed_word s.seed) ++ rest
+
+  abbrev calls_on : List ℕ
+  calls_on = field_line (codes "calls ") (decimal s.calls) ++ seed_on
+
+  abbrev pub contexts_on : List ℕ
+  contexts_on = field_line (codes "contexts ") (decimal s.contexts) ++ calls_on
+
+  settings_are : concat (setting_lines s) ++ rest ≡ init_line s.init ++ contexts_on
+  settings_are = simp append_assoc
+
+  pub after_init : (text : List ℕ) → text ≡ concat (setting_lines s) ++ rest → after_line text ≡ contexts_on
+  after_init text e = field_after (codes "init ") (init_digits s.init) contexts_on (low_free (codes "init ") (search rules)) (init_without s.init) text (e ∙ settings_are)
+
+  word_without : Without 10 (codes "contexts ")
+  word_without = low_free (codes "contexts ") (search rules)
+
+  number_without : (n : ℕ) → n < 2 ^ 64 → Without 10 (decimal n)
+  number_without n fits = decimal_without 10 (omega arith) n fits
+
+  pub contexts_first : (text : List ℕ) → text ≡ contexts_on → first_line text ≡ codes "contexts " ++ decimal s.contexts
+  contexts_first text e = field_first (codes "contexts ") (decimal s.contexts) calls_on word_without (number_without s.contexts has.contexts) text e
+
+  pub after_settings : (text a b c d : List ℕ) → text ≡ concat (setting_lines s) ++ rest → a ≡ after_line text → b ≡ after_line a → c ≡ after_line b → d ≡ after_line c → d ≡ rest
+  after_settings text a b c d e first second third fourth =
+      let at_contexts = first ∙ after_init text e in
+      let at_calls = second ∙ field_after (codes "contexts ") (decimal s.contexts) calls_on word_without (number_without s.contexts has.contexts) a at_contexts in
+      let at_seed = third ∙ field_after (codes "calls ") (decimal s.calls) seed_on (low_free (codes "calls ") (search rules)) (number_without s.calls has.calls) b at_calls in
+      fourth ∙ field_after (codes "seed ") (seed_word s.seed) rest (low_free (codes "seed ") (search rules)) (seed_without s.seed has.seed) c at_seed
+
+-- ---- the entries
+
+-- these entries are not passed yet: their lines begin the text, and then come the other lines
+pub record EntriesLeft (s : SetupOf) (rest : List ℕ) (count : ℕ) (text : List ℕ) : Type 0 where
+  pub names : List (List ℕ)
+  pub named : AllByRecursion IsEntryName names
+  pub count_is : count + length names ≡ threads s
+  pub text_is : text ≡ concat (map entry_line names) ++ (concat (setting_lines s) ++ rest)
+
+module _ (v : Version) (s : SetupOf) (has : HasHead s) (rest : List ℕ) where
+  behind_version : (w : Version) → after_line (head_text w s ++ rest) ≡ concat (map entry_line s.entries ++ setting_lines s) ++ rest
+  behind_version One = refl
+  behind_version Two = refl
+
+  pub all_entries : (trace text : List ℕ) → trace ≡ head_text v s ++ rest → text ≡ after_line trace → EntriesLeft s rest 0 text
+  all_entries trace text e taken = record {
+    names = s.entries;
+    named = has.names;
+    count_is = omega arith;
+    text_is =
+        taken ∙ ap after_line e ∙ behind_version v ∙ ap (λ t. t ++ rest) (concat-append (map entry_line s.entries) (setting_lines s))
+        ∙ append_assoc (concat (map entry_line s.entries)) (concat (setting_lines s)) rest;
+  }
+
+-- what follows the word that begins an entry line
+pub entry_cut : (name behind rest text : List ℕ) → text ≡ entry_line name ++ behind → text ≡ codes "entry " ++ rest → rest ≡ name ++ 10 ∷ behind
+entry_cut name behind rest text line word =
+    append_cancel_left (codes "entry ") rest (name ++ 10 ∷ behind) (sym word ∙ line ∙ ap (λ t. codes "entry " ++ t) (append_assoc name (codes "\n") behind))
+
+module _ (s : SetupOf) (rest text : List ℕ) (count : ℕ) where
+  at_init : text ≡ concat (setting_lines s) ++ rest → text ≡ init_line s.init ++ (concat (limit_lines s) ++ rest)
+  at_init e = e ∙ append_assoc (init_line s.init) (concat (limit_lines s)) rest
+
+  at_entry : (name : List ℕ) (names : List (List ℕ)) → text ≡ concat (map entry_line (name ∷ names)) ++ (concat (setting_lines s) ++ rest)
+      → text ≡ entry_line name ++ (concat (map entry_line names) ++ (concat (setting_lines s) ++ rest))
+  at_entry name names e = e ∙ append_assoc (entry_line name) (concat (map entry_line names)) (concat (setting_lines s) ++ rest)
+
+  -- where a line of an entry was taken, it was that of the first one that was left
+  pub entry_passed : (more : List ℕ)
+      → ((name behind : List ℕ) → IsEntryName name → text ≡ entry_line name ++ behind → more ≡ behind)
+      → ((bits : List Bool) (behind : List ℕ) → text ≡ init_line bits ++ behind → ⊥)
+      → EntriesLeft s rest count text → EntriesLeft s rest (count + 1) more
+  entry_passed more entry init left = go left.names left.named left.count_is left.text_is
+    where
+      go : (names : List (List ℕ)) → AllByRecursion IsEntryName names → count + length names ≡ threads s → text ≡ concat (map entry_line names) ++ (concat (setting_lines s) ++ rest) → EntriesLeft s rest (count + 1) more
+      go [] named all e = absurd (init s.init (concat (limit_lines s) ++ rest) (at_init e))
+      go (name ∷ names) named all e = record {
+        names = names;
+        named = named.1;
+        count_is = omega (arith, all);
+        text_is = entry name (concat (map entry_line names) ++ (concat (setting_lines s) ++ rest)) named.0 (at_entry name names e);
+      }
+
+  -- where none was taken, none was left
+  pub none_left : ((name behind : List ℕ) → IsEntryName name → text ≡ entry_line name ++ behind → ⊥)
+      → EntriesLeft s rest count text → (count ≡ threads s) × (text ≡ concat (setting_lines s) ++ rest)
+  none_left entry left = go left.names left.named left.count_is left.text_is
+    where
+      go : (names : List (List ℕ)) → AllByRecursion IsEntryName names → count + length names ≡ threads s → text ≡ concat (map entry_line names) ++ (concat (setting_lines s) ++ rest) → (count ≡ threads s) × (text ≡ concat (setting_lines s) ++ rest)
+      go [] named all e = (omega (arith, all), e)
+      go (name ∷ names) named all e = absurd (entry name (concat (map entry_line names) ++ (concat (setting_lines s) ++ rest)) named.0 (at_entry name names e))
