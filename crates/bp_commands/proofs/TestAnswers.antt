@@ -1,5 +1,5 @@
 -- What testing a program says of the command `test`.
-use Rattle.std.proofs.Common.{◌≡◌, refl, sym, subst, inl, inr, ℕ, Bool, List, [], Option, None, Some, map}
+use Rattle.std.proofs.Common.{◌≡◌, refl, sym, subst, inl, inr, ℕ, ◌<◌, ◌^◌, length, Bool, List, [], ◌∷◌, ◌++◌, Option, None, Some, map}
 use Rattle.std.specs.Io.KnownBytes.{Appends, Keeps}
 use Rattle.std.proofs.KnownBytes.{Appends-nil, Keeps-refl}
 use Rattle.bp_tree.specs.Ast.{Program}
@@ -16,7 +16,10 @@ use Rattle.bp_test.specs.declared.faults.TestFault.TheVariants as fault
 use Rattle.bp_test.specs.declared.options.TestOptions.{TestOptions}
 use Rattle.bp_test.specs.declared.testing.Found.{Found}
 use Rattle.bp_test.specs.declared.testing.Found.TheVariants.{Nothing, Failed, Stuck}
-use Rattle.bp_test.specs.Tests.{setup_of_run, IsFound, IsTestRefusal, IsWrittenRun}
+use Rattle.bp_test.specs.declared.testing.Tested.{Tested as Made}
+use Rattle.bp_test.specs.Counts.{AreCounts}
+use Rattle.bp_test.specs.Tallies.{MadeRun, made as made_of, HasReached, IsCounted}
+use Rattle.bp_test.specs.Tests.{setup_of_run, IsFound, IsTest, IsTestRefusal, IsWrittenRun}
 use Rattle.bp_commands.specs.Commands.{IsDoneWith, IsRefusedWith}
 use Rattle.bp_commands.specs.Faults.{fault_of_setup, fault_of_test}
 use Rattle.bp_commands.specs.declared.faults.Fault.TheVariants.{Memory}
@@ -32,44 +35,61 @@ module _ (start : StartOf) (x : TestOptions) (listed : Option (List ℕ)) (json 
     abbrev testable : IsTestable start x listed json text
     testable = record { program = t; lawful = lawful; fine = fine }
 
-    written_alone : (Holds : SetupOf → List Call → Type 0) (run : ℕ) (r : Report) (is : IsWrittenRun t taken x old new Holds run r)
-        → IsWrittenRun t taken x (Some []) (Some (trace_text (setup_of_run taken x.seed run) is.history)) Holds run r
-    written_alone Holds run r is = record {
+    written_alone : (Holds : SetupOf → List Call → Type 0) (run : ℕ) (r : Report) (runs : List MadeRun) (is : IsWrittenRun t taken x old new Holds run r runs)
+        → IsWrittenRun t taken x (Some []) (Some (trace_text (setup_of_run taken x.seed run) is.history)) Holds run r runs
+    written_alone Holds run r runs is = record {
       history = is.history;
-      among = is.among;
       others = is.others;
+      whole = is.whole;
+      number = is.number;
+      below = is.below;
+      clean = is.clean;
       found = is.found;
       holds = is.holds;
       written = record { grown = refl };
     }
 
     -- what an empty output has after the test, where this one has more
-    record IsAlone (f : Found) : Type 0 where
+    record IsAlone (f : Found) (runs : List MadeRun) : Type 0 where
       text_is : List ℕ
-      found : IsFound t taken x (Some []) (Some text_is) f
+      found : IsFound t taken x (Some []) (Some text_is) f runs
       written : AppendsAll old new text_is
 
-    alone : (f : Found) → IsFound t taken x old new f → IsAlone f
-    alone Nothing (same, clean) = record {
+    alone : (f : Found) (runs : List MadeRun) → IsFound t taken x old new f runs → IsAlone f runs
+    alone Nothing runs (same, count, clean) = record {
       text_is = [];
-      found = (refl, clean);
+      found = (refl, count, clean);
       written = record { grown = subst (λ y. Appends old y []) (sym same) (Appends-nil old) };
     }
-    alone (Failed run r) is = record {
+    alone (Failed run r) runs is = record {
       text_is = trace_text (setup_of_run taken x.seed run) is.history;
-      found = written_alone _ run r is;
+      found = written_alone _ run r runs is;
       written = is.written;
     }
-    alone (Stuck run r) (asked, is) = record {
+    alone (Stuck run r) runs (asked, is) = record {
       text_is = trace_text (setup_of_run taken x.seed run) is.history;
-      found = (asked, written_alone _ run r is);
+      found = (asked, written_alone _ run r runs is);
       written = is.written;
     }
 
-    pub done : (tested : Tested) → tested.options ≡ x → tested.json ≡ json → AreListed json listed text t (map (λ v. v.items) tested.lines.items) → IsFound t s x old new tested.found → IsDoneWith (tests start x listed json) old new text tested
-    done tested options form lines is = let found = alone tested.found (subst (λ y. IsFound t y x old new tested.found) setup is) in record {
+    pub done : (made : Made) → IsTest t s x old new made → (tested : Tested) → tested.found ≡ made.found → tested.reached ≡ made.tally.reached
+        → ((z : SetupOf) (runs : List MadeRun) → length runs < 2 ^ 64 → IsCounted z runs made.tally → AreCounts z runs tested.counts)
+        → tested.options ≡ x → tested.json ≡ json → AreListed json listed text t (map (λ v. v.items) tested.lines.items)
+        → IsDoneWith (tests start x listed json) old new text tested
+    done made test tested found_is reached_is counts options form lines =
+        let of_setup = subst (λ y. IsTest t y x old new made) setup test in
+        let found = alone tested.found of_setup.runs (subst (λ f. IsFound t taken x old new f of_setup.runs) (sym found_is) of_setup.found) in record {
       text = found.text_is;
-      reports = record { testable = testable; found = found.found; options_are = options; json_is = form; lines = lines };
+      reports = record {
+        testable = testable;
+        runs = of_setup.runs;
+        found = found.found;
+        counted = counts taken of_setup.runs of_setup.few of_setup.tallied.counted;
+        reached = subst (λ v. HasReached t taken of_setup.runs v.items) (sym reached_is) of_setup.tallied.reached;
+        options_are = options;
+        json_is = form;
+        lines = lines;
+      };
       written = found.written;
     }
 
@@ -84,10 +104,14 @@ module _ (start : StartOf) (x : TestOptions) (listed : Option (List ℕ)) (json 
           testable = testable;
           run = cut.run;
           report = cut.report;
+          runs = cut.others ++ made_of cut.history cut.report ∷ [];
           first = record {
             history = cut.history;
-            among = cut.among;
             others = cut.others;
+            whole = refl;
+            number = cut.number;
+            below = cut.below;
+            clean = cut.clean;
             found = cut.found;
             holds = cut.found.sought;
             written = record { grown = refl };

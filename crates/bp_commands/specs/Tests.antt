@@ -10,6 +10,8 @@ use Rattle.bp_machine.specs.Starts.{StartOf, setup_from}
 use Rattle.bp_test.specs.declared.options.TestOptions.{TestOptions}
 use Rattle.bp_test.specs.declared.testing.Found.{Found}
 use Rattle.bp_test.specs.declared.testing.Found.TheVariants.{Nothing, Failed, Stuck}
+use Rattle.bp_test.specs.Counts.{AreCounts}
+use Rattle.bp_test.specs.Tallies.{MadeRun, HasReached}
 use Rattle.bp_test.specs.Tests.{IsFound, IsSought, IsWrittenRun}
 use Rattle.bp_view.specs.StatementLines.{AreStatementLines}
 use Rattle.bp_view.specs.Unreached.{AreUnreachedObjects}
@@ -63,17 +65,26 @@ module _
     pub testable : IsTestable
     pub run : ℕ
     pub report : Report
+    pub runs : List MadeRun
     pub first :
         let t = testable.program in
         IsWrittenRun t (setup_from start None t) x (Some []) (Some written)
-        (λ s h. IsSought t s x.with_stuck h) run report
+        (λ s h. IsSought t s x.with_stuck h) run report runs
 
-  -- what an empty output has after the test, and what is answered
+  -- what an empty output has after the test, and what is answered: what was found, and the counts
+  -- and the marks of the runs up to it, that one included
   pub record IsTestReport (written : List ℕ) (tested : Tested) : Type 0 where
     pub testable : IsTestable
+    pub runs : List MadeRun
     pub found :
         let t = testable.program in
-        IsFound t (setup_from start None t) x (Some []) (Some written) tested.found
+        IsFound t (setup_from start None t) x (Some []) (Some written) tested.found runs
+    pub counted :
+        let t = testable.program in
+        AreCounts (setup_from start None t) runs tested.counts
+    pub reached :
+        let t = testable.program in
+        HasReached t (setup_from start None t) runs tested.reached.items
     pub options_are : tested.options ≡ x
     pub json_is : tested.json ≡ json
     pub lines : AreListed json listed text testable.program (map (λ v. v.items) tested.lines.items)

@@ -1,5 +1,5 @@
 -- What the blocks of a wave say one after the other.
-use Rattle.std.proofs.Common.{◌≡◌, ℕ, suc, ◌+◌, ◌≤◌, Bool, true, false, List, ◌∷◌, length, Option, None, Some, Result, Ok, refl, subst, arith}
+use Rattle.std.proofs.Common.{◌≡◌, ℕ, suc, ◌+◌, ◌-◌, ◌≤◌, Bool, true, false, List, [], ◌∷◌, ◌++◌, length, append_assoc, append-nil, Option, None, Some, Result, Ok, refl, sym, subst, arith}
 use Rattle.std.specs.Prelude.{slice_index_or, is_some}
 use Rattle.bp_tree.specs.Ast.{Program}
 use Rattle.bp_code.specs.Flat.{Flat}
@@ -8,76 +8,117 @@ use Rattle.bp_machine.specs.Setups.{SetupOf}
 use Rattle.bp_test.specs.declared.blocks.Block.{Block}
 use Rattle.bp_test.specs.declared.blocks.FoundRun.{FoundRun}
 use Rattle.bp_test.specs.declared.plans.Plan.{Plan}
-use Rattle.bp_test.specs.Blocks.{start_of_block, IsBlock, AreBlocks}
-use Rattle.bp_test.specs.Tests.{HasCleanRuns, IsFirstFound, IsFoundRun}
-use Rattle.bp_test.proofs.FirstFound.{clean_both, found_later, found_among_more}
+use Rattle.bp_test.specs.declared.tallies.Tally.{Tally}
+use Rattle.bp_test.specs.Blocks.{start_of_block, IsBlock, AreBlocks, IsTalliedAfter}
+use Rattle.bp_test.specs.Tallies.{MadeRun, IsTally}
+use Rattle.bp_test.specs.Tests.{AreCleanRuns, IsFirstFound, IsTallied}
+use Rattle.bp_test.proofs.FirstFound.{found_later, found_among_more}
 
 pub starts_rise : (from a b runs : ℕ) → a ≤ b → start_of_block from a runs ≤ start_of_block from b runs
 starts_rise from a b runs le = omega (arith, le)
 
-module _ {E : Type 0} (k : Flat) (s : SetupOf) (p : Plan) (from runs : ℕ) where
-  -- the runs of the blocks before these, which are the rest of all, are not looked for
-  pub record IsBefore (all rest : List (Result Block E)) : Type 0 where
+none_of : (o : Option FoundRun) → is_some o ≡ false → o ≡ None
+none_of None e = refl
+none_of (Some f) e = absurd cc
+
+-- what the tallies say after another one was added
+abbrev pub Adds : Tally → Tally → Tally → Type 0
+Adds old other new = (t : Program) (s : SetupOf) (runs more : List MadeRun) → IsTally t s runs old → IsTally t s more other → IsTally t s (runs ++ more) new
+
+module _ {E : Type 0} (k : Flat) (s : SetupOf) (p : Plan) (from runs : ℕ) (t : Program) (is : StandsFor k t) (earlier : List MadeRun) where
+  -- the runs of the blocks before these, which are the rest of all, are not looked for, and are
+  -- counted
+  pub record IsBefore (all rest : List (Result Block E)) (tally : Tally) : Type 0 where
     pub before : ℕ
     pub count : before + length rest ≡ length all
     pub blocks : AreBlocks k s p from runs before rest
-    pub clean : (t : Program)
-        → StandsFor k t
-        → HasCleanRuns t s p.with_stuck p.seed (start_of_block from 0 runs) (start_of_block from before runs)
+    pub made : List MadeRun
+    pub size : start_of_block from 0 runs + length made ≡ start_of_block from before runs
+    pub clean : AreCleanRuns t s p.with_stuck p.seed (start_of_block from 0 runs) made
+    pub tallied : IsTally t s (earlier ++ made) tally
 
-  pub before_all : (all : List (Result Block E)) → AreBlocks k s p from runs 0 all → IsBefore all all
-  before_all all are = record {
+  pub before_all : (all : List (Result Block E)) (tally : Tally) → AreBlocks k s p from runs 0 all → IsTally t s earlier tally → IsBefore all all tally
+  before_all all tally are tallied = record {
     before = 0;
     count = omega arith;
     blocks = are;
-    clean = λ t is r from below. absurd (let none : ⊥ = grind (arith, from, below) in none);
+    made = [];
+    size = omega arith;
+    clean = tt;
+    tallied = subst (λ rs. IsTally t s rs tally) (sym (append-nil earlier)) tallied;
   }
 
-  module _ (all rest : List (Result Block E)) (block : Block) (was : IsBefore all (Ok block ∷ rest)) where
-    this : (t : Program) → StandsFor k t → IsFirstFound t s p.with_stuck p.seed (start_of_block from was.before runs) (start_of_block from (was.before + 1) runs) block.found
-    this t is = subst (λ n. IsFirstFound t s p.with_stuck p.seed (start_of_block from n runs) (start_of_block from (n + 1) runs) block.found) (let none : was.before + 0 ≡ was.before = omega arith in none) (was.blocks 0 (Ok block) (omega arith) t is)
+  module _ (all rest : List (Result Block E)) (block : Block) (old new : Tally) (was : IsBefore all (Ok block ∷ rest) old) (adds : Adds old block.tally new) where
+    this : IsTallied t s p.with_stuck p.seed (start_of_block from was.before runs) (start_of_block from (was.before + 1) runs) block.found block.tally
+    this = let same : was.before + 0 ≡ was.before = omega arith in subst (λ n. IsTallied t s p.with_stuck p.seed (start_of_block from n runs) (start_of_block from (n + 1) runs) block.found block.tally) same (was.blocks 0 (Ok block) (omega arith) t is)
 
-    none_of : (o : Option FoundRun) → is_some o ≡ false → o ≡ None
-    none_of None e = refl
-    none_of (Some f) e = absurd cc
+    abbrev both : List MadeRun
+    both = was.made ++ this.runs
 
-    pub before_rest : is_some block.found ≡ false → IsBefore all rest
-    before_rest e = let none : block.found ≡ None = none_of block.found e in record {
-      before = was.before + 1;
-      count = let e = was.count in omega (arith, e);
-      blocks = λ n d l. subst (λ m. IsBlock k s p from runs m (slice_index_or rest n d)) (let more : was.before + suc n ≡ was.before + 1 + n = omega arith in more) (was.blocks (suc n) d (omega (arith, l)));
-      clean = λ t is. clean_both t s p.with_stuck p.seed (start_of_block from 0 runs) (start_of_block from was.before runs) (start_of_block from (was.before + 1) runs) (was.clean t is)
-          (subst (λ o. IsFirstFound t s p.with_stuck p.seed (start_of_block from was.before runs) (start_of_block from (was.before + 1) runs) o) none (this t is));
-    }
+    tallied_both : IsTally t s (earlier ++ both) new
+    tallied_both = subst (λ rs. IsTally t s rs new) (append_assoc earlier was.made this.runs) (adds t s (earlier ++ was.made) this.runs was.tallied this.tallied)
 
-    found_first : (f : FoundRun) → block.found ≡ Some f → (t : Program) → StandsFor k t → IsFirstFound t s p.with_stuck p.seed (start_of_block from 0 runs) (start_of_block from (length all) runs) (Some f)
-    found_first f some t is =
-        let here : IsFoundRun t s p.with_stuck p.seed (start_of_block from was.before runs) (start_of_block from (was.before + 1) runs) f = subst (λ o. IsFirstFound t s p.with_stuck p.seed (start_of_block from was.before runs) (start_of_block from (was.before + 1) runs) o) some (this t is) in
-        let later = found_later t s p.with_stuck p.seed (start_of_block from 0 runs) (start_of_block from was.before runs) (start_of_block from (was.before + 1) runs) (starts_rise from 0 was.before runs (omega arith)) (was.clean t is) (Some f) here in
-        found_among_more t s p.with_stuck p.seed (start_of_block from 0 runs) (start_of_block from (was.before + 1) runs) (start_of_block from (length all) runs) (starts_rise from (was.before + 1) (length all) runs (let e = was.count in omega (arith, e))) f later
+    both_first : IsFirstFound t s p.with_stuck p.seed (start_of_block from 0 runs) (start_of_block from (was.before + 1) runs) block.found both
+    both_first = found_later t s p.with_stuck p.seed (start_of_block from 0 runs) (start_of_block from was.before runs) (start_of_block from (was.before + 1) runs) was.made was.size was.clean
+        (starts_rise from was.before (was.before + 1) runs (omega arith)) block.found this.runs this.first
 
-    pub found_any : is_some block.found ≡ true → (t : Program) → StandsFor k t → IsFirstFound t s p.with_stuck p.seed (start_of_block from 0 runs) (start_of_block from (length all) runs) block.found
-    found_any e t is = by_option block.found refl e
-      where
-        by_option : (o : Option FoundRun) → block.found ≡ o → is_some o ≡ true → IsFirstFound t s p.with_stuck p.seed (start_of_block from 0 runs) (start_of_block from (length all) runs) o
-        by_option None same some = absurd cc
-        by_option (Some f) same some = found_first f same t is
+    pub before_rest : is_some block.found ≡ false → IsBefore all rest new
+    before_rest e =
+        let none = subst (λ o. IsFirstFound t s p.with_stuck p.seed (start_of_block from 0 runs) (start_of_block from (was.before + 1) runs) o both) (none_of block.found e) both_first in record {
+          before = was.before + 1;
+          count = let e = was.count in omega (arith, e);
+          blocks = λ n d l. let more : was.before + suc n ≡ was.before + 1 + n = omega arith in subst (λ m. IsBlock k s p from runs m (slice_index_or rest n d)) more (was.blocks (suc n) d (omega (arith, l)));
+          made = both;
+          size = let rise = starts_rise from 0 (was.before + 1) runs (omega arith) in let size = none.0 in omega (arith, rise, size);
+          clean = none.1;
+          tallied = tallied_both;
+        }
 
-  pub after_all : (all rest : List (Result Block E)) → length rest ≡ 0 → IsBefore all rest → (t : Program) → StandsFor k t → IsFirstFound t s p.with_stuck p.seed (start_of_block from 0 runs) (start_of_block from (length all) runs) None
-  after_all all rest none was t is = subst (λ n. HasCleanRuns t s p.with_stuck p.seed (start_of_block from 0 runs) (start_of_block from n runs)) (let e = was.count in let same : was.before ≡ length all = omega (arith, none, e) in same) (was.clean t is)
+    found_first : (o : Option FoundRun) → is_some o ≡ true → IsFirstFound t s p.with_stuck p.seed (start_of_block from 0 runs) (start_of_block from (was.before + 1) runs) o both → IsFirstFound t s p.with_stuck p.seed (start_of_block from 0 runs) (start_of_block from (length all) runs) o both
+    found_first None some first = absurd cc
+    found_first (Some f) some first = found_among_more t s p.with_stuck p.seed (start_of_block from 0 runs) (start_of_block from (was.before + 1) runs) (start_of_block from (length all) runs) (starts_rise from (was.before + 1) (length all) runs (let e = was.count in omega (arith, e))) f both first
+
+    pub found_any : is_some block.found ≡ true → IsTalliedAfter earlier t s p.with_stuck p.seed (start_of_block from 0 runs) (start_of_block from (length all) runs) block.found new
+    found_any e = record { runs = both; first = found_first block.found e both_first; tallied = tallied_both }
+
+  pub after_all : (all rest : List (Result Block E)) (tally : Tally) → length rest ≡ 0 → IsBefore all rest tally → IsTalliedAfter earlier t s p.with_stuck p.seed (start_of_block from 0 runs) (start_of_block from (length all) runs) None tally
+  after_all all rest tally none was = record {
+    runs = was.made;
+    first = (
+      (let e = was.count in
+          let same : was.before ≡ length all = omega (arith, none, e) in
+          let size = subst (λ n. start_of_block from 0 runs + length was.made ≡ start_of_block from n runs) same was.size in omega (arith, size)),
+      was.clean,
+    );
+    tallied = was.tallied;
+  }
 
 -- a wave after runs that are not looked for
-module _ (t : Program) (s : SetupOf) (with_stuck : Bool) (seed from runs n : ℕ) (within : from ≤ runs) (clean : HasCleanRuns t s with_stuck seed 0 from) where
+module _ (t : Program) (s : SetupOf) (with_stuck : Bool) (seed from runs n : ℕ) (within : from ≤ runs) (before : List MadeRun) (count : length before ≡ from - 0) (clean : AreCleanRuns t s with_stuck seed 0 before) (tally : Tally) where
   here : start_of_block from 0 runs ≡ from
   here = omega (arith, within)
 
-  pub found_in_wave : (o : Option FoundRun) → is_some o ≡ true → IsFirstFound t s with_stuck seed (start_of_block from 0 runs) (start_of_block from n runs) o → IsFirstFound t s with_stuck seed 0 runs o
-  found_in_wave None some first = absurd cc
-  found_in_wave (Some f) some first =
-      let own = subst (λ b. IsFirstFound t s with_stuck seed b (start_of_block from n runs) (Some f)) here first in
-      let later = found_later t s with_stuck seed 0 from (start_of_block from n runs) (omega arith) clean (Some f) own in
-      found_among_more t s with_stuck seed 0 (start_of_block from n runs) runs (omega arith) f later
+  from_zero : 0 + length before ≡ from
+  from_zero = omega (arith, count)
 
-  pub clean_after_wave : (o : Option FoundRun) → is_some o ≡ false → IsFirstFound t s with_stuck seed (start_of_block from 0 runs) (start_of_block from n runs) o → HasCleanRuns t s with_stuck seed 0 (start_of_block from n runs)
-  clean_after_wave None none first = clean_both t s with_stuck seed 0 from (start_of_block from n runs) clean (subst (λ b. HasCleanRuns t s with_stuck seed b (start_of_block from n runs)) here first)
-  clean_after_wave (Some f) none first = absurd cc
+  all_first : (o : Option FoundRun) (made : List MadeRun) → IsFirstFound t s with_stuck seed (start_of_block from 0 runs) (start_of_block from n runs) o made → IsFirstFound t s with_stuck seed 0 (start_of_block from n runs) o (before ++ made)
+  all_first o made first = found_later t s with_stuck seed 0 from (start_of_block from n runs) before from_zero clean (omega (arith, within)) o made (subst (λ b. IsFirstFound t s with_stuck seed b (start_of_block from n runs) o made) here first)
+
+  more_first : (o : Option FoundRun) → is_some o ≡ true → (made : List MadeRun) → IsFirstFound t s with_stuck seed 0 (start_of_block from n runs) o made → IsFirstFound t s with_stuck seed 0 runs o made
+  more_first None some made first = absurd cc
+  more_first (Some f) some made first = found_among_more t s with_stuck seed 0 (start_of_block from n runs) runs (omega arith) f made first
+
+  pub found_in_wave : (o : Option FoundRun) → is_some o ≡ true → IsTalliedAfter before t s with_stuck seed (start_of_block from 0 runs) (start_of_block from n runs) o tally → IsTallied t s with_stuck seed 0 runs o tally
+  found_in_wave o some wave = record {
+    runs = before ++ wave.runs;
+    first = more_first o some (before ++ wave.runs) (all_first o wave.runs wave.first);
+    tallied = wave.tallied;
+  }
+
+  -- the runs up to the end of the wave, where nothing was found
+  pub clean_after_wave : (o : Option FoundRun) → is_some o ≡ false → IsTalliedAfter before t s with_stuck seed (start_of_block from 0 runs) (start_of_block from n runs) o tally → IsTallied t s with_stuck seed 0 (start_of_block from n runs) None tally
+  clean_after_wave o none wave = record {
+    runs = before ++ wave.runs;
+    first = subst (λ p. IsFirstFound t s with_stuck seed 0 (start_of_block from n runs) p (before ++ wave.runs)) (none_of o none) (all_first o wave.runs wave.first);
+    tallied = wave.tallied;
+  }

@@ -1,11 +1,15 @@
 pub mod BlocksInOrder
 pub mod CodesShared
+pub mod ContextLemmas
 pub mod FirstFound
 pub mod FailedStacks
 pub mod GrantedCalls
 pub mod ListParts
+pub mod MarkLemmas
 pub mod Playing
+pub mod ReachedPlaces
 pub mod RunsOfTests
 pub mod SearchStarts
 pub mod ShrunkHistories
+pub mod TallyLemmas
 pub mod Unseeded

@@ -1,5 +1,5 @@
 -- What a run adds to a test.
-use Rattle.std.proofs.Common.{◌≡◌, ◌≢◌, ℕ, ◌+◌, ◌<◌, ◌%◌, ◌^◌, Bool, true, false, ◌||◌, ◌&&◌, nat_le, List, Option, None, Some, IfSome, refl, ap, sym, ◌∙◌, subst, arith, inl, inr}
+use Rattle.std.proofs.Common.{◌≡◌, ℕ, ◌+◌, ◌%◌, ◌^◌, Bool, true, false, ◌||◌, ◌&&◌, nat_le, List, Option, None, Some, IfSome, refl, ap, sym, ◌∙◌, subst, arith, inl, inr}
 use Rattle.std.specs.Prelude.{IfNone, MatchOption}
 use Rattle.std.proofs.lemmas.Bool.Decides.{nat_tests}
 use Rattle.bp_tree.specs.Ast.{Program}
@@ -12,12 +12,15 @@ use Rattle.bp_machine.specs.declared.reports.Report.{Report}
 use Rattle.bp_machine.specs.Setups.{SetupOf, FitsCode}
 use Rattle.bp_machine.specs.Reports.{outcome_of, is_failure, IsReport}
 use Rattle.bp_machine.specs.Sessions.{SessionOf, Stands, StandsForAll}
-use Rattle.bp_machine.proofs.StandsAfterCall.{same_or_not}
 use Rattle.bp_machine.proofs.GrantedSteps.{within as within_contexts}
 use Rattle.bp_test.specs.Failing.{FailsAt}
+use Rattle.bp_test.specs.Reached.{place_of, MarksGrow, Reaches}
 use Rattle.bp_test.specs.Resting.{EachRests, IsOver}
 use Rattle.bp_test.specs.Blocks.{is_sought}
-use Rattle.bp_test.specs.Tests.{setup_of_run, IsSought, IsSample, IsCleanSample, IsSoughtSample, HasCleanRuns}
+use Rattle.bp_test.specs.Tallies.{made}
+use Rattle.bp_test.specs.Tests.{setup_of_run, IsSought, IsSample, IsCleanRun, IsSoughtSample}
+use Rattle.bp_test.proofs.MarkLemmas.{same_marks}
+use Rattle.bp_test.proofs.ReachedPlaces.{reaches_with, reaches_without}
 
 -- the setups differ at most in their seeds
 abbrev pub IsReseeded : SetupOf → SetupOf → Type 0
@@ -67,22 +70,14 @@ module _ (t : Program) (s : SetupOf) (with_stuck : Bool) (h : List Call) (r : Re
   none_open true true e asked = absurd cc
   none_open false f e asked = absurd cc
 
-  pub clean_by_report : is_sought with_stuck r ≡ false → IsSample t s h → IsCleanSample t s with_stuck h
+  pub clean_by_report : is_sought with_stuck r ≡ false → IsSample t s h → IsCleanRun t s with_stuck (made h r)
   clean_by_report e sample = let none : is_failure (outcome_of h) ≡ false = sym (ap is_failure counts.outcome) ∙ no_failure with_stuck (is_failure r.outcome) e in record {
     sample = sample;
     clean = clean_of (outcome_of h) none;
     rests = or_rests none;
     closed = λ asked. let few = none_open with_stuck (is_failure r.outcome) e asked in let same = counts.left_open in grind (arith, nat_tests, few, same);
+    report = counts;
   }
-
-one_more : (t : Program) (s : SetupOf) (with_stuck : Bool) (seed first n : ℕ) → HasCleanRuns t s with_stuck seed first n → ((h : List Call) × IsCleanSample t (setup_of_run s seed n) with_stuck h) → HasCleanRuns t s with_stuck seed first (n + 1)
-one_more t s with_stuck seed first n clean this = λ r from below. elim (same_or_not n r) [
-  | inl same ↦ subst (λ k. (h : List Call) × IsCleanSample t (setup_of_run s seed k) with_stuck h) same this
-  | inr other ↦ clean r from (lower r below other)
-]
-  where
-    lower : (r : ℕ) → r < n + 1 → n ≢ r → r < n
-    lower r below other = grind (arith, below, other)
 
 -- a run after those that are not looked for
 module _ (c : Flat) (s : SetupOf) (with_stuck : Bool) (seed run : ℕ) (old x : SessionOf) (h : List Call) (own : ℕ) (own_is : own ≡ (seed + run) % 2 ^ 64)
@@ -107,8 +102,8 @@ module _ (c : Flat) (s : SetupOf) (with_stuck : Bool) (seed run : ℕ) (old x : 
     over_is : (t : Program) → StandsFor c t → IsOver t (setup_of_run s seed run) h
     over_is t is = subst (λ z. IsOver t z h) setup_is (over t (own_program t is))
 
-    pub clean_more : is_sought with_stuck r ≡ false → (t : Program) → StandsFor c t → (first : ℕ) → HasCleanRuns t s with_stuck seed first run → HasCleanRuns t s with_stuck seed first (run + 1)
-    clean_more e t is first clean = one_more t s with_stuck seed first run clean (h, clean_by_report t (setup_of_run s seed run) with_stuck h r (report_is t is) (over_is t is) e (sample_is t is))
+    pub clean_run : is_sought with_stuck r ≡ false → (t : Program) → StandsFor c t → IsCleanRun t (setup_of_run s seed run) with_stuck (made h r)
+    clean_run e t is = clean_by_report t (setup_of_run s seed run) with_stuck h r (report_is t is) (over_is t is) e (sample_is t is)
 
     pub sought_sample : is_sought with_stuck r ≡ true → (t : Program) → StandsFor c t → IsSoughtSample t (setup_of_run s seed run) with_stuck h r
     sought_sample e t is = record {
@@ -116,6 +111,13 @@ module _ (c : Flat) (s : SetupOf) (with_stuck : Bool) (seed run : ℕ) (old x : 
       sought = sought_by_report t (setup_of_run s seed run) with_stuck h r (report_is t is) (over_is t is) e;
       report = report_is t is;
     }
+
+  -- what it reaches
+  pub reaches_is : (t : Program) → StandsFor c t → (marks new : List Bool) → ((u : Program) → StandsFor x.code u → MarksGrow (place_of u) (Reaches u x.setup h) marks new) → MarksGrow (place_of t) (Reaches t s h) marks new
+  reaches_is t is marks new grow =
+      let own = subst (λ z. MarksGrow (place_of t) (Reaches t z h) marks new) setup_is (grow t (own_program t is)) in
+      let seed_is : Option ℕ = Some ((seed + run) % 2 ^ 64) in
+      same_marks (place_of t) (Reaches t (setup_of_run s seed run) h) (Reaches t s h) marks new own (reaches_with t s seed_is h) (reaches_without t s seed_is h)
 
   fails_at : StandsForAll x h → (t : Program) → StandsFor c t → (number : Option ℕ) → ((u : Program) (g : List Call) → StandsFor x.code u → Stands u x g → IfSome number (FailsAt u x.setup g)) → IfSome number (FailsAt t (setup_of_run s seed run) h)
   fails_at stands t is number fails = subst (λ z. IfSome number (FailsAt t z h)) setup_is (fails t h (own_program t is) (stands t (own_program t is)))

@@ -1,5 +1,5 @@
 -- Blocks of runs that are made side by side.
-use Rattle.std.specs.Prelude.{◌+◌, ◌*◌, ◌<◌, ℕ, min, Bool, ◌||◌, ◌&&◌, nat_le, List, Result, length, slice_index_or, IfOk}
+use Rattle.std.specs.Prelude.{◌+◌, ◌*◌, ◌++◌, ◌<◌, ℕ, min, Bool, ◌||◌, ◌&&◌, nat_le, List, Option, Result, length, slice_index_or, IfOk}
 use Rattle.bp_tree.specs.Ast.{Program}
 use Rattle.bp_code.specs.Flat.{Flat}
 use Rattle.bp_code.specs.StandsFor.{StandsFor}
@@ -7,9 +7,12 @@ use Rattle.bp_machine.specs.declared.reports.Report.{Report}
 use Rattle.bp_machine.specs.Reports.{is_failure}
 use Rattle.bp_machine.specs.Setups.{SetupOf}
 use Rattle.bp_test.specs.declared.blocks.Block.{Block}
+use Rattle.bp_test.specs.declared.blocks.FoundRun.{FoundRun}
+use Rattle.bp_test.specs.declared.tallies.Tally.{Tally}
 use Rattle.bp_test.specs.declared.limits.TheConstants.{BLOCK}
 use Rattle.bp_test.specs.declared.plans.Plan.{Plan}
-use Rattle.bp_test.specs.Tests.{IsFirstFound}
+use Rattle.bp_test.specs.Tallies.{MadeRun, IsTally}
+use Rattle.bp_test.specs.Tests.{IsFirstFound, IsTallied}
 
 -- a test looks for a run with this report
 abbrev pub is_sought : Bool → Report → Bool
@@ -28,9 +31,16 @@ module _ {E : Type 0} (k : Flat) (s : SetupOf) (p : Plan) (from runs : ℕ) wher
       → StandsFor k t
       → let start = start_of_block from n runs in
       let end = start_of_block from (n + 1) runs in
-      IsFirstFound t s p.with_stuck p.seed start end block.found)
+      IsTallied t s p.with_stuck p.seed start end block.found block.tally)
 
   -- the blocks of a wave, from block m on
   abbrev pub AreBlocks : ℕ → List (Result Block E) → Type 0
   AreBlocks m rs =
       (n : ℕ) (d : Result Block E) → n < length rs → IsBlock (m + n) (slice_index_or rs n d)
+
+-- what was found, and the tally of the runs up to it, where these others were made before
+pub record IsTalliedAfter (before : List MadeRun) (t : Program) (s : SetupOf) (with_stuck : Bool)
+    (seed from to : ℕ) (found : Option FoundRun) (tally : Tally) : Type 0 where
+  pub runs : List MadeRun
+  pub first : IsFirstFound t s with_stuck seed from to found runs
+  pub tallied : IsTally t s (before ++ runs) tally

@@ -1,5 +1,5 @@
 -- What a test of a program finds.
-use Rattle.std.specs.Prelude.{◌≡◌, ◌⊎◌, ◌<◌, ◌≤◌, ◌+◌, ◌%◌, ◌^◌, ℕ, Bool, true, List, Option, None, Some, MatchOption}
+use Rattle.std.specs.Prelude.{◌≡◌, ◌⊎◌, ◌<◌, ◌+◌, ◌-◌, ◌%◌, ◌^◌, ℕ, suc, Bool, true, List, [], ◌∷◌, ◌++◌, Option, None, Some, length, MatchOption}
 use Rattle.bp_tree.specs.Ast.{Program}
 use Rattle.bp_text.specs.Writing.{AppendsAll, AppendsPart}
 use Rattle.bp_machine.specs.declared.calls.Call.{Call}
@@ -16,10 +16,13 @@ use Rattle.bp_test.specs.declared.blocks.FoundRun.{FoundRun}
 use Rattle.bp_test.specs.declared.faults.TestFault.{TestFault}
 use Rattle.bp_test.specs.declared.faults.TestFault.TheVariants as fault
 use Rattle.bp_test.specs.declared.options.TestOptions.{TestOptions}
+use Rattle.bp_test.specs.declared.tallies.Tally.{Tally}
 use Rattle.bp_test.specs.declared.testing.Found.{Found}
 use Rattle.bp_test.specs.declared.testing.Found.TheVariants as found
+use Rattle.bp_test.specs.declared.testing.Tested.{Tested}
 use Rattle.bp_test.specs.Failing.{FailsAt}
 use Rattle.bp_test.specs.Resting.{EachRests}
+use Rattle.bp_test.specs.Tallies.{MadeRun, made, IsTally}
 
 -- the number of a fault
 abbrev pub test_fault_number : TestFault → ℕ
@@ -47,13 +50,14 @@ abbrev pub IsSought : Program → SetupOf → Bool → List Call → Type 0
 IsSought t s with_stuck h =
     (is_failure (outcome_of h) ≡ true) ⊎ ((with_stuck ≡ true) × IsStuck t s h)
 
--- a history that came to its end, and is not what a test looks for
-pub record IsCleanSample (t : Program) (s : SetupOf) (with_stuck : Bool) (h : List Call)
+-- a run that came to its end, and is not what a test looks for
+pub record IsCleanRun (t : Program) (s : SetupOf) (with_stuck : Bool) (r : MadeRun)
     : Type 0 where
-  pub sample : IsSample t s h
-  pub clean : outcome_of h ≡ Clean
-  pub rests : EachRests t s h
-  pub closed : with_stuck ≡ true → open_lines s h ≡ 0
+  pub sample : IsSample t s r.history
+  pub clean : outcome_of r.history ≡ Clean
+  pub rests : EachRests t s r.history
+  pub closed : with_stuck ≡ true → open_lines s r.history ≡ 0
+  pub report : IsReport s r.history r.report
 
 -- a history that a test looks for
 pub record IsSoughtSample (t : Program) (s : SetupOf) (with_stuck : Bool) (h : List Call)
@@ -62,26 +66,43 @@ pub record IsSoughtSample (t : Program) (s : SetupOf) (with_stuck : Bool) (h : L
   pub sought : IsSought t s with_stuck h
   pub report : IsReport s h r
 
--- each run from one to before another came to its end, and is not what the test looks for
-abbrev pub HasCleanRuns : Program → SetupOf → Bool → ℕ → ℕ → ℕ → Type 0
-HasCleanRuns t s with_stuck seed from to =
-    (r : ℕ) → from ≤ r → r < to
-    → (h : List Call) × IsCleanSample t (setup_of_run s seed r) with_stuck h
+-- these are the runs from number n on, each with its own seed: each came to its end, and is not
+-- what the test looks for
+abbrev pub AreCleanRuns : Program → SetupOf → Bool → (seed n : ℕ) → List MadeRun → Type 0
+AreCleanRuns t s with_stuck seed n [] = Unit {0}
+AreCleanRuns t s with_stuck seed n (r ∷ rs) =
+    IsCleanRun t (setup_of_run s seed n) with_stuck r
+    × AreCleanRuns t s with_stuck seed (suc n) rs
 
--- the first of these runs that the test looks for, and at which instruction it fails, if it does
+-- These are the runs up to the one that was found: the first of those from one number to before
+-- another that the test looks for. It is known at which instruction it fails, if it does.
 pub record IsFoundRun (t : Program) (s : SetupOf) (with_stuck : Bool) (seed from to : ℕ)
-    (f : FoundRun) : Type 0 where
-  pub among : (from ≤ f.run) × (f.run < to)
-  pub others : HasCleanRuns t s with_stuck seed from f.run
+    (f : FoundRun) (runs : List MadeRun) : Type 0 where
+  pub others : List MadeRun
+  pub whole : runs ≡ others ++ made f.history.items f.report ∷ []
+  pub number : from + length others ≡ f.run
+  pub below : f.run < to
+  pub clean : AreCleanRuns t s with_stuck seed from others
   pub found : IsSoughtSample t (setup_of_run s seed f.run) with_stuck f.history.items f.report
   pub at : MatchOption f.number
       (outcome_of f.history.items ≡ Clean)
       (FailsAt t (setup_of_run s seed f.run) f.history.items)
 
--- what was found among these runs
-abbrev pub IsFirstFound : Program → SetupOf → Bool → ℕ → ℕ → ℕ → Option FoundRun → Type 0
-IsFirstFound t s with_stuck seed from to None = HasCleanRuns t s with_stuck seed from to
-IsFirstFound t s with_stuck seed from to (Some f) = IsFoundRun t s with_stuck seed from to f
+-- what was found among the runs from one number to before another, and the runs up to it; all of
+-- them, where none was found
+abbrev pub IsFirstFound
+    : Program → SetupOf → Bool → (seed from to : ℕ) → Option FoundRun → List MadeRun → Type 0
+IsFirstFound t s with_stuck seed from to None runs =
+    (length runs ≡ to - from) × AreCleanRuns t s with_stuck seed from runs
+IsFirstFound t s with_stuck seed from to (Some f) runs =
+    IsFoundRun t s with_stuck seed from to f runs
+
+-- what was found, and the tally of the runs up to it
+pub record IsTallied (t : Program) (s : SetupOf) (with_stuck : Bool) (seed from to : ℕ)
+    (found : Option FoundRun) (tally : Tally) : Type 0 where
+  pub runs : List MadeRun
+  pub first : IsFirstFound t s with_stuck seed from to found runs
+  pub tallied : IsTally t s runs tally
 
 -- what was found in a run with this report
 abbrev pub found_by : ℕ → Report → Outcome → Found
@@ -93,30 +114,45 @@ found_in run r = found_by run r r.outcome
 
 -- the bytes of the writer before and after the test
 module _ (t : Program) (s : SetupOf) (x : TestOptions) (old new : Option (List ℕ)) where
-  -- the first run that the test looks for, of which this holds, and its trace was written
+  -- the first run that the test looks for, of which this holds, after these others; its trace was
+  -- written
   pub record IsWrittenRun (Holds : SetupOf → List Call → Type 0) (run : ℕ) (report : Report)
-      : Type 0 where
+      (runs : List MadeRun) : Type 0 where
     pub history : List Call
-    pub among : run < x.runs
-    pub others : HasCleanRuns t s x.with_stuck x.seed 0 run
+    pub others : List MadeRun
+    pub whole : runs ≡ others ++ made history report ∷ []
+    pub number : length others ≡ run
+    pub below : run < x.runs
+    pub clean : AreCleanRuns t s x.with_stuck x.seed 0 others
     pub found : IsSoughtSample t (setup_of_run s x.seed run) x.with_stuck history report
     pub holds : Holds (setup_of_run s x.seed run) history
     pub written : AppendsAll old new (trace_text (setup_of_run s x.seed run) history)
 
-  abbrev pub IsFound : Found → Type 0
-  IsFound found.Nothing = (new ≡ old) × HasCleanRuns t s x.with_stuck x.seed 0 x.runs
-  IsFound (found.Failed run report) =
-      IsWrittenRun (λ z h. is_failure (outcome_of h) ≡ true) run report
-  IsFound (found.Stuck run report) =
-      (x.with_stuck ≡ true) × IsWrittenRun (IsStuck t) run report
+  -- what was found, and the runs up to it
+  abbrev pub IsFound : Found → List MadeRun → Type 0
+  IsFound found.Nothing runs =
+      (new ≡ old) × (length runs ≡ x.runs) × AreCleanRuns t s x.with_stuck x.seed 0 runs
+  IsFound (found.Failed run report) runs =
+      IsWrittenRun (λ z h. is_failure (outcome_of h) ≡ true) run report runs
+  IsFound (found.Stuck run report) runs =
+      (x.with_stuck ≡ true) × IsWrittenRun (IsStuck t) run report runs
+
+  -- what was found, and the tally of the runs up to it, that one included
+  pub record IsTest (tested : Tested) : Type 0 where
+    pub runs : List MadeRun
+    pub few : length runs < 2 ^ 64
+    pub found : IsFound tested.found runs
+    pub tallied : IsTally t s runs tested.tally
 
   -- a proper prefix of the trace of the first run that the test looks for was written
   pub record IsCutRun : Type 0 where
     pub run : ℕ
     pub history : List Call
     pub report : Report
-    pub among : run < x.runs
-    pub others : HasCleanRuns t s x.with_stuck x.seed 0 run
+    pub others : List MadeRun
+    pub number : length others ≡ run
+    pub below : run < x.runs
+    pub clean : AreCleanRuns t s x.with_stuck x.seed 0 others
     pub found : IsSoughtSample t (setup_of_run s x.seed run) x.with_stuck history report
     pub written : AppendsPart old new (trace_text (setup_of_run s x.seed run) history)
 

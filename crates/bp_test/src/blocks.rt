@@ -4,7 +4,7 @@ ghost use Rattle.bp_tree.specs.Ast.{Program};
 ghost use Rattle.bp_code.specs.StandsFor.{StandsFor};
 ghost use Rattle.bp_machine.specs.Setups.{FitsCode};
 ghost use Rattle.bp_test.specs.Blocks.{is_sought};
-ghost use Rattle.bp_test.specs.Tests.{IsFirstFound};
+ghost use Rattle.bp_test.specs.Tests.{IsTallied};
 
 use crate::failing::failed_instruction;
 use crate::plans::Plan;
@@ -60,7 +60,8 @@ pub fn first_found(
     ensures { IfOk result (λ block.
         (t : Program)
         → StandsFor code.now t
-        → IsFirstFound t setup.now plan.now.with_stuck plan.now.seed from to block.found) }
+        → let p = plan.now in
+        IsTallied t setup.now p.with_stuck p.seed from to block.found block.tally) }
 {
     let mut session = Session::new(alloc, code, setup)?;
     let mut history = Vec::new(alloc);

@@ -1,4 +1,9 @@
 //! The counts of a tally that people read.
+ghost use Rattle.std.specs.Prelude.{◌≡◌, ◌<◌, ◌^◌, List, length};
+ghost use Rattle.bp_machine.specs.Setups.{SetupOf};
+ghost use Rattle.bp_test.specs.Counts.{share_of_marks, AreCounts};
+ghost use Rattle.bp_test.specs.Tallies.{MadeRun, IsCounted};
+
 use crate::tallies::{ContextsUsed, Ends, Tally};
 use bp_code::{Code, Kind};
 
@@ -44,12 +49,14 @@ impl Share {
 }
 
 /// The share of these marks.
-fn share_of(marks: &[bool]) -> Share {
-    let mut share = Share::NONE;
-    for is_reached in marks {
-        share.add(*is_reached);
+fn share_of(marks: &[bool]) -> Share
+    ensures { result ≡ share_of_marks marks.now }
+{
+    let reached = marks.iter().filter(|is_reached| **is_reached).count();
+    Share {
+        reached: reached as u64,
+        all: marks.len() as u64,
     }
-    share
 }
 
 /// The number after that of the last instruction of a procedure. The last instruction is its end,
@@ -92,7 +99,12 @@ fn statements_of(code: &Code, reached: &[bool]) -> (Share, Share) {
 
 impl Tally {
     /// The counts of this tally of runs of a code.
-    pub fn counts(&self, code: &Code) -> Counts {
+    pub fn counts(&self, code: &Code) -> Counts
+        ensures { (s : SetupOf) (runs : List MadeRun)
+            → length runs < 2 ^ 64
+            → IsCounted s runs self.now
+            → AreCounts s runs result }
+    {
         let (statements, assertions) = statements_of(code, self.reached.as_slice());
         Counts {
             runs: self.runs,

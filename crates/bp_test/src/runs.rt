@@ -1,11 +1,16 @@
 //! Runs: histories of a seed and of the schedule that is drawn by it.
-ghost use Rattle.std.specs.Prelude.{◌≡◌, ◌<◌, ◌+◌, [], true, length, Some, IfOk, OnOk};
+ghost use Rattle.std.specs.Prelude.{◌≡◌, ◌<◌, ◌+◌, ◌++◌, ◌∷◌, [], List, true, length, Some};
+ghost use Rattle.std.specs.Prelude.{IfOk, OnOk};
 ghost use Rattle.bp_tree.specs.Ast.{Program};
 ghost use Rattle.bp_code.specs.Programs.{IsOfProgram};
 ghost use Rattle.bp_code.specs.StandsFor.{StandsFor};
+ghost use Rattle.bp_machine.specs.declared.calls.Call.{Call as Answered};
+ghost use Rattle.bp_machine.specs.Histories.{configuration_after};
 ghost use Rattle.bp_machine.specs.Reports.{outcome_of, is_failure};
-ghost use Rattle.bp_machine.specs.Sessions.{StandsForAll};
+ghost use Rattle.bp_machine.specs.Sessions.{Stands, StandsForAll};
 ghost use Rattle.bp_machine.specs.Setups.{FitsCode};
+ghost use Rattle.bp_test.specs.Reached.{next_place, marks_after, place_of, IsNumberOf};
+ghost use Rattle.bp_test.specs.Reached.{IsTried, IsWaitedAt, MarksGrow, Reaches};
 ghost use Rattle.bp_test.specs.Resting.{IsOver};
 
 use crate::schedulers::Scheduler;
@@ -18,6 +23,11 @@ fn play(session: &mut Session, history: &mut Vec<Call>, thread: u32) -> Result<R
     requires { StandsForAll session.old history.old.items }
     ensures stands { OnOk result (StandsForAll session.new history.new.items) }
     ensures longer { OnOk result (length history.new.items ≡ length history.old.items + 1) }
+    ensures grown { IfOk result (λ r.
+        (x : Answered)
+        × (history.new.items ≡ history.old.items ++ x ∷ [])
+        × (x.thread ≡ thread)
+        × (x.reply ≡ r)) }
     ensures failed { IfOk result (λ r.
         r ≡ Reply.Failed
         → is_failure (outcome_of history.new.items) ≡ true) }
@@ -32,21 +42,38 @@ fn play(session: &mut Session, history: &mut Vec<Call>, thread: u32) -> Result<R
 }
 
 /// The number of the instruction that is next for a thread, where there is one.
-fn next_number(session: &Session, thread: u32) -> Option<u32> {
+fn next_number(session: &Session, thread: u32) -> Option<u32>
+    ensures { (t : Program) (h : List Answered)
+        → StandsFor session.now.code t
+        → Stands t session.now h
+        → let now = configuration_after t session.now.setup h in
+        IsNumberOf t (next_place now thread) result }
+{
     Some(session.top(thread)?.number)
 }
 
 /// Marks an instruction, where its thread was not refused a context.
-fn reach(reached: &mut Vec<bool>, number: Option<u32>, reply: Reply) {
-    if let (Some(number), true) = (number, reply != Reply::NoContexts) {
+fn reach(reached: &mut Vec<bool>, number: Option<u32>, reply: Reply)
+    ensures { reached.new.items ≡ marks_after number reply reached.old.items }
+{
+    if matches!(reply, Reply::NoContexts) {
+        return;
+    }
+    if let Some(number) = number {
         mark(reached, number as usize);
     }
 }
 
 /// Marks the instructions at which threads wait.
-fn reach_waiting(reached: &mut Vec<bool>, session: &Session) {
+fn reach_waiting(reached: &mut Vec<bool>, session: &Session)
+    ensures { (t : Program) (h : List Answered)
+        → StandsFor session.now.code t
+        → Stands t session.now h
+        → let waits = IsWaitedAt t session.now.setup h in
+        MarksGrow (place_of t) waits reached.old.items reached.new.items }
+{
     for thread in 0..session.setup().threads() {
-        if !session.is_finished(thread) {
+        if !session.is_finished(thread) && session.waits(thread) {
             reach(reached, next_number(session, thread), Reply::Blocked);
         }
     }
@@ -67,6 +94,11 @@ fn follow(
         ((t : Program)
         → StandsFor session.new.code t
         → IsOver t session.new.setup history.new.items) }
+    ensures marks { OnOk result
+        ((t : Program)
+        → StandsFor session.new.code t
+        → let tried = IsTried t session.new.setup history.new.items in
+        MarksGrow (place_of t) tried reached.old.items reached.new.items) }
     ensures kept { (session.new.code ≡ session.old.code) × (session.new.setup ≡ session.old.setup) }
 {
     history.clear();
@@ -98,6 +130,11 @@ pub(crate) fn run_once(
         (t : Program)
         → StandsFor x.code t
         → IsOver t x.setup history.new.items) }
+    ensures marks { IfOk result (λ x.
+        (t : Program)
+        → StandsFor x.code t
+        → let reaches = Reaches t x.setup history.new.items in
+        MarksGrow (place_of t) reaches reached.old.items reached.new.items) }
     ensures code { IfOk result (λ x. x.code ≡ session.code) }
     ensures setup { IfOk result (λ x. x.setup ≡ record session.setup { seed = Some seed }) }
 {

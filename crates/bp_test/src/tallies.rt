@@ -1,4 +1,15 @@
 //! What runs of a test came to, counted.
+ghost use Rattle.std.specs.Prelude.{◌≡◌, ◌<◌, ◌^◌, ◌++◌, ◌∷◌, [], ℕ, true, false, List};
+ghost use Rattle.std.specs.Prelude.{length, count_by, slice_set, slice_index_or, IfOk, OnOk};
+ghost use Rattle.bp_tree.specs.Ast.{Program};
+ghost use Rattle.bp_code.specs.StandsFor.{StandsFor};
+ghost use Rattle.bp_machine.specs.Replies.{is_granted};
+ghost use Rattle.bp_machine.specs.Setups.{SetupOf};
+ghost use Rattle.bp_test.specs.Counts.{contexts_with, AreContextsUsed};
+ghost use Rattle.bp_test.specs.Reached.{refuses_context, is_marked, HasStep, MarksGrow};
+ghost use Rattle.bp_test.specs.Tallies.{MadeRun, made, is_end, ends_of, ends_sum, count_with};
+ghost use Rattle.bp_test.specs.Tallies.{IsCounted, IsTally};
+
 use bp_code::Code;
 use bp_machine::{Call, Outcome, Reply, Report, Setup};
 use std::alloc::{AllocError, Global};
@@ -29,7 +40,8 @@ pub struct Tally {
     pub ends: Ends,
     /// For each number of contexts, how many runs used that many.
     pub contexts: Vec<u64>,
-    /// For each instruction of the code, whether a thread tried its step, or waited at it.
+    /// For each instruction of the code, whether a thread tried its step, or waited at it when a
+    /// run ended.
     pub reached: Vec<bool>,
     /// For each thread, whether it ever made a step.
     pub stepped: Vec<bool>,
@@ -45,23 +57,31 @@ pub struct ContextsUsed {
 }
 
 /// This many times false.
-fn none_of(alloc: Global, count: usize) -> Result<Vec<bool>, AllocError> {
+fn none_of(alloc: Global, count: usize) -> Result<Vec<bool>, AllocError>
+    ensures size { IfOk result (λ v. length v.items ≡ count) }
+    ensures none { IfOk result (λ v. (n : ℕ) → is_marked v.items n ≡ false) }
+{
     let mut marks = Vec::with_capacity(alloc, count)?;
-    for _ in 0..count {
+    while marks.len() < count {
         marks.push(false)?;
     }
     Ok(marks)
 }
 
 /// Marks a place, where it is there.
-pub(crate) fn mark(marks: &mut Vec<bool>, place: usize) {
+pub(crate) fn mark(marks: &mut Vec<bool>, place: usize)
+    ensures { marks.new.items ≡ slice_set marks.old.items place true }
+{
     if let Some(mark) = marks.get_mut(place) {
         *mark = true;
     }
 }
 
 /// Marks the places that are marked in the other marks.
-fn mark_all(marks: &mut Vec<bool>, others: &[bool]) {
+fn mark_all(marks: &mut Vec<bool>, others: &[bool])
+    ensures { MarksGrow (λ i. Some i) (λ n. is_marked others.now n ≡ true)
+        marks.old.items marks.new.items }
+{
     for (place, is_marked) in others.iter().enumerate() {
         if *is_marked {
             mark(marks, place);
@@ -70,8 +90,12 @@ fn mark_all(marks: &mut Vec<bool>, others: &[bool]) {
 }
 
 /// Adds a number of runs that used this many contexts.
-fn count_contexts(counts: &mut Vec<u64>, used: usize, runs: u64) -> Result<(), AllocError> {
-    for _ in counts.len()..used.saturating_add(1) {
+fn count_contexts(counts: &mut Vec<u64>, used: usize, runs: u64) -> Result<(), AllocError>
+    ensures { OnOk result
+        ((k : ℕ)
+        → slice_index_or counts.new.items k 0 ≡ count_with used runs counts.old.items k) }
+{
+    while counts.len() <= used {
         counts.push(0)?;
     }
     if let Some(count) = counts.get_mut(used) {
@@ -80,9 +104,38 @@ fn count_contexts(counts: &mut Vec<u64>, used: usize, runs: u64) -> Result<(), A
     Ok(())
 }
 
-/// How many calls have this reply.
-fn count_replies(history: &[Call], reply: Reply) -> usize {
-    history.iter().filter(|call| call.reply == reply).count()
+/// How many calls were refused a context.
+fn count_refused(history: &[Call]) -> usize
+    ensures { result ≡ count_by (λ x. refuses_context x.reply) history.now }
+{
+    let refused = |call: &&Call| matches!(call.reply, Reply::NoContexts);
+    history.iter().filter(refused).count()
+}
+
+/// How many calls came to the end of a thread's program.
+fn count_ended(history: &[Call]) -> usize
+    ensures { result ≡ count_by (λ x. is_end x.reply) history.now }
+{
+    let ended = |call: &&Call| matches!(call.reply, Reply::Ended);
+    history.iter().filter(ended).count()
+}
+
+/// Whether the call made a step.
+fn is_step(call: &Call) -> bool
+    ensures { result ≡ is_granted call.now.reply }
+{
+    matches!(call.reply, Reply::Stepped | Reply::Failed)
+}
+
+/// Marks the threads that made a step.
+fn note_steps(stepped: &mut Vec<bool>, history: &[Call])
+    ensures { MarksGrow (λ i. Some i) (HasStep history.now) stepped.old.items stepped.new.items }
+{
+    for call in history {
+        if is_step(call) {
+            mark(stepped, call.thread as usize);
+        }
+    }
 }
 
 impl Ends {
@@ -94,22 +147,30 @@ impl Ends {
         stuck: 0,
     };
 
-    /// Counts a run of this many threads in which no assertion failed.
-    fn add_run(&mut self, history: &[Call], report: &Report, threads: usize) {
-        let count = if report.left_open > 0 {
-            &mut self.stuck
-        } else if count_replies(history, Reply::NoContexts) > 0 {
-            &mut self.out_of_contexts
-        } else if count_replies(history, Reply::Ended) == threads {
-            &mut self.finished
+    /// Counts a run of this many threads, where no assertion failed in it.
+    fn add_run(&mut self, history: &[Call], report: &Report, threads: usize)
+        ensures { (runs : List MadeRun)
+            → self.old ≡ ends_of threads runs
+            → self.new ≡ ends_of threads (runs ++ made history.now report.now ∷ []) }
+    {
+        if matches!(report.outcome, Outcome::Failed { .. }) {
+            return;
+        }
+        if report.left_open > 0 {
+            self.stuck = self.stuck.saturating_add(1);
+        } else if count_refused(history) > 0 {
+            self.out_of_contexts = self.out_of_contexts.saturating_add(1);
+        } else if count_ended(history) == threads {
+            self.finished = self.finished.saturating_add(1);
         } else {
-            &mut self.cut_off
-        };
-        *count = count.saturating_add(1);
+            self.cut_off = self.cut_off.saturating_add(1);
+        }
     }
 
     /// Adds other counts.
-    fn add(&mut self, other: &Ends) {
+    fn add(&mut self, other: &Ends)
+        ensures { self.new ≡ ends_sum self.old other.now }
+    {
         self.finished = self.finished.saturating_add(other.finished);
         self.out_of_contexts = self.out_of_contexts.saturating_add(other.out_of_contexts);
         self.cut_off = self.cut_off.saturating_add(other.cut_off);
@@ -117,9 +178,37 @@ impl Ends {
     }
 }
 
+impl ContextsUsed {
+    /// The numbers of no run.
+    const NONE: ContextsUsed = ContextsUsed {
+        least: 0,
+        middle: 0,
+        most: 0,
+    };
+
+    /// Adds runs that used this many contexts, where so many runs used fewer, and `half` is half
+    /// the number of all.
+    fn add(&mut self, contexts: u64, before: u64, half: u64)
+        ensures { self.new ≡ contexts_with contexts before half self.old }
+    {
+        if before == 0 {
+            self.least = contexts;
+        }
+        if before < half {
+            self.middle = contexts;
+        }
+        self.most = contexts;
+    }
+}
+
 impl Tally {
     /// The tally of no run.
-    pub(crate) fn new(alloc: Global, code: &Code, setup: &Setup) -> Result<Tally, AllocError> {
+    pub(crate) fn new(alloc: Global, code: &Code, setup: &Setup) -> Result<Tally, AllocError>
+        ensures { IfOk result (λ x.
+            (t : Program)
+            → StandsFor code.now t
+            → IsTally t setup.now [] x) }
+    {
         Ok(Tally {
             runs: 0,
             calls: 0,
@@ -131,29 +220,30 @@ impl Tally {
         })
     }
 
-    /// Notes which threads made a step.
-    fn note_steps(&mut self, history: &[Call]) {
-        for call in history {
-            if matches!(call.reply, Reply::Stepped | Reply::Failed) {
-                mark(&mut self.stepped, call.thread as usize);
-            }
-        }
-    }
-
     /// Adds a run.
-    pub(crate) fn add_run(&mut self, history: &[Call], report: &Report) -> Result<(), AllocError> {
+    pub(crate) fn add_run(&mut self, history: &[Call], report: &Report) -> Result<(), AllocError>
+        ensures counted { OnOk result
+            ((s : SetupOf) (runs : List MadeRun)
+            → IsCounted s runs self.old
+            → IsCounted s (runs ++ made history.now report.now ∷ []) self.new) }
+        ensures reached { OnOk result (self.new.reached.items ≡ self.old.reached.items) }
+    {
         self.runs = self.runs.saturating_add(1);
         self.calls = self.calls.saturating_add(report.calls);
         self.longest = self.longest.max(report.calls);
-        if report.outcome == Outcome::Clean {
-            self.ends.add_run(history, report, self.stepped.len());
-        }
-        self.note_steps(history);
+        self.ends.add_run(history, report, self.stepped.len());
+        note_steps(&mut self.stepped, history);
         count_contexts(&mut self.contexts, report.contexts as usize, 1)
     }
 
     /// Adds the runs of another tally of the same code and setup.
-    pub(crate) fn add(&mut self, other: &Tally) -> Result<(), AllocError> {
+    pub(crate) fn add(&mut self, other: &Tally) -> Result<(), AllocError>
+        ensures { OnOk result
+            ((t : Program) (s : SetupOf) (runs more : List MadeRun)
+            → IsTally t s runs self.old
+            → IsTally t s more other.now
+            → IsTally t s (runs ++ more) self.new) }
+    {
         self.runs = self.runs.saturating_add(other.runs);
         self.calls = self.calls.saturating_add(other.calls);
         self.longest = self.longest.max(other.longest);
@@ -168,26 +258,20 @@ impl Tally {
 
     /// The least, the middle and the greatest number of contexts that the runs used; 0 where there
     /// is no run.
-    pub fn contexts_used(&self) -> ContextsUsed {
-        let mut used = ContextsUsed {
-            least: 0,
-            middle: 0,
-            most: 0,
-        };
+    pub fn contexts_used(&self) -> ContextsUsed
+        ensures { (s : SetupOf) (runs : List MadeRun)
+            → length runs < 2 ^ 64
+            → IsCounted s runs self.now
+            → AreContextsUsed runs result }
+    {
+        let half = self.runs.div_ceil(2);
+        let mut used = ContextsUsed::NONE;
         let mut before = 0u64;
         for (contexts, runs) in self.contexts.iter().enumerate() {
-            if *runs == 0 {
-                continue;
+            if *runs > 0 {
+                used.add(contexts as u64, before, half);
+                before = before.saturating_add(*runs);
             }
-            let contexts = contexts as u64;
-            if before == 0 {
-                used.least = contexts;
-            }
-            if before < self.runs.div_ceil(2) {
-                used.middle = contexts;
-            }
-            used.most = contexts;
-            before = before.saturating_add(*runs);
         }
         used
     }

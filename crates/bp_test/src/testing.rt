@@ -3,7 +3,7 @@ ghost use Rattle.std.specs.Prelude.{◌≡◌, MatchResult};
 ghost use Rattle.bp_tree.specs.Ast.{Program};
 ghost use Rattle.bp_code.specs.StandsFor.{StandsFor};
 ghost use Rattle.bp_machine.specs.Setups.{FitsCode};
-ghost use Rattle.bp_test.specs.Tests.{found_in, IsFound, IsTestRefusal};
+ghost use Rattle.bp_test.specs.Tests.{found_in, IsTest, IsTestRefusal};
 
 use crate::blocks::Block;
 use crate::faults::TestFault;
@@ -68,7 +68,7 @@ pub fn test<R: Threads + Sync, P: Progress, W: Write>(
         → let old = W.contents out.old in
         let new = W.contents out.new in
         MatchResult result
-        (λ x. IsFound t setup.now options.now old new x.found)
+        (IsTest t setup.now options.now old new)
         (IsTestRefusal t setup.now options.now old new) }
 {
     let plan = Plan::new(alloc, code, setup, options.seed, options.with_stuck)?;

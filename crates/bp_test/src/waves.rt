@@ -1,12 +1,13 @@
 //! Waves: blocks of runs that are made side by side.
-ghost use Rattle.std.specs.Prelude.{◌≡◌, ◌<◌, ◌≤◌, ℕ, length, IfOk};
+ghost use Rattle.std.specs.Prelude.{◌≡◌, ◌<◌, ℕ, List, length, IfOk};
 ghost use Rattle.bp_tree.specs.Ast.{Program};
 ghost use Rattle.bp_code.specs.Flat.{Flat};
 ghost use Rattle.bp_code.specs.StandsFor.{StandsFor};
 ghost use Rattle.bp_machine.specs.Setups.{SetupOf, FitsCode};
 ghost use Rattle.bp_test.specs.declared.plans.Plan.{Plan as PlanOf};
-ghost use Rattle.bp_test.specs.Blocks.{start_of_block, AreBlocks};
-ghost use Rattle.bp_test.specs.Tests.{IsFirstFound};
+ghost use Rattle.bp_test.specs.Blocks.{start_of_block, AreBlocks, IsTalliedAfter};
+ghost use Rattle.bp_test.specs.Tallies.{MadeRun, IsTally};
+ghost use Rattle.bp_test.specs.Tests.{IsTallied};
 
 use crate::blocks::{Block, FoundRun, first_found};
 use crate::limits::BLOCK;
@@ -65,9 +66,11 @@ fn first_of(
         → IfOk result (λ found.
         (t : Program)
         → StandsFor k t
+        → (before : List MadeRun)
+        → IsTally t s before tally.old
         → let start = start_of_block from 0 runs in
         let end = start_of_block from (length blocks.items) runs in
-        IsFirstFound t s p.with_stuck p.seed start end found) }
+        IsTalliedAfter before t s p.with_stuck p.seed start end found tally.new) }
 {
     for block in blocks {
         let block = block?;
@@ -96,7 +99,8 @@ pub(crate) fn search<R: Threads + Sync, P: Progress>(
     ensures { IfOk result (λ block.
         (t : Program)
         → StandsFor code.now t
-        → IsFirstFound t setup.now plan.now.with_stuck plan.now.seed 0 runs block.found) }
+        → let p = plan.now in
+        IsTallied t setup.now p.with_stuck p.seed 0 runs block.found block.tally) }
 {
     let mut tally = Tally::new(alloc, code, setup)?;
     let mut from = 0;

@@ -1,7 +1,8 @@
-use Rattle.std.proofs.Common.{◌≡◌}
+use Rattle.std.proofs.Common.{◌≡◌, ◌≤◌, ◌-◌, max, List, length}
 use Rattle.bp_tree.specs.Ast.{Program}
 use Rattle.bp_code.specs.StandsFor.{StandsFor}
-use Rattle.bp_test.specs.Tests.{HasCleanRuns}
+use Rattle.bp_test.specs.Tallies.{MadeRun, IsTally}
+use Rattle.bp_test.specs.Tests.{AreCleanRuns}
 use Rattle.bp_test.proofs.RunsOfTests.{IsReseeded}
 use Rattle.bp_test.proofs.blocks.first_found.Given as goal
 
@@ -9,5 +10,9 @@ abbrev pub invariant-loop-run : goal.invariant-loop-run
 invariant-loop-run l = record {
   code : l.session.code ≡ l.fn.code;
   setup : IsReseeded l.session.setup l.fn.setup;
-  clean : (t : Program) → StandsFor l.fn.code t → HasCleanRuns t l.fn.setup l.fn.plan.with_stuck l.fn.plan.seed l.fn.from l.run;
+  earlier : List MadeRun;
+  count : length earlier ≡ l.run - l.fn.from;
+  ahead : l.run ≤ max l.fn.from l.fn.to;
+  clean : (t : Program) → StandsFor l.fn.code t → AreCleanRuns t l.fn.setup l.fn.plan.with_stuck l.fn.plan.seed l.fn.from earlier;
+  tallied : (t : Program) → StandsFor l.fn.code t → IsTally t l.fn.setup earlier l.tally;
 }

@@ -1,6 +1,8 @@
 use Rattle.std.proofs.Common.{◌∙◌, sym, subst, inr}
 use Rattle.bp_code.specs.Programs.{IsOfProgram}
+use Rattle.bp_code.specs.StandsFor.{StandsFor}
 use Rattle.bp_test.proofs.Playing.{smaller}
+use Rattle.bp_test.proofs.ReachedPlaces.{marks_of_call}
 use Rattle.bp_test.proofs.runs.follow.Goals as goal
 
 pub returns-in_default-clause-over : goal.returns-in_default-clause-over
@@ -12,3 +14,24 @@ pub loop-thread-smaller : goal.loop-thread-smaller
 loop-thread-smaller c =
     let of_some = subst IsOfProgram (sym (c.play.ensures.kept.0 ∙ c.loop-thread.invariant.code)) c.requires.program in
     smaller c.loop-thread.session c.play.new.session c.loop-thread.history.items c.play.new.history.items c.play.ensures.kept.1 of_some c.in_ok-reply.ensures.stands c.in_ok-reply.ensures.longer
+
+pub returns-then-eq-clause-marks : goal.returns-then-eq-clause-marks
+returns-then-eq-clause-marks c = λ t is.
+    let was = subst (λ k. StandsFor k t) c.play.ensures.kept.0 is in
+    marks_of_call t c.loop-thread.session.setup c.play.new.session.setup c.loop-thread.history.items c.play.new.history.items _ _ _ c.args.reached.now.items c.loop-thread.reached.items c.reach.new.reached.items
+    c.play.ensures.kept.1 c.in_ok-reply.ensures.grown
+    (c.next_number-number.ensures t c.loop-thread.history.items was (c.loop-thread.invariant.stands t was))
+    c.reach.ensures (c.loop-thread.invariant.marks t was)
+
+pub loop-thread-preserved : goal.loop-thread-preserved
+loop-thread-preserved c = record {
+  stands = c.in_ok-reply.ensures.stands;
+  code = c.play.ensures.kept.0 ∙ c.loop-thread.invariant.code;
+  setup = c.play.ensures.kept.1 ∙ c.loop-thread.invariant.setup;
+  marks = λ t is.
+      let was = subst (λ k. StandsFor k t) c.play.ensures.kept.0 is in
+      marks_of_call t c.loop-thread.session.setup c.play.new.session.setup c.loop-thread.history.items c.play.new.history.items _ _ _ c.args.reached.now.items c.loop-thread.reached.items c.reach.new.reached.items
+      c.play.ensures.kept.1 c.in_ok-reply.ensures.grown
+      (c.next_number-number.ensures t c.loop-thread.history.items was (c.loop-thread.invariant.stands t was))
+      c.reach.ensures (c.loop-thread.invariant.marks t was);
+}

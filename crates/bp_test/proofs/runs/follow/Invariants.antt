@@ -1,6 +1,9 @@
 use Rattle.std.proofs.Common.{◌≡◌, ◌*◌, ◌-◌, length}
+use Rattle.bp_tree.specs.Ast.{Program}
+use Rattle.bp_code.specs.StandsFor.{StandsFor}
 use Rattle.bp_machine.specs.Sessions.{StandsForAll}
 use Rattle.bp_machine.specs.Setups.{threads}
+use Rattle.bp_test.specs.Reached.{place_of, IsTried, MarksGrow}
 use Rattle.bp_test.proofs.runs.follow.Given as goal
 
 abbrev pub invariant-loop-thread : goal.invariant-loop-thread
@@ -8,6 +11,9 @@ invariant-loop-thread l = record {
   stands : StandsForAll l.session l.history.items;
   code : l.session.code ≡ l.fn.session.code;
   setup : l.session.setup ≡ l.fn.session.setup;
+  marks : (t : Program)
+      → StandsFor l.session.code t
+      → MarksGrow (place_of t) (IsTried t l.session.setup l.history.items) l.fn.reached.items l.reached.items;
 }
 
 abbrev pub decreases-loop-thread : goal.decreases-loop-thread

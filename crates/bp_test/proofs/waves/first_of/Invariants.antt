@@ -1,9 +1,12 @@
-use Rattle.std.proofs.Common.{◌≡◌, ℕ, length}
+use Rattle.std.proofs.Common.{◌≡◌, ℕ, List, length}
 use Rattle.std.specs.Vec.Iter.{into_iter_items, into_iter_len}
+use Rattle.bp_tree.specs.Ast.{Program}
 use Rattle.bp_code.specs.Flat.{Flat}
+use Rattle.bp_code.specs.StandsFor.{StandsFor}
 use Rattle.bp_machine.specs.Setups.{SetupOf}
 use Rattle.bp_test.specs.declared.plans.Plan.{Plan}
 use Rattle.bp_test.specs.Blocks.{AreBlocks}
+use Rattle.bp_test.specs.Tallies.{MadeRun, IsTally}
 use Rattle.bp_test.proofs.BlocksInOrder.{IsBefore}
 use Rattle.bp_test.proofs.waves.first_of.Given as goal
 
@@ -14,5 +17,7 @@ invariant-loop-block l = record {
   count : into_iter_len l.block-iterator ≡ length (into_iter_items l.block-iterator);
   before : (k : Flat) (s : SetupOf) (p : Plan) (from runs : ℕ)
       → AreBlocks k s p from runs 0 l.fn.blocks.items
-      → IsBefore k s p from runs l.fn.blocks.items (into_iter_items l.block-iterator);
+      → (t : Program) (is : StandsFor k t) (earlier : List MadeRun)
+      → IsTally t s earlier l.fn.tally
+      → IsBefore k s p from runs t is earlier l.fn.blocks.items (into_iter_items l.block-iterator) l.tally;
 }

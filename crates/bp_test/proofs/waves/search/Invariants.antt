@@ -1,13 +1,13 @@
-use Rattle.std.proofs.Common.{◌≤◌, ◌-◌}
+use Rattle.std.proofs.Common.{◌≤◌, ◌-◌, None}
 use Rattle.bp_tree.specs.Ast.{Program}
 use Rattle.bp_code.specs.StandsFor.{StandsFor}
-use Rattle.bp_test.specs.Tests.{HasCleanRuns}
+use Rattle.bp_test.specs.Tests.{IsTallied}
 use Rattle.bp_test.proofs.waves.search.Given as goal
 
 abbrev pub invariant-loop-from : goal.invariant-loop-from
 invariant-loop-from g l = record {
   within : l.from ≤ l.fn.runs;
-  clean : (t : Program) → StandsFor l.fn.code t → HasCleanRuns t l.fn.setup l.fn.plan.with_stuck l.fn.plan.seed 0 l.from;
+  tallied : (t : Program) → StandsFor l.fn.code t → IsTallied t l.fn.setup l.fn.plan.with_stuck l.fn.plan.seed 0 l.from None l.tally;
 }
 
 abbrev pub decreases-loop-from : goal.decreases-loop-from

@@ -1,0 +1,192 @@
+-- Counts of runs, and of more of them.
+use Rattle.std.proofs.Common.{◌≡◌, ◌≢◌, ◌⊎◌, ◌<◌, ◌≤◌, ℕ, ◌+◌, ◌^◌, ◌-◌, min, max, Bool, true, false, cond, List, [], ◌∷◌, ◌++◌, length, Some, refl, ap, sym, ◌∙◌, subst, arith, inl, inr, length-append}
+use Rattle.std.specs.Prelude.{if◌then◌else◌, ◌==◌, fold, count_by, sum_by, slice_index_or, Any}
+use Rattle.std.proofs.lemmas.Bool.{cases_lt}
+use Rattle.std.proofs.lemmas.Bool.Decides.{nat_tests}
+use Rattle.std.proofs.lemmas.List.{get_or_past}
+use Rattle.std.proofs.lemmas.List.Sums.{sum_by-append, fold-append}
+use Rattle.bp_machine.proofs.StandsAfterCall.{same_or_not}
+use Rattle.bp_tree.specs.Ast.{Program}
+use Rattle.bp_code.specs.StandsFor.{Place, places_of}
+use Rattle.bp_machine.specs.Setups.{SetupOf, threads}
+use Rattle.bp_test.specs.declared.tallies.Tally.{Tally}
+use Rattle.bp_test.specs.Reached.{is_marked, place_of, AreMarks, HasStep, MarksGrow, Reaches}
+use Rattle.bp_test.specs.Tallies.{MadeRun, capped, calls_of, longest_of, ends_of, ends_sum, using_contexts, count_with, IsCounted, IsTally}
+use Rattle.bp_test.proofs.MarkLemmas.{other_marks, grown_marks, both_marks, any_first, any_later, any_of_both, any_one, one_of_any}
+
+-- a count of both is kept as the sum of what is kept of each
+pub capped_both : (a b n : ℕ) → n ≡ a + b → capped n ≡ capped (capped a + capped b)
+capped_both a b n e = omega (arith, e)
+
+pub count_both : (p : MadeRun → Bool) (xs ys : List MadeRun) → capped (count_by p (xs ++ ys)) ≡ capped (capped (count_by p xs) + capped (count_by p ys))
+count_both p xs ys = capped_both (count_by p xs) (count_by p ys) (count_by p (xs ++ ys)) (sum_by-append _ xs ys)
+
+pub ends_both : (n : ℕ) (xs ys : List MadeRun) → ends_of n (xs ++ ys) ≡ ends_sum (ends_of n xs) (ends_of n ys)
+ends_both n xs ys = simp count_both
+
+pub most_from : (a : ℕ) (xs : List MadeRun) → fold (λ most r. max most (calls_of r)) a xs ≡ max a (longest_of xs)
+most_from a [] = omega arith
+most_from a (x ∷ xs) =
+    let here = most_from (max a (calls_of x)) xs in
+    let zero = most_from (max 0 (calls_of x)) xs in
+    here ∙ (let e : max (max a (calls_of x)) (longest_of xs) ≡ max a (max (max 0 (calls_of x)) (longest_of xs)) = omega arith in e ∙ ap (max a) (sym zero))
+
+pub longest_both : (xs ys : List MadeRun) → longest_of (xs ++ ys) ≡ max (longest_of xs) (longest_of ys)
+longest_both xs ys = fold-append (λ most r. max most (calls_of r)) 0 xs ys ∙ most_from (longest_of xs) ys
+
+-- the steps of some run, where there are more runs
+abbrev pub SomeSteps : List MadeRun → ℕ → Type 0
+SomeSteps runs i = Any (λ r. HasStep r.history i) runs
+
+abbrev pub SomeReaches : Program → SetupOf → List MadeRun → Place → Type 0
+SomeReaches t s runs p = Any (λ r. Reaches t s r.history p) runs
+
+-- the counts of runs and of more of them
+module _ (s : SetupOf) (runs more : List MadeRun) (old new : Tally) (was : IsCounted s runs old) where
+  pub counted_both : new.runs ≡ capped (old.runs + capped (length more))
+      → new.calls ≡ capped (old.calls + capped (sum_by calls_of more))
+      → new.longest ≡ max old.longest (longest_of more)
+      → new.ends ≡ ends_of (threads s) (runs ++ more)
+      → ((k : ℕ) → slice_index_or new.contexts.items k 0 ≡ capped (slice_index_or old.contexts.items k 0 + capped (using_contexts k more)))
+      → AreMarks (λ i. Some i) (λ i. SomeSteps runs i ⊎ SomeSteps more i) (threads s) new.stepped.items
+      → IsCounted s (runs ++ more) new
+  counted_both count calls longest ends contexts stepped = record {
+    count = count ∙ (ap (λ n. capped (n + capped (length more))) was.count ∙ sym (capped_both (length runs) (length more) (length (runs ++ more)) (length-append runs more)));
+    calls = calls ∙ (ap (λ n. capped (n + capped (sum_by calls_of more))) was.calls ∙ sym (capped_both (sum_by calls_of runs) (sum_by calls_of more) (sum_by calls_of (runs ++ more)) (sum_by-append calls_of runs more)));
+    longest = longest ∙ (ap (λ n. max n (longest_of more)) was.longest ∙ sym (longest_both runs more));
+    ends = ends;
+    contexts = λ k. contexts k ∙ (ap (λ n. capped (n + capped (using_contexts k more))) (was.contexts k) ∙ sym (count_both (λ r. r.report.contexts == k) runs more));
+    stepped = other_marks (λ i. Some i) (λ i. SomeSteps runs i ⊎ SomeSteps more i) (SomeSteps (runs ++ more)) (threads s) new.stepped.items
+        (λ i is. elim is [ inl one ↦ any_first (λ r. HasStep r.history i) runs more one | inr two ↦ any_later (λ r. HasStep r.history i) runs more two ])
+        (λ i is. any_of_both (λ r. HasStep r.history i) runs more is)
+        stepped;
+  }
+
+-- the marks of the places, likewise
+pub reached_both : (t : Program) (s : SetupOf) (runs more : List MadeRun) (count : ℕ) (marks : List Bool)
+    → AreMarks (place_of t) (λ p. SomeReaches t s runs p ⊎ SomeReaches t s more p) count marks
+    → AreMarks (place_of t) (SomeReaches t s (runs ++ more)) count marks
+reached_both t s runs more count marks are = other_marks (place_of t) (λ p. SomeReaches t s runs p ⊎ SomeReaches t s more p) (SomeReaches t s (runs ++ more)) count marks
+    (λ p is. elim is [ inl one ↦ any_first (λ r. Reaches t s r.history p) runs more one | inr two ↦ any_later (λ r. Reaches t s r.history p) runs more two ])
+    (λ p is. any_of_both (λ r. Reaches t s r.history p) runs more is)
+    are
+
+pub few_contexts : (s : SetupOf) (runs : List MadeRun) (x : Tally) → IsCounted s runs x → (k : ℕ) → slice_index_or x.contexts.items k 0 ≤ 2 ^ 64 - 1
+few_contexts s runs x was k = let here = was.contexts k in omega (arith, here)
+
+-- one more run
+module _ (s : SetupOf) (runs : List MadeRun) (r : MadeRun) (old new : Tally) (was : IsCounted s runs old) where
+  one_used : (b : Bool) (a : ℕ) → a ≤ 2 ^ 64 - 1 → (if b then capped (a + 1) else a) ≡ capped (a + capped (0 + cond b 1 0))
+  one_used true a few = omega (arith, few)
+  one_used false a few = omega (arith, few)
+
+  pub counted_run : new.runs ≡ min (old.runs + 1) (2 ^ 64 - 1)
+      → new.calls ≡ min (old.calls + r.report.calls) (2 ^ 64 - 1)
+      → new.longest ≡ max old.longest r.report.calls
+      → new.ends ≡ ends_of (threads s) (runs ++ r ∷ [])
+      → ((k : ℕ) → slice_index_or new.contexts.items k 0 ≡ count_with r.report.contexts 1 old.contexts.items k)
+      → MarksGrow (λ i. Some i) (HasStep r.history) old.stepped.items new.stepped.items
+      → IsCounted s (runs ++ r ∷ []) new
+  counted_run count calls longest ends contexts stepped = counted_both s runs (r ∷ []) old new was
+      (omega (arith, count))
+      (omega (arith, calls))
+      (omega (arith, longest))
+      ends
+      (λ k. contexts k ∙ one_used (r.report.contexts == k) (slice_index_or old.contexts.items k 0) (few_contexts s runs old was k))
+      (other_marks (λ i. Some i) (λ i. SomeSteps runs i ⊎ HasStep r.history i) (λ i. SomeSteps runs i ⊎ SomeSteps (r ∷ []) i) (threads s) new.stepped.items
+      (λ i is. elim is [ inl one ↦ inl one | inr here ↦ inr (any_one (λ q. HasStep q.history i) r here) ])
+      (λ i is. elim is [ inl one ↦ inl one | inr here ↦ inr (one_of_any (λ q. HasStep q.history i) r here) ])
+      (grown_marks (λ i. Some i) (SomeSteps runs) (HasStep r.history) (threads s) old.stepped.items new.stepped.items was.stepped stepped))
+
+-- a run whose marks were set before it was counted
+pub tally_run : (t : Program) (s : SetupOf) (runs : List MadeRun) (r : MadeRun) (old new : Tally) (cur : List Bool)
+    → IsTally t s runs old
+    → MarksGrow (place_of t) (Reaches t s r.history) old.reached.items cur
+    → new.reached.items ≡ cur
+    → IsCounted s (runs ++ r ∷ []) new
+    → IsTally t s (runs ++ r ∷ []) new
+tally_run t s runs r old new cur was grow same counted = record {
+  counted = counted;
+  reached = subst (λ marks. AreMarks (place_of t) (SomeReaches t s (runs ++ r ∷ [])) (length (places_of t.procedures)) marks) (sym same) (reached_both t s runs (r ∷ []) (length (places_of t.procedures)) cur
+      (other_marks (place_of t) (λ p. SomeReaches t s runs p ⊎ Reaches t s r.history p) (λ p. SomeReaches t s runs p ⊎ SomeReaches t s (r ∷ []) p) (length (places_of t.procedures)) cur
+      (λ p is. elim is [ inl one ↦ inl one | inr here ↦ inr (any_one (λ q. Reaches t s q.history p) r here) ])
+      (λ p is. elim is [ inl one ↦ inl one | inr here ↦ inr (one_of_any (λ q. Reaches t s q.history p) r here) ])
+      (grown_marks (place_of t) (SomeReaches t s runs) (Reaches t s r.history) (length (places_of t.procedures)) old.reached.items cur was.reached grow)));
+}
+
+-- a tally that differs in its marks alone has the same counts
+pub same_counts : (s : SetupOf) (runs : List MadeRun) (old new : Tally) → new.runs ≡ old.runs → new.calls ≡ old.calls → new.longest ≡ old.longest → new.ends ≡ old.ends → new.contexts ≡ old.contexts → new.stepped ≡ old.stepped
+    → IsCounted s runs old → IsCounted s runs new
+same_counts s runs old new count calls longest ends contexts stepped was = record {
+  count = count ∙ was.count;
+  calls = calls ∙ was.calls;
+  longest = longest ∙ was.longest;
+  ends = ends ∙ was.ends;
+  contexts = λ k. ap (λ v. slice_index_or v.items k 0) contexts ∙ was.contexts k;
+  stepped = subst (λ v. AreMarks (λ i. Some i) (SomeSteps runs) (threads s) v.items) (sym stepped) was.stepped;
+}
+
+-- the tallies of runs and of more of them
+pub tally_both : (t : Program) (s : SetupOf) (runs more : List MadeRun) (old other new : Tally)
+    → IsTally t s runs old
+    → IsTally t s more other
+    → new.runs ≡ min (old.runs + other.runs) (2 ^ 64 - 1)
+    → new.calls ≡ min (old.calls + other.calls) (2 ^ 64 - 1)
+    → new.longest ≡ max old.longest other.longest
+    → new.ends ≡ ends_sum old.ends other.ends
+    → ((k : ℕ) → slice_index_or new.contexts.items k 0 ≡ capped (slice_index_or old.contexts.items k 0 + slice_index_or other.contexts.items k 0))
+    → MarksGrow (λ i. Some i) (λ n. is_marked other.stepped.items n ≡ true) old.stepped.items new.stepped.items
+    → MarksGrow (λ i. Some i) (λ n. is_marked other.reached.items n ≡ true) old.reached.items new.reached.items
+    → IsTally t s (runs ++ more) new
+tally_both t s runs more old other new was also count calls longest ends contexts stepped reached = record {
+  counted = counted_both s runs more old new was.counted
+      (count ∙ ap (λ n. capped (old.runs + n)) also.counted.count)
+      (calls ∙ ap (λ n. capped (old.calls + n)) also.counted.calls)
+      (longest ∙ ap (λ n. max old.longest n) also.counted.longest)
+      (ends ∙ (ap (λ e. ends_sum old.ends e) also.counted.ends ∙ (ap (λ e. ends_sum e (ends_of (threads s) more)) was.counted.ends ∙ sym (ends_both (threads s) runs more))))
+      (λ k. contexts k ∙ ap (λ n. capped (slice_index_or old.contexts.items k 0 + n)) (also.counted.contexts k))
+      (both_marks (λ i. Some i) (SomeSteps runs) (SomeSteps more) (threads s) old.stepped.items other.stepped.items new.stepped.items was.counted.stepped also.counted.stepped stepped);
+  reached = reached_both t s runs more (length (places_of t.procedures)) new.reached.items
+      (both_marks (place_of t) (SomeReaches t s runs) (SomeReaches t s more) (length (places_of t.procedures)) old.reached.items other.reached.items new.reached.items was.reached also.reached reached);
+}
+
+-- counts that are added one after the other, up to count i
+module _ (i x : ℕ) (start now new items : List ℕ) (is : x ≡ slice_index_or items i 0) (step : (k : ℕ) → slice_index_or new k 0 ≡ count_with i x now k) where
+  with_same : (k : ℕ) → i ≡ k → slice_index_or new k 0 ≡ capped (slice_index_or now k 0 + x)
+  with_same k same = by (i == k) refl
+    where
+      by : (b : Bool) → (i == k) ≡ b → slice_index_or new k 0 ≡ capped (slice_index_or now k 0 + x)
+      by true e = step k ∙ ap (λ c. if c then capped (slice_index_or now k 0 + x) else slice_index_or now k 0) e
+      by false e = absurd (grind (arith, nat_tests, e, same))
+
+  with_other : (k : ℕ) → i ≢ k → slice_index_or new k 0 ≡ slice_index_or now k 0
+  with_other k other = by (i == k) refl
+    where
+      by : (b : Bool) → (i == k) ≡ b → slice_index_or new k 0 ≡ slice_index_or now k 0
+      by true e = absurd (other (grind (arith, nat_tests, e)))
+      by false e = step k ∙ ap (λ c. if c then capped (slice_index_or now k 0 + x) else slice_index_or now k 0) e
+
+  module _ (below : (k : ℕ) → k < i → slice_index_or now k 0 ≡ capped (slice_index_or start k 0 + slice_index_or items k 0)) (above : (k : ℕ) → i ≤ k → slice_index_or now k 0 ≡ slice_index_or start k 0) where
+    pub below_next : (k : ℕ) → k < i + 1 → slice_index_or new k 0 ≡ capped (slice_index_or start k 0 + slice_index_or items k 0)
+    below_next k within = elim (same_or_not i k) [
+      | inl same ↦
+          with_same k same ∙ ap capped (let past : i ≤ k = omega (arith, same) in ap (λ n. n + x) (above k past) ∙ ap (λ n. slice_index_or start k 0 + n) (is ∙ ap (λ n. slice_index_or items n 0) same))
+      | inr other ↦ with_other k other ∙ below k (omega (arith, within, other))
+    ]
+
+    pub above_next : (k : ℕ) → i + 1 ≤ k → slice_index_or new k 0 ≡ slice_index_or start k 0
+    above_next k past = with_other k (omega (arith, past)) ∙ above k (omega (arith, past))
+
+pub all_added : (i : ℕ) (start now items : List ℕ) → length items ≤ i
+    → ((k : ℕ) → k < i → slice_index_or now k 0 ≡ capped (slice_index_or start k 0 + slice_index_or items k 0))
+    → ((k : ℕ) → i ≤ k → slice_index_or now k 0 ≡ slice_index_or start k 0)
+    → ((k : ℕ) → slice_index_or start k 0 ≤ 2 ^ 64 - 1)
+    → (k : ℕ) → slice_index_or now k 0 ≡ capped (slice_index_or start k 0 + slice_index_or items k 0)
+all_added i start now items past below above few k = elim (cases_lt k i) [
+  | inl within ↦ below k within
+  | inr far ↦
+      let none = get_or_past items k 0 (let at : length items ≤ k = omega (arith, past, far) in at) in
+      let same = above k far in
+      let small = few k in
+      omega (arith, none, same, small)
+]

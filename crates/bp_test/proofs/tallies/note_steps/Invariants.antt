@@ -1,0 +1,6 @@
+use Rattle.std.proofs.Common.{take, Some}
+use Rattle.bp_test.specs.Reached.{HasStep, MarksGrow}
+use Rattle.bp_test.proofs.tallies.note_steps.Given as goal
+
+abbrev pub invariant-loop-call : goal.invariant-loop-call
+invariant-loop-call l = MarksGrow (λ i. Some i) (HasStep (take l.call-index l.history)) l.fn.stepped.items l.stepped.items

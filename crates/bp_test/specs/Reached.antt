@@ -1,0 +1,94 @@
+-- The places of a program that a history reaches, the threads that step in it, and marks of both.
+use Rattle.std.specs.Prelude.{◌≡◌, ◌⊎◌, ◌<◌, ℕ, Bool, true, false, if◌then◌else◌, List, [], ◌∷◌, Option, None, Some, length, take, slice_get, slice_index_or, slice_set, MatchOption}
+use Rattle.bp_tree.specs.Ast.{Program}
+use Rattle.bp_code.specs.Configurations.{Frame, Configuration}
+use Rattle.bp_code.specs.StandsFor.{Place, place, places_of}
+use Rattle.bp_machine.specs.declared.calls.Call.{Call}
+use Rattle.bp_machine.specs.declared.calls.Reply.{Reply}
+use Rattle.bp_machine.specs.declared.calls.Reply.TheVariants.{NoContexts}
+use Rattle.bp_machine.specs.Answers.{stack_of}
+use Rattle.bp_machine.specs.Histories.{configuration_after, is_finished}
+use Rattle.bp_machine.specs.Replies.{is_granted}
+use Rattle.bp_machine.specs.Setups.{SetupOf, threads}
+use Rattle.bp_machine.specs.Waiting.{waits}
+
+-- the thread was refused a context
+abbrev pub refuses_context : Reply → Bool
+refuses_context NoContexts = true
+refuses_context r = false
+
+-- where a stack continues
+abbrev pub place_on : List Frame → Option Place
+place_on [] = None
+place_on (f ∷ fs) = Some (place f.procedure f.left)
+
+-- where thread i continues
+abbrev pub next_place : Configuration → ℕ → Option Place
+next_place c i = place_on (stack_of c i)
+
+-- in the history a thread tried the step of this place, and was not refused a context for it
+pub record IsTried (t : Program) (s : SetupOf) (h : List Call) (x : Place) : Type 0 where
+  pub before : ℕ
+  pub call : Call
+  pub has : slice_get h before ≡ Some call
+  pub tried : refuses_context call.reply ≡ false
+  pub next : next_place (configuration_after t s (take before h)) call.thread ≡ Some x
+
+-- in the end a thread whose line is open waits at this place
+pub record IsWaitedAt (t : Program) (s : SetupOf) (h : List Call) (x : Place) : Type 0 where
+  pub thread : ℕ
+  pub within : thread < threads s
+  pub unfinished : is_finished s h thread ≡ false
+  pub has_to_wait : waits t (configuration_after t s h) thread ≡ true
+  pub next : next_place (configuration_after t s h) thread ≡ Some x
+
+abbrev pub Reaches : Program → SetupOf → List Call → Place → Type 0
+Reaches t s h x = IsTried t s h x ⊎ IsWaitedAt t s h x
+
+-- thread i made a step in the history
+pub record HasStep (h : List Call) (i : ℕ) : Type 0 where
+  pub number : ℕ
+  pub call : Call
+  pub has : slice_get h number ≡ Some call
+  pub granted : is_granted call.reply ≡ true
+  pub thread : call.thread ≡ i
+
+abbrev pub is_marked : List Bool → ℕ → Bool
+is_marked marks n = slice_index_or marks n false
+
+-- Of so many marks, those of what P holds of are set. Mark n is that of what stands at n.
+pub record AreMarks
+    {X : Type 0} (at : ℕ → Option X) (P : X → Type 0) (count : ℕ) (marks : List Bool)
+    : Type 0 where
+  pub size : length marks ≡ count
+  pub only : (n : ℕ) → is_marked marks n ≡ true → (x : X) × (at n ≡ Some x) × P x
+  pub all : (x : X) → P x
+      → (n : ℕ) × (at n ≡ Some x) × (n < count → is_marked marks n ≡ true)
+
+-- a mark for each instruction of the program's code: that of its place
+abbrev pub place_of : Program → ℕ → Option Place
+place_of t n = slice_get (places_of t.procedures) n
+
+-- What follows are devices of the proofs.
+
+-- the old marks, and those of what P holds of, are set
+pub record MarksGrow
+    {X : Type 0} (at : ℕ → Option X) (P : X → Type 0) (old new : List Bool) : Type 0 where
+  pub size : length new ≡ length old
+  pub kept : (n : ℕ) → is_marked old n ≡ true → is_marked new n ≡ true
+  pub only : (n : ℕ) → is_marked new n ≡ true
+      → (is_marked old n ≡ true) ⊎ ((x : X) × (at n ≡ Some x) × P x)
+  pub all : (x : X) → P x
+      → (n : ℕ) × (at n ≡ Some x) × (n < length new → is_marked new n ≡ true)
+
+-- the number of the instruction at this place, if there is one
+abbrev pub IsNumberOf : Program → Option Place → Option ℕ → Type 0
+IsNumberOf t next number =
+    MatchOption number
+    (next ≡ None)
+    (λ n. (x : Place) × (next ≡ Some x) × (place_of t n ≡ Some x))
+
+-- the marks after an instruction was tried with this reply
+abbrev pub marks_after : Option ℕ → Reply → List Bool → List Bool
+marks_after None r marks = marks
+marks_after (Some n) r marks = if refuses_context r then marks else slice_set marks n true

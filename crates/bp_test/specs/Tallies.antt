@@ -1,0 +1,119 @@
+-- What the runs of a test came to, counted.
+use Rattle.std.specs.Prelude.{◌≡◌, ◌==◌, ◌^◌, ◌+◌, ◌-◌, if◌then◌else◌, ℕ, min, max, Bool, true, false, not, ◌&&◌, nat_le, List, Some, length, fold, count_by, sum_by, slice_index_or, Any}
+use Rattle.bp_tree.specs.Ast.{Program}
+use Rattle.bp_code.specs.StandsFor.{places_of}
+use Rattle.bp_machine.specs.declared.calls.Call.{Call}
+use Rattle.bp_machine.specs.declared.calls.Reply.{Reply}
+use Rattle.bp_machine.specs.declared.calls.Reply.TheVariants.{Ended}
+use Rattle.bp_machine.specs.declared.reports.Report.{Report}
+use Rattle.bp_machine.specs.Reports.{is_failure}
+use Rattle.bp_machine.specs.Setups.{SetupOf, threads}
+use Rattle.bp_test.specs.declared.tallies.Ends.{Ends}
+use Rattle.bp_test.specs.declared.tallies.Tally.{Tally}
+use Rattle.bp_test.specs.Reached.{refuses_context, place_of, AreMarks, HasStep, Reaches}
+
+-- a run that was made: its history, and the report of that
+pub record MadeRun : Type 0 where
+  pub history : List Call
+  pub report : Report
+
+abbrev pub made : List Call → Report → MadeRun
+made h r = record { history = h; report = r }
+
+-- a count as it is kept, in 64 bits
+abbrev pub capped : ℕ → ℕ
+capped n = min n (2 ^ 64 - 1)
+
+-- the thread came to the end of its program
+abbrev pub is_end : Reply → Bool
+is_end Ended = true
+is_end r = false
+
+-- Each run ended in one of these ways, the first that applies: an assertion failed; some lines are
+-- open; a thread was refused a context; each thread came to its end; none of these.
+abbrev pub fails : MadeRun → Bool
+fails r = is_failure r.report.outcome
+
+abbrev pub leaves_open : MadeRun → Bool
+leaves_open r = nat_le 1 r.report.left_open
+
+abbrev pub lacks_contexts : MadeRun → Bool
+lacks_contexts r = nat_le 1 (count_by (λ x. refuses_context x.reply) r.history)
+
+abbrev pub has_ends : (count : ℕ) → MadeRun → Bool
+has_ends count r = count_by (λ x. is_end x.reply) r.history == count
+
+abbrev pub is_stuck_run : MadeRun → Bool
+is_stuck_run r = not (fails r) && leaves_open r
+
+abbrev pub is_out_of_contexts : MadeRun → Bool
+is_out_of_contexts r = not (fails r) && (not (leaves_open r) && lacks_contexts r)
+
+abbrev pub is_finished_run : (count : ℕ) → MadeRun → Bool
+is_finished_run count r =
+    not (fails r) && (not (leaves_open r) && (not (lacks_contexts r) && has_ends count r))
+
+abbrev pub is_cut_off : (count : ℕ) → MadeRun → Bool
+is_cut_off count r =
+    not (fails r) && (not (leaves_open r) && (not (lacks_contexts r) && not (has_ends count r)))
+
+-- how many runs of so many threads ended in each way
+abbrev pub ends_of : (count : ℕ) → List MadeRun → Ends
+ends_of count runs =
+    record {
+      finished = capped (count_by (is_finished_run count) runs);
+      out_of_contexts = capped (count_by is_out_of_contexts runs);
+      cut_off = capped (count_by (is_cut_off count) runs);
+      stuck = capped (count_by is_stuck_run runs);
+    }
+
+-- how many calls a run made
+abbrev pub calls_of : MadeRun → ℕ
+calls_of r = r.report.calls
+
+abbrev pub longest_of : List MadeRun → ℕ
+longest_of runs = fold (λ most r. max most (calls_of r)) 0 runs
+
+-- how many runs used k contexts
+abbrev pub using_contexts : ℕ → List MadeRun → ℕ
+using_contexts k runs = count_by (λ r. r.report.contexts == k) runs
+
+-- the tally of these runs, but for the instructions that they reached
+pub record IsCounted (s : SetupOf) (runs : List MadeRun) (x : Tally) : Type 0 where
+  pub count : x.runs ≡ capped (length runs)
+  pub calls : x.calls ≡ capped (sum_by calls_of runs)
+  pub longest : x.longest ≡ longest_of runs
+  pub ends : x.ends ≡ ends_of (threads s) runs
+  pub contexts : (k : ℕ) → slice_index_or x.contexts.items k 0 ≡ capped (using_contexts k runs)
+  pub stepped :
+      AreMarks (λ i. Some i) (λ i. Any (λ r. HasStep r.history i) runs) (threads s) x.stepped.items
+
+-- these marks of instructions are of the places that these runs reached
+abbrev pub HasReached : Program → SetupOf → List MadeRun → List Bool → Type 0
+HasReached t s runs marks =
+    AreMarks (place_of t)
+    (λ p. Any (λ r. Reaches t s r.history p) runs)
+    (length (places_of t.procedures))
+    marks
+
+-- the tally of these runs
+pub record IsTally (t : Program) (s : SetupOf) (runs : List MadeRun) (x : Tally) : Type 0 where
+  pub counted : IsCounted s runs x
+  pub reached : HasReached t s runs x.reached.items
+
+-- What follows are devices of the proofs.
+
+-- counts of runs and of more of them
+abbrev pub ends_sum : Ends → Ends → Ends
+ends_sum a b =
+    record {
+      finished = capped (a.finished + b.finished);
+      out_of_contexts = capped (a.out_of_contexts + b.out_of_contexts);
+      cut_off = capped (a.cut_off + b.cut_off);
+      stuck = capped (a.stuck + b.stuck);
+    }
+
+-- count k after so many runs used some number of contexts
+abbrev pub count_with : (used runs : ℕ) → List ℕ → ℕ → ℕ
+count_with used runs counts k =
+    if used == k then capped (slice_index_or counts k 0 + runs) else slice_index_or counts k 0
