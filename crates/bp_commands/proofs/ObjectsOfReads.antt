@@ -5,6 +5,9 @@ use Rattle.bp_commands.specs.declared.fault_formats.FaultFormat.TheVariants as f
 use Rattle.bp_commands.specs.declared.inputs.InputFault.{InputFault}
 use Rattle.bp_commands.specs.declared.inputs.InputFault.TheVariants as input
 use Rattle.bp_commands.specs.declared.faults.Fault.{Fault}
+use Rattle.bp_text.specs.declared.writing.WriteFault.{WriteFault}
+use Rattle.bp_commands.specs.declared.ends.Explained.{Explained}
+use Rattle.bp_commands.specs.declared.ends.RunEnd.{RunEnd}
 use Rattle.bp_commands.specs.Ends.{Ending, Ends}
 use Rattle.bp_commands.specs.Explanations.{AreReadOr}
 use Rattle.bp_commands.specs.Faults.{fault_of_input, fault_of_text}
@@ -24,18 +27,18 @@ module _ {X R : Type 0} (inputs : Inputs X) (IsObject : X → Fault → List ℕ
   read_or_nowhere (Ok r) final held now f (inr never) flushed is = absurd never
   read_or_nowhere (Err g) final held now f (inr why) flushed is = inr (subst NamesNoByte (sym (same_fault f g final held now flushed is)) (unread g why))
 
-  reports : (kind : FaultFormat) (done final : Result R Fault) (held now : Option (List ℕ)) (f : Fault) (old new : Option (List ℕ)) → AreReadOr inputs given done → IsFlushed done held final now → final ≡ Err f
-      → IsReported kind (IsObject given) f old new → IsReported kind (IsObjectRead inputs IsObject) f old new
-  reports format.Line done final held now f old new read flushed is reported = reported
-  reports format.Explained done final held now f old new read flushed is reported = reported
-  reports format.Json done final held now f old new read flushed is (object, of, written) =
+  reports : (kind : FaultFormat) (done final : Result R Fault) (held now : Option (List ℕ)) (f : Fault) (old new : Option (List ℕ)) (told : Result (Unit {0}) WriteFault) → AreReadOr inputs given done → IsFlushed done held final now → final ≡ Err f
+      → IsReported kind (IsObject given) f old new told → IsReported kind (IsObjectRead inputs IsObject) f old new told
+  reports format.Line done final held now f old new told read flushed is reported = reported
+  reports format.Explained done final held now f old new told read flushed is reported = reported
+  reports format.Json done final held now f old new told read flushed is (object, of, written) =
       (object, record { given = given; read = read_or_nowhere done final held now f read flushed is; is = of }, written)
 
-  pub ends_read : (ending : Ending R) (kind : FaultFormat) (done final : Result R Fault) (held now : Option (List ℕ)) (status : ℕ) (old new : Option (List ℕ)) → AreReadOr inputs given done → IsFlushed done held final now
-      → Ends ending (IsReported kind (IsObject given)) final status old new → Ends ending (IsReported kind (IsObjectRead inputs IsObject)) final status old new
-  ends_read ending kind done (Ok r) held now status old new read flushed ends = ends
-  ends_read ending kind done (Err f) held now status old new read flushed (status_is, reported) =
-      (status_is, reports kind done (Err f) held now f old new read flushed refl reported)
+  pub ends_read : (ending : Ending R) (kind : FaultFormat) (done final : Result R Fault) (held now : Option (List ℕ)) (e : RunEnd) (x : Explained) (old new : Option (List ℕ)) → AreReadOr inputs given done → IsFlushed done held final now
+      → Ends ending (IsReported kind (IsObject given)) final e old new → Ends ending (IsReported kind (IsObjectRead inputs IsObject)) final (record { status = e.status; told = e.told; explained = x }) old new
+  ends_read ending kind done (Ok r) held now e x old new read flushed ends = ends
+  ends_read ending kind done (Err f) held now e x old new read flushed (status_is, reported) =
+      (status_is, reports kind done (Err f) held now f old new e.told read flushed refl reported)
 
 no_byte_of_text : (cause : InputFault) → NamesNoByte (fault_of_text cause)
 no_byte_of_text input.Device = refl

@@ -1,10 +1,13 @@
 -- How a run ends: its exit status, and what it leaves on standard error.
-use Rattle.std.specs.Prelude.{◌≡◌, ◌⊎◌, ℕ, List, [], ◌∷◌, Option, None, Result, Ok, Err, Bool, true, false}
-use Rattle.bp_text.specs.Writing.{AppendsAll, AppendsPart}
+use Rattle.std.specs.Prelude.{◌≡◌, ℕ, List, [], ◌∷◌, Option, None, Result, Ok, Err, Bool, true, false}
+use Rattle.bp_text.specs.Writing.{Writes}
+use Rattle.bp_text.specs.declared.writing.WriteFault.{WriteFault}
 use Rattle.bp_machine.specs.declared.reports.Outcome.{Outcome}
 use Rattle.bp_machine.specs.declared.reports.Outcome.TheVariants.{Clean, Failed}
 use Rattle.bp_machine.specs.declared.reports.Report.{Report}
 use Rattle.bp_run.specs.declared.answers.RunReport.{RunReport}
+use Rattle.bp_commands.specs.declared.ends.Explained.{Explained}
+use Rattle.bp_commands.specs.declared.ends.RunEnd.{RunEnd}
 use Rattle.bp_commands.specs.declared.faults.Fault.{Fault}
 use Rattle.bp_commands.specs.FaultTable.{exit_status, fault_line, status_of}
 
@@ -34,24 +37,29 @@ of_run = record { failed = λ r. report_failed r.report; summary = λ _. [] }
 abbrev pub never : {T : Type 0} → Ending T
 never = record { failed = λ _. false; summary = λ _. [] }
 
--- the line was written, or a proper prefix of it where standard error failed
-abbrev pub HasLine : List ℕ → Option (List ℕ) → Option (List ℕ) → Type 0
-HasLine line old new = AppendsAll old new line ⊎ AppendsPart old new line
+-- nothing was to be explained
+abbrev pub nothing_explained : Explained
+nothing_explained = record { lines = Ok tt; told = Ok tt }
 
--- a summary was written as a line is; nothing was written where there is none
-abbrev pub HasSummary : List ℕ → Option (List ℕ) → Option (List ℕ) → Type 0
-HasSummary [] old new = new ≡ old
-HasSummary (b ∷ bs) old new = HasLine (b ∷ bs) old new
+-- a summary was written, and whether it was written whole was told; nothing was written where
+-- there is none
+abbrev pub HasSummary
+    : List ℕ → Option (List ℕ) → Option (List ℕ) → Result (Unit {0}) WriteFault → Type 0
+HasSummary [] old new told = (new ≡ old) × (told ≡ Ok tt)
+HasSummary (b ∷ bs) old new told = Writes old new (b ∷ bs) told
 
--- the line of a fault was written as lines are
-abbrev pub HasFaultLine : Fault → Option (List ℕ) → Option (List ℕ) → Type 0
-HasFaultLine f old new = HasLine (fault_line f) old new
+-- the line of a fault was written, and whether it was written whole was told
+abbrev pub HasFaultLine
+    : Fault → Option (List ℕ) → Option (List ℕ) → Result (Unit {0}) WriteFault → Type 0
+HasFaultLine f old new told = Writes old new (fault_line f) told
 
 module _
     {T : Type 0} (ending : Ending T)
-    (IsReported : Fault → Option (List ℕ) → Option (List ℕ) → Type 0) where
+    (IsReported
+    : Fault → Option (List ℕ) → Option (List ℕ) → Result (Unit {0}) WriteFault → Type 0) where
   -- the status of the answer, and its summary or the report of its fault
-  abbrev pub Ends : Result T Fault → ℕ → Option (List ℕ) → Option (List ℕ) → Type 0
-  Ends (Ok answer) status old new =
-      (status ≡ exit_status (ending.failed answer) None) × HasSummary (ending.summary answer) old new
-  Ends (Err f) status old new = (status ≡ status_of f) × IsReported f old new
+  abbrev pub Ends : Result T Fault → RunEnd → Option (List ℕ) → Option (List ℕ) → Type 0
+  Ends (Ok answer) e old new =
+      (e.status ≡ exit_status (ending.failed answer) None)
+      × HasSummary (ending.summary answer) old new e.told
+  Ends (Err f) e old new = (e.status ≡ status_of f) × IsReported f old new e.told

@@ -1,10 +1,11 @@
 -- A run of a command, from its inputs to the exit status, and what it leaves on both streams.
 use Rattle.std.specs.Prelude.{ℕ, List, Option, None, Some, Result}
+use Rattle.bp_commands.specs.declared.ends.RunEnd.{RunEnd}
 use Rattle.bp_commands.specs.declared.faults.Fault.{Fault}
 use Rattle.bp_commands.specs.Commands.{Command, Answers}
 use Rattle.bp_commands.specs.Ends.{Ending, Ends}
 use Rattle.bp_commands.specs.declared.fault_formats.FaultFormat.{FaultFormat}
-use Rattle.bp_commands.specs.Explanations.{ExplainsRead, IsTold}
+use Rattle.bp_commands.specs.Explanations.{IsSaidOfRead, IsTold}
 use Rattle.bp_commands.specs.Flushes.{IsFlushed}
 use Rattle.bp_commands.specs.Given.{Inputs, Pair, text_and}
 use Rattle.bp_commands.specs.Tellings.{is_explained, IsObjectRead, IsReported, Telling}
@@ -27,7 +28,7 @@ module _
     {L X R : Type 0} (command : Command X R) (ending : Ending R) (inputs : L → Inputs X)
     (telling : Telling X) (format : FaultFormat)
     (old new errors_old errors_new : Option (List ℕ)) where
-  pub record IsRun (status : ℕ) : Type 0 where
+  pub record IsRun (end : RunEnd) : Type 0 where
     pub left : L
     pub held : Option (List ℕ)
     pub done : Result R Fault
@@ -37,7 +38,7 @@ module _
     pub told : Option (List ℕ)
     pub ends :
         let reported = IsReported format (IsObjectRead (inputs left) telling.IsObject) in
-        Ends ending reported final status errors_old told
+        Ends ending reported final end errors_old told
     pub explained :
-        let explains = ExplainsRead (inputs left) telling.Explains in
-        IsTold (is_explained format) explains final told errors_new
+        let said = IsSaidOfRead (inputs left) telling.Explains in
+        IsTold (is_explained format) said final end.explained told errors_new

@@ -1,12 +1,14 @@
 -- What is told of a refusal on standard error, in each format.
-use Rattle.std.specs.Prelude.{◌≡◌, ◌⊎◌, ℕ, List, Option, None, Some, Bool, true, false}
+use Rattle.std.specs.Prelude.{◌≡◌, ◌⊎◌, ℕ, List, Option, None, Some, Result, Bool, true, false}
+use Rattle.bp_text.specs.Writing.{Writes}
+use Rattle.bp_text.specs.declared.writing.WriteFault.{WriteFault}
 use Rattle.bp_commands.specs.declared.explanations.Beside.{Beside}
 use Rattle.bp_commands.specs.declared.explanations.Beside.TheVariants as beside
 use Rattle.bp_commands.specs.declared.fault_formats.FaultFormat.{FaultFormat}
 use Rattle.bp_commands.specs.declared.fault_formats.FaultFormat.TheVariants as format
 use Rattle.bp_commands.specs.declared.faults.Fault.{Fault}
 use Rattle.bp_commands.specs.declared.faults.Fault.TheVariants.{Device, TooLong, Program, Setup, Schedule, Trace, NoFailure}
-use Rattle.bp_commands.specs.Ends.{HasFaultLine, HasLine}
+use Rattle.bp_commands.specs.Ends.{HasFaultLine}
 use Rattle.bp_commands.specs.Explanations.{ExplainsPair, ExplainsText}
 use Rattle.bp_commands.specs.FaultObjects.{byte_of, fault_object}
 use Rattle.bp_commands.specs.FaultTable.{fault_row}
@@ -18,12 +20,13 @@ is_explained format.Explained = true
 is_explained other = false
 
 -- The fault is reported in this format: its line was written, or one of these objects in its place;
--- or a proper prefix where standard error failed.
+-- and whether it was written whole was told.
 abbrev pub IsReported
-    : FaultFormat → (Fault → List ℕ → Type 0) → Fault → Option (List ℕ) → Option (List ℕ) → Type 0
-IsReported format.Json IsObject f old new =
-    (object : List ℕ) × IsObject f object × HasLine object old new
-IsReported other IsObject f old new = HasFaultLine f old new
+    : FaultFormat → (Fault → List ℕ → Type 0) → Fault
+    → Option (List ℕ) → Option (List ℕ) → Result (Unit {0}) WriteFault → Type 0
+IsReported format.Json IsObject f old new told =
+    (object : List ℕ) × IsObject f object × Writes old new object told
+IsReported other IsObject f old new told = HasFaultLine f old new told
 
 -- the file that a fault of a command on one program is in
 abbrev pub file_of_text : List ℕ → Fault → Option (List ℕ)

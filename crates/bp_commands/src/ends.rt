@@ -1,12 +1,14 @@
 //! How a run ends: the line on standard error, and the exit status.
 ghost use Rattle.std.specs.Prelude.{◌≡◌};
-ghost use Rattle.bp_commands.specs.Ends.{Ending, Ends, HasFaultLine, HasSummary, never, of_report, of_run};
+ghost use Rattle.bp_commands.specs.Ends.{Ending, Ends, HasFaultLine, HasSummary, never, nothing_explained, of_report, of_run};
 
 use crate::fault_lines::show_fault;
 use crate::fault_table::exit_status;
 use crate::faults::Fault;
 use bp_machine::{Outcome, Report};
 use bp_run::RunReport;
+use bp_text::WriteFault;
+use std::alloc::AllocError;
 use std::io::Write;
 
 /// What a command answers.
@@ -17,10 +19,10 @@ pub trait Ended {
     fn has_failed(&self) -> bool
         ensures { result ≡ ending.failed self.now };
 
-    /// Writes the summary, where there is one. No failed write is reported.
-    fn summarize<E: Write>(&self, errors: &mut E)
+    /// Writes the summary, where there is one.
+    fn summarize<E: Write>(&self, errors: &mut E) -> Result<(), WriteFault>
         ensures { HasSummary (ending.summary self.now)
-            (E.contents errors.old) (E.contents errors.new) };
+            (E.contents errors.old) (E.contents errors.new) result };
 }
 
 impl Ended for () {
@@ -30,7 +32,9 @@ impl Ended for () {
         false
     }
 
-    fn summarize<E: Write>(&self, _errors: &mut E) {}
+    fn summarize<E: Write>(&self, _errors: &mut E) -> Result<(), WriteFault> {
+        Ok(())
+    }
 }
 
 impl Ended for Report {
@@ -40,7 +44,9 @@ impl Ended for Report {
         matches!(self.outcome, Outcome::Failed { .. })
     }
 
-    fn summarize<E: Write>(&self, _errors: &mut E) {}
+    fn summarize<E: Write>(&self, _errors: &mut E) -> Result<(), WriteFault> {
+        Ok(())
+    }
 }
 
 impl Ended for RunReport {
@@ -50,24 +56,55 @@ impl Ended for RunReport {
         self.report.has_failed()
     }
 
-    fn summarize<E: Write>(&self, _errors: &mut E) {}
+    fn summarize<E: Write>(&self, _errors: &mut E) -> Result<(), WriteFault> {
+        Ok(())
+    }
+}
+
+/// What became of the explanation of a refusal.
+#[derive(Clone, Copy, Debug, PartialEq, Eq)]
+pub struct Explained {
+    /// Whether memory was there for it. Else the words of the fault stand in its place.
+    pub lines: Result<(), AllocError>,
+    /// Whether standard error took all of it.
+    pub told: Result<(), WriteFault>,
+}
+
+impl Explained {
+    /// Nothing was to be explained.
+    pub(crate) const NOTHING: Explained = Explained {
+        lines: Ok(()),
+        told: Ok(()),
+    };
+}
+
+/// How a run ends, and what became of what was said on standard error.
+#[derive(Clone, Copy, Debug, PartialEq, Eq)]
+pub struct RunEnd {
+    /// The exit status. It does not depend on the other parts.
+    pub status: u8,
+    /// Whether standard error took all of the summary, or of the line or the object of the fault.
+    pub told: Result<(), WriteFault>,
+    pub explained: Explained,
 }
 
 /// Ends a run by what its command answered: writes its summary or the line of its fault, where
-/// there is one, and answers the exit status.
-pub fn end<T: Ended, E: Write>(done: &Result<T, Fault>, errors: &mut E) -> u8
-    ensures { Ends T.ending HasFaultLine done.now result
+/// there is one. Nothing is explained.
+pub fn end<T: Ended, E: Write>(done: &Result<T, Fault>, errors: &mut E) -> RunEnd
+    ensures ends { Ends T.ending HasFaultLine done.now result
         (E.contents errors.old) (E.contents errors.new) }
+    ensures explained { result.explained ≡ nothing_explained }
 {
-    match done {
-        Ok(answer) => {
-            answer.summarize(errors);
-            exit_status(answer.has_failed(), None)
-        }
-        Err(fault) => {
-            // Where standard error fails, the status still reports the fault.
-            let _ = show_fault(fault, errors);
-            fault.status()
-        }
+    let (told, status) = match done {
+        Ok(answer) => (
+            answer.summarize(errors),
+            exit_status(answer.has_failed(), None),
+        ),
+        Err(fault) => (show_fault(fault, errors), fault.status()),
+    };
+    RunEnd {
+        status,
+        told,
+        explained: Explained::NOTHING,
     }
 }

@@ -1,9 +1,11 @@
 //! What `--explain` adds after the line of a fault, for people.
-ghost use Rattle.std.specs.Prelude.{◌≡◌, ◌⊎◌, ◌++◌, ◌∷◌, [], ℕ, List, IfSome, MatchOption, Ok};
-ghost use Rattle.bp_commands.specs.Ends.{HasLine};
-ghost use Rattle.bp_commands.specs.Explanations.{ExplainsInput, ExplainsPair, ExplainsText, IsInWords, IsTold};
+ghost use Rattle.std.specs.Prelude.{◌≡◌, ◌++◌, ◌∷◌, [], ℕ, List, IfOk};
+ghost use Rattle.bp_explain.specs.Explained.{ExplainsSchedule};
+ghost use Rattle.bp_text.specs.Writing.{Writes};
+ghost use Rattle.bp_commands.specs.Explanations.{ExplainsInput, ExplainsPair, ExplainsText, IsExplanationOf, IsInWords, IsSaid, IsSaidFor, IsTold};
 ghost use Rattle.bp_commands.specs.Given.{Pair};
 
+use crate::ends::Explained;
 use crate::faults::Fault;
 use crate::hints::Hints;
 use crate::messages::sentence;
@@ -11,8 +13,8 @@ use bp_code::ProgramFault;
 use bp_explain::{explain_program, explain_schedule, explain_trace};
 use bp_machine::Start;
 use bp_syntax::ReadFault;
-use bp_text::{first_line, put, put_each};
-use bp_trace::ReplayFault;
+use bp_text::{WriteFault, first_line, put, put_each};
+use bp_trace::{DriveFault, ReplayFault};
 use std::alloc::{AllocError, Global};
 use std::io::Write;
 
@@ -30,30 +32,46 @@ pub enum Beside {
     Trace,
 }
 
-/// The lines, if there are any and memory was there for them.
-fn any(lines: Result<Vec<u8>, AllocError>) -> Option<Vec<u8>>
-    ensures { IfSome result (λ v. lines ≡ Ok v) }
-{
-    match lines {
-        Ok(lines) if !lines.is_empty() => Some(lines),
-        _ => None,
-    }
-}
-
-/// The explanation of a fault of a program.
-pub(crate) fn of_program(alloc: Global, fault: &Fault, program: Named<'_>) -> Option<Vec<u8>>
-    ensures { IfSome result (λ v.
-        ExplainsText program.entry.name.now program.entry.text.now fault.now v.items) }
+/// The explanation of a fault of a program. It is empty where there is none.
+pub(crate) fn of_program(
+    alloc: Global,
+    fault: &Fault,
+    program: Named<'_>,
+) -> Result<Vec<u8>, AllocError>
+    ensures { let Explains = ExplainsText program.entry.name.now program.entry.text.now in
+        IfOk result (λ v. IsExplanationOf (Explains fault.now) v.items) }
 {
     match fault {
         // Such a text was not read whole.
-        Fault::Program(ProgramFault::Read(ReadFault::TooLong)) => None,
-        Fault::Program(fault) => any(explain_program(alloc, program.name, program.text, fault)),
-        _ => None,
+        Fault::Program(ProgramFault::Read(ReadFault::TooLong)) => Ok(Vec::new(alloc)),
+        Fault::Program(fault) => explain_program(alloc, program.name, program.text, fault),
+        _ => Ok(Vec::new(alloc)),
     }
 }
 
-/// The explanation of a fault of the schedule or the trace beside a program.
+/// The explanation of a fault of a schedule. Where no start is said the run has the defaults.
+fn of_schedule(
+    alloc: Global,
+    fault: &DriveFault,
+    start: Option<&Start>,
+    program: Named<'_>,
+    schedule: Named<'_>,
+) -> Result<Vec<u8>, AllocError>
+    ensures { IfOk result (λ v. ExplainsSchedule
+        schedule.entry.name.now schedule.entry.text.now fault.now v.items) }
+{
+    let (text, name, lines) = (program.text, schedule.name, schedule.text);
+    match start {
+        Some(start) => explain_schedule(alloc, text, start, name, lines, fault),
+        None => {
+            let start = Start::defaults(alloc)?;
+            explain_schedule(alloc, text, &start, name, lines, fault)
+        }
+    }
+}
+
+/// The explanation of a fault of the schedule or the trace beside a program. It is empty where
+/// there is none.
 fn of_input(
     alloc: Global,
     beside: Beside,
@@ -61,27 +79,27 @@ fn of_input(
     start: Option<&Start>,
     program: Named<'_>,
     input: Named<'_>,
-) -> Option<Vec<u8>>
-    ensures { IfSome result (λ v.
-        ExplainsInput beside input.entry.name.now input.entry.text.now fault.now v.items) }
+) -> Result<Vec<u8>, AllocError>
+    ensures { let Explains = ExplainsInput beside input.entry.name.now input.entry.text.now in
+        IfOk result (λ v. IsExplanationOf (Explains fault.now) v.items) }
 {
-    match (beside, start, fault) {
-        (Beside::Schedule, Some(start), Fault::Schedule(fault)) => {
-            let text = program.text;
-            any(explain_schedule(alloc, text, start, input.name, input.text, fault))
+    match (beside, fault) {
+        (Beside::Schedule, Fault::Schedule(fault)) => {
+            of_schedule(alloc, fault, start, program, input)
         }
-        (Beside::Trace, _, Fault::Trace(fault)) => {
-            any(explain_trace(alloc, program.text, input.name, input.text, fault))
+        (Beside::Trace, Fault::Trace(fault)) => {
+            explain_trace(alloc, program.text, input.name, input.text, fault)
         }
-        (Beside::Trace, _, Fault::Setup(fault)) => {
+        (Beside::Trace, Fault::Setup(fault)) => {
             let fault = ReplayFault::Setup(*fault);
-            any(explain_trace(alloc, program.text, input.name, input.text, &fault))
+            explain_trace(alloc, program.text, input.name, input.text, &fault)
         }
-        _ => None,
+        _ => Ok(Vec::new(alloc)),
     }
 }
 
-/// The explanation of a fault of a program or of what stands beside it.
+/// The explanation of a fault of a program or of what stands beside it. It is empty where there is
+/// none.
 pub(crate) fn of_pair(
     alloc: Global,
     beside: Beside,
@@ -89,31 +107,36 @@ pub(crate) fn of_pair(
     start: Option<&Start>,
     program: Named<'_>,
     input: Named<'_>,
-) -> Option<Vec<u8>>
+) -> Result<Vec<u8>, AllocError>
     ensures { let given : Pair =
         record { text = program.entry.text.now; input = input.entry.text.now } in
-        IfSome result (λ v. ExplainsPair beside program.entry.name.now input.entry.name.now
-        given fault.now v.items) }
+        let Explains = ExplainsPair beside program.entry.name.now input.entry.name.now given in
+        IfOk result (λ v. IsExplanationOf (Explains fault.now) v.items) }
 {
-    match of_program(alloc, fault, program) {
-        Some(lines) => Some(lines),
-        None => of_input(alloc, beside, fault, start, program, input),
+    let lines = of_program(alloc, fault, program)?;
+    if !lines.is_empty() {
+        return Ok(lines);
     }
+    of_input(alloc, beside, fault, start, program, input)
 }
 
 /// Writes a fault in its words, on one line.
-fn put_words<E: Write>(words: &[u8], errors: &mut E)
-    ensures { (lines : List ℕ) × IsInWords lines
-        × HasLine lines (E.contents errors.old) (E.contents errors.new) }
+fn put_words<E: Write>(words: &[u8], errors: &mut E) -> Result<(), WriteFault>
+    ensures { (said : List ℕ) × IsInWords said
+        × Writes (E.contents errors.old) (E.contents errors.new) said result }
 {
-    // Where standard error fails, the status still reports the fault.
-    let _ = put_each(errors, &[first_line(words), b"\n"]);
+    put_each(errors, &[first_line(words), b"\n"])
 }
 
 /// Writes the fault in a sentence, which says what is known of the command line.
-fn put_sentence<E: Write>(alloc: Global, fault: &Fault, hints: Hints<'_>, errors: &mut E)
-    ensures { (lines : List ℕ) × IsInWords lines
-        × HasLine lines (E.contents errors.old) (E.contents errors.new) }
+fn put_sentence<E: Write>(
+    alloc: Global,
+    fault: &Fault,
+    hints: Hints<'_>,
+    errors: &mut E,
+) -> Result<(), WriteFault>
+    ensures { (said : List ℕ) × IsInWords said
+        × Writes (E.contents errors.old) (E.contents errors.new) said result }
 {
     match sentence(alloc, fault, hints) {
         Ok(sentence) => put_words(sentence.as_bytes(), errors),
@@ -121,30 +144,31 @@ fn put_sentence<E: Write>(alloc: Global, fault: &Fault, hints: Hints<'_>, errors
     }
 }
 
-/// Writes these lines.
-fn put_lines<E: Write>(lines: &[u8], errors: &mut E)
-    ensures { HasLine lines.now (E.contents errors.old) (E.contents errors.new) }
-{
-    // Where standard error fails, the status still reports the fault.
-    let _ = put(errors, lines);
-}
-
-/// Writes the explanation of a fault, or else the fault in a sentence.
+/// Writes the explanation of a fault; or else the fault in a sentence, where there is none or no
+/// memory for it.
 fn put_explanation<E: Write>(
     alloc: Global,
-    lines: Option<Vec<u8>>,
+    lines: &Result<Vec<u8>, AllocError>,
     fault: &Fault,
     hints: Hints<'_>,
     errors: &mut E,
-)
-    ensures { MatchOption lines
-        ((words : List ℕ) × IsInWords words
-        × HasLine words (E.contents errors.old) (E.contents errors.new))
-        (λ v. HasLine v.items (E.contents errors.old) (E.contents errors.new)) }
+) -> Explained
+    ensures { (said : List ℕ) × IsSaidFor lines.now result said
+        × Writes (E.contents errors.old) (E.contents errors.new) said result.told }
 {
     match lines {
-        Some(lines) => put_lines(&lines, errors),
-        None => put_sentence(alloc, fault, hints, errors),
+        Ok(lines) if !lines.is_empty() => Explained {
+            lines: Ok(()),
+            told: put(errors, lines),
+        },
+        Ok(_) => Explained {
+            lines: Ok(()),
+            told: put_sentence(alloc, fault, hints, errors),
+        },
+        Err(_) => Explained {
+            lines: Err(AllocError),
+            told: put_sentence(alloc, fault, hints, errors),
+        },
     }
 }
 
@@ -156,13 +180,17 @@ pub(crate) fn explain_on_program<T, E: Write>(
     program: Named<'_>,
     hints: Hints<'_>,
     errors: &mut E,
-)
-    ensures { IsTold asked (ExplainsText program.entry.name.now program.entry.text.now)
-        done.now (E.contents errors.old) (E.contents errors.new) }
+) -> Explained
+    ensures { let Explains = ExplainsText program.entry.name.now program.entry.text.now in
+        IsTold asked (λ f. IsSaid (Explains f)) done.now result
+        (E.contents errors.old) (E.contents errors.new) }
 {
-    if let (true, Err(fault)) = (asked, done) {
-        let lines = of_program(alloc, fault, program);
-        put_explanation(alloc, lines, fault, hints, errors);
+    match (asked, done) {
+        (true, Err(fault)) => {
+            let lines = of_program(alloc, fault, program);
+            put_explanation(alloc, &lines, fault, hints, errors)
+        }
+        _ => Explained::NOTHING,
     }
 }
 
@@ -177,15 +205,18 @@ pub(crate) fn explain_on_pair<T, E: Write>(
     input: Named<'_>,
     hints: Hints<'_>,
     errors: &mut E,
-)
+) -> Explained
     ensures { let given : Pair =
         record { text = program.entry.text.now; input = input.entry.text.now } in
-        IsTold asked
-        (ExplainsPair beside program.entry.name.now input.entry.name.now given)
-        done.now (E.contents errors.old) (E.contents errors.new) }
+        let Explains = ExplainsPair beside program.entry.name.now input.entry.name.now given in
+        IsTold asked (λ f. IsSaid (Explains f)) done.now result
+        (E.contents errors.old) (E.contents errors.new) }
 {
-    if let (true, Err(fault)) = (asked, done) {
-        let lines = of_pair(alloc, beside, fault, start, program, input);
-        put_explanation(alloc, lines, fault, hints, errors);
+    match (asked, done) {
+        (true, Err(fault)) => {
+            let lines = of_pair(alloc, beside, fault, start, program, input);
+            put_explanation(alloc, &lines, fault, hints, errors)
+        }
+        _ => Explained::NOTHING,
     }
 }

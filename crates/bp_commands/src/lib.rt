@@ -41,7 +41,7 @@ pub use checking::{Check, show_check};
 pub use coding::{Code, ListingForm};
 pub use commands::{PairCommand, ProgramCommand, do_on_pair, do_on_program};
 pub use driving::Drive;
-pub use ends::{Ended, end};
+pub use ends::{Ended, Explained, RunEnd, end};
 pub use explanations::Beside;
 pub use fault_formats::FaultFormat;
 pub use fault_lines::show_fault;

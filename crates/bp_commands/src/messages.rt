@@ -30,15 +30,17 @@ fn sentence_in<'a>(file: &str, lines: &'a [u8]) -> &'a [u8] {
 /// The sentence of the lines that explain a fault of a file; else the fault in a sentence.
 pub(crate) fn message(
     alloc: Global,
-    lines: Option<Vec<u8>>,
+    lines: Result<Vec<u8>, AllocError>,
     file: Option<&str>,
     fault: &Fault,
     hints: Hints<'_>,
 ) -> Result<Vec<u8>, AllocError> {
     let mut message = Vec::new(alloc);
-    match lines {
-        Some(lines) => push_bytes(&mut message, sentence_in(file.unwrap_or(""), &lines))?,
-        None => push_bytes(&mut message, sentence(alloc, fault, hints)?.as_bytes())?,
+    match &lines {
+        Ok(lines) if !lines.is_empty() => {
+            push_bytes(&mut message, sentence_in(file.unwrap_or(""), lines))?
+        }
+        _ => push_bytes(&mut message, sentence(alloc, fault, hints)?.as_bytes())?,
     }
     Ok(message)
 }

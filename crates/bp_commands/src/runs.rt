@@ -10,7 +10,7 @@ ghost use Rattle.bp_commands.specs.declared.fault_formats.FaultFormat.{FaultForm
 
 use crate::bundles::drive_bundle;
 use crate::commands::{PairCommand, ProgramCommand, do_on_pair, do_on_program};
-use crate::ends::end;
+use crate::ends::{RunEnd, end};
 use crate::explanations::{Named, explain_on_pair, explain_on_program};
 use crate::fault_formats::FaultFormat;
 use crate::files::{Files, InputFile};
@@ -26,7 +26,7 @@ use std::sync::Wait;
 use std::thread::Threads;
 use std::time::Clock;
 
-/// Does a command on the program of a file, and answers the exit status and the output.
+/// Does a command on the program of a file, and answers how it ends and the output.
 pub fn run_on_program<C: ProgramCommand, F: Files, W: Write + Drop, E: Write>(
     alloc: Global,
     command: &C,
@@ -35,7 +35,7 @@ pub fn run_on_program<C: ProgramCommand, F: Files, W: Write + Drop, E: Write>(
     format: FaultFormat,
     mut out: BufWriter<W>,
     errors: &mut E,
-) -> (u8, W)
+) -> (RunEnd, W)
     requires { C.allowed command.now }
     ensures { let inputs = text_alone (F.bytes files.now path.now) in
         let old = writer_contents W.contents out in
@@ -54,12 +54,13 @@ pub fn run_on_program<C: ProgramCommand, F: Files, W: Write + Drop, E: Write>(
         name: path,
         text: &program.bytes,
     };
-    let status = end_on_program(alloc, format, &done, program, hints, errors);
-    explain_on_program(alloc, format.is_explained(), &done, program, hints, errors);
-    (status, output)
+    let end = end_on_program(alloc, format, &done, program, hints, errors);
+    let explains = format.is_explained();
+    let explained = explain_on_program(alloc, explains, &done, program, hints, errors);
+    (RunEnd { explained, ..end }, output)
 }
 
-/// Runs the program of a file by real workers, and answers the exit status and the output.
+/// Runs the program of a file by real workers, and answers how it ends and the output.
 pub fn run_by_workers<
     F: Files,
     G: Gate,
@@ -76,7 +77,7 @@ pub fn run_by_workers<
     format: FaultFormat,
     mut out: BufWriter<W>,
     errors: &mut E,
-) -> (u8, W)
+) -> (RunEnd, W)
     ensures { let inputs = text_alone (F.bytes files.now path.now) in
         let old = writer_contents W.contents out in
         IsRun (runs options.now) of_run inputs (on_text path.now) format
@@ -94,13 +95,14 @@ pub fn run_by_workers<
         name: path,
         text: &program.bytes,
     };
-    let status = end_on_program(alloc, format, &done, program, hints, errors);
-    explain_on_program(alloc, format.is_explained(), &done, program, hints, errors);
-    (status, output)
+    let end = end_on_program(alloc, format, &done, program, hints, errors);
+    let explains = format.is_explained();
+    let explained = explain_on_program(alloc, explains, &done, program, hints, errors);
+    (RunEnd { explained, ..end }, output)
 }
 
-/// Does a command on the program of a file and the input that another file has, and answers the
-/// exit status and the output.
+/// Does a command on the program of a file and the input that another file has, and answers how
+/// it ends and the output.
 pub fn run_on_pair<C: PairCommand, F: Files, W: Write + Drop, E: Write>(
     alloc: Global,
     command: &C,
@@ -110,7 +112,7 @@ pub fn run_on_pair<C: PairCommand, F: Files, W: Write + Drop, E: Write>(
     format: FaultFormat,
     mut out: BufWriter<W>,
     errors: &mut E,
-) -> (u8, W)
+) -> (RunEnd, W)
     ensures { let inputs = pair_of_files (C.limit command.now)
         (F.bytes files.now path.now) (F.bytes files.now input_path.now) in
         let old = writer_contents W.contents out in
@@ -136,23 +138,23 @@ pub fn run_on_pair<C: PairCommand, F: Files, W: Write + Drop, E: Write>(
         text: &input.bytes,
     };
     let (beside, start) = (command.beside(), command.start());
-    let status = end_on_pair(
+    let end = end_on_pair(
         alloc, beside, format, &done, start, program, input, hints, errors,
     );
     let explains = format.is_explained();
-    explain_on_pair(
+    let explained = explain_on_pair(
         alloc, beside, explains, &done, start, program, input, hints, errors,
     );
-    (status, output)
+    (RunEnd { explained, ..end }, output)
 }
 
-/// Drives the bundle of a reader, and answers the exit status and the output.
+/// Drives the bundle of a reader, and answers how it ends and the output.
 pub fn run_on_bundle<R: Read + Drop, W: Write + Drop, E: Write>(
     alloc: Global,
     reader: R,
     mut out: BufWriter<W>,
     errors: &mut E,
-) -> (u8, W)
+) -> (RunEnd, W)
     ensures { let inputs = bundle_alone (R.remaining reader) in
         let old = writer_contents W.contents out in
         IsRun bundles of_report inputs on_nothing FaultFormat.Line old (W.contents result.1)

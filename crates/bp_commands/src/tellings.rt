@@ -1,13 +1,14 @@
 //! How a run ends in each format of its refusals: the exit status, and what is told first.
 ghost use Rattle.std.specs.Prelude.{◌≡◌, ℕ, List};
-ghost use Rattle.bp_commands.specs.Ends.{Ends, HasLine};
+ghost use Rattle.bp_text.specs.Writing.{Writes};
+ghost use Rattle.bp_commands.specs.Ends.{Ends};
 ghost use Rattle.bp_commands.specs.FaultObjects.{fault_object};
 ghost use Rattle.bp_commands.specs.FaultTable.{status_of};
 ghost use Rattle.bp_commands.specs.Given.{Pair};
 ghost use Rattle.bp_commands.specs.FaultObjects.{name_in};
 ghost use Rattle.bp_commands.specs.Tellings.{file_of_text, IsFileOfPair, IsPairObject, IsReported, IsTextObject};
 
-use crate::ends::{Ended, end};
+use crate::ends::{Ended, Explained, RunEnd, end};
 use crate::explanations::{Beside, Named, of_pair, of_program};
 use crate::fault_formats::FaultFormat;
 use crate::fault_objects::put_fault_object;
@@ -15,7 +16,7 @@ use crate::faults::Fault;
 use crate::hints::Hints;
 use crate::messages::message;
 use bp_machine::Start;
-use std::alloc::Global;
+use std::alloc::{AllocError, Global};
 use std::io::Write;
 
 /// The file that a fault of a command on one program is in.
@@ -54,29 +55,31 @@ fn file_of_pair<'a>(
     }
 }
 
-/// Writes the object of a fault, and answers the status of a run that it ended.
+/// Writes the object of a fault, and answers how it ends a run.
 fn end_by_object<E: Write>(
     alloc: Global,
-    lines: Option<Vec<u8>>,
+    lines: Result<Vec<u8>, AllocError>,
     fault: &Fault,
     file: Option<&str>,
     text: &[u8],
     hints: Hints<'_>,
     errors: &mut E,
-) -> u8
-    ensures status { result ≡ status_of fault.now }
+) -> RunEnd
+    ensures status { result.status ≡ status_of fault.now }
     ensures object { (message : List ℕ)
         × (let object = fault_object fault.now (name_in file.entry) text.now message in
-        HasLine object (E.contents errors.old) (E.contents errors.new)) }
+        Writes (E.contents errors.old) (E.contents errors.new) object result.told) }
 {
     let message = message(alloc, lines, file, fault, hints);
     let words = match &message {
         Ok(message) => message.as_slice(),
         Err(_) => b"out of memory",
     };
-    // Where standard error fails, the status still reports the fault.
-    let _ = put_fault_object(fault, file, text, words, errors);
-    fault.status()
+    RunEnd {
+        status: fault.status(),
+        told: put_fault_object(fault, file, text, words, errors),
+        explained: Explained::NOTHING,
+    }
 }
 
 /// Ends a run of a command on a program by what it answered, with a refusal in this format.
@@ -87,7 +90,7 @@ pub(crate) fn end_on_program<T: Ended, E: Write>(
     program: Named<'_>,
     hints: Hints<'_>,
     errors: &mut E,
-) -> u8
+) -> RunEnd
     ensures { let IsObject = IsTextObject program.entry.name.now program.entry.text.now in
         Ends T.ending (IsReported format IsObject) done.now result
         (E.contents errors.old) (E.contents errors.new) }
@@ -114,7 +117,7 @@ pub(crate) fn end_on_pair<T: Ended, E: Write>(
     input: Named<'_>,
     hints: Hints<'_>,
     errors: &mut E,
-) -> u8
+) -> RunEnd
     ensures { let given : Pair =
         record { text = program.entry.text.now; input = input.entry.text.now } in
         let IsObject = IsPairObject beside program.entry.name.now input.entry.name.now given in

@@ -11,6 +11,7 @@ use crate::summary_objects::put_summary_objects;
 use bp_check::Checked;
 use bp_machine::Start;
 use bp_test::{Counts, Found, Progress, TestOptions, test};
+use bp_text::WriteFault;
 use bp_view::{statement_lines, unreached_objects};
 use std::alloc::{AllocError, Global};
 use std::io::Write;
@@ -58,12 +59,12 @@ impl Ended for Tested {
         !matches!(self.found, Found::Nothing)
     }
 
-    fn summarize<E: Write>(&self, errors: &mut E) {
-        let _ = if self.json {
+    fn summarize<E: Write>(&self, errors: &mut E) -> Result<(), WriteFault> {
+        if self.json {
             put_summary_objects(self, errors)
         } else {
             put_summary(self, errors)
-        };
+        }
     }
 }
 

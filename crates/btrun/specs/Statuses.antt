@@ -1,8 +1,9 @@
 -- How runs end whose words ask for no task: the exit status, and what is left on standard error
 -- beside what `clap` prints there.
-use Rattle.std.specs.Prelude.{◌≡◌, ◌⊎◌, ℕ, List, Option}
+use Rattle.std.specs.Prelude.{◌≡◌, ◌⊎◌, ℕ, List, Option, Result}
 use Rattle.std.specs.declared.io.ErrorKind.{ErrorKind as IoErrorKind}
 use Rattle.std.specs.declared.io.ErrorKind.TheVariants as io
+use Rattle.bp_text.specs.declared.writing.WriteFault.{WriteFault}
 use Rattle.bp_commands.specs.Ends.{HasFaultLine}
 use Rattle.bp_commands.specs.declared.faults.Fault.{Fault}
 use Rattle.bp_commands.specs.declared.faults.Fault.TheVariants as fault
@@ -26,17 +27,20 @@ IsUnreadStatus io.OutOfMemory status = status ≡ 3
 IsUnreadStatus _ status = (status ≡ 2) ⊎ (status ≡ 3)
 
 -- nothing, or that the help or the version could not be written
-abbrev pub IsPrintedLine : Option (List ℕ) → Option (List ℕ) → Type 0
-IsPrintedLine old new = (new ≡ old) ⊎ HasFaultLine fault.Write old new
+abbrev pub IsPrintedLine
+    : Option (List ℕ) → Option (List ℕ) → Result (Unit {0}) WriteFault → Type 0
+IsPrintedLine old new told = (new ≡ old) ⊎ HasFaultLine fault.Write old new told
 
--- our line on such words
-abbrev pub IsWordsLine : ErrorKind → Option (List ℕ) → Option (List ℕ) → Type 0
-IsWordsLine OutOfMemory old new = HasFaultLine fault.Memory old new
-IsWordsLine DisplayHelp old new = IsPrintedLine old new
-IsWordsLine DisplayVersion old new = IsPrintedLine old new
-IsWordsLine _ old new = new ≡ old
+-- our line on such words, and whether it was written whole
+abbrev pub IsWordsLine
+    : ErrorKind → Option (List ℕ) → Option (List ℕ) → Result (Unit {0}) WriteFault → Type 0
+IsWordsLine OutOfMemory old new told = HasFaultLine fault.Memory old new told
+IsWordsLine DisplayHelp old new told = IsPrintedLine old new told
+IsWordsLine DisplayVersion old new told = IsPrintedLine old new told
+IsWordsLine _ old new told = new ≡ old
 
--- our line on words that are not read
-abbrev pub IsUnreadLine : IoErrorKind → Option (List ℕ) → Option (List ℕ) → Type 0
-IsUnreadLine io.OutOfMemory old new = HasFaultLine fault.Memory old new
-IsUnreadLine _ old new = (new ≡ old) ⊎ HasFaultLine fault.Memory old new
+-- our line on words that are not read, and whether it was written whole
+abbrev pub IsUnreadLine
+    : IoErrorKind → Option (List ℕ) → Option (List ℕ) → Result (Unit {0}) WriteFault → Type 0
+IsUnreadLine io.OutOfMemory old new told = HasFaultLine fault.Memory old new told
+IsUnreadLine _ old new told = (new ≡ old) ⊎ HasFaultLine fault.Memory old new told

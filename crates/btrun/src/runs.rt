@@ -72,12 +72,12 @@ fn do_on_host<T: Threads + Wait + Clock + Sync>(
     let (alloc, files) = (rt.alloc(), HostFiles::new(rt));
     let mut errors = rt.stderr();
     let Ok(out) = BufWriter::new(alloc, rt.stdout()) else {
-        return refuse_memory(&mut errors);
+        return refuse_memory(&mut errors).status;
     };
     say_that_it_waits(rt, task);
     let colour = has_colour(rt);
     let progress = progress_line(rt, task);
-    do_task(
+    let (end, _output) = do_task(
         alloc,
         threads,
         &progress,
@@ -88,8 +88,9 @@ fn do_on_host<T: Threads + Wait + Clock + Sync>(
         task,
         out,
         &mut errors,
-    )
-    .0
+    );
+    // What standard error refused can be told nowhere else.
+    end.status
 }
 
 /// Does what the words ask for, and answers the exit status.
@@ -102,7 +103,7 @@ fn run_words<T: Threads + Wait + Clock + Sync>(
         Ok(task) => do_on_host(rt, threads, &task),
         Err(error) => {
             let error = error_on_lines(rt.alloc(), words, error);
-            tell(rt, &error, &mut rt.stderr())
+            tell(rt, &error, &mut rt.stderr()).status
         }
     }
 }
@@ -111,6 +112,6 @@ fn run_words<T: Threads + Wait + Clock + Sync>(
 pub fn run<T: Threads + Wait + Clock + Sync>(rt: &HostRuntime, threads: &T) -> u8 {
     match words(rt) {
         Ok(words) => run_words(rt, threads, &words),
-        Err(error) => refuse_words(rt, &error, &mut rt.stderr()),
+        Err(error) => refuse_words(rt, &error, &mut rt.stderr()).status,
     }
 }

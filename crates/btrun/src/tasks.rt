@@ -9,7 +9,7 @@ ghost use Rattle.btrun.specs.Tasks.{fault_format, format_of, listing_form, test_
 
 use bp_commands::{
     Check, Code, Drive, FaultFormat, Files, ListingForm, Migrate, PairCommand, ProgramCommand,
-    Replay, Show, ShowContexts, ShowState, Shrink, Test, run_by_workers, run_on_bundle,
+    Replay, RunEnd, Show, ShowContexts, ShowState, Shrink, Test, run_by_workers, run_on_bundle,
     run_on_pair, run_on_program,
 };
 use bp_run::{Gate, Open, Spread};
@@ -48,7 +48,7 @@ fn run_at<F: Files, T: Threads + Wait + Clock + Sync, G: Gate, W: Write + Drop, 
     words: &RunWords<'_>,
     out: BufWriter<W>,
     errors: &mut E,
-) -> (u8, W)
+) -> (RunEnd, W)
     ensures { let old = writer_contents W.contents out in
         IsRunDone (F.bytes files.now) on_terminal words.now old (W.contents result.1)
         (E.contents errors.old) (E.contents errors.new) result.0 }
@@ -76,7 +76,7 @@ fn run_as_asked<F: Files, T: Threads + Wait + Clock + Sync, W: Write + Drop, E: 
     words: &RunWords<'_>,
     out: BufWriter<W>,
     errors: &mut E,
-) -> (u8, W)
+) -> (RunEnd, W)
     ensures { let old = writer_contents W.contents out in
         IsRunDone (F.bytes files.now) on_terminal words.now old (W.contents result.1)
         (E.contents errors.old) (E.contents errors.new) result.0 }
@@ -129,7 +129,7 @@ fn test_as_asked<F: Files, T: Threads + Sync, P: Progress, W: Write + Drop, E: W
     words: &TestWords<'_>,
     out: BufWriter<W>,
     errors: &mut E,
-) -> (u8, W)
+) -> (RunEnd, W)
     ensures { let old = writer_contents W.contents out in
         IsTestDone (F.bytes files.now) on_terminal words.now old (W.contents result.1)
         (E.contents errors.old) (E.contents errors.new) result.0 }
@@ -161,7 +161,7 @@ fn check_as_asked<F: Files, W: Write + Drop, E: Write>(
     words: &CheckWords<'_>,
     out: BufWriter<W>,
     errors: &mut E,
-) -> (u8, W)
+) -> (RunEnd, W)
     ensures { let old = writer_contents W.contents out in
         IsCheckDone (F.bytes files.now) on_terminal words.now old (W.contents result.1)
         (E.contents errors.old) (E.contents errors.new) result.0 }
@@ -192,7 +192,7 @@ fn list_as_asked<F: Files, W: Write + Drop, E: Write>(
     words: &CodeWords<'_>,
     out: BufWriter<W>,
     errors: &mut E,
-) -> (u8, W)
+) -> (RunEnd, W)
     ensures { let old = writer_contents W.contents out in
         IsCodeDone (F.bytes files.now) on_terminal words.now old (W.contents result.1)
         (E.contents errors.old) (E.contents errors.new) result.0 }
@@ -213,7 +213,7 @@ fn on_trace<C: PairCommand, F: Files, W: Write + Drop, E: Write>(
     words: &TraceWords<'_>,
     out: BufWriter<W>,
     errors: &mut E,
-) -> (u8, W)
+) -> (RunEnd, W)
     ensures { let inputs = pair_of_files (C.limit command.now)
         (F.bytes files.now words.now.program.now) (F.bytes files.now words.now.trace.now) in
         let old = writer_contents W.contents out in
@@ -236,7 +236,7 @@ fn drive_as_asked<F: Files, W: Write + Drop, E: Write>(
     words: &DriveWords<'_>,
     out: BufWriter<W>,
     errors: &mut E,
-) -> (u8, W)
+) -> (RunEnd, W)
     ensures { let old = writer_contents W.contents out in
         IsDriveDone (F.bytes files.now) on_terminal words.now old (W.contents result.1)
         (E.contents errors.old) (E.contents errors.new) result.0 }
@@ -293,7 +293,7 @@ fn on_shown<C: PairCommand, F: Files, W: Write + Drop, E: Write>(
     words: &ShowWords<'_>,
     out: BufWriter<W>,
     errors: &mut E,
-) -> (u8, W)
+) -> (RunEnd, W)
     ensures { let inputs = pair_of_files (C.limit command.now)
         (F.bytes files.now words.now.program.now) (F.bytes files.now words.now.trace.now) in
         let old = writer_contents W.contents out in
@@ -318,7 +318,7 @@ fn show_as_asked<F: Files, W: Write + Drop, E: Write>(
     words: &ShowWords<'_>,
     out: BufWriter<W>,
     errors: &mut E,
-) -> (u8, W)
+) -> (RunEnd, W)
     ensures { let old = writer_contents W.contents out in
         IsShowDone (F.bytes files.now) has_colour on_terminal words.now old (W.contents result.1)
         (E.contents errors.old) (E.contents errors.new) result.0 }
@@ -341,7 +341,7 @@ fn show_as_asked<F: Files, W: Write + Drop, E: Write>(
     }
 }
 
-/// Does a task, and answers the exit status and the output.
+/// Does a task, and answers how it ends and the output.
 pub fn do_task<
     F: Files,
     T: Threads + Wait + Clock + Sync,
@@ -360,7 +360,7 @@ pub fn do_task<
     task: &Task<'_>,
     out: BufWriter<W>,
     errors: &mut E,
-) -> (u8, W)
+) -> (RunEnd, W)
     ensures { let old = writer_contents W.contents out in
         IsTaskDone (F.bytes files.now) (R.remaining input) has_colour on_terminal
         old (W.contents result.1)

@@ -7,7 +7,8 @@ ghost use Rattle.bp_commands.specs.Ends.{HasFaultLine};
 ghost use Rattle.btrun.specs.Statuses.{IsWordsStatus, IsWordsLine, IsUnreadStatus, IsUnreadLine};
 
 use crate::echoes::Echo;
-use bp_commands::{Fault, end};
+use bp_commands::{Explained, Fault, RunEnd, end};
+use bp_text::WriteFault;
 use bp_words::not_text;
 use clap::Error;
 use clap::error::ErrorKind;
@@ -17,11 +18,12 @@ use std::io::{self, Eprint, Write};
 const USAGE_STATUS: u8 = 2;
 
 /// Ends a run by the help or the version that was printed, or was not.
-fn end_printed<E: Write>(printed: &io::Result<()>, errors: &mut E) -> u8
-    ensures status { MatchResult printed.now (λ _. result ≡ 0) (λ _. result ≡ 3) }
+fn end_printed<E: Write>(printed: &io::Result<()>, errors: &mut E) -> RunEnd
+    ensures status { MatchResult printed.now (λ _. result.status ≡ 0) (λ _. result.status ≡ 3) }
     ensures line { MatchResult printed.now
         (λ _. E.contents errors.new ≡ E.contents errors.old)
-        (λ _. HasFaultLine Fault.Write (E.contents errors.old) (E.contents errors.new)) }
+        (λ _. HasFaultLine Fault.Write
+        (E.contents errors.old) (E.contents errors.new) result.told) }
 {
     match printed {
         Ok(()) => end(&Ok::<(), Fault>(()), errors),
@@ -29,36 +31,51 @@ fn end_printed<E: Write>(printed: &io::Result<()>, errors: &mut E) -> u8
     }
 }
 
+/// Ends a run whose words were refused on standard error, which may have taken the text or not.
+fn end_echoed(echoed: &io::Result<()>) -> RunEnd
+    ensures { result.status ≡ 2 }
+{
+    RunEnd {
+        status: USAGE_STATUS,
+        told: match echoed {
+            Ok(()) => Ok(()),
+            Err(_) => Err(WriteFault::Write),
+        },
+        explained: Explained {
+            lines: Ok(()),
+            told: Ok(()),
+        },
+    }
+}
+
 /// Ends a run for want of memory.
-pub fn refuse_memory<E: Write>(errors: &mut E) -> u8
-    ensures status { result ≡ 3 }
-    ensures line { HasFaultLine Fault.Memory (E.contents errors.old) (E.contents errors.new) }
+pub fn refuse_memory<E: Write>(errors: &mut E) -> RunEnd
+    ensures status { result.status ≡ 3 }
+    ensures line { HasFaultLine Fault.Memory
+        (E.contents errors.old) (E.contents errors.new) result.told }
 {
     end(&Err::<(), Fault>(Fault::Memory), errors)
 }
 
 /// Prints the fault of the words on standard error, or the help or the version on standard output.
 /// Where that is not what happened, our line is in `errors`.
-pub fn tell<E: Write>(rt: &HostRuntime, error: &Error, errors: &mut E) -> u8
-    ensures status { IsWordsStatus (kind_of error.now) result }
-    ensures line { IsWordsLine (kind_of error.now) (E.contents errors.old) (E.contents errors.new) }
+pub fn tell<E: Write>(rt: &HostRuntime, error: &Error, errors: &mut E) -> RunEnd
+    ensures status { IsWordsStatus (kind_of error.now) result.status }
+    ensures line { IsWordsLine (kind_of error.now)
+        (E.contents errors.old) (E.contents errors.new) result.told }
 {
     match error.kind() {
         ErrorKind::OutOfMemory => refuse_memory(errors),
         ErrorKind::DisplayHelp | ErrorKind::DisplayVersion => end_printed(&error.print(rt), errors),
-        _ => {
-            // Where standard error fails, the status still reports the fault.
-            let _ = rt.eprint(&Echo { error });
-            USAGE_STATUS
-        }
+        _ => end_echoed(&rt.eprint(&Echo { error })),
     }
 }
 
 /// Refuses words that were not read: one is not UTF-8, or memory was refused.
-pub fn refuse_words<E: Write>(rt: &HostRuntime, error: &io::Error, errors: &mut E) -> u8
-    ensures status { IsUnreadStatus (error_kind error.now) result }
+pub fn refuse_words<E: Write>(rt: &HostRuntime, error: &io::Error, errors: &mut E) -> RunEnd
+    ensures status { IsUnreadStatus (error_kind error.now) result.status }
     ensures line { let kind = error_kind error.now in
-        IsUnreadLine kind (E.contents errors.old) (E.contents errors.new) }
+        IsUnreadLine kind (E.contents errors.old) (E.contents errors.new) result.told }
 {
     if matches!(error.kind(), io::ErrorKind::OutOfMemory) {
         return refuse_memory(errors);

@@ -23,7 +23,7 @@ returns g c =
       answers = rw (← c.source-program.ensures) c.run_program-done.ensures.answers;
       final = c.flushed-done.result.0;
       flushed = c.flushed-done.ensures;
-      told = g.E.Write.contents c.end_on_program-status.new.errors;
-      ends = ends_read inputs (IsTextObject path) (no_byte_unread _ _) text of_run c.args.format _ _ _ _ _ _ _ holds c.flushed-done.ensures (rw c.deref.ensures.value at c.end_on_program-status.ensures);
-      explained = tells inputs (ExplainsText path) (text_unread path _ _) text (is_explained c.args.format) _ _ _ _ _ _ holds c.flushed-done.ensures (rw (c.deref.ensures.value, c.is_explained.ensures) at c.explain_on_program.ensures);
+      told = g.E.Write.contents c.end_on_program-end.new.errors;
+      ends = ends_read inputs (IsTextObject path) (no_byte_unread _ _) text of_run c.args.format _ _ _ _ _ _ _ _ holds c.flushed-done.ensures (rw c.deref.ensures.value at c.end_on_program-end.ensures);
+      explained = tells inputs (ExplainsText path) (text_unread path _ _) text (is_explained c.args.format) _ _ _ _ _ _ _ holds c.flushed-done.ensures (rw (c.deref.ensures.value, c.is_explained-explains.ensures) at c.explain_on_program-explained.ensures);
     }

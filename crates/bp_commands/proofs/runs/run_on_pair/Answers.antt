@@ -30,7 +30,7 @@ returns g c =
       answers = rw (← c.source-program.ensures, ← c.source-input.ensures) c.do_on_pair-done.ensures.answers;
       final = c.flushed-done.result.0;
       flushed = c.flushed-done.ensures;
-      told = g.E.Write.contents c.end_on_pair-status.new.errors;
-      ends = ends_read inputs (IsPairObject kind path input_path) (no_byte_unread_pair _ _ _ _ _) given of_report c.args.format _ _ _ _ _ _ _ holds c.flushed-done.ensures (rw (c.beside-beside.ensures, c.deref.ensures.value, c.deref-2.ensures.value) at c.end_on_pair-status.ensures);
-      explained = tells inputs (ExplainsPair kind path input_path) (pair_unread kind path input_path _ _ _ _ _) given (is_explained c.args.format) _ _ _ _ _ _ holds c.flushed-done.ensures (rw (c.beside-beside.ensures, c.deref.ensures.value, c.deref-2.ensures.value, c.is_explained-explains.ensures) at c.explain_on_pair.ensures);
+      told = g.E.Write.contents c.end_on_pair-end.new.errors;
+      ends = ends_read inputs (IsPairObject kind path input_path) (no_byte_unread_pair _ _ _ _ _) given of_report c.args.format _ _ _ _ _ _ _ _ holds c.flushed-done.ensures (rw (c.beside-beside.ensures, c.deref.ensures.value, c.deref-2.ensures.value) at c.end_on_pair-end.ensures);
+      explained = tells inputs (ExplainsPair kind path input_path) (pair_unread kind path input_path _ _ _ _ _) given (is_explained c.args.format) _ _ _ _ _ _ _ holds c.flushed-done.ensures (rw (c.beside-beside.ensures, c.deref.ensures.value, c.deref-2.ensures.value, c.is_explained-explains.ensures) at c.explain_on_pair-explained.ensures);
     }
