@@ -79,19 +79,19 @@ module _ (start : StartOf) (x : TestOptions) (listed : Option (List ℕ)) (json 
     done made test tested found_is reached_is counts options form lines =
         let of_setup = subst (λ y. IsTest t y x old new made) setup test in
         let found = alone tested.found of_setup.runs (subst (λ f. IsFound t taken x old new f of_setup.runs) (sym found_is) of_setup.found) in record {
-      text = found.text_is;
-      reports = record {
-        testable = testable;
-        runs = of_setup.runs;
-        found = found.found;
-        counted = counts taken of_setup.runs of_setup.few of_setup.tallied.counted;
-        reached = subst (λ v. HasReached t taken of_setup.runs v.items) (sym reached_is) of_setup.tallied.reached;
-        options_are = options;
-        json_is = form;
-        lines = lines;
-      };
-      written = found.written;
-    }
+          text = found.text_is;
+          reports = record {
+            testable = testable;
+            runs = of_setup.runs;
+            found = found.found;
+            counted = counts taken of_setup.runs of_setup.few of_setup.tallied.counted;
+            reached = subst (λ v. HasReached t taken of_setup.runs v.items) (sym reached_is) of_setup.tallied.reached;
+            options_are = options;
+            json_is = form;
+            lines = lines;
+          };
+          written = found.written;
+        }
 
     refused_of : (f : TestFault) → IsTestRefusal t taken x old new f → IsRefusedWith (tests start x listed json) old new text (fault_of_test f)
     refused_of fault.Memory same =

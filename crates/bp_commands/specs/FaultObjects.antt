@@ -42,8 +42,8 @@ letter_text d = None
 abbrev pub name_in : Option (Bor (List ℕ)) → Option (List ℕ)
 name_in name = option_map (λ text. text.now) name
 
--- the object of a row of the table: the facts of the fault's line, its file, its place in the program
--- text, and a sentence
+-- the object of a row of the table: the facts of the fault's line, its file, its place in the
+-- program text, and a sentence
 abbrev pub row_object : RowOf → Option (List ℕ) → (text message : List ℕ) → List ℕ
 row_object r file text message =
     concat (

@@ -20,8 +20,8 @@ pub enum RunFault {
     /// The trace is written.
     #[error("the worker of thread {0} stopped before the thread was finished")]
     Early(u32),
-    /// A write or a flush failed, and the workers stopped. A proper prefix of the trace of a history
-    /// is written.
+    /// A write or a flush failed, and the workers stopped. A proper prefix of the trace of a
+    /// history is written.
     #[error("the output could not be written")]
     Write,
     /// There was not enough memory outside the workers. Nothing is written.

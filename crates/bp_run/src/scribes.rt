@@ -11,13 +11,13 @@ use std::io::Write;
 use std::sync::Wait;
 use std::time::Clock;
 
-/// How often the scribe dozes before it sleeps. While calls come in quick succession it is not worth
-/// a wake-up for each.
+/// How often the scribe dozes before it sleeps. While calls come in quick succession it is not
+/// worth a wake-up for each.
 const DOZES: u32 = 8;
 
 /// Takes calls and writes their lines, until the workers have ended and no call is seen. Each time
-/// the ring is empty as many workers as there were calls are woken, where they wait for room. If the
-/// writer fails all are told to stop.
+/// the ring is empty as many workers as there were calls are woken, where they wait for room. If
+/// the writer fails all are told to stop.
 fn scribe<W: Write, C: Calls, R: Wait + Clock>(
     rt: &R,
     pen: &mut Pen<'_, W>,

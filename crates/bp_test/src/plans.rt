@@ -33,9 +33,9 @@ fn is_cut_off(session: &Session) -> bool {
 }
 
 impl Plan {
-    /// The plan of a test that begins with this seed. It makes pilots: runs with the first 64 of its
-    /// seeds, whose switches are spread over powers of two. The lengths of those that were cut off by
-    /// the allowed calls are not kept. How many runs and jobs there are is no part of a plan.
+    /// The plan of a test that begins with this seed. It makes pilots: runs with the first 64 of
+    /// its seeds, whose switches are spread over powers of two. The lengths of those that were cut
+    /// off by the allowed calls are not kept. How many runs and jobs there are is no part of a plan.
     pub fn new(
         alloc: Global,
         code: &Code,

@@ -51,8 +51,8 @@ nothing_next =
 abbrev pub choice_of : (reads : Bool) → Call → Option Bool
 choice_of reads x = if reads && is_tried x.reply then Some x.bit else None
 
--- the texts of the members of a call that have one value each: its own, what its thread has next, and
--- the reply
+-- the texts of the members of a call that have one value each: its own, what its thread has next,
+-- and the reply
 abbrev pub member_texts : Fields → Next → Call → List (List ℕ)
 member_texts f next x =
     codes "{\"kind\":\"call\""

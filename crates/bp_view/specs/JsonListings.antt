@@ -47,9 +47,9 @@ code_object c =
     ∷ key_text (codes "instructions") ∷ decimal (length c.instructions)
     ∷ codes "}\n" ∷ [])
 
--- an instruction: its number, its procedure, what it does, the numbers of the next one, of the other
--- one where a test is 0, and of a callee's first, and the place and the words of its statement, as
--- its scene shows them
+-- an instruction: its number, its procedure, what it does, the numbers of the next one, of the
+-- other one where a test is 0, and of a callee's first, and the place and the words of its
+-- statement, as its scene shows them
 abbrev pub instruction_object : List Procedure → ℕ → Instruction → Scene → List ℕ
 instruction_object ps n i scene =
     concat (

@@ -26,8 +26,8 @@ use Rattle.bp_view.specs.Heads.{globals_line}
 use Rattle.bp_view.specs.Parts.{IsInParts}
 
 -- How a thread stands after a history, by the first that applies: its line is finished; its next
--- statement is an assumption of 0, whatever its choice bit is; an assertion failed. If none does, it
--- goes on.
+-- statement is an assumption of 0, whatever its choice bit is; an assertion failed. If none does,
+-- it goes on.
 abbrev pub standing : Program → SetupOf → List Call → ℕ → Standing
 standing t s h i =
     let now = configuration_after t s h in

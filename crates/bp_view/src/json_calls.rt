@@ -110,7 +110,8 @@ fn choice_of(reads_choice: bool, call: &Call) -> Option<bool>
 
 /// Adds the members of a call that have one value each.
 fn push_members(line: &mut Vec<u8>, moment: &Moment, next: Following<'_>) -> Result<(), AllocError>
-    ensures { let texts = member_texts (fields_of moment.now []) (next_in next.entry) moment.now.call in
+    ensures { let next = next_in next.entry in
+        let texts = member_texts (fields_of moment.now []) next moment.now.call in
         OnOk result (line.new.items ≡ line.old.items ++ concat texts) }
 {
     push_all!(

@@ -200,7 +200,8 @@ pub(crate) fn place_of<'a>(scene: Option<&'a Scene>) -> &'a [u8]
     }
 }
 
-/// Adds what the columns show of a call, in a line for this many calls. `note` is room for the note.
+/// Adds what the columns show of a call, in a line for this many calls. `note` is room for the
+/// note.
 fn push_call(
     line: &mut Vec<u8>,
     note: &mut Vec<u8>,

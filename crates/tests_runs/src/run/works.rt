@@ -28,7 +28,8 @@ pub(super) const LOOP_DIGITS: [(u32, u64); 3] = [
 ];
 
 /// A gate that notes a digit each time: ahead of a turn the number of calls, and after it 1 for
-/// Stepped, 2 for Ended and 3 for another reply. Once the thread takes no further turn it notes a 4.
+/// Stepped, 2 for Ended and 3 for another reply. Once the thread takes no further turn it notes
+/// a 4.
 #[derive(Drop)]
 pub(super) struct Notes {
     digits: AtomicU64,
