@@ -1,5 +1,5 @@
 -- The frames of a stack, each with what it has next and the values of its locals.
-use Rattle.std.specs.Prelude.{if◌then◌else◌, ◌≡◌, ◌==◌, ℕ, Bool, List, [], ◌∷◌, ◌++◌, Option, Some, codes, length, map, option_map, slice_get}
+use Rattle.std.specs.Prelude.{if◌then◌else◌, ◌≡◌, ◌==◌, ℕ, Bool, List, [], ◌∷◌, Option, Some, codes, length, map, option_map, slice_get}
 use Rattle.std.specs.List.{concat}
 use Rattle.bp_tree.specs.Ast.{Procedure}
 use Rattle.bp_code.specs.Starts.{start_of_block}
@@ -26,10 +26,10 @@ lead n = if n == 0 then codes "in " else codes "then in "
 -- the values of its locals
 abbrev pub frame_lines : ℕ → Procedure → (place words values : List ℕ) → List ℕ
 frame_lines n p place words values =
-    lead n
-    ++ map on_one_line p.name.text
-    ++ assertion_text place words values
-    ++ codes "\n"
+    concat (
+    concat (lead n ∷ map on_one_line p.name.text ∷ [])
+    ∷ assertion_text place words values
+    ∷ codes "\n" ∷ [])
 
 -- the same as an object of JSON after a comma
 abbrev pub frame_object : Procedure → Option Position → (words values : List ℕ) → List ℕ

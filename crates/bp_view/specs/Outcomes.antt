@@ -23,21 +23,21 @@ use Rattle.bp_text.specs.Positions.{position_at}
 use Rattle.bp_view.specs.Places.{position_text}
 use Rattle.bp_view.specs.Statements.{is_word, role_of, shortened, words_after, HasLexemes, Lexeme}
 
-abbrev pub count_text : List ℕ → ℕ → List ℕ
-count_text words n = words ++ decimal n
-
 -- the calls of a history, the contexts of its steps, and the threads that may continue
 abbrev pub counts_line : Report → List ℕ
 counts_line r =
-    count_text (codes "\n") r.calls
-    ++ count_text (codes " calls, contexts ") r.contexts
-    ++ count_text (codes ", open threads ") r.left_open
-    ++ codes "\n"
+    concat (
+    codes "\n" ∷ decimal r.calls
+    ∷ codes " calls, contexts " ∷ decimal r.contexts
+    ∷ codes ", open threads " ∷ decimal r.left_open
+    ∷ codes "\n" ∷ [])
 
 -- the thread whose assertion failed, and what is said of the assertion
 abbrev pub failure_text : ℕ → List ℕ → List ℕ
 failure_text i assertion =
-    count_text (codes "an assertion of thread ") i ++ codes " failed" ++ assertion
+    concat (
+    codes "an assertion of thread " ∷ decimal i
+    ∷ codes " failed" ∷ assertion ∷ [])
 
 module _ (format : ViewFormat) where
   -- the local of this name, else the global of this name, with its value; nothing where neither is
@@ -68,7 +68,10 @@ values_line (b ∷ bs) = codes "\nvalues" ++ b ∷ bs
 -- an assertion: where it begins, its words, and the line of its values
 abbrev pub assertion_text : (place words values : List ℕ) → List ℕ
 assertion_text place words values =
-    codes " at " ++ place ++ codes ": " ++ words ++ values_line values
+    concat (
+    concat (codes " at " ∷ place ∷ codes ": " ∷ words ∷ [])
+    ∷ values_line values
+    ∷ [])
 
 -- the same as the members of an object
 abbrev pub assertion_members : Position → (words values : List ℕ) → List ℕ

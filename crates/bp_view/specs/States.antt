@@ -1,5 +1,5 @@
 -- The state after a history: the values of the globals, and how each thread stands.
-use Rattle.std.specs.Prelude.{if◌then◌else◌, ◌≡◌, ℕ, List, [], ◌∷◌, ◌++◌, Option, None, Some, codes, decimal, length, take}
+use Rattle.std.specs.Prelude.{if◌then◌else◌, ◌≡◌, ℕ, List, [], ◌∷◌, Option, None, Some, codes, decimal, length, take}
 use Rattle.std.specs.List.{concat}
 use Rattle.bp_tree.specs.Ast.{Program}
 use Rattle.bp_code.specs.Values.{Valuation}
@@ -51,7 +51,9 @@ standing_name Open = codes "open"
 -- a thread for people, after an empty line, and the frames of its stack
 abbrev pub thread_state_lines : ℕ → Standing → (frames : List ℕ) → List ℕ
 thread_state_lines i standing frames =
-    codes "\nthread " ++ decimal i ++ standing_words standing ++ codes "\n" ++ frames
+    concat (
+    codes "\nthread " ∷ decimal i
+    ∷ standing_words standing ∷ codes "\n" ∷ frames ∷ [])
 
 -- the same as an object of JSON after a comma
 abbrev pub thread_state_object : ℕ → Standing → (frames : List ℕ) → List ℕ
@@ -69,19 +71,17 @@ thread_state_in Json i standing frames = thread_state_object i standing frames
 -- that an assertion of a thread failed, and no line where none did
 abbrev pub failed_line : Outcome → List ℕ
 failed_line Clean = []
-failed_line (Failed i) = codes "an assertion of thread " ++ decimal i ++ codes " failed\n"
+failed_line (Failed i) =
+    concat (codes "an assertion of thread " ∷ decimal i ∷ codes " failed\n" ∷ [])
 
 -- the state for people after n of so many calls
 abbrev pub state_lines : (n count : ℕ) → Outcome → Valuation → (threads : List ℕ) → List ℕ
 state_lines n count outcome globals threads =
-    codes "after call "
-    ++ decimal n
-    ++ codes " of "
-    ++ decimal count
-    ++ codes "\n"
-    ++ failed_line outcome
-    ++ globals_line globals
-    ++ threads
+    concat (
+    concat (codes "after call " ∷ decimal n ∷ codes " of " ∷ decimal count ∷ codes "\n" ∷ [])
+    ∷ failed_line outcome
+    ∷ globals_line globals
+    ∷ threads ∷ [])
 
 -- the thread whose assertion failed
 abbrev pub failed_thread : Outcome → Option ℕ

@@ -22,8 +22,8 @@ use crate::scenes::Scene;
 use crate::settings::Setting;
 use crate::variables::push_values;
 use bp_machine::{Session, Top};
-use bp_text::Piece::{Bytes, Key, List, NumberOrNull, Text};
-use bp_text::{push_bytes, push_on_one_line, push_pieces};
+use bp_text::Piece::{Bytes, Key, List, NumberOrNull, OneLine, Text};
+use bp_text::{push_piece, push_pieces};
 use bp_tree::Proc;
 use std::alloc::AllocError;
 
@@ -46,10 +46,10 @@ fn push_frame_lines(
         let frame = frame_lines returned proc.now scene.now.place.items words values.now in
         OnOk result (view.new.items ≡ view.old.items ++ frame) }
 {
-    push_bytes(view, lead(returned))?;
-    push_on_one_line(view, proc.name().text().as_bytes())?;
+    let name = proc.name().text().as_bytes();
+    push_pieces(view, &[Bytes(lead(returned)), OneLine(name)])?;
     push_assertion_text(view, scene, values)?;
-    push_bytes(view, b"\n")?;
+    push_piece(view, Bytes(b"\n"))?;
     Ok(())
 }
 

@@ -12,7 +12,7 @@ ghost use Rattle.bp_machine.specs.Sessions.{Stands};
 ghost use Rattle.bp_machine.specs.Tops.{IsTop};
 ghost use Rattle.bp_view.specs.Lines.{IsSettingOf};
 ghost use Rattle.bp_view.specs.declared.options.ViewFormat.TheVariants.{Columns, Json};
-ghost use Rattle.bp_view.specs.Outcomes.{assertion_in, assertion_members, assertion_text, clean_in, count_text, counts_line, failure_in, failure_object, failure_text, foot_text, lexeme_value, named_values, values_line, IsAssertionText, IsFoot, IsOutcomeText};
+ghost use Rattle.bp_view.specs.Outcomes.{assertion_in, assertion_members, assertion_text, clean_in, counts_line, failure_in, failure_object, failure_text, foot_text, lexeme_value, named_values, values_line, IsAssertionText, IsFoot, IsOutcomeText};
 ghost use Rattle.bp_view.specs.Places.{position_text};
 ghost use Rattle.bp_view.specs.Statements.{HasLexemes, Lexeme as Read};
 
@@ -28,17 +28,7 @@ use bp_syntax::Lexeme;
 use bp_text::Piece::{Bytes, Key, List, Number, Text};
 use bp_text::{Position, part_from, push_bytes, push_pieces};
 use bp_tree::{Name, Proc};
-use itoa::Buffer;
 use std::alloc::{AllocError, Global};
-
-/// Adds a number after its words.
-pub(crate) fn push_count(view: &mut Vec<u8>, words: &[u8], count: u64) -> Result<(), AllocError>
-    ensures { OnOk result (view.new.items ≡ view.old.items ++ count_text words.now count) }
-{
-    let mut buffer = Buffer::new();
-    push_bytes(view, words)?;
-    push_bytes(view, buffer.format(count).as_bytes())
-}
 
 /// Adds the variable that a lexeme names, where it names one, and its value.
 fn push_named(
@@ -141,10 +131,11 @@ pub(crate) fn push_assertion_text(
         let assertion = assertion_text scene.now.place.items words values.now in
         OnOk result (view.new.items ≡ view.old.items ++ assertion) }
 {
-    push_bytes(view, b" at ")?;
-    push_bytes(view, scene.place.as_slice())?;
-    push_bytes(view, b": ")?;
-    push_bytes(view, scene.excerpt.words.as_slice())?;
+    let (place, words) = (scene.place.as_slice(), scene.excerpt.words.as_slice());
+    push_pieces(
+        view,
+        &[Bytes(b" at "), Bytes(place), Bytes(b": "), Bytes(words)],
+    )?;
     push_values_line(view, values)?;
     Ok(())
 }
@@ -232,10 +223,15 @@ fn push_failure_text(view: &mut Vec<u8>, thread: u32, assertion: &[u8]) -> Resul
     ensures { OnOk result
         (view.new.items ≡ view.old.items ++ failure_text thread assertion.now) }
 {
-    push_count(view, b"an assertion of thread ", u64::from(thread))?;
-    push_bytes(view, b" failed")?;
-    push_bytes(view, assertion)?;
-    Ok(())
+    push_pieces(
+        view,
+        &[
+            Bytes(b"an assertion of thread "),
+            Number(u64::from(thread)),
+            Bytes(b" failed"),
+            Bytes(assertion),
+        ],
+    )
 }
 
 /// Adds the object of a thread whose assertion failed.
@@ -313,11 +309,18 @@ fn outcome_text(
 fn push_counts(view: &mut Vec<u8>, report: Report) -> Result<(), AllocError>
     ensures { OnOk result (view.new.items ≡ view.old.items ++ counts_line report) }
 {
-    push_count(view, b"\n", report.calls)?;
-    push_count(view, b" calls, contexts ", u64::from(report.contexts))?;
-    push_count(view, b", open threads ", u64::from(report.left_open))?;
-    push_bytes(view, b"\n")?;
-    Ok(())
+    push_pieces(
+        view,
+        &[
+            Bytes(b"\n"),
+            Number(report.calls),
+            Bytes(b" calls, contexts "),
+            Number(u64::from(report.contexts)),
+            Bytes(b", open threads "),
+            Number(u64::from(report.left_open)),
+            Bytes(b"\n"),
+        ],
+    )
 }
 
 /// Adds the counts of a report and its outcome, for people.

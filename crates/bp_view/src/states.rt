@@ -14,7 +14,6 @@ ghost use Rattle.bp_view.specs.States.{failed_line, failed_thread, state_in, sta
 
 use crate::frames::push_frames;
 use crate::options::{ViewFormat, ViewOptions};
-use crate::outcomes::push_count;
 use crate::played_again::session_after;
 use crate::scenes::scenes_of;
 use crate::settings::{Setting, setting_of};
@@ -40,11 +39,16 @@ fn push_thread_lines(
     ensures { let thread = thread_state_lines thread standing frames.now in
         OnOk result (view.new.items ≡ view.old.items ++ thread) }
 {
-    push_count(view, b"\nthread ", u64::from(thread))?;
-    push_bytes(view, standing.words())?;
-    push_bytes(view, b"\n")?;
-    push_bytes(view, frames)?;
-    Ok(())
+    push_pieces(
+        view,
+        &[
+            Bytes(b"\nthread "),
+            Number(u64::from(thread)),
+            Bytes(standing.words()),
+            Bytes(b"\n"),
+            Bytes(frames),
+        ],
+    )
 }
 
 /// Adds a thread as an object of JSON, after a comma.
@@ -162,11 +166,17 @@ struct StateHead {
 fn push_failed_line(view: &mut Vec<u8>, outcome: Outcome) -> Result<(), AllocError>
     ensures { OnOk result (view.new.items ≡ view.old.items ++ failed_line outcome) }
 {
-    if let Outcome::Failed { thread } = outcome {
-        push_count(view, b"an assertion of thread ", u64::from(thread))?;
-        push_bytes(view, b" failed\n")?;
-    }
-    Ok(())
+    let Outcome::Failed { thread } = outcome else {
+        return Ok(());
+    };
+    push_pieces(
+        view,
+        &[
+            Bytes(b"an assertion of thread "),
+            Number(u64::from(thread)),
+            Bytes(b" failed\n"),
+        ],
+    )
 }
 
 /// Adds the line of the globals, where there are any.
@@ -194,9 +204,16 @@ fn push_state_lines(
         let state = state_lines head.number head.count head.outcome values threads.now in
         OnOk result (view.new.items ≡ view.old.items ++ state) }
 {
-    push_count(view, b"after call ", head.number)?;
-    push_count(view, b" of ", head.count)?;
-    push_bytes(view, b"\n")?;
+    push_pieces(
+        view,
+        &[
+            Bytes(b"after call "),
+            Number(head.number),
+            Bytes(b" of "),
+            Number(head.count),
+            Bytes(b"\n"),
+        ],
+    )?;
     push_failed_line(view, head.outcome)?;
     push_globals_line(view, globals, head.globals)?;
     push_bytes(view, threads)?;
