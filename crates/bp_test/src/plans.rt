@@ -35,7 +35,8 @@ fn is_cut_off(session: &Session) -> bool {
 impl Plan {
     /// The plan of a test that begins with this seed. It makes pilots: runs with the first 64 of
     /// its seeds, whose switches are spread over powers of two. The lengths of those that were cut
-    /// off by the allowed calls are not kept. How many runs and jobs there are is no part of a plan.
+    /// off by the allowed calls are not kept. A plan does not depend on the number of runs or of
+    /// jobs.
     pub fn new(
         alloc: Global,
         code: &Code,

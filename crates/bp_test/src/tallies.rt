@@ -186,8 +186,8 @@ impl ContextsUsed {
         most: 0,
     };
 
-    /// Adds runs that used this many contexts, where so many runs used fewer, and `half` is half
-    /// the number of all.
+    /// Adds the runs that used this many contexts. `before` runs used fewer, and `half` is half of
+    /// the number of all runs.
     fn add(&mut self, contexts: u64, before: u64, half: u64)
         ensures { self.new ≡ contexts_with contexts before half self.old }
     {

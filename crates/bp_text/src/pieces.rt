@@ -1,4 +1,4 @@
-//! Pieces of a text, each of which says what stands there, and the calls that write them.
+//! Pieces of a text, and the calls that write them. A piece says what stands at its place.
 ghost use Rattle.std.specs.Prelude.{◌≡◌, ◌++◌, decimal, flat_map, OnOk};
 ghost use Rattle.bp_text.specs.Pieces.{bit_text, key_text, list_text, piece_text, truth_text};
 ghost use Rattle.bp_text.specs.Writing.{Writes};
@@ -47,7 +47,7 @@ pub enum Piece<'a> {
     Bit(bool),
     /// 1 or 0, or null.
     BitOrNull(Option<bool>),
-    /// The items of a list of JSON, each of which begins with a comma, as a list.
+    /// A list of JSON. Each item that is given begins with a comma.
     List(&'a [u8]),
 }
 
