@@ -8,9 +8,11 @@ pub mod LawfulIsCompilable
 pub mod ListItems
 mod ListingLines
 mod NotedStatements
+pub mod ProceduresOfPlaces
 pub mod SameAnswer
 mod SizesInLayout
 mod SlotsAreVariables
+pub mod SlotsOfNames
 mod SpelledHeadings
 pub mod StandsForStepsAlike
 mod StartsOfPlaces

@@ -23,6 +23,7 @@ pub mod starts;
 pub mod stores;
 pub mod texts;
 mod translate;
+pub mod variables;
 
 pub use bp_text::{WriteFault, put};
 pub use code::Code;
@@ -35,3 +36,4 @@ pub use programs::compile;
 pub use starts::statement_starts;
 pub use stores::Store;
 pub use texts::{CodeFault, ProgramFault, code_of, lawful_program};
+pub use variables::{bit_of, global_value, local_slot_of, local_value, slot_of};

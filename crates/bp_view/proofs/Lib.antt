@@ -19,11 +19,9 @@ pub mod PlacedStacks
 pub mod PlacesOfTops
 pub mod PlayedFronts
 pub mod PrintedValues
-pub mod ProceduresOfPlaces
 pub mod RecordedCalls
 pub mod SceneLists
 pub mod ScenesOfSpots
-pub mod SlotsOfNames
 pub mod SpansOfHistories
 pub mod StepsInContexts
 pub mod ValuesOfStatements

@@ -7,7 +7,7 @@ use Rattle.bp_view.specs.declared.scenes.Scene.{Scene}
 use Rattle.bp_view.specs.Places.{place_text}
 use Rattle.bp_view.specs.Scenes.{AreScenesAt, AreStatements}
 use Rattle.bp_view.specs.Widths.{longest}
-use Rattle.bp_view.proofs.ProceduresOfPlaces.{starts}
+use Rattle.bp_code.proofs.ProceduresOfPlaces.{starts}
 
 abbrev pub place_items : List Scene → List (List ℕ)
 place_items scenes = map (λ s. s.place.items) scenes

@@ -8,7 +8,7 @@ use Rattle.bp_code.specs.StandsFor.{Place}
 use Rattle.bp_code.specs.Starts.{start_of_block}
 use Rattle.bp_view.specs.declared.scenes.Scene.{Scene}
 use Rattle.bp_view.specs.Scenes.{AreScenesAt, IsScene}
-use Rattle.bp_view.proofs.ProceduresOfPlaces.{starts}
+use Rattle.bp_code.proofs.ProceduresOfPlaces.{starts}
 
 -- the place at which an instruction's statement begins
 pub record PlaceAt (xs : List Place) (i : ℕ) (start : Option ℕ) : Type 0 where

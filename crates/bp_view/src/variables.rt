@@ -1,31 +1,17 @@
 //! The names of the bits of a store, and their values.
-ghost use Rattle.std.specs.Prelude.{◌≡◌, ◌<◌, ◌+◌, ◌^◌, ◌++◌, flat_map, length, option_map, OnOk, MatchOption};
-ghost use Rattle.bp_check.specs.Tables.{first_index};
+ghost use Rattle.std.specs.Prelude.{◌≡◌, ◌<◌, ◌+◌, ◌^◌, ◌++◌, flat_map, length, option_map, OnOk};
 ghost use Rattle.bp_code.specs.Bits.{bits_of, store_of};
-ghost use Rattle.bp_code.specs.StandsFor.{named_store, valuation_of, variables};
+ghost use Rattle.bp_code.specs.StandsFor.{named_store, valuation_of};
 ghost use Rattle.bp_view.specs.Changes.{owner_text, variable_object, variable_text, variable_words, variables_text};
 ghost use Rattle.bp_text.specs.Pieces.{piece_text};
 ghost use Rattle.bp_view.specs.Outcomes.{named_value};
 
 use crate::options::ViewFormat;
-use bp_code::Store;
+use bp_code::{Store, bit_of, local_slot_of, slot_of};
 use bp_text::Piece::{Bit, Bytes, Key, OneLine, Text, TextOrNull};
 use bp_text::{Piece, push_piece};
 use bp_tree::{Name, Proc};
 use std::alloc::AllocError;
-
-/// The number of bits of a word.
-const SLOTS: usize = 128;
-
-/// The bit of a slot, 0 past the word.
-pub(crate) fn bit_of(word: u128, slot: usize) -> bool
-    ensures { result ≡ bits_of word slot }
-{
-    if slot >= SLOTS {
-        return false;
-    }
-    (word >> slot) & 1 == 1
-}
 
 /// The name of a local's procedure and a dot; nothing for a global.
 fn owner_pieces<'a>(owner: Option<&'a Proc>) -> [Piece<'a>; 2]
@@ -126,26 +112,6 @@ pub(crate) fn push_values(
         push_value(line, format, owner, name.text().as_bytes(), bit)?;
     }
     Ok(())
-}
-
-/// The slot of the first of these names that is spelled so, where one is.
-pub(crate) fn slot_of(names: &[Name], name: &[u8]) -> Option<usize>
-    ensures slot { result ≡ first_index names.now name.now }
-    ensures within { MatchOption result Unit (λ k. k < length names.now) }
-{
-    names.iter().position(|it| it.text().as_bytes() == name)
-}
-
-/// The slot of a local; the formals of the procedure have the first slots.
-pub(crate) fn local_slot_of(proc: &Proc, name: &[u8]) -> Option<usize>
-    ensures { result ≡ first_index (variables proc.now) name.now }
-{
-    let formals = proc.formals();
-    if let Some(slot) = slot_of(formals, name) {
-        return Some(slot);
-    }
-    let slot = slot_of(proc.locals(), name)?;
-    Some(formals.len() + slot)
 }
 
 /// Adds a variable and its value, where the name is that of one: a local hides a global.

@@ -4,8 +4,8 @@ ghost use Rattle.std.specs.List.{position_or_len, slice_split};
 ghost use Rattle.bp_view.specs.Watches.{declares, has_local, is_among, watched_names, AreDeclared, IsNameFault};
 
 use crate::faults::ViewFault;
-use crate::variables::{local_slot_of, slot_of};
 use bp_check::Checked;
+use bp_code::{local_slot_of, slot_of};
 use bp_text::{part_before, part_from};
 use bp_tree::Proc;
 use std::alloc::{AllocError, Global};

@@ -3,7 +3,7 @@ use Rattle.std.proofs.lemmas.List.{length-map, take_all}
 use Rattle.bp_code.specs.StandsFor.{places_of}
 use Rattle.bp_code.specs.Starts.{start_of_block}
 use Rattle.bp_view.proofs.SceneLists.{more_scenes, place_at}
-use Rattle.bp_view.proofs.ProceduresOfPlaces.{ends, ends_more, few_ends, procedure_of, starts}
+use Rattle.bp_code.proofs.ProceduresOfPlaces.{ends, ends_more, few_ends, procedure_of, starts}
 use Rattle.bp_text.specs.Positions.{position_at}
 use Rattle.bp_view.proofs.scenes.scenes_of.Goals.{in-Some+in_ok-statement_scene+in_ok-push, in_default+in_ok-end_scene+in_ok-push-2}
 use Rattle.bp_view.proofs.scenes.scenes_of.Goals as goal

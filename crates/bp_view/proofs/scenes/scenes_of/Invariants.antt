@@ -2,7 +2,7 @@ use Rattle.std.proofs.Common.{◌≡◌, take}
 use Rattle.bp_text.specs.Positions.{position_at}
 use Rattle.bp_code.specs.StandsFor.{places_of}
 use Rattle.bp_view.specs.Scenes.{AreScenesAt}
-use Rattle.bp_view.proofs.ProceduresOfPlaces.{ends}
+use Rattle.bp_code.proofs.ProceduresOfPlaces.{ends}
 use Rattle.bp_view.proofs.scenes.scenes_of.Given as goal
 
 abbrev pub invariant-loop-start : goal.invariant-loop-start

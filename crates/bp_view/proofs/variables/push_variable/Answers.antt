@@ -5,7 +5,7 @@ use Rattle.bp_code.specs.StandsFor.{valuation_of, variables}
 use Rattle.bp_code.specs.Values.{lookup}
 use Rattle.bp_view.specs.Changes.{variable_text}
 use Rattle.bp_view.specs.Outcomes.{resolved_value}
-use Rattle.bp_view.proofs.SlotsOfNames.{value_of_slot}
+use Rattle.bp_code.proofs.SlotsOfNames.{value_of_slot}
 use Rattle.bp_view.proofs.variables.push_variable.Goals as goal
 
 pub returns-in-Some : goal.returns-in-Some

@@ -1,6 +1,6 @@
 use Rattle.std.proofs.Common.{◌≤◌, ap, sym, nat_eq, arith}
 use Rattle.std.proofs.lemmas.Nat.Bits.{bit_at_above}
-use Rattle.bp_view.proofs.variables.bit_of.Goals as goal
+use Rattle.bp_code.proofs.variables.bit_of.Goals as goal
 
 -- no bit is past the word
 pub returns-then-slot-ge-SLOTS : goal.returns-then-slot-ge-SLOTS

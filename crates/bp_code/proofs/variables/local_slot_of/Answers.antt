@@ -1,8 +1,8 @@
 use Rattle.std.proofs.Common.{◌≡◌, ◌∙◌, ◌+◌, None, Some, ap, ap₂, length, sym}
 use Rattle.std.specs.Option.{option_or}
 use Rattle.bp_check.specs.Tables.{first_index}
-use Rattle.bp_view.proofs.SlotsOfNames.{index_after, index_append}
-use Rattle.bp_view.proofs.variables.local_slot_of.Goals as goal
+use Rattle.bp_code.proofs.SlotsOfNames.{index_after, index_append}
+use Rattle.bp_code.proofs.variables.local_slot_of.Goals as goal
 
 pub returns-in-Some : goal.returns-in-Some
 returns-in-Some c =
