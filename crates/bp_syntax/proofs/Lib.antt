@@ -19,6 +19,7 @@ pub mod NamesOfTokens
 pub mod OneProofOfNames
 pub mod ShortNames
 pub mod SpelledNames
+pub mod SpelledWords
 pub mod ResultByNextToken
 pub mod OneAnswer
 pub mod OneRefusal

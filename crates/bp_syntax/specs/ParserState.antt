@@ -102,6 +102,21 @@ wanted_in_un _ next x = None
 abbrev pub ConditionThen : (Decision → Wanted) → Wanted
 ConditionThen next = WordThen kind.Open (DeciderThen (λ d. WordThen kind.Close (next d)))
 
+-- the same between two words
+abbrev pub ConditionBetween : TokenKind → TokenKind → (Decision → Wanted) → Wanted
+ConditionBetween before after next =
+    WordThen before (ConditionThen (λ d. WordThen after (next d)))
+
+-- statements, and the word that ends them
+abbrev pub StmtsTo : TokenKind → (Block → Wanted) → Wanted
+StmtsTo end next = StmtsThen (λ b. WordThen end (next b))
+
+-- expressions in brackets, and what ends their statement
+abbrev pub ListedThen : (List Expression → Wanted) → Wanted
+ListedThen next =
+    WordThen kind.Open (AnyExprsThen (λ es.
+    WordThen kind.Close (WordThen kind.Semicolon (next es))))
+
 -- a statement that is one word
 abbrev pub OneWordThen : TokenKind → Statement → (Statement → Wanted) → Wanted
 OneWordThen k s next = WordThen k (WordThen kind.Semicolon (next s))
@@ -203,6 +218,11 @@ BodyThen n next =
     WordThen kind.Close (WordThen kind.Begin (MoreDecls [] (λ ls.
     StmtsThen (λ b.
     WordThen kind.End (next (procedure_of n fs ls b))))))))
+
+-- the formals of a procedure, and what begins its body
+abbrev pub FormalsThen : (List Name → Wanted) → Wanted
+FormalsThen next =
+    WordThen kind.Open (AnyNamesThen (λ fs. WordThen kind.Close (WordThen kind.Begin (next fs))))
 
 abbrev pub ProcThen : (Procedure → Wanted) → Wanted
 ProcThen next = NameThen (λ n. BodyThen n next)

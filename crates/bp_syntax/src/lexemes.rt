@@ -8,7 +8,7 @@ use crate::tokens::{
 };
 
 /// What a text begins with: a lexeme of some kind, or a byte that begins none.
-#[derive(Clone, Copy, Debug, PartialEq, Eq)]
+#[derive(Clone, Copy, PartialEq, Eq)]
 pub(crate) enum FirstLexeme {
     /// The longest lexeme that fits, and its length.
     Fits(LexemeKind, usize),

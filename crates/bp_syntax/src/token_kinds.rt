@@ -46,7 +46,7 @@ pub const TOKEN_KINDS: [TokenKind; KINDS] = [
 ];
 
 /// The word or the symbol of a kind; for names, one of them.
-fn word_of(kind: TokenKind) -> &'static str
+pub(crate) fn word_of(kind: TokenKind) -> &'static str
     ensures { result.now ≡ spelling kind }
 {
     match kind {

@@ -2,6 +2,8 @@
 ghost use Rattle.std.specs.Prelude.{◌≡◌};
 ghost use Rattle.bp_syntax.specs.Tokens as spelling;
 
+use crate::token_kinds::word_of;
+
 /// What the scan tells apart. Reserved words are identifiers here.
 #[derive(Clone, Copy, Debug, PartialEq, Eq)]
 pub enum LexemeKind {
@@ -52,7 +54,7 @@ pub enum TokenKind {
 }
 
 /// A token: its kind, the offset of its first byte, its bytes.
-#[derive(Clone, Copy, Debug)]
+#[derive(Clone, Copy)]
 pub(crate) struct Token<'a> {
     pub(crate) kind: TokenKind,
     pub(crate) at: u32,
@@ -140,29 +142,40 @@ pub(crate) fn long_symbol(b: u8, c: u8) -> Option<TokenKind>
     }
 }
 
+/// How many words are reserved.
+const WORDS: usize = 16;
+
+/// The kinds of the reserved words.
+const RESERVED: [TokenKind; WORDS] = [
+    TokenKind::Decl,
+    TokenKind::Begin,
+    TokenKind::End,
+    TokenKind::Skip,
+    TokenKind::Goto,
+    TokenKind::Return,
+    TokenKind::If,
+    TokenKind::Then,
+    TokenKind::Else,
+    TokenKind::Fi,
+    TokenKind::While,
+    TokenKind::Do,
+    TokenKind::Od,
+    TokenKind::Assert,
+    TokenKind::Print,
+    TokenKind::Assume,
+];
+
 /// The kind of the reserved word that the bytes are.
 fn reserved_word(text: &[u8]) -> Option<TokenKind>
     ensures { result ≡ spelling.reserved_word text.now }
 {
-    match text {
-        b"decl" => Some(TokenKind::Decl),
-        b"begin" => Some(TokenKind::Begin),
-        b"end" => Some(TokenKind::End),
-        b"skip" => Some(TokenKind::Skip),
-        b"goto" => Some(TokenKind::Goto),
-        b"return" => Some(TokenKind::Return),
-        b"if" => Some(TokenKind::If),
-        b"then" => Some(TokenKind::Then),
-        b"else" => Some(TokenKind::Else),
-        b"fi" => Some(TokenKind::Fi),
-        b"while" => Some(TokenKind::While),
-        b"do" => Some(TokenKind::Do),
-        b"od" => Some(TokenKind::Od),
-        b"assert" => Some(TokenKind::Assert),
-        b"print" => Some(TokenKind::Print),
-        b"assume" => Some(TokenKind::Assume),
-        _ => None,
+    let words = RESERVED;
+    for kind in &words {
+        if text == word_of(*kind).as_bytes() {
+            return Some(*kind);
+        }
     }
+    None
 }
 
 /// Whether the bytes are a reserved word.

@@ -6,7 +6,7 @@ use crate::tokens::TokenKind;
 use bp_tree::Op;
 
 /// How strongly an operator that associates to the left binds: the strongest first.
-#[derive(Clone, Copy, Debug, PartialEq, Eq)]
+#[derive(Clone, Copy, PartialEq, Eq)]
 pub(crate) enum Precedence {
     /// `=` and `!=`.
     Equality,

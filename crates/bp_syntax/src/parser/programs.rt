@@ -1,7 +1,7 @@
 //! Declarations, procedures and programs.
 ghost use Rattle.std.specs.Prelude.{◌≡◌, ◌<◌, ◌≤◌, [], length, OnOk, MatchResult};
 ghost use Rattle.bp_syntax.specs.Views.{token_list};
-ghost use Rattle.bp_syntax.specs.ParserState.{MoreDecls, MoreProcs, ProcThen, ReadsPhrase, Reads, Parses, whole_program, program_of, IsParseFault};
+ghost use Rattle.bp_syntax.specs.ParserState.{MoreDecls, MoreProcs, FormalsThen, ProcThen, ReadsPhrase, Reads, Parses, whole_program, program_of, IsParseFault};
 
 use crate::faults::ReadFault;
 use crate::parser::{Parser, Stop};
@@ -23,19 +23,27 @@ impl<'a> Parser<'a> {
         Ok(Names::new(names))
     }
 
+    /// Reads "(" NAME,* ")" "begin".
+    fn formals(&mut self, alloc: Global) -> Result<Names, Stop>
+        ensures reads { ReadsPhrase result FormalsThen self.old self.new (λ x. x) }
+        ensures shorter { OnOk result (length self.new < length self.old) }
+    {
+        self.expect(TokenKind::Open)?;
+        let formals = self.any_names(alloc)?;
+        self.expect(TokenKind::Close)?;
+        self.expect(TokenKind::Begin)?;
+        Ok(formals)
+    }
+
     /// Reads proc.
     fn procedure(&mut self, alloc: Global) -> Result<Proc, Stop>
         ensures reads { ReadsPhrase result ProcThen self.old self.new (λ x. x) }
         ensures shorter { OnOk result (length self.new < length self.old) }
     {
         let name = self.name(alloc)?;
-        self.expect(TokenKind::Open)?;
-        let formals = self.any_names(alloc)?;
-        self.expect(TokenKind::Close)?;
-        self.expect(TokenKind::Begin)?;
+        let formals = self.formals(alloc)?;
         let locals = self.decls(alloc)?;
-        let body = self.stmts(alloc)?;
-        self.expect(TokenKind::End)?;
+        let body = self.stmts_to(alloc, TokenKind::End)?;
         Ok(Proc::new(name, formals, locals, body))
     }
 

@@ -1,13 +1,15 @@
 //! Statements.
 ghost use Rattle.std.specs.Prelude.{◌≡◌, ◌<◌, ◌≤◌, length, ℕ, Option, OnOk, true};
 ghost use Rattle.bp_tree.specs.Ast as tree;
+ghost use Rattle.bp_tree.specs.Ast.{Returns, Skips};
 ghost use Rattle.bp_tree.specs.Blocks.{statement_of};
-ghost use Rattle.bp_syntax.specs.ParserState.{Wanted, KeywordThen, OneWordThen, GotoThen, IfThen, WhileThen, AssertThen, AssumeThen, PrintThen, AssignThen, CallThen, FormThen, StmtThen, StmtsThen, ReadsBy, ReadsPhrase, place_ahead, is_at, is_at_form};
+ghost use Rattle.bp_tree.specs.Views.{decision_of};
+ghost use Rattle.bp_syntax.specs.ParserState.{Wanted, KeywordThen, OneWordThen, ListedThen, ConditionBetween, StmtsTo, GotoThen, IfThen, WhileThen, AssertThen, AssumeThen, PrintThen, AssignThen, CallThen, FormThen, StmtThen, StmtsThen, ReadsBy, ReadsPhrase, place_ahead, is_at, is_at_form};
 ghost use Rattle.bp_syntax.specs.declared.tokens.TokenKind.TheVariants as kind;
 
 use crate::parser::{Parser, Stop};
 use crate::tokens::TokenKind;
-use bp_tree::{Block, Form, Name, Stmt};
+use bp_tree::{Block, Decider, Exprs, Form, Name, Stmt};
 use std::alloc::Global;
 
 impl<'a> Parser<'a> {
@@ -23,17 +25,48 @@ impl<'a> Parser<'a> {
         Ok(Form::Assign(targets, values))
     }
 
+    /// Reads "(" expr,* ")" ";".
+    fn arguments(&mut self, alloc: Global) -> Result<Exprs, Stop>
+        ensures reads { ReadsPhrase result ListedThen self.old self.new (λ x. x) }
+        ensures shorter { OnOk result (length self.new < length self.old) }
+    {
+        self.expect(TokenKind::Open)?;
+        let arguments = self.any_exprs(alloc)?;
+        self.expect(TokenKind::Close)?;
+        self.expect(TokenKind::Semicolon)?;
+        Ok(arguments)
+    }
+
     /// Reads NAME "(" expr,* ")" ";".
     fn call(&mut self, alloc: Global) -> Result<Form, Stop>
         ensures reads { ReadsPhrase result CallThen self.old self.new statement_of }
         ensures shorter { OnOk result (length self.new < length self.old) }
     {
         let callee = self.name(alloc)?;
-        self.expect(TokenKind::Open)?;
-        let arguments = self.any_exprs(alloc)?;
-        self.expect(TokenKind::Close)?;
-        self.expect(TokenKind::Semicolon)?;
+        let arguments = self.arguments(alloc)?;
         Ok(Form::Call(callee, arguments))
+    }
+
+    /// Reads "skip" ";".
+    fn skip(&mut self) -> Result<Form, Stop>
+        ensures reads { ReadsPhrase result (OneWordThen kind.Skip Skips)
+            self.old self.new statement_of }
+        ensures shorter { OnOk result (length self.new < length self.old) }
+    {
+        self.expect(TokenKind::Skip)?;
+        self.expect(TokenKind::Semicolon)?;
+        Ok(Form::Skip)
+    }
+
+    /// Reads "return" ";".
+    fn leave(&mut self) -> Result<Form, Stop>
+        ensures reads { ReadsPhrase result (OneWordThen kind.Return Returns)
+            self.old self.new statement_of }
+        ensures shorter { OnOk result (length self.new < length self.old) }
+    {
+        self.expect(TokenKind::Return)?;
+        self.expect(TokenKind::Semicolon)?;
+        Ok(Form::Return)
     }
 
     /// Reads "goto" NAME ";".
@@ -62,15 +95,30 @@ impl<'a> Parser<'a> {
         Ok(Form::Print(values))
     }
 
+    /// Reads a word, "(" decider ")", and another word.
+    fn condition_between(
+        &mut self,
+        alloc: Global,
+        before: TokenKind,
+        after: TokenKind,
+    ) -> Result<Decider, Stop>
+        ensures reads { ReadsPhrase result (ConditionBetween before after)
+            self.old self.new decision_of }
+        ensures shorter { OnOk result (length self.new < length self.old) }
+    {
+        self.expect(before)?;
+        let decider = self.condition(alloc)?;
+        self.expect(after)?;
+        Ok(decider)
+    }
+
     /// Reads "assert" "(" decider ")" ";".
     fn assertion(&mut self, alloc: Global) -> Result<Form, Stop>
         ensures reads { ReadsPhrase result (KeywordThen kind.Assert AssertThen)
             self.old self.new statement_of }
         ensures shorter { OnOk result (length self.new < length self.old) }
     {
-        self.expect(TokenKind::Assert)?;
-        let decider = self.condition(alloc)?;
-        self.expect(TokenKind::Semicolon)?;
+        let decider = self.condition_between(alloc, TokenKind::Assert, TokenKind::Semicolon)?;
         Ok(Form::Assert(decider))
     }
 
@@ -80,10 +128,19 @@ impl<'a> Parser<'a> {
             self.old self.new statement_of }
         ensures shorter { OnOk result (length self.new < length self.old) }
     {
-        self.expect(TokenKind::Assume)?;
-        let decider = self.condition(alloc)?;
-        self.expect(TokenKind::Semicolon)?;
+        let decider = self.condition_between(alloc, TokenKind::Assume, TokenKind::Semicolon)?;
         Ok(Form::Assume(decider))
+    }
+
+    /// Reads stmt+ and the word that ends them.
+    #[cycle(stmt)]
+    pub(crate) fn stmts_to(&mut self, alloc: Global, end: TokenKind) -> Result<Block, Stop>
+        ensures reads { ReadsPhrase result (StmtsTo end) self.old self.new (λ x. x) }
+        ensures shorter { OnOk result (length self.new < length self.old) }
+    {
+        let stmts = self.stmts(alloc)?;
+        self.expect(end)?;
+        Ok(stmts)
     }
 
     /// Reads a branch. Branches and loops nest no deeper than their limit, which bounds the
@@ -94,13 +151,9 @@ impl<'a> Parser<'a> {
             self.old self.new statement_of }
         ensures shorter { OnOk result (length self.new < length self.old) }
     {
-        self.expect(TokenKind::If)?;
-        let decider = self.condition(alloc)?;
-        self.expect(TokenKind::Then)?;
-        let yes = self.stmts(alloc)?;
-        self.expect(TokenKind::Else)?;
-        let no = self.stmts(alloc)?;
-        self.expect(TokenKind::Fi)?;
+        let decider = self.condition_between(alloc, TokenKind::If, TokenKind::Then)?;
+        let yes = self.stmts_to(alloc, TokenKind::Else)?;
+        let no = self.stmts_to(alloc, TokenKind::Fi)?;
         Ok(Form::If(decider, yes, no))
     }
 
@@ -111,11 +164,8 @@ impl<'a> Parser<'a> {
             self.old self.new statement_of }
         ensures shorter { OnOk result (length self.new < length self.old) }
     {
-        self.expect(TokenKind::While)?;
-        let decider = self.condition(alloc)?;
-        self.expect(TokenKind::Do)?;
-        let body = self.stmts(alloc)?;
-        self.expect(TokenKind::Od)?;
+        let decider = self.condition_between(alloc, TokenKind::While, TokenKind::Do)?;
+        let body = self.stmts_to(alloc, TokenKind::Od)?;
         Ok(Form::While(decider, body))
     }
 
@@ -134,17 +184,6 @@ impl<'a> Parser<'a> {
         }
     }
 
-    /// Reads a statement that is one word.
-    fn keyword_statement(&mut self, word: TokenKind, form: Form) -> Result<Form, Stop>
-        ensures reads { ReadsPhrase result (OneWordThen word (statement_of form))
-            self.old self.new statement_of }
-        ensures shorter { OnOk result (length self.new < length self.old) }
-    {
-        self.expect(word)?;
-        self.expect(TokenKind::Semicolon)?;
-        Ok(form)
-    }
-
     /// Reads form; the next token says which.
     #[cycle(stmt)]
     fn form(&mut self, alloc: Global) -> Result<Form, Stop>
@@ -154,8 +193,8 @@ impl<'a> Parser<'a> {
         ensures shorter { OnOk result (length self.new < length self.old) }
     {
         match self.peek() {
-            Some(TokenKind::Skip) => self.keyword_statement(TokenKind::Skip, Form::Skip),
-            Some(TokenKind::Return) => self.keyword_statement(TokenKind::Return, Form::Return),
+            Some(TokenKind::Skip) => self.skip(),
+            Some(TokenKind::Return) => self.leave(),
             Some(TokenKind::Goto) => self.jump(alloc),
             Some(TokenKind::Name) => self.call_or_assignment(alloc),
             Some(TokenKind::If) => self.branch(alloc),

@@ -1,7 +1,9 @@
 use Rattle.std.proofs.Common.{◌≡◌, ◌∙◌, ap, sym, refl, Some, arith, rules}
-use Rattle.bp_tree.specs.Ast.{Block, Then, Skips, Returns}
+use Rattle.bp_tree.specs.Ast.{Decision, Block, Then, Skips, Returns, Branches, Loops}
+use Rattle.bp_tree.specs.Ast as tree
 use Rattle.bp_tree.specs.Blocks.{statement_of}
-use Rattle.bp_syntax.specs.ParserState.{WordThen, FormThen, GotoThen, IfThen, WhileThen, AssertThen, AssumeThen, PrintThen, StmtsThen, MoreStmts, parse_result, kind_ahead, place_ahead}
+use Rattle.bp_tree.specs.Views.{decision_of}
+use Rattle.bp_syntax.specs.ParserState.{Wanted, WordThen, KeywordThen, StmtsTo, FormThen, GotoThen, IfThen, WhileThen, AssertThen, AssumeThen, PrintThen, StmtsThen, MoreStmts, parse_result, kind_ahead, place_ahead}
 use Rattle.bp_syntax.specs.declared.tokens.TokenKind.TheVariants as kind
 use Rattle.bp_syntax.proofs.ResultByNextToken.{at_exit, passed_on, word_comes, before_block, block_is, one_more_form}
 use Rattle.bp_syntax.proofs.ResultAfterToken.{more_stmts_ahead, no_stmt}
@@ -12,16 +14,16 @@ form-returns-in-Some-Skip-clause-reads t c next =
     let old = c.args.self.now in
     let then = next (place_ahead old) in
     let h : kind_ahead old ≡ Some kind.Skip = cc in
-    passed_on c.keyword_statement.result (FormThen next) (WordThen kind.Skip (WordThen kind.Semicolon (then Skips))) old old c.keyword_statement.new.self (λ f. then (statement_of f))
-    (word_comes kind.Skip next old (WordThen kind.Semicolon (then Skips)) h (λ x. refl)) (c.keyword_statement.ensures.reads then)
+    passed_on c.skip.result (FormThen next) (WordThen kind.Skip (WordThen kind.Semicolon (then Skips))) old old c.skip.new.self (λ f. then (statement_of f))
+    (word_comes kind.Skip next old (WordThen kind.Semicolon (then Skips)) h (λ x. refl)) (c.skip.ensures.reads then)
 
 pub form-returns-in-Some-Return-clause-reads : goal.form-returns-in-Some-Return-clause-reads
 form-returns-in-Some-Return-clause-reads t c next =
     let old = c.args.self.now in
     let then = next (place_ahead old) in
     let h : kind_ahead old ≡ Some kind.Return = cc in
-    passed_on c.keyword_statement-in-Some-Return.result (FormThen next) (WordThen kind.Return (WordThen kind.Semicolon (then Returns))) old old c.keyword_statement-in-Some-Return.new.self (λ f. then (statement_of f))
-    (word_comes kind.Return next old (WordThen kind.Semicolon (then Returns)) h (λ x. refl)) (c.keyword_statement-in-Some-Return.ensures.reads then)
+    passed_on c.leave.result (FormThen next) (WordThen kind.Return (WordThen kind.Semicolon (then Returns))) old old c.leave.new.self (λ f. then (statement_of f))
+    (word_comes kind.Return next old (WordThen kind.Semicolon (then Returns)) h (λ x. refl)) (c.leave.ensures.reads then)
 
 pub form-returns-in-Some-Goto-clause-reads : goal.form-returns-in-Some-Goto-clause-reads
 form-returns-in-Some-Goto-clause-reads t c next =
@@ -100,5 +102,38 @@ stmts-returns-clause-reads t c next =
 pub stmt-returns-clause-reads : goal.stmt-returns-clause-reads
 stmt-returns-clause-reads t c = search rules
 
+pub branch-returns-in_err-decider-clause-reads : goal.branch-returns-in_err-decider-clause-reads
+branch-returns-in_err-decider-clause-reads t c next =
+    at_exit _ c.in_err-decider.field-0.0 (KeywordThen kind.If IfThen next) c.args.self.now c.condition_between.new.self _ _ c.from_residual.ensures.1
+    (refl)
+    (c.in_err-decider.ensures.reads (λ d. StmtsTo kind.Else (λ a. StmtsTo kind.Fi (λ b. next (Branches d a b)))))
+
+pub branch-returns-in_err-yes-clause-reads : goal.branch-returns-in_err-yes-clause-reads
+branch-returns-in_err-yes-clause-reads t c next =
+    at_exit _ c.in_err-yes.field-0.0 (KeywordThen kind.If IfThen next) c.args.self.now c.stmts_to.new.self _ _ c.from_residual-in_err-yes.ensures.1
+    (c.in_ok-decider.ensures.reads (λ d. StmtsTo kind.Else (λ a. StmtsTo kind.Fi (λ b. next (Branches d a b)))))
+    (c.in_err-yes.ensures.reads (λ a. StmtsTo kind.Fi (λ b. next (Branches (decision_of c.in_ok-decider.decider) a b))))
+
+pub branch-returns-in_err-no-clause-reads : goal.branch-returns-in_err-no-clause-reads
+branch-returns-in_err-no-clause-reads t c next =
+    at_exit _ c.in_err-no.field-0.0 (KeywordThen kind.If IfThen next) c.args.self.now c.stmts_to-2.new.self _ _ c.from_residual-in_err-no.ensures.1
+    (c.in_ok-decider.ensures.reads (λ d. StmtsTo kind.Else (λ a. StmtsTo kind.Fi (λ b. next (Branches d a b)))) ∙ c.in_ok-yes.ensures.reads (λ a. StmtsTo kind.Fi (λ b. next (Branches (decision_of c.in_ok-decider.decider) a b))))
+    (c.in_err-no.ensures.reads (λ b. next (Branches (decision_of c.in_ok-decider.decider) c.in_ok-yes.yes b)))
+
 pub branch-returns-clause-reads : goal.branch-returns-clause-reads
-branch-returns-clause-reads t c = search rules
+branch-returns-clause-reads t c next = c.in_ok-decider.ensures.reads (λ d. StmtsTo kind.Else (λ a. StmtsTo kind.Fi (λ b. next (Branches d a b)))) ∙ c.in_ok-yes.ensures.reads (λ a. StmtsTo kind.Fi (λ b. next (Branches (decision_of c.in_ok-decider.decider) a b))) ∙ c.in_ok-no.ensures.reads (λ b. next (Branches (decision_of c.in_ok-decider.decider) c.in_ok-yes.yes b))
+
+pub repetition-returns-in_err-decider-clause-reads : goal.repetition-returns-in_err-decider-clause-reads
+repetition-returns-in_err-decider-clause-reads t c next =
+    at_exit _ c.in_err-decider.field-0.0 (KeywordThen kind.While WhileThen next) c.args.self.now c.condition_between.new.self _ _ c.from_residual.ensures.1
+    (refl)
+    (c.in_err-decider.ensures.reads (λ d. StmtsTo kind.Od (λ b. next (Loops d b))))
+
+pub repetition-returns-in_err-body-clause-reads : goal.repetition-returns-in_err-body-clause-reads
+repetition-returns-in_err-body-clause-reads t c next =
+    at_exit _ c.in_err-body.field-0.0 (KeywordThen kind.While WhileThen next) c.args.self.now c.stmts_to.new.self _ _ c.from_residual-in_err-body.ensures.1
+    (c.in_ok-decider.ensures.reads (λ d. StmtsTo kind.Od (λ b. next (Loops d b))))
+    (c.in_err-body.ensures.reads (λ b. next (Loops (decision_of c.in_ok-decider.decider) b)))
+
+pub repetition-returns-clause-reads : goal.repetition-returns-clause-reads
+repetition-returns-clause-reads t c next = c.in_ok-decider.ensures.reads (λ d. StmtsTo kind.Od (λ b. next (Loops d b))) ∙ c.in_ok-body.ensures.reads (λ b. next (Loops (decision_of c.in_ok-decider.decider) b))
