@@ -12,7 +12,7 @@ ghost use Rattle.bp_board.specs.Turns.{IsTurn, IsCutTurn};
 
 use crate::kits::Kit;
 use crate::ledgers::Calls;
-use crate::seats::Seat;
+use crate::seats::{Seat, new_seats};
 use crate::sending::send;
 use crate::taps::Tap;
 use bp_code::Code;
@@ -85,19 +85,10 @@ impl<C: Calls, O: Ledger> Desk<C, O> {
             to,
             from,
         } = kit;
-        let (made, mut all_made) = calls.open::<C>();
+        let (made, all_made) = calls.open::<C>();
         let (mut lines, mut all_lines) = lines.open::<O>();
         lines.add(&mut all_lines, u64::from(threads));
-        let mut seats = Vec::new(alloc);
-        for thread in 0..threads {
-            seats.push(Seat {
-                thread,
-                calls: 0,
-                is_open: true,
-                made: all_made.split_off(1, 0),
-                line: all_lines.split_off(1, 1),
-            })?;
-        }
+        let seats = new_seats(alloc, threads, all_made, all_lines)?;
         let desk = Desk {
             session,
             to,
