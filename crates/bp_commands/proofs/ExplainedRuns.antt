@@ -46,10 +46,10 @@ module _ (Text Input : List ℕ → Type 0) (lines : List ℕ) where
 -- what is said of a fault, where its lines were made or memory for them was refused
 module _ (Explains : Fault → List ℕ → Type 0) (f : Fault) (e : Explained) (old new : Option (List ℕ)) where
   says : (r : Result (Vec ℕ Global) AllocError) (said : List ℕ) → IfOk r (λ v. IsExplanationOf (Explains f) v.items) → IsSaidFor r e said → IsSaid (Explains f) e said
-  says (Ok v) said (inl is) (inl (same, some)) = inl (subst (Explains f) (sym same) is, λ empty. some (sym same ∙ empty))
-  says (Ok v) said (inr (none, others)) (inl (same, some)) = absurd (some none)
-  says (Ok v) said (inl is) (inr (none, words)) = inr (inl (inl (subst (Explains f) none is)), words)
-  says (Ok v) said (inr (none, others)) (inr (empty, words)) = inr (inl (inr others), words)
+  says (Ok v) said (inl is) (made, inl (same, some)) = inl (made, (subst (Explains f) (sym same) is, λ empty. some (sym same ∙ empty)))
+  says (Ok v) said (inr (none, others)) (made, inl (same, some)) = absurd (some none)
+  says (Ok v) said (inl is) (made, inr (none, words)) = inr (inl (inl (subst (Explains f) none is)), words)
+  says (Ok v) said (inr (none, others)) (made, inr (empty, words)) = inr (inl (inr others), words)
   says (Err x) said made (refused, words) = inr (inr refused, words)
 
   pub told_so : {R : Type 0} → (r : Result (Vec ℕ Global) AllocError) → IfOk r (λ v. IsExplanationOf (Explains f) v.items) → (said : List ℕ) × IsSaidFor r e said × Writes old new said e.told

@@ -9,11 +9,12 @@ use Rattle.bp_text.specs.declared.writing.WriteFault.{WriteFault}
 use Rattle.bp_commands.specs.declared.ends.Explained.{Explained}
 use Rattle.bp_commands.specs.declared.ends.RunEnd.{RunEnd}
 use Rattle.bp_commands.specs.Ends.{Ending, Ends}
-use Rattle.bp_commands.specs.Explanations.{AreReadOr}
+use Rattle.bp_commands.specs.Explanations.{AreReadOr, IsSaid, IsSaidOfRead}
 use Rattle.bp_commands.specs.Faults.{fault_of_input, fault_of_text}
 use Rattle.bp_commands.specs.Flushes.{IsFlushed}
 use Rattle.bp_commands.specs.Given.{Inputs, IsTextUnread, IsPairUnread}
-use Rattle.bp_commands.specs.Tellings.{IsObjectRead, IsReported, NamesNoByte}
+use Rattle.bp_commands.specs.Tellings.{is_explained, IsConcluded, IsObjectRead, IsReported, NamesNoByte}
+use Rattle.bp_commands.proofs.ExplainedRuns.{tells}
 
 module _ {X R : Type 0} (inputs : Inputs X) (IsObject : X → Fault → List ℕ → Type 0) (unread : (f : Fault) → inputs.Unread f → NamesNoByte f) (given : X) where
   same_fault : (f g : Fault) (final : Result R Fault) (held now : Option (List ℕ)) → IsFlushed (Err g) held final now → final ≡ Err f → f ≡ g
@@ -34,11 +35,32 @@ module _ {X R : Type 0} (inputs : Inputs X) (IsObject : X → Fault → List ℕ
   reports format.Json done final held now f old new told read flushed is (object, of, written) =
       (object, record { given = given; read = read_or_nowhere done final held now f read flushed is; is = of }, written)
 
-  pub ends_read : (ending : Ending R) (kind : FaultFormat) (done final : Result R Fault) (held now : Option (List ℕ)) (e : RunEnd) (x : Explained) (old new : Option (List ℕ)) → AreReadOr inputs given done → IsFlushed done held final now
-      → Ends ending (IsReported kind (IsObject given)) final e old new → Ends ending (IsReported kind (IsObjectRead inputs IsObject)) final (record { status = e.status; told = e.told; explained = x }) old new
-  ends_read ending kind done (Ok r) held now e x old new read flushed ends = ends
-  ends_read ending kind done (Err f) held now e x old new read flushed (status_is, reported) =
+  ends_read : (ending : Ending R) (kind : FaultFormat) (done final : Result R Fault) (held now : Option (List ℕ)) (e : RunEnd) (old new : Option (List ℕ))
+      → AreReadOr inputs given done → IsFlushed done held final now
+      → Ends ending (IsReported kind (IsObject given)) final e old new → Ends ending (IsReported kind (IsObjectRead inputs IsObject)) final e old new
+  ends_read ending kind done (Ok r) held now e old new read flushed ends = ends
+  ends_read ending kind done (Err f) held now e old new read flushed (status_is, reported) =
       (status_is, reports kind done (Err f) held now f old new e.told read flushed refl reported)
+
+  -- so a run ends as it is concluded of what was read
+  module _ (Explains : X → Fault → List ℕ → Type 0)
+      (silent : (f : Fault) → inputs.Unread f → (given : X) (lines : List ℕ) → Explains given f lines → ⊥) where
+    pub concluded_read : (ending : Ending R) (kind : FaultFormat) (done final : Result R Fault) (held now : Option (List ℕ)) (e : RunEnd) (old new : Option (List ℕ))
+        → AreReadOr inputs given done → IsFlushed done held final now
+        → IsConcluded ending kind (IsObject given) (λ f. IsSaid (Explains given f)) final e old new
+        → IsConcluded ending kind (IsObjectRead inputs IsObject) (IsSaidOfRead inputs Explains) final e old new
+    concluded_read ending kind done final held now e old new read flushed (between, ends, told) = (
+      between,
+      ends_read ending kind done final held now e old between read flushed ends,
+      tells inputs Explains silent given (is_explained kind) done final held now e.explained between new read flushed told,
+    )
+
+-- how a run ends says nothing of what explains its refusal
+pub with_explained : {R : Type 0} (ending : Ending R) (IsReported : Fault → Option (List ℕ) → Option (List ℕ) → Result (Unit {0}) WriteFault → Type 0)
+    (done : Result R Fault) (e : RunEnd) (x : Explained) (old new : Option (List ℕ))
+    → Ends ending IsReported done e old new → Ends ending IsReported done (record { status = e.status; told = e.told; explained = x }) old new
+with_explained ending IsReported (Ok r) e x old new ends = ends
+with_explained ending IsReported (Err f) e x old new ends = ends
 
 no_byte_of_text : (cause : InputFault) → NamesNoByte (fault_of_text cause)
 no_byte_of_text input.Device = refl

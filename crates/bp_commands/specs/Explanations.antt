@@ -57,14 +57,15 @@ IsExplanationOf Explains lines =
 -- them was refused.
 abbrev pub IsSaid : (List ℕ → Type 0) → Explained → List ℕ → Type 0
 IsSaid Explains e said =
-    (Explains said × (said ≢ []))
+    ((e.lines ≡ Ok tt) × (Explains said × (said ≢ [])))
     ⊎ ((IsUnexplained Explains ⊎ IsErr e.lines) × IsInWords said)
 
 -- what is said where these lines were made, or memory for them was refused
 abbrev pub IsSaidFor
     : Result (Vec ℕ Global) AllocError → Explained → List ℕ → Type 0
 IsSaidFor (Ok lines) e said =
-    ((said ≡ lines.items) × (lines.items ≢ [])) ⊎ ((lines.items ≡ []) × IsInWords said)
+    (e.lines ≡ Ok tt)
+    × (((said ≡ lines.items) × (lines.items ≢ [])) ⊎ ((lines.items ≡ []) × IsInWords said))
 IsSaidFor (Err refused) e said = IsErr e.lines × IsInWords said
 
 -- Standard error has these bytes before and after what is added. After a refusal that is to be

@@ -12,6 +12,7 @@ pub mod Files
 pub mod Flushes
 pub mod Given
 pub mod Inputs
+pub mod Jobs
 pub mod Listings
 pub mod ProgressTexts
 pub mod ReplayLines

@@ -8,8 +8,10 @@ use Rattle.bp_commands.specs.declared.fault_formats.FaultFormat.{FaultFormat}
 use Rattle.bp_commands.specs.declared.fault_formats.FaultFormat.TheVariants as format
 use Rattle.bp_commands.specs.declared.faults.Fault.{Fault}
 use Rattle.bp_commands.specs.declared.faults.Fault.TheVariants.{Device, TooLong, Program, Setup, Schedule, Trace, NoFailure}
-use Rattle.bp_commands.specs.Ends.{HasFaultLine}
-use Rattle.bp_commands.specs.Explanations.{ExplainsPair, ExplainsText}
+use Rattle.bp_commands.specs.declared.ends.Explained.{Explained}
+use Rattle.bp_commands.specs.declared.ends.RunEnd.{RunEnd}
+use Rattle.bp_commands.specs.Ends.{Ending, Ends, HasFaultLine}
+use Rattle.bp_commands.specs.Explanations.{ExplainsPair, ExplainsText, IsTold}
 use Rattle.bp_commands.specs.FaultObjects.{byte_of, fault_object}
 use Rattle.bp_commands.specs.FaultTable.{fault_row}
 use Rattle.bp_commands.specs.Given.{Inputs, Pair}
@@ -29,10 +31,10 @@ IsReported format.Json IsObject f old new told =
 IsReported other IsObject f old new told = HasFaultLine f old new told
 
 -- the file that a fault of a command on one program is in
-abbrev pub file_of_text : List ℕ → Fault → Option (List ℕ)
-file_of_text name Device = Some name
-file_of_text name (Program f) = Some name
-file_of_text name f = None
+abbrev pub IsFileOfText : List ℕ → Fault → Option (List ℕ) → Type 0
+IsFileOfText name Device file = file ≡ Some name
+IsFileOfText name (Program f) file = file ≡ Some name
+IsFileOfText name f file = file ≡ None
 
 -- The file that a fault of a command on a program and an input beside it is in. Which of them could
 -- not be read is not said.
@@ -46,19 +48,13 @@ IsFileOfPair kind name input_name NoFailure file = file ≡ Some input_name
 IsFileOfPair beside.Trace name input_name (Setup f) file = file ≡ Some input_name
 IsFileOfPair kind name input_name f file = file ≡ None
 
--- the object of a fault of the program in the file of this name
-pub record IsTextObject (name text : List ℕ) (f : Fault) (object : List ℕ) : Type 0 where
-  pub message : List ℕ
-  pub is : object ≡ fault_object f (file_of_text name f) text message
-
--- the object of a fault of a program, or of the input beside it
-pub record IsPairObject
-    (kind : Beside) (name input_name : List ℕ) (given : Pair) (f : Fault) (object : List ℕ)
-    : Type 0 where
-  pub file : Option (List ℕ)
-  pub named : IsFileOfPair kind name input_name f file
-  pub message : List ℕ
-  pub is : object ≡ fault_object f file given.text message
+-- the object of a fault that is in such a file, beside the program of this text
+module _ (IsIn : Fault → Option (List ℕ) → Type 0) (text : List ℕ) where
+  pub record IsObjectIn (f : Fault) (object : List ℕ) : Type 0 where
+    pub file : Option (List ℕ)
+    pub named : IsIn f file
+    pub message : List ℕ
+    pub is : object ≡ fault_object f file text message
 
 -- what is told of faults of these inputs: the lines that explain one, and its object
 pub record Telling (X : Type 0) : Type 1 where
@@ -66,12 +62,15 @@ pub record Telling (X : Type 0) : Type 1 where
   pub IsObject : X → Fault → List ℕ → Type 0
 
 abbrev pub on_text : List ℕ → Telling (List ℕ)
-on_text name = record { Explains = ExplainsText name; IsObject = IsTextObject name }
+on_text name = record {
+  Explains = ExplainsText name;
+  IsObject = λ text. IsObjectIn (IsFileOfText name) text;
+}
 
 abbrev pub on_pair : Beside → List ℕ → List ℕ → Telling Pair
 on_pair kind name input_name = record {
   Explains = ExplainsPair kind name input_name;
-  IsObject = IsPairObject kind name input_name;
+  IsObject = λ given. IsObjectIn (IsFileOfPair kind name input_name) given.text;
 }
 
 -- nothing is explained, and no fault has an object
@@ -88,3 +87,14 @@ module _ {X : Type 0} (inputs : Inputs X) (IsObject : X → Fault → List ℕ �
     pub given : X
     pub read : inputs.Holds given ⊎ NamesNoByte f
     pub is : IsObject given f object
+
+-- A run ended so: its summary was written, or its refusal in this format, by an object in JSON. Then
+-- what is said of the refusal was, where the format explains it.
+abbrev pub IsConcluded
+    : {R : Type 0} → Ending R → FaultFormat → (Fault → List ℕ → Type 0)
+    → (Fault → Explained → List ℕ → Type 0) → Result R Fault → RunEnd
+    → Option (List ℕ) → Option (List ℕ) → Type 0
+IsConcluded ending format IsObject IsSaid done end old new =
+    (between : Option (List ℕ))
+    × Ends ending (IsReported format IsObject) done end old between
+    × IsTold (is_explained format) IsSaid done end.explained between new

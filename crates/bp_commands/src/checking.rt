@@ -6,9 +6,9 @@ use crate::commands::ProgramCommand;
 use crate::faults::Fault;
 use bp_check::Checked;
 use bp_code::lawful_program;
-use bp_text::{WriteFault, put, put_each};
+use bp_text::Piece::{Bytes, Number};
+use bp_text::{WriteFault, put, put_pieces};
 use bp_view::program_object;
-use itoa::Buffer;
 use std::alloc::Global;
 use std::io::Write;
 
@@ -18,11 +18,16 @@ pub fn show_check<W: Write>(checked: &Checked, out: &mut W) -> Result<(), WriteF
     ensures { Writes (W.contents out.old) (W.contents out.new) (check_line checked.now) result }
 {
     let tree = checked.tree();
-    let mut first = Buffer::new();
-    let mut second = Buffer::new();
-    let procedures = first.format(tree.procs().len()).as_bytes();
-    let globals = second.format(tree.globals().len()).as_bytes();
-    put_each(out, &[b"ok ", procedures, b" ", globals, b"\n"])
+    put_pieces(
+        out,
+        &[
+            Bytes(b"ok "),
+            Number(tree.procs().len() as u64),
+            Bytes(b" "),
+            Number(tree.globals().len() as u64),
+            Bytes(b"\n"),
+        ],
+    )
 }
 
 /// `check`: writes `ok P G` with the numbers of a program's procedures and globals, or an object

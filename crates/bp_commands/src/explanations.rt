@@ -2,7 +2,7 @@
 ghost use Rattle.std.specs.Prelude.{◌≡◌, ◌++◌, ◌∷◌, [], ℕ, List, IfOk};
 ghost use Rattle.bp_explain.specs.Explained.{ExplainsSchedule};
 ghost use Rattle.bp_text.specs.Writing.{Writes};
-ghost use Rattle.bp_commands.specs.Explanations.{ExplainsInput, ExplainsPair, ExplainsText, IsExplanationOf, IsInWords, IsSaid, IsSaidFor, IsTold};
+ghost use Rattle.bp_commands.specs.Explanations.{ExplainsInput, ExplainsPair, ExplainsText, IsExplanationOf, IsInWords, IsSaidFor};
 ghost use Rattle.bp_commands.specs.Given.{Pair};
 
 use crate::ends::Explained;
@@ -13,7 +13,8 @@ use bp_code::ProgramFault;
 use bp_explain::{explain_program, explain_schedule, explain_trace};
 use bp_machine::Start;
 use bp_syntax::ReadFault;
-use bp_text::{WriteFault, first_line, put, put_each};
+use bp_text::Piece::Bytes;
+use bp_text::{WriteFault, first_line, put, put_pieces};
 use bp_trace::{DriveFault, ReplayFault};
 use std::alloc::{AllocError, Global};
 use std::io::Write;
@@ -125,7 +126,7 @@ fn put_words<E: Write>(words: &[u8], errors: &mut E) -> Result<(), WriteFault>
     ensures { (said : List ℕ) × IsInWords said
         × Writes (E.contents errors.old) (E.contents errors.new) said result }
 {
-    put_each(errors, &[first_line(words), b"\n"])
+    put_pieces(errors, &[Bytes(first_line(words)), Bytes(b"\n")])
 }
 
 /// Writes the fault in a sentence, which says what is known of the command line.
@@ -146,7 +147,7 @@ fn put_sentence<E: Write>(
 
 /// Writes the explanation of a fault; or else the fault in a sentence, where there is none or no
 /// memory for it.
-fn put_explanation<E: Write>(
+pub(crate) fn put_explanation<E: Write>(
     alloc: Global,
     lines: &Result<Vec<u8>, AllocError>,
     fault: &Fault,
@@ -169,54 +170,5 @@ fn put_explanation<E: Write>(
             lines: Err(AllocError),
             told: put_sentence(alloc, fault, hints, errors),
         },
-    }
-}
-
-/// Explains the refusal of a command on a program, where that is asked for.
-pub(crate) fn explain_on_program<T, E: Write>(
-    alloc: Global,
-    asked: bool,
-    done: &Result<T, Fault>,
-    program: Named<'_>,
-    hints: Hints<'_>,
-    errors: &mut E,
-) -> Explained
-    ensures { let Explains = ExplainsText program.entry.name.now program.entry.text.now in
-        IsTold asked (λ f. IsSaid (Explains f)) done.now result
-        (E.contents errors.old) (E.contents errors.new) }
-{
-    match (asked, done) {
-        (true, Err(fault)) => {
-            let lines = of_program(alloc, fault, program);
-            put_explanation(alloc, &lines, fault, hints, errors)
-        }
-        _ => Explained::NOTHING,
-    }
-}
-
-/// Explains the refusal of a command on a program and an input beside it, where that is asked for.
-pub(crate) fn explain_on_pair<T, E: Write>(
-    alloc: Global,
-    beside: Beside,
-    asked: bool,
-    done: &Result<T, Fault>,
-    start: Option<&Start>,
-    program: Named<'_>,
-    input: Named<'_>,
-    hints: Hints<'_>,
-    errors: &mut E,
-) -> Explained
-    ensures { let given : Pair =
-        record { text = program.entry.text.now; input = input.entry.text.now } in
-        let Explains = ExplainsPair beside program.entry.name.now input.entry.name.now given in
-        IsTold asked (λ f. IsSaid (Explains f)) done.now result
-        (E.contents errors.old) (E.contents errors.new) }
-{
-    match (asked, done) {
-        (true, Err(fault)) => {
-            let lines = of_pair(alloc, beside, fault, start, program, input);
-            put_explanation(alloc, &lines, fault, hints, errors)
-        }
-        _ => Explained::NOTHING,
     }
 }

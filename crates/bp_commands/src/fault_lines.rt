@@ -5,8 +5,8 @@ ghost use Rattle.bp_commands.specs.FaultTable.{detail_text, fault_line, fault_he
 
 use crate::fault_table::{Detail, Row};
 use crate::faults::Fault;
-use bp_text::{WriteFault, put, put_each};
-use itoa::Buffer;
+use bp_text::Piece::{Bytes, Number};
+use bp_text::{WriteFault, put, put_pieces};
 use std::io::Write;
 
 /// Writes the number and the name of a fault.
@@ -14,24 +14,28 @@ fn put_head<W: Write>(row: Row, out: &mut W) -> Result<(), WriteFault>
     ensures { Writes (W.contents out.old) (W.contents out.new)
         (fault_head row.number row.name.now) result }
 {
-    let mut buffer = Buffer::new();
-    let number = buffer.format(row.number).as_bytes();
-    put_each(out, &[b"btrun: ", number, b" ", row.name])
+    let number = Number(u64::from(row.number));
+    put_pieces(
+        out,
+        &[Bytes(b"btrun: "), number, Bytes(b" "), Bytes(row.name)],
+    )
 }
 
 /// Writes what a fault names.
 fn put_detail<W: Write>(detail: Detail, out: &mut W) -> Result<(), WriteFault>
     ensures { Writes (W.contents out.old) (W.contents out.new) (detail_text detail) result }
 {
-    let mut buffer = Buffer::new();
     match detail {
         Detail::Nothing => Ok(()),
-        Detail::Byte(n) => put_each(out, &[b" at ", buffer.format(n).as_bytes()]),
-        Detail::Thread(n) => put_each(out, &[b" thread ", buffer.format(n).as_bytes()]),
-        Detail::Line(n) => put_each(out, &[b" line ", buffer.format(n).as_bytes()]),
+        Detail::Byte(n) => put_pieces(out, &[Bytes(b" at "), Number(u64::from(n))]),
+        Detail::Thread(n) => put_pieces(out, &[Bytes(b" thread "), Number(u64::from(n))]),
+        Detail::Line(n) => put_pieces(out, &[Bytes(b" line "), Number(u64::from(n))]),
         Detail::Wanted(n, reply) => {
-            let place = buffer.format(n).as_bytes();
-            put_each(out, &[b" line ", place, b" wanted ", &[reply.letter()]])
+            let (line, letter) = (Number(u64::from(n)), [reply.letter()]);
+            put_pieces(
+                out,
+                &[Bytes(b" line "), line, Bytes(b" wanted "), Bytes(&letter)],
+            )
         }
     }
 }

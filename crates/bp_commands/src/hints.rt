@@ -9,7 +9,7 @@ use bp_run::RunOptions;
 use std::alloc::Global;
 
 /// The numbers among the options of a command that have a range.
-#[derive(Clone, Copy, Debug, PartialEq, Eq)]
+#[derive(Clone, Copy, PartialEq, Eq)]
 pub(crate) struct Numbers {
     contexts: u32,
     calls: u32,

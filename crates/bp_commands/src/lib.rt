@@ -56,7 +56,7 @@ pub use progress::{clear_progress, put_progress};
 pub use replay_lines::show_replay;
 pub use replaying::Replay;
 pub use running::{run_program, run_text};
-pub use runs::{run_by_workers, run_on_bundle, run_on_pair, run_on_program};
+pub use runs::{Workers, run_by_workers, run_on_bundle, run_on_pair, run_on_program};
 pub use showing::Show;
 pub use shrinking::Shrink;
 pub use stating::ShowState;

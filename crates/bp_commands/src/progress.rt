@@ -3,12 +3,12 @@ ghost use Rattle.std.specs.Prelude.{◌≡◌};
 ghost use Rattle.bp_text.specs.Writing.{Writes};
 ghost use Rattle.bp_commands.specs.ProgressTexts.{cleared, progress_text, rate_of, seconds_left};
 
-use bp_text::{WriteFault, put, put_each};
-use itoa::Buffer;
+use bp_text::Piece::{Bytes, Number};
+use bp_text::{WriteFault, put, put_pieces};
 use std::io::Write;
 
 /// What puts the cursor of a terminal at the beginning of the line and clears it.
-fn cleared<'a>() -> &'a [u8]
+fn cleared() -> &'static [u8]
     ensures { result.now ≡ cleared }
 {
     b"\r\x1b[K"
@@ -39,28 +39,19 @@ pub fn put_progress<W: Write>(
     ensures { let text = progress_text done runs millis in
         Writes (W.contents out.old) (W.contents out.new) text result }
 {
-    let mut made = Buffer::new();
-    let mut all = Buffer::new();
-    let mut rate = Buffer::new();
-    let mut left = Buffer::new();
-    let each = rate_of(done, millis);
-    let seconds = seconds_left(done, runs, each);
-    let made = made.format(done).as_bytes();
-    let all = all.format(runs).as_bytes();
-    let rate = rate.format(each).as_bytes();
-    let left = left.format(seconds).as_bytes();
-    put_each(
+    let rate = rate_of(done, millis);
+    put_pieces(
         out,
         &[
-            cleared(),
-            made,
-            b" of ",
-            all,
-            b" runs, ",
-            rate,
-            b" a second, ",
-            left,
-            b" s left",
+            Bytes(cleared()),
+            Number(done),
+            Bytes(b" of "),
+            Number(runs),
+            Bytes(b" runs, "),
+            Number(rate),
+            Bytes(b" a second, "),
+            Number(seconds_left(done, runs, rate)),
+            Bytes(b" s left"),
         ],
     )
 }

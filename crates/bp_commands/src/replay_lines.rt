@@ -5,9 +5,9 @@ ghost use Rattle.bp_trace.specs.Replayed.{row_of};
 ghost use Rattle.bp_commands.specs.ReplayLines.{bit_text, outcome_line, printed_line, row_line, shown_text};
 
 use bp_machine::Outcome;
-use bp_text::{WriteFault, put, put_each};
+use bp_text::Piece::{Bytes, Number};
+use bp_text::{WriteFault, put, put_pieces};
 use bp_trace::{Printed, Replayed};
-use itoa::Buffer;
 use std::io::Write;
 
 /// The digit of a value.
@@ -32,9 +32,8 @@ fn put_values<W: Write>(values: &[bool], out: &mut W) -> Result<(), WriteFault>
 fn put_row<W: Write>(row: &Printed, out: &mut W) -> Result<(), WriteFault>
     ensures { Writes (W.contents out.old) (W.contents out.new) (row_line (row_of row.now)) result }
 {
-    let mut buffer = Buffer::new();
-    let thread = buffer.format(row.thread).as_bytes();
-    put_each(out, &[b"print ", thread, b" "])?;
+    let thread = u64::from(row.thread);
+    put_pieces(out, &[Bytes(b"print "), Number(thread), Bytes(b" ")])?;
     put_values(row.values.as_slice(), out)?;
     put(out, b"\n")
 }
@@ -57,9 +56,8 @@ fn put_outcome<W: Write>(outcome: Outcome, out: &mut W) -> Result<(), WriteFault
     match outcome {
         Outcome::Clean => put(out, b"outcome clean\n"),
         Outcome::Failed { thread } => {
-            let mut buffer = Buffer::new();
-            let number = buffer.format(thread).as_bytes();
-            put_each(out, &[b"outcome failed ", number, b"\n"])
+            let number = Number(u64::from(thread));
+            put_pieces(out, &[Bytes(b"outcome failed "), number, Bytes(b"\n")])
         }
     }
 }

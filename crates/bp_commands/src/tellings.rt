@@ -1,15 +1,16 @@
-//! How a run ends in each format of its refusals: the exit status, and what is told first.
-ghost use Rattle.std.specs.Prelude.{◌≡◌, ℕ, List};
+//! What is told of the faults of the texts that a command was given.
+ghost use Rattle.std.specs.Prelude.{◌≡◌, ℕ, List, Option, IfOk};
 ghost use Rattle.bp_text.specs.Writing.{Writes};
 ghost use Rattle.bp_commands.specs.Ends.{Ends};
-ghost use Rattle.bp_commands.specs.FaultObjects.{fault_object};
+ghost use Rattle.bp_commands.specs.Explanations.{ExplainsPair, ExplainsText, IsExplanationOf, IsSaid, IsTold};
+ghost use Rattle.bp_commands.specs.FaultObjects.{name_in};
 ghost use Rattle.bp_commands.specs.FaultTable.{status_of};
 ghost use Rattle.bp_commands.specs.Given.{Pair};
-ghost use Rattle.bp_commands.specs.FaultObjects.{name_in};
-ghost use Rattle.bp_commands.specs.Tellings.{file_of_text, IsFileOfPair, IsPairObject, IsReported, IsTextObject};
+ghost use Rattle.bp_commands.specs.Tellings.{is_explained, IsConcluded, IsFileOfPair, IsFileOfText, IsObjectIn, IsReported};
+ghost use Rattle.bp_commands.specs.declared.faults.Fault.{Fault as SomeFault};
 
 use crate::ends::{Ended, Explained, RunEnd, end};
-use crate::explanations::{Beside, Named, of_pair, of_program};
+use crate::explanations::{Beside, Named, of_pair, of_program, put_explanation};
 use crate::fault_formats::FaultFormat;
 use crate::fault_objects::put_fault_object;
 use crate::faults::Fault;
@@ -19,57 +20,116 @@ use bp_machine::Start;
 use std::alloc::{AllocError, Global};
 use std::io::Write;
 
-/// The file that a fault of a command on one program is in.
-fn file_of_text<'a>(name: &'a str, fault: &Fault) -> Option<&'a str>
-    ensures { name_in result ≡ file_of_text name.entry.now fault.now }
-{
-    match fault {
-        Fault::Device | Fault::Program(_) => Some(name),
-        _ => None,
+/// The texts that a command was given.
+pub(crate) trait Texts {
+    ghost explains: { Self → SomeFault → List ℕ → Type 0 };
+
+    ghost is_in: { Self → SomeFault → Option (List ℕ) → Type 0 };
+
+    ghost program: { Self → List ℕ };
+
+    /// The lines that explain a fault of the texts; none where nothing does.
+    fn explanation(&self, alloc: Global, fault: &Fault) -> Result<Vec<u8>, AllocError>
+        ensures { IfOk result (λ v. IsExplanationOf (explains self.now fault.now) v.items) };
+
+    /// The name of the file that a fault is in.
+    fn file(&self, fault: &Fault, hints: Hints<'_>) -> Option<&str>
+        ensures { is_in self.now fault.now (name_in result) };
+
+    /// The text of the program.
+    fn program(&self) -> &[u8]
+        ensures { result.now ≡ program self.now };
+}
+
+impl Texts for Named<'_> {
+    ghost explains = { λ t. ExplainsText t.name.now t.text.now };
+
+    ghost is_in = { λ t. IsFileOfText t.name.now };
+
+    ghost program = { λ t. t.text.now };
+
+    fn explanation(&self, alloc: Global, fault: &Fault) -> Result<Vec<u8>, AllocError> {
+        of_program(alloc, fault, *self)
+    }
+
+    fn file(&self, fault: &Fault, _hints: Hints<'_>) -> Option<&str> {
+        match fault {
+            Fault::Device | Fault::Program(_) => Some(self.name),
+            _ => None,
+        }
+    }
+
+    fn program(&self) -> &[u8] {
+        self.text
     }
 }
 
-/// The file that a fault of a command on a program and an input beside it is in.
-fn file_of_pair<'a>(
-    beside: Beside,
-    name: &'a str,
-    input_name: &'a str,
-    fault: &Fault,
-    hints: Hints<'_>,
-) -> Option<&'a str>
-    ensures { let file = name_in result in
-        IsFileOfPair beside name.entry.now input_name.entry.now fault.now file }
-{
-    match (beside, fault) {
-        (_, Fault::Program(_)) => Some(name),
-        (_, Fault::Device) => Some(if hints.is_unread(name) {
-            name
-        } else {
-            input_name
-        }),
-        (_, Fault::TooLong | Fault::Schedule(_) | Fault::Trace(_) | Fault::NoFailure) => {
-            Some(input_name)
+/// A program, and the schedule or the trace beside it, which has a start of its own or this one.
+#[derive(Clone, Copy)]
+pub(crate) struct NamedPair<'a> {
+    pub(crate) program: Named<'a>,
+    pub(crate) input: Named<'a>,
+    pub(crate) beside: Beside,
+    pub(crate) start: Option<&'a Start>,
+}
+
+impl Texts for NamedPair<'_> {
+    ghost explains = { λ t.
+        let given : Pair = record { text = t.program.text.now; input = t.input.text.now } in
+        ExplainsPair t.beside t.program.name.now t.input.name.now given };
+
+    ghost is_in = { λ t. IsFileOfPair t.beside t.program.name.now t.input.name.now };
+
+    ghost program = { λ t. t.program.text.now };
+
+    fn explanation(&self, alloc: Global, fault: &Fault) -> Result<Vec<u8>, AllocError> {
+        of_pair(
+            alloc,
+            self.beside,
+            fault,
+            self.start,
+            self.program,
+            self.input,
+        )
+    }
+
+    fn file(&self, fault: &Fault, hints: Hints<'_>) -> Option<&str> {
+        let (program, input) = (self.program.name, self.input.name);
+        match (self.beside, fault) {
+            (_, Fault::Program(_)) => Some(program),
+            (_, Fault::Device) => Some(if hints.is_unread(program) {
+                program
+            } else {
+                input
+            }),
+            (_, Fault::TooLong | Fault::Schedule(_) | Fault::Trace(_) | Fault::NoFailure) => {
+                Some(input)
+            }
+            (Beside::Trace, Fault::Setup(_)) => Some(input),
+            _ => None,
         }
-        (Beside::Trace, Fault::Setup(_)) => Some(input_name),
-        _ => None,
+    }
+
+    fn program(&self) -> &[u8] {
+        self.program.text
     }
 }
 
 /// Writes the object of a fault, and answers how it ends a run.
-fn end_by_object<E: Write>(
+fn end_by_object<G: Texts, E: Write>(
     alloc: Global,
-    lines: Result<Vec<u8>, AllocError>,
+    given: &G,
     fault: &Fault,
-    file: Option<&str>,
-    text: &[u8],
     hints: Hints<'_>,
     errors: &mut E,
 ) -> RunEnd
     ensures status { result.status ≡ status_of fault.now }
-    ensures object { (message : List ℕ)
-        × (let object = fault_object fault.now (name_in file.entry) text.now message in
-        Writes (E.contents errors.old) (E.contents errors.new) object result.told) }
+    ensures object { (object : List ℕ)
+        × IsObjectIn (G.is_in given.now) (G.program given.now) fault.now object
+        × Writes (E.contents errors.old) (E.contents errors.new) object result.told }
 {
+    let lines = given.explanation(alloc, fault);
+    let file = given.file(fault, hints);
     let message = message(alloc, lines, file, fault, hints);
     let words = match &message {
         Ok(message) => message.as_slice(),
@@ -77,59 +137,66 @@ fn end_by_object<E: Write>(
     };
     RunEnd {
         status: fault.status(),
-        told: put_fault_object(fault, file, text, words, errors),
+        told: put_fault_object(fault, file, given.program(), words, errors),
         explained: Explained::NOTHING,
     }
 }
 
-/// Ends a run of a command on a program by what it answered, with a refusal in this format.
-pub(crate) fn end_on_program<T: Ended, E: Write>(
+/// Ends a run by what its command answered, with a refusal in this format.
+fn report<G: Texts, T: Ended, E: Write>(
     alloc: Global,
     format: FaultFormat,
+    given: &G,
     done: &Result<T, Fault>,
-    program: Named<'_>,
     hints: Hints<'_>,
     errors: &mut E,
 ) -> RunEnd
-    ensures { let IsObject = IsTextObject program.entry.name.now program.entry.text.now in
+    ensures { let IsObject = IsObjectIn (G.is_in given.now) (G.program given.now) in
         Ends T.ending (IsReported format IsObject) done.now result
         (E.contents errors.old) (E.contents errors.new) }
 {
     match (format, done) {
-        (FaultFormat::Json, Err(fault)) => {
-            let lines = of_program(alloc, fault, program);
-            let file = file_of_text(program.name, fault);
-            end_by_object(alloc, lines, fault, file, program.text, hints, errors)
-        }
+        (FaultFormat::Json, Err(fault)) => end_by_object(alloc, given, fault, hints, errors),
         _ => end(done, errors),
     }
 }
 
-/// Ends a run of a command on a program and an input beside it by what it answered, with a refusal
-/// in this format.
-pub(crate) fn end_on_pair<T: Ended, E: Write>(
+/// Explains a refusal, where the format has an explanation.
+fn explain<G: Texts, T, E: Write>(
     alloc: Global,
-    beside: Beside,
     format: FaultFormat,
+    given: &G,
     done: &Result<T, Fault>,
-    start: Option<&Start>,
-    program: Named<'_>,
-    input: Named<'_>,
+    hints: Hints<'_>,
+    errors: &mut E,
+) -> Explained
+    ensures { IsTold (is_explained format) (λ f. IsSaid (G.explains given.now f)) done.now result
+        (E.contents errors.old) (E.contents errors.new) }
+{
+    match (format.is_explained(), done) {
+        (true, Err(fault)) => {
+            let lines = given.explanation(alloc, fault);
+            put_explanation(alloc, &lines, fault, hints, errors)
+        }
+        _ => Explained::NOTHING,
+    }
+}
+
+/// Ends a run by what its command answered: writes its summary, or its refusal in this format and
+/// what explains it.
+pub(crate) fn conclude<G: Texts, T: Ended, E: Write>(
+    alloc: Global,
+    format: FaultFormat,
+    given: &G,
+    done: &Result<T, Fault>,
     hints: Hints<'_>,
     errors: &mut E,
 ) -> RunEnd
-    ensures { let given : Pair =
-        record { text = program.entry.text.now; input = input.entry.text.now } in
-        let IsObject = IsPairObject beside program.entry.name.now input.entry.name.now given in
-        Ends T.ending (IsReported format IsObject) done.now result
+    ensures { let IsObject = IsObjectIn (G.is_in given.now) (G.program given.now) in
+        IsConcluded T.ending format IsObject (λ f. IsSaid (G.explains given.now f)) done.now result
         (E.contents errors.old) (E.contents errors.new) }
 {
-    match (format, done) {
-        (FaultFormat::Json, Err(fault)) => {
-            let lines = of_pair(alloc, beside, fault, start, program, input);
-            let file = file_of_pair(beside, program.name, input.name, fault, hints);
-            end_by_object(alloc, lines, fault, file, program.text, hints, errors)
-        }
-        _ => end(done, errors),
-    }
+    let end = report(alloc, format, given, done, hints, errors);
+    let explained = explain(alloc, format, given, done, hints, errors);
+    RunEnd { explained, ..end }
 }

@@ -3,7 +3,7 @@
 use crate::echoes::error_on_lines;
 use crate::host_files::HostFiles;
 use crate::progress_lines::ProgressLine;
-use crate::tasks::do_task;
+use crate::tasks::{Io, do_task};
 use crate::usage::{refuse_memory, refuse_words, tell};
 use bp_text::put;
 use bp_words::{Task, read_words};
@@ -75,20 +75,14 @@ fn do_on_host<T: Threads + Wait + Clock + Sync>(
         return refuse_memory(&mut errors).status;
     };
     say_that_it_waits(rt, task);
-    let colour = has_colour(rt);
-    let progress = progress_line(rt, task);
-    let (end, _output) = do_task(
+    let io = Io {
         alloc,
-        threads,
-        &progress,
-        &files,
-        rt.stderr().is_terminal(),
-        rt.stdin(),
-        colour,
-        task,
-        out,
-        &mut errors,
-    );
+        files: &files,
+        has_colour: has_colour(rt),
+        on_terminal: rt.stderr().is_terminal(),
+    };
+    let progress = progress_line(rt, task);
+    let (end, _output) = do_task(io, threads, &progress, rt.stdin(), task, out, &mut errors);
     // What standard error refused can be told nowhere else.
     end.status
 }

@@ -1,11 +1,11 @@
 use Rattle.std.specs.Io.Buffered.{writer_contents}
 use Rattle.bp_commands.specs.Ends.{of_run}
 use Rattle.bp_commands.specs.Explanations.{ExplainsText, AreReadOr}
-use Rattle.bp_commands.specs.Tellings.{is_explained, IsTextObject}
 use Rattle.bp_commands.specs.Files.{rest_of}
 use Rattle.bp_commands.specs.Given.{text_alone}
-use Rattle.bp_commands.proofs.ExplainedRuns.{tells, text_unread}
-use Rattle.bp_commands.proofs.ObjectsOfReads.{ends_read, no_byte_unread}
+use Rattle.bp_commands.specs.Tellings.{IsFileOfText, IsObjectIn}
+use Rattle.bp_commands.proofs.ExplainedRuns.{text_unread}
+use Rattle.bp_commands.proofs.ObjectsOfReads.{concluded_read, no_byte_unread}
 use Rattle.bp_commands.proofs.runs.run_by_workers.Goals as goal
 
 pub returns : goal.returns
@@ -23,7 +23,7 @@ returns g c =
       answers = rw (← c.source-program.ensures) c.run_program-done.ensures.answers;
       final = c.flushed-done.result.0;
       flushed = c.flushed-done.ensures;
-      told = g.E.Write.contents c.end_on_program-end.new.errors;
-      ends = ends_read inputs (IsTextObject path) (no_byte_unread _ _) text of_run c.args.format _ _ _ _ _ _ _ _ holds c.flushed-done.ensures (rw c.deref.ensures.value at c.end_on_program-end.ensures);
-      explained = tells inputs (ExplainsText path) (text_unread path _ _) text (is_explained c.args.format) _ _ _ _ _ _ _ holds c.flushed-done.ensures (rw (c.deref.ensures.value, c.is_explained-explains.ensures) at c.explain_on_program-explained.ensures);
+      concluded =
+          concluded_read inputs (λ t. IsObjectIn (IsFileOfText path) t) (no_byte_unread _ _) text (ExplainsText path) (text_unread path _ _) of_run c.args.format _ _ _ _ _ _ _
+          holds c.flushed-done.ensures (rw c.deref.ensures.value at c.conclude-end.ensures);
     }

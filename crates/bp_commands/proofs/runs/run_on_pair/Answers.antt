@@ -2,11 +2,11 @@ use Rattle.std.proofs.Common.{ℕ, List, Option}
 use Rattle.std.specs.Io.Buffered.{writer_contents}
 use Rattle.bp_commands.specs.Ends.{of_report}
 use Rattle.bp_commands.specs.Explanations.{ExplainsPair, AreReadOr}
-use Rattle.bp_commands.specs.Tellings.{is_explained, IsPairObject}
 use Rattle.bp_commands.specs.Files.{rest_of, pair_of_files}
 use Rattle.bp_commands.specs.Given.{Pair}
-use Rattle.bp_commands.proofs.ExplainedRuns.{tells, pair_unread}
-use Rattle.bp_commands.proofs.ObjectsOfReads.{ends_read, no_byte_unread_pair}
+use Rattle.bp_commands.specs.Tellings.{IsFileOfPair, IsObjectIn}
+use Rattle.bp_commands.proofs.ExplainedRuns.{pair_unread}
+use Rattle.bp_commands.proofs.ObjectsOfReads.{concluded_read, no_byte_unread_pair}
 use Rattle.bp_commands.proofs.runs.run_on_pair.Goals as goal
 
 pub returns : goal.returns
@@ -30,7 +30,8 @@ returns g c =
       answers = rw (← c.source-program.ensures, ← c.source-input.ensures) c.do_on_pair-done.ensures.answers;
       final = c.flushed-done.result.0;
       flushed = c.flushed-done.ensures;
-      told = g.E.Write.contents c.end_on_pair-end.new.errors;
-      ends = ends_read inputs (IsPairObject kind path input_path) (no_byte_unread_pair _ _ _ _ _) given of_report c.args.format _ _ _ _ _ _ _ _ holds c.flushed-done.ensures (rw (c.beside-beside.ensures, c.deref.ensures.value, c.deref-2.ensures.value) at c.end_on_pair-end.ensures);
-      explained = tells inputs (ExplainsPair kind path input_path) (pair_unread kind path input_path _ _ _ _ _) given (is_explained c.args.format) _ _ _ _ _ _ _ holds c.flushed-done.ensures (rw (c.beside-beside.ensures, c.deref.ensures.value, c.deref-2.ensures.value, c.is_explained-explains.ensures) at c.explain_on_pair-explained.ensures);
+      concluded =
+          concluded_read inputs (λ (x : Pair). IsObjectIn (IsFileOfPair kind path input_path) x.text) (no_byte_unread_pair _ _ _ _ _) given (ExplainsPair kind path input_path)
+          (pair_unread kind path input_path _ _ _ _ _) of_report c.args.format _ _ _ _ _ _ _
+          holds c.flushed-done.ensures (rw (c.beside.ensures, c.deref.ensures.value, c.deref-2.ensures.value) at c.conclude-end.ensures);
     }

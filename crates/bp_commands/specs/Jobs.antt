@@ -1,0 +1,98 @@
+-- Runs of commands, from their inputs to the exit status, and what they leave on both streams.
+use Rattle.std.specs.Prelude.{ℕ, List, Option, Result}
+use Rattle.bp_machine.specs.declared.reports.Report.{Report}
+use Rattle.bp_commands.specs.Bundles.{bundles}
+use Rattle.bp_commands.specs.Commands.{Command, Answers}
+use Rattle.bp_commands.specs.declared.ends.RunEnd.{RunEnd}
+use Rattle.bp_commands.specs.declared.explanations.Beside.{Beside}
+use Rattle.bp_commands.specs.declared.fault_formats.FaultFormat.{FaultFormat}
+use Rattle.bp_commands.specs.declared.fault_formats.FaultFormat.TheVariants.{Line}
+use Rattle.bp_commands.specs.declared.faults.Fault.{Fault}
+use Rattle.bp_commands.specs.Ends.{of_report, Ending}
+use Rattle.bp_commands.specs.Explanations.{IsSaidOfRead}
+use Rattle.bp_commands.specs.Files.{pair_of_files}
+use Rattle.bp_commands.specs.Flushes.{IsFlushed}
+use Rattle.bp_commands.specs.Given.{bundle_alone, text_alone, Inputs, Pair}
+use Rattle.bp_commands.specs.Tellings.{on_nothing, on_pair, on_text, IsConcluded, IsObjectRead, Telling}
+
+-- a command on the inputs that it may leave unread in part, how it ends, what is told of faults of
+-- the inputs, and in which format
+pub record Job : Type 1 where
+  pub Left : Type 0
+  pub Given : Type 0
+  pub Answer : Type 0
+  pub command : Command Given Answer
+  pub ending : Ending Answer
+  pub inputs : Left → Inputs Given
+  pub telling : Telling Given
+  pub format : FaultFormat
+
+-- what the output and standard error held before and after a run
+pub record Streams : Type 0 where
+  pub output_before : Option (List ℕ)
+  pub output_after : Option (List ℕ)
+  pub errors_before : Option (List ℕ)
+  pub errors_after : Option (List ℕ)
+
+abbrev pub streams : (old new errors_old errors_new : Option (List ℕ)) → Streams
+streams old new errors_old errors_new = record {
+  output_before = old;
+  output_after = new;
+  errors_before = errors_old;
+  errors_after = errors_new;
+}
+
+-- The job was done: its command answered of the inputs, the output took what it wrote, or not all of
+-- its end, and standard error has its summary or its refusal, which names the inputs that were read.
+pub record IsRun (job : Job) (s : Streams) (end : RunEnd) : Type 0 where
+  pub left : job.Left
+  pub held : Option (List ℕ)
+  pub done : Result job.Answer Fault
+  pub answers : Answers job.command (job.inputs left) s.output_before held done
+  pub final : Result job.Answer Fault
+  pub flushed : IsFlushed done held final s.output_after
+  pub concluded :
+      let IsObject = IsObjectRead (job.inputs left) job.telling.IsObject in
+      let IsSaid = IsSaidOfRead (job.inputs left) job.telling.Explains in
+      IsConcluded job.ending job.format IsObject IsSaid final end s.errors_before s.errors_after
+
+module _ (bytes : List ℕ → Option (List ℕ)) (format : FaultFormat) where
+  -- a command on the program of a file
+  abbrev pub on_file : {R : Type 0} → Command (List ℕ) R → Ending R → List ℕ → Job
+  on_file {R} command ending path = record {
+    Left = Option (List ℕ);
+    Given = List ℕ;
+    Answer = R;
+    command = command;
+    ending = ending;
+    inputs = text_alone (bytes path);
+    telling = on_text path;
+    format = format;
+  }
+
+  -- a command on the program of a file and the input beside it, which has a limit
+  abbrev pub on_files
+      : Command Pair Report → ℕ → Beside → (path input_path : List ℕ) → Job
+  on_files command limit kind path input_path = record {
+    Left = Option (List ℕ) × Option (List ℕ);
+    Given = Pair;
+    Answer = Report;
+    command = command;
+    ending = of_report;
+    inputs = pair_of_files limit (bytes path) (bytes input_path);
+    telling = on_pair kind path input_path;
+    format = format;
+  }
+
+-- the bundle of a reader that has these bytes
+abbrev pub on_bundle : Option (List ℕ) → Job
+on_bundle bytes = record {
+  Left = Option (List ℕ);
+  Given = List ℕ;
+  Answer = Report;
+  command = bundles;
+  ending = of_report;
+  inputs = bundle_alone bytes;
+  telling = on_nothing;
+  format = Line;
+}
