@@ -1,10 +1,11 @@
 -- The listing of a code: a line for each procedure, and one for each of its instructions.
 use Rattle.std.specs.Prelude.{ℕ, ◌+◌, ◌-◌, List, [], ◌∷◌, ◌++◌, length, take, drop, flat_map, codes, decimal}
+use Rattle.std.specs.List.{concat}
 use Rattle.bp_code.specs.Flat.{Instruction, Skip, Goto, Return, Assign, If, While, Assert, Assume, Print, Call, Heading, Flat}
 
 -- a space and a number
 abbrev pub number_field : ℕ → List ℕ
-number_field n = codes " " ++ decimal n
+number_field n = concat (codes " " ∷ decimal n ∷ [])
 
 -- a line with numbers after its words
 abbrev pub line : List ℕ → List ℕ → List ℕ
@@ -14,18 +15,35 @@ line words numbers = words ++ (flat_map number_field numbers ++ codes "\n")
 abbrev pub heading_line : Heading → List ℕ
 heading_line h = line (codes "proc " ++ h.name) (h.formals ∷ h.locals ∷ [])
 
+-- what an instruction does
+abbrev pub instruction_word : Instruction → List ℕ
+instruction_word (Skip m) = codes "skip"
+instruction_word (Goto m) = codes "goto"
+instruction_word Return = codes "return"
+instruction_word (Assign targets values m) = codes "assign"
+instruction_word (If test m e) = codes "if"
+instruction_word (While test m e) = codes "while"
+instruction_word (Assert test m) = codes "assert"
+instruction_word (Assume test m) = codes "assume"
+instruction_word (Print values m) = codes "print"
+instruction_word (Call c arguments m) = codes "call"
+
+-- the number of the procedure that it calls, and those of its successors
+abbrev pub successors : Instruction → List ℕ
+successors (Skip m) = m ∷ []
+successors (Goto m) = m ∷ []
+successors Return = []
+successors (Assign targets values m) = m ∷ []
+successors (If test m e) = m ∷ e ∷ []
+successors (While test m e) = m ∷ e ∷ []
+successors (Assert test m) = m ∷ []
+successors (Assume test m) = m ∷ []
+successors (Print values m) = m ∷ []
+successors (Call c arguments m) = c ∷ m ∷ []
+
 -- the instruction's number, what it does, and the numbers of its successors
 abbrev pub instruction_line : ℕ → Instruction → List ℕ
-instruction_line n (Skip m) = line (decimal n ++ codes " skip") (m ∷ [])
-instruction_line n (Goto m) = line (decimal n ++ codes " goto") (m ∷ [])
-instruction_line n Return = line (decimal n ++ codes " return") []
-instruction_line n (Assign targets values m) = line (decimal n ++ codes " assign") (m ∷ [])
-instruction_line n (If test m e) = line (decimal n ++ codes " if") (m ∷ e ∷ [])
-instruction_line n (While test m e) = line (decimal n ++ codes " while") (m ∷ e ∷ [])
-instruction_line n (Assert test m) = line (decimal n ++ codes " assert") (m ∷ [])
-instruction_line n (Assume test m) = line (decimal n ++ codes " assume") (m ∷ [])
-instruction_line n (Print values m) = line (decimal n ++ codes " print") (m ∷ [])
-instruction_line n (Call c arguments m) = line (decimal n ++ codes " call") (c ∷ m ∷ [])
+instruction_line n i = line (decimal n ++ (codes " " ++ instruction_word i)) (successors i)
 
 -- the lines of instructions, the first of which has the number n
 abbrev pub instruction_lines : ℕ → List Instruction → List ℕ

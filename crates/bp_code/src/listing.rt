@@ -1,14 +1,17 @@
 //! The listing of a code.
-ghost use Rattle.std.specs.Prelude.{◌≡◌, drop, flat_map};
+ghost use Rattle.std.specs.Prelude.{◌≡◌, ◌≤◌, drop, flat_map, take};
+ghost use Rattle.bp_text.specs.Pieces.{piece_text};
 ghost use Rattle.bp_text.specs.Writing.{Writes};
-ghost use Rattle.bp_code.specs.Listing.{number_field, line, heading_line, instruction_line, lines_between, end_before, listing_text};
+ghost use Rattle.bp_code.specs.Instructions.{instruction_of};
+ghost use Rattle.bp_code.specs.Listing as listing;
+ghost use Rattle.bp_code.specs.Listing.{number_field, line, heading_line, instruction_line, instruction_word, lines_between, end_before, listing_text};
 
 use crate::actions::Action;
 use crate::code::Code;
 use crate::headings::Heading;
 use crate::instrs::Instr;
-use bp_text::{WriteFault, put, put_each};
-use itoa::Buffer;
+use bp_text::Piece::{Bytes, Number};
+use bp_text::{Piece, WriteFault, put, put_pieces};
 use std::io::Write;
 
 /// Writes each number after a space.
@@ -17,18 +20,17 @@ fn write_numbers<W: Write>(numbers: &[u32], out: &mut W) -> Result<(), WriteFaul
         (flat_map number_field numbers.now) result }
 {
     for number in numbers {
-        let mut buffer = Buffer::new();
-        put_each(out, &[b" ", buffer.format(*number).as_bytes()])?;
+        put_pieces(out, &[Bytes(b" "), Number(u64::from(*number))])?;
     }
     Ok(())
 }
 
 /// Writes a line with numbers after its words.
-fn write_line<W: Write>(words: &[&[u8]], numbers: &[u32], out: &mut W) -> Result<(), WriteFault>
-    ensures { let text = flat_map (λ p. p.now) words.now in
+fn write_line<W: Write>(words: &[Piece<'_>], numbers: &[u32], out: &mut W) -> Result<(), WriteFault>
+    ensures { let text = flat_map piece_text words.now in
         Writes (W.contents out.old) (W.contents out.new) (line text numbers.now) result }
 {
-    put_each(out, words)?;
+    put_pieces(out, words)?;
     write_numbers(numbers, out)?;
     put(out, b"\n")
 }
@@ -37,8 +39,46 @@ fn write_line<W: Write>(words: &[&[u8]], numbers: &[u32], out: &mut W) -> Result
 fn write_heading<W: Write>(heading: &Heading, out: &mut W) -> Result<(), WriteFault>
     ensures { Writes (W.contents out.old) (W.contents out.new) (heading_line heading.now) result }
 {
-    let words = [b"proc ".as_slice(), heading.name().as_bytes()];
+    let words = [Bytes(b"proc "), Bytes(heading.name().as_bytes())];
     write_line(&words, &[heading.formals(), heading.locals()], out)
+}
+
+/// What an instruction does.
+fn word_of(action: &Action) -> &'static [u8]
+    ensures { result.now ≡ instruction_word (instruction_of action.now) }
+{
+    match action {
+        Action::Skip { .. } => b"skip",
+        Action::Goto { .. } => b"goto",
+        Action::Return => b"return",
+        Action::Assign(_) => b"assign",
+        Action::If(_) => b"if",
+        Action::While(_) => b"while",
+        Action::Assert { .. } => b"assert",
+        Action::Assume { .. } => b"assume",
+        Action::Print { .. } => b"print",
+        Action::Call(_) => b"call",
+    }
+}
+
+/// The number of the procedure that an instruction calls, and those of its successors: so many of
+/// these two.
+fn successors(action: &Action) -> ([u32; 2], usize)
+    ensures numbers { let numbers = listing.successors (instruction_of action.now) in
+        take result.1 result.0 ≡ numbers }
+    ensures few { result.1 ≤ 2 }
+{
+    match action {
+        Action::Return => ([0, 0], 0),
+        Action::Skip { next }
+        | Action::Goto { next }
+        | Action::Assert { next, .. }
+        | Action::Assume { next, .. }
+        | Action::Print { next, .. } => ([*next, 0], 1),
+        Action::Assign(assignment) => ([assignment.next, 0], 1),
+        Action::If(branch) | Action::While(branch) => ([branch.next, branch.other], 2),
+        Action::Call(call) => ([call.callee, call.next], 2),
+    }
 }
 
 /// Writes the line of the instruction that has this number.
@@ -46,20 +86,10 @@ fn write_instruction<W: Write>(number: usize, instr: &Instr, out: &mut W) -> Res
     ensures { Writes (W.contents out.old) (W.contents out.new)
         (instruction_line number instr.now) result }
 {
-    let mut buffer = Buffer::new();
-    let n = buffer.format(number).as_bytes();
-    match instr.action() {
-        Action::Skip { next } => write_line(&[n, b" skip"], &[*next], out),
-        Action::Goto { next } => write_line(&[n, b" goto"], &[*next], out),
-        Action::Return => write_line(&[n, b" return"], &[], out),
-        Action::Assign(assignment) => write_line(&[n, b" assign"], &[assignment.next], out),
-        Action::If(branch) => write_line(&[n, b" if"], &[branch.next, branch.other], out),
-        Action::While(branch) => write_line(&[n, b" while"], &[branch.next, branch.other], out),
-        Action::Assert { next, .. } => write_line(&[n, b" assert"], &[*next], out),
-        Action::Assume { next, .. } => write_line(&[n, b" assume"], &[*next], out),
-        Action::Print { next, .. } => write_line(&[n, b" print"], &[*next], out),
-        Action::Call(call) => write_line(&[n, b" call"], &[call.callee, call.next], out),
-    }
+    let word = Bytes(word_of(instr.action()));
+    let (numbers, count) = successors(instr.action());
+    let words = [Number(number as u64), Bytes(b" "), word];
+    write_line(&words, &numbers[..count], out)
 }
 
 /// Writes the lines of the instructions from one number to before another.

@@ -7,7 +7,7 @@ use bp_syntax::{is_reserved, take_lexeme};
 use bp_text::{part_before, part_from};
 
 /// The tokens around a place of a text. One that is not there has no bytes.
-#[derive(Clone, Copy, Debug)]
+#[derive(Clone, Copy)]
 pub(crate) struct Around<'a> {
     /// The third token before the place, the second, and the one right before it.
     third: &'a [u8],

@@ -4,7 +4,7 @@ use bp_syntax::take_lexeme;
 use bp_text::part_from;
 
 /// How many tokens and commas the own text of a statement has, up to its `;`.
-#[derive(Clone, Copy, Debug)]
+#[derive(Clone, Copy)]
 struct Tally {
     tokens: usize,
     /// The commas before `:=`, or all where there is none.

@@ -51,7 +51,7 @@ pub(crate) fn text_of_procedure<'a>(text: &'a [u8], tree: &Tree, at: usize) -> &
 }
 
 /// What a name that is declared at a place is.
-#[derive(Clone, Copy, Debug, PartialEq, Eq)]
+#[derive(Clone, Copy, PartialEq, Eq)]
 pub(crate) enum Role {
     Global,
     Procedure,

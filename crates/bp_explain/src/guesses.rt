@@ -15,7 +15,7 @@ const MAX_EDITS: usize = 2;
 const MAX_SIZE: usize = 60;
 
 /// A misspelled name, and the nearest of the names that it was compared with.
-#[derive(Clone, Copy, Debug)]
+#[derive(Clone, Copy)]
 struct Guess<'a> {
     misspelled: &'a str,
     nearest: Option<&'a str>,

@@ -11,7 +11,7 @@ use bp_text::{line_of, take_line};
 use std::alloc::{AllocError, Global};
 
 /// The last call of a thread.
-#[derive(Clone, Copy, Debug)]
+#[derive(Clone, Copy)]
 pub(crate) struct LastCall {
     thread: u32,
     /// The line of the schedule that makes it.

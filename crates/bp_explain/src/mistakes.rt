@@ -5,7 +5,7 @@ use crate::offers::Offer;
 use bp_syntax::{TokenKind, is_reserved, spelling_of};
 
 /// A mistake, named for what its writer takes the language to have.
-#[derive(Clone, Copy, Debug, PartialEq, Eq)]
+#[derive(Clone, Copy, PartialEq, Eq)]
 pub(crate) enum Mistake {
     /// `=` for `:=`.
     EqualForBecomes,

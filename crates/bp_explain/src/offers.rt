@@ -39,7 +39,7 @@ const OPERATOR: [TokenKind; 6] = [
 ];
 
 /// One thing that a text may continue with.
-#[derive(Clone, Copy, Debug)]
+#[derive(Clone, Copy)]
 pub(crate) enum Offer {
     Statement,
     Expression,

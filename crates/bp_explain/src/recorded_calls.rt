@@ -11,7 +11,7 @@ use bp_text::part_from;
 
 /// A call of a trace: the digits of its thread, and the bytes of its choice bit and of the letter
 /// of its reply.
-#[derive(Clone, Copy, Debug)]
+#[derive(Clone, Copy)]
 pub(crate) struct Recorded<'a> {
     pub(crate) thread: &'a [u8],
     pub(crate) bit_at: usize,
@@ -19,7 +19,7 @@ pub(crate) struct Recorded<'a> {
 }
 
 /// What is left of a line of calls, and how many calls are still to be passed over.
-#[derive(Clone, Copy, Debug)]
+#[derive(Clone, Copy)]
 struct Passed<'a> {
     rest: &'a [u8],
     left: u64,

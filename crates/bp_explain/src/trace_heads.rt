@@ -44,7 +44,7 @@ fn behind_entry(text: &[u8]) -> Option<&[u8]>
 }
 
 /// The entry lines of the head of a trace.
-#[derive(Clone, Copy, Debug)]
+#[derive(Clone, Copy)]
 pub(crate) struct Entries<'a> {
     /// How many there are.
     pub(crate) count: usize,

@@ -4,7 +4,7 @@ ghost use Rattle.bp_machine.specs.Contexts.{IsWithin};
 ghost use Rattle.bp_machine.specs.ContextCounts.{used_with, count_with, IsCountOf};
 
 /// How many contexts the steps so far are within, and which thread made the last of them.
-#[derive(Clone, Copy, Debug, PartialEq, Eq)]
+#[derive(Clone, Copy, PartialEq, Eq)]
 pub(crate) struct ContextCount {
     pub(crate) used: u32,
     pub(crate) last: Option<u32>,

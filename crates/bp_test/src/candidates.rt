@@ -7,7 +7,7 @@ use bp_machine::Call;
 const HALVES: usize = 16;
 
 /// The kinds of changes, in the order in which a round tries them.
-#[derive(Clone, Copy, Debug, PartialEq, Eq)]
+#[derive(Clone, Copy, PartialEq, Eq)]
 enum Kind {
     /// Calls without a step.
     Idle,
@@ -67,7 +67,7 @@ impl Kind {
 }
 
 /// What is tried next.
-#[derive(Clone, Copy, Debug, PartialEq, Eq)]
+#[derive(Clone, Copy, PartialEq, Eq)]
 pub(crate) enum Next {
     /// This change.
     Try(Change),
@@ -78,7 +78,7 @@ pub(crate) enum Next {
 }
 
 /// Where the search for a smaller history is.
-#[derive(Clone, Copy, Debug)]
+#[derive(Clone, Copy)]
 pub(crate) struct Candidates {
     kind: Kind,
     /// The size of the parts that are changed.

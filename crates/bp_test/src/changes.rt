@@ -3,14 +3,14 @@ use bp_machine::{Call, Reply};
 use std::alloc::AllocError;
 
 /// The calls of a history from one place to before another.
-#[derive(Clone, Copy, Debug, PartialEq, Eq)]
+#[derive(Clone, Copy, PartialEq, Eq)]
 pub(crate) struct Part {
     pub(crate) from: usize,
     pub(crate) to: usize,
 }
 
 /// What is changed in a history.
-#[derive(Clone, Copy, Debug, PartialEq, Eq)]
+#[derive(Clone, Copy, PartialEq, Eq)]
 pub(crate) enum Change {
     /// The calls that made no step are left out.
     Idle,

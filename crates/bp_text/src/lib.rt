@@ -22,4 +22,4 @@ pub use one_line::push_on_one_line;
 pub use parts::{first_line, last_line, part_before, part_from};
 pub use pieces::{Piece, push_piece, push_pieces, put_pieces};
 pub use positions::{FIRST, Position, behind_all, position_from, position_of};
-pub use writing::{WriteFault, put, put_each};
+pub use writing::{WriteFault, put};

@@ -29,7 +29,7 @@ pub fn put<W: Write>(out: &mut W, bytes: &[u8]) -> Result<(), WriteFault>
 }
 
 /// Writes the pieces one after the other, by `put`.
-pub fn put_each<W: Write>(out: &mut W, pieces: &[&[u8]]) -> Result<(), WriteFault>
+pub(crate) fn put_each<W: Write>(out: &mut W, pieces: &[&[u8]]) -> Result<(), WriteFault>
     ensures { let text = flat_map (λ p. p.now) pieces.now in
         Writes (W.contents out.old) (W.contents out.new) text result }
 {

@@ -5,8 +5,8 @@ ghost use Rattle.bp_trace.specs.TraceText.{call_line};
 
 use crate::traces::bit_digit;
 use bp_machine::Call;
-use bp_text::{WriteFault, put, put_each};
-use itoa::Buffer;
+use bp_text::Piece::{Bytes, Number};
+use bp_text::{WriteFault, put, put_pieces};
 use std::io::Write;
 
 /// Writes the line of a call of a thread with one digit.
@@ -44,8 +44,7 @@ pub fn write_call<W: Write>(call: &Call, out: &mut W) -> Result<(), WriteFault>
     if call.thread < 100 {
         return write_with_two_digits(call, out);
     }
-    let mut buffer = Buffer::new();
-    let thread = buffer.format(call.thread).as_bytes();
+    let thread = Number(u64::from(call.thread));
     let rest = [b' ', bit_digit(call.bit), b' ', call.reply.letter(), b'\n'];
-    put_each(out, &[thread, rest.as_slice()])
+    put_pieces(out, &[thread, Bytes(&rest)])
 }

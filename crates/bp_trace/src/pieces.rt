@@ -7,8 +7,8 @@ ghost use Rattle.bp_trace.specs.SymbolTexts.{line_start, opening, symbol_behind,
 
 use crate::traces::bit_digit;
 use bp_machine::Call;
-use bp_text::{WriteFault, put, put_each};
-use itoa::Buffer;
+use bp_text::Piece::{Bytes, Number};
+use bp_text::{WriteFault, put, put_pieces};
 use std::io::Write;
 
 /// Begins the line of a thread, after the end of the line before it, where there is one.
@@ -16,14 +16,12 @@ fn begin_line<W: Write>(is_first: bool, thread: u32, out: &mut W) -> Result<(), 
     ensures { Writes (W.contents out.old) (W.contents out.new)
         (line_start is_first thread) result }
 {
-    let mut buffer = Buffer::new();
-    let thread = buffer.format(thread).as_bytes();
     let end = if is_first {
         b"".as_slice()
     } else {
         b"\n".as_slice()
     };
-    put_each(out, &[end, thread, b" "])
+    put_pieces(out, &[Bytes(end), Number(u64::from(thread)), Bytes(b" ")])
 }
 
 /// Writes what begins a call after one of this thread, or after none.

@@ -2,17 +2,18 @@
 ghost use Rattle.std.specs.Prelude.{◌≡◌, ◌≤◌, map, flat_map, length};
 ghost use Rattle.std.specs.List.{concat};
 ghost use Rattle.bp_check.specs.declared.limits.TheConstants.{MAX_GLOBALS};
+ghost use Rattle.bp_text.specs.Pieces.{piece_text};
 ghost use Rattle.bp_text.specs.Writing.{Writes};
 ghost use Rattle.bp_machine.specs.Histories.{open_lines};
 ghost use Rattle.bp_trace.specs.Schedules.{bit_digit};
-ghost use Rattle.bp_trace.specs.TraceText.{entry_line, init_digits, init_line, limit_lines, version_line, head_text, call_line, end_line, calls_text, text_of, trace_text, trace_text_2};
+ghost use Rattle.bp_trace.specs.TraceText.{entry_line, init_digits, init_line, limit_lines, seed_word, version_line, head_text, call_line, end_line, calls_text, text_of, trace_text, trace_text_2};
 
 use crate::call_lines::write_call;
 use crate::pieces::write_pieces;
 use crate::versions::Version;
 use bp_machine::{Call, Setup, open_lines};
-use bp_text::{WriteFault, put, put_each};
-use itoa::Buffer;
+use bp_text::Piece::{Bytes, Number};
+use bp_text::{Piece, WriteFault, put, put_pieces};
 use std::io::Write;
 
 pub(crate) fn bit_digit(bit: bool) -> u8
@@ -28,7 +29,8 @@ fn write_entries<W: Write>(setup: &Setup, out: &mut W) -> Result<(), WriteFault>
 {
     for thread in 0..setup.threads() {
         if let Some(name) = setup.entry(thread) {
-            put_each(out, &[b"entry ", name.as_bytes(), b"\n"])?;
+            let name = Bytes(name.as_bytes());
+            put_pieces(out, &[Bytes(b"entry "), name, Bytes(b"\n")])?;
         }
     }
     Ok(())
@@ -70,30 +72,31 @@ fn write_init<W: Write>(setup: &Setup, out: &mut W) -> Result<(), WriteFault>
     put(out, b"\n")
 }
 
+/// The number of a seed, or the word for none.
+fn seed_piece<'a>(seed: Option<u64>) -> Piece<'a>
+    ensures { piece_text result ≡ seed_word seed }
+{
+    match seed {
+        Some(seed) => Number(seed),
+        None => Bytes(b"none"),
+    }
+}
+
 /// Writes the lines of the contexts and calls that are allowed, and of the seed.
 fn write_limits<W: Write>(setup: &Setup, out: &mut W) -> Result<(), WriteFault>
     ensures { Writes (W.contents out.old) (W.contents out.new)
         (concat (limit_lines setup.now)) result }
 {
-    let mut first = Buffer::new();
-    let mut second = Buffer::new();
-    let mut third = Buffer::new();
-    let contexts = first.format(setup.contexts()).as_bytes();
-    let calls = second.format(setup.calls()).as_bytes();
-    let seed = match setup.seed() {
-        None => b"none".as_slice(),
-        Some(n) => third.format(n).as_bytes(),
-    };
-    put_each(
+    put_pieces(
         out,
         &[
-            b"contexts ",
-            contexts,
-            b"\ncalls ",
-            calls,
-            b"\nseed ",
-            seed,
-            b"\n",
+            Bytes(b"contexts "),
+            Number(u64::from(setup.contexts())),
+            Bytes(b"\ncalls "),
+            Number(u64::from(setup.calls())),
+            Bytes(b"\nseed "),
+            seed_piece(setup.seed()),
+            Bytes(b"\n"),
         ],
     )
 }
@@ -131,11 +134,16 @@ pub fn write_head<W: Write>(setup: &Setup, out: &mut W) -> Result<(), WriteFault
 pub fn write_end<W: Write>(calls: u64, left_open: u32, out: &mut W) -> Result<(), WriteFault>
     ensures { Writes (W.contents out.old) (W.contents out.new) (end_line calls left_open) result }
 {
-    let mut number = Buffer::new();
-    let mut count = Buffer::new();
-    let calls = number.format(calls).as_bytes();
-    let left_open = count.format(left_open).as_bytes();
-    put_each(out, &[b"end ", calls, b" ", left_open, b"\n"])
+    put_pieces(
+        out,
+        &[
+            Bytes(b"end "),
+            Number(calls),
+            Bytes(b" "),
+            Number(u64::from(left_open)),
+            Bytes(b"\n"),
+        ],
+    )
 }
 
 /// Writes a line for each call.

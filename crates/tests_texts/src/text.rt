@@ -1,13 +1,14 @@
 //! Tests of `bp_text`: writing pieces, and lines and columns.
 
-use bp_text::{Position, position_of, put, put_each};
+use bp_text::Piece::{Bytes, Number};
+use bp_text::{Position, position_of, put, put_pieces};
 use std::alloc::Global;
 use std::test::Fail;
 
 fn writes_an_end(alloc: Global) -> Result<bool, Fail> {
     let mut out = Vec::new(alloc);
     put(&mut out, b"end ")?;
-    put_each(&mut out, &[b"4 ", b"0\n"])?;
+    put_pieces(&mut out, &[Number(4), Bytes(b" 0\n")])?;
     Ok(out.as_slice() == b"end 4 0\n".as_slice())
 }
 

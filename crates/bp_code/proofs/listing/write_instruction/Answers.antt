@@ -1,5 +1,5 @@
-use Rattle.std.proofs.Common.{rules}
+use Rattle.std.proofs.Common.{rules, append-nil}
 use Rattle.bp_code.proofs.listing.write_instruction.Goals as goal
 
-pub returns-in-If : goal.returns-in-If
-returns-in-If g c = search rules
+pub returns : goal.returns
+returns g c = search (rules, append-nil)
