@@ -17,8 +17,8 @@ complete -c btrun -n "__fish_seen_subcommand_from $all" -l no-explain -d 'Explai
 complete -c btrun -n "__fish_seen_subcommand_from $all" -l help -d 'Print help'
 
 set -l starting drive run test
-complete -c btrun -n "__fish_seen_subcommand_from $starting" -x -l contexts -d 'How many contexts are allowed'
-complete -c btrun -n "__fish_seen_subcommand_from $starting" -x -l calls -d 'How many calls of a thread are allowed'
+complete -c btrun -n "__fish_seen_subcommand_from $starting" -x -l contexts -d 'Allow N contexts'
+complete -c btrun -n "__fish_seen_subcommand_from $starting" -x -l calls -d 'Allow each thread N calls'
 complete -c btrun -n "__fish_seen_subcommand_from $starting" -x -l init -d 'The initial bits of the globals'
 
 set -l seeded run test
@@ -32,7 +32,7 @@ complete -c btrun -n '__fish_seen_subcommand_from run' -x -l turn -d 'How many c
 complete -c btrun -n '__fish_seen_subcommand_from run' -x -l ring -d 'How many calls wait to be printed'
 complete -c btrun -n '__fish_seen_subcommand_from run' -l spread -d 'Take turns as they are drawn'
 
-complete -c btrun -n '__fish_seen_subcommand_from test' -x -l runs -d 'How many runs there are at most'
+complete -c btrun -n '__fish_seen_subcommand_from test' -x -l runs -d 'Make at most N runs'
 complete -c btrun -n '__fish_seen_subcommand_from test' -x -l jobs -d 'How many blocks of runs are made side by side'
 complete -c btrun -n '__fish_seen_subcommand_from test' -l stuck -d 'Also stop at a run in which all open threads wait'
 complete -c btrun -n '__fish_seen_subcommand_from test' -l unreached -d 'List the statements that no run reached'

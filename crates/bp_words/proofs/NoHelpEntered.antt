@@ -10,7 +10,9 @@ use Rattle.clap.specs.Lexer.{long_of, short_of}
 use Rattle.clap.specs.Simple.{Shape, built, entered, names_of, label_of, rows_at, subcommand_of, argument_words}
 use Rattle.clap.specs.Walk.{Held, Names, Rule, Row, Step, next, trailing, subcommand, value, Text, Waiting, idle, option, positional, Walk, Outcome, done, waits, plain, refused, arg_by_long, arg_by_index, answers_to, plain_word, after_flag, long_met, bundle, short_or_plain, long_or_other, subcommand_met, subcommand_or_other, word_met, to_positional, after_step, walked, walked_from, walk_from, nothing_held, stop_after}
 use Rattle.clap.proofs.OnLiterals.{clap_on_literals}
-use Rattle.bp_words.specs.Commands.{btrun_app, IsOurs, IsNamed}
+use Rattle.bp_words.specs.Commands.{btrun_app, IsOurs}
+use Rattle.bp_words.specs.declared.names.Named.TheVariants as name
+use Rattle.bp_words.specs.Names.{IsNamed}
 
 -- the step enters no `help`, and the walk did not stop there
 abbrev NoHelpStep : Step → Type 0
@@ -124,7 +126,9 @@ other_way a b e = grind (arith, bytes_eq-Decides a b, bytes_eq-Decides b a, e)
 entered_ours : (stop : Option (Text × List Text)) → NoHelp stop → IsOurs (entered (built btrun_app) stop)
 unfolding clap_on_literals
 entered_ours None fine = tt
-entered_ours (Some p) fine = found_ours p (built btrun_app).subs (inr (inl refl), (inr (inr (inl refl)), (inr (inr (inr (inl refl))), (inr (inr (inr (inr (inl refl)))), (inr (inr (inr (inr (inr (inl refl))))), (inr (inr (inr (inr (inr (inr (inl refl)))))), (inr (inr (inr (inr (inr (inr (inr (inl refl))))))), (inr (inr (inr (inr (inr (inr (inr (inr (inl refl)))))))), (inr (inr (inr (inr (inr (inr (inr (inr (inr refl)))))))), (inl (other_way p.0 (codes "help") fine), tt))))))))))
+entered_ours (Some p) fine =
+    found_ours p (built btrun_app).subs
+    (inr (name.Check, refl), (inr (name.Code, refl), (inr (name.Drive, refl), (inr (name.Run, refl), (inr (name.Test, refl), (inr (name.Replay, refl), (inr (name.Show, refl), (inr (name.Migrate, refl), (inr (name.Shrink, refl), (inl (other_way p.0 (codes "help") fine), tt))))))))))
 
 enabled : (built btrun_app).top.disable_help_subcommand ≡ false
 unfolding clap_on_literals

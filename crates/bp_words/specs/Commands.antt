@@ -1,6 +1,6 @@
 -- What the words of the command line ask for. How words are told apart as commands, options and
 -- values is said by the rules of `clap`.
-use Rattle.std.specs.Prelude.{◌≡◌, ◌⊎◌, true, List, [], ◌∷◌, Option, Some, None, codes, pos}
+use Rattle.std.specs.Prelude.{◌≡◌, true, List, [], ◌∷◌, Option, Some, None, codes, map, pos}
 use Rattle.clap.specs.Faults.{fault_of}
 use Rattle.clap.specs.Kinds.{Kinds, or_else}
 use Rattle.clap.specs.Lexer.{usize_max}
@@ -8,6 +8,13 @@ use Rattle.clap.specs.Walk.{Row, Rule, Text}
 use Rattle.clap.specs.Simple.{App, new_app, new_rule, on_top, subcommand_of, with_rule, with_subcommand}
 use Rattle.clap.specs.declared.builder.action.ArgAction.TheVariants.{SetTrue}
 use Rattle.clap.specs.declared.builder.value_parser.ValueParser.TheVariants as parser
+use Rattle.bp_words.specs.declared.arguments.Row.{Row as TableRow}
+use Rattle.bp_words.specs.declared.arguments.Takes.{Takes}
+use Rattle.bp_words.specs.declared.arguments.Takes.TheVariants as takes
+use Rattle.bp_words.specs.declared.names.Named.{Named}
+use Rattle.bp_words.specs.declared.names.Named.TheVariants as name
+use Rattle.bp_words.specs.declared.names.TheConstants.{NAMED}
+use Rattle.bp_words.specs.Names.{IsNamed}
 use Rattle.bp_words.specs.Values.{init_fault}
 use Rattle.bp_words.specs.CheckWords.{IsCheckWordsOf}
 use Rattle.bp_words.specs.CodeWords.{IsCodeWordsOf}
@@ -26,26 +33,6 @@ required_rule name = record (new_rule name) { required = true }
 -- an option without a value
 abbrev pub flag_rule : Text → Rule
 flag_rule name = record (new_rule name) { long = Some name; action = Some SetTrue }
-
--- a command of this name, a file, and the flags on explanations
-abbrev pub file_app : Text → App
-file_app name =
-    with_rule
-    (with_rule
-    (with_rule (new_app name) (required_rule (codes "FILE")))
-    (flag_rule (codes "explain")))
-    (flag_rule (codes "no-explain"))
-
--- `check FILE [--json] [--explain] [--no-explain]`
-abbrev pub check_app : App
-check_app = with_rule (file_app (codes "check")) (flag_rule (codes "json"))
-
--- `code FILE [--source] [--json] [--explain] [--no-explain]`
-abbrev pub code_app : App
-code_app =
-    with_rule
-    (with_rule (file_app (codes "code")) (flag_rule (codes "source")))
-    (flag_rule (codes "json"))
 
 -- an option that has a value
 abbrev pub option_rule : Text → Rule
@@ -72,6 +59,34 @@ values_rule name =
 abbrev pub with_rules : App → List Rule → App
 with_rules a [] = a
 with_rules a (r ∷ rs) = with_rules (with_rule a r) rs
+
+-- an argument that takes this
+abbrev pub rule_taking : Takes → Text → Rule
+rule_taking takes.One = required_rule
+rule_taking takes.Any = values_rule
+rule_taking takes.Nothing = flag_rule
+rule_taking takes.Number = number_rule
+rule_taking takes.LongNumber = long_number_rule
+rule_taking (takes.Text value) = option_rule
+
+-- the argument of a row
+abbrev pub row_rule : TableRow → Rule
+row_rule row = rule_taking row.takes row.name.now
+
+-- a command of this name, a file, and the flags on explanations
+abbrev pub file_app : Text → App
+file_app name =
+    with_rules (new_app name) (
+    required_rule (codes "FILE") ∷ flag_rule (codes "explain") ∷ flag_rule (codes "no-explain") ∷ [])
+
+-- `check FILE [--json] [--explain] [--no-explain]`
+abbrev pub check_app : App
+check_app = with_rules (file_app (codes "check")) (flag_rule (codes "json") ∷ [])
+
+-- `code FILE [--source] [--json] [--explain] [--no-explain]`
+abbrev pub code_app : App
+code_app =
+    with_rules (file_app (codes "code")) (flag_rule (codes "source") ∷ flag_rule (codes "json") ∷ [])
 
 -- `drive FILE SCHEDULE [ENTRY].. [--contexts N] [--calls N] [--init BITS] [--explain]
 -- [--no-explain]`
@@ -119,7 +134,7 @@ test_app =
 
 -- a command of this name, a file and a trace
 abbrev pub trace_app : Text → App
-trace_app name = with_rule (file_app name) (required_rule (codes "TRACE"))
+trace_app name = with_rules (file_app name) (required_rule (codes "TRACE") ∷ [])
 
 -- `replay FILE TRACE [--explain] [--no-explain]`
 abbrev pub replay_app : App
@@ -159,33 +174,21 @@ abbrev pub with_commands : App → List App → App
 with_commands a [] = a
 with_commands a (c ∷ cs) = with_commands (with_subcommand a c.top) cs
 
+-- the command of each name
+abbrev pub command_app : Named → App
+command_app name.Check = check_app
+command_app name.Code = code_app
+command_app name.Drive = drive_app
+command_app name.Run = run_app
+command_app name.Test = test_app
+command_app name.Replay = replay_app
+command_app name.Show = show_app
+command_app name.Migrate = migrate_app
+command_app name.Shrink = shrink_app
+
 -- all commands
 abbrev pub btrun_app : App
-btrun_app =
-    with_commands program_app
-    (check_app
-    ∷ code_app
-    ∷ drive_app
-    ∷ run_app
-    ∷ test_app
-    ∷ replay_app
-    ∷ show_app
-    ∷ migrate_app
-    ∷ shrink_app
-    ∷ [])
-
--- the name of a command
-abbrev pub IsNamed : Text → Type 0
-IsNamed name =
-    (name ≡ codes "check")
-    ⊎ ((name ≡ codes "code")
-    ⊎ ((name ≡ codes "drive")
-    ⊎ ((name ≡ codes "run")
-    ⊎ ((name ≡ codes "test")
-    ⊎ ((name ≡ codes "replay")
-    ⊎ ((name ≡ codes "show")
-    ⊎ ((name ≡ codes "migrate")
-    ⊎ (name ≡ codes "shrink"))))))))
+btrun_app = with_commands program_app (map command_app NAMED)
 
 -- the words name no command, or one of those that there are
 abbrev pub IsOurs : Option (Text × List Row) → Type 0

@@ -2,7 +2,7 @@
 use Rattle.std.specs.Prelude.{◌≡◌, List, codes, option_map}
 use Rattle.clap.specs.Walk.{Row, first_of, one_of}
 use Rattle.bp_machine.specs.declared.limits.TheConstants.{DEFAULT_CONTEXTS, DEFAULT_CALLS}
-use Rattle.bp_words.specs.Values.{bits_in, entries_in, value_of, IsFlagOf, IsNumberOf}
+use Rattle.bp_words.specs.Values.{bits_in, entries_in, value_of, IsNumberOf}
 use Rattle.bp_words.specs.ExplainWords.{IsExplainOf}
 use Rattle.bp_words.specs.declared.drive.DriveWords.{DriveWords}
 

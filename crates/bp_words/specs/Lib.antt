@@ -3,6 +3,7 @@ pub mod CodeWords
 pub mod Commands
 pub mod DriveWords
 pub mod ExplainWords
+pub mod Names
 pub mod PlainUses
 pub mod RunWords
 pub mod ShowWords

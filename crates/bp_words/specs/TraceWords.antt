@@ -1,7 +1,7 @@
 -- What the words after `replay`, `migrate` and `shrink` ask for.
 use Rattle.std.specs.Prelude.{◌≡◌, List, codes}
-use Rattle.clap.specs.Walk.{Row, one_of}
-use Rattle.bp_words.specs.Values.{value_of, IsFlagOf}
+use Rattle.clap.specs.Walk.{Row}
+use Rattle.bp_words.specs.Values.{value_of}
 use Rattle.bp_words.specs.ExplainWords.{IsExplainOf}
 use Rattle.bp_words.specs.declared.trace.TraceWords.{TraceWords}
 

@@ -5,7 +5,7 @@ ghost use Rattle.clap.specs.declared.builder.command.Command.TheViews.{out-Comma
 ghost use Rattle.bp_words.specs.Commands.{check_app};
 ghost use Rattle.bp_words.specs.CheckWords.{IsCheckWordsOf};
 
-use crate::arguments::flag;
+use crate::arguments::{Row, Takes, with_rows};
 use crate::explain::{ExplainWords, explain_words};
 use crate::files::file_command;
 use crate::values::is_given;
@@ -23,8 +23,7 @@ pub struct CheckWords<'a> {
     pub explain: ExplainWords,
 }
 
-const ABOUT: &str =
-    "Checks a program and prints 'ok', its number of procedures and its number of globals";
+const ABOUT: &str = "Check a program and print 'ok' and its numbers of procedures and globals";
 
 /// What `check --help` says after the arguments.
 const NOTES: &str = "\
@@ -38,8 +37,13 @@ pub fn check_command<'a>(alloc: Global) -> Result<Command<'a>, AllocError>
     ensures { IfOk result
         (λ c. (app_of c ≡ check_app) × ((out-Command c).has_globals ≡ false)) }
 {
-    let json = "Prints one JSON object, for programs";
-    file_command(alloc, "check", ABOUT, NOTES)?.arg(flag(alloc, "json", json))
+    let rows = [Row {
+        name: "json",
+        takes: Takes::Nothing,
+        help: "Print one JSON object, for programs",
+    }];
+    let command = file_command(alloc, "check", ABOUT, NOTES)?;
+    with_rows(alloc, command, &rows)
 }
 
 /// What the words after `check` ask for.

@@ -5,7 +5,7 @@ ghost use Rattle.clap.specs.declared.builder.command.Command.TheViews.{out-Comma
 ghost use Rattle.bp_words.specs.Commands.{code_app};
 ghost use Rattle.bp_words.specs.CodeWords.{IsCodeWordsOf};
 
-use crate::arguments::flag;
+use crate::arguments::{Row, Takes, with_rows};
 use crate::explain::{ExplainWords, explain_words};
 use crate::files::file_command;
 use crate::values::is_given;
@@ -25,7 +25,7 @@ pub struct CodeWords<'a> {
     pub explain: ExplainWords,
 }
 
-const ABOUT: &str = "Prints the listing of a program's code";
+const ABOUT: &str = "Print the listing of a program's code";
 
 /// What `code --help` says after the arguments.
 const NOTES: &str = "\
@@ -41,11 +41,20 @@ pub fn code_command<'a>(alloc: Global) -> Result<Command<'a>, AllocError>
     ensures { IfOk result
         (λ c. (app_of c ≡ code_app) × ((out-Command c).has_globals ≡ false)) }
 {
-    let source = "Prints the line, the column and the statement of each instruction after it";
-    let json = "Prints JSON objects, for programs: each instruction with its statement";
-    file_command(alloc, "code", ABOUT, NOTES)?
-        .arg(flag(alloc, "source", source))?
-        .arg(flag(alloc, "json", json))
+    let rows = [
+        Row {
+            name: "source",
+            takes: Takes::Nothing,
+            help: "Print the line, column and statement of each instruction after it",
+        },
+        Row {
+            name: "json",
+            takes: Takes::Nothing,
+            help: "Print JSON objects, for programs: each instruction with its statement",
+        },
+    ];
+    let command = file_command(alloc, "code", ABOUT, NOTES)?;
+    with_rows(alloc, command, &rows)
 }
 
 /// What the words after `code` ask for.

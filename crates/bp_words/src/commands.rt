@@ -1,20 +1,18 @@
 //! The words of the command line.
 ghost use Rattle.std.specs.Prelude.{◌≡◌, false, ℕ, List, ◌∷◌, map, string_bytes, IfOk, MatchResult};
-ghost use Rattle.clap.specs.Words.{FailsBy, app_of, kind_of, subcommand_of, subcommand_rows_of};
-ghost use Rattle.clap.specs.declared.builder.command.Command.TheViews.{out-Command};
-ghost use Rattle.bp_words.specs.Commands.{btrun_app, file_app, program_app, words_fault, IsOurs, IsTaskOf};
+ghost use Rattle.clap.specs.Words.{FailsBy, app_of, found_of, kind_of, rows_of, subcommand_of, subcommand_rows_of};
+ghost use Rattle.bp_words.specs.Commands.{btrun_app, program_app, words_fault, IsOurs, IsTaskOf, IsTaskOfCommand};
+ghost use Rattle.bp_words.specs.Names.{command_name};
 ghost use Rattle.bp_words.specs.PlainUses.{PlainUse, words_of, HasPlainFiles, IsAskedBy};
 
-use crate::check::{CheckWords, check_command, check_words};
-use crate::code::{CodeWords, code_command, code_words};
-use crate::drive::{DriveWords, drive_command, drive_words};
-use crate::run::{RunWords, run_command, run_words};
-use crate::show::{ShowWords, show_command, show_words};
-use crate::test::{TestWords, test_command, test_words};
-use crate::trace::{
-    MIGRATE_ABOUT, MIGRATE_NOTES, REPLAY_ABOUT, REPLAY_NOTES, SHRINK_ABOUT, SHRINK_NOTES,
-    TraceWords, trace_command, trace_words,
-};
+use crate::check::{CheckWords, check_words};
+use crate::code::{CodeWords, code_words};
+use crate::drive::{DriveWords, drive_words};
+use crate::names::{NAMED, Named, command_named, with_help};
+use crate::run::{RunWords, run_words};
+use crate::show::{ShowWords, show_words};
+use crate::test::{TestWords, test_words};
+use crate::trace::{TraceWords, trace_words};
 use crate::values::has_bad_init;
 use crate::version::version;
 use clap::error::ErrorKind;
@@ -67,25 +65,44 @@ fn program<'a>(alloc: Global) -> Command<'a>
     Command::new(alloc, "btrun")
         .version(version())
         .about(
-            "Runs concurrent Boolean programs. \
-            Without a command it reads a bundle from standard input and prints its trace",
+            "Run concurrent Boolean programs. \
+            Without a command, read a bundle from standard input and print its trace",
         )
         .after_help(NOTES)
 }
 
+/// The program with its commands.
 fn command<'a>(alloc: Global) -> Result<Command<'a>, AllocError>
     ensures { IfOk result (λ c. app_of c ≡ btrun_app) }
 {
-    program(alloc)
-        .subcommand(check_command(alloc)?)?
-        .subcommand(code_command(alloc)?)?
-        .subcommand(drive_command(alloc)?)?
-        .subcommand(run_command(alloc)?)?
-        .subcommand(test_command(alloc)?)?
-        .subcommand(trace_command(alloc, "replay", REPLAY_ABOUT, REPLAY_NOTES)?)?
-        .subcommand(show_command(alloc)?)?
-        .subcommand(trace_command(alloc, "migrate", MIGRATE_ABOUT, MIGRATE_NOTES)?)?
-        .subcommand(trace_command(alloc, "shrink", SHRINK_ABOUT, SHRINK_NOTES)?)
+    let mut program = program(alloc);
+    let all = NAMED;
+    for command in &all {
+        program = program.subcommand(with_help(alloc, *command)?)?;
+    }
+    Ok(program)
+}
+
+/// The task that the words of a command ask for.
+fn task_named<'a>(
+    alloc: Global,
+    command: Named,
+    words: &ArgMatches<'a>,
+) -> Result<Task<'a>, AllocError>
+    ensures { let rows = rows_of (found_of words.now) in
+        IfOk result (IsTaskOfCommand (command_name command) rows) }
+{
+    match command {
+        Named::Check => Ok(Task::Check(check_words(words))),
+        Named::Code => Ok(Task::Code(code_words(words))),
+        Named::Drive => Ok(Task::Drive(drive_words(alloc, words)?)),
+        Named::Run => Ok(Task::Run(run_words(alloc, words)?)),
+        Named::Test => Ok(Task::Test(test_words(alloc, words)?)),
+        Named::Replay => Ok(Task::Replay(trace_words(words))),
+        Named::Show => Ok(Task::Show(show_words(words))),
+        Named::Migrate => Ok(Task::Migrate(trace_words(words))),
+        Named::Shrink => Ok(Task::Shrink(trace_words(words))),
+    }
 }
 
 /// The task that the matched words name.
@@ -93,17 +110,12 @@ fn task_of<'a>(alloc: Global, matches: &ArgMatches<'a>) -> Result<Task<'a>, Allo
     requires { IsOurs (subcommand_rows_of matches.now) }
     ensures { IfOk result (IsTaskOf (subcommand_rows_of matches.now)) }
 {
-    match matches.subcommand() {
-        Some(("check", words)) => Ok(Task::Check(check_words(words))),
-        Some(("code", words)) => Ok(Task::Code(code_words(words))),
-        Some(("drive", words)) => Ok(Task::Drive(drive_words(alloc, words)?)),
-        Some(("run", words)) => Ok(Task::Run(run_words(alloc, words)?)),
-        Some(("test", words)) => Ok(Task::Test(test_words(alloc, words)?)),
-        Some(("replay", words)) => Ok(Task::Replay(trace_words(words))),
-        Some(("show", words)) => Ok(Task::Show(show_words(words))),
-        Some(("migrate", words)) => Ok(Task::Migrate(trace_words(words))),
-        Some(("shrink", words)) => Ok(Task::Shrink(trace_words(words))),
-        _ => Ok(Task::Bundle),
+    let Some((name, words)) = matches.subcommand() else {
+        return Ok(Task::Bundle);
+    };
+    match command_named(name) {
+        Some(command) => task_named(alloc, command, words),
+        None => Ok(Task::Bundle),
     }
 }
 

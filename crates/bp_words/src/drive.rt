@@ -5,7 +5,7 @@ ghost use Rattle.clap.specs.declared.builder.command.Command.TheViews.{out-Comma
 ghost use Rattle.bp_words.specs.Commands.{drive_app};
 ghost use Rattle.bp_words.specs.DriveWords.{IsDriveOf};
 
-use crate::arguments::{number_option, option, required, values};
+use crate::arguments::{Row, Takes, with_rows};
 use crate::explain::{ExplainWords, explain_words};
 use crate::files::file_command;
 use crate::values::{entries, init, number};
@@ -26,7 +26,7 @@ pub struct DriveWords<'a> {
     pub start: Start,
 }
 
-const ABOUT: &str = "Drives a program by a schedule and prints the trace of the run";
+const ABOUT: &str = "Drive a program by a schedule and print the trace of the run";
 
 /// What `drive --help` says after the arguments.
 const NOTES: &str = "\
@@ -42,16 +42,35 @@ pub fn drive_command<'a>(alloc: Global) -> Result<Command<'a>, AllocError>
     ensures { IfOk result
         (λ c. (app_of c ≡ drive_app) × ((out-Command c).has_globals ≡ false)) }
 {
-    let entries = "The entry procedure of each thread, in order [default: main]";
-    let contexts = "How many contexts are allowed [default: 2]";
-    let calls = "How many calls of a thread are allowed [default: 1000]";
-    let init = "The initial bits of the globals, each 0 or 1 [default: all 0]";
-    file_command(alloc, "drive", ABOUT, NOTES)?
-        .arg(required(alloc, "SCHEDULE", "The file of the schedule"))?
-        .arg(values(alloc, "ENTRY", entries))?
-        .arg(number_option(alloc, "contexts", contexts))?
-        .arg(number_option(alloc, "calls", calls))?
-        .arg(option(alloc, "init", "BITS", init))
+    let rows = [
+        Row {
+            name: "SCHEDULE",
+            takes: Takes::One,
+            help: "The file of the schedule",
+        },
+        Row {
+            name: "ENTRY",
+            takes: Takes::Any,
+            help: "The entry procedure of each thread, in order [default: main]",
+        },
+        Row {
+            name: "contexts",
+            takes: Takes::Number,
+            help: "Allow N contexts [default: 2]",
+        },
+        Row {
+            name: "calls",
+            takes: Takes::Number,
+            help: "Allow each thread N calls [default: 1000]",
+        },
+        Row {
+            name: "init",
+            takes: Takes::Text("BITS"),
+            help: "Set the initial bits of the globals, each 0 or 1 [default: all 0]",
+        },
+    ];
+    let command = file_command(alloc, "drive", ABOUT, NOTES)?;
+    with_rows(alloc, command, &rows)
 }
 
 /// What the words after `drive` ask for.

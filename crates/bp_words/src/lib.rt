@@ -8,6 +8,7 @@ mod commands;
 mod drive;
 mod explain;
 mod files;
+mod names;
 mod run;
 mod show;
 mod test;

@@ -5,7 +5,7 @@ ghost use Rattle.clap.specs.declared.builder.command.Command.TheViews.{out-Comma
 ghost use Rattle.bp_words.specs.Commands.{run_app};
 ghost use Rattle.bp_words.specs.RunWords.{IsRunOf};
 
-use crate::arguments::{flag, long_number_option, number_option, option, values};
+use crate::arguments::{Row, Takes, with_rows};
 use crate::explain::{ExplainWords, explain_words};
 use crate::files::file_command;
 use crate::values::{entries, init, is_given, long_number, number};
@@ -29,7 +29,7 @@ pub struct RunWords<'a> {
     pub options: RunOptions,
 }
 
-const ABOUT: &str = "Runs a program by one worker for each thread and prints the trace of the run";
+const ABOUT: &str = "Run a program by one worker for each thread and print the trace of the run";
 
 /// What `run --help` says after the arguments.
 const NOTES: &str = "\
@@ -46,23 +46,50 @@ pub fn run_command<'a>(alloc: Global) -> Result<Command<'a>, AllocError>
     ensures { IfOk result
         (λ c. (app_of c ≡ run_app) × ((out-Command c).has_globals ≡ false)) }
 {
-    let entries = "The entry procedure of each thread, in order [default: main]";
-    let seed = "The seed of the choice bits [default: 42]";
-    let contexts = "How many contexts are allowed [default: 2]";
-    let calls = "How many calls of a thread are allowed [default: 1000]";
-    let turn = "How many calls a worker makes in a turn, 1 to 64 [default: 1]";
-    let init = "The initial bits of the globals, each 0 or 1 [default: all 0]";
-    let ring = "How many calls wait to be printed, 1 to 65536 [default: 1024]";
-    let spread = "The workers start together and take turns as they are drawn, so that runs differ";
-    file_command(alloc, "run", ABOUT, NOTES)?
-        .arg(values(alloc, "ENTRY", entries))?
-        .arg(long_number_option(alloc, "seed", seed))?
-        .arg(number_option(alloc, "contexts", contexts))?
-        .arg(number_option(alloc, "calls", calls))?
-        .arg(number_option(alloc, "turn", turn))?
-        .arg(option(alloc, "init", "BITS", init))?
-        .arg(number_option(alloc, "ring", ring))?
-        .arg(flag(alloc, "spread", spread))
+    let rows = [
+        Row {
+            name: "ENTRY",
+            takes: Takes::Any,
+            help: "The entry procedure of each thread, in order [default: main]",
+        },
+        Row {
+            name: "seed",
+            takes: Takes::LongNumber,
+            help: "Draw the choice bits by this seed [default: 42]",
+        },
+        Row {
+            name: "contexts",
+            takes: Takes::Number,
+            help: "Allow N contexts [default: 2]",
+        },
+        Row {
+            name: "calls",
+            takes: Takes::Number,
+            help: "Allow each thread N calls [default: 1000]",
+        },
+        Row {
+            name: "turn",
+            takes: Takes::Number,
+            help: "Let a worker make N calls in a turn, 1 to 64 [default: 1]",
+        },
+        Row {
+            name: "init",
+            takes: Takes::Text("BITS"),
+            help: "Set the initial bits of the globals, each 0 or 1 [default: all 0]",
+        },
+        Row {
+            name: "ring",
+            takes: Takes::Number,
+            help: "Let N calls wait to be printed, 1 to 65536 [default: 1024]",
+        },
+        Row {
+            name: "spread",
+            takes: Takes::Nothing,
+            help: "Start the workers together, and draw who takes each turn",
+        },
+    ];
+    let command = file_command(alloc, "run", ABOUT, NOTES)?;
+    with_rows(alloc, command, &rows)
 }
 
 /// What the words after `run` ask for.

@@ -5,7 +5,7 @@ ghost use Rattle.clap.specs.declared.builder.command.Command.TheViews.{out-Comma
 ghost use Rattle.bp_words.specs.Commands.{show_app};
 ghost use Rattle.bp_words.specs.ShowWords.{IsShowOf};
 
-use crate::arguments::{flag, long_number_option, number_option, option};
+use crate::arguments::{Row, Takes, with_rows};
 use crate::explain::{ExplainWords, explain_words};
 use crate::trace::trace_command;
 use crate::values::{given_long_number, given_number, is_given};
@@ -43,7 +43,7 @@ pub struct ShowWords<'a> {
     pub explain: ExplainWords,
 }
 
-const ABOUT: &str = "Replays a trace and shows what happened, call by call";
+const ABOUT: &str = "Replay a trace and show what happened, call by call";
 
 /// What `show --help` says after the arguments.
 const NOTES: &str = "\
@@ -63,27 +63,60 @@ pub fn show_command<'a>(alloc: Global) -> Result<Command<'a>, AllocError>
     ensures { IfOk result
         (λ c. (app_of c ≡ show_app) × ((out-Command c).has_globals ≡ false)) }
 {
-    let thread = "Shows the calls of this thread alone";
-    let last = "Shows so many of the last calls";
-    let from = "Shows no call before call N";
-    let to = "Shows no call after call N";
-    let watch = "Shows the calls alone that change one of these variables, as x,y";
-    let fold = "Shows more than three equal waits of a thread as one line";
-    let state = "Shows the state after the last call too";
-    let at = "Shows the state after call N in place of the calls";
-    let contexts = "Shows one line for each context in place of the calls";
-    let json = "Prints one JSON object a line, for programs";
-    trace_command(alloc, "show", ABOUT, NOTES)?
-        .arg(number_option(alloc, "thread", thread))?
-        .arg(long_number_option(alloc, "last", last))?
-        .arg(long_number_option(alloc, "from", from))?
-        .arg(long_number_option(alloc, "to", to))?
-        .arg(option(alloc, "watch", "NAMES", watch))?
-        .arg(flag(alloc, "fold", fold))?
-        .arg(flag(alloc, "state", state))?
-        .arg(long_number_option(alloc, "at", at))?
-        .arg(flag(alloc, "contexts", contexts))?
-        .arg(flag(alloc, "json", json))
+    let rows = [
+        Row {
+            name: "thread",
+            takes: Takes::Number,
+            help: "Show only the calls of thread N",
+        },
+        Row {
+            name: "last",
+            takes: Takes::LongNumber,
+            help: "Show only the last N calls",
+        },
+        Row {
+            name: "from",
+            takes: Takes::LongNumber,
+            help: "Show no call before call N",
+        },
+        Row {
+            name: "to",
+            takes: Takes::LongNumber,
+            help: "Show no call after call N",
+        },
+        Row {
+            name: "watch",
+            takes: Takes::Text("NAMES"),
+            help: "Show only the calls that change one of these variables, as x,y",
+        },
+        Row {
+            name: "fold",
+            takes: Takes::Nothing,
+            help: "Show more than three equal waits of a thread as one line",
+        },
+        Row {
+            name: "state",
+            takes: Takes::Nothing,
+            help: "Show the state after the last call too",
+        },
+        Row {
+            name: "at",
+            takes: Takes::LongNumber,
+            help: "Show the state after call N in place of the calls",
+        },
+        Row {
+            name: "contexts",
+            takes: Takes::Nothing,
+            help: "Show one line for each context in place of the calls",
+        },
+        Row {
+            name: "json",
+            takes: Takes::Nothing,
+            help: "Print one JSON object a line, for programs",
+        },
+    ];
+    let command = trace_command(alloc, "show", ABOUT, NOTES)?;
+    with_rows(alloc, command, &rows)
 }
 
 /// What the words after `show` ask for.

@@ -5,7 +5,7 @@ ghost use Rattle.clap.specs.declared.builder.command.Command.TheViews.{out-Comma
 ghost use Rattle.bp_words.specs.Commands.{test_app};
 ghost use Rattle.bp_words.specs.TestWords.{IsTestOf};
 
-use crate::arguments::{flag, long_number_option, number_option, option, values};
+use crate::arguments::{Row, Takes, with_rows};
 use crate::explain::{ExplainWords, explain_words};
 use crate::files::file_command;
 use crate::values::{entries, init, is_given, long_number, number};
@@ -40,8 +40,7 @@ pub struct TestWords<'a> {
     pub json: bool,
 }
 
-const ABOUT: &str =
-    "Tests a program by runs whose schedules are drawn, and prints the first that fails";
+const ABOUT: &str = "Test a program by runs with drawn schedules and print the first that fails";
 
 /// What `test --help` says after the arguments.
 const NOTES: &str = "\
@@ -63,27 +62,60 @@ pub fn test_command<'a>(alloc: Global) -> Result<Command<'a>, AllocError>
     ensures { IfOk result
         (λ c. (app_of c ≡ test_app) × ((out-Command c).has_globals ≡ false)) }
 {
-    let entries = "The entry procedure of each thread, in order [default: main]";
-    let seed = "The seed of the first run [default: 42]";
-    let contexts = "How many contexts are allowed [default: 2]";
-    let calls = "How many calls of a thread are allowed [default: 1000]";
-    let init = "The initial bits of the globals, each 0 or 1 [default: all 0]";
-    let runs = "How many runs there are at most [default: 10000]";
-    let jobs = "How many blocks of runs are made side by side, at most 64 [default: 1]";
-    let stuck = "Also stop at a run in which all open threads wait for ever";
-    let unreached = "List the statements that no run reached, on standard error";
-    let json = "Write the summary as JSON objects, for programs";
-    file_command(alloc, "test", ABOUT, NOTES)?
-        .arg(values(alloc, "ENTRY", entries))?
-        .arg(long_number_option(alloc, "seed", seed))?
-        .arg(number_option(alloc, "contexts", contexts))?
-        .arg(number_option(alloc, "calls", calls))?
-        .arg(option(alloc, "init", "BITS", init))?
-        .arg(long_number_option(alloc, "runs", runs))?
-        .arg(number_option(alloc, "jobs", jobs))?
-        .arg(flag(alloc, "stuck", stuck))?
-        .arg(flag(alloc, "unreached", unreached))?
-        .arg(flag(alloc, "json", json))
+    let rows = [
+        Row {
+            name: "ENTRY",
+            takes: Takes::Any,
+            help: "The entry procedure of each thread, in order [default: main]",
+        },
+        Row {
+            name: "seed",
+            takes: Takes::LongNumber,
+            help: "Begin with the run of this seed [default: 42]",
+        },
+        Row {
+            name: "contexts",
+            takes: Takes::Number,
+            help: "Allow N contexts [default: 2]",
+        },
+        Row {
+            name: "calls",
+            takes: Takes::Number,
+            help: "Allow each thread N calls [default: 1000]",
+        },
+        Row {
+            name: "init",
+            takes: Takes::Text("BITS"),
+            help: "Set the initial bits of the globals, each 0 or 1 [default: all 0]",
+        },
+        Row {
+            name: "runs",
+            takes: Takes::LongNumber,
+            help: "Make at most N runs [default: 10000]",
+        },
+        Row {
+            name: "jobs",
+            takes: Takes::Number,
+            help: "Make N blocks of runs side by side, at most 64 [default: 1]",
+        },
+        Row {
+            name: "stuck",
+            takes: Takes::Nothing,
+            help: "Also stop at a run in which all open threads wait for ever",
+        },
+        Row {
+            name: "unreached",
+            takes: Takes::Nothing,
+            help: "List the statements that no run reached, on standard error",
+        },
+        Row {
+            name: "json",
+            takes: Takes::Nothing,
+            help: "Write the summary as JSON objects, for programs",
+        },
+    ];
+    let command = file_command(alloc, "test", ABOUT, NOTES)?;
+    with_rows(alloc, command, &rows)
 }
 
 /// What the words after `test` ask for.

@@ -5,7 +5,7 @@ ghost use Rattle.clap.specs.declared.builder.command.Command.TheViews.{out-Comma
 ghost use Rattle.bp_words.specs.Commands.{trace_app};
 ghost use Rattle.bp_words.specs.TraceWords.{IsTraceWordsOf};
 
-use crate::arguments::required;
+use crate::arguments::{Row, Takes, with_rows};
 use crate::explain::{ExplainWords, explain_words};
 use crate::files::file_command;
 use clap::{ArgMatches, Command};
@@ -22,7 +22,7 @@ pub struct TraceWords<'a> {
     pub explain: ExplainWords,
 }
 
-pub const REPLAY_ABOUT: &str = "Replays a trace and prints what its steps printed, and the outcome";
+pub const REPLAY_ABOUT: &str = "Replay a trace and print what its steps printed, and the outcome";
 
 /// What `replay --help` says after the arguments.
 pub const REPLAY_NOTES: &str = "\
@@ -34,7 +34,7 @@ pub const REPLAY_NOTES: &str = "\
     Exit status:\n  0  done, and no assertion failed\n  1  an assertion failed\n  \
     2  an input was refused, or the words were\n  3  memory, a device or the output failed";
 
-pub const MIGRATE_ABOUT: &str = "Prints the trace of version 2 of a trace in either version";
+pub const MIGRATE_ABOUT: &str = "Print a trace of either version in version 2";
 
 /// What `migrate --help` says after the arguments.
 pub const MIGRATE_NOTES: &str = "\
@@ -45,8 +45,7 @@ pub const MIGRATE_NOTES: &str = "\
     Exit status:\n  0  done, and no assertion failed\n  1  an assertion failed\n  \
     2  an input was refused, or the words were\n  3  memory, a device or the output failed";
 
-pub const SHRINK_ABOUT: &str =
-    "Prints the trace of a smaller history that fails where that of a trace does";
+pub const SHRINK_ABOUT: &str = "Print a smaller trace in which the same assertion fails";
 
 /// What `shrink --help` says after the arguments.
 pub const SHRINK_NOTES: &str = "\
@@ -67,7 +66,13 @@ pub fn trace_command<'a>(
     ensures { IfOk result
         (λ c. (app_of c ≡ trace_app name.now) × ((out-Command c).has_globals ≡ false)) }
 {
-    file_command(alloc, name, about, notes)?.arg(required(alloc, "TRACE", "The file of the trace"))
+    let rows = [Row {
+        name: "TRACE",
+        takes: Takes::One,
+        help: "The file of the trace",
+    }];
+    let command = file_command(alloc, name, about, notes)?;
+    with_rows(alloc, command, &rows)
 }
 
 /// What the words after `replay`, `migrate` or `shrink` ask for.

@@ -2,35 +2,10 @@
 ghost use Rattle.std.specs.Prelude.{◌≡◌, IfOk, IfSome};
 ghost use Rattle.clap.specs.Words.{kind_of};
 
-use crate::check::check_command;
-use crate::code::code_command;
-use crate::drive::drive_command;
-use crate::run::run_command;
-use crate::show::show_command;
-use crate::test::test_command;
-use crate::trace::{
-    MIGRATE_ABOUT, MIGRATE_NOTES, REPLAY_ABOUT, REPLAY_NOTES, SHRINK_ABOUT, SHRINK_NOTES,
-    trace_command,
-};
+use crate::names::{command_named, with_help};
+use clap::Error;
 use clap::error::ErrorKind;
-use clap::{Command, Error};
 use std::alloc::{AllocError, Global};
-
-/// The command of this name.
-fn command_named<'a>(alloc: Global, name: &str) -> Result<Option<Command<'a>>, AllocError> {
-    Ok(match name {
-        "check" => Some(check_command(alloc)?),
-        "code" => Some(code_command(alloc)?),
-        "drive" => Some(drive_command(alloc)?),
-        "run" => Some(run_command(alloc)?),
-        "test" => Some(test_command(alloc)?),
-        "replay" => Some(trace_command(alloc, "replay", REPLAY_ABOUT, REPLAY_NOTES)?),
-        "show" => Some(show_command(alloc)?),
-        "migrate" => Some(trace_command(alloc, "migrate", MIGRATE_ABOUT, MIGRATE_NOTES)?),
-        "shrink" => Some(trace_command(alloc, "shrink", SHRINK_ABOUT, SHRINK_NOTES)?),
-        _ => None,
-    })
-}
 
 /// The first paragraph of the text of an error, without the word before it.
 fn message_of(text: &str) -> &str {
@@ -60,9 +35,10 @@ fn error_with_usage(
     let (Some(path), Some(name)) = (words.first(), words.get(1)) else {
         return Ok(None);
     };
-    let Some(command) = command_named(alloc, name.as_str())? else {
+    let Some(command) = command_named(name.as_str()) else {
         return Ok(None);
     };
+    let command = with_help(alloc, command)?;
     let called = format!(in alloc; "{} {}", program_of(path.as_str()), name.as_str())?;
     let text = format!(in alloc; "{error}")?;
     let mut command = command.bin_name(called.as_str())?;

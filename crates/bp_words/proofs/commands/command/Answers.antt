@@ -1,17 +1,18 @@
-use Rattle.std.proofs.Common.{◌≡◌}
+use Rattle.std.proofs.Common.{◌∙◌, ◌+◌, ap, drop, get_or, map, refl, sym}
+use Rattle.std.proofs.lemmas.List.{drop_more}
 use Rattle.clap.specs.Simple.{app_of}
-use Rattle.bp_words.proofs.CommandShapes.{with_command, if_ok}
-use Rattle.bp_words.specs.Commands.{btrun_app, check_app, code_app, drive_app, migrate_app, replay_app, run_app, show_app, shrink_app, test_app}
+use Rattle.bp_words.specs.Commands.{command_app, with_commands}
+use Rattle.bp_words.specs.declared.names.Named.TheVariants.{Check}
+use Rattle.bp_words.specs.declared.names.TheConstants.{NAMED}
+use Rattle.bp_words.proofs.CommandShapes.{with_command}
 use Rattle.bp_words.proofs.commands.command.Goals as goal
 
-pub returns : goal.returns
-returns c =
-    let check = with_command _ _ _ _ check_app c.program.ensures c.in_ok-check_command.ensures c.in_ok-subcommand.ensures in
-    let code = with_command _ _ _ _ code_app check c.in_ok-code_command.ensures c.in_ok-subcommand-2.ensures in
-    let drive = with_command _ _ _ _ drive_app code c.in_ok-drive_command.ensures c.in_ok-subcommand-3.ensures in
-    let run = with_command _ _ _ _ run_app drive c.in_ok-run_command.ensures c.in_ok-subcommand-4.ensures in
-    let test = with_command _ _ _ _ test_app run c.in_ok-test_command.ensures c.in_ok-subcommand-5.ensures in
-    let replay = with_command _ _ _ _ replay_app test c.in_ok-trace_command.ensures c.in_ok-subcommand-6.ensures in
-    let show = with_command _ _ _ _ show_app replay c.in_ok-show_command.ensures c.in_ok-subcommand-7.ensures in
-    let migrate = with_command _ _ _ _ migrate_app show c.in_ok-trace_command-2.ensures c.in_ok-subcommand-8.ensures in
-    if_ok c.subcommand-9.result _ (λ new. app_of new ≡ btrun_app) (λ new adds. with_command _ new _ _ shrink_app migrate c.in_ok-trace_command-3.ensures adds) c.subcommand-9.ensures
+pub loop-command-preserved : goal.loop-command-preserved
+loop-command-preserved c =
+    let old = c.loop-command.program in
+    let i = c.loop-command.command-index in
+    let next = get_or NAMED i Check in
+    let grown = with_command old c.in_ok-program.program _ (app_of old) (command_app next) refl c.in_ok-with_help.ensures c.in_ok-program.ensures in
+    ap (λ a. with_commands a (map command_app (drop (i + 1) NAMED))) grown
+    ∙ ap (λ cs. with_commands (app_of old) (map command_app cs)) (sym (drop_more NAMED i Check c.loop-command-test.true))
+    ∙ c.loop-command.invariant
