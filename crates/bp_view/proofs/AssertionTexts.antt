@@ -1,7 +1,7 @@
 -- What is said of an assertion that failed is what the scene of its thread's top shows.
 use Rattle.std.proofs.Common.{◌≡◌, ◌∙◌, ℕ, List, Some, ap, ap₂, drop, slice_get, subst}
 use Rattle.std.specs.Prelude.{option_map}
-use Rattle.bp_tree.specs.Ast.{Program}
+use Rattle.bp_tree.specs.Ast.{Decision, Program}
 use Rattle.bp_code.specs.Configurations.{Frame}
 use Rattle.bp_code.specs.Moves.{frame_store}
 use Rattle.bp_code.specs.StandsFor.{place}
@@ -12,6 +12,7 @@ use Rattle.bp_machine.specs.Histories.{configuration_after}
 use Rattle.bp_machine.specs.Reports.{IsRealFailure}
 use Rattle.bp_machine.specs.Setups.{SetupOf}
 use Rattle.bp_machine.specs.Tops.{IsTop}
+use Rattle.bp_view.specs.Assertions.{asserted_next, variables_read}
 use Rattle.bp_view.specs.declared.scenes.Scene.{Scene}
 use Rattle.bp_view.specs.declared.options.ViewFormat.{ViewFormat}
 use Rattle.bp_text.specs.declared.positions.Position.{Position}
@@ -42,10 +43,7 @@ module _
       let same : found.scene ≡ scene = cc in
       subst (IsScene text t.procedures (place top.frame.procedure top.frame.left)) same found.is
 
-  pub start_is : scene.start ≡ Some failure.stands.at
-  start_is = shown.start ∙ begins
-
-  pub statement : IsStatement (drop failure.stands.at text) scene.excerpt.words.items scene.excerpt.reads_choice
+  statement : IsStatement (drop failure.stands.at text) scene.excerpt.words.items scene.excerpt.reads_choice
   statement = subst (λ at. IsStatementAt text top.frame.procedure at scene.excerpt.words.items scene.excerpt.reads_choice) begins shown.statement
 
   pub position_is : scene.position ≡ Some (position_at text failure.stands.at)
@@ -56,19 +54,25 @@ module _
       let same : position_at text failure.stands.at ≡ position = let own = position_is in cc in
       shown.place ∙ ap (place_text text) begins ∙ ap position_text same
 
+  pub asserted_is : asserted_next top.frame.left ≡ Some failure.stands.decision
+  asserted_is = ap (λ (f : Frame). asserted_next f.left) frame_is ∙ ap asserted_next failure.stands.asserts
+
   pub assertion_said
-      : (format : ViewFormat) (position : Position) (values said : List ℕ)
+      : (format : ViewFormat) (position : Position) (d : Decision) (values said : List ℕ)
       → scene.position ≡ Some position
-      → values ≡ named_values format top.frame.procedure (frame_store (configuration_after t s h).globals top.frame) statement.lexemes
+      → asserted_next top.frame.left ≡ Some d
+      → values ≡ named_values format top.frame.procedure (frame_store (configuration_after t s h).globals top.frame) (variables_read d)
       → said ≡ assertion_in format position scene.excerpt.words.items values
       → IsAssertionText format t text s h i said
-  assertion_said format position values said at values_is is =
-      let same : position ≡ position_at text failure.stands.at = let own = position_is in cc in
-      let words_are = statement.words_are in
-      let values_are = values_is ∙ ap₂ (λ (f : Frame) globals. named_values format f.procedure (frame_store globals f) statement.lexemes) frame_is (globals_stay t s h i failure) in
+  assertion_said format position d values said at decides values_is is =
+      let here : position ≡ position_at text failure.stands.at = let own = position_is in cc in
+      let same : d ≡ failure.stands.decision = let own = asserted_is in cc in
+      let now = ap₂ (λ (f : Frame) globals. named_values format f.procedure (frame_store globals f) (variables_read d)) frame_is (globals_stay t s h i failure) in
+      let read = ap (λ e. named_values format failure.stands.frame.procedure (frame_store (configuration_after t s failure.before).globals failure.stands.frame) (variables_read e)) same in
       record {
         failure = failure;
-        lexemes = statement.lexemes;
-        lexemes_are = statement.lexemes_are;
-        is = is ∙ (λ j. assertion_in format (same j) (words_are j) (values_are j));
+        words = scene.excerpt.words.items;
+        reads = scene.excerpt.reads_choice;
+        words_are = statement;
+        is = is ∙ ap₂ (λ p v. assertion_in format p scene.excerpt.words.items v) here (values_is ∙ now ∙ read);
       }

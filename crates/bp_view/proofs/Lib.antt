@@ -1,4 +1,5 @@
 pub mod AllContexts
+pub mod AssertedPlaces
 pub mod AssertionTexts
 pub mod BegunViews
 mod CallsOfLines
@@ -24,7 +25,6 @@ pub mod SceneLists
 pub mod ScenesOfSpots
 pub mod SpansOfHistories
 pub mod StepsInContexts
-pub mod ValuesOfStatements
 pub mod WatchedVariables
 pub mod WholeStates
 pub mod WholeViews

@@ -24,13 +24,14 @@ use Rattle.bp_view.specs.declared.options.ViewFormat.TheVariants.{Columns, Json}
 use Rattle.bp_view.specs.declared.options.ViewOptions.{ViewOptions}
 use Rattle.bp_view.specs.declared.scenes.Scene.{Scene}
 use Rattle.bp_view.specs.declared.settings.Widths.{Widths}
+use Rattle.bp_view.specs.Assertions.{variables_read}
 use Rattle.bp_view.specs.Colours.{colour_of}
 use Rattle.bp_view.specs.JsonCalls.{call_object, nothing_next, printed_by, IsNextOf, Next}
 use Rattle.bp_view.specs.Lines.{indented, is_switch, line_text, note_text, start_on_stack, AreFields, Fields, IsContext, IsShown, Shown}
 use Rattle.bp_view.specs.Outcomes.{assertion_in, clean_in, failure_in, foot_text, named_values, IsAssertionText, IsFoot, IsOutcomeText}
 use Rattle.bp_view.specs.Places.{place_text}
 use Rattle.bp_view.specs.Scenes.{AreScenes, IsStatementAt}
-use Rattle.bp_view.specs.Statements.{shortened, words_after, IsStatement}
+use Rattle.bp_view.specs.Statements.{IsStatement}
 use Rattle.bp_view.specs.Views.{calls_of, changes_of, has_line, AreLines, IsShownLine, IsViewLine, IsViewLineIf}
 use Rattle.bp_view.proofs.LinesOfCalls.{lines_then}
 use Rattle.bp_view.proofs.PlacedStacks.{stack_placed, ArePlaced, IsPlaced}
@@ -131,9 +132,9 @@ module _ (c : Flat) (t : Program) (code : StandsFor c t) (text : List ℕ) (scen
         let own : IsStatement (drop failure.stands.at text) words found.scene.excerpt.reads_choice =
         subst (λ at. IsStatementAt text frame.procedure at words found.scene.excerpt.reads_choice) begins found.is.statement
         in (
-          assertion_in format (position_at text failure.stands.at) (shortened (words_after false own.lexemes))
-              (named_values format frame.procedure (frame_store before.globals frame) own.lexemes),
-          record { failure = failure; lexemes = own.lexemes; lexemes_are = own.lexemes_are; is = refl },
+          assertion_in format (position_at text failure.stands.at) words
+              (named_values format frame.procedure (frame_store before.globals frame) (variables_read failure.stands.decision)),
+          record { failure = failure; words = words; reads = found.scene.excerpt.reads_choice; words_are = own; is = refl },
         )
 
     some_outcome : (h : List Call) → IsLegal t s h → (outcome : Outcome) → outcome ≡ outcome_of h → (said : List ℕ) × IsOutcomeText format t text s h outcome said

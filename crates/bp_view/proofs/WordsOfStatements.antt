@@ -2,7 +2,7 @@
 use Rattle.std.proofs.Common.{◌≡◌, ◌∙◌, ℕ, Bool, true, false, List, [], ◌∷◌, ◌++◌, ap, sym, refl, append_assoc, append-nil}
 use Rattle.std.specs.Prelude.{◌||◌}
 use Rattle.std.specs.List.{list_any}
-use Rattle.bp_view.specs.Statements.{HasLexemes, IsAtEnd, Lexeme, Takes, ends, more, is_choice, is_gap, role_of, word_after, words_after}
+use Rattle.bp_view.specs.Statements.{HasLexemes, IsAtEnd, Lexeme, Takes, ends, more, is_choice, is_gap, word_after, words_after}
 
 -- the text begins with a statement of these words, before they are cut
 pub record Reads (text words : List ℕ) (reads : Bool) : Type 0 where
@@ -29,11 +29,11 @@ or_false true = refl
 or_false false = refl
 
 module _ (text words : List ℕ) (gap reads : Bool) (rest : List ℕ) (read : ReadsTo text words gap reads rest) where
-  pub reads_more : (l : Lexeme) (new next : List ℕ) → Takes rest l.kind l.bytes next → new ≡ words ++ word_after gap l.kind l.bytes → ReadsTo text new (is_gap (role_of l.kind)) (reads || is_choice l.bytes) next
+  pub reads_more : (l : Lexeme) (new next : List ℕ) → Takes rest l.kind l.bytes next → new ≡ words ++ word_after gap l.kind l.bytes → ReadsTo text new (is_gap l.kind) (reads || is_choice l.bytes) next
   reads_more l new next takes is = record {
     with_left = λ left are.
         let all = read.with_left (l ∷ left) (more takes are) in
-        let others = words_after (is_gap (role_of l.kind)) left in
+        let others = words_after (is_gap l.kind) left in
         record {
           lexemes = all.lexemes;
           lexemes_are = all.lexemes_are;

@@ -1,5 +1,5 @@
 -- The object of a call in JSON.
-use Rattle.std.specs.Prelude.{if◌then◌else◌, ◌≡◌, ◌&&◌, ℕ, Bool, false, List, [], ◌∷◌, ◌++◌, Option, None, Some, codes, decimal, flat_map, length, option_map, slice_get}
+use Rattle.std.specs.Prelude.{if◌then◌else◌, ◌≡◌, ◌&&◌, ℕ, Bool, false, List, [], ◌∷◌, Option, None, Some, codes, decimal, flat_map, length, option_map, slice_get}
 use Rattle.std.specs.List.{concat}
 use Rattle.bp_tree.specs.Ast.{Procedure}
 use Rattle.bp_code.specs.Starts.{start_of_block}

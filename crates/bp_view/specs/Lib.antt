@@ -1,3 +1,4 @@
+pub mod Assertions
 pub mod ChangeFacts
 pub mod Changes
 pub mod Colours

@@ -1,5 +1,5 @@
 -- The foot of a view: the report of its history.
-use Rattle.std.specs.Prelude.{if◌then◌else◌, ◌≡◌, ℕ, Bool, false, List, [], ◌∷◌, ◌++◌, Option, None, Some, codes, decimal, drop}
+use Rattle.std.specs.Prelude.{◌≡◌, ℕ, Bool, List, [], ◌∷◌, ◌++◌, Option, None, Some, codes, decimal, drop, flat_map}
 use Rattle.std.specs.List.{concat}
 use Rattle.bp_tree.specs.Ast.{Procedure, Program}
 use Rattle.bp_code.specs.Effects.{Store}
@@ -12,16 +12,16 @@ use Rattle.bp_machine.specs.declared.reports.Report.{Report}
 use Rattle.bp_machine.specs.Histories.{configuration_after}
 use Rattle.bp_machine.specs.Reports.{IsRealFailure}
 use Rattle.bp_machine.specs.Setups.{SetupOf}
-use Rattle.bp_syntax.specs.declared.tokens.LexemeKind.{LexemeKind}
 use Rattle.bp_view.specs.declared.options.ViewFormat.{ViewFormat}
 use Rattle.bp_view.specs.declared.options.ViewFormat.TheVariants.{Columns, Json}
+use Rattle.bp_view.specs.Assertions.{variables_read}
 use Rattle.bp_view.specs.Changes.{variable_text}
 use Rattle.bp_text.specs.declared.positions.Position.{Position}
 use Rattle.bp_text.specs.JsonStrings.{string_text}
 use Rattle.bp_text.specs.Pieces.{key_text, list_text}
 use Rattle.bp_text.specs.Positions.{position_at}
 use Rattle.bp_view.specs.Places.{position_text}
-use Rattle.bp_view.specs.Statements.{is_word, role_of, shortened, words_after, HasLexemes, Lexeme}
+use Rattle.bp_view.specs.Statements.{IsStatement}
 
 -- the calls of a history, the contexts of its steps, and the threads that may continue
 abbrev pub counts_line : Report → List ℕ
@@ -51,14 +51,9 @@ module _ (format : ViewFormat) where
   abbrev pub named_value : Procedure → Store Valuation → List ℕ → List ℕ
   named_value p s name = resolved_value p name (lookup s.locals name) (lookup s.globals name)
 
-  -- the same of a lexeme; a symbol names nothing
-  abbrev pub lexeme_value : Procedure → Store Valuation → Option LexemeKind → List ℕ → List ℕ
-  lexeme_value p s kind bytes = if is_word (role_of kind) then named_value p s bytes else []
-
-  -- the values of the variables that these lexemes name, one after the other
-  abbrev pub named_values : Procedure → Store Valuation → List Lexeme → List ℕ
-  named_values p s [] = []
-  named_values p s (l ∷ ls) = lexeme_value p s l.kind l.bytes ++ named_values p s ls
+  -- the values of the variables of these names, one after the other
+  abbrev pub named_values : Procedure → Store Valuation → List (List ℕ) → List ℕ
+  named_values p s names = flat_map (named_value p s) names
 
 -- a line of values, and none where there are none
 abbrev pub values_line : List ℕ → List ℕ
@@ -89,21 +84,22 @@ assertion_in Columns position words values = assertion_text (position_text posit
 assertion_in Json position words values = assertion_members position words values
 
 -- What is said of the assertion of thread i that failed in a history: its place in the text, its
--- words, and the values that the variables in it had when it failed.
+-- words, and the values that the variables which it reads had when it failed.
 pub record IsAssertionText
     (format : ViewFormat)
     (t : Program) (text : List ℕ) (s : SetupOf) (h : List Call) (i : ℕ) (said : List ℕ)
     : Type 0 where
   pub failure : IsRealFailure t s h i
-  pub lexemes : List Lexeme
-  pub lexemes_are : HasLexemes (drop failure.stands.at text) lexemes
+  pub words : List ℕ
+  pub reads : Bool
+  pub words_are : IsStatement (drop failure.stands.at text) words reads
   pub is :
       let before = configuration_after t s failure.before in
       let frame = failure.stands.frame in
       let store = frame_store before.globals frame in
+      let names = variables_read failure.stands.decision in
       let position = position_at text failure.stands.at in
-      let words = shortened (words_after false lexemes) in
-      said ≡ assertion_in format position words (named_values format frame.procedure store lexemes)
+      said ≡ assertion_in format position words (named_values format frame.procedure store names)
 
 -- an object of the thread whose assertion failed, and what is said of the assertion
 abbrev pub failure_object : ℕ → List ℕ → List ℕ

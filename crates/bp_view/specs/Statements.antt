@@ -3,11 +3,9 @@ use Rattle.std.specs.Prelude.{if◌then◌else◌, ◌≡◌, ◌||◌, ◌-◌,
 use Rattle.std.specs.List.{list_any}
 use Rattle.bp_syntax.specs.FirstLexemes.{TakesLexeme}
 use Rattle.bp_syntax.specs.declared.tokens.LexemeKind.{LexemeKind}
-use Rattle.bp_syntax.specs.declared.tokens.LexemeKind.TheVariants.{White, Comment, Identifier, Braced}
+use Rattle.bp_syntax.specs.declared.tokens.LexemeKind.TheVariants.{White, Comment}
 use Rattle.bp_text.specs.OneLine.{on_one_line}
 use Rattle.bp_view.specs.declared.excerpts.TheConstants.{MAX_EXCERPT}
-use Rattle.bp_view.specs.declared.excerpts.Role.{Role}
-use Rattle.bp_view.specs.declared.excerpts.Role.TheVariants.{Gap, Word, Symbol}
 
 -- a lexeme: its kind, none for a byte that begins no lexeme, and its bytes
 pub record Lexeme : Type 0 where
@@ -18,14 +16,6 @@ pub record Lexeme : Type 0 where
 abbrev pub is_ending : List ℕ → Bool
 is_ending bytes =
     bytes_eq bytes (codes ";") || bytes_eq bytes (codes "then") || bytes_eq bytes (codes "do")
-
--- what a lexeme of this kind is to the text of a statement
-abbrev pub role_of : Option LexemeKind → Role
-role_of (Some White) = Gap
-role_of (Some Comment) = Gap
-role_of (Some Identifier) = Word
-role_of (Some Braced) = Word
-role_of kind = Symbol
 
 -- the text begins with a lexeme that ends a statement, or nothing is left of it
 pub data IsAtEnd : (text : List ℕ) → Type 0 where
@@ -51,14 +41,10 @@ pub data HasLexemes : (text : List ℕ) → List Lexeme → Type 0 where
       → HasLexemes text (l ∷ ls)
 
 -- white and comments
-abbrev pub is_gap : Role → Bool
-is_gap Gap = true
-is_gap r = false
-
--- names and reserved words
-abbrev pub is_word : Role → Bool
-is_word Word = true
-is_word r = false
+abbrev pub is_gap : Option LexemeKind → Bool
+is_gap (Some White) = true
+is_gap (Some Comment) = true
+is_gap kind = false
 
 -- bytes on one line, after a space where a gap comes before them
 abbrev pub spaced : (gap : Bool) → List ℕ → List ℕ
@@ -66,13 +52,13 @@ spaced gap bytes = (if gap then codes " " else []) ++ map on_one_line bytes
 
 -- a lexeme after a gap or after none; a gap has no text of its own
 abbrev pub word_after : (gap : Bool) → Option LexemeKind → List ℕ → List ℕ
-word_after gap kind bytes = if is_gap (role_of kind) then [] else spaced gap bytes
+word_after gap kind bytes = if is_gap kind then [] else spaced gap bytes
 
 -- these lexemes, one after the other
 abbrev pub words_after : (gap : Bool) → List Lexeme → List ℕ
 words_after gap [] = []
 words_after gap (l ∷ ls) =
-    word_after gap l.kind l.bytes ++ words_after (is_gap (role_of l.kind)) ls
+    word_after gap l.kind l.bytes ++ words_after (is_gap l.kind) ls
 
 -- at most MAX_EXCERPT bytes: a longer text is cut, and ends with two dots
 abbrev pub shortened : List ℕ → List ℕ

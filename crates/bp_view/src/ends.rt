@@ -55,20 +55,19 @@ fn push_state(
 pub(crate) fn end_of(
     alloc: Global,
     setting: &Setting<'_>,
-    text: &[u8],
     session: &Session,
     report: Report,
 ) -> Result<Vec<u8>, AllocError>
-    ensures { (t : Program) (h : List Answered)
-        → IsSettingOf t text.now setting.now
+    ensures { (t : Program) (text : List ℕ) (h : List Answered)
+        → IsSettingOf t text setting.now
         → StandsFor session.now.code t
         → Stands t session.now h
         → setting.now.history.now ≡ h
         → report.outcome ≡ outcome_of h
         → let s = session.now.setup in
-        IfOk result (λ v. IsEnd setting.now.options t text.now s h report v.items) }
+        IfOk result (λ v. IsEnd setting.now.options t text s h report v.items) }
 {
-    let mut end = foot_of(alloc, setting, text, session, report)?;
+    let mut end = foot_of(alloc, setting, session, report)?;
     push_state(alloc, &mut end, setting, session)?;
     Ok(end)
 }

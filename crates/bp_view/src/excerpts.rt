@@ -2,7 +2,7 @@
 ghost use Rattle.std.specs.Prelude.{◌≡◌, ◌++◌, ◌∷◌, [], ◌≤◌, ◌<◌, length, IfOk, OnOk, MatchOption};
 ghost use Rattle.std.specs.Prelude.{bytes_eq, codes};
 ghost use Rattle.bp_text.specs.OneLine.{AddsOneLine, IsOneLine};
-ghost use Rattle.bp_view.specs.Statements.{is_choice, is_ending, is_gap, is_word, role_of, shortened, word_after, IsAtEnd, IsStatement, Takes};
+ghost use Rattle.bp_view.specs.Statements.{is_choice, is_ending, is_gap, shortened, word_after, IsAtEnd, IsStatement, Takes};
 
 use bp_syntax::{Lexeme, LexemeKind, take_lexeme};
 use bp_text::push_on_one_line;
@@ -14,16 +14,6 @@ pub(crate) const MAX_EXCERPT: usize = 60;
 /// What ends an excerpt that was cut.
 const CUT: &[u8] = b"..";
 
-/// What a lexeme is to an excerpt.
-#[derive(Clone, Copy, Debug, PartialEq, Eq)]
-pub(crate) enum Role {
-    /// White or a comment.
-    Gap,
-    /// A name or a reserved word.
-    Word,
-    Symbol,
-}
-
 /// Whether these bytes end a statement's own text: `;` and two reserved words do.
 fn is_ending(bytes: &[u8]) -> bool
     ensures { result ≡ is_ending bytes.now }
@@ -31,29 +21,11 @@ fn is_ending(bytes: &[u8]) -> bool
     matches!(bytes, b";" | b"then" | b"do")
 }
 
-/// What a lexeme is to an excerpt.
-fn role_of(lexeme: Lexeme<'_>) -> Role
-    ensures { result ≡ role_of lexeme.entry.kind }
-{
-    match lexeme.kind {
-        Some(LexemeKind::White | LexemeKind::Comment) => Role::Gap,
-        Some(LexemeKind::Identifier | LexemeKind::Braced) => Role::Word,
-        _ => Role::Symbol,
-    }
-}
-
-/// Whether an excerpt leaves the lexeme out.
+/// Whether an excerpt leaves the lexeme out: white and comments.
 fn is_gap(lexeme: Lexeme<'_>) -> bool
-    ensures { result ≡ is_gap (role_of lexeme.entry.kind) }
+    ensures { result ≡ is_gap lexeme.entry.kind }
 {
-    matches!(role_of(lexeme), Role::Gap)
-}
-
-/// Whether the lexeme is a name or a reserved word.
-pub(crate) fn is_word(lexeme: Lexeme<'_>) -> bool
-    ensures { result ≡ is_word (role_of lexeme.entry.kind) }
-{
-    matches!(role_of(lexeme), Role::Word)
+    matches!(lexeme.kind, Some(LexemeKind::White | LexemeKind::Comment))
 }
 
 /// Whether these bytes are the sign of a choice.
@@ -64,7 +36,7 @@ fn is_choice(bytes: &[u8]) -> bool
 }
 
 /// Takes the next lexeme of a statement's own text from the text, where one is left.
-pub(crate) fn take_own_lexeme<'a>(text: &mut &'a [u8]) -> Option<Lexeme<'a>>
+fn take_own_lexeme<'a>(text: &mut &'a [u8]) -> Option<Lexeme<'a>>
     ensures lexeme { MatchOption result
         (IsAtEnd text.old.now)
         (λ p. Takes text.old.now p.kind p.text.now text.new.now) }

@@ -1,6 +1,7 @@
 //! Views for people: what happened in a history, and where in a program's text.
 #![tactic(auto)]
 
+mod assertions;
 mod change_facts;
 mod changes;
 mod colours;

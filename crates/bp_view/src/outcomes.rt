@@ -1,6 +1,7 @@
 //! The end of a view: the report of the history.
-ghost use Rattle.std.specs.Prelude.{◌≡◌, ◌++◌, ℕ, List, Some, drop, OnOk, IfOk};
+ghost use Rattle.std.specs.Prelude.{◌≡◌, ◌++◌, ℕ, List, map, OnOk, IfOk};
 ghost use Rattle.bp_tree.specs.Ast.{Program};
+ghost use Rattle.bp_tree.specs.Views.{decision_of};
 ghost use Rattle.bp_code.specs.Bits.{store_of};
 ghost use Rattle.bp_code.specs.Configurations.{Configuration};
 ghost use Rattle.bp_code.specs.Moves.{frame_store};
@@ -11,93 +12,63 @@ ghost use Rattle.bp_machine.specs.Reports.{outcome_of};
 ghost use Rattle.bp_machine.specs.Sessions.{Stands};
 ghost use Rattle.bp_machine.specs.Tops.{IsTop};
 ghost use Rattle.bp_view.specs.Lines.{IsSettingOf};
+ghost use Rattle.bp_view.specs.Assertions.{variables_read};
 ghost use Rattle.bp_view.specs.declared.options.ViewFormat.TheVariants.{Columns, Json};
-ghost use Rattle.bp_view.specs.Outcomes.{assertion_in, assertion_members, assertion_text, clean_in, counts_line, failure_in, failure_object, failure_text, foot_text, lexeme_value, named_values, values_line, IsAssertionText, IsFoot, IsOutcomeText};
+ghost use Rattle.bp_view.specs.Outcomes.{assertion_in, assertion_members, assertion_text, clean_in, counts_line, failure_in, failure_object, failure_text, foot_text, named_values, values_line, IsAssertionText, IsFoot, IsOutcomeText};
 ghost use Rattle.bp_view.specs.Places.{position_text};
-ghost use Rattle.bp_view.specs.Statements.{HasLexemes, Lexeme as Read};
 
+use crate::assertions::{asserted_at, variables_read};
 use crate::changes::procedure_at;
-use crate::excerpts::{is_word, take_own_lexeme};
 use crate::options::ViewFormat;
 use crate::scenes::Scene;
 use crate::settings::Setting;
 use crate::variables::push_variable;
 use bp_code::Store;
 use bp_machine::{Outcome, Report, Session, Top};
-use bp_syntax::Lexeme;
 use bp_text::Piece::{Bytes, Key, List, Number, Text};
-use bp_text::{Position, part_from, push_bytes, push_pieces};
-use bp_tree::{Name, Proc};
+use bp_text::{Position, push_bytes, push_pieces};
+use bp_tree::{Decider, Name, Proc};
 use std::alloc::{AllocError, Global};
 
-/// Adds the variable that a lexeme names, where it names one, and its value.
-fn push_named(
-    values: &mut Vec<u8>,
-    format: ViewFormat,
-    globals: &[Name],
-    proc: &Proc,
-    store: Store,
-    lexeme: Lexeme<'_>,
-) -> Result<(), AllocError>
-    ensures { let s = named_store globals.now proc.now (store_of store) in
-        let value = lexeme_value format proc.now s lexeme.entry.kind lexeme.entry.text.now in
-        OnOk result (values.new.items ≡ values.old.items ++ value) }
-{
-    if is_word(lexeme) {
-        push_variable(values, format, globals, proc, store, lexeme.text)?;
-    }
-    Ok(())
-}
-
-/// Adds the values of the variables in the first statement of the text.
+/// Adds the values of the variables of these names.
 fn push_variables(
     values: &mut Vec<u8>,
     format: ViewFormat,
     globals: &[Name],
     proc: &Proc,
     store: Store,
-    text: &[u8],
+    names: &[&[u8]],
 ) -> Result<(), AllocError>
-    ensures { (lexemes : List Read)
-        → HasLexemes text.now lexemes
-        → let s = named_store globals.now proc.now (store_of store) in
-        let more = named_values format proc.now s lexemes in
+    ensures { let s = named_store globals.now proc.now (store_of store) in
+        let more = named_values format proc.now s (map (λ n. n.now) names.now) in
         OnOk result (values.new.items ≡ values.old.items ++ more) }
 {
-    let mut rest = text;
-    while let Some(lexeme) = take_own_lexeme(&mut rest) {
-        push_named(values, format, globals, proc, store, lexeme)?;
+    for name in names {
+        push_variable(values, format, globals, proc, store, name)?;
     }
     Ok(())
 }
 
-/// The values of the variables in the statement that begins here and is the next of this stack;
-/// none at a procedure's end.
-fn values_of(
+/// The values of the variables that a decider reads in the frame at this top.
+fn values_read(
     alloc: Global,
     setting: &Setting<'_>,
-    text: &[u8],
-    start: Option<u32>,
+    decider: &Decider,
     top: Top,
 ) -> Result<Vec<u8>, AllocError>
-    ensures { (t : Program) (c : Configuration) (i at : ℕ) (lexemes : List Read)
-        → IsSettingOf t text.now setting.now
+    ensures { (t : Program) (text : List ℕ) (c : Configuration) (i : ℕ)
+        → IsSettingOf t text setting.now
         → (is : IsTop t c i top)
-        → start ≡ Some at
-        → HasLexemes (drop at text.now) lexemes
-        → let p = is.frame.procedure in
-        let s = frame_store c.globals is.frame in
-        let format = setting.now.options.format in
-        IfOk result (λ v. v.items ≡ named_values format p s lexemes) }
+        → let s = frame_store c.globals is.frame in
+        let names = variables_read (decision_of decider.now) in
+        let values = named_values setting.now.options.format is.frame.procedure s names in
+        IfOk result (λ v. v.items ≡ values) }
 {
     let mut values = Vec::new(alloc);
-    let Some(start) = start else {
-        return Ok(values);
-    };
     let Some(proc) = procedure_at(setting.scenes, setting.procs, top.number) else {
         return Ok(values);
     };
-    let statement = part_from(text, start as usize);
+    let names = variables_read(alloc, decider)?;
     let format = setting.options.format;
     push_variables(
         &mut values,
@@ -105,7 +76,7 @@ fn values_of(
         setting.globals,
         proc,
         top.store,
-        statement,
+        &names,
     )?;
     Ok(values)
 }
@@ -190,18 +161,17 @@ fn push_assertion(
 fn assertion_of(
     alloc: Global,
     setting: &Setting<'_>,
-    text: &[u8],
     session: &Session,
     thread: u32,
 ) -> Result<Vec<u8>, AllocError>
-    ensures { (t : Program) (h : List Answered)
-        → IsSettingOf t text.now setting.now
+    ensures { (t : Program) (text : List ℕ) (h : List Answered)
+        → IsSettingOf t text setting.now
         → StandsFor session.now.code t
         → Stands t session.now h
         → outcome_of h ≡ Failed thread
         → let format = setting.now.options.format in
         let s = session.now.setup in
-        IfOk result (λ v. IsAssertionText format t text.now s h thread v.items) }
+        IfOk result (λ v. IsAssertionText format t text s h thread v.items) }
 {
     let mut said = Vec::new(alloc);
     let Some(top) = session.top(thread) else {
@@ -213,7 +183,10 @@ fn assertion_of(
     let Some(position) = scene.position else {
         return Ok(said);
     };
-    let values = values_of(alloc, setting, text, scene.start, top)?;
+    let Some(decider) = asserted_at(alloc, setting.procs, top.number)? else {
+        return Ok(said);
+    };
+    let values = values_read(alloc, setting, decider, top)?;
     push_assertion(&mut said, setting.options.format, scene, position, &values)?;
     Ok(said)
 }
@@ -280,28 +253,26 @@ fn clean_in(format: ViewFormat) -> &'static [u8]
 fn outcome_text(
     alloc: Global,
     setting: &Setting<'_>,
-    text: &[u8],
     session: &Session,
     outcome: Outcome,
 ) -> Result<Vec<u8>, AllocError>
-    ensures { (t : Program) (h : List Answered)
-        → IsSettingOf t text.now setting.now
+    ensures { (t : Program) (text : List ℕ) (h : List Answered)
+        → IsSettingOf t text setting.now
         → StandsFor session.now.code t
         → Stands t session.now h
         → outcome ≡ outcome_of h
         → let format = setting.now.options.format in
         let s = session.now.setup in
-        IfOk result (λ v. IsOutcomeText format t text.now s h outcome v.items) }
+        IfOk result (λ v. IsOutcomeText format t text s h outcome v.items) }
 {
     let format = setting.options.format;
     let mut words = Vec::new(alloc);
-    match outcome {
-        Outcome::Clean => push_bytes(&mut words, clean_in(format))?,
-        Outcome::Failed { thread } => {
-            let assertion = assertion_of(alloc, setting, text, session, thread)?;
-            push_failed(&mut words, format, thread, &assertion)?;
-        }
-    }
+    let Outcome::Failed { thread } = outcome else {
+        push_bytes(&mut words, clean_in(format))?;
+        return Ok(words);
+    };
+    let assertion = assertion_of(alloc, setting, session, thread)?;
+    push_failed(&mut words, format, thread, &assertion)?;
     Ok(words)
 }
 
@@ -360,20 +331,19 @@ fn push_foot_object(view: &mut Vec<u8>, report: Report, outcome: &[u8]) -> Resul
 pub(crate) fn foot_of(
     alloc: Global,
     setting: &Setting<'_>,
-    text: &[u8],
     session: &Session,
     report: Report,
 ) -> Result<Vec<u8>, AllocError>
-    ensures { (t : Program) (h : List Answered)
-        → IsSettingOf t text.now setting.now
+    ensures { (t : Program) (text : List ℕ) (h : List Answered)
+        → IsSettingOf t text setting.now
         → StandsFor session.now.code t
         → Stands t session.now h
         → report.outcome ≡ outcome_of h
         → let format = setting.now.options.format in
         let s = session.now.setup in
-        IfOk result (λ v. IsFoot format t text.now s h report v.items) }
+        IfOk result (λ v. IsFoot format t text s h report v.items) }
 {
-    let outcome = outcome_text(alloc, setting, text, session, report.outcome)?;
+    let outcome = outcome_text(alloc, setting, session, report.outcome)?;
     let mut foot = Vec::new(alloc);
     match setting.options.format {
         ViewFormat::Columns => push_foot_lines(&mut foot, report, &outcome)?,

@@ -72,6 +72,7 @@ fn write_view<W: Write>(
         (λ _. IsWritten is_view (W.contents out.old) (W.contents out.new))
         (IsStopped is_view (W.contents out.old) (W.contents out.new)) }
 {
+    let _ = text;
     let history = replayed.history.as_slice();
     let setting = setting_of(scenes, checked, &replayed.setup, history, options, names);
     let format = setting.options.format;
@@ -93,13 +94,7 @@ fn write_view<W: Write>(
         }
         put(out, &writer.line)?;
     }
-    let end = end_of(
-        alloc,
-        &writer.setting,
-        text,
-        &writer.session,
-        replayed.report,
-    )?;
+    let end = end_of(alloc, &writer.setting, &writer.session, replayed.report)?;
     put(out, &end)?;
     Ok(())
 }

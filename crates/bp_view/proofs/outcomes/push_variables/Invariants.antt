@@ -1,11 +1,10 @@
-use Rattle.std.proofs.Common.{length}
+use Rattle.std.proofs.Common.{◌≡◌, ◌++◌, flat_map, take}
 use Rattle.bp_code.specs.Bits.{store_of}
 use Rattle.bp_code.specs.StandsFor.{named_store}
-use Rattle.bp_view.proofs.ValuesOfStatements.{ValuesTo}
+use Rattle.bp_view.specs.Outcomes.{named_value}
 use Rattle.bp_view.proofs.outcomes.push_variables.Given as goal
 
-abbrev pub invariant-loop-lexeme : goal.invariant-loop-lexeme
-invariant-loop-lexeme l = ValuesTo l.format l.proc (named_store l.globals l.proc (store_of l.store)) l.text l.initial.values.items l.values.items l.rest
-
-abbrev pub decreases-loop-lexeme : goal.decreases-loop-lexeme
-decreases-loop-lexeme l = length l.rest
+abbrev pub invariant-loop-name : goal.invariant-loop-name
+invariant-loop-name l =
+    let s = named_store l.globals l.proc (store_of l.store) in
+    l.values.items ≡ l.initial.values.items ++ flat_map (λ x. named_value l.format l.proc s x.now) (take l.name-index l.names)

@@ -179,7 +179,7 @@ returns-in_err-put-3 g c =
     let there = c.loop-recorded.invariant in
     let has = has_all t text s x code h r ready i past w _ _ there in
     rw (p.1, p.2) (same_stop t text s r h c.args.replayed.now.history.items x.options c.args.options history is.options _ _ Write
-    (end_cut t text s x code h r ready i past w _ _ there _ _ c.deref-2.ensures.value (c.in_ok-end.ensures t h (known_there t text s x code h r ready i w _ _ there) has.made.code has.made.stands (ap (λ (y : Setting). y.history.now) has.setting_is ∙ ready.history) ready.outcome) _ c.in_err-put-3.ensures))
+    (end_cut t text s x code h r ready i past w _ _ there _ _ c.deref-2.ensures.value (c.in_ok-end.ensures t text h (known_there t text s x code h r ready i w _ _ there) has.made.code has.made.stands (ap (λ (y : Setting). y.history.now) has.setting_is ∙ ready.history) ready.outcome) _ c.in_err-put-3.ensures))
 
 pub returns : goal.returns
 returns g c =
@@ -199,4 +199,4 @@ returns g c =
     let there = c.loop-recorded.invariant in
     let has = has_all t text s x code h r ready i past w _ _ there in
     same_end t text s r h c.args.replayed.now.history.items x.options c.args.options history is.options _ _
-    (all_written t text s x code h r ready i past w _ _ there _ _ c.deref-2.ensures.value (c.in_ok-end.ensures t h (known_there t text s x code h r ready i w _ _ there) has.made.code has.made.stands (ap (λ (y : Setting). y.history.now) has.setting_is ∙ ready.history) ready.outcome) _ c.in_ok-put-3.ensures)
+    (all_written t text s x code h r ready i past w _ _ there _ _ c.deref-2.ensures.value (c.in_ok-end.ensures t text h (known_there t text s x code h r ready i w _ _ there) has.made.code has.made.stands (ap (λ (y : Setting). y.history.now) has.setting_is ∙ ready.history) ready.outcome) _ c.in_ok-put-3.ensures)
