@@ -7,8 +7,8 @@ use Rattle.bp_machine.specs.Setups.{SetupOf}
 use Rattle.bp_view.specs.declared.settings.Setting.{Setting}
 use Rattle.bp_view.specs.declared.spans.Span.{Span}
 use Rattle.bp_view.specs.ContextLines.{contexts_head, AreContextLines, IsContextLine}
-use Rattle.bp_view.specs.Lines.{Adds, IsSettingOf}
-use Rattle.bp_view.specs.Parts.{IsInParts}
+use Rattle.bp_view.specs.Moments.{IsSettingOf}
+use Rattle.bp_view.specs.Parts.{Adds, IsInParts}
 use Rattle.bp_view.specs.Spans.{AreSpans}
 use Rattle.bp_view.specs.Widths.{extent_of, AreWidths}
 use Rattle.bp_view.proofs.LongestPlaces.{places_are, words_are, words_items}

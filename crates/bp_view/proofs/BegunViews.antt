@@ -21,7 +21,7 @@ use Rattle.bp_view.specs.declared.settings.Setting.{Setting}
 use Rattle.bp_view.specs.declared.writers.ViewWriter.{ViewWriter}
 use Rattle.bp_view.specs.Ends.{IsEnd}
 use Rattle.bp_view.specs.Heads.{view_head}
-use Rattle.bp_view.specs.Lines.{IsSettingOf}
+use Rattle.bp_view.specs.Moments.{IsSettingOf}
 use Rattle.bp_view.specs.Scenes.{AreScenes}
 use Rattle.bp_view.specs.Views.{AreLines, HasMade, IsShownLine, IsView}
 use Rattle.bp_view.specs.Watches.{watched_names}

@@ -23,6 +23,7 @@ pub mod PrintedValues
 pub mod RecordedCalls
 pub mod SceneLists
 pub mod ScenesOfSpots
+pub mod ShownLines
 pub mod SpansOfHistories
 pub mod StepsInContexts
 pub mod WatchedVariables

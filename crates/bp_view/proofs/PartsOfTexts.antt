@@ -5,8 +5,7 @@ use Rattle.std.proofs.lemmas.Bool.{cases_lt}
 use Rattle.std.proofs.lemmas.List.{length-append}
 use Rattle.std.proofs.lemmas.List.Folds.{concat-append}
 use Rattle.std.proofs.lemmas.Option.{slice_get_within}
-use Rattle.bp_view.specs.Lines.{Adds}
-use Rattle.bp_view.specs.Parts.{IsInParts}
+use Rattle.bp_view.specs.Parts.{Adds, IsInParts}
 use Rattle.bp_view.proofs.LinesOfCalls.{one_before, one_last, within}
 
 module _ (IsPart : ℕ → List ℕ → Type 0) where

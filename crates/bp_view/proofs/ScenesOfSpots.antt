@@ -8,8 +8,7 @@ use Rattle.bp_machine.specs.Answers.{stack_of}
 use Rattle.bp_machine.specs.Tops.{IsTop}
 use Rattle.bp_text.specs.Positions.{position_at}
 use Rattle.bp_view.specs.declared.scenes.Scene.{Scene}
-use Rattle.bp_view.specs.Lines.{start_on_stack}
-use Rattle.bp_view.specs.Scenes.{AreScenes}
+use Rattle.bp_view.specs.Scenes.{start_on_stack, AreScenes}
 use Rattle.bp_view.specs.Spans.{position_of_scene, IsSceneFrom}
 use Rattle.bp_view.proofs.PlacesOfTops.{place_of_top, scene_of_top}
 

@@ -14,7 +14,7 @@ use Rattle.bp_machine.proofs.ContextCounts.{count_of_none, counts_more}
 use Rattle.bp_machine.proofs.HistoryWithCall.{granted_threads-append}
 use Rattle.bp_view.specs.declared.spans.Span.{Span}
 use Rattle.bp_view.specs.ContextLines.{IsContextOf, IsStepIn}
-use Rattle.bp_view.specs.Lines.{IsContext}
+use Rattle.bp_view.specs.Moments.{IsContext}
 use Rattle.bp_view.specs.Spans.{count_of, joined, with_step, AreSpans, AreSpansFrom, IsSpan, IsSpot}
 use Rattle.bp_view.proofs.StepsInContexts.{context_joined, context_kept, context_new, one_context, steps_within, take_front}
 

@@ -25,14 +25,14 @@ use Rattle.bp_view.specs.declared.options.ViewOptions.{ViewOptions}
 use Rattle.bp_view.specs.declared.scenes.Scene.{Scene}
 use Rattle.bp_view.specs.declared.settings.Widths.{Widths}
 use Rattle.bp_view.specs.Assertions.{variables_read}
-use Rattle.bp_view.specs.Colours.{colour_of}
-use Rattle.bp_view.specs.JsonCalls.{call_object, nothing_next, printed_by, IsNextOf, Next}
-use Rattle.bp_view.specs.Lines.{indented, is_switch, line_text, note_text, start_on_stack, AreFields, Fields, IsContext, IsShown, Shown}
+use Rattle.bp_view.specs.CallFacts.{changes_by, nothing_next, printed_in, AreCallFacts, ShownCall, IsNextOf, Next}
+use Rattle.bp_view.specs.Moments.{is_switch, IsContext}
+use Rattle.bp_view.specs.Scenes.{AreScenes, IsStatementAt}
 use Rattle.bp_view.specs.Outcomes.{assertion_in, clean_in, failure_in, foot_text, named_values, IsAssertionText, IsFoot, IsOutcomeText}
 use Rattle.bp_view.specs.Places.{place_text}
-use Rattle.bp_view.specs.Scenes.{AreScenes, IsStatementAt}
 use Rattle.bp_view.specs.Statements.{IsStatement}
-use Rattle.bp_view.specs.Views.{calls_of, changes_of, has_line, AreLines, IsShownLine, IsViewLine, IsViewLineIf}
+use Rattle.bp_view.specs.Options.{calls_of}
+use Rattle.bp_view.specs.Views.{has_line, line_in, AreLines, IsShownLine, IsViewLine, IsViewLineIf}
 use Rattle.bp_view.proofs.LinesOfCalls.{lines_then}
 use Rattle.bp_view.proofs.PlacedStacks.{stack_placed, ArePlaced, IsPlaced}
 use Rattle.bp_view.proofs.SceneLists.{scene_at, SceneAt}
@@ -42,68 +42,53 @@ module _ (c : Flat) (t : Program) (code : StandsFor c t) (text : List ℕ) (scen
   scene_of : (f : Frame) → IsPlaced t f → (n : ℕ) × SceneAt text t.procedures (place f.procedure f.left) scenes n
   scene_of f placed = (placed.number, scene_at text t.procedures (places_of t.procedures) scenes placed.number (place f.procedure f.left) are placed.at)
 
-  some_shown : (stack : List Frame) → ArePlaced t stack → (shown : Shown) × IsShown text stack shown
-  some_shown [] placed = (record { text = []; reads = false }, (refl, refl))
-  some_shown (f ∷ fs) (here, below) =
-      let (n, found) = scene_of f here in
-      let words = found.scene.excerpt.words.items in (
-        record { text = indented (length (f ∷ fs)) words; reads = found.scene.excerpt.reads_choice },
-        record { words = words; text_is = refl; words_are = found.is.statement; one_line = found.is.words },
-      )
-
   some_next : (stack : List Frame) → ArePlaced t stack → (next : Next) × IsNextOf text stack next
   some_next [] placed = (nothing_next, refl)
   some_next (f ∷ fs) (here, below) =
       let (n, found) = scene_of f here in
       let words = found.scene.excerpt.words.items in (
         record {
+          place = place_text text (start_of_block f.left);
           position = option_map (position_at text) (start_of_block f.left);
           procedure = Some f.procedure.name.text;
           depth = length (f ∷ fs);
           words = Some words;
           reads = found.scene.excerpt.reads_choice;
         },
-        record { position = refl; procedure = refl; depth_is = refl; words = words; said = refl; words_are = found.is.statement },
+        record { place = refl; position = refl; procedure = refl; depth_is = refl; words = words; said = refl; words_are = found.is.statement; one_line = found.is.words },
       )
 
   some_context : (h : List Call) (x : Call) (b : Bool) → is_granted x.reply ≡ b → (n : Option ℕ) × IsContext h x n
   some_context h x true granted = (Some (opened None (granted_threads (h ++ x ∷ []))), (granted, opened_least (granted_threads (h ++ x ∷ []))))
   some_context h x false none = (None, none)
 
-  some_fields : (h : List Call) (x : Call) → (f : Fields) × AreFields t text s h x f
-  some_fields h x =
-      let (n, is) = some_context h x (is_granted x.reply) refl in (
-        record {
-          number = suc (length h);
-          thread = x.thread;
-          context = n;
-          switch = is_switch h x;
-          place = place_text text (start_on_stack (stack_of (configuration_after t s h) x.thread));
-        },
-        record { number = refl; thread = refl; context = is; switch = refl; place = refl },
-      )
-
   module _ (o : ViewOptions) (w : Widths) (whole : List Call) where
-    view_line : (h : List Call) (x : Call) (format : ViewFormat) → (line : List ℕ) × IsViewLine t text s o w whole format h x line
-    view_line h x Columns =
-        let (fields, fields_are) = some_fields h x in
-        let (shown, shown_is) = some_shown (stack_of (configuration_after t s h) x.thread) (stack_placed c t code s h x.thread) in
-        let colour = colour_of o.has_colour x.reply fields.switch in (
-          line_text w colour fields shown (note_text shown.reads x (calls_of o whole h x) (changes_of t text s o w whole h x)),
-          record { fields = fields; fields_are = fields_are; shown = shown; shown_is = shown_is; is = refl },
+    some_facts : (h : List Call) (x : Call) → (f : ShownCall) × AreCallFacts t text s o whole h x f
+    some_facts h x =
+        let now = configuration_after t s h in
+        let (n, is) = some_context h x (is_granted x.reply) refl in
+        let (next, next_is) = some_next (stack_of now x.thread) (stack_placed c t code s h x.thread) in (
+          record {
+            number = suc (length h);
+            call = x;
+            context = n;
+            switch = is_switch h x;
+            next = next;
+            calls = calls_of o whole h x;
+            changes = changes_by t s h x;
+            printed = printed_in o.format now x;
+          },
+          record { number = refl; call = refl; context = is; switch = refl; next = next_is; calls = refl; changes = refl; printed = refl },
         )
-    view_line h x Json =
-        let (fields, fields_are) = some_fields h x in
-        let (next, next_is) = some_next (stack_of (configuration_after t s h) x.thread) (stack_placed c t code s h x.thread) in (
-          call_object fields next x (changes_of t text s o w whole h x) (printed_by (configuration_after t s h) x),
-          record { fields = fields; fields_are = fields_are; next = next; next_is = next_is; is = refl },
-        )
+
+    view_line : (h : List Call) (x : Call) → (line : List ℕ) × IsViewLine t text s o w whole h x line
+    view_line h x = let (f, are) = some_facts h x in (line_in o.format o.has_colour w f, record { facts = f; facts_are = are; is = refl })
 
     shown_line : (h : List Call) (x : Call) → (line : List ℕ) × IsShownLine t text s o w whole h x line
     shown_line h x = by_shown (has_line t text s o w whole h x)
       where
         by_shown : (b : Bool) → (line : List ℕ) × IsViewLineIf t text s o w whole b h x line
-        by_shown true = view_line h x o.format
+        by_shown true = view_line h x
         by_shown false = ([], refl)
 
     -- the lines of a front of a history go on to those of all of it

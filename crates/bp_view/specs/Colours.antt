@@ -25,6 +25,3 @@ abbrev pub closing : Colour → List ℕ
 closing Red = sign (codes "0")
 closing Yellow = sign (codes "0")
 closing Plain = []
-
-abbrev pub in_colour : Colour → List ℕ → List ℕ
-in_colour colour text = opening colour ++ text ++ closing colour

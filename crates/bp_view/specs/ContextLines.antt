@@ -22,10 +22,11 @@ use Rattle.bp_view.specs.declared.options.ViewFormat.TheVariants.{Columns, Json}
 use Rattle.bp_view.specs.declared.settings.Widths.{Widths}
 use Rattle.bp_view.specs.ChangeFacts.{entries_text, owned}
 use Rattle.bp_view.specs.Changes.{changed}
-use Rattle.bp_view.specs.Lines.{after_room, start_on_stack, IsContext}
+use Rattle.bp_view.specs.Lines.{after_room}
+use Rattle.bp_view.specs.Moments.{IsContext}
+use Rattle.bp_view.specs.Scenes.{start_on_stack, AreStatements}
 use Rattle.bp_view.specs.Parts.{IsInParts}
 use Rattle.bp_view.specs.Places.{place_text}
-use Rattle.bp_view.specs.Scenes.{AreStatements}
 use Rattle.bp_view.specs.Widths.{extent, AreWidths}
 
 -- the call x, after k others, made a step in context n

@@ -10,7 +10,7 @@ use Rattle.bp_code.specs.declared.instrs.Kind.TheVariants.{Skip, Goto, Return, A
 use Rattle.bp_view.specs.declared.scenes.Scene.{Scene}
 use Rattle.bp_text.specs.JsonStrings.{string_text}
 use Rattle.bp_text.specs.Pieces.{key_text, list_text, number_or_null, string_or_null}
-use Rattle.bp_view.specs.JsonCalls.{name_at}
+use Rattle.bp_view.specs.CallFacts.{name_at}
 use Rattle.bp_view.specs.JsonTexts.{column_of, line_of}
 use Rattle.bp_view.specs.Scenes.{AreScenes}
 

@@ -1,4 +1,5 @@
 pub mod Assertions
+pub mod CallFacts
 pub mod ChangeFacts
 pub mod Changes
 pub mod Colours
@@ -11,6 +12,8 @@ pub mod JsonListings
 pub mod JsonTexts
 pub mod Lines
 pub mod Listings
+pub mod Moments
+pub mod Options
 pub mod Outcomes
 pub mod Parts
 pub mod Places

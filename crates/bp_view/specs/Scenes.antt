@@ -1,6 +1,7 @@
 -- What is shown of each instruction.
 use Rattle.std.specs.Prelude.{◌≡◌, ℕ, Bool, false, List, [], ◌∷◌, ◌++◌, Option, None, Some, codes, drop, map, option_map, slice_get}
 use Rattle.bp_tree.specs.Ast.{Procedure, Program}
+use Rattle.bp_code.specs.Configurations.{Frame}
 use Rattle.bp_code.specs.StandsFor.{Place, places_of}
 use Rattle.bp_code.specs.Starts.{start_of_block}
 use Rattle.bp_view.specs.declared.scenes.Scene.{Scene}
@@ -56,3 +57,8 @@ AreStatements text xs rest = ⊥
 abbrev pub place_of_scene : Option Scene → List ℕ
 place_of_scene None = codes "-"
 place_of_scene (Some scene) = scene.place.items
+
+-- where the statement begins that a stack has next
+abbrev pub start_on_stack : List Frame → Option ℕ
+start_on_stack [] = None
+start_on_stack (f ∷ fs) = start_of_block f.left

@@ -1,14 +1,13 @@
 -- The view of a history of a program: a line for each of its calls that is shown.
-use Rattle.std.specs.Prelude.{◌≡◌, ◌==◌, ◌<◌, ◌≤◌, ◌-◌, ◌&&◌, ℕ, suc, Bool, true, false, nat_le, nat_lt, List, [], ◌∷◌, ◌++◌, Option, None, Some, drop, length, map, max, reverse, take, slice_get, unwrap_or}
+use Rattle.std.specs.Prelude.{◌≡◌, ◌<◌, ◌≤◌, ◌&&◌, ℕ, suc, Bool, true, false, nat_lt, List, [], ◌++◌, Option, None, Some, length, map, take, slice_get}
 use Rattle.std.specs.List.{concat}
 use Rattle.bp_tree.specs.Ast.{Program}
 use Rattle.bp_code.specs.StandsFor.{places_of, StandsFor}
 use Rattle.bp_code.specs.Starts.{starts_of}
 use Rattle.bp_machine.specs.declared.calls.Call.{Call}
 use Rattle.bp_machine.specs.declared.reports.Report.{Report}
-use Rattle.bp_machine.specs.Answers.{stack_of}
 use Rattle.bp_machine.specs.ContextCounts.{last_thread}
-use Rattle.bp_machine.specs.Histories.{configuration_after, granted_threads}
+use Rattle.bp_machine.specs.Histories.{granted_threads}
 use Rattle.bp_machine.specs.Sessions.{Stands}
 use Rattle.bp_machine.specs.Setups.{SetupOf, threads}
 use Rattle.bp_trace.specs.declared.replaying.Replayed.{Replayed}
@@ -21,130 +20,51 @@ use Rattle.bp_view.specs.declared.writers.ViewWriter.{ViewWriter}
 use Rattle.bp_view.specs.declared.options.ViewFormat.{ViewFormat}
 use Rattle.bp_view.specs.declared.options.ViewFormat.TheVariants.{Columns, Json}
 use Rattle.bp_view.specs.declared.options.ViewOptions.{ViewOptions}
-use Rattle.bp_view.specs.ChangeFacts.{changes_between, entries_text, is_seen, Entry}
-use Rattle.bp_view.specs.Colours.{colour_of}
+use Rattle.bp_view.specs.CallFacts.{changes_by, AreCallFacts, ShownCall}
+use Rattle.bp_view.specs.ChangeFacts.{is_seen}
 use Rattle.bp_view.specs.Ends.{IsEnd}
 use Rattle.bp_view.specs.Heads.{view_head}
-use Rattle.bp_view.specs.JsonCalls.{call_object, printed_by, Next, IsNextOf}
-use Rattle.bp_view.specs.Lines.{line_text, note_text, Fields, Shown, AreFields, IsShown}
+use Rattle.bp_view.specs.JsonCalls.{call_object}
+use Rattle.bp_view.specs.Lines.{column_line}
+use Rattle.bp_view.specs.Options.{calls_of, is_shown}
 use Rattle.bp_view.specs.Places.{place_text}
 use Rattle.bp_view.specs.Scenes.{AreStatements}
-use Rattle.bp_view.specs.Waits.{calls_in_line}
 use Rattle.bp_view.specs.Watches.{watched_names, AreDeclared, IsUndeclared}
 use Rattle.bp_view.specs.Widths.{extent, AreWidths}
 use Rattle.bp_view.specs.Writing.{IsStopped, IsWritten}
-
--- calls of thread i are shown
-abbrev pub is_of_thread : Option ℕ → ℕ → Bool
-is_of_thread None i = true
-is_of_thread (Some k) i = i == k
 
 -- a thread whose calls alone are to be shown is one of n threads
 abbrev pub IsThere : Option ℕ → (n : ℕ) → Type 0
 IsThere None n = Unit {0}
 IsThere (Some i) n = i < n
 
--- call n of `count` calls is shown: fewer than `last` are after it
-abbrev pub is_late : Option ℕ → ℕ → ℕ → Bool
-is_late None count n = true
-is_late (Some last) count n = nat_lt (count - n) last
-
--- call n is neither before the first that is shown, nor after the last
-abbrev pub is_between : (from to : Option ℕ) → ℕ → Bool
-is_between from to n = nat_le (unwrap_or from 0) n && nat_le n (unwrap_or to n)
-
--- call n of thread i, among `count` calls, is asked for
-abbrev pub is_shown : ViewOptions → ℕ → ℕ → ℕ → Bool
-is_shown o count n i =
-    is_of_thread o.thread i && (is_late o.last count n && is_between o.from o.to n)
-
--- equal waits have one line: objects are never folded
-abbrev pub folds_in : ViewFormat → Bool → Bool
-folds_in Columns fold = fold
-folds_in Json fold = false
-
-abbrev pub folds : ViewOptions → Bool
-folds o = folds_in o.format o.fold
-
--- how many of `count` calls are before all those whose numbers are asked for
-abbrev pub before_last : Option ℕ → ℕ → ℕ
-before_last None count = 0
-before_last (Some last) count = count - last
-
-abbrev pub skipped : ViewOptions → ℕ → ℕ
-skipped o count = max (unwrap_or o.from 0 - 1) (before_last o.last count)
-
--- the number of the last of `count` calls that is asked for
-abbrev pub last_number : ViewOptions → ℕ → ℕ
-last_number o count = unwrap_or o.to count
-
--- for how many calls the line of call n stands, which is x in this whole history: calls whose
--- numbers are not asked for are in no line
-abbrev pub calls_at : ViewOptions → (whole : List Call) → (n : ℕ) → Call → ℕ
-calls_at o whole n x =
-    let count = length whole in
-    let before = drop (skipped o count) (take (n - 1) whole) in
-    let after = take (last_number o count - n) (drop n whole) in
-    calls_in_line (folds o) x (reverse before) after
-
--- that of x, which is the next call of this whole history after h
-abbrev pub calls_of : ViewOptions → (whole h : List Call) → Call → ℕ
-calls_of o whole h x = calls_at o whole (suc (length h)) x
-
--- what the call x after the history h of a program changed
-abbrev pub changes_by : Program → SetupOf → (h : List Call) → Call → List Entry
-changes_by t s h x =
-    changes_between (configuration_after t s h) (configuration_after t s (h ++ x ∷ [])) x.thread
+-- what a line of this format shows of a call
+abbrev pub line_in : ViewFormat → (has_colour : Bool) → Widths → ShownCall → List ℕ
+line_in Columns has_colour w f = column_line has_colour w f
+line_in Json has_colour w f = call_object f
 
 -- Of a program and its text, in a setup; the columns have these widths, and this is the whole
 -- history.
 module _
     (t : Program) (text : List ℕ) (s : SetupOf) (o : ViewOptions) (w : Widths)
     (whole : List Call) where
-  -- the text of what the call x after the history h changed
-  abbrev pub changes_of : List Call → Call → List ℕ
-  changes_of h x = entries_text o.format (changes_by t s h x)
-
-  -- the line of that call, in columns
-  pub record IsColumnLine (h : List Call) (x : Call) (line : List ℕ) : Type 0 where
-    pub fields : Fields
-    pub fields_are : AreFields t text s h x fields
-    pub shown : Shown
-    pub shown_is : IsShown text (stack_of (configuration_after t s h) x.thread) shown
-    pub is :
-        let colour = colour_of o.has_colour x.reply fields.switch in
-        let note = note_text shown.reads x (calls_of o whole h x) (changes_of h x) in
-        line ≡ line_text w colour fields shown note
-
-  -- the object of that call
-  pub record IsObjectLine (h : List Call) (x : Call) (line : List ℕ) : Type 0 where
-    pub fields : Fields
-    pub fields_are : AreFields t text s h x fields
-    pub next : Next
-    pub next_is : IsNextOf text (stack_of (configuration_after t s h) x.thread) next
-    pub is :
-        let printed = printed_by (configuration_after t s h) x in
-        line ≡ call_object fields next x (changes_of h x) printed
-
-  -- the line of that call in a view of this format
-  abbrev pub IsViewLine : ViewFormat → List Call → Call → List ℕ → Type 0
-  IsViewLine Columns h x line = IsColumnLine h x line
-  IsViewLine Json h x line = IsObjectLine h x line
+  -- the line of the call x after the history h
+  pub record IsViewLine (h : List Call) (x : Call) (line : List ℕ) : Type 0 where
+    pub facts : ShownCall
+    pub facts_are : AreCallFacts t text s o whole h x facts
+    pub is : line ≡ line_in o.format o.has_colour w facts
 
   -- that line where it is shown, else nothing
   abbrev pub IsViewLineIf : Bool → List Call → Call → List ℕ → Type 0
-  IsViewLineIf true h x line = IsViewLine o.format h x line
+  IsViewLineIf true h x line = IsViewLine h x line
   IsViewLineIf false h x line = line ≡ []
 
-  -- the call x after the history h is asked for, and changed what is watched
-  abbrev pub is_wanted : List Call → Call → Bool
-  is_wanted h x =
-      is_shown o (length whole) (suc (length h)) x.thread
-      && is_seen (watched_names o.watch) (changes_by t s h x)
-
-  -- it has a line
+  -- that call has a line: it is asked for, it changed what is watched, and the line stands for it
   abbrev pub has_line : List Call → Call → Bool
-  has_line h x = is_wanted h x && nat_lt 0 (calls_of o whole h x)
+  has_line h x =
+      is_shown o (length whole) (suc (length h)) x.thread
+      && (is_seen (watched_names o.watch) (changes_by t s h x)
+      && nat_lt 0 (calls_of o whole h x))
 
   abbrev pub IsShownLine : List Call → Call → List ℕ → Type 0
   IsShownLine h x line = IsViewLineIf (has_line h x) h x line

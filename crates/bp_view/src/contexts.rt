@@ -10,13 +10,13 @@ ghost use Rattle.bp_machine.specs.Tops.{IsTop};
 ghost use Rattle.bp_text.specs.Columns.{at_right};
 ghost use Rattle.bp_trace.specs.Replays.{IsReplayRefusal};
 ghost use Rattle.bp_view.specs.ContextLines.{context_in, context_line, context_object, contexts_head, ends_text, number_members, position_or_null, AreContextsOfTrace, IsContextLine};
-ghost use Rattle.bp_view.specs.Lines.{start_on_stack, Adds, IsSettingOf};
-ghost use Rattle.bp_view.specs.Parts.{IsInParts};
-ghost use Rattle.bp_view.specs.Scenes.{AreScenes};
+ghost use Rattle.bp_view.specs.Moments.{IsSettingOf};
+ghost use Rattle.bp_view.specs.Parts.{Adds, IsInParts};
+ghost use Rattle.bp_view.specs.Scenes.{place_of_scene, start_on_stack, AreScenes};
 ghost use Rattle.bp_view.specs.Spans.{numbers_of, position_of_scene, AreSpans, IsSceneFrom, IsSpan};
 
 use crate::change_facts::{Change, add_differing};
-use crate::lines::{place_of, push_changed, push_note};
+use crate::lines::{push_changed, push_note};
 use crate::options::{ViewFormat, ViewOptions};
 use crate::scenes::{Scene, scenes_of};
 use crate::settings::{Setting, Widths, setting_of};
@@ -42,6 +42,16 @@ fn scene_of<'a>(scenes: &'a [Scene], top: Option<Top>) -> Option<&'a Scene>
     match top {
         Some(top) => scenes.get(top.number as usize),
         None => None,
+    }
+}
+
+/// The place that is printed of a scene.
+fn place_of<'a>(scene: Option<&'a Scene>) -> &'a [u8]
+    ensures { result.now ≡ place_of_scene (option_map (λ s. s.now) scene.entry) }
+{
+    match scene {
+        Some(scene) => scene.place.as_slice(),
+        None => b"-",
     }
 }
 

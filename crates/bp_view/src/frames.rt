@@ -12,7 +12,8 @@ ghost use Rattle.bp_machine.specs.Tops.{IsTopOf};
 ghost use Rattle.bp_text.specs.Positions.{position_at};
 ghost use Rattle.bp_view.specs.Changes.{variables_text};
 ghost use Rattle.bp_view.specs.Frames.{frame_in, frame_lines, frame_object, lead, IsFrameText, IsStackText};
-ghost use Rattle.bp_view.specs.Lines.{Adds, IsSettingOf};
+ghost use Rattle.bp_view.specs.Moments.{IsSettingOf};
+ghost use Rattle.bp_view.specs.Parts.{Adds};
 ghost use Rattle.bp_view.specs.Places.{place_text};
 
 use crate::json_texts::{column_of, line_of};

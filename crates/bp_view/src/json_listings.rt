@@ -3,7 +3,7 @@ ghost use Rattle.std.specs.Prelude.{◌≡◌, ◌++◌, ◌<◌, ◌^◌, flat_
 ghost use Rattle.bp_code.specs.StandsFor.{StandsFor};
 ghost use Rattle.bp_view.specs.JsonListings.{code_object, heading_item, instruction_object, instruction_objects, operation_name, IsCodeInJson};
 
-use crate::json_calls::name_at;
+use crate::call_facts::name_at;
 use crate::json_texts::{column_of, line_of, wide};
 use crate::scenes::{Scene, scenes_of};
 use bp_check::Checked;

@@ -1,7 +1,15 @@
 //! Views for people: what happened in a history, and where in a program's text.
 #![tactic(auto)]
 
+/// Adds these pieces, a call for each: a slice of them would take twice as long.
+macro_rules! push_all {
+    ($line:expr; $($piece:expr),* $(,)?) => {{
+        $( push_piece($line, $piece)?; )*
+    }};
+}
+
 mod assertions;
+mod call_facts;
 mod change_facts;
 mod changes;
 mod colours;

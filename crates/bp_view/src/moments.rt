@@ -11,8 +11,8 @@ ghost use Rattle.bp_machine.specs.Answers.{stack_of};
 ghost use Rattle.bp_machine.specs.PrintedRows.{values_printed};
 ghost use Rattle.bp_machine.specs.Sessions.{Stands, IsPrintRefusal};
 ghost use Rattle.bp_trace.specs.OwnCalls.{IsOwnCall, IsOwnRefusal};
-ghost use Rattle.bp_view.specs.JsonCalls.{IsNextPrintIn};
-ghost use Rattle.bp_view.specs.Lines.{is_other, is_switch, IsMomentOf};
+ghost use Rattle.bp_view.specs.CallFacts.{next_print_in};
+ghost use Rattle.bp_view.specs.Moments.{is_other, is_switch, IsMomentOf};
 
 use crate::options::ViewFormat;
 use bp_machine::{AskFault, Call, Reply, Session, Top};
@@ -132,7 +132,7 @@ pub(crate) fn next_print(
         → Stands t session.now h
         → let now = configuration_after t session.now.setup h in
         MatchResult result
-        (λ values. IsNextPrintIn format now thread (option_map (λ v. v.items) values))
+        (λ values. option_map (λ v. v.items) values ≡ next_print_in format now thread)
         (IsPrintRefusal session.now.setup thread
         (values_printed now.globals (stack_of now thread))) }
 {

@@ -1,6 +1,6 @@
 //! What a view shows.
 ghost use Rattle.std.specs.Prelude.{◌≡◌, None};
-ghost use Rattle.bp_view.specs.Views.{is_shown};
+ghost use Rattle.bp_view.specs.Options.{is_shown};
 
 /// How a view is written.
 #[derive(Clone, Copy, Debug, PartialEq, Eq)]
@@ -37,7 +37,7 @@ pub struct ViewOptions<'a> {
 }
 
 impl ViewOptions<'_> {
-    ghost use Rattle.bp_view.specs.Views.{before_last, folds, is_between, is_late, is_of_thread, last_number, skipped};
+    ghost use Rattle.bp_view.specs.Options.{before_last, folds, is_between, is_late, is_of_thread, last_number, skipped};
 
     /// All calls, without colours.
     pub(crate) fn all<'a>(format: ViewFormat) -> ViewOptions<'a>

@@ -11,7 +11,7 @@ ghost use Rattle.bp_machine.specs.declared.reports.Outcome.TheVariants.{Failed};
 ghost use Rattle.bp_machine.specs.Reports.{outcome_of};
 ghost use Rattle.bp_machine.specs.Sessions.{Stands};
 ghost use Rattle.bp_machine.specs.Tops.{IsTop};
-ghost use Rattle.bp_view.specs.Lines.{IsSettingOf};
+ghost use Rattle.bp_view.specs.Moments.{IsSettingOf};
 ghost use Rattle.bp_view.specs.Assertions.{variables_read};
 ghost use Rattle.bp_view.specs.declared.options.ViewFormat.TheVariants.{Columns, Json};
 ghost use Rattle.bp_view.specs.Outcomes.{assertion_in, assertion_members, assertion_text, clean_in, counts_line, failure_in, failure_object, failure_text, foot_text, named_values, values_line, IsAssertionText, IsFoot, IsOutcomeText};

@@ -1,7 +1,7 @@
 //! What the lines of a view have in common: the program's scenes and names, and the widths of the
 //! columns.
 ghost use Rattle.std.specs.Prelude.{◌≡◌, ◌<◌, ◌^◌, drop, length, map, max, take};
-ghost use Rattle.bp_view.specs.Views.{calls_at, is_shown};
+ghost use Rattle.bp_view.specs.Options.{calls_at, is_shown};
 ghost use Rattle.bp_view.specs.Widths.{extent, extent_of, longest, AreWidths};
 
 use crate::options::ViewOptions;

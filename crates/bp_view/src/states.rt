@@ -8,8 +8,8 @@ ghost use Rattle.bp_machine.specs.Sessions.{Stands};
 ghost use Rattle.bp_machine.specs.Setups.{threads};
 ghost use Rattle.bp_trace.specs.Replays.{IsReplayRefusal};
 ghost use Rattle.bp_view.specs.Heads.{globals_line};
-ghost use Rattle.bp_view.specs.Lines.{Adds, IsSettingOf};
-ghost use Rattle.bp_view.specs.Parts.{IsInParts};
+ghost use Rattle.bp_view.specs.Moments.{IsSettingOf};
+ghost use Rattle.bp_view.specs.Parts.{Adds, IsInParts};
 ghost use Rattle.bp_view.specs.States.{failed_line, failed_thread, state_in, state_lines, state_members, state_object, thread_state_in, thread_state_lines, thread_state_object, IsStateOfTrace, IsStateText, IsThreadText};
 
 use crate::frames::push_frames;

@@ -5,7 +5,7 @@ ghost use Rattle.bp_machine.specs.Reports.{IsReport};
 ghost use Rattle.bp_machine.specs.Setups.{threads, FitsCode};
 ghost use Rattle.bp_trace.specs.Replays.{IsPlayable};
 ghost use Rattle.bp_view.specs.Scenes.{AreScenes};
-ghost use Rattle.bp_view.specs.Views.{IsMissing, IsThere, IsView, IsViewRefusal, IsViewed};
+ghost use Rattle.bp_view.specs.Views.{IsThere, IsMissing, IsView, IsViewRefusal, IsViewed};
 ghost use Rattle.bp_view.specs.Watches.{watched_names};
 ghost use Rattle.bp_view.specs.Writing.{IsStopped, IsWritten};
 

@@ -3,7 +3,7 @@ ghost use Rattle.std.specs.Prelude.{◌≡◌, ◌++◌, ◌∷◌, [], ℕ, Lis
 ghost use Rattle.bp_tree.specs.Ast.{Program};
 ghost use Rattle.bp_machine.specs.declared.calls.Call.{Call as Answered};
 ghost use Rattle.bp_trace.specs.Replays.{IsPlayable};
-ghost use Rattle.bp_view.specs.Lines.{IsSettingOf};
+ghost use Rattle.bp_view.specs.Moments.{IsSettingOf};
 
 use crate::change_facts::Change;
 use crate::moments::{last_step, moment_of, next_print, printed_by};

@@ -6,7 +6,7 @@ use Rattle.bp_view.specs.declared.change_facts.Change.{Change}
 use Rattle.bp_view.specs.ChangeFacts.{entries_text, entry_of, owned, Entry}
 use Rattle.bp_view.specs.Changes.{changed}
 use Rattle.bp_view.specs.ContextLines.{context_in, numbers, IsContextLine}
-use Rattle.bp_view.specs.Lines.{start_on_stack}
+use Rattle.bp_view.specs.Scenes.{start_on_stack}
 use Rattle.bp_view.proofs.ChangedEntries.{differing, differing_all}
 use Rattle.bp_view.proofs.contexts.push_context.Goals as goal
 

@@ -1,7 +1,6 @@
 use Rattle.std.proofs.Common.{◌≡◌, ◌<◌, ℕ, List, suc, length, subst, sym, add-one, arith}
 use Rattle.bp_view.specs.ContextLines.{IsContextLine}
-use Rattle.bp_view.specs.Lines.{Adds}
-use Rattle.bp_view.specs.Parts.{IsInParts}
+use Rattle.bp_view.specs.Parts.{Adds, IsInParts}
 use Rattle.bp_view.proofs.PartsOfTexts.{none_added, one_added}
 use Rattle.bp_view.proofs.SpansOfHistories.{span_of}
 use Rattle.bp_view.proofs.contexts.push_contexts.Goals as goal

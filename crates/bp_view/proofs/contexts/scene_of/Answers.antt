@@ -1,6 +1,6 @@
 use Rattle.std.proofs.Common.{subst, sym}
 use Rattle.bp_machine.specs.Answers.{stack_of}
-use Rattle.bp_view.specs.Lines.{start_on_stack}
+use Rattle.bp_view.specs.Scenes.{start_on_stack}
 use Rattle.bp_view.specs.Spans.{IsSceneFrom}
 use Rattle.bp_view.proofs.PlacesOfTops.{got_item}
 use Rattle.bp_view.proofs.ScenesOfSpots.{scene_from_top}

@@ -4,7 +4,7 @@ use Rattle.bp_machine.specs.Answers.{stack_of}
 use Rattle.bp_machine.specs.Histories.{configuration_after}
 use Rattle.bp_machine.specs.Tops.{IsTopOf}
 use Rattle.bp_view.specs.Frames.{IsFrameText}
-use Rattle.bp_view.specs.Lines.{Adds}
+use Rattle.bp_view.specs.Parts.{Adds}
 use Rattle.bp_view.proofs.FramesOfTops.{from_here}
 use Rattle.bp_view.proofs.frames.push_frame_of.Goals as goal
 

@@ -5,8 +5,7 @@ use Rattle.bp_machine.specs.Answers.{stack_of}
 use Rattle.bp_machine.specs.Histories.{configuration_after}
 use Rattle.bp_view.specs.declared.options.ViewFormat.{ViewFormat}
 use Rattle.bp_view.specs.Frames.{IsFrameText}
-use Rattle.bp_view.specs.Lines.{Adds}
-use Rattle.bp_view.specs.Parts.{IsInParts}
+use Rattle.bp_view.specs.Parts.{Adds, IsInParts}
 use Rattle.bp_view.proofs.PartsOfTexts.{one_added}
 use Rattle.bp_view.proofs.frames.push_frames.Goals as goal
 

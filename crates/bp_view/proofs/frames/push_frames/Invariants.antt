@@ -7,8 +7,8 @@ use Rattle.bp_machine.specs.Answers.{stack_of}
 use Rattle.bp_machine.specs.Histories.{configuration_after}
 use Rattle.bp_machine.specs.Sessions.{Stands}
 use Rattle.bp_view.specs.Frames.{IsFrameText}
-use Rattle.bp_view.specs.Lines.{Adds, IsSettingOf}
-use Rattle.bp_view.specs.Parts.{IsInParts}
+use Rattle.bp_view.specs.Moments.{IsSettingOf}
+use Rattle.bp_view.specs.Parts.{Adds, IsInParts}
 use Rattle.bp_view.proofs.frames.push_frames.Given as goal
 
 abbrev pub invariant-loop-returned : goal.invariant-loop-returned

@@ -1,16 +1,13 @@
-use Rattle.std.proofs.Common.{◌∙◌, ◌++◌, map, ap}
-use Rattle.bp_view.specs.ChangeFacts.{entries_text, entry_of}
+use Rattle.std.proofs.Common.{[], ◌∷◌, map}
+use Rattle.bp_text.proofs.PiecesInTurn.{all_added}
+use Rattle.bp_view.specs.CallFacts.{choice_of, facts_in}
+use Rattle.bp_view.specs.ChangeFacts.{entries_text}
+use Rattle.bp_view.specs.declared.options.ViewFormat.TheVariants.{Columns}
 use Rattle.bp_view.specs.Lines.{choice_text, reply_words, times_text}
 use Rattle.bp_view.proofs.lines.write_note.Goals as goal
 
 pub returns : goal.returns
 returns c =
-    let x = c.args.moment.now.call in
-    let times = times_text c.args.calls in
-    let changes = entries_text c.args.setting.now.options.format (map entry_of c.args.changes.now) in
-    c.in_ok-push_changed.ensures
-    ∙ ap (λ y. y ++ changes) (c.in_ok-push_times.ensures
-    ∙ ap (λ y. y ++ times) (c.in_ok-push_bytes.ensures
-    ∙ ap (λ y. y ++ c.reply_words.result.now) (c.in_ok-push_choice.ensures ∙ ap (λ y. y ++ choice_text c.reads_choice.result x) c.clear.ensures.items)
-    ∙ ap (λ y. choice_text c.reads_choice.result x ++ y) c.reply_words.ensures
-    ∙ ap (λ r. choice_text r x ++ reply_words x.reply) c.reads_choice.ensures))
+    let f = facts_in c.args.facts.now in
+    rw (c.in_ok-push_changed.ensures, c.in_ok-push_times.ensures, c.in_ok-push_piece-2.ensures, c.in_ok-push_piece.ensures, c.clear.ensures.items, c.choice_words.ensures, c.choice.ensures, c.reply_words.ensures)
+    (all_added [] (choice_text (choice_of f) ∷ reply_words f.call.reply ∷ times_text f.calls ∷ entries_text Columns f.changes ∷ []))

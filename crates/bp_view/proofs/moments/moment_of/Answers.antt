@@ -9,7 +9,7 @@ use Rattle.bp_machine.specs.Replies.{is_granted}
 use Rattle.bp_machine.specs.Tops.{IsTop}
 use Rattle.bp_machine.proofs.HistoryWithCall.{configuration_after-append}
 use Rattle.bp_view.specs.Changes.{IsNext}
-use Rattle.bp_view.specs.Lines.{IsContext}
+use Rattle.bp_view.specs.Moments.{IsContext}
 use Rattle.bp_view.proofs.NextConfigurations.{next_of_call}
 use Rattle.bp_view.proofs.moments.moment_of.Goals as goal
 

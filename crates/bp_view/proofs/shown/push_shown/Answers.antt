@@ -1,74 +1,64 @@
-use Rattle.std.proofs.Common.{◌≡◌, ◌∙◌, ◌&&◌, ◌++◌, ◌∷◌, List, [], suc, map, length, nat_lt, true, false, ap, ap₂, sym, refl, subst, append-nil, arith}
+use Rattle.std.proofs.Common.{◌≡◌, ◌∙◌, ◌++◌, ◌∷◌, [], List, suc, map, length, nat_lt, true, false, ap, ap₂, refl, sym, arith}
 use Rattle.std.proofs.lemmas.Bool.Decides.{nat_tests}
 use Rattle.bp_machine.specs.Histories.{configuration_after}
 use Rattle.bp_view.specs.declared.change_facts.Change.{Change}
+use Rattle.bp_view.specs.CallFacts.{changes_by, facts_in}
 use Rattle.bp_view.specs.ChangeFacts.{entry_of, is_seen}
+use Rattle.bp_view.specs.Options.{calls_at, calls_of, is_shown}
 use Rattle.bp_view.specs.Watches.{watched_names}
-use Rattle.bp_view.specs.Views.{calls_at, calls_of, changes_by, has_line, is_shown, is_wanted, IsViewLineIf}
+use Rattle.bp_view.proofs.ShownLines.{hidden, line_if, shown}
 use Rattle.bp_view.proofs.shown.push_shown.Goals as goal
 
-pub returns-in_ok-push_view_line : goal.returns-in_ok-push_view_line
-returns-in_ok-push_view_line c = λ t text s h x setting of printed.
-    let o = c.args.setting.now.options in
-    let w = c.args.setting.now.widths in
-    let whole = c.args.setting.now.history.now in
-    let filled = c.in_ok-fill_changes.ensures t text (configuration_after t s h) (configuration_after t s (h ++ x ∷ [])) x.thread setting of.leads in
+pub returns-then-not-shows : goal.returns-then-not-shows
+returns-then-not-shows c = λ t text s h x set of printed.
+    let setting = c.args.setting.now in
+    let o = setting.options in
+    let n = length setting.history.now in
+    let asked : is_shown o n (suc (length h)) x.thread ≡ false =
+    ap₂ (λ k y. is_shown o n k y.thread) (sym of.number) (sym of.call) ∙ sym c.shows.ensures ∙ c.if-not-shows.true in
+    hidden t text s setting h x c.args.view.now.items (line_if t text s setting h x false _ _ asked refl refl)
+
+pub returns-then-not-has_watched : goal.returns-then-not-has_watched
+returns-then-not-has_watched c = λ t text s h x set of printed.
+    let setting = c.args.setting.now in
+    let o = setting.options in
+    let n = length setting.history.now in
+    let asked : is_shown o n (suc (length h)) x.thread ≡ true =
+    ap₂ (λ k y. is_shown o n k y.thread) (sym of.number) (sym of.call) ∙ sym c.shows.ensures ∙ c.if-not-shows.false in
+    let filled = c.in_ok-fill_changes.ensures t text (configuration_after t s h) (configuration_after t s (h ++ x ∷ [])) x.thread set of.leads in
     let changed = ap (λ (xs : List Change). map entry_of xs) c.deref.ensures.value ∙ filled in
-    let calls : c.calls_in_line-calls.result ≡ calls_of o whole h x =
-    c.calls_in_line-calls.ensures ∙ ap₂ (calls_at o whole) of.number of.call in
-    let some : nat_lt 0 c.calls_in_line-calls.result ≡ true = grind (arith, nat_tests, c.if-calls-gt0.true) in
-    let wanted : is_wanted t text s o w whole h x ≡ true = sym (c.is_wanted.ensures t text s h x setting of changed) ∙ c.if-not-is_wanted.false in
-    let has : has_line t text s o w whole h x ≡ true = ap₂ (λ p q. p && q) wanted (ap (nat_lt 0) (sym calls) ∙ some) in
-    let changed-2 = ap (λ (xs : List Change). map entry_of xs) c.deref-then-calls-gt0.ensures.value ∙ filled in
-    let line = c.in_ok-push_view_line.ensures t text s h x setting of changed-2 printed calls in
-    record {
-      more = line.more;
-      is = line.is;
-      more_are = subst (λ b. IsViewLineIf t text s o w whole b h x line.more) (sym has) line.more_are;
-    }
+    let seen : is_seen (watched_names o.watch) (changes_by t s h x) ≡ false = ap₂ is_seen (sym set.names) (sym changed) ∙ sym c.has_watched.ensures ∙ c.if-not-has_watched.true in
+    hidden t text s setting h x c.args.view.now.items (line_if t text s setting h x true false _ asked seen refl)
 
 pub returns-else-calls-gt0 : goal.returns-else-calls-gt0
-returns-else-calls-gt0 c = λ t text s h x setting of printed.
-    let o = c.args.setting.now.options in
-    let w = c.args.setting.now.widths in
-    let whole = c.args.setting.now.history.now in
-    let filled = c.in_ok-fill_changes.ensures t text (configuration_after t s h) (configuration_after t s (h ++ x ∷ [])) x.thread setting of.leads in
+returns-else-calls-gt0 c = λ t text s h x set of printed.
+    let setting = c.args.setting.now in
+    let o = setting.options in
+    let whole = setting.history.now in
+    let n = length whole in
+    let asked : is_shown o n (suc (length h)) x.thread ≡ true =
+    ap₂ (λ k y. is_shown o n k y.thread) (sym of.number) (sym of.call) ∙ sym c.shows.ensures ∙ c.if-not-shows.false in
+    let filled = c.in_ok-fill_changes.ensures t text (configuration_after t s h) (configuration_after t s (h ++ x ∷ [])) x.thread set of.leads in
     let changed = ap (λ (xs : List Change). map entry_of xs) c.deref.ensures.value ∙ filled in
-    let calls : c.calls_in_line-calls.result ≡ calls_of o whole h x =
-    c.calls_in_line-calls.ensures ∙ ap₂ (calls_at o whole) of.number of.call in
+    let seen : is_seen (watched_names o.watch) (changes_by t s h x) ≡ true = ap₂ is_seen (sym set.names) (sym changed) ∙ sym c.has_watched.ensures ∙ c.if-not-has_watched.false in
+    let calls : c.calls_in_line-calls.result ≡ calls_of o whole h x = c.calls_in_line-calls.ensures ∙ ap₂ (calls_at o whole) of.number of.call in
     let none : nat_lt 0 c.calls_in_line-calls.result ≡ false = grind (arith, nat_tests, c.if-calls-gt0.false) in
-    let wanted : is_wanted t text s o w whole h x ≡ true = sym (c.is_wanted.ensures t text s h x setting of changed) ∙ c.if-not-is_wanted.false in
-    let has : has_line t text s o w whole h x ≡ false = ap₂ (λ p q. p && q) wanted (ap (nat_lt 0) (sym calls) ∙ none) in
-    record {
-      more = [];
-      is = sym (append-nil c.args.view.now.items);
-      more_are = subst (λ b. IsViewLineIf t text s o w whole b h x []) (sym has) refl;
-    }
+    hidden t text s setting h x c.args.view.now.items (line_if t text s setting h x true true false asked seen (ap (nat_lt 0) (sym calls) ∙ none))
 
-pub returns-then-not-is_wanted : goal.returns-then-not-is_wanted
-returns-then-not-is_wanted c = λ t text s h x setting of printed.
-    let o = c.args.setting.now.options in
-    let w = c.args.setting.now.widths in
-    let whole = c.args.setting.now.history.now in
-    let filled = c.in_ok-fill_changes.ensures t text (configuration_after t s h) (configuration_after t s (h ++ x ∷ [])) x.thread setting of.leads in
+pub returns-in_ok-push_line_in : goal.returns-in_ok-push_line_in
+returns-in_ok-push_line_in c = λ t text s h x set of printed.
+    let setting = c.args.setting.now in
+    let o = setting.options in
+    let whole = setting.history.now in
+    let n = length whole in
+    let asked : is_shown o n (suc (length h)) x.thread ≡ true =
+    ap₂ (λ k y. is_shown o n k y.thread) (sym of.number) (sym of.call) ∙ sym c.shows.ensures ∙ c.if-not-shows.false in
+    let filled = c.in_ok-fill_changes.ensures t text (configuration_after t s h) (configuration_after t s (h ++ x ∷ [])) x.thread set of.leads in
     let changed = ap (λ (xs : List Change). map entry_of xs) c.deref.ensures.value ∙ filled in
-    let wanted : is_wanted t text s o w whole h x ≡ false = sym (c.is_wanted.ensures t text s h x setting of changed) ∙ c.if-not-is_wanted.true in
-    let has : has_line t text s o w whole h x ≡ false = ap (λ p. p && nat_lt 0 (calls_of o whole h x)) wanted in
-    record {
-      more = [];
-      is = sym (append-nil c.args.view.now.items);
-      more_are = subst (λ b. IsViewLineIf t text s o w whole b h x []) (sym has) refl;
-    }
-
-pub returns-then-not-is_asked_for : goal.returns-then-not-is_asked_for
-returns-then-not-is_asked_for c = λ t text s h x setting of printed.
-    let o = c.args.setting.now.options in
-    let w = c.args.setting.now.widths in
-    let whole = c.args.setting.now.history.now in
-    let asked : is_shown o (length whole) (suc (length h)) x.thread ≡ false = sym (c.is_asked_for.ensures t text s h x setting of) ∙ c.if-not-is_asked_for.true in
-    let has : has_line t text s o w whole h x ≡ false = ap (λ p. (p && is_seen (watched_names o.watch) (changes_by t s h x)) && nat_lt 0 (calls_of o whole h x)) asked in
-    record {
-      more = [];
-      is = sym (append-nil c.args.view.now.items);
-      more_are = subst (λ b. IsViewLineIf t text s o w whole b h x []) (sym has) refl;
-    }
+    let seen : is_seen (watched_names o.watch) (changes_by t s h x) ≡ true = ap₂ is_seen (sym set.names) (sym changed) ∙ sym c.has_watched.ensures ∙ c.if-not-has_watched.false in
+    let calls : c.calls_in_line-calls.result ≡ calls_of o whole h x = c.calls_in_line-calls.ensures ∙ ap₂ (calls_at o whole) of.number of.call in
+    let some : nat_lt 0 c.calls_in_line-calls.result ≡ true = grind (arith, nat_tests, c.if-calls-gt0.true) in
+    let has = line_if t text s setting h x true true true asked seen (ap (nat_lt 0) (sym calls) ∙ some) in
+    let changed-2 = ap (λ (xs : List Change). map entry_of xs) c.deref-then-calls-gt0.ensures.value ∙ filled in
+    let facts = c.facts_of-facts.ensures t text s h x set of changed-2 printed calls in
+    shown t text s setting h x c.args.view.now.items has (facts_in c.facts_of-facts.result) facts _ c.in_ok-push_line_in.ensures

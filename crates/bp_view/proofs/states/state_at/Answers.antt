@@ -2,7 +2,7 @@ use Rattle.std.proofs.Common.{◌≡◌, ◌∙◌, ap, length, map, refl, subst
 use Rattle.bp_code.specs.StandsFor.{StandsFor}
 use Rattle.bp_trace.specs.Replays.{IsPlayable}
 use Rattle.bp_view.specs.declared.options.ViewOptions.{ViewOptions}
-use Rattle.bp_view.specs.Lines.{IsSettingOf}
+use Rattle.bp_view.specs.Moments.{IsSettingOf}
 use Rattle.bp_view.specs.Scenes.{AreScenes}
 use Rattle.bp_view.specs.States.{IsStateText}
 use Rattle.bp_view.specs.Watches.{watched_names}

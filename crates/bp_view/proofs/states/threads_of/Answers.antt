@@ -1,6 +1,5 @@
 use Rattle.std.proofs.Common.{[], subst, sym, add-one}
-use Rattle.bp_view.specs.Lines.{Adds}
-use Rattle.bp_view.specs.Parts.{IsInParts}
+use Rattle.bp_view.specs.Parts.{Adds, IsInParts}
 use Rattle.bp_view.specs.States.{IsThreadText}
 use Rattle.bp_view.proofs.PartsOfTexts.{one_added}
 use Rattle.bp_view.proofs.states.threads_of.Goals as goal

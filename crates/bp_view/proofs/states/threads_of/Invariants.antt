@@ -3,8 +3,8 @@ use Rattle.bp_tree.specs.Ast.{Program}
 use Rattle.bp_code.specs.StandsFor.{StandsFor}
 use Rattle.bp_machine.specs.declared.calls.Call.{Call}
 use Rattle.bp_machine.specs.Sessions.{Stands}
-use Rattle.bp_view.specs.Lines.{Adds, IsSettingOf}
-use Rattle.bp_view.specs.Parts.{IsInParts}
+use Rattle.bp_view.specs.Moments.{IsSettingOf}
+use Rattle.bp_view.specs.Parts.{Adds, IsInParts}
 use Rattle.bp_view.specs.States.{IsThreadText}
 use Rattle.bp_view.proofs.states.threads_of.Given as goal
 

@@ -7,7 +7,7 @@ use Rattle.bp_trace.specs.Replayed.{IsReplayed}
 use Rattle.bp_view.specs.declared.faults.ViewFault.{ViewFault}
 use Rattle.bp_view.specs.declared.faults.ViewFault.TheVariants.{Memory, NoThread, NoVariable, Replay, Write}
 use Rattle.bp_view.specs.declared.options.ViewOptions.{ViewOptions}
-use Rattle.bp_view.specs.Views.{IsMissing, IsThere, IsView, IsViewed, IsViewOfTrace, IsViewRefusal}
+use Rattle.bp_view.specs.Views.{IsThere, IsMissing, IsView, IsViewed, IsViewOfTrace, IsViewRefusal}
 use Rattle.bp_view.specs.Watches.{watched_names, AreDeclared, IsNameFault}
 use Rattle.bp_view.specs.Writing.{IsStopped, IsWritten}
 use Rattle.bp_view.proofs.views.view.Goals as goal

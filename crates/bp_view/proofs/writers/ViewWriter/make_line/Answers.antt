@@ -7,9 +7,9 @@ use Rattle.bp_machine.specs.Sessions.{Stands}
 use Rattle.bp_machine.specs.Histories.{configuration_after, granted_threads}
 use Rattle.bp_machine.specs.Replies.{is_granted}
 use Rattle.bp_trace.proofs.PlayableFronts.{own_is}
-use Rattle.bp_view.specs.JsonCalls.{IsNextPrintIn}
+use Rattle.bp_view.specs.CallFacts.{next_print_in}
 use Rattle.bp_view.specs.Views.{IsShownLine}
-use Rattle.bp_view.proofs.PrintedValues.{printed_in}
+use Rattle.bp_view.proofs.PrintedValues.{printed_of}
 use Rattle.bp_view.proofs.RecordedCalls.{next_number, own_refused, print_refused}
 use Rattle.bp_view.proofs.writers.ViewWriter.make_line.Goals as goal
 
@@ -42,9 +42,9 @@ returns-clause-line c = λ t text h has playable known.
     let next = c.in_ok-next.ensures t h has.code has.stands in
     let values = option_map (λ v. v.items) c.in_ok-next.next in
     let thread = answer.thread in
-    let own_next = subst (λ i. IsNextPrintIn setting.options.format now i values) (sym thread) next in
+    let own_next = next ∙ ap (next_print_in setting.options.format now) (sym thread) in
     let is = c.printed_by-printed.ensures ∙ ap (λ o. if is_granted y.reply then o else None) c.as_deref.ensures.value in
-    let printed = printed_in setting.options.format now y (option_map (λ v. v.now) c.printed_by-printed.result) values own_next is in
+    let printed = printed_of setting.options.format now y _ values own_next is in
     let shown = c.in_ok-push_shown.ensures t text s h y known moment printed in
     let line = shown.is ∙ ap (λ old. old ++ shown.more) c.clear.ensures.items in
     subst (λ l. IsShownLine t text s setting.options setting.widths setting.history.now h x l) (sym line)

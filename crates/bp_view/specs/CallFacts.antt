@@ -1,0 +1,152 @@
+-- What a view shows of a call, as plain facts.
+use Rattle.std.specs.Prelude.{if◌then◌else◌, ◌≡◌, ◌&&◌, ℕ, suc, Bool, false, List, [], ◌∷◌, ◌++◌, Option, None, Some, codes, length, map, option_map, slice_get}
+use Rattle.bp_tree.specs.Ast.{Procedure, Program}
+use Rattle.bp_code.specs.Configurations.{Frame, Configuration}
+use Rattle.bp_code.specs.Starts.{start_of_block}
+use Rattle.bp_machine.specs.declared.calls.Call.{Call}
+use Rattle.bp_machine.specs.declared.calls.Reply.{Reply}
+use Rattle.bp_machine.specs.declared.calls.Reply.TheVariants.{Blocked, Failed, Stepped}
+use Rattle.bp_machine.specs.Answers.{stack_of}
+use Rattle.bp_machine.specs.Histories.{configuration_after}
+use Rattle.bp_machine.specs.PrintedRows.{values_printed}
+use Rattle.bp_machine.specs.Replies.{is_granted}
+use Rattle.bp_machine.specs.Setups.{SetupOf}
+use Rattle.bp_text.specs.declared.positions.Position.{Position}
+use Rattle.bp_text.specs.OneLine.{IsOneLine}
+use Rattle.bp_text.specs.Positions.{position_at}
+use Rattle.bp_view.specs.declared.call_facts.CallFacts.{CallFacts}
+use Rattle.bp_view.specs.declared.call_facts.Next.{Next as NextFacts}
+use Rattle.bp_view.specs.declared.options.ViewFormat.{ViewFormat}
+use Rattle.bp_view.specs.declared.options.ViewFormat.TheVariants.{Columns, Json}
+use Rattle.bp_view.specs.declared.options.ViewOptions.{ViewOptions}
+use Rattle.bp_view.specs.ChangeFacts.{changes_between, entry_of, Entry}
+use Rattle.bp_view.specs.Options.{calls_of}
+use Rattle.bp_view.specs.Moments.{is_switch, IsContext}
+use Rattle.bp_view.specs.Places.{place_text}
+use Rattle.bp_view.specs.Scenes.{IsStatementAt}
+
+-- What a thread has next: where its statement begins, as it is printed and as a line and a column;
+-- in which procedure; how many frames the stack has; the words of the statement, and whether it
+-- reads a choice bit.
+pub record Next : Type 0 where
+  pub place : List ℕ
+  pub position : Option Position
+  pub procedure : Option (List ℕ)
+  pub depth : ℕ
+  pub words : Option (List ℕ)
+  pub reads : Bool
+
+-- a thread that has ended has nothing next
+abbrev pub nothing_next : Next
+nothing_next =
+    record {
+      place = codes "-";
+      position = None;
+      procedure = None;
+      depth = 0;
+      words = None;
+      reads = false;
+    }
+
+-- What is shown of a call: its number from 1, the call with its reply, its context, whether the
+-- step before was another thread's, what its thread had next, for how many calls its line stands,
+-- what it changed, and what it printed.
+pub record ShownCall : Type 0 where
+  pub number : ℕ
+  pub call : Call
+  pub context : Option ℕ
+  pub switch : Bool
+  pub next : Next
+  pub calls : ℕ
+  pub changes : List Entry
+  pub printed : Option (List Bool)
+
+-- what the values of src/ say
+abbrev pub next_in : NextFacts → Next
+next_in x =
+    record {
+      place = x.place.now;
+      position = x.position;
+      procedure = option_map (λ s. s.now) x.procedure;
+      depth = x.depth;
+      words = option_map (λ s. s.now) x.words;
+      reads = x.reads_choice;
+    }
+
+abbrev pub facts_in : CallFacts → ShownCall
+facts_in x =
+    record {
+      number = x.number;
+      call = x.call;
+      context = x.context;
+      switch = x.is_switch;
+      next = next_in x.next;
+      calls = x.calls;
+      changes = map entry_of x.changes.now;
+      printed = option_map (λ v. v.now) x.printed;
+    }
+
+-- a device: the name of the procedure with this number
+abbrev pub name_at : List Procedure → ℕ → Option (List ℕ)
+name_at ps n = option_map (λ p. p.name.text) (slice_get ps n)
+
+-- a statement that comes next was tried: it made a step, or its assumption was 0
+abbrev pub is_tried : Reply → Bool
+is_tried Stepped = Bool.true
+is_tried Failed = Bool.true
+is_tried Blocked = Bool.true
+is_tried r = false
+
+-- the choice bit of a call whose statement reads one, where it was tried
+abbrev pub choice_of : ShownCall → Option Bool
+choice_of f = if f.next.reads && is_tried f.call.reply then Some f.call.bit else None
+
+-- the statement that a frame has next, or its procedure's end, at this depth of a stack
+pub record IsNextAt (text : List ℕ) (f : Frame) (depth : ℕ) (next : Next) : Type 0 where
+  pub place : next.place ≡ place_text text (start_of_block f.left)
+  pub position : next.position ≡ option_map (position_at text) (start_of_block f.left)
+  pub procedure : next.procedure ≡ Some f.procedure.name.text
+  pub depth_is : next.depth ≡ depth
+  pub words : List ℕ
+  pub said : next.words ≡ Some words
+  pub words_are : IsStatementAt text f.procedure (start_of_block f.left) words next.reads
+  pub one_line : IsOneLine words
+
+-- what a thread with this stack has next
+abbrev pub IsNextOf : List ℕ → List Frame → Next → Type 0
+IsNextOf text [] next = next ≡ nothing_next
+IsNextOf text (f ∷ fs) next = IsNextAt text f (length (f ∷ fs)) next
+
+-- the values that a call prints in this configuration: those of a step at a print
+abbrev pub printed_by : Configuration → Call → Option (List Bool)
+printed_by c x =
+    if is_granted x.reply then values_printed c.globals (stack_of c x.thread) else None
+
+-- the printed values that a view of this format shows: columns show none
+abbrev pub printed_in : ViewFormat → Configuration → Call → Option (List Bool)
+printed_in Columns c x = None
+printed_in Json c x = printed_by c x
+
+-- a device: those that it shows of the next step of thread i
+abbrev pub next_print_in : ViewFormat → Configuration → ℕ → Option (List Bool)
+next_print_in Columns c i = None
+next_print_in Json c i = values_printed c.globals (stack_of c i)
+
+-- what the call x after the history h of a program changed
+abbrev pub changes_by : Program → SetupOf → (h : List Call) → Call → List Entry
+changes_by t s h x =
+    changes_between (configuration_after t s h) (configuration_after t s (h ++ x ∷ [])) x.thread
+
+-- these are the facts of the call x after h, in a view of this whole history
+pub record AreCallFacts
+    (t : Program) (text : List ℕ) (s : SetupOf) (o : ViewOptions) (whole h : List Call) (x : Call)
+    (f : ShownCall)
+    : Type 0 where
+  pub number : f.number ≡ suc (length h)
+  pub call : f.call ≡ x
+  pub context : IsContext h x f.context
+  pub switch : f.switch ≡ is_switch h x
+  pub next : IsNextOf text (stack_of (configuration_after t s h) x.thread) f.next
+  pub calls : f.calls ≡ calls_of o whole h x
+  pub changes : f.changes ≡ changes_by t s h x
+  pub printed : f.printed ≡ printed_in o.format (configuration_after t s h) x
