@@ -1,12 +1,17 @@
 -- A text begins with one lexeme, so a statement has one list of lexemes.
-use Rattle.std.proofs.Common.{◌≡◌, ◌∙◌, ◌==◌, ◌+◌, ◌⊎◌, ⊎_elim, inl, inr, ℕ, Bool, true, false, cond, List, [], ◌∷◌, Option, None, Some, length, take, drop, ap, sym, refl, subst, arith, length-take}
+use Rattle.std.proofs.Common.{◌≡◌, ◌∙◌, ◌==◌, ◌+◌, ◌⊎◌, ⊎_elim, inl, inr, ℕ, Bool, true, false, cond, List, [], ◌∷◌, Option, None, Some, length, take, drop, ap, ap₂, sym, refl, subst, arith, length-take}
 use Rattle.std.proofs.lemmas.Bool.{false≢true}
 use Rattle.bp_syntax.specs.Cut as cut
 use Rattle.bp_syntax.specs.Cut.{Fit, Brace, Bad, IsCut, fit, open_brace, bad_byte}
 use Rattle.bp_syntax.specs.FirstLexemes.{lexeme_of, TakesLexeme}
 use Rattle.bp_syntax.specs.declared.tokens.LexemeKind.{LexemeKind}
 use Rattle.bp_syntax.proofs.OneCut.{has_cut, one_cut}
-use Rattle.bp_view.specs.Statements.{is_ending, HasLexemes, IsAtEnd, Lexeme, Takes, ends, ending, more, none_left}
+use Rattle.std.specs.List.{list_any}
+use Rattle.bp_tree.specs.Ast.{Procedure}
+use Rattle.bp_code.specs.StandsFor.{Place}
+use Rattle.bp_code.specs.Starts.{start_of_block}
+use Rattle.bp_view.specs.Scenes.{AreStatements, IsStatementAt}
+use Rattle.bp_view.specs.Statements.{is_choice, is_ending, shortened, words_after, HasLexemes, IsAtEnd, IsStatement, Lexeme, Takes, ends, ending, more, none_left}
 
 -- where a lexeme of a cut is, and whether it is a byte that begins none
 abbrev place : cut.Lexeme → ℕ
@@ -117,3 +122,32 @@ next_lexemes text rest bytes kind _ (more {rest = q} {l = l} {ls = ls} other has
 pub no_lexemes : (text : List ℕ) (ls : List Lexeme) → HasLexemes text ls → IsAtEnd text → ls ≡ []
 no_lexemes text _ (ends at) end = refl
 no_lexemes text _ (more {rest = q} {l = l} takes has) end = absurd (not_at_end text q l.bytes l.kind end takes)
+
+pub one_list_of_lexemes : (text : List ℕ) (ls ms : List Lexeme) → HasLexemes text ls → HasLexemes text ms → ls ≡ ms
+one_list_of_lexemes text _ ms (ends at) has = sym (no_lexemes text ms has at)
+one_list_of_lexemes text _ ms (more {rest = q} {l = l} {ls = ls} takes rest) has =
+    let next = next_lexemes text q l.bytes l.kind ms has takes in
+    ap (λ xs. l ∷ xs) (one_list_of_lexemes q ls next.left rest next.has) ∙ sym next.is
+
+-- so a statement has one text, and reads a choice bit or not
+pub one_statement : (text a b : List ℕ) (p q : Bool) → IsStatement text a p → IsStatement text b q → (a ≡ b) × (p ≡ q)
+one_statement text a b p q x y =
+    let same = one_list_of_lexemes text x.lexemes y.lexemes x.lexemes_are y.lexemes_are in (
+      x.words_are ∙ ap (λ ls. shortened (words_after false ls)) same ∙ sym y.words_are,
+      x.reads_is ∙ ap (λ ls. list_any (λ l. is_choice l.bytes) ls) same ∙ sym y.reads_is,
+    )
+
+pub one_statement_at : (text : List ℕ) (r : Procedure) (start : Option ℕ) (a b : List ℕ) (p q : Bool) → IsStatementAt text r start a p → IsStatementAt text r start b q
+    → (a ≡ b) × (p ≡ q)
+one_statement_at text r None a b p q x y = (x.words_are ∙ sym y.words_are, x.reads_none ∙ sym y.reads_none)
+one_statement_at text r (Some at) a b p q x y = one_statement (drop at text) a b p q x y
+
+-- the words of the statements of places are one list
+pub one_list_of_statements : (text : List ℕ) (xs : List Place) (a b : List (List ℕ)) → AreStatements text xs a → AreStatements text xs b → a ≡ b
+one_list_of_statements text [] [] [] x y = refl
+one_list_of_statements text [] [] (w ∷ b) x y = elim y [ ]
+one_list_of_statements text [] (v ∷ a) b x y = elim x [ ]
+one_list_of_statements text (z ∷ xs) [] b x y = elim x [ ]
+one_list_of_statements text (z ∷ xs) (v ∷ a) [] x y = elim y [ ]
+one_list_of_statements text (z ∷ xs) (v ∷ a) (w ∷ b) ((p, x), xs_are) ((q, y), ys_are) =
+    ap₂ (λ u us. u ∷ us) (one_statement_at text z.procedure (start_of_block z.left) v w p q x y).0 (one_list_of_statements text xs a b xs_are ys_are)

@@ -1,12 +1,41 @@
--- A text of parts with one more part.
-use Rattle.std.proofs.Common.{◌≡◌, ◌∙◌, ◌⊎◌, inl, inr, ℕ, suc, ◌<◌, ◌≤◌, List, [], ◌∷◌, ◌++◌, Some, slice_get, ap, sym, refl, subst, append_assoc, append-nil, arith}
+-- Texts of parts: with one more part, and going on to all of them.
+use Rattle.std.proofs.Common.{◌≡◌, ◌∙◌, ◌⊎◌, inl, inr, ℕ, zero, suc, ◌+◌, ◌<◌, ◌≤◌, List, [], ◌∷◌, ◌++◌, Some, length, get_or, slice_get, ap, sym, refl, subst, append_assoc, append-nil, arith}
 use Rattle.std.specs.List.{concat}
+use Rattle.std.proofs.Math.Seq.{get_or-append_seam}
 use Rattle.std.proofs.lemmas.Bool.{cases_lt}
-use Rattle.std.proofs.lemmas.List.{length-append}
+use Rattle.std.proofs.lemmas.List.{ext_get_or, length-append, get_or_append_left}
 use Rattle.std.proofs.lemmas.List.Folds.{concat-append}
-use Rattle.std.proofs.lemmas.Option.{slice_get_within}
+use Rattle.std.proofs.lemmas.Option.{slice_get_within, slice_get-get_or, get_or_from_slice_get}
 use Rattle.bp_view.specs.Parts.{Adds, IsInParts}
-use Rattle.bp_view.proofs.LinesOfCalls.{one_before, one_last, within}
+
+-- an element of a list with one more is one of the list, or that one
+module _ {A : Type 0} (xs : List A) (y : A) (k : ℕ) (z : A) (at : slice_get (xs ++ y ∷ []) k ≡ Some z) where
+  found : get_or (xs ++ y ∷ []) k z ≡ z
+  found = get_or_from_slice_get (xs ++ y ∷ []) k z z at
+
+  pub within : k < length xs + 1
+  within = omega (arith, slice_get_within (xs ++ y ∷ []) k z at, length-append xs (y ∷ []))
+
+  pub one_before : k < length xs → slice_get xs k ≡ Some z
+  one_before p = slice_get-get_or xs k z p ∙ ap Some (sym (get_or_append_left xs (y ∷ []) z k p) ∙ found)
+
+  pub one_last : k ≡ length xs → y ≡ z
+  one_last p = sym (get_or-append_seam xs y [] z) ∙ ap (λ n. get_or (xs ++ y ∷ []) n z) (sym p) ∙ found
+
+-- the item at a place within a list
+pub item_at : {X : Type 0} (xs : List X) (k : ℕ) → k < length xs → (x : X) × (slice_get xs k ≡ Some x)
+item_at [] k within = absurd (omega (arith, within))
+item_at (x ∷ xs) zero within = (x, refl)
+item_at (x ∷ xs) (suc k) within = item_at xs k (omega (arith, within))
+
+-- each item of a list has a part, where each that is found there has one
+pub part_of_each
+    : {X : Type 0} (IsOf : ℕ → X → List ℕ → Type 0) (xs : List X) → ((k : ℕ) (x : X) → slice_get xs k ≡ Some x → (part : List ℕ) × IsOf k x part)
+    → (k : ℕ) → k < length xs → (part : List ℕ) × ((x : X) → slice_get xs k ≡ Some x → IsOf k x part)
+part_of_each IsOf xs some k within =
+    let (x, at) = item_at xs k within in
+    let (part, is) = some k x at in
+    (part, λ y found. let same : x ≡ y = cc in subst (λ z. IsOf k z part) same is)
 
 module _ (IsPart : ℕ → List ℕ → Type 0) where
   pub no_parts : IsInParts IsPart 0 []
@@ -47,3 +76,28 @@ module _ (IsPart : ℕ → List ℕ → Type 0) where
     is = one.is ∙ ap (λ y. y ++ one.more) all.is ∙ append_assoc a all.more one.more;
     more_are = parts_then n all.more all.more_are one.more one.more_are;
   }
+
+  -- where each of `all` parts has a text, the first n go on to all
+  pub parts_go_on
+      : (all : ℕ) → ((k : ℕ) → k < all → (part : List ℕ) × IsPart k part) → (more n : ℕ) → n + more ≡ all
+      → (text : List ℕ) → IsInParts IsPart n text → (rest : List ℕ) × IsInParts IsPart all (text ++ rest)
+  parts_go_on all each zero n count text are =
+      let same : n ≡ all = omega (arith, count) in
+      ([], subst (λ k. IsInParts IsPart k (text ++ [])) same (subst (IsInParts IsPart n) (sym (append-nil text)) are))
+  parts_go_on all each (suc more) n count text are =
+      let (part, is) = each n (omega (arith, count)) in
+      let (rest, whole) = parts_go_on all each more (suc n) (omega (arith, count)) (text ++ part) (parts_then n text are part is) in
+      (part ++ rest, subst (IsInParts IsPart all) (append_assoc text part rest) whole)
+
+  pub some_parts : (all : ℕ) → ((k : ℕ) → k < all → (part : List ℕ) × IsPart k part) → (said : List ℕ) × IsInParts IsPart all said
+  some_parts all each = parts_go_on all each all 0 (omega arith) [] no_parts
+
+  -- where each part has one text, so have n parts
+  pub one_of_parts : (n : ℕ) → ((k : ℕ) (p q : List ℕ) → k < n → IsPart k p → IsPart k q → p ≡ q) → (a b : List ℕ) → IsInParts IsPart n a → IsInParts IsPart n b → a ≡ b
+  one_of_parts n one a b x y = x.is ∙ ap concat (ext_get_or [] x.parts y.parts (x.count ∙ sym y.count) same) ∙ sym y.is
+    where
+      same : (k : ℕ) → k < length x.parts → get_or x.parts k [] ≡ get_or y.parts k []
+      same k within =
+          let few : k < n = omega (arith, within, x.count) in
+          let also : k < length y.parts = omega (arith, few, y.count) in
+          one k _ _ few (x.each k _ (slice_get-get_or x.parts k [] within)) (y.each k _ (slice_get-get_or y.parts k [] also))

@@ -10,8 +10,7 @@ use Rattle.bp_machine.specs.Answers.{stack_of}
 use Rattle.bp_machine.specs.Tops.{IsTop}
 use Rattle.bp_view.specs.declared.scenes.Scene.{Scene}
 use Rattle.bp_view.specs.CallFacts.{name_at, IsNextAt, IsNextOf, Next}
-use Rattle.bp_view.specs.Scenes.{IsScene, start_on_stack, AreScenes, place_of_scene}
-use Rattle.bp_view.specs.Places.{place_text}
+use Rattle.bp_view.specs.Scenes.{AreScenes, IsScene}
 use Rattle.bp_view.proofs.SceneLists.{SceneAt, scene_at}
 
 -- what is got is the n-th
@@ -35,11 +34,6 @@ module _ (t : Program) (text : List ℕ) (c : Configuration) (i : ℕ) (scenes :
   -- the scene of what comes next
   pub scene_of_top : (x : Top) → (is : IsTop t c i x) → SceneAt text t.procedures (place is.frame.procedure is.frame.left) scenes x.number
   scene_of_top x is = scene_at text t.procedures (places_of t.procedures) scenes x.number (place is.frame.procedure is.frame.left) are is.next
-
-  pub place_of_top : (x : Top) → IsTop t c i x → place_of_scene (slice_get scenes x.number) ≡ place_text text (start_on_stack (stack_of c i))
-  place_of_top x is =
-      let found = scene_of_top x is in
-      ap place_of_scene found.at ∙ found.is.place ∙ ap (λ s. place_text text (start_on_stack s)) (sym is.stack)
 
   -- what its scene shows is what comes next
   pub next_of_top : (x : Top) → (is : IsTop t c i x) → (scene : Scene) → slice_get scenes x.number ≡ Some scene → IsNextOf text (stack_of c i) (next_at t.procedures scene x)

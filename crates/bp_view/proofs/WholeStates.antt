@@ -1,5 +1,5 @@
 -- Each state has a text, and so each history has an end of a view.
-use Rattle.std.proofs.Common.{◌≡◌, ◌<◌, ℕ, zero, suc, Bool, true, false, List, [], ◌∷◌, ◌++◌, Some, length, slice_get, refl, subst, arith}
+use Rattle.std.proofs.Common.{◌≡◌, ℕ, zero, suc, Bool, true, false, List, [], ◌∷◌, ◌++◌, Some, length, slice_get, refl, subst, arith}
 use Rattle.std.proofs.lemmas.Option.{slice_get_within}
 use Rattle.bp_tree.specs.Ast.{Program}
 use Rattle.bp_code.specs.Configurations.{Frame}
@@ -18,27 +18,12 @@ use Rattle.bp_view.specs.declared.scenes.Scene.{Scene}
 use Rattle.bp_view.specs.Changes.{variables_text}
 use Rattle.bp_view.specs.Ends.{after_foot, IsEnd, IsStateIf}
 use Rattle.bp_view.specs.Frames.{frame_in, IsFrameText, IsStackText}
-use Rattle.bp_view.specs.Parts.{IsInParts}
 use Rattle.bp_view.specs.Scenes.{AreScenes}
 use Rattle.bp_view.specs.States.{standing, state_in, thread_state_in, IsStateText, IsThreadText}
-use Rattle.bp_view.proofs.PartsOfTexts.{no_parts, parts_then}
+use Rattle.bp_view.proofs.PartsOfTexts.{part_of_each, some_parts}
 use Rattle.bp_view.proofs.PlacedStacks.{stack_placed, ArePlaced, IsPlaced}
 use Rattle.bp_view.proofs.SceneLists.{scene_at}
 use Rattle.bp_view.proofs.WholeViews.{some_foot}
-
--- where each part has a text, so have the first n of them
-some_parts : (IsPart : ℕ → List ℕ → Type 0) (n : ℕ) → ((k : ℕ) → k < n → (part : List ℕ) × IsPart k part) → (said : List ℕ) × IsInParts IsPart n said
-some_parts IsPart zero each = ([], no_parts IsPart)
-some_parts IsPart (suc n) each =
-    let (before, are) = some_parts IsPart n (λ k within. each k (omega (arith, within))) in
-    let (part, is) = each n (omega arith) in
-    (before ++ part, parts_then IsPart n before are part is)
-
--- the frame at a place within a stack
-there : (stack : List Frame) (k : ℕ) → k < length stack → (f : Frame) × (slice_get stack k ≡ Some f)
-there [] k within = absurd (omega (arith, within))
-there (f ∷ fs) zero within = (f, refl)
-there (f ∷ fs) (suc k) within = there fs k (omega (arith, within))
 
 -- each frame of a placed stack is placed
 placed_at : (t : Program) (stack : List Frame) (k : ℕ) (f : Frame) → ArePlaced t stack → slice_get stack k ≡ Some f → IsPlaced t f
@@ -57,13 +42,8 @@ module _ (c : Flat) (t : Program) (code : StandsFor c t) (text : List ℕ) (scen
         )
 
     some_stack : (stack : List Frame) → ArePlaced t stack → (said : List ℕ) × IsStackText format text stack said
-    some_stack stack placed = some_parts (λ n part. (f : Frame) → slice_get stack n ≡ Some f → IsFrameText format text n f part) (length stack) each
-      where
-        each : (k : ℕ) → k < length stack → (part : List ℕ) × ((f : Frame) → slice_get stack k ≡ Some f → IsFrameText format text k f part)
-        each k within =
-            let (f, at) = there stack k within in
-            let (said, is) = some_frame k f (placed_at t stack k f placed at) in
-            (said, λ g found. let same : f ≡ g = cc in subst (λ x. IsFrameText format text k x said) same is)
+    some_stack stack placed =
+        some_parts _ (length stack) (part_of_each (IsFrameText format text) stack (λ n f at. some_frame n f (placed_at t stack n f placed at)))
 
     some_thread : (h : List Call) (i : ℕ) → (said : List ℕ) × IsThreadText format t text s h i said
     some_thread h i =

@@ -1,5 +1,5 @@
 -- Each history of a program has a view, and what was written of one goes on to a whole one.
-use Rattle.std.proofs.Common.{◌≡◌, ℕ, suc, Bool, true, false, List, [], ◌∷◌, ◌++◌, Option, None, Some, length, drop, ap, sym, refl, subst, append_assoc, append-nil}
+use Rattle.std.proofs.Common.{◌≡◌, ◌<◌, slice_get, take, ℕ, suc, Bool, true, false, List, [], ◌∷◌, ◌++◌, Option, None, Some, length, drop, ap, sym, refl, subst}
 use Rattle.std.specs.Prelude.{option_map}
 use Rattle.bp_tree.specs.Ast.{Program}
 use Rattle.bp_code.specs.Configurations.{Frame}
@@ -20,7 +20,6 @@ use Rattle.bp_machine.proofs.ContextCounts.{opened, opened_least}
 use Rattle.bp_machine.proofs.RealFailures.{real}
 use Rattle.bp_text.specs.Positions.{position_at}
 use Rattle.bp_view.specs.declared.options.ViewFormat.{ViewFormat}
-use Rattle.bp_view.specs.declared.options.ViewFormat.TheVariants.{Columns, Json}
 use Rattle.bp_view.specs.declared.options.ViewOptions.{ViewOptions}
 use Rattle.bp_view.specs.declared.scenes.Scene.{Scene}
 use Rattle.bp_view.specs.declared.settings.Widths.{Widths}
@@ -32,8 +31,8 @@ use Rattle.bp_view.specs.Outcomes.{assertion_in, clean_in, failure_in, foot_text
 use Rattle.bp_view.specs.Places.{place_text}
 use Rattle.bp_view.specs.Statements.{IsStatement}
 use Rattle.bp_view.specs.Options.{calls_of}
-use Rattle.bp_view.specs.Views.{has_line, line_in, AreLines, IsShownLine, IsViewLine, IsViewLineIf}
-use Rattle.bp_view.proofs.LinesOfCalls.{lines_then}
+use Rattle.bp_view.specs.Views.{has_line, line_in, IsShownLine, IsViewLine, IsViewLineIf}
+use Rattle.bp_view.proofs.PartsOfTexts.{part_of_each}
 use Rattle.bp_view.proofs.PlacedStacks.{stack_placed, ArePlaced, IsPlaced}
 use Rattle.bp_view.proofs.SceneLists.{scene_at, SceneAt}
 
@@ -91,19 +90,9 @@ module _ (c : Flat) (t : Program) (code : StandsFor c t) (text : List ℕ) (scen
         by_shown true = view_line h x
         by_shown false = ([], refl)
 
-    -- the lines of a front of a history go on to those of all of it
-    pub lines_go_on : (g h : List Call) (lines : List ℕ) → AreLines t text s o w whole g lines
-        → (more : List ℕ) × AreLines t text s o w whole (g ++ h) (lines ++ more)
-    lines_go_on g [] lines is =
-        ([], subst (λ k. AreLines t text s o w whole k (lines ++ [])) (sym (append-nil g)) (subst (AreLines t text s o w whole g) (sym (append-nil lines)) is))
-    lines_go_on g (x ∷ xs) lines is =
-        let (line, line_is) = shown_line g x in
-        let next = lines_then t text s o w whole g lines is x line line_is in
-        let (more, are_more) = lines_go_on (g ++ x ∷ []) xs (lines ++ line) next in (
-          line ++ more,
-          subst (λ k. AreLines t text s o w whole k (lines ++ (line ++ more))) (append_assoc g (x ∷ []) xs)
-              (subst (AreLines t text s o w whole ((g ++ x ∷ []) ++ xs)) (append_assoc lines line more) are_more),
-        )
+    -- each call of the history has a line
+    pub each_line : (k : ℕ) → k < length whole → (line : List ℕ) × ((x : Call) → slice_get whole k ≡ Some x → IsShownLine t text s o w whole (take k whole) x line)
+    each_line = part_of_each (λ k x line. IsShownLine t text s o w whole (take k whole) x line) whole (λ k x at. shown_line (take k whole) x)
 
   module _ (format : ViewFormat) where
     some_assertion : (h : List Call) (i : ℕ) → IsRealFailure t s h i → (said : List ℕ) × IsAssertionText format t text s h i said

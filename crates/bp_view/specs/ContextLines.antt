@@ -1,6 +1,6 @@
 -- The contexts of a history, a line for each: its thread, its first and its last call, where its
 -- thread stands before and after it, and the globals that it changed.
-use Rattle.std.specs.Prelude.{◌≡◌, ◌≤◌, ◌-◌, ℕ, suc, List, [], ◌∷◌, ◌++◌, Option, None, Some, codes, decimal, length, map, option_map, slice_get, take}
+use Rattle.std.specs.Prelude.{◌≡◌, ◌≤◌, ◌-◌, ℕ, suc, List, [], ◌∷◌, ◌++◌, Option, None, Some, codes, decimal, length, map, slice_get, take}
 use Rattle.std.specs.List.{concat}
 use Rattle.bp_tree.specs.Ast.{Program}
 use Rattle.bp_code.specs.StandsFor.{places_of}
@@ -14,17 +14,18 @@ use Rattle.bp_machine.specs.Setups.{SetupOf}
 use Rattle.bp_text.specs.declared.positions.Position.{Position}
 use Rattle.bp_text.specs.Columns.{at_left, at_right}
 use Rattle.bp_text.specs.Pieces.{key_text, list_text}
-use Rattle.bp_text.specs.Positions.{position_at}
 use Rattle.bp_trace.specs.declared.replaying.Replayed.{Replayed}
 use Rattle.bp_trace.specs.Replayed.{IsReplayed}
+use Rattle.bp_view.specs.declared.contexts.ContextFacts.{ContextFacts}
 use Rattle.bp_view.specs.declared.options.ViewFormat.{ViewFormat}
 use Rattle.bp_view.specs.declared.options.ViewFormat.TheVariants.{Columns, Json}
 use Rattle.bp_view.specs.declared.settings.Widths.{Widths}
-use Rattle.bp_view.specs.ChangeFacts.{entries_text, owned}
+use Rattle.bp_view.specs.CallFacts.{next_in, IsNextOf, Next}
+use Rattle.bp_view.specs.ChangeFacts.{entries_text, entry_of, owned, Entry}
 use Rattle.bp_view.specs.Changes.{changed}
 use Rattle.bp_view.specs.Lines.{after_room}
 use Rattle.bp_view.specs.Moments.{IsContext}
-use Rattle.bp_view.specs.Scenes.{start_on_stack, AreStatements}
+use Rattle.bp_view.specs.Scenes.{AreStatements}
 use Rattle.bp_view.specs.Parts.{IsInParts}
 use Rattle.bp_view.specs.Places.{place_text}
 use Rattle.bp_view.specs.Widths.{extent, AreWidths}
@@ -43,38 +44,43 @@ pub record IsContextOf (n : ℕ) (h : List Call) (i first last : ℕ) : Type 0 w
       → IsStepIn n h k x
       → (x.thread ≡ i) × (first ≤ k) × (k ≤ last)
 
--- the numbers of a context, of its thread, and of its first and its last call
-pub record ContextNumbers : Type 0 where
+-- What is shown of a context: its number, its thread, the numbers of its first and its last call,
+-- what its thread had next before the first and after the last, and what it changed.
+pub record ShownContext : Type 0 where
   pub number : ℕ
   pub thread : ℕ
   pub first : ℕ
   pub last : ℕ
+  pub from : Next
+  pub to : Next
+  pub changes : List Entry
 
-abbrev pub numbers : (n i first last : ℕ) → ContextNumbers
-numbers n i first last = record { number = n; thread = i; first = first; last = last }
-
--- where a thread stands before and after a context, in columns of this width, and what it changed
-abbrev pub ends_text : (width : ℕ) → (from to changes : List ℕ) → List ℕ
-ends_text width from to changes =
-    codes " from "
-    ++ at_left width from
-    ++ codes " to "
-    ++ to
-    ++ after_room (width - length to) changes
-    ++ codes "\n"
+-- what the value of src/ says
+abbrev pub context_in : ContextFacts → ShownContext
+context_in x =
+    record {
+      number = x.number;
+      thread = x.thread;
+      first = x.first;
+      last = x.last;
+      from = next_in x.from;
+      to = next_in x.to;
+      changes = map entry_of x.changes.now;
+    }
 
 -- a context for people
-abbrev pub context_line : Widths → ContextNumbers → (from to changes : List ℕ) → List ℕ
-context_line w x from to changes =
-    codes "context "
-    ++ at_right w.context (decimal x.number)
-    ++ codes " thread "
-    ++ at_right w.thread (decimal x.thread)
-    ++ codes " calls "
-    ++ at_right w.number (decimal x.first)
-    ++ codes " to "
-    ++ at_right w.number (decimal x.last)
-    ++ ends_text w.place from to changes
+abbrev pub context_line : Widths → ShownContext → List ℕ
+context_line w f =
+    concat (
+    concat (
+    codes "context " ∷ at_right w.context (decimal f.number)
+    ∷ codes " thread " ∷ at_right w.thread (decimal f.thread)
+    ∷ codes " calls " ∷ at_right w.number (decimal f.first)
+    ∷ codes " to " ∷ at_right w.number (decimal f.last)
+    ∷ codes " from " ∷ [])
+    ∷ concat (at_left w.place f.from.place ∷ codes " to " ∷ f.to.place ∷ [])
+    ∷ after_room (w.place - length f.to.place) (entries_text Columns f.changes)
+    ∷ codes "\n" ∷ [])
 
 -- a place as an object of JSON, or null
 abbrev pub position_or_null : Option Position → List ℕ
@@ -85,38 +91,26 @@ position_or_null (Some p) =
     ∷ key_text (codes "column") ∷ decimal p.column
     ∷ codes "}" ∷ [])
 
--- the numbers of a context as members of its object, and the key of the next one
-abbrev pub number_members : ContextNumbers → List ℕ
-number_members x =
+-- a context as an object of JSON
+abbrev pub context_object : ShownContext → List ℕ
+context_object f =
+    concat (
     concat (
     codes "{\"kind\":\"context\""
-    ∷ key_text (codes "context") ∷ decimal x.number
-    ∷ key_text (codes "thread") ∷ decimal x.thread
-    ∷ key_text (codes "first") ∷ decimal x.first
-    ∷ key_text (codes "last") ∷ decimal x.last
+    ∷ key_text (codes "context") ∷ decimal f.number
+    ∷ key_text (codes "thread") ∷ decimal f.thread
+    ∷ key_text (codes "first") ∷ decimal f.first
+    ∷ key_text (codes "last") ∷ decimal f.last
     ∷ key_text (codes "from") ∷ [])
+    ∷ position_or_null f.from.position
+    ∷ key_text (codes "to") ∷ position_or_null f.to.position
+    ∷ key_text (codes "changes") ∷ list_text (entries_text Json f.changes)
+    ∷ codes "}\n" ∷ [])
 
--- a context as an object of JSON
-abbrev pub context_object
-    : ContextNumbers → (from to : Option Position) → (changes : List ℕ) → List ℕ
-context_object x from to changes =
-    concat (
-    number_members x
-    ∷ position_or_null from
-    ∷ key_text (codes "to")
-    ∷ position_or_null to
-    ∷ concat (key_text (codes "changes") ∷ list_text changes ∷ codes "}\n" ∷ [])
-    ∷ [])
-
--- the same in a view of this format, where the statements begin at these offsets of the text
-abbrev pub context_in
-    : ViewFormat → Widths → (text : List ℕ) → ContextNumbers → (from to : Option ℕ)
-    → (changes : List ℕ) → List ℕ
-context_in Columns w text x from to changes =
-    context_line w x (place_text text from) (place_text text to) changes
-context_in Json w text x from to changes =
-    let place = option_map (position_at text) in
-    context_object x (place from) (place to) changes
+-- the same in a view of this format
+abbrev pub context_text : ViewFormat → Widths → ShownContext → List ℕ
+context_text Columns w f = context_line w f
+context_text Json w f = context_object f
 
 -- what comes before the contexts: in JSON how many calls and contexts the history has
 abbrev pub contexts_head : ViewFormat → (calls contexts : ℕ) → List ℕ
@@ -128,22 +122,31 @@ contexts_head Json calls contexts =
     ∷ key_text (codes "contexts") ∷ decimal contexts
     ∷ codes "}\n" ∷ [])
 
+-- The facts of context n of a history: its first and its last call, counted from 1; what its thread
+-- had next before the first and after the last; and the globals whose values there differ.
+pub record AreContextFacts
+    (t : Program) (text : List ℕ) (s : SetupOf) (h : List Call) (n : ℕ) (f : ShownContext)
+    : Type 0 where
+  pub number : f.number ≡ n
+  pub first : ℕ
+  pub last : ℕ
+  pub context : IsContextOf n h f.thread first last
+  pub first_is : f.first ≡ suc first
+  pub last_is : f.last ≡ suc last
+  pub from : IsNextOf text (stack_of (configuration_after t s (take first h)) f.thread) f.from
+  pub to : IsNextOf text (stack_of (configuration_after t s (take (suc last) h)) f.thread) f.to
+  pub changes :
+      let before = configuration_after t s (take first h) in
+      let after = configuration_after t s (take (suc last) h) in
+      f.changes ≡ owned None (changed before.globals after.globals)
+
 -- Of a program and its text; after the history h in a setup.
 module _ (format : ViewFormat) (t : Program) (text : List ℕ) (s : SetupOf) (h : List Call) where
-  -- The line of context n: its first and its last call, counted from 1; where its thread stands
-  -- before the first and after the last; and the globals whose values there differ.
+  -- the line of context n
   pub record IsContextLine (w : Widths) (n : ℕ) (line : List ℕ) : Type 0 where
-    pub thread : ℕ
-    pub first : ℕ
-    pub last : ℕ
-    pub context : IsContextOf n h thread first last
-    pub is :
-        let before = configuration_after t s (take first h) in
-        let after = configuration_after t s (take (suc last) h) in
-        let from = start_on_stack (stack_of before thread) in
-        let to = start_on_stack (stack_of after thread) in
-        let changes = entries_text format (owned None (changed before.globals after.globals)) in
-        line ≡ context_in format w text (numbers n thread (suc first) (suc last)) from to changes
+    pub facts : ShownContext
+    pub facts_are : AreContextFacts t text s h n facts
+    pub is : line ≡ context_text format w facts
 
   -- a line for each context of the history
   pub record AreContextLines (said : List ℕ) : Type 0 where

@@ -10,6 +10,7 @@ pub mod Heads
 pub mod JsonCalls
 pub mod JsonListings
 pub mod JsonTexts
+pub mod Laws
 pub mod Lines
 pub mod Listings
 pub mod Moments

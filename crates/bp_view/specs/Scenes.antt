@@ -1,7 +1,6 @@
 -- What is shown of each instruction.
 use Rattle.std.specs.Prelude.{◌≡◌, ℕ, Bool, false, List, [], ◌∷◌, ◌++◌, Option, None, Some, codes, drop, map, option_map, slice_get}
 use Rattle.bp_tree.specs.Ast.{Procedure, Program}
-use Rattle.bp_code.specs.Configurations.{Frame}
 use Rattle.bp_code.specs.StandsFor.{Place, places_of}
 use Rattle.bp_code.specs.Starts.{start_of_block}
 use Rattle.bp_view.specs.declared.scenes.Scene.{Scene}
@@ -52,13 +51,3 @@ AreStatements text (x ∷ xs) (words ∷ rest) =
     ((reads : Bool) × IsStatementAt text x.procedure (start_of_block x.left) words reads)
     × AreStatements text xs rest
 AreStatements text xs rest = ⊥
-
--- the place that is printed of a scene, and a sign where there is none
-abbrev pub place_of_scene : Option Scene → List ℕ
-place_of_scene None = codes "-"
-place_of_scene (Some scene) = scene.place.items
-
--- where the statement begins that a stack has next
-abbrev pub start_on_stack : List Frame → Option ℕ
-start_on_stack [] = None
-start_on_stack (f ∷ fs) = start_of_block f.left

@@ -1,5 +1,5 @@
 -- A device: the contexts of a history, as the code collects them step by step.
-use Rattle.std.specs.Prelude.{if◌then◌else◌, ◌≡◌, ◌==◌, ℕ, suc, List, [], ◌∷◌, Option, None, Some, MatchOption, length, map, option_map, take}
+use Rattle.std.specs.Prelude.{if◌then◌else◌, ◌≡◌, ◌==◌, ℕ, suc, List, [], ◌∷◌, MatchOption, length, map, take}
 use Rattle.bp_tree.specs.Ast.{Program}
 use Rattle.bp_code.specs.Bits.{bits_of}
 use Rattle.bp_code.specs.Configurations.{Configuration}
@@ -11,14 +11,9 @@ use Rattle.bp_machine.specs.ContextCounts.{last_thread, IsCountOf}
 use Rattle.bp_machine.specs.Histories.{configuration_after, granted_threads}
 use Rattle.bp_machine.specs.Setups.{SetupOf}
 use Rattle.bp_machine.specs.Tops.{IsTop}
-use Rattle.bp_text.specs.declared.positions.Position.{Position}
-use Rattle.bp_text.specs.Positions.{position_at}
-use Rattle.bp_view.specs.declared.scenes.Scene.{Scene}
 use Rattle.bp_view.specs.declared.spans.Span.{Span}
 use Rattle.bp_view.specs.declared.spans.Spot.{Spot}
-use Rattle.bp_view.specs.ContextLines.{numbers, ContextNumbers, IsContextOf}
-use Rattle.bp_view.specs.Places.{place_text}
-use Rattle.bp_view.specs.Scenes.{place_of_scene}
+use Rattle.bp_view.specs.ContextLines.{IsContextOf}
 
 -- the spot has the top of thread i's stack in a configuration, and the globals
 pub record IsSpot (t : Program) (c : Configuration) (i : ℕ) (x : Spot) : Type 0 where
@@ -66,17 +61,3 @@ module _ (t : Program) (s : SetupOf) (h : List Call) where
   pub record AreSpans (xs : List Span) : Type 0 where
     pub count : IsCountOf (count_of xs) (granted_threads h)
     pub each : AreSpansFrom 1 xs
-
--- the numbers of a span that is context n
-abbrev pub numbers_of : (n : ℕ) → Span → ContextNumbers
-numbers_of n x = numbers n x.thread x.first x.last
-
--- where the statement of a scene begins
-abbrev pub position_of_scene : Option Scene → Option Position
-position_of_scene None = None
-position_of_scene (Some scene) = scene.position
-
--- the scene has the place of the statement that begins at this offset, or none where none does
-pub record IsSceneFrom (text : List ℕ) (start : Option ℕ) (scene : Option Scene) : Type 0 where
-  pub place : place_of_scene scene ≡ place_text text start
-  pub position : position_of_scene scene ≡ option_map (position_at text) start

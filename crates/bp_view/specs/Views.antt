@@ -1,20 +1,22 @@
 -- The view of a history of a program: a line for each of its calls that is shown.
 use Rattle.std.specs.Prelude.{◌≡◌, ◌<◌, ◌≤◌, ◌&&◌, ℕ, suc, Bool, true, false, nat_lt, List, [], ◌++◌, Option, None, Some, length, map, take, slice_get}
-use Rattle.std.specs.List.{concat}
 use Rattle.bp_tree.specs.Ast.{Program}
+use Rattle.bp_code.specs.Flat.{Flat}
 use Rattle.bp_code.specs.StandsFor.{places_of, StandsFor}
 use Rattle.bp_code.specs.Starts.{starts_of}
 use Rattle.bp_machine.specs.declared.calls.Call.{Call}
 use Rattle.bp_machine.specs.declared.reports.Report.{Report}
 use Rattle.bp_machine.specs.ContextCounts.{last_thread}
 use Rattle.bp_machine.specs.Histories.{granted_threads}
+use Rattle.bp_machine.specs.Reports.{outcome_of}
 use Rattle.bp_machine.specs.Sessions.{Stands}
 use Rattle.bp_machine.specs.Setups.{SetupOf, threads}
 use Rattle.bp_trace.specs.declared.replaying.Replayed.{Replayed}
 use Rattle.bp_trace.specs.Replayed.{IsReplayed}
-use Rattle.bp_trace.specs.Replays.{IsReplayRefusal}
+use Rattle.bp_trace.specs.Replays.{IsPlayable, IsReplayRefusal}
 use Rattle.bp_view.specs.declared.faults.ViewFault.{ViewFault}
 use Rattle.bp_view.specs.declared.faults.ViewFault.TheVariants.{NoThread, NoVariable, Replay}
+use Rattle.bp_view.specs.declared.settings.Setting.{Setting}
 use Rattle.bp_view.specs.declared.settings.Widths.{Widths}
 use Rattle.bp_view.specs.declared.writers.ViewWriter.{ViewWriter}
 use Rattle.bp_view.specs.declared.options.ViewFormat.{ViewFormat}
@@ -26,11 +28,13 @@ use Rattle.bp_view.specs.Ends.{IsEnd}
 use Rattle.bp_view.specs.Heads.{view_head}
 use Rattle.bp_view.specs.JsonCalls.{call_object}
 use Rattle.bp_view.specs.Lines.{column_line}
+use Rattle.bp_view.specs.Moments.{IsSettingOf}
 use Rattle.bp_view.specs.Options.{calls_of, is_shown}
+use Rattle.bp_view.specs.Parts.{IsInParts}
 use Rattle.bp_view.specs.Places.{place_text}
 use Rattle.bp_view.specs.Scenes.{AreStatements}
 use Rattle.bp_view.specs.Watches.{watched_names, AreDeclared, IsUndeclared}
-use Rattle.bp_view.specs.Widths.{extent, AreWidths}
+use Rattle.bp_view.specs.Widths.{extent, extent_of, AreWidths}
 use Rattle.bp_view.specs.Writing.{IsStopped, IsWritten}
 
 -- a thread whose calls alone are to be shown is one of n threads
@@ -69,16 +73,14 @@ module _
   abbrev pub IsShownLine : List Call → Call → List ℕ → Type 0
   IsShownLine h x line = IsViewLineIf (has_line h x) h x line
 
-  -- The lines of a history, one after the other: line k is that of call k, after the k calls before
-  -- it.
-  pub record AreLines (h : List Call) (lines : List ℕ) : Type 0 where
-    pub each : List (List ℕ)
-    pub count_is : length each ≡ length h
-    pub is : lines ≡ concat each
-    pub shown : (k : ℕ) (x : Call) (line : List ℕ)
-        → slice_get h k ≡ Some x
-        → slice_get each k ≡ Some line
-        → IsShownLine (take k h) x line
+  -- the lines of the first n calls, one after the other: line k, from 0, is that of the call after
+  -- k others
+  abbrev pub AreLines : (n : ℕ) → (lines : List ℕ) → Type 0
+  AreLines n lines =
+      IsInParts
+      (λ k line. (x : Call) → slice_get whole k ≡ Some x → IsShownLine (take k whole) x line)
+      n
+      lines
 
 -- the head, a line for each call of the history that is shown, and the end
 pub record IsView
@@ -95,7 +97,7 @@ pub record IsView
   pub end : List ℕ
   pub is : view ≡ view_head o.format t.globals s ++ lines ++ end
   pub end_is : IsEnd o t text s h r end
-  pub lines_are : AreLines t text s o widths h h lines
+  pub lines_are : AreLines t text s o widths h (length h) lines
 
 -- the view of the history of a trace of the program, and its report
 pub record IsViewOfTrace
@@ -148,3 +150,14 @@ pub record HasMade (t : Program) (h : List Call) (w : ViewWriter) : Type 0 where
   pub stands : Stands t w.session h
   pub last : w.last ≡ last_thread (granted_threads h)
   pub made : w.made ≡ length h
+
+-- A device: of this setting a view can be made, with this report: a code stands for the program,
+-- and the history may be played.
+pub record IsViewable
+    (c : Flat) (t : Program) (text : List ℕ) (s : SetupOf) (r : Report) (x : Setting)
+    : Type 0 where
+  pub code : StandsFor c t
+  pub known : IsSettingOf t text x
+  pub widths : AreWidths s (extent_of x) x.widths
+  pub playable : IsPlayable t s x.history.now
+  pub outcome : r.outcome ≡ outcome_of x.history.now

@@ -1,120 +1,109 @@
 //! The contexts of a history, a line for each.
-ghost use Rattle.std.specs.Prelude.{◌≡◌, ◌++◌, [], ℕ, suc, List, Option, None, codes, decimal, length, option_map, MatchOption, MatchResult, IfOk, OnOk};
+ghost use Rattle.std.specs.Prelude.{◌≡◌, ◌++◌, ℕ, suc, List, None, length, map, take, MatchResult, IfOk, OnOk};
 ghost use Rattle.bp_tree.specs.Ast.{Program};
-ghost use Rattle.bp_code.specs.Configurations.{Configuration};
 ghost use Rattle.bp_code.specs.StandsFor.{StandsFor};
 ghost use Rattle.bp_machine.specs.declared.calls.Call.{Call as Answered};
-ghost use Rattle.bp_machine.specs.Answers.{stack_of};
+ghost use Rattle.bp_machine.specs.Histories.{configuration_after};
 ghost use Rattle.bp_machine.specs.Setups.{SetupOf};
-ghost use Rattle.bp_machine.specs.Tops.{IsTop};
-ghost use Rattle.bp_text.specs.Columns.{at_right};
 ghost use Rattle.bp_trace.specs.Replays.{IsReplayRefusal};
-ghost use Rattle.bp_view.specs.ContextLines.{context_in, context_line, context_object, contexts_head, ends_text, number_members, position_or_null, AreContextsOfTrace, IsContextLine};
+ghost use Rattle.bp_view.specs.ChangeFacts.{entry_of, owned};
+ghost use Rattle.bp_view.specs.Changes.{changed};
+ghost use Rattle.bp_view.specs.ContextLines.{context_in, context_line, context_object, context_text, contexts_head, position_or_null, AreContextFacts, AreContextsOfTrace, IsContextLine};
 ghost use Rattle.bp_view.specs.Moments.{IsSettingOf};
 ghost use Rattle.bp_view.specs.Parts.{Adds, IsInParts};
-ghost use Rattle.bp_view.specs.Scenes.{place_of_scene, start_on_stack, AreScenes};
-ghost use Rattle.bp_view.specs.Spans.{numbers_of, position_of_scene, AreSpans, IsSceneFrom, IsSpan};
+ghost use Rattle.bp_view.specs.Spans.{AreSpans, IsSpan};
 
+use crate::call_facts::{Next, next_of};
 use crate::change_facts::{Change, add_differing};
+use crate::json_calls::push_changed_list;
 use crate::lines::{push_changed, push_note};
 use crate::options::{ViewFormat, ViewOptions};
-use crate::scenes::{Scene, scenes_of};
+use crate::scenes::scenes_of;
 use crate::settings::{Setting, Widths, setting_of};
 use crate::spans::{Span, spans_of};
 use bp_check::Checked;
 use bp_code::Code;
-use bp_machine::{Report, Top};
-use bp_text::Piece::{Bytes, Key, List, Number};
-use bp_text::{Position, push_bytes, push_left, push_pieces, push_right};
+use bp_machine::Report;
+use bp_text::Piece::{Bytes, Key, Left, Number, NumberRight};
+use bp_text::{Position, push_piece, push_pieces};
 use bp_trace::limits::MAX_TRACE;
 use bp_trace::{ReplayFault, replay};
-use itoa::Buffer;
 use std::alloc::{AllocError, Global};
 
-/// The scene of what is at the top of a stack.
-fn scene_of<'a>(scenes: &'a [Scene], top: Option<Top>) -> Option<&'a Scene>
-    ensures { (t : Program) (text : List ℕ) (c : Configuration) (i : ℕ)
-        → AreScenes text t scenes.now
-        → MatchOption top (stack_of c i ≡ []) (IsTop t c i)
-        → let scene = option_map (λ s. s.now) result in
-        IsSceneFrom text (start_on_stack (stack_of c i)) scene }
-{
-    match top {
-        Some(top) => scenes.get(top.number as usize),
-        None => None,
-    }
+/// What is shown of a context.
+#[derive(Clone, Copy)]
+pub(crate) struct ContextFacts<'a> {
+    /// Its number, from 1.
+    pub(crate) number: u64,
+    pub(crate) thread: u32,
+    /// The number of its first call, from 1.
+    pub(crate) first: u64,
+    /// The number of its last call, from 1.
+    pub(crate) last: u64,
+    /// What its thread had next before the first of them.
+    pub(crate) from: Next<'a>,
+    /// What it had next after the last of them.
+    pub(crate) to: Next<'a>,
+    /// The globals whose values then differ.
+    pub(crate) changes: &'a [Change<'a>],
 }
 
-/// The place that is printed of a scene.
-fn place_of<'a>(scene: Option<&'a Scene>) -> &'a [u8]
-    ensures { result.now ≡ place_of_scene (option_map (λ s. s.now) scene.entry) }
-{
-    match scene {
-        Some(scene) => scene.place.as_slice(),
-        None => b"-",
-    }
-}
-
-/// Where the statement of a scene begins.
-fn position_of(scene: Option<&Scene>) -> Option<Position>
-    ensures { result ≡ position_of_scene (option_map (λ s. s.now) scene.entry) }
-{
-    match scene {
-        Some(scene) => scene.position,
-        None => None,
-    }
-}
-
-/// Adds these words, and a number at the right of a field.
-fn push_field(view: &mut Vec<u8>, words: &[u8], width: usize, number: u64) -> Result<(), AllocError>
-    ensures { let field = words.now ++ at_right width (decimal number) in
-        OnOk result (view.new.items ≡ view.old.items ++ field) }
-{
-    push_bytes(view, words)?;
-    let mut buffer = Buffer::new();
-    push_right(view, width, buffer.format(number).as_bytes())?;
-    Ok(())
-}
-
-/// Adds where the thread of a context stood before and after it, and what it changed.
-fn push_ends(
-    view: &mut Vec<u8>,
-    width: usize,
-    from: &[u8],
-    to: &[u8],
-    changes: &[u8],
-) -> Result<(), AllocError>
-    ensures { OnOk result
-        (view.new.items ≡ view.old.items ++ ends_text width from.now to.now changes.now) }
-{
-    push_bytes(view, b" from ")?;
-    push_left(view, width, from)?;
-    push_bytes(view, b" to ")?;
-    push_bytes(view, to)?;
-    push_note(view, width.saturating_sub(to.len()), changes)?;
-    push_bytes(view, b"\n")?;
-    Ok(())
-}
-
-/// Adds a context for people.
-fn push_context_line(
-    view: &mut Vec<u8>,
-    widths: Widths,
+/// The facts of a span that is the context of this number, and that changed this.
+fn context_facts<'a>(
+    setting: &Setting<'a>,
     number: u64,
     span: &Span,
-    from: &[u8],
-    to: &[u8],
-    changes: &[u8],
-) -> Result<(), AllocError>
-    ensures { let numbers = numbers_of number span.now in
-        let line = context_line widths numbers from.now to.now changes.now in
-        OnOk result (view.new.items ≡ view.old.items ++ line) }
+    changes: &'a [Change<'a>],
+) -> ContextFacts<'a>
+    ensures { (t : Program) (text : List ℕ) (s : SetupOf) (h : List Answered)
+        → IsSettingOf t text setting.now
+        → (is : IsSpan t s h number span.now)
+        → let first = configuration_after t s (take is.first h) in
+        let last = configuration_after t s (take (suc is.last) h) in
+        map entry_of changes.entry.now ≡ owned None (changed first.globals last.globals)
+        → AreContextFacts t text s h number (context_in result) }
 {
-    push_field(view, b"context ", widths.context, number)?;
-    push_field(view, b" thread ", widths.thread, u64::from(span.thread))?;
-    push_field(view, b" calls ", widths.number, span.first)?;
-    push_field(view, b" to ", widths.number, span.last)?;
-    push_ends(view, widths.place, from, to, changes)?;
+    ContextFacts {
+        number,
+        thread: span.thread,
+        first: span.first,
+        last: span.last,
+        from: next_of(setting, span.before.top),
+        to: next_of(setting, span.after.top),
+        changes,
+    }
+}
+
+/// Adds a context for people. `note` is room for what it changed.
+fn push_context_line(
+    view: &mut Vec<u8>,
+    note: &mut Vec<u8>,
+    widths: Widths,
+    facts: &ContextFacts<'_>,
+) -> Result<(), AllocError>
+    ensures { OnOk result
+        (view.new.items ≡ view.old.items ++ context_line widths (context_in facts.now)) }
+{
+    note.clear();
+    push_changed(note, ViewFormat::Columns, facts.changes)?;
+    push_pieces(
+        view,
+        &[
+            Bytes(b"context "),
+            NumberRight(widths.context, facts.number),
+            Bytes(b" thread "),
+            NumberRight(widths.thread, u64::from(facts.thread)),
+            Bytes(b" calls "),
+            NumberRight(widths.number, facts.first),
+            Bytes(b" to "),
+            NumberRight(widths.number, facts.last),
+            Bytes(b" from "),
+        ],
+    )?;
+    let (from, to) = (facts.from.place, facts.to.place);
+    push_pieces(view, &[Left(widths.place, from), Bytes(b" to "), Bytes(to)])?;
+    push_note(view, widths.place.saturating_sub(to.len()), note)?;
+    push_piece(view, Bytes(b"\n"))?;
     Ok(())
 }
 
@@ -123,7 +112,7 @@ fn push_position_or_null(view: &mut Vec<u8>, position: Option<Position>) -> Resu
     ensures { OnOk result (view.new.items ≡ view.old.items ++ position_or_null position) }
 {
     let Some(position) = position else {
-        return push_bytes(view, b"null");
+        return push_piece(view, Bytes(b"null"));
     };
     push_pieces(
         view,
@@ -137,75 +126,53 @@ fn push_position_or_null(view: &mut Vec<u8>, position: Option<Position>) -> Resu
     )
 }
 
-/// Adds the numbers of a context as members of its object.
-fn push_numbers(view: &mut Vec<u8>, number: u64, span: &Span) -> Result<(), AllocError>
-    ensures { let numbers = number_members (numbers_of number span.now) in
-        OnOk result (view.new.items ≡ view.old.items ++ numbers) }
+/// Adds a context as an object of JSON. `note` is room for what it changed.
+fn push_context_object(
+    view: &mut Vec<u8>,
+    note: &mut Vec<u8>,
+    facts: &ContextFacts<'_>,
+) -> Result<(), AllocError>
+    ensures { OnOk result
+        (view.new.items ≡ view.old.items ++ context_object (context_in facts.now)) }
 {
     push_pieces(
         view,
         &[
             Bytes(b"{\"kind\":\"context\""),
             Key(b"context"),
-            Number(number),
+            Number(facts.number),
             Key(b"thread"),
-            Number(u64::from(span.thread)),
+            Number(u64::from(facts.thread)),
             Key(b"first"),
-            Number(span.first),
+            Number(facts.first),
             Key(b"last"),
-            Number(span.last),
+            Number(facts.last),
             Key(b"from"),
         ],
-    )
-}
-
-/// Adds a context as an object of JSON.
-fn push_context_object(
-    view: &mut Vec<u8>,
-    number: u64,
-    span: &Span,
-    from: Option<Position>,
-    to: Option<Position>,
-    changes: &[u8],
-) -> Result<(), AllocError>
-    ensures { let context = context_object (numbers_of number span.now) from to changes.now in
-        OnOk result (view.new.items ≡ view.old.items ++ context) }
-{
-    push_numbers(view, number, span)?;
-    push_position_or_null(view, from)?;
-    push_pieces(view, &[Key(b"to")])?;
-    push_position_or_null(view, to)?;
-    push_pieces(view, &[Key(b"changes"), List(changes), Bytes(b"}\n")])?;
+    )?;
+    push_position_or_null(view, facts.from.position)?;
+    push_piece(view, Key(b"to"))?;
+    push_position_or_null(view, facts.to.position)?;
+    push_piece(view, Key(b"changes"))?;
+    push_changed_list(view, note, facts.changes)?;
+    push_piece(view, Bytes(b"}\n"))?;
     Ok(())
 }
 
-/// Adds a context in this format. The scenes are those before and after it.
+/// Adds a context in the format of the view. `note` is room for what it changed.
 fn push_context_in(
     view: &mut Vec<u8>,
-    format: ViewFormat,
-    widths: Widths,
-    number: u64,
-    span: &Span,
-    from: Option<&Scene>,
-    to: Option<&Scene>,
-    changes: &[u8],
+    note: &mut Vec<u8>,
+    setting: &Setting<'_>,
+    facts: &ContextFacts<'_>,
 ) -> Result<(), AllocError>
-    ensures { (text : List ℕ) (begin end : Option ℕ)
-        → IsSceneFrom text begin (option_map (λ s. s.now) from.entry)
-        → IsSceneFrom text end (option_map (λ s. s.now) to.entry)
-        → let numbers = numbers_of number span.now in
-        let context = context_in format widths text numbers begin end changes.now in
+    ensures { let format = setting.now.options.format in
+        let context = context_text format setting.now.widths (context_in facts.now) in
         OnOk result (view.new.items ≡ view.old.items ++ context) }
 {
-    match format {
-        ViewFormat::Columns => {
-            let (from, to) = (place_of(from), place_of(to));
-            push_context_line(view, widths, number, span, from, to, changes)
-        }
-        ViewFormat::Json => {
-            let (from, to) = (position_of(from), position_of(to));
-            push_context_object(view, number, span, from, to, changes)
-        }
+    match setting.options.format {
+        ViewFormat::Columns => push_context_line(view, note, setting.widths, facts),
+        ViewFormat::Json => push_context_object(view, note, facts),
     }
 }
 
@@ -225,15 +192,11 @@ fn push_context<'a>(
         let line = IsContextLine format t text s h setting.now.widths number in
         OnOk result (Adds line view.old.items view.new.items) }
 {
-    let (format, globals) = (setting.options.format, setting.globals);
-    let from = scene_of(setting.scenes, span.before.top);
-    let to = scene_of(setting.scenes, span.after.top);
-    let (before, after) = (span.before.globals, span.after.globals);
     changes.clear();
-    add_differing(changes, None, globals, 0, before, after)?;
-    note.clear();
-    push_changed(note, format, changes)?;
-    push_context_in(view, format, setting.widths, number, span, from, to, note)?;
+    let (before, after) = (span.before.globals, span.after.globals);
+    add_differing(changes, None, setting.globals, 0, before, after)?;
+    let facts = context_facts(setting, number, span, changes);
+    push_context_in(view, note, setting, &facts)?;
     Ok(())
 }
 

@@ -98,7 +98,7 @@ fn push_printed(
 }
 
 /// Adds the variables that a call changed, as a list. `note` is room for them.
-fn push_changed_list(
+pub(crate) fn push_changed_list(
     line: &mut Vec<u8>,
     note: &mut Vec<u8>,
     changes: &[Change<'_>],

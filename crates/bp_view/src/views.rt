@@ -1,11 +1,13 @@
 //! The view of a trace.
-ghost use Rattle.std.specs.Prelude.{◌≡◌, map, MatchResult};
+ghost use Rattle.std.specs.Prelude.{◌≡◌, [], ℕ, List, map, MatchResult};
+ghost use Rattle.bp_tree.specs.Ast.{Program};
 ghost use Rattle.bp_code.specs.StandsFor.{StandsFor};
 ghost use Rattle.bp_machine.specs.Reports.{IsReport};
 ghost use Rattle.bp_machine.specs.Setups.{threads, FitsCode};
 ghost use Rattle.bp_trace.specs.Replays.{IsPlayable};
 ghost use Rattle.bp_view.specs.Scenes.{AreScenes};
-ghost use Rattle.bp_view.specs.Views.{IsThere, IsMissing, IsView, IsViewRefusal, IsViewed};
+ghost use Rattle.bp_view.specs.Heads.{view_head};
+ghost use Rattle.bp_view.specs.Views.{IsThere, HasMade, IsMissing, IsView, IsViewRefusal, IsViewable, IsViewed};
 ghost use Rattle.bp_view.specs.Watches.{watched_names};
 ghost use Rattle.bp_view.specs.Writing.{IsStopped, IsWritten};
 
@@ -28,8 +30,7 @@ use std::io::Write;
 
 /// The fault of a view whose session was refused a call for memory.
 fn memory_of(fault: AskFault) -> ViewFault
-    requires { fault ≡ AskFault.Memory }
-    ensures { result ≡ ViewFault.Memory }
+    ensures { fault ≡ AskFault.Memory → result ≡ ViewFault.Memory }
 {
     let _ = fault;
     ViewFault::Memory
@@ -47,11 +48,42 @@ fn check_thread(options: ViewOptions<'_>, setup: &Setup) -> Result<(), ViewFault
     }
 }
 
-/// Writes the view of a trace that was replayed: the head, the line of each call that is shown, and
-/// the end. A session plays the history once more, and each line is written before the next call.
+/// Writes the head of a view, the line of each call, and the end. Each line is written before the
+/// next call is made.
+fn write_parts<W: Write>(
+    alloc: Global,
+    writer: &mut ViewWriter<'_>,
+    head: &[u8],
+    report: Report,
+    out: &mut W,
+) -> Result<(), ViewFault>
+    ensures { (t : Program) (text : List ℕ)
+        → let s = writer.old.session.setup in
+        let x = writer.old.setting in
+        IsViewable writer.old.session.code t text s report x
+        → HasMade t [] writer.old
+        → head.now ≡ view_head x.options.format x.globals.now s
+        → let is_view = IsView t text s x.history.now report x.options in
+        MatchResult result
+        (λ _. IsWritten is_view (W.contents out.old) (W.contents out.new))
+        (IsStopped is_view (W.contents out.old) (W.contents out.new)) }
+{
+    let history = writer.setting.history;
+    put(out, head)?;
+    for recorded in history {
+        if let Err(fault) = writer.make_line(recorded) {
+            return Err(memory_of(fault));
+        }
+        put(out, &writer.line)?;
+    }
+    let end = end_of(alloc, &writer.setting, &writer.session, report)?;
+    put(out, &end)?;
+    Ok(())
+}
+
+/// Writes the view of a trace that was replayed. A session plays the history once more.
 fn write_view<W: Write>(
     alloc: Global,
-    text: &[u8],
     checked: &Checked,
     code: &Code,
     scenes: &[Scene],
@@ -62,17 +94,17 @@ fn write_view<W: Write>(
 ) -> Result<(), ViewFault>
     requires code { StandsFor code.now checked.now }
     requires fits { FitsCode code.now replayed.now.setup }
-    requires scenes { AreScenes text.now checked.now scenes.now }
-    requires playable { IsPlayable checked.now replayed.now.setup replayed.now.history.items }
-    requires report { IsReport replayed.now.setup replayed.now.history.items replayed.now.report }
-    requires names { map (λ n. n.now) names.now ≡ watched_names options.watch }
-    ensures { let r = replayed.now in
-        let is_view = IsView checked.now text.now r.setup r.history.items r.report options.entry in
+    ensures { (text : List ℕ)
+        → let r = replayed.now in
+        AreScenes text checked.now scenes.now
+        → IsPlayable checked.now r.setup r.history.items
+        → IsReport r.setup r.history.items r.report
+        → map (λ n. n.now) names.now ≡ watched_names options.entry.watch
+        → let is_view = IsView checked.now text r.setup r.history.items r.report options.entry in
         MatchResult result
         (λ _. IsWritten is_view (W.contents out.old) (W.contents out.new))
         (IsStopped is_view (W.contents out.old) (W.contents out.new)) }
 {
-    let _ = text;
     let history = replayed.history.as_slice();
     let setting = setting_of(scenes, checked, &replayed.setup, history, options, names);
     let format = setting.options.format;
@@ -87,16 +119,7 @@ fn write_view<W: Write>(
         last: None,
         made: 0,
     };
-    put(out, &head)?;
-    for recorded in history {
-        if let Err(fault) = writer.make_line(recorded) {
-            return Err(memory_of(fault));
-        }
-        put(out, &writer.line)?;
-    }
-    let end = end_of(alloc, &writer.setting, &writer.session, replayed.report)?;
-    put(out, &end)?;
-    Ok(())
+    write_parts(alloc, &mut writer, &head, replayed.report, out)
 }
 
 /// Writes a view of the history of a trace of a program, and answers its report. The view has the
@@ -136,7 +159,7 @@ pub fn view<W: Write>(
     check_thread(options, &replayed.setup)?;
     check_names(checked, &names)?;
     write_view(
-        alloc, text, checked, code, &scenes, &replayed, options, &names, out,
+        alloc, checked, code, &scenes, &replayed, options, &names, out,
     )?;
     Ok(replayed.report)
 }

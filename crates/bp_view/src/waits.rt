@@ -1,6 +1,6 @@
 //! Equal waits in succession.
 ghost use Rattle.std.specs.Prelude.{◌≡◌, min, reverse};
-ghost use Rattle.bp_view.specs.Waits.{calls_in_line, is_same_wait, waits_like, StandForEachOnce};
+ghost use Rattle.bp_view.specs.Waits.{calls_in_line, is_same_wait, waits_like};
 
 use bp_machine::{Call, Reply};
 
@@ -71,8 +71,3 @@ pub(crate) fn calls_in_line(folds: bool, call: &Call, before: &[Call], after: &[
     }
     waits_before(call, before, before.len()) + 1
 }
-
-/// States that the lines of calls, folded or not, stand for these calls, each once.
-pub fn lines_stand_for_each_call_once()
-    ensures { StandForEachOnce }
-{}

@@ -1,4 +1,4 @@
-use Rattle.std.proofs.Common.{[], ◌∷◌, map}
+use Rattle.std.proofs.Common.{[], ◌∷◌}
 use Rattle.bp_text.proofs.PiecesInTurn.{all_added}
 use Rattle.bp_view.specs.CallFacts.{choice_of, facts_in}
 use Rattle.bp_view.specs.ChangeFacts.{entries_text}

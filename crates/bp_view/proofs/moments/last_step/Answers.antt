@@ -1,7 +1,7 @@
 use Rattle.std.proofs.Common.{◌∙◌, Some, cond, ap, sym}
 use Rattle.bp_machine.specs.ContextCounts.{last_thread}
 use Rattle.bp_machine.specs.Histories.{granted_threads}
-use Rattle.bp_view.proofs.LinesOfCalls.{last_after}
+use Rattle.bp_view.proofs.LastSteps.{last_after}
 use Rattle.bp_view.proofs.moments.last_step.Goals as goal
 
 pub returns-then-is_step : goal.returns-then-is_step

@@ -8,6 +8,7 @@ use Rattle.bp_view.specs.declared.faults.ViewFault.{ViewFault}
 use Rattle.bp_view.specs.declared.faults.ViewFault.TheVariants.{Memory, NoThread, NoVariable, Replay, Write}
 use Rattle.bp_view.specs.declared.options.ViewOptions.{ViewOptions}
 use Rattle.bp_view.specs.Views.{IsThere, IsMissing, IsView, IsViewed, IsViewOfTrace, IsViewRefusal}
+use Rattle.bp_view.specs.Scenes.{AreScenes}
 use Rattle.bp_view.specs.Watches.{watched_names, AreDeclared, IsNameFault}
 use Rattle.bp_view.specs.Writing.{IsStopped, IsWritten}
 use Rattle.bp_view.proofs.views.view.Goals as goal
@@ -55,16 +56,25 @@ returns-in_err-check_names g c =
 pub returns-in_err-write_view : goal.returns-in_err-write_view
 returns-in_err-write_view g c =
     let t = c.args.checked.now in
+    let text = c.args.text.now in
     let o = c.args.options in
     let p = err_from_is_err_and c.from_residual-in_err-write_view.result c.from_residual-in_err-write_view.ensures.1 in
     let is = c.in_ok-replayed.ensures t c.requires in
     let names = ap (map (λ n. n.now)) c.deref.ensures.value ∙ c.in-Ok-watched_names.ensures in
     let declared = subst (AreDeclared t) names c.in_ok-check_names.ensures in
-    rw (p.1, p.2) (stopped t c.args.text.now c.args.trace.now o c.in_ok-replayed.replayed is c.in_ok-check_thread.ensures declared _ _ c.in_err-write_view.field-0.0 c.in_err-write_view.ensures)
+    let scenes = subst (AreScenes text t) (sym c.deref-2.ensures.value) c.in-Ok.ensures in
+    let watched = ap (map (λ n. n.now)) c.deref-3.ensures.value ∙ c.in-Ok-watched_names.ensures in
+    let why = c.in_err-write_view.ensures text scenes is.trace.playable is.report watched in
+    rw (p.1, p.2) (stopped t text c.args.trace.now o c.in_ok-replayed.replayed is c.in_ok-check_thread.ensures declared _ _ c.in_err-write_view.field-0.0 why)
 
 pub returns : goal.returns
 returns g c =
     let t = c.args.checked.now in
+    let text = c.args.text.now in
+    let is = c.in_ok-replayed.ensures t c.requires in
     let names = ap (map (λ n. n.now)) c.deref.ensures.value ∙ c.in-Ok-watched_names.ensures in
     let declared = subst (AreDeclared t) names c.in_ok-check_names.ensures in
-    viewed t c.args.text.now c.args.trace.now c.args.options c.in_ok-replayed.replayed (c.in_ok-replayed.ensures t c.requires) c.in_ok-check_thread.ensures declared _ _ c.in_ok-write_view.ensures
+    let scenes = subst (AreScenes text t) (sym c.deref-2.ensures.value) c.in-Ok.ensures in
+    let watched = ap (map (λ n. n.now)) c.deref-3.ensures.value ∙ c.in-Ok-watched_names.ensures in
+    let done = c.in_ok-write_view.ensures text scenes is.trace.playable is.report watched in
+    viewed t text c.args.trace.now c.args.options c.in_ok-replayed.replayed is c.in_ok-check_thread.ensures declared _ _ done

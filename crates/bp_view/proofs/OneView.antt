@@ -1,0 +1,65 @@
+-- A history has one view.
+use Rattle.std.proofs.Common.{◌≡◌, ◌∙◌, ◌<◌, ◌++◌, ℕ, Bool, true, false, List, Some, length, map, slice_get, take, ap, ap₂, subst, sym, refl}
+use Rattle.bp_tree.specs.Ast.{Program}
+use Rattle.bp_code.specs.StandsFor.{places_of}
+use Rattle.bp_code.specs.Starts.{starts_of}
+use Rattle.bp_machine.specs.declared.calls.Call.{Call}
+use Rattle.bp_machine.specs.declared.reports.Report.{Report}
+use Rattle.bp_machine.specs.Setups.{SetupOf}
+use Rattle.bp_view.specs.declared.options.ViewOptions.{ViewOptions}
+use Rattle.bp_view.specs.declared.settings.Widths.{Widths}
+use Rattle.bp_view.specs.Ends.{after_foot, IsEnd, IsStateIf}
+use Rattle.bp_view.specs.Heads.{view_head}
+use Rattle.bp_view.specs.Places.{place_text}
+use Rattle.bp_view.specs.Views.{has_line, line_in, AreLines, IsShownLine, IsView, IsViewLineIf}
+use Rattle.bp_view.specs.Widths.{extent, AreWidths, Extent}
+use Rattle.bp_view.proofs.OneCall.{one_call}
+use Rattle.bp_view.proofs.OneFoot.{one_foot}
+use Rattle.bp_view.proofs.OneState.{one_state}
+use Rattle.bp_view.proofs.OneStatement.{one_list_of_statements}
+use Rattle.bp_view.proofs.PartsOfTexts.{item_at, one_of_parts}
+
+pub one_widths : (s : SetupOf) (e : Extent) (a b : Widths) → AreWidths s e a → AreWidths s e b → a ≡ b
+one_widths s e a b x y = λ i. record {
+  number = (x.number ∙ sym y.number) i;
+  thread = (x.thread ∙ sym y.thread) i;
+  context = (x.context ∙ sym y.context) i;
+  place = (x.place ∙ sym y.place) i;
+  words = (x.words ∙ sym y.words) i;
+}
+
+module _ (t : Program) (text : List ℕ) (s : SetupOf) (o : ViewOptions) (w : Widths) (whole : List Call) where
+  line_if : (b : Bool) (h : List Call) (x : Call) (p q : List ℕ) → IsViewLineIf t text s o w whole b h x p → IsViewLineIf t text s o w whole b h x q → p ≡ q
+  line_if false h x p q a b = a ∙ sym b
+  line_if true h x p q a b =
+      a.is ∙ ap (line_in o.format o.has_colour w) (one_call t text s o whole h x a.facts b.facts a.facts_are b.facts_are) ∙ sym b.is
+
+  one_lines : (n : ℕ) → n ≡ length whole → (p q : List ℕ) → AreLines t text s o w whole n p → AreLines t text s o w whole n q → p ≡ q
+  one_lines n count = one_of_parts _ n each
+    where
+      each : (k : ℕ) (p q : List ℕ) → k < n → ((x : Call) → slice_get whole k ≡ Some x → IsShownLine t text s o w whole (take k whole) x p)
+          → ((x : Call) → slice_get whole k ≡ Some x → IsShownLine t text s o w whole (take k whole) x q) → p ≡ q
+      each k p q few a b =
+          let (x, at) = item_at whole k (subst (λ m. k < m) count few) in
+          line_if (has_line t text s o w whole (take k whole) x) (take k whole) x p q (a x at) (b x at)
+
+module _ (t : Program) (text : List ℕ) (s : SetupOf) (h : List Call) (r : Report) (o : ViewOptions) where
+  state_if : (asked : Bool) (v w : List ℕ) → IsStateIf o.format t text s h asked v → IsStateIf o.format t text s h asked w → v ≡ w
+  state_if false v w x y = x ∙ sym y
+  state_if true v w (a, v_is, a_is) (b, w_is, b_is) = v_is ∙ ap (after_foot o.format) (one_state o.format t text s h (length h) a b a_is b_is) ∙ sym w_is
+
+  one_end : (v w : List ℕ) → IsEnd o t text s h r v → IsEnd o t text s h r w → v ≡ w
+  one_end v w x y =
+      x.is ∙ ap₂ (λ a b. a ++ b) (one_foot o.format t text s h r x.foot y.foot x.foot_is y.foot_is) (state_if o.has_state x.state y.state x.state_is y.state_is) ∙ sym y.is
+
+pub one_view : (t : Program) (text : List ℕ) (s : SetupOf) (h : List Call) (r : Report) (o : ViewOptions) (v w : List ℕ)
+    → IsView t text s h r o v → IsView t text s h r o w → v ≡ w
+one_view t text s h r o v w x y =
+    let statements = one_list_of_statements text (places_of t.procedures) x.statements y.statements x.statements_are y.statements_are in
+    let places = map (place_text text) (starts_of t) in
+    let extent_of_y = λ (words : List (List ℕ)). extent (length h) places words (length t.procedures) in
+    let widths_are = subst (λ words. AreWidths s (extent_of_y words) x.widths) statements x.widths_are in
+    let widths = one_widths s (extent_of_y y.statements) x.widths y.widths widths_are y.widths_are in
+    let lines_are = subst (λ z. AreLines t text s o z h (length h) x.lines) widths x.lines_are in
+    let lines = one_lines t text s o y.widths h (length h) refl x.lines y.lines lines_are y.lines_are in
+    x.is ∙ ap₂ (λ a b. view_head o.format t.globals s ++ a ++ b) lines (one_end t text s h r o x.end y.end x.end_is y.end_is) ∙ sym y.is
