@@ -19,7 +19,8 @@ module _ (t : Program) (text : List ℕ) (s : SetupOf) (h : List Call) (setting 
 
   pub all_contexts : IsSettingOf t text setting → AreWidths s (extent_of setting) setting.widths → length setting.history.now ≡ length h
       → (spans : List Span) → AreSpans t s h spans → (said : List ℕ)
-      → Adds (Lines (length spans)) (contexts_head setting.options.format (length setting.history.now) (length spans)) said → AreContextLines setting.options.format t text s h said
+      → Adds (Lines (length spans)) (contexts_head setting.options.format (length setting.history.now) (length spans)) said
+      → AreContextLines setting.options.format t text s h said
   all_contexts known widths count spans are said lines = record {
     count = length spans;
     count_is = are.count.used;

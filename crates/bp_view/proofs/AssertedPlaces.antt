@@ -24,7 +24,8 @@ mutual
       asserted_both (places_in p s label at (chain t r)) (places p t r)
       ∙ ap₂ (λ xs ys. xs ++ ys) (in_statement p s label at (chain t r)) (in_block p t r)
 
-  in_statement : (p : Procedure) (s : Statement) (label : Option Name) (at : ℕ) (r : Block) → asserted (places_in p s label at r) ≡ asserted_by s ∷ inner_asserted s
+  in_statement : (p : Procedure) (s : Statement) (label : Option Name) (at : ℕ) (r : Block)
+      → asserted (places_in p s label at r) ≡ asserted_by s ∷ inner_asserted s
   in_statement p (Branches d a b) label at r =
       ap (λ xs. None ∷ xs) (asserted_both (places p a r) (places p b r) ∙ ap₂ (λ xs ys. xs ++ ys) (in_block p a r) (in_block p b r))
   in_statement p (Loops d a) label at r = ap (λ xs. None ∷ xs) (in_block p a (Then label at (Loops d a) r))
@@ -42,16 +43,19 @@ first_procedure p ps =
     asserted_both (places p p.body Done) _ ∙ ap (λ xs. xs ++ None ∷ asserted (places_of ps)) (in_block p p.body Done)
 
 -- one more decider was noted
-pub noted_one : (xs ys : List (Option (Bor Decider))) (d : Option (Bor Decider)) (r : Option Decision) → ys ≡ xs ++ d ∷ [] → reading_of d ≡ r → map reading_of ys ≡ map reading_of xs ++ r ∷ []
+pub noted_one : (xs ys : List (Option (Bor Decider))) (d : Option (Bor Decider)) (r : Option Decision) → ys ≡ xs ++ d ∷ [] → reading_of d ≡ r
+    → map reading_of ys ≡ map reading_of xs ++ r ∷ []
 noted_one xs ys d r is same = ap (map reading_of) is ∙ map-append reading_of xs (d ∷ []) ∙ ap (λ x. map reading_of xs ++ x ∷ []) same
 
-three_parts : {X : Type 0} (old mid new one more rest all : List X) → mid ≡ old ++ one → new ≡ mid ++ more → old ++ (one ++ (more ++ rest)) ≡ all → new ++ rest ≡ all
+three_parts : {X : Type 0} (old mid new one more rest all : List X) → mid ≡ old ++ one → new ≡ mid ++ more → old ++ (one ++ (more ++ rest)) ≡ all
+    → new ++ rest ≡ all
 three_parts old mid new one more rest all first second before =
     rw (second, first) (append_assoc (old ++ one) more rest ∙ append_assoc old one (more ++ rest) ∙ before)
 
 module _ (items : List Stmt) (i : ℕ) (s : Stmt) (h : i < length items) (e : s ≡ get_or items i s) where
   -- one more statement, and those inside it
-  pub statement_more : (old mid new all : List (Option Decision)) → mid ≡ old ++ asserted_by (statement_of s.form) ∷ [] → new ≡ mid ++ inner_asserted (statement_of s.form)
+  pub statement_more : (old mid new all : List (Option Decision)) → mid ≡ old ++ asserted_by (statement_of s.form) ∷ []
+      → new ≡ mid ++ inner_asserted (statement_of s.form)
       → old ++ block_asserted (block_of (drop i items)) ≡ all → new ++ block_asserted (block_of (drop (i + 1) items)) ≡ all
   statement_more old mid new all first second before =
       let split = rw (drop_item items i s h e) at before in
@@ -71,7 +75,8 @@ module _ (items : List Stmt) (i : ℕ) (s : Stmt) (h : i < length items) (e : s 
 
 -- one more procedure, and its end
 pub procedure_more : (ps : List Procedure) (i : ℕ) (p : Procedure) → i < length ps → p ≡ get_or ps i p → (old mid new all : List (Option Decision))
-    → mid ≡ old ++ block_asserted p.body → new ≡ mid ++ None ∷ [] → old ++ asserted (places_of (drop i ps)) ≡ all → new ++ asserted (places_of (drop (i + 1) ps)) ≡ all
+    → mid ≡ old ++ block_asserted p.body → new ≡ mid ++ None ∷ [] → old ++ asserted (places_of (drop i ps)) ≡ all
+    → new ++ asserted (places_of (drop (i + 1) ps)) ≡ all
 procedure_more ps i p h e old mid new all first second before =
     let split = rw (drop_item ps i p h e, first_procedure p (drop (i + 1) ps)) at before in
     three_parts old mid new (block_asserted p.body) (None ∷ []) (asserted (places_of (drop (i + 1) ps))) all first second split

@@ -47,7 +47,8 @@ module _ (t : Program) (text : List ℕ) (s : SetupOf) (x : Setting) where
     pub few : i ≤ length h
     pub parts : HasParts IsLine head i a b
 
-  pub head_written : (w : ViewWriter) (a b : Option (List ℕ)) (given : List ℕ) → HasMade t [] w → w.session.setup ≡ s → w.setting ≡ x → given ≡ head → AppendsAll a b given → HasWritten 0 w a b
+  pub head_written : (w : ViewWriter) (a b : Option (List ℕ)) (given : List ℕ) → HasMade t [] w → w.session.setup ≡ s → w.setting ≡ x → given ≡ head
+      → AppendsAll a b given → HasWritten 0 w a b
   head_written w a b given made setup setting same all = record {
     made = made;
     setup = setup;

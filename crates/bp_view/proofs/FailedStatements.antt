@@ -17,7 +17,8 @@ abbrev failed_in : Configuration → Configuration
 failed_in c = record c { failed = true }
 
 module _ (t : Program) where
-  calls_append : (c : Configuration) (xs ys : List Call) → configuration_after_calls t c (xs ++ ys) ≡ configuration_after_calls t (configuration_after_calls t c xs) ys
+  pub calls_append : (c : Configuration) (xs ys : List Call)
+      → configuration_after_calls t c (xs ++ ys) ≡ configuration_after_calls t (configuration_after_calls t c xs) ys
   calls_append c [] ys = refl
   calls_append c (x ∷ xs) ys = calls_append (configuration_after_call t c x.thread x.bit x.reply) xs ys
 
@@ -40,7 +41,8 @@ module _ (t : Program) where
       ∙ ap (λ left. unwrap_or (after_effect c i (effect t.procedures left c.globals f at.below bit)) c) at.asserts
       ∙ ap (λ b. unwrap_or (after_effect c i (cond b leaves Fails)) c) at.false
 
-  stays : (s : SetupOf) (h : List Call) (i : ℕ) (failure : IsRealFailure t s h i) → configuration_after t s h ≡ failed_in (configuration_after t s failure.before)
+  stays : (s : SetupOf) (h : List Call) (i : ℕ) (failure : IsRealFailure t s h i)
+      → configuration_after t s h ≡ failed_in (configuration_after t s failure.before)
   stays s h i failure =
       let c = configuration_after t s failure.before in
       let x = failure.call in

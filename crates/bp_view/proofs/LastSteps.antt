@@ -12,7 +12,8 @@ last-append (t ∷ []) i = refl
 last-append (t ∷ u ∷ ts) i = last-append (u ∷ ts) i
 
 -- which thread made the last step
-pub last_after : (h : List Call) (x : Call) → last_thread (granted_threads (h ++ x ∷ [])) ≡ cond (is_granted x.reply) (Some x.thread) (last_thread (granted_threads h))
+pub last_after : (h : List Call) (x : Call)
+    → last_thread (granted_threads (h ++ x ∷ [])) ≡ cond (is_granted x.reply) (Some x.thread) (last_thread (granted_threads h))
 last_after h x = ap last_thread (granted_threads-append h x) ∙ by_reply (is_granted x.reply)
   where
     by_reply : (b : Bool) → last_thread (granted_threads h ++ cond b (x.thread ∷ []) []) ≡ cond b (Some x.thread) (last_thread (granted_threads h))

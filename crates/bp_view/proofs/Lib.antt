@@ -6,6 +6,7 @@ mod CallsOfLines
 pub mod ChangedEntries
 pub mod ChangedVariables
 pub mod ChangesOfFrames
+pub mod ChangesReplay
 pub mod CodeObjects
 pub mod EqualWaits
 pub mod FailedStatements

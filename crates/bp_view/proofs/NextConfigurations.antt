@@ -64,7 +64,7 @@ same_next c i = record { call = same_call (stack_of c i); idle = λ e. refl; end
 
 module _ (t : Program) (c : Configuration) (i : ℕ) (bit : Bool) where
   -- a thread with a frame is there
-  there : (f : Frame) (fs : List Frame) → stack_of c i ≡ f ∷ fs → i < length c.stacks
+  pub there : (f : Frame) (fs : List Frame) → stack_of c i ≡ f ∷ fs → i < length c.stacks
   there f fs e = by_place (cases_lt i (length c.stacks))
     where
       by_place : (i < length c.stacks) ⊎ (length c.stacks ≤ i) → i < length c.stacks

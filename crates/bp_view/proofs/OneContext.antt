@@ -28,7 +28,8 @@ record OneContext (i j first last other next : ℕ) : Type 0 where
   first_is : first ≡ other
   last_is : last ≡ next
 
-same_context : (n : ℕ) (h : List Call) (i j first last other next : ℕ) → IsContextOf n h i first last → IsContextOf n h j other next → OneContext i j first last other next
+same_context : (n : ℕ) (h : List Call) (i j first last other next : ℕ) → IsContextOf n h i first last → IsContextOf n h j other next
+    → OneContext i j first last other next
 same_context n h i j first last other next a b =
     let (x, begins) = a.begins in
     let (y, ends) = a.ends in

@@ -76,7 +76,8 @@ module _ (text : List ℕ) where
       let same = one_cut 0 text (lexeme_of k 0 b ∷ left.0) (lexeme_of j 0 c ∷ other.0) (x.cut 0 left.0 left.1) (y.cut 0 other.0 other.1) in
       cc
 
-  by_size : (k j : Option LexemeKind) (b c r q : List ℕ) (x : TakesLexeme text k b r) (y : TakesLexeme text j c q) → k ≡ j → x.size ≡ y.size → OneLexeme k j b c r q
+  by_size : (k j : Option LexemeKind) (b c r q : List ℕ) (x : TakesLexeme text k b r) (y : TakesLexeme text j c q) → k ≡ j → x.size ≡ y.size
+      → OneLexeme k j b c r q
   by_size k j b c r q x y kind size = record {
     kind = kind;
     bytes = x.front ∙ ap (λ n. take n text) size ∙ sym y.front;
@@ -109,7 +110,8 @@ pub record NextLexemes (rest : List ℕ) (kind : Option LexemeKind) (bytes : Lis
   pub is : ls ≡ record { kind = kind; bytes = bytes } ∷ left
   pub has : HasLexemes rest left
 
-pub next_lexemes : (text rest bytes : List ℕ) (kind : Option LexemeKind) (ls : List Lexeme) → HasLexemes text ls → Takes text kind bytes rest → NextLexemes rest kind bytes ls
+pub next_lexemes : (text rest bytes : List ℕ) (kind : Option LexemeKind) (ls : List Lexeme) → HasLexemes text ls → Takes text kind bytes rest
+    → NextLexemes rest kind bytes ls
 next_lexemes text rest bytes kind _ (ends at) takes = absurd (not_at_end text rest bytes kind at takes)
 next_lexemes text rest bytes kind _ (more {rest = q} {l = l} {ls = ls} other has) takes =
     let same = one_lexeme text l.kind kind l.bytes bytes q rest other.takes takes.takes in
@@ -137,7 +139,8 @@ one_statement text a b p q x y =
       x.reads_is ∙ ap (λ ls. list_any (λ l. is_choice l.bytes) ls) same ∙ sym y.reads_is,
     )
 
-pub one_statement_at : (text : List ℕ) (r : Procedure) (start : Option ℕ) (a b : List ℕ) (p q : Bool) → IsStatementAt text r start a p → IsStatementAt text r start b q
+pub one_statement_at : (text : List ℕ) (r : Procedure) (start : Option ℕ) (a b : List ℕ) (p q : Bool) → IsStatementAt text r start a p
+    → IsStatementAt text r start b q
     → (a ≡ b) × (p ≡ q)
 one_statement_at text r None a b p q x y = (x.words_are ∙ sym y.words_are, x.reads_none ∙ sym y.reads_none)
 one_statement_at text r (Some at) a b p q x y = one_statement (drop at text) a b p q x y

@@ -93,7 +93,8 @@ module _ (IsPart : ℕ → List ℕ → Type 0) where
   some_parts all each = parts_go_on all each all 0 (omega arith) [] no_parts
 
   -- where each part has one text, so have n parts
-  pub one_of_parts : (n : ℕ) → ((k : ℕ) (p q : List ℕ) → k < n → IsPart k p → IsPart k q → p ≡ q) → (a b : List ℕ) → IsInParts IsPart n a → IsInParts IsPart n b → a ≡ b
+  pub one_of_parts : (n : ℕ) → ((k : ℕ) (p q : List ℕ) → k < n → IsPart k p → IsPart k q → p ≡ q) → (a b : List ℕ) → IsInParts IsPart n a
+      → IsInParts IsPart n b → a ≡ b
   one_of_parts n one a b x y = x.is ∙ ap concat (ext_get_or [] x.parts y.parts (x.count ∙ sym y.count) same) ∙ sym y.is
     where
       same : (k : ℕ) → k < length x.parts → get_or x.parts k [] ≡ get_or y.parts k []

@@ -14,7 +14,8 @@ use Rattle.bp_view.specs.Scenes.{AreScenes, IsScene}
 use Rattle.bp_view.proofs.SceneLists.{SceneAt, scene_at}
 
 -- what is got is the n-th
-pub got_item : {X : Type 0} (o : Option (Bor X)) (xs : List X) (n : ℕ) → is_some o ≡ nat_lt n (length xs) → IfSome o (λ x. x.now ≡ get_or xs n x.now) → option_map (λ x. x.now) o ≡ slice_get xs n
+pub got_item : {X : Type 0} (o : Option (Bor X)) (xs : List X) (n : ℕ) → is_some o ≡ nat_lt n (length xs) → IfSome o (λ x. x.now ≡ get_or xs n x.now)
+    → option_map (λ x. x.now) o ≡ slice_get xs n
 got_item None xs n e h = let past : length xs ≤ n = grind arith in sym (slice_get_past xs n past)
 got_item (Some x) xs n e h = let within : n < length xs = grind arith in ap Some h ∙ sym (slice_get-get_or xs n x.now within)
 
@@ -36,7 +37,8 @@ module _ (t : Program) (text : List ℕ) (c : Configuration) (i : ℕ) (scenes :
   scene_of_top x is = scene_at text t.procedures (places_of t.procedures) scenes x.number (place is.frame.procedure is.frame.left) are is.next
 
   -- what its scene shows is what comes next
-  pub next_of_top : (x : Top) → (is : IsTop t c i x) → (scene : Scene) → slice_get scenes x.number ≡ Some scene → IsNextOf text (stack_of c i) (next_at t.procedures scene x)
+  pub next_of_top : (x : Top) → (is : IsTop t c i x) → (scene : Scene) → slice_get scenes x.number ≡ Some scene
+      → IsNextOf text (stack_of c i) (next_at t.procedures scene x)
   next_of_top x is scene here =
       let found = scene_of_top x is in
       let same : found.scene ≡ scene = let at = found.at in cc in

@@ -38,7 +38,8 @@ module _ (t : Program) (text : List ℕ) (s : SetupOf) (setting : Setting) (h : 
       more_are = subst (λ b. IsViewLineIf t text s o w whole b h x []) (sym none) refl;
     }
 
-    pub shown : has ≡ true → (f : ShownCall) → AreCallFacts t text s o whole h x f → (new : List ℕ) → new ≡ old ++ line_in o.format o.has_colour w f → Adds (IsShownLine t text s o w whole h x) old new
+    pub shown : has ≡ true → (f : ShownCall) → AreCallFacts t text s o whole h x f → (new : List ℕ) → new ≡ old ++ line_in o.format o.has_colour w f
+        → Adds (IsShownLine t text s o w whole h x) old new
     shown some f are new is = record {
       more = line_in o.format o.has_colour w f;
       is = is;

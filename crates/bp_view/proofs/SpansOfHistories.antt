@@ -46,7 +46,8 @@ module _ (step : Span) where
   length_with (x ∷ y ∷ xs) = let rest = length_with (y ∷ xs) in omega (arith, rest)
 
   -- one more step after the last of some spans
-  pub with_step_after : (xs : List Span) (y : Span) → with_step (xs ++ y ∷ []) step ≡ xs ++ (if y.thread == step.thread then joined y step ∷ [] else y ∷ step ∷ [])
+  pub with_step_after : (xs : List Span) (y : Span)
+      → with_step (xs ++ y ∷ []) step ≡ xs ++ (if y.thread == step.thread then joined y step ∷ [] else y ∷ step ∷ [])
   with_step_after [] y = refl
   with_step_after (x ∷ []) y = refl
   with_step_after (x ∷ z ∷ xs) y = ap (λ ys. x ∷ ys) (with_step_after (z ∷ xs) y)

@@ -40,7 +40,8 @@ module _ (t : Program) (text : List ℕ) (r : Replayed) (x : Setting) (options :
     same_view : IsView t text s x.history.now r.report x.options ≡ IsView t text r.setup r.history.items r.report options
     same_view = λ i. IsView t text (setup i) (history i) r.report (same i)
 
-    pub begun_of_trace : (a b : Option (List ℕ)) → IsBegun (IsView t text s x.history.now r.report x.options) a b → IsBegun (IsView t text r.setup r.history.items r.report options) a b
+    pub begun_of_trace : (a b : Option (List ℕ)) → IsBegun (IsView t text s x.history.now r.report x.options) a b
+        → IsBegun (IsView t text r.setup r.history.items r.report options) a b
     begun_of_trace a b is = subst (λ view. IsBegun view a b) same_view is
 
     pub written_of_trace

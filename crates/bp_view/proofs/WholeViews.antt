@@ -91,7 +91,8 @@ module _ (c : Flat) (t : Program) (code : StandsFor c t) (text : List ℕ) (scen
         by_shown false = ([], refl)
 
     -- each call of the history has a line
-    pub each_line : (k : ℕ) → k < length whole → (line : List ℕ) × ((x : Call) → slice_get whole k ≡ Some x → IsShownLine t text s o w whole (take k whole) x line)
+    pub each_line : (k : ℕ) → k < length whole
+        → (line : List ℕ) × ((x : Call) → slice_get whole k ≡ Some x → IsShownLine t text s o w whole (take k whole) x line)
     each_line = part_of_each (λ k x line. IsShownLine t text s o w whole (take k whole) x line) whole (λ k x at. shown_line (take k whole) x)
 
   module _ (format : ViewFormat) where
@@ -111,7 +112,8 @@ module _ (c : Flat) (t : Program) (code : StandsFor c t) (text : List ℕ) (scen
           record { failure = failure; words = words; reads = found.scene.excerpt.reads_choice; words_are = own; is = refl },
         )
 
-    some_outcome : (h : List Call) → IsLegal t s h → (outcome : Outcome) → outcome ≡ outcome_of h → (said : List ℕ) × IsOutcomeText format t text s h outcome said
+    some_outcome : (h : List Call) → IsLegal t s h → (outcome : Outcome) → outcome ≡ outcome_of h
+        → (said : List ℕ) × IsOutcomeText format t text s h outcome said
     some_outcome h legal Clean is = (clean_in format, refl)
     some_outcome h legal (Failed i) is =
         let (said, said_is) = some_assertion h i (real t s h i legal (sym is)) in

@@ -29,7 +29,8 @@ or_false true = refl
 or_false false = refl
 
 module _ (text words : List ℕ) (gap reads : Bool) (rest : List ℕ) (read : ReadsTo text words gap reads rest) where
-  pub reads_more : (l : Lexeme) (new next : List ℕ) → Takes rest l.kind l.bytes next → new ≡ words ++ word_after gap l.kind l.bytes → ReadsTo text new (is_gap l.kind) (reads || is_choice l.bytes) next
+  pub reads_more : (l : Lexeme) (new next : List ℕ) → Takes rest l.kind l.bytes next → new ≡ words ++ word_after gap l.kind l.bytes
+      → ReadsTo text new (is_gap l.kind) (reads || is_choice l.bytes) next
   reads_more l new next takes is = record {
     with_left = λ left are.
         let all = read.with_left (l ∷ left) (more takes are) in

@@ -18,7 +18,8 @@ module _ (IsPart : ℕ → List ℕ → Type 0) (head : List ℕ) (a b : Option 
   pub head_written : AppendsAll a b head → HasParts IsPart head 0 a b
   head_written all = record { parts = []; are = no_parts IsPart; grown = subst (Appends a b) (sym (append-nil head)) all.grown }
 
-  pub part_written : (i : ℕ) → HasParts IsPart head i a b → (part : List ℕ) → IsPart i part → (e : Option (List ℕ)) → AppendsAll b e part → HasParts IsPart head (suc i) a e
+  pub part_written : (i : ℕ) → HasParts IsPart head i a b → (part : List ℕ) → IsPart i part → (e : Option (List ℕ)) → AppendsAll b e part
+      → HasParts IsPart head (suc i) a e
   part_written i has part is e all = record {
     parts = has.parts ++ part;
     are = parts_then IsPart i has.parts has.are part is;
@@ -39,7 +40,8 @@ module _
       regrouped : (x y z : List ℕ) → head ++ (x ++ y) ++ z ≡ (head ++ x) ++ (y ++ z)
       regrouped x y z = simp append_assoc
 
-  cut : (a b e : Option (List ℕ)) (begun piece rest : List ℕ) → Appends a b begun → IsText ((begun ++ piece) ++ rest) → AppendsPart b e piece → IsCutShort IsText a e
+  cut : (a b e : Option (List ℕ)) (begun piece rest : List ℕ) → Appends a b begun → IsText ((begun ++ piece) ++ rest) → AppendsPart b e piece
+      → IsCutShort IsText a e
   cut a b e begun piece rest grown is part = record {
     text = begun ++ (piece ++ rest);
     is = subst IsText (append_assoc begun piece rest) is;

@@ -19,6 +19,7 @@ pub mod Outcomes
 pub mod Parts
 pub mod Places
 pub mod Programs
+pub mod ReplayedChanges
 pub mod Scenes
 pub mod Spans
 pub mod StatementLines

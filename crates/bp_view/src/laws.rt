@@ -1,5 +1,5 @@
 //! Laws of views. These functions do nothing: their contracts are the laws.
-ghost use Rattle.bp_view.specs.Laws.{OneListOfContexts, OneState, OneView};
+ghost use Rattle.bp_view.specs.Laws.{ChangesReplay, OneListOfContexts, OneState, OneView};
 ghost use Rattle.bp_view.specs.Waits.{StandForEachOnce};
 
 /// States that the lines of calls, folded or not, stand for these calls, each once.
@@ -14,4 +14,13 @@ pub fn views_are_single()
     ensures view { OneView }
     ensures state { OneState }
     ensures contexts { OneListOfContexts }
+{}
+
+/// The changes that a view shows of a call, put into the values before it, give those after it: of
+/// all globals, and of the frames of its thread. A frame at the top that stays has the changes, and
+/// those below it stay as they are. One that the call entered has the formals that the changes name,
+/// and 0 for each declared local; one that it left is gone. Other threads keep their stacks. The
+/// values of a history begin with those of its setup.
+pub fn changes_replay()
+    ensures { ChangesReplay }
 {}

@@ -47,7 +47,7 @@ mod writers;
 pub use contexts::contexts_of;
 pub use faults::ViewFault;
 pub use json_listings::code_objects;
-pub use laws::{lines_stand_for_each_call_once, views_are_single};
+pub use laws::{changes_replay, lines_stand_for_each_call_once, views_are_single};
 pub use listings::sourced_listing;
 pub use options::{ViewFormat, ViewOptions};
 pub use programs::program_object;

@@ -18,5 +18,15 @@ returns c =
     let places = concat (at_left w.place f.from.place ∷ codes " to " ∷ f.to.place ∷ []) in
     let note = after_room (w.place - length f.to.place) (entries_text Columns f.changes) in
     let room : c.saturating_sub.result ≡ w.place - length f.to.place = omega arith in
-    rw (c.in_ok-push_piece.ensures, c.in_ok-push_note.ensures, room, c.in_ok-push_pieces-2.ensures, c.in_ok-push_pieces.ensures, c.from.ensures, c.deref.ensures.value, c.in_ok-push_changed.ensures, c.clear.ensures.items)
+    rw (
+      c.in_ok-push_piece.ensures,
+      c.in_ok-push_note.ensures,
+      room,
+      c.in_ok-push_pieces-2.ensures,
+      c.in_ok-push_pieces.ensures,
+      c.from.ensures,
+      c.deref.ensures.value,
+      c.in_ok-push_changed.ensures,
+      c.clear.ensures.items,
+    )
     (all_added c.args.view.now.items (numbers ∷ places ∷ note ∷ codes "\n" ∷ []))

@@ -12,5 +12,12 @@ pub returns : goal.returns
 returns c =
     let f = facts_in c.args.facts.now in
     let lists = key_text (codes "changes") ∷ list_text (entries_text Json f.changes) ∷ key_text (codes "printed") ∷ printed_text f.printed ∷ codes "}\n" ∷ [] in
-    rw (c.in_ok-push_piece-3.ensures, c.in_ok-push_printed.ensures, c.in_ok-push_piece-2.ensures, c.in_ok-push_changed_list.ensures, c.in_ok-push_piece.ensures, c.in_ok-push_members.ensures)
+    rw (
+      c.in_ok-push_piece-3.ensures,
+      c.in_ok-push_printed.ensures,
+      c.in_ok-push_piece-2.ensures,
+      c.in_ok-push_changed_list.ensures,
+      c.in_ok-push_piece.ensures,
+      c.in_ok-push_members.ensures,
+    )
     (all_added c.args.line.now.items (concat (member_texts f) ∷ lists))

@@ -15,6 +15,14 @@ returns c =
     let long = length-append c.push_fields.new.line.items statement in
     let whole = ap length c.in_ok-push_statement.ensures in
     let room : c.saturating_sub.result ≡ w.words - length statement = omega (arith, long, whole) in
-    rw (c.in_ok-push_piece-3.ensures, c.in_ok-push_piece-2.ensures, c.in_ok-push_note.ensures, room, c.in_ok-push_statement.ensures, c.in_ok-push_fields.ensures, c.in_ok-push_piece.ensures)
+    rw (
+      c.in_ok-push_piece-3.ensures,
+      c.in_ok-push_piece-2.ensures,
+      c.in_ok-push_note.ensures,
+      room,
+      c.in_ok-push_statement.ensures,
+      c.in_ok-push_fields.ensures,
+      c.in_ok-push_piece.ensures,
+    )
     (rw (c.deref.ensures.value, c.in_ok-write_note.ensures, c.opening.ensures, c.closing.ensures, c.of-colour.ensures)
     (all_added c.args.line.now.items (opening colour ∷ concat (field_texts w f) ∷ statement ∷ after_room (w.words - length statement) (note_text f) ∷ closing colour ∷ codes "\n" ∷ [])))

@@ -13,4 +13,8 @@ pub returns : goal.returns
 returns c =
     let note = c.args.note.now in
     let some : 0 < length note = grind arith in
-    rw (after_some c.args.room note some, c.in_ok-push_piece-2.ensures, c.in_ok-push_piece.ensures) (all_added c.args.line.now.items (spaces c.args.room ∷ note ∷ []))
+    rw (
+      after_some c.args.room note some,
+      c.in_ok-push_piece-2.ensures,
+      c.in_ok-push_piece.ensures,
+    ) (all_added c.args.line.now.items (spaces c.args.room ∷ note ∷ []))

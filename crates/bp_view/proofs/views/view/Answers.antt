@@ -41,7 +41,10 @@ pub returns-in_err-check_thread : goal.returns-in_err-check_thread
 returns-in_err-check_thread g c =
     let p = err_from_is_err_and c.from_residual-in_err-check_thread.result c.from_residual-in_err-check_thread.ensures.1 in
     let is = c.in_ok-replayed.ensures c.args.checked.now c.requires in
-    rw (p.1, p.2) (missing c.args.checked.now c.args.text.now c.args.trace.now c.args.options c.in_ok-replayed.replayed is _ c.in_err-check_thread.field-0.0 c.in_err-check_thread.ensures)
+    rw (
+      p.1,
+      p.2,
+    ) (missing c.args.checked.now c.args.text.now c.args.trace.now c.args.options c.in_ok-replayed.replayed is _ c.in_err-check_thread.field-0.0 c.in_err-check_thread.ensures)
 
 pub returns-in_err-check_names : goal.returns-in_err-check_names
 returns-in_err-check_names g c =
@@ -51,7 +54,10 @@ returns-in_err-check_names g c =
     let is = c.in_ok-replayed.ensures t c.requires in
     let names = ap (map (λ n. n.now)) c.deref.ensures.value ∙ c.in-Ok-watched_names.ensures in
     let fault = subst (λ ns. IsNameFault t ns c.in_err-check_names.field-0.0) names c.in_err-check_names.ensures in
-    rw (p.1, p.2) (unnamed t c.args.text.now c.args.trace.now o c.in_ok-replayed.replayed is c.in_ok-check_thread.ensures _ c.in_err-check_names.field-0.0 fault)
+    rw (
+      p.1,
+      p.2,
+    ) (unnamed t c.args.text.now c.args.trace.now o c.in_ok-replayed.replayed is c.in_ok-check_thread.ensures _ c.in_err-check_names.field-0.0 fault)
 
 pub returns-in_err-write_view : goal.returns-in_err-write_view
 returns-in_err-write_view g c =
