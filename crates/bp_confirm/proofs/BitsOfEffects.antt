@@ -1,0 +1,261 @@
+-- The bit by the effects of an instruction is that of the statement which it stands for.
+use Rattle.std.proofs.Common.{◌≡◌, ◌==◌, ℕ, arith, Bool, true, false, cond, not, ◌&&◌, List, [], Option, None, Some, refl, ap, sym, ◌∙◌, subst, option_map}
+use Rattle.std.specs.Prelude.{slice_get}
+use Rattle.std.proofs.lemmas.Option.{slice_get-map}
+use Rattle.std.proofs.lemmas.Bool.{false≢true}
+use Rattle.std.proofs.lemmas.Bool.Decides.{nat_tests}
+use Rattle.bp_tree.specs.Ast.{Block, Done, Then, Skips, GoesTo, Returns, Assigns, Branches, Loops, Asserts, Assumes, Prints, Calls, Choose, Decide, Procedure, Program, Expression}
+use Rattle.bp_code.specs.declared.effects.Effect.{Effect}
+use Rattle.bp_code.specs.declared.effects.Effect.TheVariants as instr
+use Rattle.bp_code.specs.declared.stores.Store.{Store}
+use Rattle.bp_code.specs.Bits.{bits_of, store_of}
+use Rattle.bp_code.specs.Continuations.{chain}
+use Rattle.bp_code.specs.Effects as effects
+use Rattle.bp_code.specs.Flat.{Formula, Instruction}
+use Rattle.bp_code.specs.InstrEffects.{effect_of}
+use Rattle.bp_code.specs.StandsFor.{Place, place, places_of, Remains, Does, IsTestOf}
+use Rattle.bp_code.specs.Starts.{start_of_block, starts_of}
+use Rattle.bp_code.specs.Steps.{Bits, Activation, activation, instruction_effect, step_to, test_value}
+use Rattle.bp_confirm.specs.Places as spot
+use Rattle.bp_confirm.specs.Inferred.{bit_towards, bit_of_block, IsClearWay, IsClear, AreBothWays, IsAmbiguous}
+use Rattle.bp_confirm.specs.EffectBits.{NextNumbers, bit_towards_number, bit_of_effects, are_both_there, splits}
+
+and_not : (b : Bool) → (b && not b) ≡ false
+and_not true = refl
+and_not false = refl
+
+-- continues at this instruction
+pub record GoesOnAt (e : Effect) (n : ℕ) : Type 0 where
+  pub after : Store
+  pub is : e ≡ instr.Continues n after
+
+module _ (next : NextNumbers) (follow : Bool) where
+  towards_itself : (o : NextNumbers) (n : ℕ) → bit_towards_number o n n ≡ false
+  towards_itself None n = refl
+  towards_itself (Some there) n = and_not (there n)
+
+  -- effects that are the same
+  no_choice : (s : Store) (d e : Effect) → effect_of s d [] ≡ effect_of s e [] → bit_of_effects next follow d e ≡ false
+  no_choice s instr.Blocks (instr.Continues n w) same = absurd cc
+  no_choice s instr.Blocks (instr.Enters c m l) same = refl
+  no_choice s instr.Blocks instr.Returns same = refl
+  no_choice s instr.Blocks instr.Fails same = refl
+  no_choice s instr.Blocks instr.Blocks same = refl
+  no_choice s instr.Fails (instr.Continues n w) same = absurd cc
+  no_choice s instr.Fails (instr.Enters c m l) same = refl
+  no_choice s instr.Fails instr.Returns same = refl
+  no_choice s instr.Fails instr.Fails same = refl
+  no_choice s instr.Fails instr.Blocks same = refl
+  no_choice s (instr.Continues m v) (instr.Continues n w) same =
+      let own : activation m (bits_of v.locals) ≡ activation n (bits_of w.locals) = cc in
+      let number : m ≡ n = ap (λ (a : Activation). a.number) own in
+      ap (λ k. bit_towards_number next n k) number ∙ towards_itself next n
+  no_choice s (instr.Continues m v) (instr.Enters c k l) same = refl
+  no_choice s (instr.Continues m v) instr.Returns same = refl
+  no_choice s (instr.Continues m v) instr.Fails same = refl
+  no_choice s (instr.Continues m v) instr.Blocks same = refl
+  no_choice s (instr.Enters c m l) e same = refl
+  no_choice s instr.Returns e same = refl
+
+same_number : (n : ℕ) → (n == n) ≡ true
+same_number n = grind (arith, nat_tests)
+
+module _ (next : NextNumbers) where
+  both_itself : (o : NextNumbers) (n : ℕ) → are_both_there o n n ≡ false
+  both_itself None n = refl
+  both_itself (Some there) n = ap (λ b. not b && (there n && there n)) (same_number n)
+
+  no_split : (s : Store) (d e : Effect) → effect_of s d [] ≡ effect_of s e [] → splits next d e ≡ false
+  no_split s (instr.Continues m v) (instr.Continues n w) same =
+      let own : activation m (bits_of v.locals) ≡ activation n (bits_of w.locals) = cc in
+      let number : m ≡ n = ap (λ (a : Activation). a.number) own in
+      ap (λ k. are_both_there next n k) number ∙ both_itself next n
+  no_split s (instr.Continues m v) (instr.Enters c k l) same = refl
+  no_split s (instr.Continues m v) instr.Returns same = refl
+  no_split s (instr.Continues m v) instr.Fails same = refl
+  no_split s (instr.Continues m v) instr.Blocks same = refl
+  no_split s (instr.Enters c m l) e same = refl
+  no_split s instr.Returns e same = refl
+  no_split s instr.Fails e same = refl
+  no_split s instr.Blocks e same = refl
+
+-- what the test of two ways tells
+pub record SplitTells (b : Bool) (clear : Type 0) (ambiguous : Type 0) : Type 0 where
+  pub no : b ≡ false → clear
+  pub split : b ≡ true → ambiguous
+
+never_split : (b : Bool) (P : Type 0) → b ≡ false → SplitTells b (Unit {0}) P
+never_split b P is = record { no = λ e. tt; split = λ e. absurd (false≢true (sym is ∙ e)) }
+
+-- a step in the same frame continues
+goes_on : (s : Store) (e : Effect) (bits : effects.Store Bits) (n : ℕ) → effect_of s e [] ≡ step_to bits n [] → GoesOnAt e n
+goes_on s (instr.Continues m w) bits n same =
+    let own : activation m (bits_of w.locals) ≡ activation n bits.locals = cc in
+    let number : m ≡ n = ap (λ (a : Activation). a.number) own in
+    record { after = w; is = ap (λ k. instr.Continues k w) number }
+goes_on s (instr.Enters c m l) bits n same = absurd cc
+goes_on s instr.Returns bits n same = absurd cc
+goes_on s instr.Fails bits n same = absurd cc
+goes_on s instr.Blocks bits n same = absurd cc
+
+fails : (s : Store) (e : Effect) → effect_of s e [] ≡ effects.Fails → e ≡ instr.Fails
+fails s (instr.Continues m w) same = absurd cc
+fails s (instr.Enters c m l) same = absurd cc
+fails s instr.Returns same = absurd cc
+fails s instr.Fails same = refl
+fails s instr.Blocks same = absurd cc
+
+blocks : (s : Store) (e : Effect) → effect_of s e [] ≡ effects.Blocks → e ≡ instr.Blocks
+blocks s (instr.Continues m w) same = absurd cc
+blocks s (instr.Enters c m l) same = absurd cc
+blocks s instr.Returns same = absurd cc
+blocks s instr.Fails same = absurd cc
+blocks s instr.Blocks same = refl
+
+-- whether what begins there is at the place
+abbrev pub start_is_at : spot.Place → Option (Option ℕ) → Bool
+start_is_at p None = false
+start_is_at p (Some start) = p start
+
+-- the instructions at the place of a thread's next step
+abbrev pub numbers_at : List (Option ℕ) → Option spot.Place → NextNumbers
+numbers_at starts None = None
+numbers_at starts (Some p) = Some (λ n. start_is_at p (slice_get starts n))
+
+module _ (t : Program) (p : Procedure) where
+  abbrev starts : List (Option ℕ)
+  starts = starts_of t
+
+  abbrev table : List Place
+  table = places_of t.procedures
+
+  there : (n : ℕ) (r : Block) → Remains table n p r → slice_get starts n ≡ Some (start_of_block r)
+  there n r remains =
+      slice_get-map (λ (x : Place). start_of_block x.left) table n ∙ ap (option_map (λ (x : Place). start_of_block x.left)) remains
+
+  towards : (next : Option spot.Place) (m n : ℕ) (taken other : Block) → Remains table m p taken → Remains table n p other
+      → bit_towards_number (numbers_at starts next) m n ≡ bit_towards next taken other
+  towards None m n taken other one two = refl
+  towards (Some q) m n taken other one two = λ j. start_is_at q (there m taken one j) && not (start_is_at q (there n other two j))
+
+  module _ (next : Option spot.Place) (follow : Bool) (s : Store) (d e : Effect) where
+    -- the test of a choice is the bit
+    chosen : (test : Option Formula) → IsTestOf t p test Choose → (bit : Bool) → test_value (store_of s) bit test ≡ bit
+    chosen test is bit = is.equal (store_of s) bit
+
+    decided : (test : Option Formula) (x : Expression) → IsTestOf t p test (Decide x) → test_value (store_of s) false test ≡ test_value (store_of s) true test
+    decided test x is = is.equal (store_of s) false ∙ sym (is.equal (store_of s) true)
+
+    split : (m k : ℕ) → GoesOnAt d k → GoesOnAt e m → (taken other : Block) → Remains table m p taken → Remains table k p other
+        → bit_of_effects (numbers_at starts next) follow d e ≡ bit_towards next taken other
+    split m k zero_is one_is taken other one two =
+        (λ j. bit_of_effects (numbers_at starts next) follow (zero_is.is j) (one_is.is j)) ∙ towards next m k taken other one two
+
+    pub bit_is : (left : Block) (i : Instruction) → Does t (places_of t.procedures) p left i
+        → effect_of s d [] ≡ instruction_effect i (store_of s) [] false
+        → effect_of s e [] ≡ instruction_effect i (store_of s) [] true
+        → bit_of_effects (numbers_at starts next) follow d e ≡ bit_of_block left next follow
+    bit_is Done i is zero_is one_is = no_choice (numbers_at starts next) follow s d e (zero_is ∙ ap (λ k. instruction_effect k (store_of s) [] false) is ∙ sym (ap (λ k. instruction_effect k (store_of s) [] true) is) ∙ sym one_is)
+    bit_is (Then label at Skips r) i is zero_is one_is = no_choice (numbers_at starts next) follow s d e (rw is.is at zero_is ∙ sym (rw is.is at one_is))
+    bit_is (Then label at (GoesTo x) r) i is zero_is one_is = no_choice (numbers_at starts next) follow s d e (rw is.is at zero_is ∙ sym (rw is.is at one_is))
+    bit_is (Then label at Returns r) i is zero_is one_is = no_choice (numbers_at starts next) follow s d e (zero_is ∙ ap (λ k. instruction_effect k (store_of s) [] false) is ∙ sym (ap (λ k. instruction_effect k (store_of s) [] true) is) ∙ sym one_is)
+    bit_is (Then label at (Assigns xs es) r) i is zero_is one_is = no_choice (numbers_at starts next) follow s d e (rw is.is at zero_is ∙ sym (rw is.is at one_is))
+    bit_is (Then label at (Branches Choose a b) r) i is zero_is one_is =
+        let at_zero = goes_on s d (store_of s) is.else_next (rw is.is at zero_is ∙ ap (λ v. step_to (store_of s) (cond v is.next is.else_next) []) (chosen is.test is.test_is false)) in
+        let at_one = goes_on s e (store_of s) is.next (rw is.is at one_is ∙ ap (λ v. step_to (store_of s) (cond v is.next is.else_next) []) (chosen is.test is.test_is true)) in
+        split is.next is.else_next at_zero at_one (chain a r) (chain b r) is.next_is is.else_is
+    bit_is (Then label at (Branches (Decide x) a b) r) i is zero_is one_is =
+        no_choice (numbers_at starts next) follow s d e (rw is.is at zero_is ∙ ap (λ v. step_to (store_of s) (cond v is.next is.else_next) []) (decided is.test x is.test_is) ∙ sym (rw is.is at one_is))
+    bit_is (Then label at (Loops Choose a) r) i is zero_is one_is =
+        let at_zero = goes_on s d (store_of s) is.else_next (rw is.is at zero_is ∙ ap (λ v. step_to (store_of s) (cond v is.next is.else_next) []) (chosen is.test is.test_is false)) in
+        let at_one = goes_on s e (store_of s) is.next (rw is.is at one_is ∙ ap (λ v. step_to (store_of s) (cond v is.next is.else_next) []) (chosen is.test is.test_is true)) in
+        split is.next is.else_next at_zero at_one (chain a (Then label at (Loops Choose a) r)) r is.next_is is.else_is
+    bit_is (Then label at (Loops (Decide x) a) r) i is zero_is one_is =
+        no_choice (numbers_at starts next) follow s d e (rw is.is at zero_is ∙ ap (λ v. step_to (store_of s) (cond v is.next is.else_next) []) (decided is.test x is.test_is) ∙ sym (rw is.is at one_is))
+    bit_is (Then label at (Asserts Choose) r) i is zero_is one_is =
+        let none = fails s d (rw is.is at zero_is ∙ ap (λ v. cond v (step_to (store_of s) is.next []) effects.Fails) (chosen is.test is.test_is false)) in
+        let on = goes_on s e (store_of s) is.next (rw is.is at one_is ∙ ap (λ v. cond v (step_to (store_of s) is.next []) effects.Fails) (chosen is.test is.test_is true)) in
+        λ j. bit_of_effects (numbers_at starts next) follow (none j) (on.is j)
+    bit_is (Then label at (Asserts (Decide x)) r) i is zero_is one_is =
+        no_choice (numbers_at starts next) follow s d e (rw is.is at zero_is ∙ ap (λ v. cond v (step_to (store_of s) is.next []) effects.Fails) (decided is.test x is.test_is) ∙ sym (rw is.is at one_is))
+    bit_is (Then label at (Assumes Choose) r) i is zero_is one_is =
+        let none = blocks s d (rw is.is at zero_is ∙ ap (λ v. cond v (step_to (store_of s) is.next []) effects.Blocks) (chosen is.test is.test_is false)) in
+        let on = goes_on s e (store_of s) is.next (rw is.is at one_is ∙ ap (λ v. cond v (step_to (store_of s) is.next []) effects.Blocks) (chosen is.test is.test_is true)) in
+        λ j. bit_of_effects (numbers_at starts next) follow (none j) (on.is j)
+    bit_is (Then label at (Assumes (Decide x)) r) i is zero_is one_is =
+        no_choice (numbers_at starts next) follow s d e (rw is.is at zero_is ∙ ap (λ v. cond v (step_to (store_of s) is.next []) effects.Blocks) (decided is.test x is.test_is) ∙ sym (rw is.is at one_is))
+    bit_is (Then label at (Prints es) r) i is zero_is one_is = no_choice (numbers_at starts next) follow s d e (rw is.is at zero_is ∙ sym (rw is.is at one_is))
+    bit_is (Then label at (Calls x es) r) i is zero_is one_is = no_choice (numbers_at starts next) follow s d e (rw is.is at zero_is ∙ sym (rw is.is at one_is))
+
+    all_true : (a b c : Bool) → (not a && (b && c)) ≡ true → (b ≡ true) × (c ≡ true)
+    all_true true b c e = absurd (false≢true e)
+    all_true false true true e = (refl, refl)
+    all_true false true false e = absurd (false≢true e)
+    all_true false false c e = absurd (false≢true e)
+
+    not_all : (a b c : Bool) → (not a && (b && c)) ≡ false → b ≡ true → c ≡ true → a ≡ true
+    not_all true b c e p q = refl
+    not_all false true true e p q = absurd (false≢true (sym e))
+    not_all false true false e p q = absurd (false≢true q)
+    not_all false false c e p q = absurd (false≢true p)
+
+    one_block : (m n : ℕ) (taken other : Block) → m ≡ n → Remains table m p taken → Remains table n p other → taken ≡ other
+    one_block m n taken other same one two =
+        let both : Some (place p taken) ≡ Some (place p other) = sym one ∙ ap (λ k. slice_get table k) same ∙ two in
+        let places : place p taken ≡ place p other = cc in
+        ap (λ (x : Place). x.left) places
+
+    by_numbers : (o : Option spot.Place) (m k : ℕ) (taken other : Block) → Remains table m p taken → Remains table k p other
+        → SplitTells (are_both_there (numbers_at starts o) m k) (IsClearWay o taken other) (AreBothWays o taken other)
+    by_numbers None m k taken other one two = record { no = λ e. tt; split = λ e. absurd (false≢true e) }
+    by_numbers (Some q) m k taken other one two =
+        let here : start_is_at q (slice_get starts m) ≡ q (start_of_block taken) = ap (start_is_at q) (there m taken one) in
+        let over : start_is_at q (slice_get starts k) ≡ q (start_of_block other) = ap (start_is_at q) (there k other two) in
+        record {
+          no = λ e at_one at_other.
+              let same : (m == k) ≡ true = not_all (m == k) _ _ e (here ∙ at_one) (over ∙ at_other) in
+              one_block m k taken other (grind (arith, nat_tests)) one two;
+          split = λ e.
+              let both = all_true (m == k) (start_is_at q (slice_get starts m)) (start_is_at q (slice_get starts k)) e in
+              (sym here ∙ both.0, sym over ∙ both.1);
+        }
+
+    by_split : (m k : ℕ) → GoesOnAt d k → GoesOnAt e m → (taken other : Block) → Remains table m p taken → Remains table k p other
+        → SplitTells (splits (numbers_at starts next) d e) (IsClearWay next taken other) (AreBothWays next taken other)
+    by_split m k zero_is one_is taken other one two =
+        let is : splits (numbers_at starts next) d e ≡ are_both_there (numbers_at starts next) m k = λ j. splits (numbers_at starts next) (zero_is.is j) (one_is.is j) in
+        subst (λ b. SplitTells b (IsClearWay next taken other) (AreBothWays next taken other)) (sym is) (by_numbers next m k taken other one two)
+
+    pub split_is : (left : Block) (i : Instruction) → Does t (places_of t.procedures) p left i
+        → effect_of s d [] ≡ instruction_effect i (store_of s) [] false
+        → effect_of s e [] ≡ instruction_effect i (store_of s) [] true
+        → SplitTells (splits (numbers_at starts next) d e) (IsClear left next) (IsAmbiguous left next)
+    split_is Done i is zero_is one_is = never_split _ ⊥ (no_split (numbers_at starts next) s d e (zero_is ∙ ap (λ k. instruction_effect k (store_of s) [] false) is ∙ sym (ap (λ k. instruction_effect k (store_of s) [] true) is) ∙ sym one_is))
+    split_is (Then label at Skips r) i is zero_is one_is = never_split _ ⊥ (no_split (numbers_at starts next) s d e (rw is.is at zero_is ∙ sym (rw is.is at one_is)))
+    split_is (Then label at (GoesTo x) r) i is zero_is one_is = never_split _ ⊥ (no_split (numbers_at starts next) s d e (rw is.is at zero_is ∙ sym (rw is.is at one_is)))
+    split_is (Then label at Returns r) i is zero_is one_is = never_split _ ⊥ (no_split (numbers_at starts next) s d e (zero_is ∙ ap (λ k. instruction_effect k (store_of s) [] false) is ∙ sym (ap (λ k. instruction_effect k (store_of s) [] true) is) ∙ sym one_is))
+    split_is (Then label at (Assigns xs es) r) i is zero_is one_is = never_split _ ⊥ (no_split (numbers_at starts next) s d e (rw is.is at zero_is ∙ sym (rw is.is at one_is)))
+    split_is (Then label at (Branches Choose a b) r) i is zero_is one_is =
+        let at_zero = goes_on s d (store_of s) is.else_next (rw is.is at zero_is ∙ ap (λ v. step_to (store_of s) (cond v is.next is.else_next) []) (chosen is.test is.test_is false)) in
+        let at_one = goes_on s e (store_of s) is.next (rw is.is at one_is ∙ ap (λ v. step_to (store_of s) (cond v is.next is.else_next) []) (chosen is.test is.test_is true)) in
+        by_split is.next is.else_next at_zero at_one (chain a r) (chain b r) is.next_is is.else_is
+    split_is (Then label at (Branches (Decide x) a b) r) i is zero_is one_is =
+        never_split _ ⊥ (no_split (numbers_at starts next) s d e (rw is.is at zero_is ∙ ap (λ v. step_to (store_of s) (cond v is.next is.else_next) []) (decided is.test x is.test_is) ∙ sym (rw is.is at one_is)))
+    split_is (Then label at (Loops Choose a) r) i is zero_is one_is =
+        let at_zero = goes_on s d (store_of s) is.else_next (rw is.is at zero_is ∙ ap (λ v. step_to (store_of s) (cond v is.next is.else_next) []) (chosen is.test is.test_is false)) in
+        let at_one = goes_on s e (store_of s) is.next (rw is.is at one_is ∙ ap (λ v. step_to (store_of s) (cond v is.next is.else_next) []) (chosen is.test is.test_is true)) in
+        by_split is.next is.else_next at_zero at_one (chain a (Then label at (Loops Choose a) r)) r is.next_is is.else_is
+    split_is (Then label at (Loops (Decide x) a) r) i is zero_is one_is =
+        never_split _ ⊥ (no_split (numbers_at starts next) s d e (rw is.is at zero_is ∙ ap (λ v. step_to (store_of s) (cond v is.next is.else_next) []) (decided is.test x is.test_is) ∙ sym (rw is.is at one_is)))
+    split_is (Then label at (Asserts Choose) r) i is zero_is one_is =
+        let none = fails s d (rw is.is at zero_is ∙ ap (λ v. cond v (step_to (store_of s) is.next []) effects.Fails) (chosen is.test is.test_is false)) in
+        never_split _ ⊥ (ap (λ z. splits (numbers_at starts next) z e) none)
+    split_is (Then label at (Asserts (Decide x)) r) i is zero_is one_is =
+        never_split _ ⊥ (no_split (numbers_at starts next) s d e (rw is.is at zero_is ∙ ap (λ v. cond v (step_to (store_of s) is.next []) effects.Fails) (decided is.test x is.test_is) ∙ sym (rw is.is at one_is)))
+    split_is (Then label at (Assumes Choose) r) i is zero_is one_is =
+        let none = blocks s d (rw is.is at zero_is ∙ ap (λ v. cond v (step_to (store_of s) is.next []) effects.Blocks) (chosen is.test is.test_is false)) in
+        never_split _ ⊥ (ap (λ z. splits (numbers_at starts next) z e) none)
+    split_is (Then label at (Assumes (Decide x)) r) i is zero_is one_is =
+        never_split _ ⊥ (no_split (numbers_at starts next) s d e (rw is.is at zero_is ∙ ap (λ v. cond v (step_to (store_of s) is.next []) effects.Blocks) (decided is.test x is.test_is) ∙ sym (rw is.is at one_is)))
+    split_is (Then label at (Prints es) r) i is zero_is one_is = never_split _ ⊥ (no_split (numbers_at starts next) s d e (rw is.is at zero_is ∙ sym (rw is.is at one_is)))
+    split_is (Then label at (Calls x es) r) i is zero_is one_is = never_split _ ⊥ (no_split (numbers_at starts next) s d e (rw is.is at zero_is ∙ sym (rw is.is at one_is)))

@@ -1,0 +1,206 @@
+-- One more step that is followed, and one that is refused.
+use Rattle.std.proofs.Common.{◌≡◌, ◌≢◌, ◌≤◌, ◌<◌, ◌+◌, ℕ, zero, suc, Bool, true, false, List, [], ◌∷◌, ◌++◌, length, take, drop, get_or, None, Some, refl, ap, sym, ◌∙◌, subst, append_assoc, arith}
+use Rattle.std.specs.Prelude.{is_some, slice_get, option_map}
+use Rattle.std.proofs.lemmas.Option.{slice_get-get_or, slice_get-map}
+use Rattle.std.proofs.Common.{Option}
+use Rattle.bp_code.specs.Configurations.{Configuration}
+use Rattle.bp_code.specs.Values.{Valuation}
+use Rattle.std.proofs.lemmas.Bool.{false≢true}
+use Rattle.std.proofs.lemmas.List.{append-nil, map_push, take_all, take_more, take-append-drop}
+use Rattle.std.proofs.Math.ListN.{length-take, drop_of_length-le}
+use Rattle.std.proofs.Math.Seq.{drop-cons}
+use Rattle.bp_tree.specs.Ast.{Program}
+use Rattle.bp_machine.specs.declared.ask_faults.AskFault.{AskFault}
+use Rattle.bp_machine.specs.declared.ask_faults.AskFault.TheVariants as refused
+use Rattle.bp_machine.specs.declared.calls.Call.{Call}
+use Rattle.bp_machine.specs.Answers.{stack_of}
+use Rattle.bp_machine.specs.Histories.{configuration_after, is_finished, IsAllowed, IsLegal}
+use Rattle.bp_machine.specs.Replies.{is_granted}
+use Rattle.bp_machine.specs.Sessions.{IsAskRefusal}
+use Rattle.bp_machine.specs.Setups.{SetupOf, threads}
+use Rattle.bp_confirm.specs.declared.faults.StepFault.{StepFault}
+use Rattle.bp_confirm.specs.declared.faults.StepFault.TheVariants as fault
+use Rattle.bp_confirm.specs.declared.faults.StepReason.{StepReason}
+use Rattle.bp_confirm.specs.declared.faults.StepReason.TheVariants.{Elsewhere, Ambiguous, Finished, Refused, Differs}
+use Rattle.bp_confirm.specs.declared.faults.StepRefusal.{StepRefusal}
+use Rattle.bp_confirm.specs.declared.step_lines.SeenValue.{SeenValue}
+use Rattle.bp_confirm.specs.StepLines.{StepLineOf, value_of, values_of, step_of, steps_of}
+use Rattle.bp_confirm.specs.Steps.{StepOf, value_seen, IsFirstUnseen, SeesValues, IsStepOf, TakeAfter, Takes}
+use Rattle.bp_confirm.specs.Inferred.{bit_of_stack, IsAmbiguousOnStack, IsClearOnStack, Follows, FollowAfter}
+use Rattle.bp_confirm.specs.Confirms.{GoesOnAt, StandsAtPlace, StandsThere, IsStuck, IsReason, ForStuck, IsStepRefusal, IsNotConfirmed, IsConfirmed}
+use Rattle.bp_confirm.specs.StepRefusals.{IsRefusedHere, IsNotTaken, refusal_of}
+use Rattle.bp_confirm.proofs.LocalRefusals.{same_reply, refused_for_all, other_values}
+use Rattle.bp_confirm.proofs.Transfer.{transfer}
+
+module _ (t : Program) (s : SetupOf) where
+  -- what is followed is taken
+  pub taken : (h : List Call) (xs later : List StepOf) (calls : List Call) → FollowAfter t s h xs later calls → TakeAfter t s h xs calls
+  taken h [] later [] follow = tt
+  taken h [] later (a ∷ more) follow = absurd follow
+  taken h (x ∷ xs) later [] follow = absurd follow
+  taken h (x ∷ xs) later (a ∷ calls) (here, rest) = (here.takes, taken (h ++ a ∷ []) xs later calls rest)
+
+  pub follow_more : (h : List Call) (xs : List StepOf) (x : StepOf) (later : List StepOf) (calls : List Call) (a : Call)
+      → FollowAfter t s h xs (x ∷ later) calls → Follows t s (h ++ calls) x later a → FollowAfter t s h (xs ++ x ∷ []) later (calls ++ a ∷ [])
+  follow_more h [] x later [] a follow next = (subst (λ k. Follows t s k x later a) (append-nil h) next, tt)
+  follow_more h [] x later (m ∷ ms) a follow next = absurd follow
+  follow_more h (z ∷ zs) x later [] a follow next = absurd follow
+  follow_more h (z ∷ zs) x later (m ∷ ms) a (here, rest) next = (
+    subst (λ ys. Follows t s h z ys m) (sym (append_assoc zs (x ∷ []) later)) here,
+    follow_more (h ++ m ∷ []) zs x later ms a rest (subst (λ k. Follows t s k x later a) (sym (append_assoc h (m ∷ []) ms)) next),
+  )
+
+-- the lines of steps, and what they say
+module _ (text : List ℕ) (t : Program) (s : SetupOf) (lines : List StepLineOf) (n : ℕ) where
+  -- the first n of the lines are followed, and then one more
+  pub follow_next : (d : StepLineOf) (h new : List Call) (a : Call) → n < length lines → new ≡ h ++ a ∷ []
+      → FollowAfter t s [] (steps_of text (take n lines)) (steps_of text (drop n lines)) h
+      → Follows t s h (step_of text (get_or lines n d)) (steps_of text (drop (n + 1) lines)) a
+      → FollowAfter t s [] (steps_of text (take (n + 1) lines)) (steps_of text (drop (n + 1) lines)) new
+  follow_next d h new a within is follow next =
+      let x = get_or lines n d in
+      let rest : drop n lines ≡ get_or lines n d ∷ drop (n + 1) lines = (let one : suc n ≡ n + 1 = omega arith in drop-cons lines n d within ∙ ap (λ k. get_or lines n d ∷ drop k lines) one) in
+      let front : steps_of text (take (n + 1) lines) ≡ steps_of text (take n lines) ++ step_of text x ∷ [] = ap (steps_of text) (take_more lines n d within) ∙ map_push (step_of text) (take n lines) x in
+      let before = subst (λ ys. FollowAfter t s [] (steps_of text (take n lines)) ys h) (ap (steps_of text) rest) follow in
+      let after = follow_more t s [] (steps_of text (take n lines)) (step_of text x) (steps_of text (drop (n + 1) lines)) h a before next in
+      subst (λ xs. FollowAfter t s [] xs (steps_of text (drop (n + 1) lines)) new) (sym front)
+      (subst (λ k. FollowAfter t s [] (steps_of text (take n lines) ++ step_of text x ∷ []) (steps_of text (drop (n + 1) lines)) k) (sym is) after)
+
+  module _ (d : StepLineOf) (h : List Call) (within : n < length lines) (legal : IsLegal t s h)
+      (follow : FollowAfter t s [] (steps_of text (take n lines)) (steps_of text (drop n lines)) h) where
+    rest_is : drop n lines ≡ get_or lines n d ∷ drop (n + 1) lines
+    rest_is = let one : suc n ≡ n + 1 = omega arith in drop-cons lines n d within ∙ ap (λ k. get_or lines n d ∷ drop k lines) one
+
+    none_takes : IsStuck t s h (step_of text (get_or lines n d)) → (g : List Call) → Takes t s (steps_of text (take n lines ++ get_or lines n d ∷ [])) g → ⊥
+    none_takes stuck g taking =
+        let x = step_of text (get_or lines n d) in
+        let own = subst (λ ys. FollowAfter t s [] (steps_of text (take n lines)) ys h) (ap (steps_of text) rest_is) follow in
+        let other = subst (λ xs. Takes t s xs g) (map_push (step_of text) (take n lines) (get_or lines n d)) taking in
+        let found = transfer t s (steps_of text (take n lines)) x (steps_of text (drop (n + 1) lines)) h g own other in
+        stuck found.0 found.1
+
+    for_all : (reason : StepReason) → ForStuck reason (IsStuck t s h (step_of text (get_or lines n d)))
+        → ForStuck reason ((g : List Call) → Takes t s (steps_of text (take n lines ++ get_or lines n d ∷ [])) g → ⊥)
+    for_all Elsewhere stuck = none_takes stuck
+    for_all Ambiguous stuck = tt
+    for_all Finished stuck = none_takes stuck
+    for_all (Refused r) stuck = none_takes stuck
+    for_all (Differs value seen) stuck = none_takes stuck
+
+    step_refused : (r : StepRefusal) → IsRefusedHere text t s h (get_or lines n d) (steps_of text (drop (n + 1) lines)) (n + 1) r → IsStepRefusal text t s lines r
+    step_refused r here = record {
+      before = take n lines;
+      step = get_or lines n d;
+      later = drop (n + 1) lines;
+      whole = sym (take-append-drop n lines) ∙ ap (λ ys. take n lines ++ ys) rest_is;
+      line = let size : length (take n lines) ≡ n = simp length-take (omega arith) in omega (arith, size, here.line);
+      thread = here.thread;
+      location = here.location;
+      history = h;
+      legal = legal;
+      takes = taken t s [] (steps_of text (take n lines)) (steps_of text (drop n lines)) h follow;
+      number = here.number;
+      reason = here.reason;
+      none = for_all r.reason here.stuck;
+    }
+
+    -- the refusal of a step is one of the lines
+    pub not_confirmed : (f : StepFault) → IsNotTaken text t s h (get_or lines n d) (steps_of text (drop (n + 1) lines)) (n + 1) f → IsNotConfirmed text t s lines f
+    not_confirmed (fault.Refusal r) here = step_refused r here
+    not_confirmed fault.Memory here = tt
+
+  pub confirmed : (h : List Call) → length lines ≤ n → IsLegal t s h → FollowAfter t s [] (steps_of text (take n lines)) (steps_of text (drop n lines)) h → IsConfirmed t s (steps_of text lines) h
+  confirmed h past legal follow =
+      let steps = steps_of text lines in
+      let none = subst (λ ys. FollowAfter t s [] (steps_of text (take n lines)) (steps_of text ys) h) (drop_of_length-le lines past) follow in
+      let follows : FollowAfter t s [] steps [] h = subst (λ xs. FollowAfter t s [] (steps_of text xs) [] h) (take_all n lines past) none in
+      record { legal = legal; takes = taken t s [] steps [] h follows; follows = follows }
+
+-- a value that is not seen is one of those that are wanted
+unseen_not : (c : Configuration) (i : ℕ) (vs : Valuation) (value : List ℕ × Bool) (seen : Option Bool) → IsFirstUnseen c i vs value seen → SeesValues c i vs → ⊥
+unseen_not c i vs value seen unseen sees = unseen.differs (unseen.is_seen ∙ seen_at vs unseen.before value unseen.at sees)
+  where
+    seen_at : (ws : Valuation) (m : ℕ) (v : List ℕ × Bool) → slice_get ws m ≡ Some v → SeesValues c i ws → value_seen c.globals (stack_of c i) v.0 ≡ Some v.1
+    seen_at [] m v at all = absurd cc
+    seen_at (w ∷ ws) zero v at all = let same : w ≡ v = cc in subst (λ u. value_seen c.globals (stack_of c i) u.0 ≡ Some u.1) same all.0
+    seen_at (w ∷ ws) (suc m) v at all = seen_at ws m v at all.1
+
+-- one more value is seen
+pub sees_more : (c : Configuration) (i : ℕ) (vs : List SeenValue) (k : ℕ) (d : SeenValue) → k < length vs → SeesValues c i (values_of (take k vs))
+    → value_seen c.globals (stack_of c i) (get_or vs k d).name.now ≡ Some (get_or vs k d).bit → SeesValues c i (values_of (take (k + 1) vs))
+sees_more c i vs k d within sees here =
+    subst (SeesValues c i) (sym (ap values_of (take_more vs k d within) ∙ map_push value_of (take k vs) (get_or vs k d))) (both (values_of (take k vs)) sees)
+  where
+    both : (ws : Valuation) → SeesValues c i ws → SeesValues c i (ws ++ value_of (get_or vs k d) ∷ [])
+    both [] all = (here, tt)
+    both (w ∷ ws) all = (all.0, both ws all.1)
+
+take_values : (k : ℕ) (vs : List SeenValue) → values_of (take k vs) ≡ take k (values_of vs)
+take_values zero vs = refl
+take_values (suc k) [] = refl
+take_values (suc k) (v ∷ vs) = ap (λ ws. value_of v ∷ ws) (take_values k vs)
+
+-- this value is the first that is not seen
+pub unseen_at : (c : Configuration) (i : ℕ) (vs : List SeenValue) (k : ℕ) (d : SeenValue) (seen : Option Bool) → k < length vs → SeesValues c i (values_of (take k vs))
+    → seen ≡ value_seen c.globals (stack_of c i) (get_or vs k d).name.now → seen ≢ Some (get_or vs k d).bit → IsFirstUnseen c i (values_of vs) (value_of (get_or vs k d)) seen
+unseen_at c i vs k d seen within sees is differs = record {
+  before = k;
+  at = slice_get-map value_of vs k ∙ ap (option_map value_of) (slice_get-get_or vs k d within);
+  first = subst (SeesValues c i) (take_values k vs) sees;
+  is_seen = is;
+  differs = differs;
+}
+
+-- the refusals of the step of one line, whose thread goes on at this instruction
+module _ (text : List ℕ) (t : Program) (s : SetupOf) (h : List Call) (x : StepLineOf) (later : List StepOf) (n : ℕ) (number : Option ℕ)
+    (goes_on : GoesOnAt t (configuration_after t s h) x.thread number) where
+  abbrev step : StepOf
+  step = step_of text x
+
+  abbrev IsRefusedFor : StepReason → Type 0
+  IsRefusedFor reason = IsNotTaken text t s h x later n (refusal_of x n number reason)
+
+  refused_for : (reason : StepReason) → IsReason t s h (step_of text x) later reason → ForStuck reason (IsStuck t s h (step_of text x)) → IsRefusedFor reason
+  refused_for reason why stuck = record { line = refl; thread = refl; location = refl; number = goes_on; reason = why; stuck = stuck }
+
+  pub elsewhere : StandsAtPlace t s h (step_of text x) false → IsRefusedFor Elsewhere
+  elsewhere away = refused_for Elsewhere away (λ y takes. false≢true (sym away ∙ takes.at))
+
+  module _ (at : StandsAtPlace t s h (step_of text x) true) where
+    pub ambiguous : IsAmbiguousOnStack x.thread later (stack_of (configuration_after t s h) x.thread) → IsRefusedFor Ambiguous
+    ambiguous both = refused_for Ambiguous (record { at = at; ambiguous = both }) tt
+
+    module _ (clear : IsClearOnStack x.thread later (stack_of (configuration_after t s h) x.thread)) where
+      there : StandsThere t s h (step_of text x) later
+      there = record { at = at; clear = clear }
+
+      pub finished : is_finished s h x.thread ≡ true → IsRefusedFor Finished
+      finished over = refused_for Finished (there, over) (λ y takes. false≢true (sym takes.allowed.unfinished ∙ ap (is_finished s h) takes.thread ∙ over))
+
+      module _ (a : Call) (thread : a.thread ≡ x.thread) (allowed : IsAllowed t s h a)
+          (bit : a.bit ≡ bit_of_stack x.thread later (stack_of (configuration_after t s h) x.thread)) where
+        pub answered : is_granted a.reply ≡ false → IsRefusedFor (Refused a.reply)
+        answered none =
+            refused_for (Refused a.reply)
+            (there, record { call = a; thread = thread; allowed = allowed; each = same_reply t s h step later a thread bit allowed none; refused = none })
+            (refused_for_all t s h step later a thread bit allowed none)
+
+        module _ (granted : is_granted a.reply ≡ true) where
+          bare : IsStepOf t s h (record step { values = [] }) a
+          bare = record { thread = thread; allowed = allowed; granted = granted; at = at; values = tt }
+
+          pub others_seen : (value : SeenValue) (seen : Option Bool) → IsFirstUnseen (configuration_after t s (h ++ a ∷ [])) x.thread x.values (value_of value) seen
+              → IsRefusedFor (Differs value seen)
+          others_seen value seen unseen =
+              refused_for (Differs value seen) (there, record { call = a; takes = bare; unseen = unseen })
+              (other_values t s h step a bare (unseen_not (configuration_after t s (h ++ a ∷ [])) x.thread x.values (value_of value) seen unseen))
+
+-- a call that is refused to a thread that is there, where the setup has no seed
+pub ask_refused : (t : Program) (s : SetupOf) (h : List Call) (i : ℕ) (bit : Bool) (f : AskFault) → i < threads s → s.seed ≡ None → IsAskRefusal t s h i (Some bit) f
+    → (f ≡ refused.Memory → ⊥) → is_finished s h i ≡ true
+ask_refused t s h i bit refused.NoThread inside unseeded why other = absurd (omega (arith, inside, why))
+ask_refused t s h i bit refused.Finished inside unseeded why other = why.1
+ask_refused t s h i bit refused.Seeded inside unseeded why other = absurd (false≢true (sym (ap (λ o. is_some o) unseeded) ∙ why.2))
+ask_refused t s h i bit refused.Unseeded inside unseeded why other = absurd (let e = why.1 in cc)
+ask_refused t s h i bit refused.Memory inside unseeded why other = absurd (other refl)
+ask_refused t s h i bit refused.Busy inside unseeded why other = absurd why

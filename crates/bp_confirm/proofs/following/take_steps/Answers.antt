@@ -1,0 +1,59 @@
+use Rattle.std.proofs.Common.{◌∙◌, ◌+◌, length, drop, ap, sym, subst, arith}
+use Rattle.std.proofs.lemmas.Result.{err_from_is_err_and}
+use Rattle.bp_machine.specs.Histories.{IsLegal}
+use Rattle.bp_machine.specs.Sessions.{Stands}
+use Rattle.bp_confirm.specs.Inferred.{Follows}
+use Rattle.bp_confirm.specs.StepLines.{step_of, steps_of}
+use Rattle.bp_confirm.specs.StepRefusals.{IsNotTaken}
+use Rattle.bp_confirm.proofs.NextLocations.{as_many, tells_next}
+use Rattle.bp_confirm.proofs.StepsFollowed.{follow_next, not_confirmed, confirmed}
+use Rattle.bp_confirm.proofs.following.take_steps.Goals as goal
+
+pub bounds-nexts-n : goal.bounds-nexts-n
+bounds-nexts-n c = let size = ap length c.requires.nexts ∙ as_many c.args.lines.now in omega (arith, c.loop-n-test.true, size)
+
+pub returns-in_err-call-clause-refused : goal.returns-in_err-call-clause-refused
+returns-in_err-call-clause-refused c = λ text are.
+    let t = c.args.checked.now in
+    let s = c.args.session.now.setup in
+    let lines = c.args.lines.now in
+    let n = c.loop-n.n in
+    let x = c.index-lines-n.result in
+    let later = steps_of text (drop (n + 1) lines) in
+    let inv = c.loop-n.invariant in
+    let is = c.index-lines-n.is in
+    let here = c.in_err-call.ensures.refused text c.loop-n.history.items later are (tells_next text lines c.args.nexts.now n x x _ c.requires.nexts c.loop-n-test.true is) inv.stands in
+    let p = err_from_is_err_and c.from_residual.result c.from_residual.ensures.1 in
+    rw (p.1, p.2)
+    (not_confirmed text t s lines n x c.loop-n.history.items c.loop-n-test.true (subst (λ z. IsLegal t z c.loop-n.history.items) inv.setup inv.stands.state.legal) (inv.follow text are) c.in_err-call.field-0.0
+    (subst (λ z. IsNotTaken text t s c.loop-n.history.items z later (n + 1) c.in_err-call.field-0.0) is
+    (subst (λ z. IsNotTaken text t z c.loop-n.history.items x later (n + 1) c.in_err-call.field-0.0) inv.setup here)))
+
+pub loop-n-preserved : goal.loop-n-preserved
+loop-n-preserved c =
+    let t = c.args.checked.now in
+    let s = c.args.session.now.setup in
+    let lines = c.args.lines.now in
+    let n = c.loop-n.n in
+    let x = c.index-lines-n.result in
+    let inv = c.loop-n.invariant in
+    let is = c.index-lines-n.is in
+    let stands = c.in_ok-call.ensures.stands c.loop-n.history.items inv.stands in
+    record {
+      within = omega arith;
+      stands = subst (λ h. Stands t c.take_step.new.session h) (sym c.in_ok-keep.ensures.kept) stands;
+      follow = λ text are.
+          let later = steps_of text (drop (n + 1) lines) in
+          let next = c.in_ok-call.ensures.follows text c.loop-n.history.items later are (tells_next text lines c.args.nexts.now n x x _ c.requires.nexts c.loop-n-test.true is) inv.stands in
+          follow_next text t s lines n x c.loop-n.history.items c.keep.new.history.items c.in_ok-call.call c.loop-n-test.true c.in_ok-keep.ensures.kept (inv.follow text are)
+          (subst (λ z. Follows t s c.loop-n.history.items (step_of text z) later c.in_ok-call.call) is
+          (subst (λ z. Follows t z c.loop-n.history.items (step_of text x) later c.in_ok-call.call) inv.setup next));
+      code = c.take_step.ensures.kept.0 ∙ inv.code;
+      setup = c.take_step.ensures.kept.1 ∙ inv.setup;
+    }
+
+pub returns-clause-confirmed : goal.returns-clause-confirmed
+returns-clause-confirmed c = λ text are.
+    let t = c.args.checked.now in
+    let inv = c.loop-n.invariant in
+    confirmed text t c.args.session.now.setup c.args.lines.now c.loop-n.n c.loop-n.history.items (omega arith) (subst (λ z. IsLegal t z c.loop-n.history.items) inv.setup inv.stands.state.legal) (inv.follow text are)

@@ -1,0 +1,20 @@
+use Rattle.std.proofs.Common.{◌≡◌, ◌≤◌, ◌-◌, ℕ, List, length, take, drop, []}
+use Rattle.bp_machine.specs.Sessions.{Stands}
+use Rattle.bp_confirm.specs.Inferred.{FollowAfter}
+use Rattle.bp_confirm.specs.Spots.{spots_of}
+use Rattle.bp_confirm.specs.StepLines.{steps_of}
+use Rattle.bp_confirm.proofs.following.take_steps.Given as goal
+
+abbrev pub invariant-loop-n : goal.invariant-loop-n
+invariant-loop-n l = record {
+  within : l.n ≤ length l.lines;
+  stands : Stands l.checked l.session l.history.items;
+  follow : (text : List ℕ)
+      → l.spots ≡ spots_of text l.checked
+      → FollowAfter l.checked l.fn.session.setup [] (steps_of text (take l.n l.lines)) (steps_of text (drop l.n l.lines)) l.history.items;
+  code : l.session.code ≡ l.fn.session.code;
+  setup : l.session.setup ≡ l.fn.session.setup;
+}
+
+abbrev pub decreases-loop-n : goal.decreases-loop-n
+decreases-loop-n l = length l.lines - l.n

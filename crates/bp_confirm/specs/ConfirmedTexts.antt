@@ -1,0 +1,80 @@
+-- What is written of a text of reported steps, and how the text is refused.
+use Rattle.std.specs.Prelude.{◌≡◌, ◌<◌, ◌≤◌, ℕ, List, Option, length}
+use Rattle.bp_text.specs.Writing.{AppendsAll, AppendsPart}
+use Rattle.bp_tree.specs.Ast.{Program}
+use Rattle.bp_machine.specs.declared.calls.Call.{Call}
+use Rattle.bp_machine.specs.declared.reports.Report.{Report}
+use Rattle.bp_machine.specs.Reports.{IsReport}
+use Rattle.bp_machine.specs.Setups.{SetupOf}
+use Rattle.bp_trace.specs.declared.limits.TheConstants.{MAX_SCHEDULE}
+use Rattle.bp_trace.specs.TraceText.{trace_text}
+use Rattle.bp_confirm.specs.declared.confirming.ConfirmFault.{ConfirmFault}
+use Rattle.bp_confirm.specs.declared.confirming.ConfirmFault.TheVariants as fault
+use Rattle.bp_confirm.specs.declared.faults.StepRefusal.{StepRefusal}
+use Rattle.bp_confirm.specs.StepLines.{StepLineOf, steps_of}
+use Rattle.bp_confirm.specs.StepTexts.{HasLines, IsBadLine}
+use Rattle.bp_confirm.specs.DeclaredLines.{AreDeclaredLines, IsFirstStray, IsOfNoThread, IsOfNoVariable}
+use Rattle.bp_confirm.specs.Confirms.{IsConfirmed, IsStepRefusal}
+
+-- a text of steps, of a program in this setup
+module _ (t : Program) (s : SetupOf) (steps : List ℕ) where
+  abbrev pub IsShortText : Type 0
+  IsShortText = length steps ≤ MAX_SCHEDULE
+
+  -- it is not too long, and has these lines
+  pub record AreRead (lines : List StepLineOf) : Type 0 where
+    pub short : IsShortText
+    pub has : HasLines steps lines
+
+  -- and each of them is of a thread of the setup and of variables of the program
+  pub record AreTold (lines : List StepLineOf) : Type 0 where
+    pub read : AreRead lines
+    pub declared : AreDeclaredLines t s lines
+
+  -- its first line that is not
+  pub record HasStray (n : ℕ) (Is : StepLineOf → Type 0) : Type 0 where
+    pub lines : List StepLineOf
+    pub read : AreRead lines
+    pub stray : IsFirstStray t s lines n Is
+
+  -- why it has no such lines; nothing is said of when memory is refused
+  abbrev pub IsUntold : ConfirmFault → Type 0
+  IsUntold fault.TooLong = MAX_SCHEDULE < length steps
+  IsUntold (fault.Line n) = IsShortText × IsBadLine steps n
+  IsUntold (fault.NoThread n thread) = HasStray n (IsOfNoThread s thread)
+  IsUntold (fault.NoVariable n name) = HasStray n (IsOfNoVariable t s name.now)
+  IsUntold fault.Memory = IsShortText
+  IsUntold f = ⊥
+
+  -- its places are those of the text of the program
+  module _ (text : List ℕ) where
+    -- this history takes the steps
+    pub record IsConfirmedText (h : List Call) : Type 0 where
+      pub lines : List StepLineOf
+      pub told : AreTold lines
+      pub confirmed : IsConfirmed t s (steps_of text lines) h
+
+    -- the steps up to this one are taken by none
+    pub record IsRefusedText (r : StepRefusal) : Type 0 where
+      pub lines : List StepLineOf
+      pub told : AreTold lines
+      pub refused : IsStepRefusal text t s lines r
+
+    -- the trace of the history that takes the steps was written, and it is reported
+    pub record ConfirmsTo (old new : Option (List ℕ)) (r : Report) : Type 0 where
+      pub history : List Call
+      pub confirmed : IsConfirmedText history
+      pub written : AppendsAll old new (trace_text s history)
+      pub report : IsReport s history r
+
+    -- the writer refused a part of the trace
+    pub record IsCutShort (old new : Option (List ℕ)) : Type 0 where
+      pub history : List Call
+      pub confirmed : IsConfirmedText history
+      pub written : AppendsPart old new (trace_text s history)
+
+    -- why the steps are not confirmed, the first that applies, and what was written then
+    abbrev pub IsConfirmRefusal : Option (List ℕ) → Option (List ℕ) → ConfirmFault → Type 0
+    IsConfirmRefusal old new (fault.Step r) = (new ≡ old) × IsRefusedText r
+    IsConfirmRefusal old new fault.Write = IsCutShort old new
+    IsConfirmRefusal old new f = (new ≡ old) × IsUntold f

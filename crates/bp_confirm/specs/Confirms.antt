@@ -1,0 +1,115 @@
+-- When a history confirms reported steps, and why none does.
+use Rattle.std.specs.Prelude.{Option, None, Some, ◌≡◌, ◌<◌, ℕ, ◌+◌, Bool, true, false, List, [], ◌∷◌, ◌++◌, length}
+use Rattle.std.specs.List.{AllByRecursion}
+use Rattle.bp_tree.specs.Ast.{Program}
+use Rattle.bp_machine.specs.declared.calls.Call.{Call}
+use Rattle.bp_machine.specs.declared.calls.Reply.{Reply}
+use Rattle.bp_code.specs.Configurations.{Configuration}
+use Rattle.bp_machine.specs.declared.tops.Top.{Top}
+use Rattle.bp_machine.specs.Answers.{stack_of}
+use Rattle.bp_machine.specs.Tops.{IsTop}
+use Rattle.bp_machine.specs.Histories.{configuration_after, is_finished, IsAllowed, IsLegal}
+use Rattle.bp_machine.specs.Replies.{is_granted}
+use Rattle.bp_machine.specs.Setups.{SetupOf, threads}
+use Rattle.bp_confirm.specs.declared.faults.StepFault.{StepFault}
+use Rattle.bp_confirm.specs.declared.faults.StepFault.TheVariants as fault
+use Rattle.bp_confirm.specs.declared.faults.StepReason.{StepReason}
+use Rattle.bp_confirm.specs.declared.faults.StepReason.TheVariants.{Elsewhere, Ambiguous, Finished, Refused, Differs}
+use Rattle.bp_confirm.specs.declared.faults.StepRefusal.{StepRefusal}
+use Rattle.bp_confirm.specs.Places.{stands_at}
+use Rattle.bp_confirm.specs.Steps.{StepOf, IsFirstUnseen, IsStepOf, Takes}
+use Rattle.bp_confirm.specs.StepLines.{StepLineOf, value_of, step_of, steps_of}
+use Rattle.bp_confirm.specs.Inferred.{IsAmbiguousOnStack, IsClearOnStack, FollowAfter}
+
+-- the legal history takes the steps, one call for each, with the bits that are inferred
+pub record IsConfirmed (t : Program) (s : SetupOf) (steps : List StepOf) (h : List Call)
+    : Type 0 where
+  pub legal : IsLegal t s h
+  pub takes : Takes t s steps h
+  pub follows : FollowAfter t s [] steps [] h
+
+-- thread i goes on at the instruction of this number, or has no frame
+abbrev pub GoesOnAt : Program → Configuration → ℕ → Option ℕ → Type 0
+GoesOnAt t c i None = stack_of c i ≡ []
+GoesOnAt t c i (Some number) = (top : Top) × IsTop t c i top × (top.number ≡ number)
+
+-- after the history h, at the step x
+module _ (t : Program) (s : SetupOf) (h : List Call) (x : StepOf) where
+  -- no call takes it, whatever its choice bit
+  abbrev pub IsStuck : Type 0
+  IsStuck = (call : Call) → IsStepOf t s h x call → ⊥
+
+  abbrev pub StandsAtPlace : Bool → Type 0
+  StandsAtPlace b = stands_at x.place (stack_of (configuration_after t s h) x.thread) ≡ b
+
+  -- its thread stands at its place, and these later steps tell which way it goes
+  pub record StandsThere (later : List StepOf) : Type 0 where
+    pub at : StandsAtPlace true
+    pub clear : IsClearOnStack x.thread later (stack_of (configuration_after t s h) x.thread)
+
+  -- its thread stands at its place, and these later steps do not tell which way it goes
+  pub record IsUnclear (later : List StepOf) : Type 0 where
+    pub at : StandsAtPlace true
+    pub ambiguous :
+        IsAmbiguousOnStack x.thread later (stack_of (configuration_after t s h) x.thread)
+
+  -- its thread may make a call; with either choice bit the machine's reply is r, and that is no step
+  pub record IsAnswered (r : Reply) : Type 0 where
+    pub call : Call
+    pub thread : call.thread ≡ x.thread
+    pub allowed : IsAllowed t s h call
+    pub each : (y : Call) → y.thread ≡ x.thread → IsAllowed t s h y → y.reply ≡ r
+    pub refused : is_granted r ≡ false
+
+  -- a call takes it but for its values: this is the first that the thread does not see
+  pub record SeesOther (value : List ℕ × Bool) (seen : Option Bool) : Type 0 where
+    pub call : Call
+    pub takes : IsStepOf t s h (record x { values = [] }) call
+    pub unseen :
+        IsFirstUnseen (configuration_after t s (h ++ call ∷ [])) x.thread x.values value seen
+
+  -- Why it is refused, before these later steps: the first of these.
+  abbrev pub IsReason : List StepOf → StepReason → Type 0
+  IsReason later Elsewhere = StandsAtPlace false
+  IsReason later Ambiguous = IsUnclear later
+  IsReason later Finished = StandsThere later × (is_finished s h x.thread ≡ true)
+  IsReason later (Refused r) = StandsThere later × IsAnswered r
+  IsReason later (Differs value seen) = StandsThere later × SeesOther (value_of value) seen
+
+-- the reason says that nothing takes a step; an ambiguous one asks for a column
+abbrev pub ForStuck : StepReason → Type 0 → Type 0
+ForStuck Ambiguous P = Unit {0}
+ForStuck reason P = P
+
+-- Why the steps of these lines are not confirmed: a legal history takes those before line n; after
+-- it this is the first reason against the step of line n, whose thread goes on at the instruction
+-- of this number; and no history of the program in its setup takes the first n steps, whatever its
+-- choice bits.
+pub record IsStepRefusal
+    (text : List ℕ) (t : Program) (s : SetupOf) (lines : List StepLineOf) (r : StepRefusal)
+    : Type 0 where
+  pub before : List StepLineOf
+  pub step : StepLineOf
+  pub later : List StepLineOf
+  pub whole : lines ≡ before ++ step ∷ later
+  pub line : r.line ≡ length before + 1
+  pub thread : r.thread ≡ step.thread
+  pub location : r.location ≡ step.location
+  pub history : List Call
+  pub legal : IsLegal t s history
+  pub takes : Takes t s (steps_of text before) history
+  pub number : GoesOnAt t (configuration_after t s history) r.thread r.number
+  pub reason : IsReason t s history (step_of text step) (steps_of text later) r.reason
+  pub none :
+      ForStuck r.reason
+      ((g : List Call) → Takes t s (steps_of text (before ++ step ∷ [])) g → ⊥)
+
+-- the same, or memory was refused
+abbrev pub IsNotConfirmed
+    : List ℕ → Program → SetupOf → List StepLineOf → StepFault → Type 0
+IsNotConfirmed text t s lines (fault.Refusal r) = IsStepRefusal text t s lines r
+IsNotConfirmed text t s lines fault.Memory = Unit {0}
+
+-- each line is one of a thread of the setup
+abbrev pub AreOfThreads : SetupOf → List StepLineOf → Type 0
+AreOfThreads s lines = AllByRecursion (λ x. x.thread < threads s) lines

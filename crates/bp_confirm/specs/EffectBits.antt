@@ -1,0 +1,28 @@
+-- A device: the inferred bit by the two effects of an instruction.
+use Rattle.std.specs.Prelude.{ℕ, Bool, true, false, not, ◌&&◌, ◌==◌, Option, None, Some}
+use Rattle.bp_code.specs.declared.effects.Effect.{Effect}
+use Rattle.bp_code.specs.declared.effects.Effect.TheVariants.{Continues, Fails, Blocks}
+
+-- the instructions of these numbers are at the place of the thread's next step, if it takes one
+abbrev pub NextNumbers : Type 0
+NextNumbers = Option (ℕ → Bool)
+
+abbrev pub bit_towards_number : NextNumbers → (taken other : ℕ) → Bool
+bit_towards_number None taken other = false
+bit_towards_number (Some there) taken other = there taken && not (there other)
+
+-- with the bit 0, and with the bit 1
+abbrev pub bit_of_effects : NextNumbers → Bool → Effect → Effect → Bool
+bit_of_effects next follow Blocks (Continues n w) = true
+bit_of_effects next follow Fails (Continues n w) = follow
+bit_of_effects next follow (Continues m v) (Continues n w) = bit_towards_number next n m
+bit_of_effects next follow d e = false
+
+-- two ways to the place
+abbrev pub are_both_there : NextNumbers → (taken other : ℕ) → Bool
+are_both_there None taken other = false
+are_both_there (Some there) taken other = not (taken == other) && (there taken && there other)
+
+abbrev pub splits : NextNumbers → Effect → Effect → Bool
+splits next (Continues m v) (Continues n w) = are_both_there next n m
+splits next d e = false

@@ -1,0 +1,95 @@
+-- The choice bits that reported steps leave out, and how they are inferred from the later steps.
+use Rattle.std.specs.Prelude.{◌≡◌, ℕ, Bool, true, false, not, ◌&&◌, List, [], ◌∷◌, ◌++◌, Option, None, Some}
+use Rattle.bp_tree.specs.Ast.{Block, Then, Branches, Loops, Asserts, Assumes, Choose, Program}
+use Rattle.bp_code.specs.Continuations.{chain}
+use Rattle.bp_code.specs.Configurations.{Frame}
+use Rattle.bp_code.specs.Starts.{start_of_block}
+use Rattle.bp_machine.specs.declared.calls.Call.{Call}
+use Rattle.bp_machine.specs.Answers.{stack_of}
+use Rattle.bp_machine.specs.Histories.{configuration_after}
+use Rattle.bp_machine.specs.Setups.{SetupOf}
+use Rattle.bp_confirm.specs.Places.{Place}
+use Rattle.bp_confirm.specs.Steps.{StepOf, IsStepOf, next_place}
+
+-- the bit that leads to the place of the thread's next step: 1 only where the statements after a 1
+-- are there and those after a 0 are not
+abbrev pub bit_towards : Option Place → Block → Block → Bool
+bit_towards None taken other = false
+bit_towards (Some p) taken other =
+    p (start_of_block taken) && not (p (start_of_block other))
+
+-- The bit of the next statement, where the thread's next step is at this place, and steps follow or
+-- not. Where `?` decides it, an assumption is 1, an assertion is 1 unless it is the last step, and a
+-- branch or a loop goes where the next step is. All other bits are 0.
+abbrev pub bit_of_block : Block → Option Place → Bool → Bool
+bit_of_block (Then label at (Assumes Choose) r) next follow = true
+bit_of_block (Then label at (Asserts Choose) r) next follow = follow
+bit_of_block (Then label at (Branches Choose a b) r) next follow =
+    bit_towards next (chain a r) (chain b r)
+bit_of_block (Then label at (Loops Choose a) r) next follow =
+    bit_towards next (chain a (Then label at (Loops Choose a) r)) r
+bit_of_block b next follow = false
+
+-- both ways are at the place of the thread's next step only where they are the same
+abbrev pub IsClearWay : Option Place → Block → Block → Type 0
+IsClearWay None taken other = Unit {0}
+IsClearWay (Some p) taken other =
+    p (start_of_block taken) ≡ true
+    → p (start_of_block other) ≡ true
+    → taken ≡ other
+
+-- the next step of the thread tells which way a `?` went
+abbrev pub IsClear : Block → Option Place → Type 0
+IsClear (Then label at (Branches Choose a b) r) next = IsClearWay next (chain a r) (chain b r)
+IsClear (Then label at (Loops Choose a) r) next =
+    IsClearWay next (chain a (Then label at (Loops Choose a) r)) r
+IsClear b next = Unit {0}
+
+-- both ways are at the place of the thread's next step
+abbrev pub AreBothWays : Option Place → Block → Block → Type 0
+AreBothWays None taken other = ⊥
+AreBothWays (Some p) taken other =
+    (p (start_of_block taken) ≡ true) × (p (start_of_block other) ≡ true)
+
+-- a `?` may have gone either way
+abbrev pub IsAmbiguous : Block → Option Place → Type 0
+IsAmbiguous (Then label at (Branches Choose a b) r) next =
+    AreBothWays next (chain a r) (chain b r)
+IsAmbiguous (Then label at (Loops Choose a) r) next =
+    AreBothWays next (chain a (Then label at (Loops Choose a) r)) r
+IsAmbiguous b next = ⊥
+
+-- steps follow
+abbrev pub some_follow : List StepOf → Bool
+some_follow [] = false
+some_follow (x ∷ xs) = true
+
+-- the bit of the next step of a thread with this stack, before these later steps
+abbrev pub bit_of_stack : ℕ → List StepOf → List Frame → Bool
+bit_of_stack i later [] = false
+bit_of_stack i later (f ∷ fs) = bit_of_block f.left (next_place i later) (some_follow later)
+
+abbrev pub IsClearOnStack : ℕ → List StepOf → List Frame → Type 0
+IsClearOnStack i later [] = Unit {0}
+IsClearOnStack i later (f ∷ fs) = IsClear f.left (next_place i later)
+
+abbrev pub IsAmbiguousOnStack : ℕ → List StepOf → List Frame → Type 0
+IsAmbiguousOnStack i later [] = ⊥
+IsAmbiguousOnStack i later (f ∷ fs) = IsAmbiguous f.left (next_place i later)
+
+-- the call takes the step x after the history h, with the bit that is inferred from the later steps
+pub record Follows
+    (t : Program) (s : SetupOf) (h : List Call) (x : StepOf) (later : List StepOf) (call : Call)
+    : Type 0 where
+  pub takes : IsStepOf t s h x call
+  pub bit :
+      call.bit ≡ bit_of_stack x.thread later (stack_of (configuration_after t s h) x.thread)
+  pub clear : IsClearOnStack x.thread later (stack_of (configuration_after t s h) x.thread)
+
+-- the calls follow the steps after the history h, and the later steps are these
+abbrev pub FollowAfter :
+    Program → SetupOf → List Call → List StepOf → List StepOf → List Call → Type 0
+FollowAfter t s h [] later [] = Unit {0}
+FollowAfter t s h (x ∷ xs) later (call ∷ calls) =
+    Follows t s h x (xs ++ later) call × FollowAfter t s (h ++ call ∷ []) xs later calls
+FollowAfter t s h xs later calls = ⊥

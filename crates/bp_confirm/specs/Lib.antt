@@ -1,0 +1,15 @@
+pub mod Inferred
+pub mod Places
+pub mod Spots
+pub mod Steps
+pub mod StepLines
+pub mod EffectBits
+pub mod Confirms
+pub mod StepRefusals
+pub mod Confirmations
+pub mod StepRuns
+pub mod StepTexts
+pub mod LineReading
+pub mod DeclaredLines
+pub mod StrayLines
+pub mod ConfirmedTexts

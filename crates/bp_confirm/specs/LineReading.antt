@@ -1,0 +1,71 @@
+-- How a line of reported steps is read: a device of the reader, which no public clause names.
+use Rattle.std.specs.Prelude.{◌≡◌, ◌≢◌, ◌⊎◌, ℕ, List, [], ◌∷◌, ◌++◌, Bool, decimal}
+use Rattle.bp_code.specs.Values.{Valuation}
+use Rattle.bp_trace.specs.Schedules.{bit_digit}
+use Rattle.bp_trace.specs.Writable.{Without}
+use Rattle.bp_confirm.specs.declared.locations.Location.{Location}
+use Rattle.bp_confirm.specs.declared.step_texts.StepsFault.{StepsFault}
+use Rattle.bp_confirm.specs.declared.step_texts.StepsFault.TheVariants as fault
+use Rattle.bp_confirm.specs.StepLines.{StepLineOf}
+use Rattle.bp_confirm.specs.StepTexts.{location_text, value_text, values_text, line_text, IsShort, IsShortLocation, IsStepName, AreNamed, HasLine, IsBadLine}
+
+-- the text is what is before the first of this byte, the byte, and the rest
+pub record IsCut (byte : ℕ) (text before rest : List ℕ) : Type 0 where
+  pub first : Without byte before
+  pub parts : text ≡ before ++ byte ∷ rest
+
+-- the text is what is before its first space, if it has one, and the rest from there on
+pub record IsField (text field rest : List ℕ) : Type 0 where
+  pub first : Without 32 field
+  pub parts : text ≡ field ++ rest
+  pub ends : (rest ≡ []) ⊎ ((more : List ℕ) × (rest ≡ 32 ∷ more))
+
+abbrev pub IsShortNumber : List ℕ → ℕ → Type 0
+IsShortNumber digits n = IsShort n × (digits ≡ decimal n)
+
+abbrev pub IsNoShortNumber : List ℕ → Type 0
+IsNoShortNumber digits = (n : ℕ) → IsShort n → digits ≢ decimal n
+
+abbrev pub IsLocation : List ℕ → Location → Type 0
+IsLocation field x = IsShortLocation x × (field ≡ location_text x)
+
+abbrev pub IsNoLocation : List ℕ → Type 0
+IsNoLocation field = (x : Location) → IsShortLocation x → field ≢ location_text x
+
+-- this byte begins the text
+abbrev pub BeginsWith : ℕ → List ℕ → Type 0
+BeginsWith byte text = (rest : List ℕ) × (text ≡ byte ∷ rest)
+
+-- a name begins the text, with an equals sign after it
+pub record IsNameAt (text name rest : List ℕ) : Type 0 where
+  pub name_is : IsStepName name
+  pub parts : text ≡ name ++ 61 ∷ rest
+
+abbrev pub HasNoName : List ℕ → Type 0
+HasNoName text = (name rest : List ℕ) → IsStepName name → text ≢ name ++ 61 ∷ rest
+
+-- a value begins the text
+pub record IsValueAt (text : List ℕ) (v : List ℕ × Bool) (rest : List ℕ) : Type 0 where
+  pub name : IsStepName v.0
+  pub parts : text ≡ value_text v ++ rest
+
+abbrev pub HasNoValue : List ℕ → Type 0
+HasNoValue text =
+    (v : List ℕ × Bool) (rest : List ℕ) → IsStepName v.0 → text ≢ value_text v ++ rest
+
+abbrev pub AreValues : List ℕ → Valuation → Type 0
+AreValues text vs = AreNamed vs × (text ≡ values_text vs)
+
+abbrev pub AreNoValues : List ℕ → Type 0
+AreNoValues text = (vs : Valuation) → AreNamed vs → text ≢ values_text vs
+
+abbrev pub IsStepLine : List ℕ → StepLineOf → Type 0
+IsStepLine line x = HasLine x × (line ≡ line_text x)
+
+abbrev pub IsNoStepLine : List ℕ → Type 0
+IsNoStepLine line = (x : StepLineOf) → HasLine x → line ≢ line_text x
+
+-- the first malformed line; nothing is said of when memory is refused
+abbrev pub IsUnreadable : List ℕ → StepsFault → Type 0
+IsUnreadable text (fault.Line n) = IsBadLine text n
+IsUnreadable text fault.Memory = Unit {0}

@@ -1,0 +1,75 @@
+//! The choice bits that reported steps leave out.
+ghost use Rattle.std.specs.Prelude.{◌≡◌, ℕ, List, MatchOption, option_map};
+ghost use Rattle.bp_tree.specs.Ast.{Block, Procedure, Program};
+ghost use Rattle.bp_code.specs.StandsFor.{Does, places_of};
+ghost use Rattle.bp_confirm.specs.EffectBits.{bit_of_effects, splits};
+ghost use Rattle.bp_confirm.specs.Inferred.{bit_of_block, IsAmbiguous, IsClear};
+ghost use Rattle.bp_confirm.specs.Places.{place_of};
+ghost use Rattle.bp_confirm.specs.Spots.{is_there, spots_of};
+
+use crate::locations::Location;
+use crate::spots::{Spot, is_there};
+use bp_code::{Effect, Instr, Store};
+
+/// The inferred bit of an instruction that has these effects with the bits 0 and 1.
+fn bit_of_effects(
+    spots: &[Spot],
+    next: Option<Location>,
+    follow: bool,
+    zero: Effect,
+    one: Effect,
+) -> bool
+    ensures { result ≡ bit_of_effects (option_map (is_there spots.now) next) follow zero one }
+{
+    match (zero, one) {
+        (Effect::Blocks, Effect::Continues { .. }) => true,
+        (Effect::Fails, Effect::Continues { .. }) => follow,
+        (Effect::Continues { next: other, .. }, Effect::Continues { next: taken, .. }) =>
+            match next {
+                Some(place) => is_there(spots, place, taken) && !is_there(spots, place, other),
+                None => false,
+            },
+        _ => false,
+    }
+}
+
+/// Whether both bits lead to the location of the next step, and to different instructions.
+fn splits(spots: &[Spot], next: Option<Location>, zero: Effect, one: Effect) -> bool
+    ensures { result ≡ splits (option_map (is_there spots.now) next) zero one }
+{
+    match (zero, one) {
+        (Effect::Continues { next: other, .. }, Effect::Continues { next: taken, .. }) =>
+            match next {
+                Some(place) => {
+                    taken != other && is_there(spots, place, taken) && is_there(spots, place, other)
+                }
+                None => false,
+            },
+        _ => false,
+    }
+}
+
+/// The inferred bit of an instruction, where the next step of its thread is at this location and
+/// steps follow or not; none where the location does not tell which way a `?` went.
+pub(crate) fn inferred_bit(
+    instr: &Instr,
+    store: Store,
+    spots: &[Spot],
+    next: Option<Location>,
+    follow: bool,
+) -> Option<bool>
+    ensures { (text : List ℕ) (t : Program) (p : Procedure) (left : Block)
+        → Does t (places_of t.procedures) p left instr.now
+        → spots.now ≡ spots_of text t
+        → let place = option_map (place_of text) next in
+        MatchOption result
+        (IsAmbiguous left place)
+        (λ bit. (bit ≡ bit_of_block left place follow) × IsClear left place) }
+{
+    let zero = instr.effect(store, false);
+    let one = instr.effect(store, true);
+    if splits(spots, next, zero, one) {
+        return None;
+    }
+    Some(bit_of_effects(spots, next, follow, zero, one))
+}

@@ -1,0 +1,127 @@
+//! Confirming a text of reported steps.
+ghost use Rattle.std.specs.Prelude.{◌≡◌, ◌<◌, ◌^◌, None, length, IfOk, MatchResult};
+ghost use Rattle.bp_code.specs.StandsFor.{StandsFor};
+ghost use Rattle.bp_machine.specs.Setups.{FitsCode};
+ghost use Rattle.bp_confirm.specs.ConfirmedTexts.{AreTold, ConfirmsTo, IsConfirmRefusal, IsUntold};
+ghost use Rattle.bp_confirm.specs.StrayLines.{fault_of_stray};
+
+use crate::declared::{Stray, check_lines};
+use crate::faults::{StepFault, StepRefusal};
+use crate::histories::confirm_lines;
+use crate::step_lines::StepLine;
+use crate::step_texts::{StepsFault, read_steps};
+use bp_check::Checked;
+use bp_code::Code;
+use bp_machine::{Report, Setup};
+use bp_trace::limits::MAX_SCHEDULE;
+use bp_trace::write_trace;
+use std::alloc::Global;
+use std::io::Write;
+use thiserror::Error;
+
+/// Why a text of steps is not confirmed: the first of these that applies. Lines are counted from 1.
+#[derive(Clone, Copy, Debug, Error)]
+pub enum ConfirmFault<'a> {
+    /// The text has more than 67,108,864 bytes.
+    #[error("the steps are too long")]
+    TooLong,
+    /// This line is the first that is malformed, or the last one that does not end.
+    #[error("line {0} of the steps is not a thread, a place and values")]
+    Line(u32),
+    /// This line is the first that names what is not declared: a thread that the setup does not
+    /// have.
+    #[error("line {0} of the steps is of thread {1}, which is not there")]
+    NoThread(u32, u32),
+    /// This line is the first that names what is not declared: a variable that no part of the
+    /// program has.
+    #[error("line {0} of the steps has a value of no variable")]
+    NoVariable(u32, &'a [u8]),
+    /// This is the first step that is not taken.
+    #[error("line {} of the steps is not taken", .0.line)]
+    Step(StepRefusal<'a>),
+    /// There was not enough memory.
+    #[error("out of memory")]
+    Memory,
+    /// The trace could not be written whole.
+    #[error("the output could not be written")]
+    Write,
+}
+
+/// The fault of the first line that names what is not declared.
+fn fault_of_stray<'a>(line: u32, stray: Stray<'a>) -> ConfirmFault<'a>
+    ensures { result ≡ fault_of_stray line stray.entry }
+{
+    match stray {
+        Stray::Thread(thread) => ConfirmFault::NoThread(line, thread),
+        Stray::Variable(name) => ConfirmFault::NoVariable(line, name),
+    }
+}
+
+/// The lines of a text of steps, each of a thread of the setup and of variables of the program.
+fn told_lines<'a>(
+    alloc: Global,
+    checked: &Checked,
+    setup: &Setup,
+    steps: &'a [u8],
+) -> Result<Vec<StepLine<'a>>, ConfirmFault<'a>>
+    ensures told { MatchResult result
+        (λ lines. AreTold checked.now setup.now steps.now lines.items)
+        (IsUntold checked.now setup.now steps.now) }
+    ensures short { IfOk result (λ lines. length lines.items < 2 ^ 32) }
+{
+    if steps.len() > MAX_SCHEDULE {
+        return Err(ConfirmFault::TooLong);
+    }
+    let lines = match read_steps(alloc, steps) {
+        Ok(lines) => lines,
+        Err(StepsFault::Line(line)) => return Err(ConfirmFault::Line(line)),
+        Err(StepsFault::Memory) => return Err(ConfirmFault::Memory),
+    };
+    if let Err((line, stray)) = check_lines(checked, setup, lines.as_slice()) {
+        return Err(fault_of_stray(line, stray));
+    }
+    Ok(lines)
+}
+
+/// Confirms a text of reported steps of the program of a text, and writes the trace of the history
+/// that takes them, one call for each step. At a refusal nothing is written, but for a writer that
+/// refuses: it then has a proper prefix of the trace.
+pub fn confirm<'a, W: Write>(
+    alloc: Global,
+    text: &[u8],
+    checked: &Checked,
+    code: &Code,
+    setup: &Setup,
+    steps: &'a [u8],
+    out: &mut W,
+) -> Result<Report, ConfirmFault<'a>>
+    requires code { StandsFor code.now checked.now }
+    requires fits { FitsCode code.now setup.now }
+    requires unseeded { setup.now.seed ≡ None }
+    ensures { MatchResult result
+        (ConfirmsTo
+        checked.now
+        setup.now
+        steps.now
+        text.now
+        (W.contents out.old)
+        (W.contents out.new))
+        (IsConfirmRefusal
+        checked.now
+        setup.now
+        steps.now
+        text.now
+        (W.contents out.old)
+        (W.contents out.new)) }
+{
+    let lines = told_lines(alloc, checked, setup, steps)?;
+    let confirmed = match confirm_lines(alloc, text, checked, code, setup, lines.as_slice()) {
+        Ok(confirmed) => confirmed,
+        Err(StepFault::Refusal(refusal)) => return Err(ConfirmFault::Step(refusal)),
+        Err(StepFault::Memory) => return Err(ConfirmFault::Memory),
+    };
+    match write_trace(setup, confirmed.history.as_slice(), out) {
+        Ok(()) => Ok(confirmed.report),
+        Err(_) => Err(ConfirmFault::Write),
+    }
+}

@@ -1,0 +1,71 @@
+//! The first line of a thread or a variable that is not declared.
+ghost use Rattle.std.specs.Prelude.{◌≡◌, ◌<◌, ◌^◌, length, MatchOption, MatchResult};
+ghost use Rattle.bp_machine.specs.Setups.{threads};
+ghost use Rattle.bp_confirm.specs.DeclaredLines.{declares, has_local, AreDeclared, AreDeclaredLines, IsFirstUndeclared};
+ghost use Rattle.bp_confirm.specs.StepLines.{values_of};
+ghost use Rattle.bp_confirm.specs.StrayLines.{IsStray};
+
+use crate::step_lines::{SeenValue, StepLine};
+use bp_check::Checked;
+use bp_code::{local_slot_of, slot_of};
+use bp_machine::Setup;
+use bp_tree::Proc;
+
+/// What a line names that is not declared.
+#[derive(Clone, Copy, Debug)]
+pub(crate) enum Stray<'a> {
+    Thread(u32),
+    Variable(&'a [u8]),
+}
+
+/// Whether a procedure has a variable of this name.
+fn is_local(procs: &[Proc], name: &[u8]) -> bool
+    ensures { result ≡ has_local procs.now name.now }
+{
+    procs.iter().any(|proc| local_slot_of(proc, name).is_some())
+}
+
+/// Whether a variable of the program has this name.
+fn declares(checked: &Checked, name: &[u8]) -> bool
+    ensures { result ≡ declares checked.now name.now }
+{
+    let tree = checked.tree();
+    slot_of(tree.globals(), name).is_some() || is_local(tree.procs(), name)
+}
+
+/// The first name of these values that no variable has.
+fn undeclared_name<'a>(checked: &Checked, values: &[SeenValue<'a>]) -> Option<&'a [u8]>
+    ensures { MatchOption result
+        (AreDeclared checked.now (values_of values.now))
+        (λ name. IsFirstUndeclared checked.now (values_of values.now) name.now) }
+{
+    for value in values {
+        if !declares(checked, value.name) {
+            return Some(value.name);
+        }
+    }
+    None
+}
+
+/// Refuses the first line of a thread that the setup does not have, or of a variable that the program
+/// does not declare.
+pub(crate) fn check_lines<'a>(
+    checked: &Checked,
+    setup: &Setup,
+    lines: &[StepLine<'a>],
+) -> Result<(), (u32, Stray<'a>)>
+    requires { length lines.now < 2 ^ 32 }
+    ensures { MatchResult result
+        (λ _. AreDeclaredLines checked.now setup.now lines.now)
+        (λ p. IsStray checked.now setup.now lines.now p.0 p.1) }
+{
+    for (n, line) in lines.iter().enumerate() {
+        if line.thread >= setup.threads() {
+            return Err((n as u32 + 1, Stray::Thread(line.thread)));
+        }
+        if let Some(name) = undeclared_name(checked, line.values.as_slice()) {
+            return Err((n as u32 + 1, Stray::Variable(name)));
+        }
+    }
+    Ok(())
+}

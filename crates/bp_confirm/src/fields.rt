@@ -1,0 +1,162 @@
+//! The fields of a line of reported steps.
+ghost use Rattle.std.specs.Prelude.{◌≡◌, ◌≢◌, Bool, ◌++◌, ◌∷◌, [], List, ℕ, MatchOption};
+ghost use Rattle.bp_trace.specs.Schedules.{bit_digit};
+ghost use Rattle.bp_trace.specs.Writable.{Without};
+ghost use Rattle.bp_confirm.specs.LineReading.{BeginsWith, HasNoName, HasNoValue, IsCut, IsField, IsLocation, IsNameAt, IsNoLocation, IsNoShortNumber, IsShortNumber, IsValueAt};
+ghost use Rattle.bp_confirm.specs.StepLines.{value_of};
+
+use crate::locations::Location;
+use crate::step_lines::SeenValue;
+use bp_text::{number_of, part_before, part_from};
+
+/// The text before the first of a byte, and what is after it.
+pub(crate) fn cut_at(text: &[u8], byte: u8) -> Option<(&[u8], &[u8])>
+    ensures { MatchOption result
+        (Without byte text.now)
+        (λ p. IsCut byte text.now p.0.now p.1.now) }
+{
+    for (i, it) in text.iter().enumerate() {
+        if *it == byte {
+            return Some((part_before(text, i), part_from(text, i + 1)));
+        }
+    }
+    None
+}
+
+/// What is after the word, where the word begins the text.
+fn after<'a>(text: &'a [u8], word: &[u8]) -> Option<&'a [u8]>
+    ensures { MatchOption result
+        ((rest : List ℕ) → text.now ≢ word.now ++ rest)
+        (λ rest. text.now ≡ word.now ++ rest.now) }
+{
+    text.strip_prefix(word)
+}
+
+/// The text before the first space, and the rest from there on; the whole text where it has none.
+pub(crate) fn field_at(text: &[u8]) -> (&[u8], &[u8])
+    ensures { IsField text.now result.0.now result.1.now }
+{
+    match cut_at(text, b' ') {
+        Some((field, _)) => (field, part_from(text, field.len())),
+        None => (text, part_from(text, text.len())),
+    }
+}
+
+/// The number of 32 bits whose decimal the digits are.
+pub(crate) fn short_number_of(digits: &[u8]) -> Option<u32>
+    ensures { MatchOption result (IsNoShortNumber digits.now) (IsShortNumber digits.now) }
+{
+    let Some(number) = number_of(digits) else {
+        return None;
+    };
+    if number > u64::from(u32::MAX) {
+        return None;
+    }
+    Some(number as u32)
+}
+
+/// The location that a field says.
+pub(crate) fn location_of(field: &[u8]) -> Option<Location>
+    ensures { MatchOption result (IsNoLocation field.now) (IsLocation field.now) }
+{
+    if field == b"-".as_slice() {
+        return Some(Location::End);
+    }
+    let Some((line, column)) = cut_at(field, b':') else {
+        return match short_number_of(field) {
+            None => None,
+            Some(line) => Some(Location::Line(line)),
+        };
+    };
+    let Some(line) = short_number_of(line) else {
+        return None;
+    };
+    match short_number_of(column) {
+        None => None,
+        Some(column) => Some(Location::Column(line, column)),
+    }
+}
+
+/// The name in braces that begins a text, and what is after the equals sign after it.
+fn braced_name_at(text: &[u8]) -> Option<(&[u8], &[u8])>
+    requires line { Without 10 text.now }
+    requires braced { BeginsWith 123 text.now }
+    ensures { MatchOption result
+        (HasNoName text.now)
+        (λ p. IsNameAt text.now p.0.now p.1.now) }
+{
+    let Some((inner, rest)) = cut_at(text, b'}') else {
+        return None;
+    };
+    let Some(rest) = after(rest, b"=") else {
+        return None;
+    };
+    Some((part_before(text, inner.len() + 1), rest))
+}
+
+/// The name without braces that begins a text, and what is after the equals sign after it.
+fn plain_name_at(text: &[u8]) -> Option<(&[u8], &[u8])>
+    requires line { Without 10 text.now }
+    requires unbraced { BeginsWith 123 text.now → ⊥ }
+    ensures { MatchOption result
+        (HasNoName text.now)
+        (λ p. IsNameAt text.now p.0.now p.1.now) }
+{
+    let Some((name, rest)) = cut_at(text, b'=') else {
+        return None;
+    };
+    if name.is_empty() {
+        return None;
+    }
+    match cut_at(name, b' ') {
+        Some(_) => None,
+        None => Some((name, rest)),
+    }
+}
+
+/// The name that begins a text, and what is after the equals sign after it.
+pub(crate) fn name_at(text: &[u8]) -> Option<(&[u8], &[u8])>
+    requires { Without 10 text.now }
+    ensures { MatchOption result
+        (HasNoName text.now)
+        (λ p. IsNameAt text.now p.0.now p.1.now) }
+{
+    if text.first() == Some(&b'{') {
+        return braced_name_at(text);
+    }
+    plain_name_at(text)
+}
+
+/// The bit of the digit that begins a text, and what is after it.
+fn bit_at(text: &[u8]) -> Option<(bool, &[u8])>
+    ensures { MatchOption result
+        ((b : Bool) (rest : List ℕ) → text.now ≢ bit_digit b ∷ rest)
+        (λ p. text.now ≡ bit_digit p.0 ∷ p.1.now) }
+{
+    if let Some(rest) = after(text, b"0") {
+        return Some((false, rest));
+    }
+    match after(text, b"1") {
+        None => None,
+        Some(rest) => Some((true, rest)),
+    }
+}
+
+/// The value that begins a text, and what is after it.
+pub(crate) fn value_at(text: &[u8]) -> Option<(SeenValue<'_>, &[u8])>
+    requires { Without 10 text.now }
+    ensures { MatchOption result
+        (HasNoValue text.now)
+        (λ p. IsValueAt text.now (value_of p.0) p.1.now) }
+{
+    let Some(words) = after(text, b" ") else {
+        return None;
+    };
+    let Some((name, digit)) = name_at(words) else {
+        return None;
+    };
+    match bit_at(digit) {
+        None => None,
+        Some((bit, rest)) => Some((SeenValue { name, bit }, rest)),
+    }
+}

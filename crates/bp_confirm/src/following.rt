@@ -1,0 +1,246 @@
+//! Following reported steps.
+ghost use Rattle.std.specs.Prelude.{◌≡◌, ◌<◌, ◌≤◌, ◌+◌, ◌^◌, ◌++◌, ◌∷◌, [], List, ℕ, None, length, true, false, option_map, IfOk, IfErr, OnOk, MatchOption, MatchResult};
+ghost use Rattle.bp_tree.specs.Ast.{Program};
+ghost use Rattle.bp_code.specs.StandsFor.{StandsFor};
+ghost use Rattle.bp_machine.specs.declared.calls.Call.{Call as Answered};
+ghost use Rattle.bp_machine.specs.Answers.{stack_of};
+ghost use Rattle.bp_machine.specs.Histories.{configuration_after, IsAllowed};
+ghost use Rattle.bp_machine.specs.Replies.{is_granted};
+ghost use Rattle.bp_machine.specs.Setups.{threads};
+ghost use Rattle.bp_machine.specs.Sessions.{Stands};
+ghost use Rattle.bp_machine.specs.Tops.{IsTop};
+ghost use Rattle.bp_confirm.specs.declared.faults.StepFault.{StepFault};
+ghost use Rattle.bp_confirm.specs.Confirms.{AreOfThreads, GoesOnAt, IsConfirmed, IsNotConfirmed};
+ghost use Rattle.bp_confirm.specs.Inferred.{bit_of_stack, IsAmbiguousOnStack, IsClearOnStack, Follows};
+ghost use Rattle.bp_confirm.specs.Places.{place_of, stands_at};
+ghost use Rattle.bp_confirm.specs.Spots.{spots_of};
+ghost use Rattle.bp_confirm.specs.StepLines.{next_locations, step_of, steps_of};
+ghost use Rattle.bp_confirm.specs.StepRefusals.{refusal_of, IsNotCalled, IsNotTaken, TellsNext};
+ghost use Rattle.bp_confirm.specs.Steps.{StepOf};
+
+use crate::choices::inferred_bit;
+use crate::faults::{StepFault, StepReason, StepRefusal};
+use crate::locations::Location;
+use crate::spots::{Spot, is_there};
+use crate::step_lines::StepLine;
+use crate::values::first_unseen;
+use bp_check::Checked;
+use bp_machine::{AskFault, Call, Reply, Session, Top};
+use std::alloc::Global;
+
+/// What the later steps tell of a step: the location of its thread before the thread's next step,
+/// and whether any step follows.
+#[derive(Clone, Copy, Debug)]
+pub(crate) struct Next {
+    location: Option<Location>,
+    follows: bool,
+}
+
+/// Why a thread is not called.
+#[derive(Clone, Copy, Debug)]
+pub(crate) enum NotCalled {
+    /// It has made its last call.
+    Finished,
+    /// There was not enough memory.
+    Memory,
+}
+
+/// The top of a thread that stands at a location; else the number of the instruction at which it
+/// goes on, or none where it has ended.
+fn top_at(
+    session: &Session,
+    spots: &[Spot],
+    thread: u32,
+    location: Location,
+) -> Result<Top, Option<u32>>
+    ensures { (text : List ℕ) (t : Program) (h : List Answered)
+        → StandsFor session.now.code t
+        → spots.now ≡ spots_of text t
+        → Stands t session.now h
+        → let now = configuration_after t session.now.setup h in
+        let place = place_of text location in
+        MatchResult result
+        (λ top. (stands_at place (stack_of now thread) ≡ true) × IsTop t now thread top)
+        (λ number.
+        (stands_at place (stack_of now thread) ≡ false) × GoesOnAt t now thread number) }
+{
+    let Some(top) = session.top(thread) else {
+        return Err(None);
+    };
+    if !is_there(spots, location, top.number) {
+        return Err(Some(top.number));
+    }
+    Ok(top)
+}
+
+/// The inferred bit of the next step of a thread with this top; none where the later steps do not
+/// tell which way a `?` went.
+fn bit_at(session: &Session, spots: &[Spot], top: Top, next: Next) -> Option<bool>
+    ensures { (text : List ℕ) (t : Program) (h : List Answered) (x : StepOf) (later : List StepOf)
+        → StandsFor session.now.code t
+        → spots.now ≡ spots_of text t
+        → TellsNext text x later next
+        → let now = configuration_after t session.now.setup h in
+        IsTop t now x.thread top
+        → MatchOption result
+        (IsAmbiguousOnStack x.thread later (stack_of now x.thread))
+        (λ bit.
+        (bit ≡ bit_of_stack x.thread later (stack_of now x.thread))
+        × IsClearOnStack x.thread later (stack_of now x.thread)) }
+{
+    let Some(instr) = session.code().get(top.number) else {
+        return None;
+    };
+    inferred_bit(instr, top.store, spots, next.location, next.follows)
+}
+
+/// Whether a call with this reply made a step.
+fn is_granted(reply: Reply) -> bool
+    ensures { result ≡ is_granted reply }
+{
+    matches!(reply, Reply::Stepped | Reply::Failed)
+}
+
+/// Makes the call of a thread that is there.
+fn call_of(session: &mut Session, thread: u32, bit: bool) -> Result<Call, NotCalled>
+    requires thread { thread < threads session.old.setup }
+    requires unseeded { session.old.setup.seed ≡ None }
+    ensures called { (t : Program) (h : List Answered)
+        → StandsFor session.old.code t
+        → Stands t session.old h
+        → IfOk result (λ c.
+        IsAllowed t session.old.setup h c × Stands t session.new (h ++ c ∷ [])) }
+    ensures asked { IfOk result (λ c. (c.thread ≡ thread) × (c.bit ≡ bit)) }
+    ensures refused { (t : Program) (h : List Answered)
+        → StandsFor session.old.code t
+        → Stands t session.old h
+        → IfErr result (IsNotCalled session.old.setup h thread) }
+    ensures kept { (session.new.code ≡ session.old.code) × (session.new.setup ≡ session.old.setup) }
+{
+    match session.ask_with(thread, bit) {
+        Ok(call) => Ok(call),
+        Err(AskFault::Memory) => Err(NotCalled::Memory),
+        // The thread is there, and the setup has no seed.
+        Err(_) => Err(NotCalled::Finished),
+    }
+}
+
+/// The refusal of the step of line `n`, whose thread stands at the instruction of this number.
+fn refusal_of<'a>(
+    line: &StepLine<'a>,
+    n: u32,
+    number: Option<u32>,
+    reason: StepReason<'a>,
+) -> StepFault<'a>
+    ensures { result ≡ refusal_of line.now n number reason.entry }
+{
+    StepFault::Refusal(StepRefusal {
+        line: n,
+        thread: line.thread,
+        location: line.location,
+        number,
+        reason,
+    })
+}
+
+/// Takes the step of line `n`, where the later steps tell this.
+fn take_step<'a>(
+    checked: &Checked,
+    spots: &[Spot],
+    session: &mut Session,
+    line: &StepLine<'a>,
+    next: Next,
+    n: u32,
+) -> Result<Call, StepFault<'a>>
+    requires code { StandsFor session.old.code checked.now }
+    requires thread { line.now.thread < threads session.old.setup }
+    requires unseeded { session.old.setup.seed ≡ None }
+    ensures stands { (h : List Answered)
+        → Stands checked.now session.old h
+        → IfOk result (λ c. Stands checked.now session.new (h ++ c ∷ [])) }
+    ensures follows { (text : List ℕ) (h : List Answered) (later : List StepOf)
+        → spots.now ≡ spots_of text checked.now
+        → TellsNext text (step_of text line.now) later next
+        → Stands checked.now session.old h
+        → IfOk result
+        (Follows checked.now session.old.setup h (step_of text line.now) later) }
+    ensures refused { (text : List ℕ) (h : List Answered) (later : List StepOf)
+        → spots.now ≡ spots_of text checked.now
+        → TellsNext text (step_of text line.now) later next
+        → Stands checked.now session.old h
+        → IfErr result
+        (IsNotTaken text checked.now session.old.setup h line.now later n) }
+    ensures kept { (session.new.code ≡ session.old.code) × (session.new.setup ≡ session.old.setup) }
+{
+    let top = match top_at(session, spots, line.thread, line.location) {
+        Ok(top) => top,
+        Err(number) => return Err(refusal_of(line, n, number, StepReason::Elsewhere)),
+    };
+    let number = Some(top.number);
+    let Some(bit) = bit_at(session, spots, top, next) else {
+        return Err(refusal_of(line, n, number, StepReason::Ambiguous));
+    };
+    let call = match call_of(session, line.thread, bit) {
+        Ok(call) => call,
+        Err(NotCalled::Finished) => return Err(refusal_of(line, n, number, StepReason::Finished)),
+        Err(NotCalled::Memory) => return Err(StepFault::Memory),
+    };
+    if !is_granted(call.reply) {
+        return Err(refusal_of(line, n, number, StepReason::Refused(call.reply)));
+    }
+    let values = line.values.as_slice();
+    if let Some((value, seen)) = first_unseen(checked, spots, session, line.thread, values) {
+        return Err(refusal_of(line, n, number, StepReason::Differs(value, seen)));
+    }
+    Ok(call)
+}
+
+/// Adds a call to a history.
+fn keep<'a>(history: &mut Vec<Call>, call: Call) -> Result<(), StepFault<'a>>
+    ensures kept { OnOk result (history.new.items ≡ history.old.items ++ call ∷ []) }
+    ensures memory { IfErr result (λ f. f ≡ StepFault.Memory) }
+{
+    if history.push(call).is_err() {
+        return Err(StepFault::Memory);
+    }
+    Ok(())
+}
+
+/// Takes the steps of all lines in a session before any call.
+pub(crate) fn take_steps<'a>(
+    alloc: Global,
+    checked: &Checked,
+    spots: &[Spot],
+    nexts: &[Option<Location>],
+    session: &mut Session,
+    lines: &[StepLine<'a>],
+) -> Result<Vec<Call>, StepFault<'a>>
+    requires code { StandsFor session.old.code checked.now }
+    requires nexts { nexts.now ≡ next_locations lines.now }
+    requires threads { AreOfThreads session.old.setup lines.now }
+    requires unseeded { session.old.setup.seed ≡ None }
+    requires stands { Stands checked.now session.old [] }
+    requires short { length lines.now < 2 ^ 32 }
+    ensures stands { IfOk result (λ h. Stands checked.now session.new h.items) }
+    ensures confirmed { (text : List ℕ)
+        → spots.now ≡ spots_of text checked.now
+        → IfOk result (λ h.
+        IsConfirmed checked.now session.old.setup (steps_of text lines.now) h.items) }
+    ensures refused { (text : List ℕ)
+        → spots.now ≡ spots_of text checked.now
+        → IfErr result (IsNotConfirmed text checked.now session.old.setup lines.now) }
+    ensures kept { (session.new.code ≡ session.old.code) × (session.new.setup ≡ session.old.setup) }
+{
+    let mut history = Vec::new(alloc);
+    let mut n = 0;
+    while n < lines.len() {
+        let next = Next {
+            location: nexts[n],
+            follows: n + 1 < lines.len(),
+        };
+        let call = take_step(checked, spots, session, &lines[n], next, n as u32 + 1)?;
+        keep(&mut history, call)?;
+        n += 1;
+    }
+    Ok(history)
+}

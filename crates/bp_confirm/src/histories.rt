@@ -1,0 +1,62 @@
+//! The history that takes the steps of lines.
+ghost use Rattle.std.specs.Prelude.{◌≡◌, ◌<◌, ◌^◌, None, length, MatchResult};
+ghost use Rattle.bp_code.specs.StandsFor.{StandsFor};
+ghost use Rattle.bp_machine.specs.Reports.{IsReport};
+ghost use Rattle.bp_machine.specs.Setups.{FitsCode};
+ghost use Rattle.bp_confirm.specs.Confirms.{AreOfThreads, IsConfirmed, IsNotConfirmed};
+ghost use Rattle.bp_confirm.specs.StepLines.{steps_of};
+
+use crate::faults::StepFault;
+use crate::following::take_steps;
+use crate::next_locations::next_locations;
+use crate::spots::spots_of;
+use crate::step_lines::StepLine;
+use bp_check::Checked;
+use bp_code::Code;
+use bp_machine::{Call, Report, Session, Setup};
+use std::alloc::Global;
+
+/// The history that takes reported steps, and its report.
+#[derive(Drop)]
+pub struct Confirmed {
+    /// A call for each step.
+    pub history: Vec<Call>,
+    pub report: Report,
+}
+
+/// Confirms the steps of these lines in the program of a text: the history that takes them, one call
+/// for each, with the choice bits that are inferred; or the first line whose step no history takes
+/// after those before it.
+pub fn confirm_lines<'a>(
+    alloc: Global,
+    text: &[u8],
+    checked: &Checked,
+    code: &Code,
+    setup: &Setup,
+    lines: &[StepLine<'a>],
+) -> Result<Confirmed, StepFault<'a>>
+    requires code { StandsFor code.now checked.now }
+    requires fits { FitsCode code.now setup.now }
+    requires threads { AreOfThreads setup.now lines.now }
+    requires unseeded { setup.now.seed ≡ None }
+    requires short { length lines.now < 2 ^ 32 }
+    ensures { MatchResult result
+        (λ f. IsConfirmed checked.now setup.now (steps_of text.now lines.now) f.history.items
+        × IsReport setup.now f.history.items f.report)
+        (IsNotConfirmed text.now checked.now setup.now lines.now) }
+{
+    setup.is_in_range();
+    let spots = spots_of(alloc, text, checked)?;
+    let nexts = next_locations(alloc, lines)?;
+    let mut session = Session::new(alloc, code, setup)?;
+    let history = take_steps(
+        alloc,
+        checked,
+        spots.as_slice(),
+        nexts.as_slice(),
+        &mut session,
+        lines,
+    )?;
+    let report = session.report();
+    Ok(Confirmed { history, report })
+}

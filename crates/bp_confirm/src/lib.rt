@@ -1,0 +1,26 @@
+//! Confirming the steps that a model checker reports: the history that takes them, or the first step
+//! that none takes.
+#![tactic(auto)]
+
+mod choices;
+mod confirming;
+mod declared;
+mod faults;
+mod fields;
+mod following;
+mod histories;
+mod laws;
+mod locations;
+mod next_locations;
+mod spots;
+mod step_lines;
+mod step_texts;
+mod values;
+
+pub use confirming::{ConfirmFault, confirm};
+pub use faults::{StepFault, StepReason, StepRefusal};
+pub use histories::{Confirmed, confirm_lines};
+pub use laws::refused_steps_are_not_taken;
+pub use locations::Location;
+pub use step_lines::{SeenValue, StepLine};
+pub use step_texts::{StepsFault, read_steps};

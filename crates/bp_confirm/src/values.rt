@@ -1,0 +1,95 @@
+//! The values that a thread sees.
+ghost use Rattle.std.specs.Prelude.{◌≡◌, ◌↔◌, IsTrue, Some, [], ℕ, List, MatchOption};
+ghost use Rattle.bp_code.specs.Configurations.{Configuration};
+ghost use Rattle.bp_code.specs.StandsFor.{StandsFor};
+ghost use Rattle.bp_machine.specs.declared.calls.Call.{Call as Answered};
+ghost use Rattle.bp_machine.specs.Answers.{stack_of};
+ghost use Rattle.bp_machine.specs.Histories.{configuration_after};
+ghost use Rattle.bp_machine.specs.Sessions.{Stands};
+ghost use Rattle.bp_machine.specs.Tops.{IsTop};
+ghost use Rattle.bp_confirm.specs.Spots.{spots_of};
+ghost use Rattle.bp_confirm.specs.StepLines.{value_of, values_of};
+ghost use Rattle.bp_confirm.specs.Steps.{local_seen, value_seen, IsFirstUnseen, SeesValues};
+
+use crate::spots::{Spot, procedure_of};
+use crate::step_lines::SeenValue;
+use bp_check::Checked;
+use bp_code::{global_value, local_value};
+use bp_machine::{Session, Top};
+
+/// The value of a local of the frame at the top, where it has one of this name.
+fn local_seen(checked: &Checked, spots: &[Spot], top: Option<Top>, name: &[u8]) -> Option<bool>
+    ensures { (text : List ℕ) (c : Configuration) (i : ℕ)
+        → spots.now ≡ spots_of text checked.now
+        → MatchOption top (stack_of c i ≡ []) (IsTop checked.now c i)
+        → result ≡ local_seen (stack_of c i) name.now }
+{
+    let Some(top) = top else {
+        return None;
+    };
+    let Some(procedure) = procedure_of(spots, top.number) else {
+        return None;
+    };
+    let Some(proc) = checked.tree().procs().get(procedure) else {
+        return None;
+    };
+    local_value(proc, top.store.locals, name)
+}
+
+/// The value of a variable as a thread sees it: a local hides a global of its name.
+fn value_seen(
+    checked: &Checked,
+    spots: &[Spot],
+    session: &Session,
+    thread: u32,
+    name: &[u8],
+) -> Option<bool>
+    ensures { (text : List ℕ) (h : List Answered)
+        → StandsFor session.now.code checked.now
+        → spots.now ≡ spots_of text checked.now
+        → Stands checked.now session.now h
+        → let c = configuration_after checked.now session.now.setup h in
+        result ≡ value_seen c.globals (stack_of c thread) name.now }
+{
+    let top = session.top(thread);
+    match local_seen(checked, spots, top, name) {
+        Some(bit) => Some(bit),
+        None => global_value(checked.tree().globals(), session.globals(), name),
+    }
+}
+
+/// Whether a variable is seen with this value.
+fn is_value(seen: Option<bool>, bit: bool) -> bool
+    ensures { IsTrue result ↔ (seen ≡ Some bit) }
+{
+    match seen {
+        Some(value) => value == bit,
+        None => false,
+    }
+}
+
+/// The first of these values that a thread does not see, and what it sees in its place.
+pub(crate) fn first_unseen<'a>(
+    checked: &Checked,
+    spots: &[Spot],
+    session: &Session,
+    thread: u32,
+    values: &[SeenValue<'a>],
+) -> Option<(SeenValue<'a>, Option<bool>)>
+    ensures { (text : List ℕ) (h : List Answered)
+        → StandsFor session.now.code checked.now
+        → spots.now ≡ spots_of text checked.now
+        → Stands checked.now session.now h
+        → let c = configuration_after checked.now session.now.setup h in
+        MatchOption result
+        (SeesValues c thread (values_of values.now))
+        (λ r. IsFirstUnseen c thread (values_of values.now) (value_of r.0) r.1) }
+{
+    for value in values {
+        let seen = value_seen(checked, spots, session, thread, value.name);
+        if !is_value(seen, value.bit) {
+            return Some((*value, seen));
+        }
+    }
+    None
+}
