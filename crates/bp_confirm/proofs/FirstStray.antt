@@ -1,12 +1,12 @@
 -- The first value, and the first line, of what is not declared.
-use Rattle.std.proofs.Common.{◌≡◌, ◌∙◌, ◌<◌, ◌≤◌, ◌+◌, ℕ, suc, true, false, List, [], ◌∷◌, ◌++◌, length, take, drop, get_or, ap, sym, refl, subst, arith}
+use Rattle.std.proofs.Common.{◌≡◌, ◌∙◌, ◌<◌, ◌+◌, ℕ, suc, true, false, List, [], ◌∷◌, ◌++◌, length, take, drop, get_or, ap, sym, subst, arith}
 use Rattle.std.specs.List.{AllByRecursion}
 use Rattle.std.proofs.lemmas.List.{map-append, map_push, take_more, take-append-drop}
 use Rattle.std.proofs.Math.ListN.{length-take}
 use Rattle.std.proofs.Math.Seq.{drop-cons}
 use Rattle.bp_tree.specs.Ast.{Program}
 use Rattle.bp_code.specs.Values.{Valuation}
-use Rattle.bp_machine.specs.Setups.{SetupOf, threads}
+use Rattle.bp_machine.specs.Setups.{SetupOf}
 use Rattle.bp_confirm.specs.declared.step_lines.SeenValue.{SeenValue}
 use Rattle.bp_confirm.specs.StepLines.{StepLineOf, value_of, values_of}
 use Rattle.bp_confirm.specs.DeclaredLines.{declares, AreDeclared, IsFirstUndeclared, IsDeclared, AreDeclaredLines, IsFirstStray}

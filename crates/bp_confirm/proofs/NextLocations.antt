@@ -10,9 +10,9 @@ use Rattle.bp_confirm.specs.declared.locations.Location.{Location}
 use Rattle.bp_confirm.specs.Inferred.{some_follow}
 use Rattle.bp_confirm.specs.StepRefusals.{TellsNext}
 use Rattle.bp_machine.specs.declared.limits.TheConstants.{MAX_THREADS}
-use Rattle.bp_confirm.specs.Places.{Place, place_of}
+use Rattle.bp_confirm.specs.Places.{place_of}
 use Rattle.bp_confirm.specs.StepLines.{StepLineOf, step_of, steps_of, next_location, next_locations}
-use Rattle.bp_confirm.specs.Steps.{StepOf, next_place}
+use Rattle.bp_confirm.specs.Steps.{next_place}
 
 module _ (text : List ℕ) where
   pub next_place_of : (i : ℕ) (xs : List StepLineOf) → next_place i (steps_of text xs) ≡ option_map (place_of text) (next_location i xs)

@@ -1,11 +1,10 @@
 -- A text begins with at most one name, and with at most one value.
-use Rattle.std.proofs.Common.{◌≡◌, ◌≢◌, inl, inr, ℕ, suc, Bool, true, false, List, [], ◌∷◌, ◌++◌, refl, sym, ap, ◌∙◌, subst, append_assoc, ◌+◌, length, take, arith, codes}
-use Rattle.bp_code.specs.Values.{Valuation}
+use Rattle.std.proofs.Common.{◌≡◌, ◌≢◌, inl, inr, ℕ, suc, Bool, true, false, List, [], ◌∷◌, ◌++◌, refl, sym, ap, ◌∙◌, subst, append_assoc, ◌+◌, length, take, arith}
 use Rattle.bp_trace.specs.Schedules.{bit_digit}
 use Rattle.bp_trace.specs.Writable.{Without}
 use Rattle.bp_confirm.specs.StepTexts.{value_text, IsBraced, IsPlain, IsStepName}
 use Rattle.bp_confirm.specs.LineReading.{BeginsWith, IsCut, IsNameAt, HasNoName, IsValueAt, HasNoValue}
-use Rattle.bp_confirm.proofs.Cuts.{same_head, one_cut, no_cut, without_both, without_front, without_rest}
+use Rattle.bp_confirm.proofs.Cuts.{same_head, one_cut, no_cut, without_front, without_rest}
 
 -- a braced name, and what comes after it
 braced_then : (inner more : List ℕ) → (123 ∷ (inner ++ 125 ∷ [])) ++ more ≡ (123 ∷ inner) ++ 125 ∷ more

@@ -1,10 +1,10 @@
 -- A text has at most one list of steps, and none where one of its lines is malformed.
-use Rattle.std.proofs.Common.{◌≡◌, ◌≢◌, ◌+◌, ◌≤◌, ℕ, zero, suc, List, [], ◌∷◌, ◌++◌, length, refl, sym, ap, ◌∙◌, subst, append_assoc, length-append, arith, codes, flat_map}
+use Rattle.std.proofs.Common.{◌≡◌, ◌≢◌, ◌+◌, ◌≤◌, ℕ, suc, List, [], ◌∷◌, ◌++◌, length, refl, sym, ap, ◌∙◌, append_assoc, length-append, arith, codes}
 use Rattle.std.specs.List.{AllByRecursion}
 use Rattle.std.proofs.lemmas.List.{append-nil}
 use Rattle.bp_trace.specs.Writable.{Without}
 use Rattle.bp_confirm.specs.StepLines.{StepLineOf}
-use Rattle.bp_confirm.specs.StepTexts.{HasLine, HasLines, IsBadLine, line_text, steps_text}
+use Rattle.bp_confirm.specs.StepTexts.{HasLine, line_text, steps_text}
 use Rattle.bp_confirm.specs.LineReading.{IsCut, IsStepLine, IsNoStepLine}
 use Rattle.bp_confirm.proofs.Cuts.{one_cut, no_cut}
 use Rattle.bp_confirm.proofs.OneStepLine.{one_step, line_without_feed}

@@ -1,6 +1,5 @@
 -- A line says at most one step.
-use Rattle.std.proofs.Common.{◌≡◌, ◌≢◌, inl, inr, ℕ, ◌<◌, ◌^◌, Bool, true, false, List, [], ◌∷◌, ◌++◌, ◌+◌, suc, length, length-append, refl, sym, ap, ◌∙◌, subst, append_assoc, arith, codes, decimal, flat_map}
-use Rattle.std.specs.List.{AllByRecursion}
+use Rattle.std.proofs.Common.{◌≡◌, ◌≢◌, inl, inr, ℕ, ◌<◌, ◌^◌, Bool, true, false, List, [], ◌∷◌, ◌++◌, ◌+◌, suc, length, length-append, refl, sym, ap, ◌∙◌, subst, append_assoc, arith, codes, decimal}
 use Rattle.std.proofs.lemmas.Fmt.{decimal_injective, decimal_nonempty}
 use Rattle.std.proofs.lemmas.List.{append-nil}
 use Rattle.bp_text.specs.Decimals.{IsNumber, IsNoNumber}
@@ -10,9 +9,9 @@ use Rattle.bp_trace.specs.Writable.{Without}
 use Rattle.bp_confirm.specs.declared.locations.Location.{Location}
 use Rattle.bp_confirm.specs.declared.locations.Location.TheVariants.{End, Line, Column}
 use Rattle.bp_confirm.specs.StepLines.{StepLineOf}
-use Rattle.bp_confirm.specs.StepTexts.{IsShort, IsShortLocation, IsBraced, IsPlain, IsStepName, AreNamed, HasLine, location_text, value_text, values_text, line_text}
+use Rattle.bp_confirm.specs.StepTexts.{IsShort, IsShortLocation, IsStepName, AreNamed, HasLine, location_text, value_text, values_text, line_text}
 use Rattle.bp_confirm.specs.LineReading.{IsCut, IsField, IsShortNumber, IsNoShortNumber, IsLocation, IsNoLocation, IsValueAt, HasNoValue, AreValues, AreNoValues, IsStepLine, IsNoStepLine}
-use Rattle.bp_confirm.proofs.Cuts.{same_head, one_cut, no_cut, without_both, without_front, without_rest, BeginsSpaced, one_field, decimal_without, no_space, no_line_feed, no_dash, no_colon, one_decimal}
+use Rattle.bp_confirm.proofs.Cuts.{same_head, one_cut, no_cut, without_both, without_rest, BeginsSpaced, one_field, decimal_without, no_space, no_line_feed, no_dash, no_colon, one_decimal}
 use Rattle.bp_confirm.proofs.OneName.{one_value, value_then}
 
 -- numbers

@@ -1,5 +1,5 @@
 -- The spot of an instruction tells where its statement begins, and in which procedure.
-use Rattle.std.proofs.Common.{◌≡◌, ◌∙◌, ◌+◌, ◌<◌, ℕ, zero, suc, length, get_or, Bool, List, [], ◌∷◌, ◌++◌, take, Option, None, Some, refl, ap, ap₂, sym, arith, option_map}
+use Rattle.std.proofs.Common.{◌≡◌, ◌∙◌, ◌+◌, ◌<◌, ℕ, zero, suc, length, get_or, List, [], ◌∷◌, ◌++◌, take, Option, None, Some, refl, ap, sym, arith, option_map}
 use Rattle.std.specs.Prelude.{slice_get}
 use Rattle.std.proofs.Math.Path.{fun_ext}
 use Rattle.std.proofs.lemmas.List.{take_more}
@@ -9,8 +9,7 @@ use Rattle.bp_code.specs.Starts.{starts_of}
 use Rattle.bp_code.proofs.ProceduresOfPlaces.{ends}
 use Rattle.bp_confirm.specs.declared.locations.Location.{Location}
 use Rattle.bp_confirm.specs.declared.spots.Spot.{Spot}
-use Rattle.bp_confirm.specs.EffectBits.{NextNumbers}
-use Rattle.bp_confirm.specs.Places.{is_at, place_of}
+use Rattle.bp_confirm.specs.Places.{place_of}
 use Rattle.bp_confirm.specs.Spots.{spots_from, spots_of, is_spot_at, is_there}
 use Rattle.bp_confirm.proofs.BitsOfEffects.{start_is_at, numbers_at}
 

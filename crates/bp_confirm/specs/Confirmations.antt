@@ -1,12 +1,8 @@
 -- What is written of confirmed steps, and the laws of steps.
-use Rattle.std.specs.Prelude.{◌≡◌, ℕ, List, Option}
-use Rattle.bp_text.specs.Writing.{AppendsAll, AppendsPart}
+use Rattle.std.specs.Prelude.{◌≡◌, ℕ, List}
 use Rattle.bp_tree.specs.Ast.{Program}
 use Rattle.bp_machine.specs.declared.calls.Call.{Call}
-use Rattle.bp_machine.specs.declared.reports.Report.{Report}
-use Rattle.bp_machine.specs.Reports.{IsReport}
 use Rattle.bp_machine.specs.Setups.{SetupOf}
-use Rattle.bp_trace.specs.TraceText.{trace_text}
 use Rattle.bp_confirm.specs.declared.faults.StepRefusal.{StepRefusal}
 use Rattle.bp_confirm.specs.Steps.{StepOf, Takes}
 use Rattle.bp_confirm.specs.StepLines.{StepLineOf, steps_of}

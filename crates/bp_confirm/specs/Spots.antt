@@ -1,5 +1,5 @@
 -- A device: where the statement of each instruction begins, and in which procedure.
-use Rattle.std.specs.Prelude.{ℕ, ◌+◌, Bool, true, false, List, [], ◌∷◌, Option, None, Some, slice_get}
+use Rattle.std.specs.Prelude.{ℕ, ◌+◌, Bool, false, List, [], ◌∷◌, Option, None, Some, slice_get}
 use Rattle.bp_tree.specs.Ast.{Program}
 use Rattle.bp_text.specs.Positions.{position_at}
 use Rattle.bp_code.specs.Starts.{starts_of}

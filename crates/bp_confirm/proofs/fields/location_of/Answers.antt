@@ -1,4 +1,4 @@
-use Rattle.std.proofs.Common.{◌≢◌, codes, sym, ◌∙◌}
+use Rattle.std.proofs.Common.{sym, ◌∙◌}
 use Rattle.std.proofs.lemmas.Bool.Decides.{Decides-eqb}
 use Rattle.std.proofs.lemmas.Slice.Eq.{slice_eq-Decides}
 use Rattle.bp_confirm.proofs.OneStepLine.{no_line_number, no_first_number, no_second_number}

@@ -1,4 +1,4 @@
-use Rattle.std.proofs.Common.{◌≡◌, ◌∙◌, ◌-◌, ◌<◌, length, ap, sym, refl, subst, get_or, reverse, arith}
+use Rattle.std.proofs.Common.{◌∙◌, ◌-◌, ◌<◌, length, ap, sym, refl, reverse, arith}
 use Rattle.std.proofs.Math.Seq.{drop-length}
 use Rattle.std.proofs.lemmas.List.{length-set}
 use Rattle.bp_confirm.specs.StepLines.{next_locations}

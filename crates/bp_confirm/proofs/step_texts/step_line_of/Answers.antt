@@ -1,4 +1,4 @@
-use Rattle.bp_confirm.proofs.OneStepLine.{no_space_no_step, no_thread_no_step, no_location_no_step, no_values_no_step, has_step, values_line}
+use Rattle.bp_confirm.proofs.OneStepLine.{no_space_no_step, no_thread_no_step, no_location_no_step, no_values_no_step, values_line}
 use Rattle.bp_confirm.proofs.step_texts.step_line_of.Goals as goal
 
 pub returns-in_default : goal.returns-in_default
