@@ -16,3 +16,4 @@ pub mod OneName
 pub mod OneStepLine
 pub mod OneReading
 pub mod FirstStray
+pub mod ContextsUsed

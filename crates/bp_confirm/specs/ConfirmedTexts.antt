@@ -10,7 +10,9 @@ use Rattle.bp_trace.specs.declared.limits.TheConstants.{MAX_SCHEDULE}
 use Rattle.bp_trace.specs.TraceText.{trace_text}
 use Rattle.bp_confirm.specs.declared.confirming.ConfirmFault.{ConfirmFault}
 use Rattle.bp_confirm.specs.declared.confirming.ConfirmFault.TheVariants as fault
+use Rattle.bp_confirm.specs.declared.context_bounds.ContextBound.{ContextBound}
 use Rattle.bp_confirm.specs.declared.faults.StepRefusal.{StepRefusal}
+use Rattle.bp_confirm.specs.ContextBounds.{IsSetupFor}
 use Rattle.bp_confirm.specs.StepLines.{StepLineOf, steps_of}
 use Rattle.bp_confirm.specs.StepTexts.{HasLines, IsBadLine}
 use Rattle.bp_confirm.specs.DeclaredLines.{AreDeclaredLines, IsFirstStray, IsOfNoThread, IsOfNoVariable}
@@ -46,32 +48,37 @@ module _ (t : Program) (s : SetupOf) (steps : List ℕ) where
   IsUntold fault.Memory = IsShortText
   IsUntold f = ⊥
 
-  -- its places are those of the text of the program
-  module _ (text : List ℕ) where
-    -- this history takes the steps
-    pub record IsConfirmedText (h : List Call) : Type 0 where
+  -- its places are those of the text of the program, and this many contexts are allowed
+  module _ (text : List ℕ) (bound : ContextBound) where
+    -- this history takes the steps, in this setup
+    pub record IsConfirmedText (setup : SetupOf) (h : List Call) : Type 0 where
       pub lines : List StepLineOf
       pub told : AreTold lines
-      pub confirmed : IsConfirmed t s (steps_of text lines) h
+      pub allows : IsSetupFor s lines bound setup
+      pub confirmed : IsConfirmed t setup (steps_of text lines) h
 
-    -- the steps up to this one are taken by none
+    -- no history takes the steps up to this one
     pub record IsRefusedText (r : StepRefusal) : Type 0 where
       pub lines : List StepLineOf
       pub told : AreTold lines
-      pub refused : IsStepRefusal text t s lines r
+      pub setup : SetupOf
+      pub allows : IsSetupFor s lines bound setup
+      pub refused : IsStepRefusal text t setup lines r
 
     -- the trace of the history that takes the steps was written, and it is reported
     pub record ConfirmsTo (old new : Option (List ℕ)) (r : Report) : Type 0 where
+      pub setup : SetupOf
       pub history : List Call
-      pub confirmed : IsConfirmedText history
-      pub written : AppendsAll old new (trace_text s history)
-      pub report : IsReport s history r
+      pub confirmed : IsConfirmedText setup history
+      pub written : AppendsAll old new (trace_text setup history)
+      pub report : IsReport setup history r
 
     -- the writer refused a part of the trace
     pub record IsCutShort (old new : Option (List ℕ)) : Type 0 where
+      pub setup : SetupOf
       pub history : List Call
-      pub confirmed : IsConfirmedText history
-      pub written : AppendsPart old new (trace_text s history)
+      pub confirmed : IsConfirmedText setup history
+      pub written : AppendsPart old new (trace_text setup history)
 
     -- why the steps are not confirmed, the first that applies, and what was written then
     abbrev pub IsConfirmRefusal : Option (List ℕ) → Option (List ℕ) → ConfirmFault → Type 0

@@ -13,3 +13,5 @@ pub mod LineReading
 pub mod DeclaredLines
 pub mod StrayLines
 pub mod ConfirmedTexts
+pub mod ContextBounds
+pub mod Reading

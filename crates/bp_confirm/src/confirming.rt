@@ -5,6 +5,7 @@ ghost use Rattle.bp_machine.specs.Setups.{FitsCode};
 ghost use Rattle.bp_confirm.specs.ConfirmedTexts.{AreTold, ConfirmsTo, IsConfirmRefusal, IsUntold};
 ghost use Rattle.bp_confirm.specs.StrayLines.{fault_of_stray};
 
+use crate::context_bounds::{ContextBound, setup_for};
 use crate::declared::{Stray, check_lines};
 use crate::faults::{StepFault, StepRefusal};
 use crate::histories::confirm_lines;
@@ -92,6 +93,7 @@ pub fn confirm<'a, W: Write>(
     checked: &Checked,
     code: &Code,
     setup: &Setup,
+    bound: ContextBound,
     steps: &'a [u8],
     out: &mut W,
 ) -> Result<Report, ConfirmFault<'a>>
@@ -104,6 +106,7 @@ pub fn confirm<'a, W: Write>(
         setup.now
         steps.now
         text.now
+        bound
         (W.contents out.old)
         (W.contents out.new))
         (IsConfirmRefusal
@@ -111,16 +114,22 @@ pub fn confirm<'a, W: Write>(
         setup.now
         steps.now
         text.now
+        bound
         (W.contents out.old)
         (W.contents out.new)) }
 {
     let lines = told_lines(alloc, checked, setup, steps)?;
-    let confirmed = match confirm_lines(alloc, text, checked, code, setup, lines.as_slice()) {
+    let setup = match setup_for(alloc, code, setup, bound, lines.as_slice()) {
+        Ok(setup) => setup,
+        // It fits, since the given one does.
+        Err(_) => return Err(ConfirmFault::Memory),
+    };
+    let confirmed = match confirm_lines(alloc, text, checked, code, &setup, lines.as_slice()) {
         Ok(confirmed) => confirmed,
         Err(StepFault::Refusal(refusal)) => return Err(ConfirmFault::Step(refusal)),
         Err(StepFault::Memory) => return Err(ConfirmFault::Memory),
     };
-    match write_trace(setup, confirmed.history.as_slice(), out) {
+    match write_trace(&setup, confirmed.history.as_slice(), out) {
         Ok(()) => Ok(confirmed.report),
         Err(_) => Err(ConfirmFault::Write),
     }

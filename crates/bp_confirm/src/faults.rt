@@ -37,7 +37,7 @@ pub struct StepRefusal<'a> {
 
 /// Why reported steps are not taken.
 #[derive(Clone, Copy, Debug, Error)]
-pub enum StepFault<'a> {
+pub(crate) enum StepFault<'a> {
     /// A step is not taken.
     #[error("line {} of the steps is not taken", .0.line)]
     Refusal(StepRefusal<'a>),

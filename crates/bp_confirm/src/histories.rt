@@ -18,16 +18,16 @@ use std::alloc::Global;
 
 /// The history that takes reported steps, and its report.
 #[derive(Drop)]
-pub struct Confirmed {
+pub(crate) struct Confirmed {
     /// A call for each step.
-    pub history: Vec<Call>,
-    pub report: Report,
+    pub(crate) history: Vec<Call>,
+    pub(crate) report: Report,
 }
 
 /// Confirms the steps of these lines in the program of a text: the history that takes them, one call
 /// for each, with the choice bits that are inferred; or the first line whose step no history takes
 /// after those before it.
-pub fn confirm_lines<'a>(
+pub(crate) fn confirm_lines<'a>(
     alloc: Global,
     text: &[u8],
     checked: &Checked,

@@ -4,6 +4,7 @@
 
 mod choices;
 mod confirming;
+mod context_bounds;
 mod declared;
 mod faults;
 mod fields;
@@ -18,9 +19,9 @@ mod step_texts;
 mod values;
 
 pub use confirming::{ConfirmFault, confirm};
-pub use faults::{StepFault, StepReason, StepRefusal};
-pub use histories::{Confirmed, confirm_lines};
-pub use laws::refused_steps_are_not_taken;
+pub use context_bounds::ContextBound;
+pub use faults::{StepReason, StepRefusal};
+pub use laws::{refused_steps_are_not_taken, texts_are_read_in_one_way};
 pub use locations::Location;
 pub use step_lines::{SeenValue, StepLine};
 pub use step_texts::{StepsFault, read_steps};

@@ -26,7 +26,7 @@ fn is_number(count: usize, number: u32) -> bool
 impl Location {
     /// Whether a statement that begins at this position is at this location; the end of a procedure
     /// has no position.
-    pub fn is_at(&self, position: Option<Position>) -> bool
+    pub(crate) fn is_at(&self, position: Option<Position>) -> bool
         ensures { result ≡ is_at self.now position }
     {
         match (*self, position) {

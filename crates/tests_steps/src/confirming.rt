@@ -1,6 +1,6 @@
 //! Steps by hand, with the calls that take them or the first fault.
 use bp_code::{compile, lawful_program};
-use bp_confirm::{ConfirmFault, confirm};
+use bp_confirm::{ConfirmFault, ContextBound, confirm};
 use bp_machine::Start;
 use std::alloc::Global;
 use std::test::Fail;
@@ -48,6 +48,7 @@ struct Asked<'a> {
     program: &'a str,
     entries: &'a [&'a str],
     contexts: u32,
+    bound: ContextBound,
     calls: u32,
 }
 
@@ -55,6 +56,7 @@ const WRITER_AND_READER: Asked = Asked {
     program: RACE,
     entries: &["writer", "reader"],
     contexts: 2,
+    bound: ContextBound::Kept,
     calls: 1000,
 };
 
@@ -76,20 +78,30 @@ fn told(alloc: Global, asked: &Asked, steps: &str) -> Result<String, Fail> {
     };
     let mut out = Vec::new(alloc);
     let steps = steps.as_bytes();
-    match confirm(alloc, program, &checked, &code, &setup, steps, &mut out) {
-        Ok(_) => calls_of(alloc, out.as_slice()),
+    match confirm(
+        alloc,
+        program,
+        &checked,
+        &code,
+        &setup,
+        asked.bound,
+        steps,
+        &mut out,
+    ) {
+        Ok(_) => calls_of(alloc, out.as_slice(), asked.bound),
         Err(fault) => fault_text(alloc, fault),
     }
 }
 
-/// The call lines of a trace.
-fn calls_of(alloc: Global, trace: &[u8]) -> Result<String, Fail> {
+/// The call lines of a trace, and the line of contexts where that is not the setup's.
+fn calls_of(alloc: Global, trace: &[u8], bound: ContextBound) -> Result<String, Fail> {
     let Ok(trace) = str::from_utf8(trace) else {
         return Err(Fail::from("no text"));
     };
     let mut calls = String::new(alloc);
     for line in trace.lines() {
-        if line.len() == 5 {
+        let is_bound = bound == ContextBound::AsUsed && line.starts_with("contexts ");
+        if line.len() == 5 || is_bound {
             calls.push_str(line)?;
             calls.push_str(",")?;
         }
@@ -153,7 +165,10 @@ fn each_step_is_refused_for_its_first_fault(rt: HostRuntime) -> Result<(), Fail>
         told(alloc, asked, "0 3:4\n")?.as_str(),
         "1 0 Column(3, 4) Some(0) Elsewhere"
     );
-    assert_eq!(rt; told(alloc, asked, "0 -\n")?.as_str(), "1 0 End Some(0) Elsewhere");
+    assert_eq!(rt;
+        told(alloc, asked, "0 -\n")?.as_str(),
+        "1 0 End Some(0) Elsewhere"
+    );
     assert_eq!(rt;
         told(alloc, asked, "0 3\n0 4\n0 -\n0 -\n")?.as_str(),
         "4 0 End None Elsewhere"
@@ -186,6 +201,7 @@ fn values_are_those_that_the_thread_sees(rt: HostRuntime) -> Result<(), Fail> {
         program: CHOICES,
         entries: &["main"],
         contexts: 1,
+        bound: ContextBound::Kept,
         calls: 1000,
     };
     // In f the local y hides the global, and a is not seen; after it main sees them again.
@@ -195,7 +211,10 @@ fn values_are_those_that_the_thread_sees(rt: HostRuntime) -> Result<(), Fail> {
         "0 0 s,0 0 s,0 0 s,0 1 s,0 0 s,0 0 s,0 0 s,"
     );
     let other = told(alloc, main, "0 4\n0 7 x=0 y=0 a=1\n")?;
-    assert_eq!(rt; other.starts_with("2 0 Line(7) Some(2) Differs(SeenValue"), true);
+    assert_eq!(rt;
+        other.starts_with("2 0 Line(7) Some(2) Differs(SeenValue"),
+        true
+    );
     assert_eq!(rt; other.ends_with("bit: false }, Some(true))"), true);
     let unseen = told(alloc, main, "0 4\n0 7\n0 9\n0 12\n0 13 a=0\n")?;
     assert_eq!(rt; unseen.ends_with("bit: false }, None)"), true);
@@ -209,6 +228,7 @@ fn choices_are_inferred(rt: HostRuntime) -> Result<(), Fail> {
         program: CHOICES,
         entries: &["main"],
         contexts: 1,
+        bound: ContextBound::Kept,
         calls: 1000,
     };
     // The second part, once round the loop, the assumption, the call, its end, and the assertion.
@@ -231,8 +251,14 @@ fn choices_are_inferred(rt: HostRuntime) -> Result<(), Fail> {
         told(alloc, branch, "0 20\n0 20\n")?.as_str(),
         "1 0 Line(20) Some(11) Ambiguous"
     );
-    assert_eq!(rt; told(alloc, branch, "0 20\n0 20:15 x=1\n")?.as_str(), "0 1 s,0 0 s,");
-    assert_eq!(rt; told(alloc, branch, "0 20:3\n0 20:28 x=0\n")?.as_str(), "0 0 s,0 0 s,");
+    assert_eq!(rt;
+        told(alloc, branch, "0 20\n0 20:15 x=1\n")?.as_str(),
+        "0 1 s,0 0 s,"
+    );
+    assert_eq!(rt;
+        told(alloc, branch, "0 20:3\n0 20:28 x=0\n")?.as_str(),
+        "0 0 s,0 0 s,"
+    );
     // Without a later step either bit serves.
     assert_eq!(rt; told(alloc, branch, "0 20\n")?.as_str(), "0 0 s,");
     Ok(())
@@ -243,10 +269,32 @@ fn texts_are_refused_at_their_first_bad_line(rt: HostRuntime) -> Result<(), Fail
     let asked = &WRITER_AND_READER;
     let alloc = rt.alloc();
     let malformed = &[
-        "0\n", "0 \n", "0 3", "00 3\n", "0 03\n", "0  3\n", "0 3 \n", "0 3:\n", "0 3:03\n",
-        "0 3:1:1\n", "0 +3\n", "0 --\n", "-1 3\n", "0 3 ready\n", "0 3 ready=\n", "0 3 ready=2\n",
-        "0 3 ready=10\n", "0 3 =1\n", "0 3  ready=1\n", "0 3 {ready=1\n", "0 3 {ready}1\n", "\n",
-        "0 3\r\n", "4294967296 3\n", "0 4294967296\n", "a 3\n",
+        "0\n",
+        "0 \n",
+        "0 3",
+        "00 3\n",
+        "0 03\n",
+        "0  3\n",
+        "0 3 \n",
+        "0 3:\n",
+        "0 3:03\n",
+        "0 3:1:1\n",
+        "0 +3\n",
+        "0 --\n",
+        "-1 3\n",
+        "0 3 ready\n",
+        "0 3 ready=\n",
+        "0 3 ready=2\n",
+        "0 3 ready=10\n",
+        "0 3 =1\n",
+        "0 3  ready=1\n",
+        "0 3 {ready=1\n",
+        "0 3 {ready}1\n",
+        "\n",
+        "0 3\r\n",
+        "4294967296 3\n",
+        "0 4294967296\n",
+        "a 3\n",
     ];
     for text in malformed {
         assert_eq!(rt; told(alloc, asked, text)?.as_str(), "Line(1)");
@@ -270,10 +318,31 @@ fn braced_names_may_have_spaces_and_signs(rt: HostRuntime) -> Result<(), Fail> {
         program: "decl {a = b}; main() begin {a = b} := 1; end",
         entries: &["main"],
         contexts: 1,
+        bound: ContextBound::Kept,
         calls: 2,
     };
     assert_eq!(rt; told(alloc, asked, "0 1 {a = b}=1\n")?.as_str(), "0 0 s,");
     let other = told(alloc, asked, "0 1 {a=b}=1\n")?;
     assert_eq!(rt; other.starts_with("NoVariable(1, "), true);
+    Ok(())
+}
+
+#[test]
+fn as_many_contexts_are_allowed_as_are_used(rt: HostRuntime) -> Result<(), Fail> {
+    let alloc = rt.alloc();
+    let asked = &Asked {
+        contexts: 0,
+        bound: ContextBound::AsUsed,
+        ..WRITER_AND_READER
+    };
+    let steps = "0 3\n1 7\n0 4\n1 8 data=1\n1 -\n";
+    assert_eq!(rt;
+        told(alloc, asked, steps)?.as_str(),
+        "contexts 4,0 0 s,1 0 s,0 0 s,1 0 s,1 0 s,"
+    );
+    assert_eq!(rt;
+        told(alloc, asked, "1 7\n")?.as_str(),
+        "1 1 Line(7) Some(3) Refused(Blocked)"
+    );
     Ok(())
 }
