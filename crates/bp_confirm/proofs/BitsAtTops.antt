@@ -14,24 +14,24 @@ use Rattle.bp_confirm.specs.Steps.{StepOf, next_place}
 use Rattle.bp_confirm.specs.Inferred.{bit_of_block, bit_of_stack, some_follow, IsClear, IsClearOnStack, IsAmbiguous, IsAmbiguousOnStack}
 
 -- what is inferred at a statement, and on a stack
-abbrev pub IsInferred : Block → Option spot.Place → Bool → Option Bool → Type 0
-IsInferred left next follow o = MatchOption o (IsAmbiguous left next) (λ bit. (bit ≡ bit_of_block left next follow) × IsClear left next)
+abbrev pub IsInferred : Program → Block → Option spot.Place → Bool → Option Bool → Type 0
+IsInferred t left next follow o = MatchOption o (IsAmbiguous t left next) (λ bit. (bit ≡ bit_of_block left next follow) × IsClear left next)
 
-abbrev pub IsInferredOn : ℕ → List StepOf → List Frame → Option Bool → Type 0
-IsInferredOn i later S o = MatchOption o (IsAmbiguousOnStack i later S) (λ bit. (bit ≡ bit_of_stack i later S) × IsClearOnStack i later S)
+abbrev pub IsInferredOn : Program → ℕ → List StepOf → List Frame → Option Bool → Type 0
+IsInferredOn t i later S o = MatchOption o (IsAmbiguousOnStack t i later S) (λ bit. (bit ≡ bit_of_stack i later S) × IsClearOnStack i later S)
 
 pub inferred_here : (t : Program) (code : Flat) (c : Configuration) (i : ℕ) (x : Top) (later : List StepOf) → StandsFor code t → IsTop t c i x
     → (got : Option (Bor Instruction)) (instr : Bor Instruction) → got ≡ Some instr → option_copied got ≡ slice_get code.instructions x.number
     → (next : Option spot.Place) (follow : Bool) (o : Option Bool) → next ≡ next_place i later → follow ≡ some_follow later
-    → ((p : Procedure) (left : Block) → Does t (places_of t.procedures) p left instr.now → IsInferred left next follow o)
-    → IsInferredOn i later (stack_of c i) o
+    → ((p : Procedure) (left : Block) → Does t (places_of t.procedures) p left instr.now → IsInferred t left next follow o)
+    → IsInferredOn t i later (stack_of c i) o
 inferred_here t code c i x later stands top got instr got_is copied next follow o next_is follow_is inferred =
     let found = stands.each x.number top.frame.procedure top.frame.left top.next in
     let both : Some instr.now ≡ Some found.0 = sym (ap option_copied got_is) ∙ copied ∙ found.1 in
     let same : found.0 ≡ instr.now = cc in
     let does = subst (λ k. Does t (places_of t.procedures) top.frame.procedure top.frame.left k) same found.2 in
     let raw = inferred top.frame.procedure top.frame.left does in
-    let at_next = subst (λ n. IsInferred top.frame.left n follow o) next_is raw in
-    let at_both = subst (λ f. IsInferred top.frame.left (next_place i later) f o) follow_is at_next in
-    let on_frames : IsInferredOn i later (top.frame ∷ top.below) o = at_both in
-    subst (λ S. IsInferredOn i later S o) (sym top.stack) on_frames
+    let at_next = subst (λ n. IsInferred t top.frame.left n follow o) next_is raw in
+    let at_both = subst (λ f. IsInferred t top.frame.left (next_place i later) f o) follow_is at_next in
+    let on_frames : IsInferredOn t i later (top.frame ∷ top.below) o = at_both in
+    subst (λ S. IsInferredOn t i later S o) (sym top.stack) on_frames

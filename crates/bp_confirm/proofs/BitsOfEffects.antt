@@ -187,9 +187,9 @@ module _ (t : Program) (p : Procedure) where
     bit_is (Then label at (Prints es) r) i is zero_is one_is = no_choice (numbers_at starts next) follow s d e (rw is.is at zero_is ∙ sym (rw is.is at one_is))
     bit_is (Then label at (Calls x es) r) i is zero_is one_is = no_choice (numbers_at starts next) follow s d e (rw is.is at zero_is ∙ sym (rw is.is at one_is))
 
-    all_true : (a b c : Bool) → (not a && (b && c)) ≡ true → (b ≡ true) × (c ≡ true)
+    all_true : (a b c : Bool) → (not a && (b && c)) ≡ true → (a ≡ false) × (b ≡ true) × (c ≡ true)
     all_true true b c e = absurd (false≢true e)
-    all_true false true true e = (refl, refl)
+    all_true false true true e = (refl, refl, refl)
     all_true false true false e = absurd (false≢true e)
     all_true false false c e = absurd (false≢true e)
 
@@ -206,7 +206,7 @@ module _ (t : Program) (p : Procedure) where
         ap (λ (x : Place). x.left) places
 
     by_numbers : (o : Option spot.Place) (m k : ℕ) (taken other : Block) → Remains table m p taken → Remains table k p other
-        → SplitTells (are_both_there (numbers_at starts o) m k) (IsClearWay o taken other) (AreBothWays o taken other)
+        → SplitTells (are_both_there (numbers_at starts o) m k) (IsClearWay o taken other) (AreBothWays t o taken other)
     by_numbers None m k taken other one two = record { no = λ e. tt; split = λ e. absurd (false≢true e) }
     by_numbers (Some q) m k taken other one two =
         let here : start_is_at q (slice_get starts m) ≡ q (start_of_block taken) = ap (start_is_at q) (there m taken one) in
@@ -217,19 +217,23 @@ module _ (t : Program) (p : Procedure) where
               one_block m k taken other (grind (arith, nat_tests)) one two;
           split = λ e.
               let both = all_true (m == k) (start_is_at q (slice_get starts m)) (start_is_at q (slice_get starts k)) e in
-              (sym here ∙ both.0, sym over ∙ both.1);
+              record {
+                taken_at = sym here ∙ both.1;
+                other_at = sym over ∙ both.2;
+                ways = record { one = m; two = k; apart = λ same. absurd (false≢true (sym both.0 ∙ (grind (arith, nat_tests)))); taken_is = there m taken one; other_is = there k other two };
+              };
         }
 
     by_split : (m k : ℕ) → GoesOnAt d k → GoesOnAt e m → (taken other : Block) → Remains table m p taken → Remains table k p other
-        → SplitTells (splits (numbers_at starts next) d e) (IsClearWay next taken other) (AreBothWays next taken other)
+        → SplitTells (splits (numbers_at starts next) d e) (IsClearWay next taken other) (AreBothWays t next taken other)
     by_split m k zero_is one_is taken other one two =
         let is : splits (numbers_at starts next) d e ≡ are_both_there (numbers_at starts next) m k = λ j. splits (numbers_at starts next) (zero_is.is j) (one_is.is j) in
-        subst (λ b. SplitTells b (IsClearWay next taken other) (AreBothWays next taken other)) (sym is) (by_numbers next m k taken other one two)
+        subst (λ b. SplitTells b (IsClearWay next taken other) (AreBothWays t next taken other)) (sym is) (by_numbers next m k taken other one two)
 
     pub split_is : (left : Block) (i : Instruction) → Does t (places_of t.procedures) p left i
         → effect_of s d [] ≡ instruction_effect i (store_of s) [] false
         → effect_of s e [] ≡ instruction_effect i (store_of s) [] true
-        → SplitTells (splits (numbers_at starts next) d e) (IsClear left next) (IsAmbiguous left next)
+        → SplitTells (splits (numbers_at starts next) d e) (IsClear left next) (IsAmbiguous t left next)
     split_is Done i is zero_is one_is = never_split _ ⊥ (no_split (numbers_at starts next) s d e (zero_is ∙ ap (λ k. instruction_effect k (store_of s) [] false) is ∙ sym (ap (λ k. instruction_effect k (store_of s) [] true) is) ∙ sym one_is))
     split_is (Then label at Skips r) i is zero_is one_is = never_split _ ⊥ (no_split (numbers_at starts next) s d e (rw is.is at zero_is ∙ sym (rw is.is at one_is)))
     split_is (Then label at (GoesTo x) r) i is zero_is one_is = never_split _ ⊥ (no_split (numbers_at starts next) s d e (rw is.is at zero_is ∙ sym (rw is.is at one_is)))

@@ -6,7 +6,7 @@ use Rattle.std.proofs.Math.ListN.{drop_of_length-le}
 use Rattle.bp_code.specs.Flat.{Flat}
 use Rattle.bp_machine.specs.Contexts.{IsLeastWithin}
 use Rattle.bp_machine.specs.ContextCounts.{contexts_opened}
-use Rattle.bp_machine.specs.Setups.{SetupOf, threads, Fits, FitsCode}
+use Rattle.bp_machine.specs.Setups.{SetupOf, FitsCode}
 use Rattle.bp_machine.proofs.ContextCounts.{opened, opened_none, opened_more, opened_least}
 use Rattle.bp_confirm.specs.ContextBounds.{thread_of}
 use Rattle.bp_confirm.specs.StepLines.{StepLineOf}

@@ -17,3 +17,8 @@ pub mod OneStepLine
 pub mod OneReading
 pub mod FirstStray
 pub mod ContextsUsed
+pub mod StartsInOrder
+pub mod OnePosition
+pub mod ColumnsTell
+pub mod FullBlocks
+pub mod OwnLinesTaken

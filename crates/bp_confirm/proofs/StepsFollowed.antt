@@ -167,7 +167,7 @@ module _ (text : List ℕ) (t : Program) (s : SetupOf) (h : List Call) (x : Step
   elsewhere away = refused_for Elsewhere away (λ y takes. false≢true (sym away ∙ takes.at))
 
   module _ (at : StandsAtPlace t s h (step_of text x) true) where
-    pub ambiguous : IsAmbiguousOnStack x.thread later (stack_of (configuration_after t s h) x.thread) → IsRefusedFor Ambiguous
+    pub ambiguous : IsAmbiguousOnStack t x.thread later (stack_of (configuration_after t s h) x.thread) → IsRefusedFor Ambiguous
     ambiguous both = refused_for Ambiguous (record { at = at; ambiguous = both }) tt
 
     module _ (clear : IsClearOnStack x.thread later (stack_of (configuration_after t s h) x.thread)) where

@@ -1,11 +1,17 @@
--- What is written of confirmed steps, and the laws of steps.
-use Rattle.std.specs.Prelude.{◌≡◌, ℕ, List}
+-- Laws of reported steps.
+use Rattle.std.specs.Prelude.{◌≡◌, ℕ, List, Some}
 use Rattle.bp_tree.specs.Ast.{Program}
 use Rattle.bp_machine.specs.declared.calls.Call.{Call}
-use Rattle.bp_machine.specs.Setups.{SetupOf}
+use Rattle.bp_code.specs.Configurations.{Configuration}
+use Rattle.bp_machine.specs.BoundedRuns.{IsBoundedRun}
+use Rattle.bp_machine.specs.Setups.{SetupOf, start}
+use Rattle.bp_syntax.specs.Texts.{IsTextOf}
+use Rattle.bp_confirm.specs.declared.faults.StepReason.TheVariants.{Ambiguous}
 use Rattle.bp_confirm.specs.declared.faults.StepRefusal.{StepRefusal}
+use Rattle.bp_confirm.specs.declared.locations.Location.TheVariants.{Line}
+use Rattle.bp_confirm.specs.OwnLines.{AreOwnLines}
 use Rattle.bp_confirm.specs.Steps.{StepOf, Takes}
-use Rattle.bp_confirm.specs.StepLines.{StepLineOf, steps_of}
+use Rattle.bp_confirm.specs.StepLines.{StepLineOf, steps_of, next_location}
 use Rattle.bp_confirm.specs.StepRuns.{IsRunOfSteps}
 use Rattle.bp_confirm.specs.Confirms.{IsConfirmed, IsStepRefusal, ForStuck}
 
@@ -30,3 +36,23 @@ RefusedHasNoRun =
     (text : List ℕ) (t : Program) (s : SetupOf) (lines : List StepLineOf) (r : StepRefusal)
     → IsStepRefusal text t s lines r
     → ForStuck r.reason ((calls : List Call) → IsRunOfSteps t s (steps_of text lines) calls → ⊥)
+
+-- a step is refused as ambiguous only where its thread's next step has a line without a column
+abbrev pub OnlyLinesAreAmbiguous : Type 0
+OnlyLinesAreAmbiguous =
+    (text : List ℕ) (t : Program) (s : SetupOf) (lines : List StepLineOf) (r : StepRefusal)
+    → IsTextOf text t
+    → (refused : IsStepRefusal text t s lines r)
+    → r.reason ≡ Ambiguous
+    → (n : ℕ) × (next_location r.thread refused.later ≡ Some (Line n))
+
+-- the own lines of a run within the bounds of the setup are not refused
+abbrev pub OwnLinesAreConfirmed : Type 0
+OwnLinesAreConfirmed =
+    (text : List ℕ) (t : Program) (s : SetupOf) (calls : List Call) (last : Configuration)
+    (lines : List StepLineOf) (r : StepRefusal)
+    → IsTextOf text t
+    → IsBoundedRun t s calls last
+    → AreOwnLines text t (start t s) calls lines
+    → IsStepRefusal text t s lines r
+    → ⊥

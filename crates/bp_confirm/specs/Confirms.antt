@@ -51,7 +51,7 @@ module _ (t : Program) (s : SetupOf) (h : List Call) (x : StepOf) where
   pub record IsUnclear (later : List StepOf) : Type 0 where
     pub at : StandsAtPlace true
     pub ambiguous :
-        IsAmbiguousOnStack x.thread later (stack_of (configuration_after t s h) x.thread)
+        IsAmbiguousOnStack t x.thread later (stack_of (configuration_after t s h) x.thread)
 
   -- its thread may make a call; with either choice bit the machine's reply is r, and that is no step
   pub record IsAnswered (r : Reply) : Type 0 where

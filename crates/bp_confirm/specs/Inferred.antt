@@ -1,9 +1,9 @@
 -- The choice bits that reported steps leave out, and how they are inferred from the later steps.
-use Rattle.std.specs.Prelude.{◌≡◌, ℕ, Bool, true, false, not, ◌&&◌, List, [], ◌∷◌, ◌++◌, Option, None, Some}
+use Rattle.std.specs.Prelude.{◌≡◌, ◌≢◌, slice_get, ℕ, Bool, true, false, not, ◌&&◌, List, [], ◌∷◌, ◌++◌, Option, None, Some}
 use Rattle.bp_tree.specs.Ast.{Block, Then, Branches, Loops, Asserts, Assumes, Choose, Program}
 use Rattle.bp_code.specs.Continuations.{chain}
 use Rattle.bp_code.specs.Configurations.{Frame}
-use Rattle.bp_code.specs.Starts.{start_of_block}
+use Rattle.bp_code.specs.Starts.{start_of_block, starts_of}
 use Rattle.bp_machine.specs.declared.calls.Call.{Call}
 use Rattle.bp_machine.specs.Answers.{stack_of}
 use Rattle.bp_machine.specs.Histories.{configuration_after}
@@ -45,19 +45,31 @@ IsClear (Then label at (Loops Choose a) r) next =
     IsClearWay next (chain a (Then label at (Loops Choose a) r)) r
 IsClear b next = Unit {0}
 
--- both ways are at the place of the thread's next step
-abbrev pub AreBothWays : Option Place → Block → Block → Type 0
-AreBothWays None taken other = ⊥
-AreBothWays (Some p) taken other =
-    (p (start_of_block taken) ≡ true) × (p (start_of_block other) ≡ true)
+-- what comes next on these ways are the statements of two instructions of the program
+pub record AreTwo (t : Program) (taken other : Block) : Type 0 where
+  pub one : ℕ
+  pub two : ℕ
+  pub apart : one ≢ two
+  pub taken_is : slice_get (starts_of t) one ≡ Some (start_of_block taken)
+  pub other_is : slice_get (starts_of t) two ≡ Some (start_of_block other)
+
+-- both ways are at the place, and they are two
+pub record AreBothAt (t : Program) (p : Place) (taken other : Block) : Type 0 where
+  pub taken_at : p (start_of_block taken) ≡ true
+  pub other_at : p (start_of_block other) ≡ true
+  pub ways : AreTwo t taken other
+
+abbrev pub AreBothWays : Program → Option Place → Block → Block → Type 0
+AreBothWays t None taken other = ⊥
+AreBothWays t (Some p) taken other = AreBothAt t p taken other
 
 -- a `?` may have gone either way
-abbrev pub IsAmbiguous : Block → Option Place → Type 0
-IsAmbiguous (Then label at (Branches Choose a b) r) next =
-    AreBothWays next (chain a r) (chain b r)
-IsAmbiguous (Then label at (Loops Choose a) r) next =
-    AreBothWays next (chain a (Then label at (Loops Choose a) r)) r
-IsAmbiguous b next = ⊥
+abbrev pub IsAmbiguous : Program → Block → Option Place → Type 0
+IsAmbiguous t (Then label at (Branches Choose a b) r) next =
+    AreBothWays t next (chain a r) (chain b r)
+IsAmbiguous t (Then label at (Loops Choose a) r) next =
+    AreBothWays t next (chain a (Then label at (Loops Choose a) r)) r
+IsAmbiguous t b next = ⊥
 
 -- steps follow
 abbrev pub some_follow : List StepOf → Bool
@@ -73,9 +85,9 @@ abbrev pub IsClearOnStack : ℕ → List StepOf → List Frame → Type 0
 IsClearOnStack i later [] = Unit {0}
 IsClearOnStack i later (f ∷ fs) = IsClear f.left (next_place i later)
 
-abbrev pub IsAmbiguousOnStack : ℕ → List StepOf → List Frame → Type 0
-IsAmbiguousOnStack i later [] = ⊥
-IsAmbiguousOnStack i later (f ∷ fs) = IsAmbiguous f.left (next_place i later)
+abbrev pub IsAmbiguousOnStack : Program → ℕ → List StepOf → List Frame → Type 0
+IsAmbiguousOnStack t i later [] = ⊥
+IsAmbiguousOnStack t i later (f ∷ fs) = IsAmbiguous t f.left (next_place i later)
 
 -- the call takes the step x after the history h, with the bit that is inferred from the later steps
 pub record Follows

@@ -15,3 +15,4 @@ pub mod StrayLines
 pub mod ConfirmedTexts
 pub mod ContextBounds
 pub mod Reading
+pub mod OwnLines

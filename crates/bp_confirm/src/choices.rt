@@ -63,7 +63,7 @@ pub(crate) fn inferred_bit(
         → spots.now ≡ spots_of text t
         → let place = option_map (place_of text) next in
         MatchOption result
-        (IsAmbiguous left place)
+        (IsAmbiguous t left place)
         (λ bit. (bit ≡ bit_of_block left place follow) × IsClear left place) }
 {
     let zero = instr.effect(store, false);

@@ -83,7 +83,7 @@ fn bit_at(session: &Session, spots: &[Spot], top: Top, next: Next) -> Option<boo
         → let now = configuration_after t session.now.setup h in
         IsTop t now x.thread top
         → MatchOption result
-        (IsAmbiguousOnStack x.thread later (stack_of now x.thread))
+        (IsAmbiguousOnStack t x.thread later (stack_of now x.thread))
         (λ bit.
         (bit ≡ bit_of_stack x.thread later (stack_of now x.thread))
         × IsClearOnStack x.thread later (stack_of now x.thread)) }

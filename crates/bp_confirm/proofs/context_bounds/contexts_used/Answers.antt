@@ -1,4 +1,4 @@
-use Rattle.std.proofs.Common.{◌≡◌, ◌∙◌, ◌+◌, Some, None, [], ap, subst, arith, drop, map, get_or}
+use Rattle.std.proofs.Common.{◌≡◌, ◌∙◌, ◌+◌, Some, [], ap, arith, drop, map, get_or}
 use Rattle.bp_machine.specs.ContextCounts.{contexts_opened}
 use Rattle.bp_machine.proofs.ContextCounts.{opened}
 use Rattle.bp_confirm.specs.declared.locations.Location.TheVariants.{End}

@@ -1,4 +1,4 @@
-use Rattle.std.proofs.Common.{◌∙◌, sym, ap, arith}
+use Rattle.std.proofs.Common.{◌∙◌, sym, arith}
 use Rattle.bp_confirm.proofs.OneReading.{one_reading, one_bad, bad_begins}
 use Rattle.bp_confirm.proofs.laws.texts_are_read_in_one_way.Goals as goal
 
