@@ -99,6 +99,7 @@ module _ (text : List ℕ) (t : Program) (s : SetupOf) (lines : List StepLineOf)
       history = h;
       legal = legal;
       takes = taken t s [] (steps_of text (take n lines)) (steps_of text (drop n lines)) h follow;
+      follows = subst (λ ys. FollowAfter t s [] (steps_of text (take n lines)) ys h) (ap (steps_of text) rest_is) follow;
       number = here.number;
       reason = here.reason;
       none = for_all r.reason here.stuck;

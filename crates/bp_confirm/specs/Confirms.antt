@@ -81,10 +81,10 @@ abbrev pub ForStuck : StepReason → Type 0 → Type 0
 ForStuck Ambiguous P = Unit {0}
 ForStuck reason P = P
 
--- Why the steps of these lines are not confirmed: a legal history takes those before line n; after
--- it this is the first reason against the step of line n, whose thread goes on at the instruction
--- of this number; and no history of the program in its setup takes the first n steps, whatever its
--- choice bits.
+-- Why the steps of these lines are not confirmed: the legal history with the inferred bits takes
+-- those before line n; after it this is the first reason against the step of line n, whose thread
+-- goes on at the instruction of this number; and no history of the program in its setup takes the
+-- first n steps, whatever its choice bits.
 pub record IsStepRefusal
     (text : List ℕ) (t : Program) (s : SetupOf) (lines : List StepLineOf) (r : StepRefusal)
     : Type 0 where
@@ -98,6 +98,7 @@ pub record IsStepRefusal
   pub history : List Call
   pub legal : IsLegal t s history
   pub takes : Takes t s (steps_of text before) history
+  pub follows : FollowAfter t s [] (steps_of text before) (steps_of text (step ∷ later)) history
   pub number : GoesOnAt t (configuration_after t s history) r.thread r.number
   pub reason : IsReason t s history (step_of text step) (steps_of text later) r.reason
   pub none :
