@@ -3,10 +3,8 @@ use Rattle.std.proofs.Common.{◌≡◌, ◌∙◌, ◌+◌, ◌<◌, ◌≤◌,
 use Rattle.std.specs.Prelude.{slice_get}
 use Rattle.std.proofs.Math.Seq.{drop-cons}
 use Rattle.std.proofs.Math.ListN.{drop_of_length-le}
-use Rattle.bp_code.specs.Flat.{Flat}
 use Rattle.bp_machine.specs.Contexts.{IsLeastWithin}
 use Rattle.bp_machine.specs.ContextCounts.{contexts_opened}
-use Rattle.bp_machine.specs.Setups.{SetupOf, FitsCode}
 use Rattle.bp_machine.proofs.ContextCounts.{opened, opened_none, opened_more, opened_least}
 use Rattle.bp_confirm.specs.ContextBounds.{thread_of}
 use Rattle.bp_confirm.specs.StepLines.{StepLineOf}
@@ -61,7 +59,3 @@ module _ {X : Type 0} where
 
   pub take_and : (old new xs : List X) (n : ℕ) (x : X) → slice_get xs n ≡ Some x → old ≡ take n xs → new ≡ old ++ x ∷ [] → new ≡ take (n + 1) xs
   take_and old new xs n x at done is = is ∙ ap (λ ys. ys ++ x ∷ []) done ∙ sym (take_got xs n x at)
-
--- a setup with other contexts fits as well
-pub fits_with : (c : Flat) (s : SetupOf) (k : ℕ) → FitsCode c s → FitsCode c (record s { contexts = k })
-fits_with c s k fits = λ t stands. let f = fits t stands in record { entries = f.entries; init = f.init }

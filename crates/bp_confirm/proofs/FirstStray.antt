@@ -1,6 +1,5 @@
 -- The first value, and the first line, of what is not declared.
 use Rattle.std.proofs.Common.{◌≡◌, ◌∙◌, ◌<◌, ◌+◌, ℕ, suc, true, false, List, [], ◌∷◌, ◌++◌, length, take, drop, get_or, ap, sym, subst, arith}
-use Rattle.std.specs.List.{AllByRecursion}
 use Rattle.std.proofs.lemmas.List.{map-append, map_push, take_more, take-append-drop}
 use Rattle.std.proofs.Math.ListN.{length-take}
 use Rattle.std.proofs.Math.Seq.{drop-cons}
@@ -9,7 +8,7 @@ use Rattle.bp_code.specs.Values.{Valuation}
 use Rattle.bp_machine.specs.Setups.{SetupOf}
 use Rattle.bp_confirm.specs.declared.step_lines.SeenValue.{SeenValue}
 use Rattle.bp_confirm.specs.StepLines.{StepLineOf, value_of, values_of}
-use Rattle.bp_confirm.specs.DeclaredLines.{declares, AreDeclared, IsFirstUndeclared, IsDeclared, AreDeclaredLines, IsFirstStray}
+use Rattle.bp_confirm.specs.DeclaredLines.{declares, AreDeclared, IsFirstUndeclared, AreDeclaredLines, IsFirstStray}
 use Rattle.bp_confirm.specs.Confirms.{AreOfThreads}
 
 -- the elements before the n-th, it, and the others
@@ -17,14 +16,6 @@ parts_at : {X : Type 0} (xs : List X) (n : ℕ) (d : X) → n < length xs → xs
 parts_at xs n d within =
     let one : suc n ≡ n + 1 = omega arith in
     sym (take-append-drop n xs) ∙ ap (λ ys. take n xs ++ ys) (drop-cons xs n d within ∙ ap (λ k. get_or xs n d ∷ drop k xs) one)
-
--- one more has the property
-all_more : {X : Type 0} (P : X → Type 0) (xs : List X) (n : ℕ) (d : X) → n < length xs → AllByRecursion P (take n xs) → P (get_or xs n d) → AllByRecursion P (take (n + 1) xs)
-all_more {X = X} P xs n d within all here = subst (AllByRecursion P) (sym (take_more xs n d within)) (both (take n xs) all)
-  where
-    both : (ys : List X) → AllByRecursion P ys → AllByRecursion P (ys ++ get_or xs n d ∷ [])
-    both [] all = (here, tt)
-    both (y ∷ ys) all = (all.0, both ys all.1)
 
 -- the values
 module _ (t : Program) (vs : List SeenValue) (n : ℕ) (d : SeenValue) (within : n < length vs) (first : AreDeclared t (values_of (take n vs))) where
@@ -58,9 +49,6 @@ module _ (t : Program) (s : SetupOf) (xs : List StepLineOf) (n : ℕ) (d x : Ste
     number = let size : length (take n xs) ≡ n = simp length-take (omega arith) in omega (arith, size);
     is = subst Is is here;
   }
-
-  pub lines_more : IsDeclared t s x → AreDeclaredLines t s (take (n + 1) xs)
-  lines_more here = all_more (IsDeclared t s) xs n d within first (subst (IsDeclared t s) is here)
 
 -- declared lines are of threads of the setup
 pub of_threads : (t : Program) (s : SetupOf) (xs : List StepLineOf) → AreDeclaredLines t s xs → AreOfThreads s xs

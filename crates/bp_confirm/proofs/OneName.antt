@@ -4,7 +4,7 @@ use Rattle.bp_trace.specs.Schedules.{bit_digit}
 use Rattle.bp_trace.specs.Writable.{Without}
 use Rattle.bp_confirm.specs.StepTexts.{value_text, IsBraced, IsPlain, IsStepName}
 use Rattle.bp_confirm.specs.LineReading.{BeginsWith, IsCut, IsNameAt, HasNoName, IsValueAt, HasNoValue}
-use Rattle.bp_confirm.proofs.Cuts.{same_head, one_cut, no_cut, without_front, without_rest}
+use Rattle.bp_confirm.proofs.Cuts.{same_head, one_cut, no_cut, without_front}
 
 -- a braced name, and what comes after it
 braced_then : (inner more : List ℕ) → (123 ∷ (inner ++ 125 ∷ [])) ++ more ≡ (123 ∷ inner) ++ 125 ∷ more
@@ -152,9 +152,3 @@ module _ (text : List ℕ) where
         name = at.name_is;
         parts = spaced ∙ ap (λ x. 32 ∷ x) (at.parts ∙ ap (λ x. name ++ 61 ∷ x) is) ∙ sym (value_then (name, b) rest);
       }
-
-      pub line_after : Without 10 text → (b : Bool) (rest : List ℕ) → digit ≡ bit_digit b ∷ rest → Without 10 rest
-      line_after line b rest is =
-          let whole : text ≡ 32 ∷ (name ++ 61 ∷ bit_digit b ∷ rest) = spaced ∙ ap (λ x. 32 ∷ x) (at.parts ∙ ap (λ x. name ++ 61 ∷ x) is) in
-          let after = without_rest 10 name (61 ∷ bit_digit b ∷ rest) (subst (Without 10) whole line).1 in
-          after.1.1

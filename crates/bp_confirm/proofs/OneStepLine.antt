@@ -1,5 +1,5 @@
 -- A line says at most one step.
-use Rattle.std.proofs.Common.{◌≡◌, ◌≢◌, inl, inr, ℕ, ◌<◌, ◌^◌, Bool, true, false, List, [], ◌∷◌, ◌++◌, ◌+◌, suc, length, length-append, refl, sym, ap, ◌∙◌, subst, append_assoc, arith, codes, decimal}
+use Rattle.std.proofs.Common.{◌≡◌, ◌≢◌, inl, inr, ℕ, ◌<◌, ◌^◌, Bool, true, false, List, [], ◌∷◌, ◌++◌, ◌+◌, length, refl, sym, ap, ◌∙◌, subst, append_assoc, arith, codes, decimal}
 use Rattle.std.proofs.lemmas.Fmt.{decimal_injective, decimal_nonempty}
 use Rattle.std.proofs.lemmas.List.{append-nil}
 use Rattle.bp_text.specs.Decimals.{IsNumber, IsNoNumber}
@@ -149,10 +149,6 @@ values_more text vs rest v more named is at = (
   named_append vs v named at.name,
   is ∙ ap (λ x. values_text vs ++ x) at.parts ∙ sym (append_assoc (values_text vs) (value_text v) more) ∙ ap (λ x. x ++ more) (sym (values_append vs v)),
 )
-
--- the rest is shorter after a value, and has no line feed
-pub value_shorter : (rest : List ℕ) (v : List ℕ × Bool) (more : List ℕ) → IsValueAt rest v more → length more < length rest
-value_shorter rest v more at = let whole = ap length (at.parts ∙ value_then v more) ∙ ap suc (length-append v.0 (61 ∷ bit_digit v.1 ∷ more)) in omega (arith, whole)
 
 pub line_rest : (rest : List ℕ) (v : List ℕ × Bool) (more : List ℕ) → IsValueAt rest v more → Without 10 rest → Without 10 more
 line_rest rest v more at line = without_rest 10 (value_text v) more (subst (Without 10) at.parts line)

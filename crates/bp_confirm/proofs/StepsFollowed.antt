@@ -164,9 +164,6 @@ module _ (text : List ℕ) (t : Program) (s : SetupOf) (h : List Call) (x : Step
   refused_for : (reason : StepReason) → IsReason t s h (step_of text x) later reason → ForStuck reason (IsStuck t s h (step_of text x)) → IsRefusedFor reason
   refused_for reason why stuck = record { line = refl; thread = refl; location = refl; number = goes_on; reason = why; stuck = stuck }
 
-  pub elsewhere : StandsAtPlace t s h (step_of text x) false → IsRefusedFor Elsewhere
-  elsewhere away = refused_for Elsewhere away (λ y takes. false≢true (sym away ∙ takes.at))
-
   module _ (at : StandsAtPlace t s h (step_of text x) true) where
     pub ambiguous : IsAmbiguousOnStack t x.thread later (stack_of (configuration_after t s h) x.thread) → IsRefusedFor Ambiguous
     ambiguous both = refused_for Ambiguous (record { at = at; ambiguous = both }) tt
