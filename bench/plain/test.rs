@@ -1,0 +1,441 @@
+//! The yardstick of bench/drawing.py: a plain Rust program, without proofs, that makes the runs of `btrun test` over
+//! examples/bluetooth/mended.bp, draw for draw, and prints the same summary. The code is written down here, so it reads
+//! no program. It draws by the same generator: PCG XSH RR 64/32 (O'Neill), written out.
+//!
+//! Usage: test RUNS CONTEXTS CALLS SEED
+const PILOTS: u64 = 64;
+const POWERS: u32 = 14;
+const FEW: u32 = 2;
+const SCHEDULE_STREAM: u64 = 118;
+const BITS_STREAM: u64 = 54;
+
+const STOPPING: u32 = 0;
+const IDLE: u32 = 1;
+const STOPPED: u32 = 2;
+const HIGH: u32 = 3;
+const LOW: u32 = 4;
+
+/// `low` is 1 at first, the other globals are 0.
+const INIT: u32 = 1 << LOW;
+
+/// The entries of the threads: `worker` and `stopper`.
+const ENTRIES: [u32; 2] = [0, 6];
+
+struct Generator {
+    state: u64,
+    increment: u64,
+}
+
+impl Generator {
+    fn new(state: u64, stream: u64) -> Generator {
+        let increment = stream << 1 | 1;
+        let mut generator = Generator { state: state.wrapping_add(increment), increment };
+        generator.step();
+        generator
+    }
+
+    fn step(&mut self) {
+        self.state = self.state.wrapping_mul(6364136223846793005).wrapping_add(self.increment);
+    }
+
+    fn word(&mut self) -> u32 {
+        let state = self.state;
+        self.step();
+        (((state >> 18 ^ state) >> 27) as u32).rotate_right((state >> 59) as u32)
+    }
+
+    fn below(&mut self, count: u32) -> u32 {
+        let word = self.word();
+        if count == 0 { 0 } else { word % count }
+    }
+}
+
+enum Expr {
+    One,
+    Global(u32),
+    Not(Box<Expr>),
+    Or(Box<Expr>, Box<Expr>),
+    Xor(Box<Expr>, Box<Expr>),
+}
+
+fn value(expr: &Expr, globals: u32) -> bool {
+    match expr {
+        Expr::One => true,
+        Expr::Global(slot) => globals >> slot & 1 == 1,
+        Expr::Not(inner) => !value(inner, globals),
+        Expr::Or(left, right) => value(left, globals) | value(right, globals),
+        Expr::Xor(left, right) => value(left, globals) ^ value(right, globals),
+    }
+}
+
+enum Instr {
+    Skip(u32),
+    Call(u32, u32),
+    If(Expr, u32, u32),
+    Assert(Expr, u32),
+    Assume(Expr, u32),
+    Assign(Vec<(u32, Expr)>, u32),
+    Return,
+}
+
+fn global(slot: u32) -> Expr {
+    Expr::Global(slot)
+}
+
+fn not(inner: Expr) -> Expr {
+    Expr::Not(Box::new(inner))
+}
+
+fn xor(left: Expr, right: Expr) -> Expr {
+    Expr::Xor(Box::new(left), Box::new(right))
+}
+
+/// The flat code of the program, as `btrun code` lists it.
+fn program() -> Vec<Instr> {
+    let count = vec![(HIGH, xor(global(HIGH), global(LOW))), (LOW, not(global(LOW)))];
+    let discount = vec![(HIGH, xor(global(HIGH), not(global(LOW)))), (LOW, not(global(LOW)))];
+    vec![
+        Instr::Call(11, 1),
+        Instr::If(global(STOPPING), 2, 3),
+        Instr::Skip(4),
+        Instr::Assert(not(global(STOPPED)), 4),
+        Instr::Call(13, 5),
+        Instr::Return,
+        Instr::Assign(vec![(STOPPING, Expr::One)], 7),
+        Instr::Call(13, 8),
+        Instr::Assume(global(IDLE), 9),
+        Instr::Assign(vec![(STOPPED, Expr::One)], 10),
+        Instr::Return,
+        Instr::Assign(count, 12),
+        Instr::Return,
+        Instr::Assign(discount, 14),
+        Instr::If(Expr::Or(Box::new(global(HIGH)), Box::new(global(LOW))), 15, 16),
+        Instr::Skip(17),
+        Instr::Assign(vec![(IDLE, Expr::One)], 17),
+        Instr::Return,
+    ]
+}
+
+#[derive(Clone, Copy, PartialEq)]
+enum Reply {
+    Ended,
+    NoContexts,
+    Failed,
+    Stepped,
+}
+
+#[derive(Clone, Copy)]
+struct Call {
+    thread: u32,
+    #[allow(dead_code)]
+    bit: bool,
+    reply: Reply,
+}
+
+struct Thread {
+    frames: Vec<u32>,
+    calls: u32,
+    is_ended: bool,
+    choices: Generator,
+    word: u32,
+    place: u32,
+}
+
+struct Test<'a> {
+    code: &'a [Instr],
+    contexts: u32,
+    calls: u32,
+    globals: u32,
+    threads: Vec<Thread>,
+    used: u32,
+    last: Option<u32>,
+    history: Vec<Call>,
+}
+
+impl Test<'_> {
+    fn restart(&mut self, seed: u64) {
+        self.globals = INIT;
+        self.used = 0;
+        self.last = None;
+        self.history.clear();
+        for (number, thread) in self.threads.iter_mut().enumerate() {
+            thread.frames.clear();
+            thread.frames.push(ENTRIES[number]);
+            thread.calls = 0;
+            thread.is_ended = false;
+            thread.choices = Generator::new(seed, BITS_STREAM + number as u64);
+            thread.word = thread.choices.word();
+            thread.place = 0;
+        }
+    }
+
+    fn is_finished(&self, thread: u32) -> bool {
+        let guest = &self.threads[thread as usize];
+        guest.is_ended || guest.calls >= self.calls
+    }
+
+    /// Whether the next statement of a thread is an assumption that is 0.
+    fn waits(&self, thread: u32) -> bool {
+        match self.threads[thread as usize].frames.last() {
+            Some(number) => match &self.code[*number as usize] {
+                Instr::Assume(expr, _) => !value(expr, self.globals),
+                _ => false,
+            },
+            None => false,
+        }
+    }
+
+    fn may_step(&self, thread: u32) -> bool {
+        !self.is_finished(thread) && !self.waits(thread)
+    }
+
+    /// Makes a call of a thread that does not wait.
+    fn ask(&mut self, thread: u32) -> Reply {
+        let guest = &mut self.threads[thread as usize];
+        let bit = guest.word >> guest.place & 1 == 1;
+        if guest.place == 31 {
+            guest.word = guest.choices.word();
+            guest.place = 0;
+        } else {
+            guest.place += 1;
+        }
+        guest.calls += 1;
+        let reply = self.reply_to(thread);
+        self.history.push(Call { thread, bit, reply });
+        reply
+    }
+
+    fn reply_to(&mut self, thread: u32) -> Reply {
+        let guest = &mut self.threads[thread as usize];
+        let Some(number) = guest.frames.last_mut() else {
+            guest.is_ended = true;
+            return Reply::Ended;
+        };
+        let used = self.used + u32::from(self.last != Some(thread));
+        if used > self.contexts {
+            guest.is_ended = true;
+            return Reply::NoContexts;
+        }
+        self.used = used;
+        self.last = Some(thread);
+        match &self.code[*number as usize] {
+            Instr::Skip(next) | Instr::Assume(_, next) => *number = *next,
+            Instr::Call(callee, next) => {
+                *number = *next;
+                guest.frames.push(*callee);
+            }
+            Instr::If(expr, next, other) => {
+                *number = if value(expr, self.globals) { *next } else { *other };
+            }
+            Instr::Assert(expr, next) => {
+                if !value(expr, self.globals) {
+                    guest.is_ended = true;
+                    return Reply::Failed;
+                }
+                *number = *next;
+            }
+            Instr::Assign(targets, next) => {
+                let mut globals = self.globals;
+                for (slot, expr) in targets {
+                    globals = globals & !(1 << slot) | u32::from(value(expr, self.globals)) << slot;
+                }
+                self.globals = globals;
+                *number = *next;
+            }
+            Instr::Return => {
+                guest.frames.pop();
+            }
+        }
+        Reply::Stepped
+    }
+}
+
+struct Scheduler {
+    generator: Generator,
+    current: u32,
+    switches: u32,
+    places: u64,
+}
+
+impl Scheduler {
+    fn new(seed: u64, contexts: u32, lengths: &[u64]) -> Scheduler {
+        let mut generator = Generator::new(seed, SCHEDULE_STREAM);
+        let current = generator.below(ENTRIES.len() as u32);
+        let drawn = generator.below(lengths.len() as u32);
+        let places = match lengths.get(drawn as usize) {
+            Some(length) => *length,
+            None => 8 << generator.below(POWERS),
+        };
+        let switches = switches(&mut generator, contexts, places);
+        Scheduler { generator, current, switches, places }
+    }
+
+    fn switches_now(&mut self) -> bool {
+        if self.switches == 0 || self.places == 0 {
+            return false;
+        }
+        let place = u64::from(self.generator.word()) % self.places;
+        self.places -= 1;
+        let is_here = place < u64::from(self.switches);
+        self.switches -= u32::from(is_here);
+        is_here
+    }
+
+    fn next(&mut self, test: &Test) -> Option<u32> {
+        if !self.switches_now() && test.may_step(self.current) {
+            return Some(self.current);
+        }
+        let threads = 0..ENTRIES.len() as u32;
+        let others = threads.clone().filter(|thread| *thread != self.current && test.may_step(*thread)).count();
+        let next = if others > 0 {
+            let drawn = self.generator.below(others as u32) as usize;
+            threads.filter(|thread| *thread != self.current && test.may_step(*thread)).nth(drawn)
+        } else {
+            threads.clone().find(|thread| test.may_step(*thread))
+        };
+        self.current = next.unwrap_or(self.current);
+        next
+    }
+}
+
+fn switches(generator: &mut Generator, contexts: u32, places: u64) -> u32 {
+    if contexts < 2 {
+        return 0;
+    }
+    let most = u64::from(contexts - 1).min(places - places / 4) as u32;
+    if generator.below(5) < 2 {
+        return generator.below(most.min(FEW)) + 1;
+    }
+    most - generator.below(most - most / 2)
+}
+
+fn run(test: &mut Test, seed: u64, lengths: &[u64], reached: &mut [bool]) {
+    test.restart(seed);
+    let mut scheduler = Scheduler::new(seed, test.contexts, lengths);
+    while let Some(thread) = scheduler.next(test) {
+        let number = test.threads[thread as usize].frames.last().copied();
+        let reply = test.ask(thread);
+        if let (Some(number), true) = (number, reply != Reply::NoContexts) {
+            reached[number as usize] = true;
+        }
+        if reply == Reply::Failed {
+            break;
+        }
+    }
+    for thread in 0..ENTRIES.len() as u32 {
+        if !test.is_finished(thread) && test.waits(thread) {
+            if let Some(number) = test.threads[thread as usize].frames.last() {
+                reached[*number as usize] = true;
+            }
+        }
+    }
+}
+
+#[derive(Default)]
+struct Tally {
+    runs: u64,
+    calls: u64,
+    longest: u64,
+    finished: u64,
+    out_of_contexts: u64,
+    cut_off: u64,
+    stuck: u64,
+    contexts: Vec<u64>,
+    stepped: [bool; 2],
+}
+
+impl Tally {
+    fn add(&mut self, test: &Test) {
+        let calls = test.history.len() as u64;
+        self.runs += 1;
+        self.calls += calls;
+        self.longest = self.longest.max(calls);
+        while self.contexts.len() <= test.used as usize {
+            self.contexts.push(0);
+        }
+        self.contexts[test.used as usize] += 1;
+        let (mut refused, mut ended, mut has_failed) = (false, 0, false);
+        for call in &test.history {
+            match call.reply {
+                Reply::Ended => ended += 1,
+                Reply::NoContexts => refused = true,
+                Reply::Failed | Reply::Stepped => self.stepped[call.thread as usize] = true,
+            }
+            has_failed |= call.reply == Reply::Failed;
+        }
+        if has_failed {
+            return;
+        }
+        if (0..ENTRIES.len() as u32).any(|thread| !test.is_finished(thread)) {
+            self.stuck += 1;
+        } else if refused {
+            self.out_of_contexts += 1;
+        } else if ended == ENTRIES.len() {
+            self.finished += 1;
+        } else {
+            self.cut_off += 1;
+        }
+    }
+
+    /// The least, the middle and the greatest number of contexts.
+    fn contexts_used(&self) -> (usize, usize, usize) {
+        let (half, mut before, mut used) = (self.runs.div_ceil(2), 0, (0, 0, 0));
+        for (contexts, runs) in self.contexts.iter().enumerate().filter(|(_, runs)| **runs > 0) {
+            if before == 0 {
+                used.0 = contexts;
+            }
+            if before < half {
+                used.1 = contexts;
+            }
+            used.2 = contexts;
+            before += runs;
+        }
+        used
+    }
+}
+
+fn main() {
+    let words: Vec<String> = std::env::args().collect();
+    let number = |n: usize| words[n].parse::<u64>().expect("a number");
+    let (runs, contexts, calls, seed) = (number(1), number(2) as u32, number(3) as u32, number(4));
+    let code = program();
+    let thread = |_| Thread { frames: Vec::new(), calls: 0, is_ended: false, choices: Generator::new(0, 0), word: 0, place: 0 };
+    let threads = (0..ENTRIES.len()).map(thread).collect();
+    let mut test = Test { code: &code, contexts, calls, globals: 0, threads, used: 0, last: None, history: Vec::new() };
+    let mut lengths = Vec::new();
+    let mut reached = vec![false; code.len()];
+    for pilot in 0..PILOTS {
+        run(&mut test, seed.wrapping_add(pilot), &[], &mut reached);
+        if test.threads.iter().all(|thread| thread.calls < calls) {
+            lengths.push(test.history.len() as u64);
+        }
+    }
+    let mut reached = vec![false; code.len()];
+    let mut tally = Tally::default();
+    let mut found = None;
+    for run_number in 0..runs {
+        run(&mut test, seed.wrapping_add(run_number), &lengths, &mut reached);
+        tally.add(&test);
+        if test.history.last().map(|call| call.reply) == Some(Reply::Failed) {
+            found = Some(run_number);
+            break;
+        }
+    }
+    match found {
+        Some(run_number) => eprintln!("an assertion failed in run {run_number} of {runs}"),
+        None => eprintln!("no assertion failed in {runs} runs"),
+    }
+    let (least, middle, most) = tally.contexts_used();
+    let is_statement = |instr: &Instr| !matches!(instr, Instr::Return);
+    let statements = code.iter().filter(|instr| is_statement(instr)).count();
+    let tried = code.iter().zip(&reached).filter(|(instr, is_reached)| **is_reached && is_statement(instr)).count();
+    let asserted = code.iter().zip(&reached).filter(|(instr, is_reached)| **is_reached && matches!(instr, Instr::Assert(..))).count();
+    let stepped = tally.stepped.iter().filter(|has_stepped| **has_stepped).count();
+    eprintln!("runs {}, calls {}, longest {}", tally.runs, tally.calls, tally.longest);
+    eprintln!(
+        "ended: finished {}, out of contexts {}, cut off {}, stuck {}",
+        tally.finished, tally.out_of_contexts, tally.cut_off, tally.stuck
+    );
+    eprintln!("contexts: least {least}, middle {middle}, most {most}");
+    eprintln!("reached: statements {tried} of {statements}, assertions {asserted} of 1, threads {stepped} of 2");
+}
