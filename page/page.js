@@ -2,8 +2,14 @@
 
 const VERSION = 1;
 const CALLS_OF_A_PAGE = 20;
-const SPARE_ROWS = 8;
 const MAX_FRAMES = 8;
+const MAX_CALLS_PRINTED = 2000;
+const MIN_WIDTH = 160;
+const KEY_WIDTH = 16;
+// Up to so many lanes they are so many pixels wide.
+const LANES = [[8, 12], [16, 10], [64, 8]];
+const MAX_LANES_BETWEEN = 8;
+const MAX_LANES_WITH_CONTEXT = 24;
 const MAX_MARKS = 3;
 const LINK_DELAY = 250;
 
@@ -17,135 +23,48 @@ function made(tag, name = "", text = "") {
   return element;
 }
 
+const counted = (count, name) => `${count} ${name}${count === 1 ? "" : "s"}`;
+
 // Hues of threads, none of them near the red of a failure.
 const HUES = [215, 150, 40, 280, 185, 90, 320, 250];
 const hueOf = (thread) => String(HUES[thread % HUES.length]);
 
-/** Rows of one height in a box that scrolls. Only those that are seen are in the page. */
-class Rows {
-  constructor(box, body, draw) {
-    Object.assign(this, { box, body, draw, count: 0, kept: -1, drawn: new Map() });
-    box.addEventListener("scroll", () => this.redrawSoon());
-    new ResizeObserver(() => this.redrawSoon()).observe(box);
-  }
-
-  redrawSoon() {
-    if (this.isDue) return;
-    this.isDue = true;
-    requestAnimationFrame(() => this.redraw());
-  }
-
-  get height() {
-    const row = getComputedStyle(this.body).getPropertyValue("--row");
-    return parseFloat(row) * parseFloat(getComputedStyle(document.documentElement).fontSize);
-  }
-
-  /** Takes a row out of the page, so that it is drawn anew. */
-  forget(position) {
-    this.drawn.get(position)?.remove();
-    this.drawn.delete(position);
-  }
-
-  forgetAll() {
-    this.drawn.clear();
-    this.body.replaceChildren();
-  }
-
-  redraw() {
-    this.isDue = false;
-    const height = this.height;
-    const first = Math.max(0, Math.floor(this.box.scrollTop / height) - SPARE_ROWS);
-    const seen = Math.ceil(this.box.clientHeight / height) + 2 * SPARE_ROWS;
-    const length = Math.max(0, Math.min(seen, this.count - first));
-    const wanted = new Set(Array.from({ length }, (_, at) => first + at));
-    if (this.kept >= 0 && this.kept < this.count) wanted.add(this.kept);
-    this.body.style.height = `${this.count * height}px`;
-    [...this.drawn.keys()].filter((position) => !wanted.has(position)).forEach((position) => this.forget(position));
-    this.drawEach([...wanted].sort((a, b) => b - a), height);
-  }
-
-  /** Draws the rows that are not there, from the last to the first, so that each stands before the one after it. */
-  drawEach(positions, height) {
-    let next = null;
-    for (const position of positions) {
-      const row = this.drawn.get(position) ?? this.draw(position);
-      if (!this.drawn.has(position)) {
-        row.style.top = `${position * height}px`;
-        this.drawn.set(position, row);
-        this.body.insertBefore(row, next);
-      }
-      next = row;
-    }
-  }
-
-  /** Scrolls sideways to a cell of the row that is kept. */
-  revealCell(name) {
-    const cell = this.body.querySelector(name);
-    if (!cell) return;
-    const place = cell.getBoundingClientRect();
-    const left = cell.parentNode.querySelector(".context").getBoundingClientRect().right;
-    const result = cell.parentNode.querySelector(".result").getBoundingClientRect();
-    const right = Math.min(this.box.getBoundingClientRect().right, result.left);
-    const isSeen = place.left >= left && place.right <= right;
-    if (!isSeen) this.box.scrollLeft += (place.left + place.right - left - right) / 2;
-  }
-
-  /** Scrolls to a row, which stays in the page from now on, also where it is not seen. */
-  reveal(position) {
-    this.kept = position;
-    const height = this.height;
-    const seen = this.box.clientHeight - this.body.offsetTop - height;
-    const top = position * height;
-    const isSeen = top >= this.box.scrollTop + height && top <= this.box.scrollTop + seen - height;
-    if (!isSeen) this.body.style.height = `${this.count * height}px`;
-    if (!isSeen) this.box.scrollTop = top - seen / 2;
-    this.redraw();
-  }
+/** The number of a thread on its colour. */
+function badge(thread) {
+  const element = made("span", "badge", String(thread));
+  element.style.setProperty("--hue", hueOf(thread));
+  return element;
 }
 
-/** A strip above the calls: each context at its place in the trace and in the lane of its thread. */
-class Overview {
-  constructor(canvas, trace, choose) {
-    Object.assign(this, { canvas, trace, contexts: trace.contexts(), chosen: 0 });
-    canvas.addEventListener("click", (event) => {
-      choose(Math.floor((event.offsetX / canvas.clientWidth) * trace.calls.length));
-    });
-    new ResizeObserver(() => this.draw()).observe(canvas);
-    matchMedia("(prefers-color-scheme: dark)").addEventListener("change", () => this.draw());
-  }
+/** Gives a section the width to which its edge is dragged, or that the arrow keys choose. */
+function makeResizable(handle) {
+  const section = handle.parentNode;
+  const way = Number(handle.dataset.way);
+  const widen = (width) => {
+    const pixels = Math.max(MIN_WIDTH, Math.round(width));
+    byId("main").style.setProperty(`--${handle.dataset.side}-width`, `${pixels}px`);
+    handle.setAttribute("aria-valuenow", pixels);
+  };
+  handle.setAttribute("aria-valuenow", section.clientWidth);
+  handle.addEventListener("pointerdown", (event) => {
+    const [width, from] = [section.clientWidth, event.clientX];
+    handle.setPointerCapture(event.pointerId);
+    handle.onpointermove = (moved) => widen(width + way * (moved.clientX - from));
+  });
+  handle.addEventListener("pointerup", () => { handle.onpointermove = null; });
+  handle.addEventListener("keydown", (event) => {
+    const by = { ArrowLeft: -KEY_WIDTH, ArrowRight: KEY_WIDTH }[event.key];
+    if (!by) return;
+    event.preventDefault();
+    event.stopPropagation();
+    widen(section.clientWidth + way * by);
+  });
+}
 
-  /** Where the call at an index begins, in pixels of the canvas. */
-  left(index) {
-    return (index / Math.max(1, this.trace.calls.length)) * this.canvas.width;
-  }
-
-  draw() {
-    this.canvas.width = this.canvas.clientWidth * devicePixelRatio;
-    this.canvas.height = this.canvas.clientHeight * devicePixelRatio;
-    const pen = this.canvas.getContext("2d");
-    const style = getComputedStyle(this.canvas);
-    const height = this.canvas.height / this.trace.setup.threads.length;
-    for (const { thread, first, last } of this.contexts) {
-      pen.fillStyle = `hsl(${hueOf(thread)} 45% ${style.getPropertyValue("--edge-light")})`;
-      const width = Math.max(1, this.left(last + 1) - this.left(first));
-      pen.fillRect(this.left(first), thread * height, width, Math.max(1, height - devicePixelRatio));
-    }
-    this.line(pen, this.trace.failure, style.getPropertyValue("--failure"), [4, 2]);
-    this.line(pen, this.chosen, style.getPropertyValue("--ink"), []);
-  }
-
-  /** A line across the strip in the middle of a call: whole, or broken for the failure. */
-  line(pen, index, colour, dashes) {
-    if (index < 0) return;
-    const middle = (this.left(index) + this.left(index + 1)) / 2;
-    pen.strokeStyle = colour;
-    pen.lineWidth = 2 * devicePixelRatio;
-    pen.setLineDash(dashes);
-    pen.beginPath();
-    pen.moveTo(middle, 0);
-    pen.lineTo(middle, this.canvas.height);
-    pen.stroke();
-  }
+/** Shows the page light or dark: as it is chosen, or as the system asks for. */
+function chooseTheme() {
+  const isDark = matchMedia("(prefers-color-scheme: dark)").matches;
+  document.documentElement.dataset.theme = byId("theme").value || (isDark ? "dark" : "light");
 }
 
 /** What came of a call, in the words of `show`. */
@@ -175,6 +94,7 @@ class Page {
     this.showSetup();
     this.showThreads();
     this.listen();
+    this.chosen = this.whereItOpens();
     this.filter();
     this.followLink();
   }
@@ -182,25 +102,41 @@ class Page {
   // What stays.
 
   showSetup() {
-    const { setup, end } = this.trace;
+    const { setup, end, calls, failure } = this.trace;
     const seed = setup.seed === null ? "no seed" : `seed ${setup.seed}`;
-    byId("bounds").textContent = `at most ${setup.contexts} contexts, ${setup.calls} calls of a thread, ${seed}`;
-    const counts = `${end.calls} calls, contexts ${end.contexts}, open threads ${end.open}`;
-    const outcome = end.failure === null ? "no assertion failed" : this.failureText();
-    byId("outcome").textContent = `${counts}; ${outcome}`;
-    byId("outcome").classList.toggle("failed", end.failure !== null);
-    byId("go-failure").disabled = this.trace.failure < 0;
-    byId("number").max = this.trace.calls.length;
-    byId("of").textContent = `of ${this.trace.calls.length}`;
+    const counts = [[end.calls, "call"], [end.contexts, "context"], [end.open, "open thread"]];
+    const had = counts.map(([count, name]) => counted(count, name)).join(", ");
+    const limits = `at most ${counted(setup.contexts, "context")} and ${counted(setup.calls, "call")} of a thread`;
+    byId("counts").textContent = `${had}; ${limits}; ${seed}`;
+    byId("outcome").textContent = this.outcomeText();
+    byId("outcome").classList.toggle("failed", end.failure !== null || this.trace.deadlocked().length > 0);
+    byId("go-failure").hidden = failure < 0;
+    byId("number").max = calls.length;
+    byId("of").textContent = `of ${calls.length}`;
+  }
+
+  outcomeText() {
+    const waiting = this.trace.deadlocked();
+    if (this.trace.end.failure !== null) return this.failureText();
+    if (!waiting.length) return "No assertion failed.";
+    const threads = `${waiting.length === 1 ? "thread" : "threads"} ${waiting.join(", ")}`;
+    return `No assertion failed; at the end every open thread waits: ${threads}.`;
+  }
+
+  /** The call that is chosen first: the failure, or the end of a trace after which every open thread waits. */
+  whereItOpens() {
+    if (this.trace.failure >= 0) return this.trace.failure;
+    return this.trace.deadlocked().length ? this.trace.calls.length - 1 : 0;
   }
 
   failureText() {
     const { thread, line, column, statement, values } = this.trace.end.failure;
     const known = values.map((it) => `${variableName(it)}=${it.value}`).join(" ");
-    return `an assertion of thread ${thread} failed at ${line}:${column}: ${statement}${known ? ` with ${known}` : ""}`;
+    const failed = `An assertion of thread ${thread} failed at ${line}:${column}: ${statement}`;
+    return `${failed}${known ? ` with ${known}` : ""}.`;
   }
 
-  /** A box to tick for each thread. */
+  /** A menu with a box to tick for each thread. */
   showThreads() {
     const boxes = this.trace.setup.threads.map((entry, thread) => {
       const label = made("label");
@@ -210,7 +146,7 @@ class Page {
         this.threads[box.checked ? "add" : "delete"](thread);
         this.filter();
       });
-      label.append(box, `${thread} ${entry}`);
+      label.append(box, badge(thread), entry);
       return label;
     });
     const all = [["All", true], ["None", false]].map(([name, isChecked]) => {
@@ -238,12 +174,16 @@ class Page {
     const isChanging = byId("changing").checked && part !== "";
     const isShown = (call) =>
       this.threads.has(call.thread) && (!isChanging || call.changes.some((it) => variableName(it).includes(part)));
+    const count = this.threads.size;
+    const all = this.trace.setup.threads.length;
+    byId("threads-name").textContent = `Threads: ${count === all ? "all" : `${count} of ${all}`}`;
     this.shown = [];
     this.trace.calls.forEach((call, index) => isShown(call) && this.shown.push(index));
     this.calls.count = this.shown.length;
     this.calls.forgetAll();
     byId("slider").max = Math.max(1, this.shown.length);
     byId("calls-box").setAttribute("aria-rowcount", this.shown.length + 1);
+    this.showLanes();
     this.showHeads();
     if (this.shown.length) this.choosePosition(this.positionOf(this.chosen));
     else this.showNothing();
@@ -268,23 +208,28 @@ class Page {
     this.showMarks();
   }
 
+  /** Gives a lane to each thread that is shown and makes a call. */
+  showLanes() {
+    const threads = this.trace.threadsWithCalls().filter((thread) => this.threads.has(thread));
+    this.laneOf = new Map(threads.map((thread, at) => [thread, at]));
+    const count = Math.max(1, threads.length);
+    byId("calls-box").style.setProperty("--lanes", count);
+    byId("calls-box").style.setProperty("--lane", `${LANES.find(([most]) => count <= most)[1]}px`);
+    byId("main").classList.toggle("many", count > MAX_LANES_BETWEEN);
+    byId("calls-box").classList.toggle("most", count > MAX_LANES_WITH_CONTEXT);
+  }
+
   showHeads() {
-    const threads = this.threadsShown();
-    this.columnOf = new Map(threads.map((thread, at) => [thread, at + 3]));
-    const lanes = `repeat(${Math.max(1, threads.length)}, minmax(8rem, 1fr))`;
-    const columns = `var(--call) var(--context) ${lanes} minmax(8rem, 0.7fr)`;
-    const width = `${7.5 + 8 * Math.max(1, threads.length) + 8}rem`;
-    byId("calls-box").style.setProperty("--columns", columns);
-    byId("heads").style.minWidth = byId("calls").style.minWidth = `max(100%, ${width})`;
-    byId("calls-box").setAttribute("aria-colcount", threads.length + 3);
-    const names = threads.map((thread) => `thread ${thread}\n${this.trace.setup.threads[thread]}`);
-    byId("heads").replaceChildren(...["call", "context", ...names, "result"].map((name, at) => {
-      const head = made("div", ["number", "context"][at] ?? (name === "result" ? "result" : ""), name);
-      head.setAttribute("role", "columnheader");
-      head.setAttribute("aria-colindex", at + 1);
+    const names = ["call", "context", "", "thread", "place", "statement", "result"];
+    const classes = ["number", "context", "strip", "thread", "place", "statement", "result"];
+    byId("calls-box").setAttribute("aria-colcount", names.length - 1);
+    let column = 0;
+    byId("heads").replaceChildren(...names.map((name, at) => {
+      const head = made("div", classes[at], name);
+      head.setAttribute(...(name ? ["role", "columnheader"] : ["aria-hidden", "true"]));
+      if (name) head.setAttribute("aria-colindex", column += 1);
       return head;
     }));
-    this.resultColumn = Math.max(1, threads.length) + 3;
   }
 
   // A call's row.
@@ -300,43 +245,59 @@ class Page {
     row.setAttribute("aria-selected", String(index === this.chosen));
     row.classList.toggle("switch", call.switch);
     row.classList.toggle("failed", call.reply === "failed");
+    const thread = this.cell("thread", 3, "");
+    thread.title = this.trace.setup.threads[call.thread];
+    thread.append(badge(call.thread));
     row.append(
       this.cell("number", 1, `${call.switch ? ">" : ""}${call.number}`),
       this.cell("context", 2, call.context === null ? "-" : String(call.context)),
-      ...this.blockCells(position, index, call),
-      this.cell("result", this.resultColumn, resultOf(call)),
+      this.strip(position, index, call),
+      thread,
+      this.cell("place", 4, placeOf(call)),
+      this.statementCell(call),
+      this.cell("result", 6, resultOf(call)),
     );
     return row;
   }
 
   cell(name, column, text) {
     const cell = made("div", name, text);
-    cell.style.gridColumn = column;
     cell.setAttribute("role", name === "number" ? "rowheader" : "gridcell");
     cell.setAttribute("aria-colindex", column);
-    if (text.length > 20) cell.title = text;
+    if (text.length > 12) cell.title = text;
     return cell;
   }
 
-  /** The statement of the call, and the context of another thread that goes on meanwhile. */
-  blockCells(position, index, call) {
+  statementCell(call) {
+    const name = call.context === null ? "statement idle" : "statement step";
+    const cell = this.cell(name, 5, call.statement ?? "the thread has ended");
+    cell.style.setProperty("--depth", Math.max(Math.min(call.depth, MAX_FRAMES) - 1, 0));
+    return cell;
+  }
+
+  /** The lanes of the threads at a call: its own block, and the context of another thread that goes on meanwhile. */
+  strip(position, index, call) {
+    const strip = made("div", "strip");
+    strip.setAttribute("aria-hidden", "true");
     const around = this.trace.contextAround(index);
-    const name = call.context === null ? "idle" : "step";
-    const own = this.cell(name, this.columnOf.get(call.thread), call.statement ?? "the thread has ended");
-    own.style.setProperty("--hue", hueOf(call.thread));
-    own.style.paddingLeft = `${0.5 + 0.75 * Math.max(Math.min(call.depth, MAX_FRAMES) - 1, 0)}rem`;
-    const isOther = around && around.thread !== call.thread && this.columnOf.has(around.thread);
-    const cells = [own];
-    if (isOther) {
-      cells.push(made("div", "inside"));
-      cells[1].style.gridColumn = this.columnOf.get(around.thread);
-      cells[1].style.setProperty("--hue", hueOf(around.thread));
+    const own = this.block(call.thread, call.context === null ? "call-only" : "block");
+    strip.append(own);
+    if (around && around.thread !== call.thread && this.laneOf.has(around.thread)) {
+      strip.append(this.block(around.thread, "block"));
     }
     if (call.context !== null) {
       own.classList.toggle("first", this.contextAt(position - 1) !== call.context);
       own.classList.toggle("last", this.contextAt(position + 1) !== call.context);
     }
-    return cells;
+    return strip;
+  }
+
+  /** A box in the lane of a thread. */
+  block(thread, name) {
+    const box = made("span", name);
+    box.style.setProperty("--at", this.laneOf.get(thread));
+    box.style.setProperty("--hue", hueOf(thread));
+    return box;
   }
 
   /** The number of the context that goes on at a row. */
@@ -358,16 +319,23 @@ class Page {
     for (const mark of marks) {
       if (mark.end <= from) continue;
       const begin = Math.max(from, mark.start);
-      text.append(this.program.shown(from, begin), this.marked(mark, begin, Math.min(end, mark.end)));
+      text.append(...this.coloured(from, begin), this.marked(mark, begin, Math.min(end, mark.end)));
       from = Math.min(end, mark.end);
     }
-    text.append(this.program.shown(from, end));
+    text.append(...this.coloured(from, end));
     row.append(this.signs(marks), made("span", "line-number", String(at + 1)), text);
     return row;
   }
 
+  /** A piece of the source in the colours of its tokens. */
+  coloured(start, end) {
+    const pieces = [...Program.kinds(this.program.shown(start, end))];
+    return pieces.map(({ piece, kind }) => (kind ? made("span", kind, piece) : piece));
+  }
+
   marked(mark, start, end) {
-    const element = made("mark", mark.sign === "▶" ? "now" : "", this.program.shown(start, end));
+    const element = made("mark", mark.sign === "▶" ? "now" : "");
+    element.append(...this.coloured(start, end));
     element.classList.toggle("failed", mark.isFailed);
     element.append(made("span", "heard", ` (${mark.words})`));
     return element;
@@ -426,45 +394,70 @@ class Page {
     const before = this.states.after(Math.max(index - 1, -1));
     const after = index < 0 ? before : this.states.after(index);
     const title = index < 0 ? "Variables at the start" : `Variables before and after call ${index + 1}`;
-    const caption = made("caption", "heard", title);
     const head = made("thead");
-    head.append(this.tableRow("", ["variable", "before", "after"], "col"));
-    const globals = this.states.globals.map((name, at) => [name, before.globals[at], after.globals[at]]);
-    const threads = this.threadsShown().map((thread) => this.localsOf(thread, before.tops[thread], after.tops[thread]));
-    const groups = [[globals.length ? "globals" : "no globals", globals], ...threads];
-    byId("variables").replaceChildren(caption, head, ...groups.map(([name, rows]) => this.group(name, rows)));
+    head.append(this.tableRow("", ["variable", "before", "after", "since"], "col"));
+    const globals = this.rowsOf("", this.states.globals, before.globals, after.globals);
+    const own = this.trace.calls[index]?.thread;
+    const threads = byId("all-threads").checked || own === undefined ? this.threadsShown() : [own];
+    const stacks = threads.flatMap((thread) => this.stackOf(thread, before.tops[thread], after.tops[thread]));
+    const groups = [["globals", globals], ...stacks].map(([name, rows, thread]) => this.group(name, rows, thread));
+    byId("variables").replaceChildren(made("caption", "heard", title), head, ...groups.filter((it) => it));
   }
 
-  /** The variables of the frame on top of a thread's stack after the call, with their values before it. */
-  localsOf(thread, before, top) {
-    if (!top) return [`thread ${thread}: ended`, []];
+  /** A row for each variable of an owner: its name, its values before and after, and since which call it has that. */
+  rowsOf(owner, names, before, after) {
+    return names.map((name, at) => {
+      const old = before ? before.values[at] : null;
+      return { owner, name, old, value: after.values[at], since: after.since[at] };
+    });
+  }
+
+  /** The frames of a thread after the call, from the top, each with its values before it. */
+  stackOf(thread, before, top) {
+    if (!top) return [[`thread ${thread} has ended`, [], thread]];
+    const groups = [];
     let earlier = before;
-    while (earlier && earlier.depth > top.depth) earlier = earlier.below;
-    const isNew = !earlier || earlier.depth < top.depth;
-    const names = this.program.variablesOf(top.procedure);
-    const old = (at) => (isNew ? null : earlier.values[at]);
-    const rows = names.map((name, at) => [`${top.procedure}.${name}`, old(at), top.values[at]]);
-    return [`thread ${thread}: ${States.chain(top).join(" › ")}`, rows];
+    for (let frame = top; frame && groups.length < MAX_FRAMES; frame = frame.below) {
+      while (earlier && earlier.depth > frame.depth) earlier = earlier.below;
+      const same = earlier && earlier.depth === frame.depth ? earlier.locals : null;
+      const rows = this.rowsOf(`${frame.procedure}.`, this.program.variablesOf(frame.procedure), same, frame.locals);
+      groups.push([frame === top ? frame.procedure : `called by ${frame.procedure}`, rows, thread]);
+    }
+    const left = top.depth - groups.length;
+    return left ? [...groups, [`and ${left} more frames`, [], thread]] : groups;
   }
 
-  group(title, rows) {
-    const body = made("tbody");
+  /** The rows of an owner under its name; nothing where the filter leaves none of them. */
+  group(title, rows, thread) {
     const part = byId("variable").value;
-    const heading = made("th", "", title);
-    heading.colSpan = 3;
+    const fitting = rows.filter(({ owner, name }) => `${owner}${name}`.includes(part));
+    if (part && !fitting.length) return null;
+    const body = made("tbody");
+    const heading = made("th");
+    heading.colSpan = 4;
     heading.scope = "rowgroup";
+    if (thread !== undefined) heading.append(badge(thread), " ");
+    heading.append(title);
+    if (!rows.length) heading.append(made("span", "faint", ": none"));
     body.append(made("tr"));
     body.firstChild.append(heading);
-    const fitting = rows.filter(([name]) => name.includes(part));
-    if (!rows.length && title.startsWith("thread")) heading.append(made("span", "faint", ", no locals"));
-    body.append(...fitting.map(([name, old, value]) => {
-      const isChanged = old !== value;
-      const texts = [name, old === null ? "–" : String(old), String(value)];
-      const row = this.tableRow(isChanged ? "changed" : "", texts, "row");
-      if (isChanged) row.lastChild.append(" ◂", made("span", "heard", old === null ? " new" : " changed"));
-      return row;
-    }));
+    body.append(...fitting.map((row) => this.variableRow(row)));
     return body;
+  }
+
+  variableRow({ owner, name, old, value, since }) {
+    const isChanged = old !== value;
+    const texts = [name, old === null ? "–" : String(old), String(value), since ? "" : "start"];
+    const row = this.tableRow(isChanged ? "changed" : "", texts, "row");
+    row.dataset.name = `${owner}${name}`;
+    if (isChanged) row.cells[2].append(" ◂", made("span", "heard", old === null ? " new" : " changed"));
+    if (since) {
+      const link = made("a", "", String(since));
+      link.href = `#call=${since}`;
+      link.title = `has this value since call ${since}`;
+      row.cells[3].append(link);
+    }
+    return row;
   }
 
   tableRow(name, texts, scope) {
@@ -494,7 +487,6 @@ class Page {
     byId("slider").setAttribute("aria-valuetext", `call ${call.number} of ${this.trace.calls.length}`);
     byId("link").href = `#call=${call.number}`;
     this.calls.reveal(at);
-    this.calls.revealCell('[aria-selected="true"] > .step, [aria-selected="true"] > .idle');
     byId("calls-box").setAttribute("aria-activedescendant", `call-${call.number}`);
     this.showMarks();
     this.showVariables(this.chosen);
@@ -553,6 +545,11 @@ class Page {
     byId("slider").addEventListener("input", () => this.choosePosition(Number(byId("slider").value) - 1));
     byId("variable").addEventListener("input", () => this.filter());
     byId("changing").addEventListener("change", () => this.filter());
+    byId("all-threads").addEventListener("change", () => this.showVariables(this.shown.length ? this.chosen : -1));
+    byId("theme").addEventListener("change", () => this.showTheme());
+    matchMedia("(prefers-color-scheme: dark)").addEventListener("change", () => this.showTheme());
+    window.addEventListener("beforeprint", () => this.drawWhole(true));
+    window.addEventListener("afterprint", () => this.drawWhole(false));
     byId("calls").addEventListener("click", (event) => {
       const row = event.target.closest(".call");
       if (row) this.choosePosition(Number(row.dataset.position));
@@ -561,13 +558,24 @@ class Page {
     document.addEventListener("keydown", (event) => this.pressed(event));
   }
 
+  showTheme() {
+    chooseTheme();
+    this.overview.draw();
+  }
+
+  /** Draws what a print shows: the whole source, and all calls where they are not too many. */
+  drawWhole(isWhole) {
+    this.source.drawWhole(isWhole);
+    this.calls.drawWhole(isWhole && this.shown.length <= MAX_CALLS_PRINTED);
+  }
+
   /** What a key does, where it is not one of the place that has the focus. */
   pressed(event) {
     const at = document.activeElement;
     const isText = at.matches('input[type="text"], input[type="number"]');
     if (isText && event.key === "Escape") byId("calls-box").focus();
     if (at.id === "find" && event.key === "Enter") this.find(1);
-    if (isText || event.ctrlKey || event.altKey || event.metaKey) return;
+    if (isText || at.matches("select") || event.ctrlKey || event.altKey || event.metaKey) return;
     const scrolls = at.matches('.box:not([role="grid"]), input[type="range"]');
     const does = this.lettersDo()[event.key] ?? (scrolls ? null : this.movesDo()[event.key]);
     if (!does) return;
@@ -578,7 +586,10 @@ class Page {
   lettersDo() {
     return {
       f: () => this.trace.failure >= 0 && this.choose(this.trace.failure),
-      "/": () => byId("find").focus(),
+      "/": () => {
+        byId("filters").open = true;
+        byId("find").focus();
+      },
       n: () => this.find(1),
       p: () => this.find(-1),
     };
@@ -600,12 +611,13 @@ class Page {
 
 /** Opens the page of the data that it has. */
 function start() {
+  chooseTheme();
   const lines = byId("calls-data").textContent.trim().replaceAll("\n", ",");
   const source = atob(byId("source-data").textContent.replace(/\s/g, ""));
   const trace = new Trace(JSON.parse(`[${lines}]`));
   if (trace.setup.version !== VERSION) throw new Error(`its lines are of version ${trace.setup.version}`);
   new Page(trace, new Program(source));
-  byId("filters").open = matchMedia("(min-width: 60rem)").matches;
+  document.querySelectorAll(".handle").forEach(makeResizable);
   byId("calls-box").focus({ preventScroll: true });
   document.documentElement.dataset.ready = Math.round(performance.now());
 }

@@ -1,9 +1,13 @@
 "use strict";
 
 // The trace is a list of calls as `btrun show --json` prints them, each a list of values without keys. Call number
-// n is at index n - 1. A state is what the variables are after a call; that after index -1 is the one at the start.
+// n is at index n - 1. A state is what the variables are after a call, and since which call each has its value;
+// that after index -1 is the one at the start, which call 0 stands for.
 
 const SNAPSHOT_EVERY = 256;
+const KEYWORDS = new Set(
+  "decl begin end skip print assert assume goto if then else fi while do od return".split(" "),
+);
 
 /** A call, of its values in the order of `show --json`. */
 function callOf(values) {
@@ -117,6 +121,16 @@ class Program {
     return { start, end, callee: isCall ? head : null, returns: head === "return" };
   }
 
+  /** The tokens and the comments of a piece of the text, for people: each with its kind, "" for what is between. */
+  static *kinds(text) {
+    const lexeme = /\/\/.*|\{[^}]*\}|[A-Za-z_]\w*|\d+|[^\w{/]+|./g;
+    for (const [piece] of text.matchAll(lexeme)) {
+      const isComment = piece.startsWith("//");
+      const kind = isComment ? "comment" : KEYWORDS.has(piece) ? "keyword" : /^\d/.test(piece) ? "bit" : "";
+      yield { piece, kind };
+    }
+  }
+
   /** The text between two places, for people. */
   shown(start, end) {
     const bytes = Uint8Array.from(this.bytes.slice(start, end), (it) => it.charCodeAt(0));
@@ -161,6 +175,20 @@ class Trace {
     return found;
   }
 
+  threadsWithCalls() {
+    return [...this.callsOf.keys()].filter((thread) => this.callsOf[thread].length > 0);
+  }
+
+  /** The threads that wait at the end, where no open thread does anything else; none where one might go on. */
+  deadlocked() {
+    if (this.end.failure !== null || this.end.open === 0) return [];
+    const lastStep = this.calls.length ? this.stepBefore[this.calls.length - 1] : -1;
+    const last = this.callsOf.map((own) => own[own.length - 1] ?? -1);
+    const waits = (thread) => last[thread] > lastStep && this.calls[last[thread]].reply === "waits";
+    const waiting = [...last.keys()].filter(waits);
+    return waiting.length === this.end.open ? waiting : [];
+  }
+
   /** The context that goes on at a call, whoever makes it: its number and its thread. */
   contextAround(index) {
     const before = this.calls[this.stepBefore[index]];
@@ -184,12 +212,28 @@ class Trace {
   }
 }
 
-/** The values with some of them changed. */
-function changed(values, names, changes) {
-  if (!changes.length) return values;
-  const after = values.slice();
-  changes.forEach(({ name, value }) => { after[names.indexOf(name)] = value; });
-  return after;
+/** The variables of one owner: their values, and the number of the call since which each has its value. */
+class Values {
+  constructor(values, since) {
+    Object.assign(this, { values, since });
+  }
+
+  /** Variables that are 0 since a call. */
+  static zeros(count, call) {
+    return new Values(new Uint8Array(count), new Int32Array(count).fill(call));
+  }
+
+  /** These with the changes of a call. */
+  after(names, changes, call) {
+    if (!changes.length) return this;
+    const after = new Values(this.values.slice(), this.since.slice());
+    for (const { name, value } of changes) {
+      const at = names.indexOf(name);
+      after.values[at] = value;
+      after.since[at] = call;
+    }
+    return after;
+  }
 }
 
 /**
@@ -202,9 +246,10 @@ class States {
     this.program = program;
     this.statements = new Map();
     this.globals = trace.setup.globals.map(({ name }) => name);
+    const values = Uint8Array.from(trace.setup.globals, ({ value }) => value);
     const first = {
-      globals: Uint8Array.from(trace.setup.globals, ({ value }) => value),
-      tops: trace.setup.threads.map((entry) => this.frame(entry, null)),
+      globals: new Values(values, new Int32Array(values.length)),
+      tops: trace.setup.threads.map((entry) => this.frame(entry, null, 0)),
     };
     this.snapshots = [first];
   }
@@ -232,10 +277,10 @@ class States {
     return this.statements.get(key);
   }
 
-  /** A new frame, whose variables are 0. */
-  frame(procedure, below) {
-    const values = new Uint8Array(this.program.variablesOf(procedure).length);
-    return { procedure, values, depth: below ? below.depth + 1 : 1, below };
+  /** A new frame that a call makes, whose variables are 0. */
+  frame(procedure, below, call) {
+    const locals = Values.zeros(this.program.variablesOf(procedure).length, call);
+    return { procedure, locals, depth: below ? below.depth + 1 : 1, below };
   }
 
   /** The state after one call more. */
@@ -245,7 +290,7 @@ class States {
     const written = call.changes.filter(({ procedure }) => procedure === null);
     const tops = state.tops.slice();
     tops[call.thread] = this.topAfter(state.tops[call.thread], call);
-    return { globals: changed(state.globals, this.globals, written), tops };
+    return { globals: state.globals.after(this.globals, written, call.number), tops };
   }
 
   /** The frame on top of a thread's stack after a step. */
@@ -253,15 +298,9 @@ class States {
     const statement = call.line === null ? { callee: null, returns: true } : this.statementOf(call);
     if (statement.returns) return top.below;
     const written = call.changes.filter(({ procedure }) => procedure !== null);
-    const after = statement.callee === null ? top : this.frame(statement.callee, top);
+    const after = statement.callee === null ? top : this.frame(statement.callee, top, call.number);
     if (!written.length) return after;
-    return { ...after, values: changed(after.values, this.program.variablesOf(after.procedure), written) };
-  }
-
-  /** The procedures of a stack, the entry first. */
-  static chain(top) {
-    const names = [];
-    for (let frame = top; frame; frame = frame.below) names.unshift(frame.procedure);
-    return names.length > 6 ? [...names.slice(0, 2), "..", ...names.slice(-3)] : names;
+    const names = this.program.variablesOf(after.procedure);
+    return { ...after, locals: after.locals.after(names, written, call.number) };
   }
 }
