@@ -1,5 +1,24 @@
-# Completes the commands, options and files of btrun in bash. Source it, or put it where bash-completion looks for
-# completions under the name btrun.
+# Completes the commands, options, files, entries and variables of btrun in bash. Source it, or put it where
+# bash-completion looks for completions under the name btrun.
+
+# The procedures of a program that take no arguments, as `check --json` has them.
+_btrun_entries() {
+    btrun check "$1" --json 2> /dev/null | grep -oE '"name":"\w+","formals":\[\]' | cut -d '"' -f 4
+}
+
+# The variables of a program whose names have no braces.
+_btrun_variables() {
+    btrun check "$1" --json 2> /dev/null | grep -oE '"(formals|locals|globals)":\[[^]]*' | cut -d : -f 2- |
+        grep -oE '"\w+"' | tr -d '"'
+}
+
+# The words before the one that is completed which are files.
+_btrun_files() {
+    local word
+    for word in "${COMP_WORDS[@]:2:COMP_CWORD-2}"; do
+        [[ -f $word ]] && echo "$word"
+    done
+}
 
 # The options of a command.
 _btrun_options() {
@@ -16,15 +35,22 @@ _btrun_options() {
 }
 
 _btrun() {
-    local word=${COMP_WORDS[COMP_CWORD]} before=${COMP_WORDS[COMP_CWORD - 1]} words
+    local word=${COMP_WORDS[COMP_CWORD]} before=${COMP_WORDS[COMP_CWORD - 1]} words files
+    mapfile -t files < <(_btrun_files)
     case ${COMP_WORDS[1]}$before in
         show--contexts) ;;
-        *--contexts | *--calls | *--init | *--seed | *--turn | *--ring | *--runs | *--jobs | *--thread | *--last | *--from | *--to | *--watch | *--at) return ;;
+        show--watch)
+            mapfile -t COMPREPLY < <(compgen -W "$(_btrun_variables "${files[0]}")" -- "$word")
+            return
+            ;;
+        *--contexts | *--calls | *--init | *--seed | *--turn | *--ring | *--runs | *--jobs | *--thread | *--last | *--from | *--to | *--at) return ;;
     esac
     if ((COMP_CWORD == 1)); then
         words="check code drive run test replay show migrate shrink help --help --version"
     elif [[ $word == -* ]]; then
         words=$(_btrun_options "${COMP_WORDS[1]}")
+    elif [[ ${COMP_WORDS[1]}${#files[@]} == @(run1|test1|drive2) ]]; then
+        words=$(_btrun_entries "${files[0]}")
     else
         mapfile -t COMPREPLY < <(compgen -f -- "$word")
         return

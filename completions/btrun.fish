@@ -1,4 +1,31 @@
-# Completes the commands, options and files of btrun in fish. Put it in ~/.config/fish/completions.
+# Completes the commands, options, files, entries and variables of btrun in fish. Put it in ~/.config/fish/completions.
+
+# The words before the one that is completed which are files.
+function __btrun_files
+    for word in (commandline -opc)[3..]
+        test -f $word; and echo $word
+    end
+end
+
+# Whether the next word is the entry of a thread: all files of the command are there.
+function __btrun_takes_entry
+    set -l command (commandline -opc)[2]
+    set -l files (count (__btrun_files))
+    contains $command$files run1 test1 drive2
+end
+
+# The procedures of a program that take no arguments, as `check --json` has them.
+function __btrun_entries
+    btrun check (__btrun_files)[1] --json 2> /dev/null | string match -arg '"name":"(\w+)","formals":\[\]'
+end
+
+# The variables of a program whose names have no braces.
+function __btrun_variables
+    btrun check (__btrun_files)[1] --json 2> /dev/null | string match -arg '"(?:formals|locals|globals)":\[([^]]*)' |
+        string match -arg '"(\w+)"'
+end
+
+complete -c btrun -n __btrun_takes_entry -f -a '(__btrun_entries)' -d 'An entry'
 
 complete -c btrun -n __fish_use_subcommand -f -a check -d 'Check a program'
 complete -c btrun -n __fish_use_subcommand -f -a code -d 'Print the listing of its code'
@@ -42,7 +69,7 @@ complete -c btrun -n '__fish_seen_subcommand_from show' -x -l thread -d 'Show th
 complete -c btrun -n '__fish_seen_subcommand_from show' -x -l last -d 'Show the last calls alone'
 complete -c btrun -n '__fish_seen_subcommand_from show' -x -l from -d 'Show no call before this one'
 complete -c btrun -n '__fish_seen_subcommand_from show' -x -l to -d 'Show no call after this one'
-complete -c btrun -n '__fish_seen_subcommand_from show' -x -l watch -d 'Show the calls alone that change these variables'
+complete -c btrun -n '__fish_seen_subcommand_from show' -x -l watch -a '(__btrun_variables)' -d 'Show the calls alone that change these variables'
 complete -c btrun -n '__fish_seen_subcommand_from show' -l fold -d 'Show equal waits as one line'
 complete -c btrun -n '__fish_seen_subcommand_from show' -l state -d 'Show the state after the last call too'
 complete -c btrun -n '__fish_seen_subcommand_from show' -x -l at -d 'Show the state after this call'
