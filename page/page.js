@@ -329,8 +329,7 @@ class Page {
 
   /** A piece of the source in the colours of its tokens. */
   coloured(start, end) {
-    const pieces = [...Program.kinds(this.program.shown(start, end))];
-    return pieces.map(({ piece, kind }) => (kind ? made("span", kind, piece) : piece));
+    return [...this.program.pieces(start, end)].map(({ piece, kind }) => (kind ? made("span", kind, piece) : piece));
   }
 
   marked(mark, start, end) {

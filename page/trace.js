@@ -29,6 +29,9 @@ function leastWhere(count, holds) {
   return low;
 }
 
+/** The kind of a token that has a colour of its own. */
+const kindOf = (text) => (KEYWORDS.has(text) ? "keyword" : ["0", "1"].includes(text) ? "bit" : "");
+
 /** The name of a variable as `show` prints it: a local after the name of its procedure. */
 const variableName = ({ procedure, name }) => (procedure === null ? name : `${procedure}.${name}`);
 
@@ -121,14 +124,19 @@ class Program {
     return { start, end, callee: isCall ? head : null, returns: head === "return" };
   }
 
-  /** The tokens and the comments of a piece of the text, for people: each with its kind, "" for what is between. */
-  static *kinds(text) {
-    const lexeme = /\/\/.*|\{[^}]*\}|[A-Za-z_]\w*|\d+|[^\w{/]+|./g;
-    for (const [piece] of text.matchAll(lexeme)) {
-      const isComment = piece.startsWith("//");
-      const kind = isComment ? "comment" : KEYWORDS.has(piece) ? "keyword" : /^\d/.test(piece) ? "bit" : "";
-      yield { piece, kind };
+  /** The text between two places in pieces, each with its kind: a token's, a comment's, or none. */
+  *pieces(start, end) {
+    const kind = (from, to) => (this.bytes.slice(from, to).includes("//") ? "comment" : "");
+    const gap = (from, to) => ({ piece: this.shown(from, to), kind: kind(from, to) });
+    let from = start;
+    let at = leastWhere(this.tokens.length, (it) => this.tokens[it].start >= start);
+    for (; this.tokens[at]?.start < end; at += 1) {
+      const token = this.tokens[at];
+      yield gap(from, token.start);
+      yield { piece: this.shown(token.start, token.end), kind: kindOf(token.text) };
+      from = token.end;
     }
+    yield gap(from, end);
   }
 
   /** The text between two places, for people. */
