@@ -1,6 +1,6 @@
 -- The first value, and the first line, of what is not declared.
 use Rattle.std.proofs.Common.{◌≡◌, ◌∙◌, ◌<◌, ◌+◌, ℕ, suc, true, false, List, [], ◌∷◌, ◌++◌, length, take, drop, get_or, ap, sym, subst, arith}
-use Rattle.std.proofs.lemmas.List.{map-append, map_push, take_more, take-append-drop}
+use Rattle.std.proofs.lemmas.List.{length-map, map-append, map_push, take_more, take-append-drop}
 use Rattle.std.proofs.Math.ListN.{length-take}
 use Rattle.std.proofs.Math.Seq.{drop-cons}
 use Rattle.bp_tree.specs.Ast.{Program}
@@ -19,13 +19,14 @@ parts_at xs n d within =
 
 -- the values
 module _ (t : Program) (vs : List SeenValue) (n : ℕ) (d : SeenValue) (within : n < length vs) (first : AreDeclared t (values_of (take n vs))) where
-  pub first_undeclared : declares t (get_or vs n d).name.now ≡ false → IsFirstUndeclared t (values_of vs) (get_or vs n d).name.now
+  pub first_undeclared : declares t (get_or vs n d).name.now ≡ false → IsFirstUndeclared t (values_of vs) n
   first_undeclared none = record {
     before = values_of (take n vs);
-    bit = (get_or vs n d).bit;
+    value = value_of (get_or vs n d);
     after = values_of (drop (n + 1) vs);
     parts = ap values_of (parts_at vs n d within) ∙ map-append value_of (take n vs) (get_or vs n d ∷ drop (n + 1) vs);
     first = first;
+    number = let size : length (take n vs) ≡ n = simp length-take (omega arith) in sym (length-map (take n vs) value_of ∙ size);
     undeclared = none;
   }
 

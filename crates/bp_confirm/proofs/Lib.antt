@@ -5,6 +5,7 @@ pub mod Transfer
 pub mod LocalRefusals
 pub mod BitsOfEffects
 pub mod SpotsOfInstructions
+pub mod StandsOfInstructions
 pub mod NextLocations
 pub mod ValuesSeen
 pub mod BitsAtTops
@@ -15,6 +16,7 @@ pub mod Cuts
 pub mod OneName
 pub mod OneStepLine
 pub mod OneReading
+pub mod ValuesOnLines
 pub mod FirstStray
 pub mod ContextsUsed
 pub mod StartsInOrder

@@ -169,7 +169,7 @@ module _ (line : List ℕ) where
     no_thread_no_step none = λ x has e. none x.thread has.thread (fields_are x has e).0
 
     module _ (field values : List ℕ) (at : IsField rest field values) where
-      both_are : (x : StepLineOf) → HasLine x → line ≡ line_text x → (field ≡ location_text x.location) × (values ≡ values_text x.values)
+      pub both_are : (x : StepLineOf) → HasLine x → line ≡ line_text x → (field ≡ location_text x.location) × (values ≡ values_text x.values)
       both_are x has e =
           one_field field (location_text x.location) values (values_text x.values) at.first (location_without_space x.location has.location) at.ends (values_spaced x.values)
           (sym at.parts ∙ (fields_are x has e).1)

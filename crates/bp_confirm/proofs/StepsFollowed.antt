@@ -29,6 +29,9 @@ use Rattle.bp_confirm.specs.Steps.{StepOf, value_seen, IsFirstUnseen, SeesValues
 use Rattle.bp_confirm.specs.Inferred.{bit_of_stack, IsAmbiguousOnStack, IsClearOnStack, Follows, FollowAfter}
 use Rattle.bp_confirm.specs.Confirms.{GoesOnAt, StandsAtPlace, StandsThere, IsStuck, IsReason, ForStuck, IsStepRefusal, IsNotConfirmed, IsConfirmed}
 use Rattle.bp_confirm.specs.StepRefusals.{IsRefusedHere, IsNotTaken, refusal_of}
+use Rattle.bp_confirm.specs.declared.spots.Spot.{Spot}
+use Rattle.bp_confirm.specs.Spots.{spots_of}
+use Rattle.bp_confirm.proofs.StandsOfInstructions.{stands_as}
 use Rattle.bp_confirm.proofs.LocalRefusals.{same_reply, refused_for_all, other_values}
 use Rattle.bp_confirm.proofs.Transfer.{transfer}
 
@@ -101,6 +104,7 @@ module _ (text : List ℕ) (t : Program) (s : SetupOf) (lines : List StepLineOf)
       takes = taken t s [] (steps_of text (take n lines)) (steps_of text (drop n lines)) h follow;
       follows = subst (λ ys. FollowAfter t s [] (steps_of text (take n lines)) ys h) (ap (steps_of text) rest_is) follow;
       number = here.number;
+      stand = here.stand;
       reason = here.reason;
       none = for_all r.reason here.stuck;
     }
@@ -118,8 +122,8 @@ module _ (text : List ℕ) (t : Program) (s : SetupOf) (lines : List StepLineOf)
       record { legal = legal; takes = taken t s [] steps [] h follows; follows = follows }
 
 -- a value that is not seen is one of those that are wanted
-unseen_not : (c : Configuration) (i : ℕ) (vs : Valuation) (value : List ℕ × Bool) (seen : Option Bool) → IsFirstUnseen c i vs value seen → SeesValues c i vs → ⊥
-unseen_not c i vs value seen unseen sees = unseen.differs (unseen.is_seen ∙ seen_at vs unseen.before value unseen.at sees)
+unseen_not : (c : Configuration) (i : ℕ) (vs : Valuation) (n : ℕ) (seen : Option Bool) → IsFirstUnseen c i vs n seen → SeesValues c i vs → ⊥
+unseen_not c i vs n seen unseen sees = unseen.differs (unseen.is_seen ∙ seen_at vs n unseen.value unseen.at sees)
   where
     seen_at : (ws : Valuation) (m : ℕ) (v : List ℕ × Bool) → slice_get ws m ≡ Some v → SeesValues c i ws → value_seen c.globals (stack_of c i) v.0 ≡ Some v.1
     seen_at [] m v at all = absurd cc
@@ -143,9 +147,9 @@ take_values (suc k) (v ∷ vs) = ap (λ ws. value_of v ∷ ws) (take_values k vs
 
 -- this value is the first that is not seen
 pub unseen_at : (c : Configuration) (i : ℕ) (vs : List SeenValue) (k : ℕ) (d : SeenValue) (seen : Option Bool) → k < length vs → SeesValues c i (values_of (take k vs))
-    → seen ≡ value_seen c.globals (stack_of c i) (get_or vs k d).name.now → seen ≢ Some (get_or vs k d).bit → IsFirstUnseen c i (values_of vs) (value_of (get_or vs k d)) seen
+    → seen ≡ value_seen c.globals (stack_of c i) (get_or vs k d).name.now → seen ≢ Some (get_or vs k d).bit → IsFirstUnseen c i (values_of vs) k seen
 unseen_at c i vs k d seen within sees is differs = record {
-  before = k;
+  value = value_of (get_or vs k d);
   at = slice_get-map value_of vs k ∙ ap (option_map value_of) (slice_get-get_or vs k d within);
   first = subst (SeesValues c i) (take_values k vs) sees;
   is_seen = is;
@@ -154,15 +158,18 @@ unseen_at c i vs k d seen within sees is differs = record {
 
 -- the refusals of the step of one line, whose thread goes on at this instruction
 module _ (text : List ℕ) (t : Program) (s : SetupOf) (h : List Call) (x : StepLineOf) (later : List StepOf) (n : ℕ) (number : Option ℕ)
-    (goes_on : GoesOnAt t (configuration_after t s h) x.thread number) where
+    (goes_on : GoesOnAt t (configuration_after t s h) x.thread number) (spots : List Spot) (are : spots ≡ spots_of text t) where
   abbrev step : StepOf
   step = step_of text x
 
   abbrev IsRefusedFor : StepReason → Type 0
-  IsRefusedFor reason = IsNotTaken text t s h x later n (refusal_of x n number reason)
+  IsRefusedFor reason = IsNotTaken text t s h x later n (refusal_of spots x n number reason)
 
   refused_for : (reason : StepReason) → IsReason t s h (step_of text x) later reason → ForStuck reason (IsStuck t s h (step_of text x)) → IsRefusedFor reason
-  refused_for reason why stuck = record { line = refl; thread = refl; location = refl; number = goes_on; reason = why; stuck = stuck }
+  refused_for reason why stuck = record { line = refl; thread = refl; location = refl; number = goes_on; stand = stands_as text t spots number are; reason = why; stuck = stuck }
+
+  pub elsewhere : StandsAtPlace t s h (step_of text x) false → IsRefusedFor Elsewhere
+  elsewhere other = refused_for Elsewhere other (λ y takes. false≢true (sym other ∙ takes.at))
 
   module _ (at : StandsAtPlace t s h (step_of text x) true) where
     pub ambiguous : IsAmbiguousOnStack t x.thread later (stack_of (configuration_after t s h) x.thread) → IsRefusedFor Ambiguous
@@ -187,11 +194,11 @@ module _ (text : List ℕ) (t : Program) (s : SetupOf) (h : List Call) (x : Step
           bare : IsStepOf t s h (record step { values = [] }) a
           bare = record { thread = thread; allowed = allowed; granted = granted; at = at; values = tt }
 
-          pub others_seen : (value : SeenValue) (seen : Option Bool) → IsFirstUnseen (configuration_after t s (h ++ a ∷ [])) x.thread x.values (value_of value) seen
+          pub others_seen : (value : ℕ) (seen : Option Bool) → IsFirstUnseen (configuration_after t s (h ++ a ∷ [])) x.thread x.values value seen
               → IsRefusedFor (Differs value seen)
           others_seen value seen unseen =
               refused_for (Differs value seen) (there, record { call = a; takes = bare; unseen = unseen })
-              (other_values t s h step a bare (unseen_not (configuration_after t s (h ++ a ∷ [])) x.thread x.values (value_of value) seen unseen))
+              (other_values t s h step a bare (unseen_not (configuration_after t s (h ++ a ∷ [])) x.thread x.values value seen unseen))
 
 -- a call that is refused to a thread that is there, where the setup has no seed
 pub ask_refused : (t : Program) (s : SetupOf) (h : List Call) (i : ℕ) (bit : Bool) (f : AskFault) → i < threads s → s.seed ≡ None → IsAskRefusal t s h i (Some bit) f

@@ -44,7 +44,7 @@ module _ (t : Program) (s : SetupOf) (steps : List ℕ) where
   IsUntold fault.TooLong = MAX_SCHEDULE < length steps
   IsUntold (fault.Line n) = IsShortText × IsBadLine steps n
   IsUntold (fault.NoThread n thread) = HasStray n (IsOfNoThread s thread)
-  IsUntold (fault.NoVariable n name) = HasStray n (IsOfNoVariable t s name.now)
+  IsUntold (fault.NoVariable n value) = HasStray n (IsOfNoVariable t s value)
   IsUntold fault.Memory = IsShortText
   IsUntold f = ⊥
 
@@ -80,8 +80,12 @@ module _ (t : Program) (s : SetupOf) (steps : List ℕ) where
       pub confirmed : IsConfirmedText setup history
       pub written : AppendsPart old new (trace_text setup history)
 
-    -- why the steps are not confirmed, the first that applies, and what was written then
+    -- why the steps are not confirmed: the first that applies
+    abbrev pub IsStepsRefusal : ConfirmFault → Type 0
+    IsStepsRefusal (fault.Step r) = IsRefusedText r
+    IsStepsRefusal f = IsUntold f
+
+    -- and what was written then
     abbrev pub IsConfirmRefusal : Option (List ℕ) → Option (List ℕ) → ConfirmFault → Type 0
-    IsConfirmRefusal old new (fault.Step r) = (new ≡ old) × IsRefusedText r
     IsConfirmRefusal old new fault.Write = IsCutShort old new
-    IsConfirmRefusal old new f = (new ≡ old) × IsUntold f
+    IsConfirmRefusal old new f = (new ≡ old) × IsStepsRefusal f

@@ -17,8 +17,9 @@ use Rattle.bp_confirm.specs.declared.faults.StepReason.{StepReason}
 use Rattle.bp_confirm.specs.declared.faults.StepReason.TheVariants.{Elsewhere, Ambiguous, Finished, Refused, Differs}
 use Rattle.bp_confirm.specs.declared.faults.StepRefusal.{StepRefusal}
 use Rattle.bp_confirm.specs.Places.{stands_at}
+use Rattle.bp_confirm.specs.Stands.{stand_of}
 use Rattle.bp_confirm.specs.Steps.{StepOf, IsFirstUnseen, IsStepOf, Takes}
-use Rattle.bp_confirm.specs.StepLines.{StepLineOf, value_of, step_of, steps_of}
+use Rattle.bp_confirm.specs.StepLines.{StepLineOf, step_of, steps_of}
 use Rattle.bp_confirm.specs.Inferred.{IsAmbiguousOnStack, IsClearOnStack, FollowAfter}
 
 -- the legal history takes the steps, one call for each, with the bits that are inferred
@@ -61,8 +62,8 @@ module _ (t : Program) (s : SetupOf) (h : List Call) (x : StepOf) where
     pub each : (y : Call) → y.thread ≡ x.thread → IsAllowed t s h y → y.reply ≡ r
     pub refused : is_granted r ≡ false
 
-  -- a call takes it but for its values: this is the first that the thread does not see
-  pub record SeesOther (value : List ℕ × Bool) (seen : Option Bool) : Type 0 where
+  -- a call takes it but for its values: this is the first, from 0, that the thread does not see
+  pub record SeesOther (value : ℕ) (seen : Option Bool) : Type 0 where
     pub call : Call
     pub takes : IsStepOf t s h (record x { values = [] }) call
     pub unseen :
@@ -74,7 +75,7 @@ module _ (t : Program) (s : SetupOf) (h : List Call) (x : StepOf) where
   IsReason later Ambiguous = IsUnclear later
   IsReason later Finished = StandsThere later × (is_finished s h x.thread ≡ true)
   IsReason later (Refused r) = StandsThere later × IsAnswered r
-  IsReason later (Differs value seen) = StandsThere later × SeesOther (value_of value) seen
+  IsReason later (Differs value seen) = StandsThere later × SeesOther value seen
 
 -- the reason says that nothing takes a step; an ambiguous one asks for a column
 abbrev pub ForStuck : StepReason → Type 0 → Type 0
@@ -83,8 +84,8 @@ ForStuck reason P = P
 
 -- Why the steps of these lines are not confirmed: the legal history with the inferred bits takes
 -- those before line n; after it this is the first reason against the step of line n, whose thread
--- goes on at the instruction of this number; and no history of the program in its setup takes the
--- first n steps, whatever its choice bits.
+-- goes on at the instruction of this number, which is there in the text; and no history of the
+-- program in its setup takes the first n steps, whatever its choice bits.
 pub record IsStepRefusal
     (text : List ℕ) (t : Program) (s : SetupOf) (lines : List StepLineOf) (r : StepRefusal)
     : Type 0 where
@@ -100,6 +101,7 @@ pub record IsStepRefusal
   pub takes : Takes t s (steps_of text before) history
   pub follows : FollowAfter t s [] (steps_of text before) (steps_of text (step ∷ later)) history
   pub number : GoesOnAt t (configuration_after t s history) r.thread r.number
+  pub stand : r.stand ≡ stand_of text t r.number
   pub reason : IsReason t s history (step_of text step) (steps_of text later) r.reason
   pub none :
       ForStuck r.reason

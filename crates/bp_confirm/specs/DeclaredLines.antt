@@ -19,14 +19,15 @@ declares t x = is_some (first_index t.globals x) || has_local t.procedures x
 abbrev pub AreDeclared : Program → Valuation → Type 0
 AreDeclared t vs = AllByRecursion (λ v. declares t v.0 ≡ true) vs
 
--- of these values, this is the name of the first whose variable is not declared
-pub record IsFirstUndeclared (t : Program) (vs : Valuation) (name : List ℕ) : Type 0 where
+-- of these values, that of number n, from 0, is the first whose variable is not declared
+pub record IsFirstUndeclared (t : Program) (vs : Valuation) (n : ℕ) : Type 0 where
   pub before : Valuation
-  pub bit : Bool
+  pub value : List ℕ × Bool
   pub after : Valuation
-  pub parts : vs ≡ before ++ (name, bit) ∷ after
+  pub parts : vs ≡ before ++ value ∷ after
   pub first : AreDeclared t before
-  pub undeclared : declares t name ≡ false
+  pub number : n ≡ length before
+  pub undeclared : declares t value.0 ≡ false
 
 -- the line is of a thread of the setup and of variables of the program
 pub record IsDeclared (t : Program) (s : SetupOf) (x : StepLineOf) : Type 0 where
@@ -53,8 +54,7 @@ pub record IsOfNoThread (s : SetupOf) (thread : ℕ) (x : StepLineOf) : Type 0 w
   pub is : x.thread ≡ thread
   pub none : threads s ≤ thread
 
--- it has a value of this name, the first of no variable
-pub record IsOfNoVariable (t : Program) (s : SetupOf) (name : List ℕ) (x : StepLineOf)
-    : Type 0 where
+-- its value of this number, from 0, is the first of no variable
+pub record IsOfNoVariable (t : Program) (s : SetupOf) (value : ℕ) (x : StepLineOf) : Type 0 where
   pub thread : x.thread < threads s
-  pub variable : IsFirstUndeclared t x.values name
+  pub variable : IsFirstUndeclared t x.values value

@@ -1,6 +1,7 @@
 pub mod Inferred
 pub mod Places
 pub mod Spots
+pub mod Stands
 pub mod Steps
 pub mod StepLines
 pub mod EffectBits
@@ -9,6 +10,7 @@ pub mod StepRefusals
 pub mod Confirmations
 pub mod StepRuns
 pub mod StepTexts
+pub mod LineValues
 pub mod LineReading
 pub mod DeclaredLines
 pub mod StrayLines

@@ -12,7 +12,9 @@ use Rattle.bp_confirm.specs.declared.following.Next.{Next}
 use Rattle.bp_confirm.specs.declared.following.NotCalled.{NotCalled}
 use Rattle.bp_confirm.specs.declared.following.NotCalled.TheVariants as call
 use Rattle.bp_confirm.specs.Inferred.{some_follow}
+use Rattle.bp_confirm.specs.declared.spots.Spot.{Spot}
 use Rattle.bp_confirm.specs.Places.{place_of}
+use Rattle.bp_confirm.specs.Stands.{stand_in, stand_of}
 use Rattle.bp_confirm.specs.Steps.{StepOf, next_place}
 use Rattle.bp_confirm.specs.StepLines.{StepLineOf, step_of}
 use Rattle.bp_confirm.specs.Confirms.{GoesOnAt, IsStuck, IsReason, ForStuck}
@@ -26,6 +28,7 @@ pub record IsRefusedHere
   pub thread : r.thread ≡ x.thread
   pub location : r.location ≡ x.location
   pub number : GoesOnAt t (configuration_after t s h) r.thread r.number
+  pub stand : r.stand ≡ stand_of text t r.number
   pub reason : IsReason t s h (step_of text x) later r.reason
   pub stuck : ForStuck r.reason (IsStuck t s h (step_of text x))
 
@@ -41,12 +44,13 @@ IsNotCalled s h i call.Finished = is_finished s h i ≡ true
 IsNotCalled s h i call.Memory = Unit {0}
 
 -- the refusal of the step of this line, the n-th
-abbrev pub refusal_of : StepLineOf → ℕ → Option ℕ → StepReason → StepFault
-refusal_of x n number reason = fault.Refusal (record {
+abbrev pub refusal_of : List Spot → StepLineOf → ℕ → Option ℕ → StepReason → StepFault
+refusal_of spots x n number reason = fault.Refusal (record {
   line = n;
   thread = x.thread;
   location = x.location;
   number = number;
+  stand = stand_in spots number;
   reason = reason;
 })
 

@@ -33,14 +33,13 @@ SeesValues c i [] = Unit {0}
 SeesValues c i (v ∷ vs) =
     (value_seen c.globals (stack_of c i) v.0 ≡ Some v.1) × SeesValues c i vs
 
--- Of these values, this is the first that thread i does not see: it sees this one in its place, or
--- no variable of its name.
+-- Of these values, that of number n, from 0, is the first that thread i does not see: it sees this
+-- one in its place, or no variable of its name.
 pub record IsFirstUnseen
-    (c : Configuration) (i : ℕ) (vs : Valuation) (value : List ℕ × Bool) (seen : Option Bool)
-    : Type 0 where
-  pub before : ℕ
-  pub at : slice_get vs before ≡ Some value
-  pub first : SeesValues c i (take before vs)
+    (c : Configuration) (i : ℕ) (vs : Valuation) (n : ℕ) (seen : Option Bool) : Type 0 where
+  pub value : List ℕ × Bool
+  pub at : slice_get vs n ≡ Some value
+  pub first : SeesValues c i (take n vs)
   pub is_seen : seen ≡ value_seen c.globals (stack_of c i) value.0
   pub differs : seen ≢ Some value.1
 

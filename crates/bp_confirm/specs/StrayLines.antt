@@ -12,9 +12,9 @@ use Rattle.bp_confirm.specs.StepLines.{StepLineOf}
 -- line n is the first, and names this
 abbrev pub IsStray : Program → SetupOf → List StepLineOf → ℕ → Stray → Type 0
 IsStray t s lines n (Thread thread) = IsFirstStray t s lines n (IsOfNoThread s thread)
-IsStray t s lines n (Variable name) = IsFirstStray t s lines n (IsOfNoVariable t s name.now)
+IsStray t s lines n (Variable value) = IsFirstStray t s lines n (IsOfNoVariable t s value)
 
 -- the fault of line n
 abbrev pub fault_of_stray : ℕ → Stray → ConfirmFault
 fault_of_stray n (Thread thread) = fault.NoThread n thread
-fault_of_stray n (Variable name) = fault.NoVariable n name
+fault_of_stray n (Variable value) = fault.NoVariable n value

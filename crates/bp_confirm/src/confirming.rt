@@ -21,8 +21,8 @@ use std::io::Write;
 use thiserror::Error;
 
 /// Why a text of steps is not confirmed: the first of these that applies. Lines are counted from 1.
-#[derive(Clone, Copy, Debug, Error)]
-pub enum ConfirmFault<'a> {
+#[derive(Clone, Copy, Debug, PartialEq, Eq, Error)]
+pub enum ConfirmFault {
     /// The text has more than 67,108,864 bytes.
     #[error("the steps are too long")]
     TooLong,
@@ -34,12 +34,12 @@ pub enum ConfirmFault<'a> {
     #[error("line {0} of the steps is of thread {1}, which is not there")]
     NoThread(u32, u32),
     /// This line is the first that names what is not declared: a variable that no part of the
-    /// program has.
+    /// program has. It is that of the value of this place on the line, from 0.
     #[error("line {0} of the steps has a value of no variable")]
-    NoVariable(u32, &'a [u8]),
+    NoVariable(u32, usize),
     /// This is the first step that is not taken.
     #[error("line {} of the steps is not taken", .0.line)]
-    Step(StepRefusal<'a>),
+    Step(StepRefusal),
     /// There was not enough memory.
     #[error("out of memory")]
     Memory,
@@ -49,12 +49,12 @@ pub enum ConfirmFault<'a> {
 }
 
 /// The fault of the first line that names what is not declared.
-fn fault_of_stray<'a>(line: u32, stray: Stray<'a>) -> ConfirmFault<'a>
-    ensures { result ≡ fault_of_stray line stray.entry }
+fn fault_of_stray(line: u32, stray: Stray) -> ConfirmFault
+    ensures { result ≡ fault_of_stray line stray }
 {
     match stray {
         Stray::Thread(thread) => ConfirmFault::NoThread(line, thread),
-        Stray::Variable(name) => ConfirmFault::NoVariable(line, name),
+        Stray::Variable(value) => ConfirmFault::NoVariable(line, value),
     }
 }
 
@@ -64,7 +64,7 @@ fn told_lines<'a>(
     checked: &Checked,
     setup: &Setup,
     steps: &'a [u8],
-) -> Result<Vec<StepLine<'a>>, ConfirmFault<'a>>
+) -> Result<Vec<StepLine<'a>>, ConfirmFault>
     ensures told { MatchResult result
         (λ lines. AreTold checked.now setup.now steps.now lines.items)
         (IsUntold checked.now setup.now steps.now) }
@@ -87,16 +87,16 @@ fn told_lines<'a>(
 /// Confirms a text of reported steps of the program of a text, and writes the trace of the history
 /// that takes them, one call for each step. At a refusal nothing is written, but for a writer that
 /// refuses: it then has a proper prefix of the trace.
-pub fn confirm<'a, W: Write>(
+pub fn confirm<W: Write>(
     alloc: Global,
     text: &[u8],
     checked: &Checked,
     code: &Code,
     setup: &Setup,
     bound: ContextBound,
-    steps: &'a [u8],
+    steps: &[u8],
     out: &mut W,
-) -> Result<Report, ConfirmFault<'a>>
+) -> Result<Report, ConfirmFault>
     requires code { StandsFor code.now checked.now }
     requires fits { FitsCode code.now setup.now }
     requires unseeded { setup.now.seed ≡ None }

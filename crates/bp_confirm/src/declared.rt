@@ -13,9 +13,10 @@ use bp_tree::Proc;
 
 /// What a line names that is not declared.
 #[derive(Clone, Copy, Debug)]
-pub(crate) enum Stray<'a> {
+pub(crate) enum Stray {
     Thread(u32),
-    Variable(&'a [u8]),
+    /// The value of this place on the line, from 0.
+    Variable(usize),
 }
 
 /// Whether a procedure has a variable of this name.
@@ -33,15 +34,15 @@ fn declares(checked: &Checked, name: &[u8]) -> bool
     slot_of(tree.globals(), name).is_some() || is_local(tree.procs(), name)
 }
 
-/// The first name of these values that no variable has.
-fn undeclared_name<'a>(checked: &Checked, values: &[SeenValue<'a>]) -> Option<&'a [u8]>
+/// The first of these values, from 0, that is of no variable.
+fn undeclared_value(checked: &Checked, values: &[SeenValue]) -> Option<usize>
     ensures { MatchOption result
         (AreDeclared checked.now (values_of values.now))
-        (λ name. IsFirstUndeclared checked.now (values_of values.now) name.now) }
+        (λ value. IsFirstUndeclared checked.now (values_of values.now) value) }
 {
-    for value in values {
+    for (n, value) in values.iter().enumerate() {
         if !declares(checked, value.name) {
-            return Some(value.name);
+            return Some(n);
         }
     }
     None
@@ -49,11 +50,11 @@ fn undeclared_name<'a>(checked: &Checked, values: &[SeenValue<'a>]) -> Option<&'
 
 /// Refuses the first line of a thread that the setup does not have, or of a variable that the program
 /// does not declare.
-pub(crate) fn check_lines<'a>(
+pub(crate) fn check_lines(
     checked: &Checked,
     setup: &Setup,
-    lines: &[StepLine<'a>],
-) -> Result<(), (u32, Stray<'a>)>
+    lines: &[StepLine],
+) -> Result<(), (u32, Stray)>
     requires { length lines.now < 2 ^ 32 }
     ensures { MatchResult result
         (λ _. AreDeclaredLines checked.now setup.now lines.now)
@@ -63,8 +64,8 @@ pub(crate) fn check_lines<'a>(
         if line.thread >= setup.threads() {
             return Err((n as u32 + 1, Stray::Thread(line.thread)));
         }
-        if let Some(name) = undeclared_name(checked, line.values.as_slice()) {
-            return Err((n as u32 + 1, Stray::Variable(name)));
+        if let Some(value) = undeclared_value(checked, line.values.as_slice()) {
+            return Err((n as u32 + 1, Stray::Variable(value)));
         }
     }
     Ok(())

@@ -1,14 +1,14 @@
 //! Why reported steps are not taken.
 
 use crate::locations::Location;
-use crate::step_lines::SeenValue;
+use crate::stands::Stand;
 use bp_machine::Reply;
 use std::alloc::AllocError;
 use thiserror::Error;
 
 /// Why a step is not taken: the first of these that applies.
-#[derive(Clone, Copy, Debug)]
-pub enum StepReason<'a> {
+#[derive(Clone, Copy, Debug, PartialEq, Eq)]
+pub enum StepReason {
     /// Its thread does not stand at its location.
     Elsewhere,
     /// Its thread stands at a `?`, and both ways are at the location of the thread's next step.
@@ -17,14 +17,14 @@ pub enum StepReason<'a> {
     Finished,
     /// The machine does not grant it, and gives this reply.
     Refused(Reply),
-    /// This is the first of its values that its thread does not see after it. The thread sees the
-    /// other value, or no variable of the name.
-    Differs(SeenValue<'a>, Option<bool>),
+    /// This is the first of its values, from 0, that its thread does not see after it. The thread
+    /// sees the other value, or no variable of the name.
+    Differs(usize, Option<bool>),
 }
 
 /// The first step that is not taken.
-#[derive(Clone, Copy, Debug)]
-pub struct StepRefusal<'a> {
+#[derive(Clone, Copy, Debug, PartialEq, Eq)]
+pub struct StepRefusal {
     /// Its line, from 1.
     pub line: u32,
     pub thread: u32,
@@ -32,27 +32,29 @@ pub struct StepRefusal<'a> {
     pub location: Location,
     /// The number of the instruction at which its thread stands; none if the thread has ended.
     pub number: Option<u32>,
-    pub reason: StepReason<'a>,
+    /// Where that is in the text of the program.
+    pub stand: Stand,
+    pub reason: StepReason,
 }
 
 /// Why reported steps are not taken.
 #[derive(Clone, Copy, Debug, Error)]
-pub(crate) enum StepFault<'a> {
+pub(crate) enum StepFault {
     /// A step is not taken.
     #[error("line {} of the steps is not taken", .0.line)]
-    Refusal(StepRefusal<'a>),
+    Refusal(StepRefusal),
     /// There was not enough memory.
     #[error("out of memory")]
     Memory,
 }
 
-impl<'a> From<AllocError> for StepFault<'a> {
+impl From<AllocError> for StepFault {
     ghost use Rattle.std.specs.Prelude.{◌≡◌};
     ghost use Rattle.bp_confirm.specs.declared.faults.StepFault.{StepFault};
 
     ghost from_gives = { λ _ e. e ≡ StepFault.Memory };
 
-    fn from(_: AllocError) -> StepFault<'a> {
+    fn from(_: AllocError) -> StepFault {
         StepFault::Memory
     }
 }

@@ -22,6 +22,7 @@ use crate::choices::inferred_bit;
 use crate::faults::{StepFault, StepReason, StepRefusal};
 use crate::locations::Location;
 use crate::spots::{Spot, is_there};
+use crate::stands::stand_in;
 use crate::step_lines::StepLine;
 use crate::values::first_unseen;
 use bp_check::Checked;
@@ -126,32 +127,34 @@ fn call_of(session: &mut Session, thread: u32, bit: bool) -> Result<Call, NotCal
 }
 
 /// The refusal of the step of line `n`, whose thread stands at the instruction of this number.
-fn refusal_of<'a>(
-    line: &StepLine<'a>,
+fn refusal_of(
+    spots: &[Spot],
+    line: &StepLine,
     n: u32,
     number: Option<u32>,
-    reason: StepReason<'a>,
-) -> StepFault<'a>
-    ensures { result ≡ refusal_of line.now n number reason.entry }
+    reason: StepReason,
+) -> StepFault
+    ensures { result ≡ refusal_of spots.now line.now n number reason }
 {
     StepFault::Refusal(StepRefusal {
         line: n,
         thread: line.thread,
         location: line.location,
         number,
+        stand: stand_in(spots, number),
         reason,
     })
 }
 
 /// Takes the step of line `n`, where the later steps tell this.
-fn take_step<'a>(
+fn take_step(
     checked: &Checked,
     spots: &[Spot],
     session: &mut Session,
-    line: &StepLine<'a>,
+    line: &StepLine,
     next: Next,
     n: u32,
-) -> Result<Call, StepFault<'a>>
+) -> Result<Call, StepFault>
     requires code { StandsFor session.old.code checked.now }
     requires thread { line.now.thread < threads session.old.setup }
     requires unseeded { session.old.setup.seed ≡ None }
@@ -174,29 +177,35 @@ fn take_step<'a>(
 {
     let top = match top_at(session, spots, line.thread, line.location) {
         Ok(top) => top,
-        Err(number) => return Err(refusal_of(line, n, number, StepReason::Elsewhere)),
+        Err(number) => return Err(refusal_of(spots, line, n, number, StepReason::Elsewhere)),
     };
     let number = Some(top.number);
     let Some(bit) = bit_at(session, spots, top, next) else {
-        return Err(refusal_of(line, n, number, StepReason::Ambiguous));
+        return Err(refusal_of(spots, line, n, number, StepReason::Ambiguous));
     };
     let call = match call_of(session, line.thread, bit) {
         Ok(call) => call,
-        Err(NotCalled::Finished) => return Err(refusal_of(line, n, number, StepReason::Finished)),
+        Err(NotCalled::Finished) => return Err(refusal_of(
+            spots,
+            line,
+            n,
+            number,
+            StepReason::Finished,
+        )),
         Err(NotCalled::Memory) => return Err(StepFault::Memory),
     };
     if !is_granted(call.reply) {
-        return Err(refusal_of(line, n, number, StepReason::Refused(call.reply)));
+        return Err(refusal_of(spots, line, n, number, StepReason::Refused(call.reply)));
     }
     let values = line.values.as_slice();
     if let Some((value, seen)) = first_unseen(checked, spots, session, line.thread, values) {
-        return Err(refusal_of(line, n, number, StepReason::Differs(value, seen)));
+        return Err(refusal_of(spots, line, n, number, StepReason::Differs(value, seen)));
     }
     Ok(call)
 }
 
 /// Adds a call to a history.
-fn keep<'a>(history: &mut Vec<Call>, call: Call) -> Result<(), StepFault<'a>>
+fn keep(history: &mut Vec<Call>, call: Call) -> Result<(), StepFault>
     ensures kept { OnOk result (history.new.items ≡ history.old.items ++ call ∷ []) }
     ensures memory { IfErr result (λ f. f ≡ StepFault.Memory) }
 {
@@ -207,14 +216,14 @@ fn keep<'a>(history: &mut Vec<Call>, call: Call) -> Result<(), StepFault<'a>>
 }
 
 /// Takes the steps of all lines in a session before any call.
-pub(crate) fn take_steps<'a>(
+pub(crate) fn take_steps(
     alloc: Global,
     checked: &Checked,
     spots: &[Spot],
     nexts: &[Option<Location>],
     session: &mut Session,
-    lines: &[StepLine<'a>],
-) -> Result<Vec<Call>, StepFault<'a>>
+    lines: &[StepLine],
+) -> Result<Vec<Call>, StepFault>
     requires code { StandsFor session.old.code checked.now }
     requires nexts { nexts.now ≡ next_locations lines.now }
     requires threads { AreOfThreads session.old.setup lines.now }

@@ -27,14 +27,14 @@ pub(crate) struct Confirmed {
 /// Confirms the steps of these lines in the program of a text: the history that takes them, one call
 /// for each, with the choice bits that are inferred; or the first line whose step no history takes
 /// after those before it.
-pub(crate) fn confirm_lines<'a>(
+pub(crate) fn confirm_lines(
     alloc: Global,
     text: &[u8],
     checked: &Checked,
     code: &Code,
     setup: &Setup,
-    lines: &[StepLine<'a>],
-) -> Result<Confirmed, StepFault<'a>>
+    lines: &[StepLine],
+) -> Result<Confirmed, StepFault>
     requires code { StandsFor code.now checked.now }
     requires fits { FitsCode code.now setup.now }
     requires threads { AreOfThreads setup.now lines.now }

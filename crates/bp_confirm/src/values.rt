@@ -8,7 +8,7 @@ ghost use Rattle.bp_machine.specs.Histories.{configuration_after};
 ghost use Rattle.bp_machine.specs.Sessions.{Stands};
 ghost use Rattle.bp_machine.specs.Tops.{IsTop};
 ghost use Rattle.bp_confirm.specs.Spots.{spots_of};
-ghost use Rattle.bp_confirm.specs.StepLines.{value_of, values_of};
+ghost use Rattle.bp_confirm.specs.StepLines.{values_of};
 ghost use Rattle.bp_confirm.specs.Steps.{local_seen, value_seen, IsFirstUnseen, SeesValues};
 
 use crate::spots::{Spot, procedure_of};
@@ -68,14 +68,14 @@ fn is_value(seen: Option<bool>, bit: bool) -> bool
     }
 }
 
-/// The first of these values that a thread does not see, and what it sees in its place.
-pub(crate) fn first_unseen<'a>(
+/// The first of these values that a thread does not see, from 0, and what it sees in its place.
+pub(crate) fn first_unseen(
     checked: &Checked,
     spots: &[Spot],
     session: &Session,
     thread: u32,
-    values: &[SeenValue<'a>],
-) -> Option<(SeenValue<'a>, Option<bool>)>
+    values: &[SeenValue],
+) -> Option<(usize, Option<bool>)>
     ensures { (text : List ℕ) (h : List Answered)
         → StandsFor session.now.code checked.now
         → spots.now ≡ spots_of text checked.now
@@ -83,12 +83,12 @@ pub(crate) fn first_unseen<'a>(
         → let c = configuration_after checked.now session.now.setup h in
         MatchOption result
         (SeesValues c thread (values_of values.now))
-        (λ r. IsFirstUnseen c thread (values_of values.now) (value_of r.0) r.1) }
+        (λ r. IsFirstUnseen c thread (values_of values.now) r.0 r.1) }
 {
-    for value in values {
+    for (n, value) in values.iter().enumerate() {
         let seen = value_seen(checked, spots, session, thread, value.name);
         if !is_value(seen, value.bit) {
-            return Some((*value, seen));
+            return Some((n, seen));
         }
     }
     None

@@ -18,12 +18,12 @@ returns-in-Some c =
     let t = c.args.checked.now in
     let s = c.args.setup.now in
     let x = c.index-lines-n.result in
-    let name = c.in-Some.name.now in
+    let value = c.in-Some.value in
     let thread : x.thread ≡ c.line.inside.thread = sym (ap (λ z. z.thread) c.line.view_is) in
-    first_stray t s c.args.lines.now c.loop-n.n x x c.loop-n-test.true c.loop-n.invariant c.index-lines-n.is (IsOfNoVariable t s name)
+    first_stray t s c.args.lines.now c.loop-n.n x x c.loop-n-test.true c.loop-n.invariant c.index-lines-n.is (IsOfNoVariable t s value)
     (record {
       thread = omega (arith, c.if-line-threads.false, c.threads.ensures, thread);
       variable =
-          subst (λ z. IsFirstUndeclared t z.values name) c.line.view_is
-          (subst (λ vs. IsFirstUndeclared t (values_of vs) name) c.as_slice.ensures.value c.in-Some.ensures);
+          subst (λ z. IsFirstUndeclared t z.values value) c.line.view_is
+          (subst (λ vs. IsFirstUndeclared t (values_of vs) value) c.as_slice.ensures.value c.in-Some.ensures);
     })

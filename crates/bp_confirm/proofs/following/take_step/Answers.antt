@@ -1,14 +1,24 @@
 use Rattle.std.proofs.Common.{◌∙◌, ◌++◌, ◌∷◌, [], Some, refl, sym, subst}
 use Rattle.bp_code.specs.StandsFor.{StandsFor}
 use Rattle.bp_machine.specs.Histories.{configuration_after}
-use Rattle.bp_confirm.specs.declared.faults.StepReason.TheVariants.{Ambiguous, Finished, Refused, Differs}
+use Rattle.bp_confirm.specs.declared.faults.StepReason.TheVariants.{Elsewhere, Ambiguous, Finished, Refused, Differs}
 use Rattle.bp_confirm.specs.Confirms.{GoesOnAt}
 use Rattle.bp_confirm.specs.Inferred.{Follows}
-use Rattle.bp_confirm.specs.StepLines.{StepLineOf, value_of, values_of, step_of}
+use Rattle.bp_confirm.specs.StepLines.{StepLineOf, values_of, step_of}
 use Rattle.bp_confirm.specs.StepRefusals.{IsNotTaken, TellsNext, refusal_of}
 use Rattle.bp_confirm.specs.Steps.{IsFirstUnseen, SeesValues}
-use Rattle.bp_confirm.proofs.StepsFollowed.{ambiguous, finished, answered, others_seen}
+use Rattle.bp_confirm.proofs.StepsFollowed.{elsewhere, ambiguous, finished, answered, others_seen}
 use Rattle.bp_confirm.proofs.following.take_step.Goals as goal
+
+pub returns-in-Err-clause-refused : goal.returns-in-Err-clause-refused
+returns-in-Err-clause-refused c = λ text h later are tells stands.
+    let t = c.args.checked.now in
+    let s = c.args.session.now.setup in
+    let x : StepLineOf = record { thread = c.line.inside.thread; location = c.line.inside.location; values = values_of c.line.inside.values.items } in
+    let top = c.in-Err.ensures text t h c.requires.code are stands in
+    rw c.refusal_of.ensures
+    (subst (λ z. IsNotTaken text t s h z later c.args.n (refusal_of c.args.spots.now z c.args.n c.in-Err.number Elsewhere)) c.line.view_is
+    (elsewhere text t s h x later c.args.n c.in-Err.number top.1 c.args.spots.now are top.0))
 
 pub returns-in_default-clause-refused : goal.returns-in_default-clause-refused
 returns-in_default-clause-refused c = λ text h later are tells stands.
@@ -20,8 +30,8 @@ returns-in_default-clause-refused c = λ text h later are tells stands.
     let number : GoesOnAt t now c.line.inside.thread (Some c.in-Ok.top.number) = (c.in-Ok.top, top.1, refl) in
     let knows : TellsNext text (step_of text x) later c.args.next = subst (λ z. TellsNext text (step_of text z) later c.args.next) (sym c.line.view_is) tells in
     rw c.refusal_of-in_default.ensures
-    (subst (λ z. IsNotTaken text t s h z later c.args.n (refusal_of z c.args.n (Some c.in-Ok.top.number) Ambiguous)) c.line.view_is
-    (ambiguous text t s h x later c.args.n (Some c.in-Ok.top.number) number top.0 (c.in_default.ensures text t h (step_of text x) later c.requires.code are knows top.1)))
+    (subst (λ z. IsNotTaken text t s h z later c.args.n (refusal_of c.args.spots.now z c.args.n (Some c.in-Ok.top.number) Ambiguous)) c.line.view_is
+    (ambiguous text t s h x later c.args.n (Some c.in-Ok.top.number) number c.args.spots.now are top.0 (c.in_default.ensures text t h (step_of text x) later c.requires.code are knows top.1)))
 
 pub returns-in-Err-Finished-clause-refused : goal.returns-in-Err-Finished-clause-refused
 returns-in-Err-Finished-clause-refused c = λ text h later are tells stands.
@@ -35,8 +45,8 @@ returns-in-Err-Finished-clause-refused c = λ text h later are tells stands.
     let bit = c.in-Some.ensures text t h (step_of text x) later c.requires.code are knows top.1 in
     let over = rw c.in-Err-Finished.field-0-is at (c.in-Err-Finished.ensures.refused t h c.requires.code stands) in
     rw c.refusal_of-in-Err-Finished.ensures
-    (subst (λ z. IsNotTaken text t s h z later c.args.n (refusal_of z c.args.n (Some c.in-Ok.top.number) Finished)) c.line.view_is
-    (finished text t s h x later c.args.n (Some c.in-Ok.top.number) number top.0 bit.1 over))
+    (subst (λ z. IsNotTaken text t s h z later c.args.n (refusal_of c.args.spots.now z c.args.n (Some c.in-Ok.top.number) Finished)) c.line.view_is
+    (finished text t s h x later c.args.n (Some c.in-Ok.top.number) number c.args.spots.now are top.0 bit.1 over))
 
 pub returns-then-not-is_granted-clause-refused : goal.returns-then-not-is_granted-clause-refused
 returns-then-not-is_granted-clause-refused c = λ text h later are tells stands.
@@ -51,8 +61,8 @@ returns-then-not-is_granted-clause-refused c = λ text h later are tells stands.
     let called = c.in-Ok-call_of.ensures.called t h c.requires.code stands in
     let asked = c.in-Ok-call_of.ensures.asked in
     rw c.refusal_of-then-not-is_granted.ensures
-    (subst (λ z. IsNotTaken text t s h z later c.args.n (refusal_of z c.args.n (Some c.in-Ok.top.number) (Refused c.in-Ok-call_of.call.reply))) c.line.view_is
-    (answered text t s h x later c.args.n (Some c.in-Ok.top.number) number top.0 bit.1 c.in-Ok-call_of.call asked.0 called.0 (asked.1 ∙ bit.0) (sym c.is_granted.ensures ∙ c.if-not-is_granted.true)))
+    (subst (λ z. IsNotTaken text t s h z later c.args.n (refusal_of c.args.spots.now z c.args.n (Some c.in-Ok.top.number) (Refused c.in-Ok-call_of.call.reply))) c.line.view_is
+    (answered text t s h x later c.args.n (Some c.in-Ok.top.number) number c.args.spots.now are top.0 bit.1 c.in-Ok-call_of.call asked.0 called.0 (asked.1 ∙ bit.0) (sym c.is_granted.ensures ∙ c.if-not-is_granted.true)))
 
 pub returns-in-Some-first_unseen-clause-refused : goal.returns-in-Some-first_unseen-clause-refused
 returns-in-Some-first_unseen-clause-refused c = λ text h later are tells stands.
@@ -69,12 +79,12 @@ returns-in-Some-first_unseen-clause-refused c = λ text h later are tells stands
     let kept = c.call_of.ensures.kept in
     let after = h ++ c.in-Ok-call_of.call ∷ [] in
     rw c.refusal_of-in-Some-first_unseen.ensures
-    (subst (λ z. IsNotTaken text t s h z later c.args.n (refusal_of z c.args.n (Some c.in-Ok.top.number) (Differs c.in-Some-first_unseen.value c.in-Some-first_unseen.seen))) c.line.view_is
-    (others_seen text t s h x later c.args.n (Some c.in-Ok.top.number) number top.0 bit.1 c.in-Ok-call_of.call asked.0 called.0 (asked.1 ∙ bit.0) (sym c.is_granted.ensures ∙ c.if-not-is_granted.false)
+    (subst (λ z. IsNotTaken text t s h z later c.args.n (refusal_of c.args.spots.now z c.args.n (Some c.in-Ok.top.number) (Differs c.in-Some-first_unseen.value c.in-Some-first_unseen.seen))) c.line.view_is
+    (others_seen text t s h x later c.args.n (Some c.in-Ok.top.number) number c.args.spots.now are top.0 bit.1 c.in-Ok-call_of.call asked.0 called.0 (asked.1 ∙ bit.0) (sym c.is_granted.ensures ∙ c.if-not-is_granted.false)
     c.in-Some-first_unseen.value c.in-Some-first_unseen.seen
     (let unseen = c.in-Some-first_unseen.ensures text after (subst (λ k. StandsFor k t) (sym kept.0) c.requires.code) are called.1 in
-    let there = subst (λ z. IsFirstUnseen (configuration_after t z after) x.thread (values_of c.as_slice-values.result.now) (value_of c.in-Some-first_unseen.value) c.in-Some-first_unseen.seen) kept.1 unseen in
-    subst (λ vs. IsFirstUnseen (configuration_after t s after) x.thread (values_of vs) (value_of c.in-Some-first_unseen.value) c.in-Some-first_unseen.seen) c.as_slice-values.ensures.value there)))
+    let there = subst (λ z. IsFirstUnseen (configuration_after t z after) x.thread (values_of c.as_slice-values.result.now) c.in-Some-first_unseen.value c.in-Some-first_unseen.seen) kept.1 unseen in
+    subst (λ vs. IsFirstUnseen (configuration_after t s after) x.thread (values_of vs) c.in-Some-first_unseen.value c.in-Some-first_unseen.seen) c.as_slice-values.ensures.value there)))
 
 pub returns-clause-follows : goal.returns-clause-follows
 returns-clause-follows c = λ text h later are tells stands.

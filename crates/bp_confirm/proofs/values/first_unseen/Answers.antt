@@ -7,12 +7,12 @@ pub returns-then-not-is_value : goal.returns-then-not-is_value
 returns-then-not-is_value c = λ text h code are stands.
     let now = configuration_after c.args.checked.now c.args.session.now.setup h in
     let seen = c.value_seen-seen.ensures text h code are stands in
-    unseen_at now c.args.thread c.args.values.now c.loop-value.value-index _ c.value_seen-seen.result c.loop-value-test.true (c.loop-value.invariant text h code are stands) seen
+    unseen_at now c.args.thread c.args.values.now c.loop-n.n _ c.value_seen-seen.result c.loop-n-test.true (c.loop-n.invariant text h code are stands) seen
     (λ e. let yes_it = c.is_value.ensures.1 e in absurd (cc (yes_it, c.if-not-is_value.true)))
 
-pub loop-value-preserved : goal.loop-value-preserved
-loop-value-preserved c = λ text h code are stands.
+pub loop-n-preserved : goal.loop-n-preserved
+loop-n-preserved c = λ text h code are stands.
     let now = configuration_after c.args.checked.now c.args.session.now.setup h in
     let seen = c.value_seen-seen.ensures text h code are stands in
-    sees_more now c.args.thread c.args.values.now c.loop-value.value-index _ c.loop-value-test.true (c.loop-value.invariant text h code are stands)
+    sees_more now c.args.thread c.args.values.now c.loop-n.n _ c.loop-n-test.true (c.loop-n.invariant text h code are stands)
     (sym seen ∙ c.is_value.ensures.0 c.if-not-is_value.false)

@@ -8,11 +8,11 @@ use Rattle.bp_confirm.specs.StepLines.{values_of}
 use Rattle.bp_confirm.specs.Steps.{SeesValues}
 use Rattle.bp_confirm.proofs.values.first_unseen.Given as goal
 
-abbrev pub invariant-loop-value : goal.invariant-loop-value
-invariant-loop-value l =
+abbrev pub invariant-loop-n : goal.invariant-loop-n
+invariant-loop-n l =
     (text : List ℕ) (h : List Call)
     → StandsFor l.session.code l.checked
     → l.spots ≡ spots_of text l.checked
     → Stands l.checked l.session h
     → let c = configuration_after l.checked l.session.setup h in
-    SeesValues c l.thread (values_of (take l.value-index l.values))
+    SeesValues c l.thread (values_of (take l.n l.values))

@@ -1,0 +1,41 @@
+use Rattle.std.proofs.Common.{◌≡◌, ◌∙◌, ◌+◌, Some, suc, ap, arith, drop, subst, sym}
+use Rattle.std.specs.Prelude.{slice_get}
+use Rattle.bp_confirm.specs.LineValues.{value_in}
+use Rattle.bp_confirm.specs.StepLines.{value_of}
+use Rattle.bp_confirm.specs.StepTexts.{values_text}
+use Rattle.bp_confirm.proofs.OneStepLine.{line_rest}
+use Rattle.bp_confirm.proofs.ValuesOnLines.{next_value, no_next_value}
+use Rattle.bp_confirm.proofs.line_values.value_on_line.Goals as goal
+
+pub returns-in_default : goal.returns-in_default
+returns-in_default c = λ lines has. sym (ap (λ o. value_in o c.args.place) (c.in_default.ensures lines has))
+
+pub returns-in_default-value_at : goal.returns-in_default-value_at
+returns-in_default-value_at c = λ lines has.
+    let found = c.loop-before.invariant.rest lines has in
+    sym (ap (λ o. value_in o c.args.place) found.1
+    ∙ no_next_value found.0.values c.loop-before._before c.args.place c.loop-before.rest.now found.2 found.3 c.in_default-value_at.ensures c.loop-before.invariant.few)
+
+pub loop-before-preserved : goal.loop-before-preserved
+loop-before-preserved c = record {
+  few = omega (arith, c.loop-before-test.true);
+  line = line_rest c.loop-before.rest.now _ c.in-Some-value_at.more.now c.in-Some-value_at.ensures c.loop-before.invariant.line;
+  rest = λ lines has.
+      let found = c.loop-before.invariant.rest lines has in
+      let next = next_value found.0.values c.loop-before._before c.loop-before.rest.now _ c.in-Some-value_at.more.now found.2 found.3 c.in-Some-value_at.ensures in
+      let one : suc c.loop-before._before ≡ c.loop-before._before + 1 = omega arith in
+      (found.0, found.1, found.2, next.rest ∙ ap (λ k. values_text (drop k found.0.values)) one);
+}
+
+pub returns-in-None : goal.returns-in-None
+returns-in-None c = λ lines has.
+    let found = c.loop-before.invariant.rest lines has in
+    sym (ap (λ o. value_in o c.args.place) found.1
+    ∙ no_next_value found.0.values c.loop-before._before c.args.place c.loop-before.rest.now found.2 found.3 c.in-None.ensures c.loop-before.invariant.few)
+
+pub returns-in-Some-value_at-2 : goal.returns-in-Some-value_at-2
+returns-in-Some-value_at-2 c = λ lines has.
+    let found = c.loop-before.invariant.rest lines has in
+    let next = next_value found.0.values c.loop-before._before c.loop-before.rest.now (value_of c.in-Some-value_at-2.value) _ found.2 found.3 c.in-Some-value_at-2.ensures in
+    let number : c.loop-before._before ≡ c.args.place = omega (arith, c.loop-before-test.false, c.loop-before.invariant.few) in
+    sym (ap (λ o. value_in o c.args.place) found.1 ∙ subst (λ k. slice_get found.0.values k ≡ Some (value_of c.in-Some-value_at-2.value)) number next.at)

@@ -1,0 +1,34 @@
+-- Where a thread stands in the text of a program.
+use Rattle.std.specs.Prelude.{ℕ, List, Option, None, Some, slice_get}
+use Rattle.bp_tree.specs.Ast.{Program}
+use Rattle.bp_text.specs.declared.positions.Position.{Position}
+use Rattle.bp_text.specs.Positions.{position_at}
+use Rattle.bp_code.specs.Starts.{starts_of}
+use Rattle.bp_confirm.specs.declared.spots.Spot.{Spot}
+use Rattle.bp_confirm.specs.declared.stands.Stand.{Stand}
+use Rattle.bp_confirm.specs.declared.stands.Stand.TheVariants.{Ended, End, Statement}
+
+-- it stands where a statement begins at this offset, or at a procedure's end; it has ended where it
+-- has no instruction
+abbrev pub stand_at_start : List ℕ → Option (Option ℕ) → Stand
+stand_at_start text None = Ended
+stand_at_start text (Some None) = End
+stand_at_start text (Some (Some at)) = Statement (position_at text at)
+
+-- where it stands if it goes on at the instruction of this number of a program of the text
+abbrev pub stand_of : List ℕ → Program → Option ℕ → Stand
+stand_of text t None = Ended
+stand_of text t (Some number) = stand_at_start text (slice_get (starts_of t) number)
+
+-- A device: the same by the spots of the instructions.
+abbrev pub stand_at : Option Position → Stand
+stand_at None = End
+stand_at (Some position) = Statement position
+
+abbrev pub stand_at_spot : Option Spot → Stand
+stand_at_spot None = Ended
+stand_at_spot (Some spot) = stand_at spot.position
+
+abbrev pub stand_in : List Spot → Option ℕ → Stand
+stand_in spots None = Ended
+stand_in spots (Some number) = stand_at_spot (slice_get spots number)
