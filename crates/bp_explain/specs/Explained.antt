@@ -1,4 +1,4 @@
--- What explains a fault of a program, of a trace and of a schedule.
+-- What explains a fault of a program, of a trace, of a schedule and of reported steps.
 use Rattle.std.specs.Prelude.{◌≡◌, ◌⊎◌, ◌≤◌, ℕ, List, [], ◌∷◌, Option, Some, length, take, drop}
 use Rattle.bp_syntax.specs.Cut.{HasTokens}
 use Rattle.bp_syntax.specs.declared.faults.ReadFault.TheVariants as read
@@ -7,6 +7,8 @@ use Rattle.bp_code.specs.LawfulTexts.{program_fault_place}
 use Rattle.bp_code.specs.declared.texts.ProgramFault.{ProgramFault}
 use Rattle.bp_code.specs.declared.texts.ProgramFault.TheVariants.{Read, Check}
 use Rattle.bp_machine.specs.declared.setup_faults.SetupFault.{SetupFault}
+use Rattle.bp_confirm.specs.declared.confirming.ConfirmFault.{ConfirmFault}
+use Rattle.bp_confirm.specs.declared.confirming.ConfirmFault.TheVariants as confirm
 use Rattle.bp_text.specs.Excerpts.{excerpt_of_place, excerpt_of_line, excerpt_of_fault}
 use Rattle.bp_text.specs.Positions.{position_at}
 use Rattle.bp_trace.specs.declared.faults.DriveFault.{DriveFault}
@@ -110,3 +112,13 @@ ExplainsSchedule name schedule (drive.AfterFinish n) explained =
     ExplainsLine name schedule n explained
 ExplainsSchedule name schedule drive.Memory explained = explained ≡ []
 ExplainsSchedule name schedule drive.Write explained = explained ≡ []
+
+-- the explanation of a fault of reported steps: none of refused memory and of an output that failed
+abbrev pub ExplainsSteps : List ℕ → List ℕ → ConfirmFault → List ℕ → Type 0
+ExplainsSteps name steps confirm.TooLong explained = ExplainsLength name explained
+ExplainsSteps name steps (confirm.Line n) explained = ExplainsLine name steps n explained
+ExplainsSteps name steps (confirm.NoThread n thread) explained = ExplainsLine name steps n explained
+ExplainsSteps name steps (confirm.NoVariable n value) explained = ExplainsLine name steps n explained
+ExplainsSteps name steps (confirm.Step r) explained = ExplainsLine name steps r.line explained
+ExplainsSteps name steps confirm.Memory explained = explained ≡ []
+ExplainsSteps name steps confirm.Write explained = explained ≡ []

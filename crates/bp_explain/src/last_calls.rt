@@ -13,10 +13,10 @@ use std::alloc::{AllocError, Global};
 /// The last call of a thread.
 #[derive(Clone, Copy)]
 pub(crate) struct LastCall {
-    thread: u32,
-    /// The line of the schedule that makes it.
-    line: usize,
-    reply: Reply,
+    pub(crate) thread: u32,
+    /// The line of the schedule, or of the steps, that makes it.
+    pub(crate) line: usize,
+    pub(crate) reply: Reply,
 }
 
 /// The code of a text, where it has one.

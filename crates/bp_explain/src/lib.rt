@@ -25,6 +25,10 @@ mod recorded_calls;
 mod schedules;
 mod sentences;
 mod setup_sentences;
+mod stand_sentences;
+mod step_sentences;
+mod steps;
+mod steps_before;
 mod syntax_sentences;
 mod tokens_at;
 mod trace_heads;
@@ -32,4 +36,5 @@ mod traces;
 
 pub use programs::explain_program;
 pub use schedules::explain_schedule;
+pub use steps::explain_steps;
 pub use traces::explain_trace;

@@ -13,15 +13,18 @@ use bp_trace::DriveFault;
 use bp_trace::limits::MAX_SCHEDULE;
 use std::alloc::{AllocError, Global};
 
+/// Adds that no entry makes a thread of this number.
+pub(crate) fn push_no_entry(out: &mut Vec<u8>, thread: u32) -> Result<(), AllocError> {
+    push_all(out, &[b"there is no thread "])?;
+    push_number(out, thread as usize)?;
+    push_all(out, &[b": the first thread is 0, and each entry makes one"])
+}
+
 /// Adds why this line is none of a schedule. One that is a thread and a choice bit is refused for
 /// its thread.
 fn push_line_sentence(out: &mut Vec<u8>, line: Line<'_>) -> Result<(), AllocError> {
     match number_at_front(line.words) {
-        Some((thread, b"0" | b"1")) if line.is_ended => {
-            push_all(out, &[b"there is no thread "])?;
-            push_number(out, thread as usize)?;
-            push_all(out, &[b": the first thread is 0, and each entry makes one"])
-        }
+        Some((thread, b"0" | b"1")) if line.is_ended => push_no_entry(out, thread),
         Some((_, b"0" | b"1")) => push_all(out, &[b"there is no line feed behind this line"]),
         _ => push_all(
             out,
