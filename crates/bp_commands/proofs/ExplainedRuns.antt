@@ -78,6 +78,9 @@ module _ (name : List ℕ) where
   no_input beside.Schedule text lines input.Device e = e
   no_input beside.Schedule text lines input.TooLong e = e
   no_input beside.Schedule text lines input.Memory e = e
+  no_input beside.Steps text lines input.Device e = e
+  no_input beside.Steps text lines input.TooLong e = e
+  no_input beside.Steps text lines input.Memory e = e
   no_input beside.Trace text lines input.Device e = e
   no_input beside.Trace text lines input.TooLong e = e
   no_input beside.Trace text lines input.Memory e = e
@@ -86,6 +89,9 @@ module _ (name : List ℕ) where
   no_other_input beside.Schedule text lines input.Device e = e
   no_other_input beside.Schedule text lines input.TooLong e = e
   no_other_input beside.Schedule text lines input.Memory e = e
+  no_other_input beside.Steps text lines input.Device e = e
+  no_other_input beside.Steps text lines input.TooLong e = e
+  no_other_input beside.Steps text lines input.Memory e = e
   no_other_input beside.Trace text lines input.Device e = e
   no_other_input beside.Trace text lines input.TooLong e = e
   no_other_input beside.Trace text lines input.Memory e = e

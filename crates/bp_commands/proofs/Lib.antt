@@ -1,4 +1,5 @@
 mod Answered
+mod ConfirmedSteps
 mod Driven
 mod ExplainedRuns
 mod FirstSeparator

@@ -8,11 +8,11 @@ use Rattle.bp_code.specs.declared.texts.ProgramFault.TheVariants.{Read}
 use Rattle.bp_text.specs.OneLine.{IsOneLine}
 use Rattle.bp_text.specs.Writing.{Writes}
 use Rattle.bp_trace.specs.declared.replay_faults.ReplayFault.TheVariants as replay
-use Rattle.bp_explain.specs.Explained.{ExplainsProgram, ExplainsTrace, ExplainsSchedule}
+use Rattle.bp_explain.specs.Explained.{ExplainsProgram, ExplainsTrace, ExplainsSchedule, ExplainsSteps}
 use Rattle.bp_commands.specs.declared.explanations.Beside.{Beside}
 use Rattle.bp_commands.specs.declared.explanations.Beside.TheVariants as beside
 use Rattle.bp_commands.specs.declared.faults.Fault.{Fault}
-use Rattle.bp_commands.specs.declared.faults.Fault.TheVariants.{Program, Setup, Schedule, Trace}
+use Rattle.bp_commands.specs.declared.faults.Fault.TheVariants.{Program, Setup, Schedule, Steps, Trace}
 use Rattle.bp_commands.specs.declared.ends.Explained.{Explained}
 use Rattle.bp_commands.specs.Ends.{nothing_explained}
 use Rattle.bp_commands.specs.Given.{Inputs, Pair}
@@ -31,6 +31,7 @@ ExplainsInput beside.Trace name trace (Setup f) lines =
     ExplainsTrace name trace (replay.Setup f) lines
 ExplainsInput beside.Schedule name schedule (Schedule f) lines =
     ExplainsSchedule name schedule f lines
+ExplainsInput beside.Steps name steps (Steps f) lines = ExplainsSteps name steps f lines
 ExplainsInput kind name input f lines = ⊥
 
 -- these lines explain a fault of either

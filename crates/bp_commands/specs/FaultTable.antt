@@ -1,6 +1,7 @@
 -- The table of the faults, and their lines.
 use Rattle.std.specs.Prelude.{if◌then◌else◌, ◌==◌, ◌||◌, ◌&&◌, nat_le, Bool, ℕ, List, [], ◌∷◌, ◌++◌, Option, None, Some, codes, decimal, true, false}
 use Rattle.std.specs.List.{concat}
+use Rattle.bp_text.specs.Pieces.{bit_text}
 use Rattle.bp_syntax.specs.declared.faults.ReadFault.{ReadFault}
 use Rattle.bp_syntax.specs.declared.faults.ReadFault.TheVariants as read
 use Rattle.bp_check.specs.declared.faults.CheckFault.{CheckFault}
@@ -14,10 +15,14 @@ use Rattle.bp_trace.specs.declared.faults.DriveFault.{DriveFault}
 use Rattle.bp_trace.specs.declared.faults.DriveFault.TheVariants as drive
 use Rattle.bp_trace.specs.declared.replay_faults.ReplayFault.{ReplayFault}
 use Rattle.bp_trace.specs.declared.replay_faults.ReplayFault.TheVariants as replay
+use Rattle.bp_confirm.specs.declared.confirming.ConfirmFault.{ConfirmFault}
+use Rattle.bp_confirm.specs.declared.confirming.ConfirmFault.TheVariants as confirm
+use Rattle.bp_confirm.specs.declared.faults.StepReason.{StepReason}
+use Rattle.bp_confirm.specs.declared.faults.StepReason.TheVariants.{Elsewhere, Ambiguous, Finished, Refused, Differs}
 use Rattle.bp_commands.specs.declared.faults.Fault.{Fault}
 use Rattle.bp_commands.specs.declared.faults.Fault.TheVariants as fault
 use Rattle.bp_commands.specs.declared.fault_table.Detail.{Detail}
-use Rattle.bp_commands.specs.declared.fault_table.Detail.TheVariants.{Nothing, Byte, Thread, Line, Wanted}
+use Rattle.bp_commands.specs.declared.fault_table.Detail.TheVariants.{Nothing, Byte, Thread, Line, ThreadOn, Step, Wanted}
 use Rattle.bp_commands.specs.declared.fault_table.Row.{Row}
 
 -- a fault's number, its name, and what it names
@@ -91,6 +96,30 @@ trace_row (replay.NoEnd counts) = row 45 (codes "NoEnd") Nothing
 trace_row (replay.EndCount n counts) = row 46 (codes "EndCount") Nothing
 trace_row replay.Memory = memory_row
 
+-- the number and the name of the faults of steps that are not taken for this reason
+abbrev pub step_number : StepReason → ℕ
+step_number Elsewhere = 58
+step_number Ambiguous = 59
+step_number Finished = 60
+step_number (Refused r) = 61
+step_number (Differs value seen) = 62
+
+abbrev pub step_name : StepReason → List ℕ
+step_name Elsewhere = codes "Elsewhere"
+step_name Ambiguous = codes "Ambiguous"
+step_name Finished = codes "Finished"
+step_name (Refused r) = codes "Refused"
+step_name (Differs value seen) = codes "Differs"
+
+abbrev pub steps_row : ConfirmFault → RowOf
+steps_row confirm.TooLong = long_row
+steps_row (confirm.Line n) = row 42 (codes "Line") (Line n)
+steps_row (confirm.NoThread n k) = row 36 (codes "NoThread") (ThreadOn n k)
+steps_row (confirm.NoVariable n value) = row 57 (codes "NoVariable") (Line n)
+steps_row (confirm.Step r) = row (step_number r.reason) (step_name r.reason) (Step r)
+steps_row confirm.Memory = memory_row
+steps_row confirm.Write = write_row
+
 abbrev pub fault_row : Fault → RowOf
 fault_row fault.Device = row 54 (codes "Device") Nothing
 fault_row fault.TooLong = long_row
@@ -99,6 +128,7 @@ fault_row (fault.Program (Check f at)) = check_row f at
 fault_row (fault.Setup f) = setup_row f
 fault_row (fault.Schedule f) = schedule_row f
 fault_row (fault.Trace f) = trace_row f
+fault_row (fault.Steps f) = steps_row f
 fault_row (fault.NoThread i) = row 36 (codes "NoThread") (Thread i)
 fault_row (fault.NoVariable n) = row 57 (codes "NoVariable") Nothing
 fault_row fault.NoFailure = row 56 (codes "NoFailure") Nothing
@@ -128,6 +158,8 @@ detail_place Nothing = None
 detail_place (Byte n) = Some n
 detail_place (Thread n) = Some n
 detail_place (Line n) = Some n
+detail_place (ThreadOn n k) = Some n
+detail_place (Step r) = Some r.line
 detail_place (Wanted n r) = Some n
 
 abbrev pub detail_wanted : Detail → Option Reply
@@ -143,11 +175,26 @@ wanted_of f = let r = fault_row f in detail_wanted r.detail
 abbrev pub fault_head : ℕ → List ℕ → List ℕ
 fault_head n name = concat (codes "btrun: " ∷ decimal n ∷ codes " " ∷ name ∷ [])
 
+-- the bit that a thread sees, or a dash where it sees no variable of the name
+abbrev pub seen_text : Option Bool → List ℕ
+seen_text None = codes "-"
+seen_text (Some bit) = bit_text bit
+
+-- the line of a step that is not taken, and the reply that is no step, or the value that is seen
+abbrev pub step_detail : ℕ → StepReason → List ℕ
+step_detail n (Refused r) =
+    concat (codes " line " ∷ decimal n ∷ codes " reply " ∷ (letter_of r ∷ []) ∷ [])
+step_detail n (Differs value seen) =
+    concat (codes " line " ∷ decimal n ∷ codes " value " ∷ seen_text seen ∷ [])
+step_detail n reason = codes " line " ++ decimal n
+
 abbrev pub detail_text : Detail → List ℕ
 detail_text Nothing = []
 detail_text (Byte n) = codes " at " ++ decimal n
 detail_text (Thread n) = codes " thread " ++ decimal n
 detail_text (Line n) = codes " line " ++ decimal n
+detail_text (ThreadOn n k) = codes " line " ++ decimal n
+detail_text (Step r) = step_detail r.line r.reason
 detail_text (Wanted n r) =
     concat (codes " line " ∷ decimal n ∷ codes " wanted " ∷ (letter_of r ∷ []) ∷ [])
 

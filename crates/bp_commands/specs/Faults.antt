@@ -14,6 +14,8 @@ use Rattle.bp_trace.specs.declared.replay_faults.ReplayFault.{ReplayFault}
 use Rattle.bp_trace.specs.declared.replay_faults.ReplayFault.TheVariants as replay
 use Rattle.bp_trace.specs.declared.migrate_faults.MigrateFault.{MigrateFault}
 use Rattle.bp_trace.specs.declared.migrate_faults.MigrateFault.TheVariants as migrate
+use Rattle.bp_confirm.specs.declared.confirming.ConfirmFault.{ConfirmFault}
+use Rattle.bp_confirm.specs.declared.confirming.ConfirmFault.TheVariants as confirm
 use Rattle.bp_run.specs.declared.run_faults.RunFault.{RunFault}
 use Rattle.bp_run.specs.declared.run_faults.RunFault.TheVariants as run
 use Rattle.bp_test.specs.declared.faults.TestFault.{TestFault}
@@ -23,7 +25,7 @@ use Rattle.bp_view.specs.declared.faults.ViewFault.TheVariants as view
 use Rattle.bp_commands.specs.declared.inputs.InputFault.{InputFault}
 use Rattle.bp_commands.specs.declared.inputs.InputFault.TheVariants as input
 use Rattle.bp_commands.specs.declared.faults.Fault.{Fault}
-use Rattle.bp_commands.specs.declared.faults.Fault.TheVariants.{Device, TooLong, Program, Setup, Schedule, Trace, NoThread, NoVariable, Start, Early, Write, Memory}
+use Rattle.bp_commands.specs.declared.faults.Fault.TheVariants.{Device, TooLong, Program, Setup, Schedule, Trace, Steps, NoThread, NoVariable, Start, Early, Write, Memory}
 
 -- an input beside the program, or a bundle
 abbrev pub fault_of_input : InputFault → Fault
@@ -60,6 +62,12 @@ fault_of_trace replay.TooLong = TooLong
 fault_of_trace (replay.Setup f) = fault_of_setup f
 fault_of_trace replay.Memory = Memory
 fault_of_trace f = Trace f
+
+abbrev pub fault_of_steps : ConfirmFault → Fault
+fault_of_steps confirm.TooLong = TooLong
+fault_of_steps confirm.Memory = Memory
+fault_of_steps confirm.Write = Write
+fault_of_steps f = Steps f
 
 abbrev pub fault_of_migration : MigrateFault → Fault
 fault_of_migration (migrate.Replay f) = fault_of_trace f

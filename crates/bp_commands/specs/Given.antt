@@ -1,5 +1,5 @@
 -- The inputs of a command: what they hold where they are read, and why they are not read.
-use Rattle.std.specs.Prelude.{◌≡◌, ◌⊎◌, ℕ, ◌+◌, List, Option}
+use Rattle.std.specs.Prelude.{◌≡◌, ◌⊎◌, ℕ, ◌+◌, List, [], Option}
 use Rattle.bp_syntax.specs.declared.limits.TheConstants.{TEXT_LIMIT}
 use Rattle.bp_commands.specs.declared.limits.TheConstants.{MAX_BUNDLE}
 use Rattle.bp_commands.specs.declared.inputs.InputFault.{InputFault}
@@ -47,6 +47,10 @@ module _ (old new : Option (List ℕ)) where
 pub record Pair : Type 0 where
   pub text : List ℕ
   pub input : List ℕ
+
+-- a program text with nothing beside it
+abbrev pub text_alone_of : List ℕ → Pair
+text_alone_of text = record { text = text; input = [] }
 
 -- a program text, and then an input beside it, which has a limit
 module _ (limit : ℕ) (text_old text_new old new : Option (List ℕ)) where

@@ -72,13 +72,13 @@ module _ (bytes : List ℕ → Option (List ℕ)) (format : FaultFormat) where
 
   -- a command on the program of a file and the input beside it, which has a limit
   abbrev pub on_files
-      : Command Pair Report → ℕ → Beside → (path input_path : List ℕ) → Job
-  on_files command limit kind path input_path = record {
+      : {R : Type 0} → Command Pair R → Ending R → ℕ → Beside → (path input_path : List ℕ) → Job
+  on_files {R} command ending limit kind path input_path = record {
     Left = Option (List ℕ) × Option (List ℕ);
     Given = Pair;
-    Answer = Report;
+    Answer = R;
     command = command;
-    ending = of_report;
+    ending = ending;
     inputs = pair_of_files limit (bytes path) (bytes input_path);
     telling = on_pair kind path input_path;
     format = format;

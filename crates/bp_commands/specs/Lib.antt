@@ -2,6 +2,7 @@ pub mod BundleParts
 pub mod Bundles
 pub mod Checks
 pub mod Commands
+pub mod Confirms
 pub mod Drives
 pub mod Ends
 pub mod Explanations
@@ -17,6 +18,7 @@ pub mod Listings
 pub mod ProgressTexts
 pub mod ReplayLines
 pub mod Runs
+pub mod StepObjects
 pub mod Shrinks
 pub mod Summaries
 pub mod SummaryObjects

@@ -4,17 +4,20 @@ use Rattle.bp_text.specs.Writing.{Writes}
 use Rattle.bp_text.specs.declared.writing.WriteFault.{WriteFault}
 use Rattle.bp_commands.specs.declared.explanations.Beside.{Beside}
 use Rattle.bp_commands.specs.declared.explanations.Beside.TheVariants as beside
+use Rattle.bp_commands.specs.declared.fault_table.Detail.{Detail}
+use Rattle.bp_commands.specs.declared.fault_table.Detail.TheVariants.{Byte, Step}
 use Rattle.bp_commands.specs.declared.fault_formats.FaultFormat.{FaultFormat}
 use Rattle.bp_commands.specs.declared.fault_formats.FaultFormat.TheVariants as format
 use Rattle.bp_commands.specs.declared.faults.Fault.{Fault}
-use Rattle.bp_commands.specs.declared.faults.Fault.TheVariants.{Device, TooLong, Program, Setup, Schedule, Trace, NoFailure}
+use Rattle.bp_commands.specs.declared.faults.Fault.TheVariants.{Device, TooLong, Program, Setup, Schedule, Steps, Trace, NoFailure}
 use Rattle.bp_commands.specs.declared.ends.Explained.{Explained}
 use Rattle.bp_commands.specs.declared.ends.RunEnd.{RunEnd}
 use Rattle.bp_commands.specs.Ends.{Ending, Ends, HasFaultLine}
 use Rattle.bp_commands.specs.Explanations.{ExplainsPair, ExplainsText, IsTold}
-use Rattle.bp_commands.specs.FaultObjects.{byte_of, fault_object}
+use Rattle.bp_commands.specs.FaultObjects.{fault_object}
 use Rattle.bp_commands.specs.FaultTable.{fault_row}
-use Rattle.bp_commands.specs.Given.{Inputs, Pair}
+use Rattle.bp_commands.specs.Given.{text_alone_of, Inputs, Pair}
+use Rattle.bp_commands.specs.StepObjects.{IsValueIn}
 
 -- lines explain the fault after its line
 abbrev pub is_explained : FaultFormat → Bool
@@ -43,18 +46,21 @@ IsFileOfPair kind name input_name Device file = (file ≡ Some name) ⊎ (file �
 IsFileOfPair kind name input_name (Program f) file = file ≡ Some name
 IsFileOfPair kind name input_name TooLong file = file ≡ Some input_name
 IsFileOfPair kind name input_name (Schedule f) file = file ≡ Some input_name
+IsFileOfPair kind name input_name (Steps f) file = file ≡ Some input_name
 IsFileOfPair kind name input_name (Trace f) file = file ≡ Some input_name
 IsFileOfPair kind name input_name NoFailure file = file ≡ Some input_name
 IsFileOfPair beside.Trace name input_name (Setup f) file = file ≡ Some input_name
 IsFileOfPair kind name input_name f file = file ≡ None
 
--- the object of a fault that is in such a file, beside the program of this text
-module _ (IsIn : Fault → Option (List ℕ) → Type 0) (text : List ℕ) where
+-- the object of a fault that is in such a file, of these inputs
+module _ (IsIn : Fault → Option (List ℕ) → Type 0) (given : Pair) where
   pub record IsObjectIn (f : Fault) (object : List ℕ) : Type 0 where
     pub file : Option (List ℕ)
     pub named : IsIn f file
+    pub value : Option (List ℕ × Bool)
+    pub value_is : let r = fault_row f in IsValueIn given.input r.detail value
     pub message : List ℕ
-    pub is : object ≡ fault_object f file text message
+    pub is : object ≡ fault_object f file given.text value message
 
 -- what is told of faults of these inputs: the lines that explain one, and its object
 pub record Telling (X : Type 0) : Type 1 where
@@ -64,24 +70,30 @@ pub record Telling (X : Type 0) : Type 1 where
 abbrev pub on_text : List ℕ → Telling (List ℕ)
 on_text name = record {
   Explains = ExplainsText name;
-  IsObject = λ text. IsObjectIn (IsFileOfText name) text;
+  IsObject = λ text. IsObjectIn (IsFileOfText name) (text_alone_of text);
 }
 
 abbrev pub on_pair : Beside → List ℕ → List ℕ → Telling Pair
 on_pair kind name input_name = record {
   Explains = ExplainsPair kind name input_name;
-  IsObject = λ given. IsObjectIn (IsFileOfPair kind name input_name) given.text;
+  IsObject = λ given. IsObjectIn (IsFileOfPair kind name input_name) given;
 }
 
 -- nothing is explained, and no fault has an object
 abbrev pub on_nothing : {X : Type 0} → Telling X
 on_nothing = record { Explains = λ _ _ _. ⊥; IsObject = λ _ _ _. ⊥ }
 
--- the fault names no byte of the program text
-abbrev pub NamesNoByte : Fault → Type 0
-NamesNoByte f = let r = fault_row f in byte_of r.detail ≡ None
+-- what the fault names is in the inputs: a byte of the program text, or a step
+abbrev pub is_in_inputs : Detail → Bool
+is_in_inputs (Byte at) = true
+is_in_inputs (Step r) = true
+is_in_inputs d = false
 
--- the object of a fault of the inputs that were read: of any, where it names no byte of them
+-- the fault names nothing that is in the inputs
+abbrev pub NamesNoByte : Fault → Type 0
+NamesNoByte f = let r = fault_row f in is_in_inputs r.detail ≡ false
+
+-- the object of a fault of the inputs that were read: of any, where it names nothing in them
 module _ {X : Type 0} (inputs : Inputs X) (IsObject : X → Fault → List ℕ → Type 0) where
   pub record IsObjectRead (f : Fault) (object : List ℕ) : Type 0 where
     pub given : X

@@ -1,6 +1,5 @@
 //! Commands on what they are given, and on what they read.
 ghost use Rattle.std.specs.Prelude.{◌≡◌, List, ℕ};
-ghost use Rattle.bp_machine.specs.declared.reports.Report.{Report};
 ghost use Rattle.bp_commands.specs.Commands.{Answers, AnswersOf, Command};
 ghost use Rattle.bp_commands.specs.declared.explanations.Beside.{Beside};
 ghost use Rattle.bp_commands.specs.Explanations.{AreReadOr};
@@ -10,7 +9,7 @@ use crate::ends::Ended;
 use crate::explanations::Beside;
 use crate::faults::Fault;
 use crate::inputs::{Source, read_pair, read_text};
-use bp_machine::{Report, Start};
+use bp_machine::Start;
 use std::alloc::Global;
 use std::io::{Read, Write};
 
@@ -42,7 +41,10 @@ pub trait ProgramCommand {
 
 /// A command on a program and an input beside it.
 pub trait PairCommand {
-    ghost command: { Self → Command Pair Report };
+    /// What it reports where it is done.
+    type Answer: Ended + Drop;
+
+    ghost command: { Self → Command Pair Self.Answer };
 
     ghost limit: { Self → ℕ };
 
@@ -59,7 +61,7 @@ pub trait PairCommand {
         text: &[u8],
         input: &[u8],
         out: &mut W,
-    ) -> Result<Report, Fault>
+    ) -> Result<Self::Answer, Fault>
         ensures { let given : Pair = record { text = text.now; input = input.now } in
             AnswersOf (command self.now) given (W.contents out.old) (W.contents out.new) result };
 
@@ -100,7 +102,7 @@ pub fn do_on_pair<C: PairCommand, R: Read, S: Read, W: Write>(
     program: &mut Source<R>,
     input: &mut Source<S>,
     out: &mut W,
-) -> Result<Report, Fault>
+) -> Result<C::Answer, Fault>
     ensures answers { let inputs = text_and (C.limit command.now)
         (R.remaining program.old.reader) (R.remaining program.new.reader)
         (S.remaining input.old.reader) (S.remaining input.new.reader) in

@@ -21,6 +21,8 @@ impl PairCommand for Drive<'_> {
     ghost use Rattle.bp_trace.specs.declared.limits.TheConstants.{MAX_SCHEDULE};
     ghost use Rattle.bp_commands.specs.Drives.{drives};
 
+    type Answer = Report;
+
     ghost command = { λ d. drives d.start.now };
 
     ghost limit = { λ _. MAX_SCHEDULE };

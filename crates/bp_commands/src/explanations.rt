@@ -1,6 +1,6 @@
 //! What `--explain` adds after the line of a fault, for people.
 ghost use Rattle.std.specs.Prelude.{◌≡◌, ◌++◌, ◌∷◌, [], ℕ, List, IfOk};
-ghost use Rattle.bp_explain.specs.Explained.{ExplainsSchedule};
+ghost use Rattle.bp_explain.specs.Explained.{ExplainsSchedule, ExplainsSteps};
 ghost use Rattle.bp_text.specs.Writing.{Writes};
 ghost use Rattle.bp_commands.specs.Explanations.{ExplainsInput, ExplainsPair, ExplainsText, IsExplanationOf, IsInWords, IsSaidFor};
 ghost use Rattle.bp_commands.specs.Given.{Pair};
@@ -10,7 +10,8 @@ use crate::faults::Fault;
 use crate::hints::Hints;
 use crate::messages::sentence;
 use bp_code::ProgramFault;
-use bp_explain::{explain_program, explain_schedule, explain_trace};
+use bp_confirm::ConfirmFault;
+use bp_explain::{explain_program, explain_schedule, explain_steps, explain_trace};
 use bp_machine::Start;
 use bp_syntax::ReadFault;
 use bp_text::Piece::Bytes;
@@ -30,6 +31,7 @@ pub(crate) struct Named<'a> {
 #[derive(Clone, Copy, Debug, PartialEq, Eq)]
 pub enum Beside {
     Schedule,
+    Steps,
     Trace,
 }
 
@@ -71,8 +73,29 @@ fn of_schedule(
     }
 }
 
-/// The explanation of a fault of the schedule or the trace beside a program. It is empty where
-/// there is none.
+/// The explanation of a fault of reported steps. Where no start is said the run has the defaults.
+fn of_steps(
+    alloc: Global,
+    fault: &ConfirmFault,
+    start: Option<&Start>,
+    program: Named<'_>,
+    steps: Named<'_>,
+) -> Result<Vec<u8>, AllocError>
+    ensures { IfOk result (λ v. ExplainsSteps
+        steps.entry.name.now steps.entry.text.now fault.now v.items) }
+{
+    let (text, name, lines) = (program.text, steps.name, steps.text);
+    match start {
+        Some(start) => explain_steps(alloc, text, start, name, lines, fault),
+        None => {
+            let start = Start::defaults(alloc)?;
+            explain_steps(alloc, text, &start, name, lines, fault)
+        }
+    }
+}
+
+/// The explanation of a fault of the schedule, the steps or the trace beside a program. It is empty
+/// where there is none.
 fn of_input(
     alloc: Global,
     beside: Beside,
@@ -88,6 +111,7 @@ fn of_input(
         (Beside::Schedule, Fault::Schedule(fault)) => {
             of_schedule(alloc, fault, start, program, input)
         }
+        (Beside::Steps, Fault::Steps(fault)) => of_steps(alloc, fault, start, program, input),
         (Beside::Trace, Fault::Trace(fault)) => {
             explain_trace(alloc, program.text, input.name, input.text, fault)
         }

@@ -1,12 +1,15 @@
 //! The object of a fault in JSON. It is written without memory, so that refused memory has one too.
-ghost use Rattle.std.specs.Prelude.{◌≡◌};
+ghost use Rattle.std.specs.Prelude.{◌≡◌, option_map};
 ghost use Rattle.bp_text.specs.Writing.{Writes};
 ghost use Rattle.bp_text.specs.Pieces.{piece_text, string_or_null};
-ghost use Rattle.bp_commands.specs.FaultObjects.{byte_of, column_in, fault_object, letter_text, line_in, name_in, row_object, thread_of};
+ghost use Rattle.bp_confirm.specs.StepLines.{value_of};
+ghost use Rattle.bp_commands.specs.FaultObjects.{byte_of, column_in, facts_text, fault_object, letter_text, line_in, message_text, name_in, thread_of};
 ghost use Rattle.bp_commands.specs.FaultTable.{row_of};
 
 use crate::fault_table::{Detail, Row};
 use crate::faults::Fault;
+use crate::step_objects::put_step;
+use bp_confirm::SeenValue;
 use bp_text::Piece::{Bytes, Key, Letter, Number, NumberOrNull, Text, TextOrNull};
 use bp_text::{Piece, WriteFault, position_of, put_pieces};
 use std::io::Write;
@@ -26,18 +29,22 @@ fn thread_of(detail: Detail) -> Option<u64>
     ensures { result ≡ thread_of detail }
 {
     match detail {
-        Detail::Thread(thread) => Some(u64::from(thread)),
+        Detail::Thread(thread) | Detail::ThreadOn(_, thread) => Some(u64::from(thread)),
+        Detail::Step(refusal) => Some(u64::from(refusal.thread)),
         _ => None,
     }
 }
 
-/// The line that a fault names: that of its byte, or that of a schedule or a trace.
+/// The line that a fault names: that of its byte, or that of a schedule, of steps or of a trace.
 fn line_in(text: &[u8], detail: Detail) -> Option<u64>
     ensures { result ≡ line_in text.now detail }
 {
     match detail {
         Detail::Byte(at) => Some(position_of(text, at as usize).line as u64),
-        Detail::Line(line) | Detail::Wanted(line, _) => Some(u64::from(line)),
+        Detail::Line(line) | Detail::ThreadOn(line, _) | Detail::Wanted(line, _) => {
+            Some(u64::from(line))
+        }
+        Detail::Step(refusal) => Some(u64::from(refusal.line)),
         _ => None,
     }
 }
@@ -72,17 +79,15 @@ fn bytes_of<'a>(name: Option<&'a str>) -> Option<&'a [u8]>
     }
 }
 
-/// Writes the object of a row of the table.
-fn put_row_object<'a, W: Write>(
+/// Writes the facts of a row of the table that each fault has.
+fn put_facts<'a, W: Write>(
     row: Row,
     file: Option<&'a str>,
     text: &[u8],
-    message: &'a [u8],
     out: &mut W,
 ) -> Result<(), WriteFault>
-    ensures { let r = row_of row in
-        let object = row_object r (name_in file.entry) text.now message.entry.now in
-        Writes (W.contents out.old) (W.contents out.new) object result }
+    ensures { let facts = facts_text (row_of row) (name_in file.entry) text.now in
+        Writes (W.contents out.old) (W.contents out.new) facts result }
 {
     let detail = row.detail;
     put_pieces(
@@ -105,25 +110,35 @@ fn put_row_object<'a, W: Write>(
             NumberOrNull(thread_of(detail)),
             Key(b"wanted"),
             wanted_letter(detail),
-            Key(b"message"),
-            Text(message),
-            Bytes(b"}\n"),
         ],
     )
 }
 
-/// Writes the object of a fault: its row of the table, the file that it is in, its place there, and
-/// a sentence that says what it is. The text is that of the program.
+/// Writes the sentence that ends an object.
+fn put_message<W: Write>(message: &[u8], out: &mut W) -> Result<(), WriteFault>
+    ensures { Writes (W.contents out.old) (W.contents out.new) (message_text message.now) result }
+{
+    put_pieces(out, &[Key(b"message"), Text(message), Bytes(b"}\n")])
+}
+
+/// Writes the object of a fault: its row of the table, the file that it is in, its place there, the
+/// step that it is about, and a sentence that says what it is. The text is that of the program, and
+/// the value is the one on a line of steps that the fault names.
 pub(crate) fn put_fault_object<'a, W: Write>(
     fault: &Fault,
     file: Option<&'a str>,
     text: &[u8],
+    value: Option<SeenValue<'a>>,
     message: &'a [u8],
     out: &mut W,
 ) -> Result<(), WriteFault>
     ensures { let file = name_in file.entry in
-        let object = fault_object fault.now file text.now message.entry.now in
+        let value = option_map value_of value.entry in
+        let object = fault_object fault.now file text.now value message.entry.now in
         Writes (W.contents out.old) (W.contents out.new) object result }
 {
-    put_row_object(fault.row(), file, text, message, out)
+    let row = fault.row();
+    put_facts(row, file, text, out)?;
+    put_step(row.detail, value, out)?;
+    put_message(message, out)
 }

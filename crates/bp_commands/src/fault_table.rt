@@ -1,10 +1,11 @@
 //! The table of the faults: the number, the name, and what the fault names.
 ghost use Rattle.std.specs.Prelude.{◌≡◌};
-ghost use Rattle.bp_commands.specs.FaultTable.{check_row, exit_status, fault_row, long_row, memory_row, place_of, read_row, row_of, schedule_row, setup_row, status_of, trace_row, wanted_of, write_row};
+ghost use Rattle.bp_commands.specs.FaultTable.{check_row, exit_status, fault_row, long_row, memory_row, place_of, read_row, row_of, schedule_row, setup_row, status_of, step_name, step_number, steps_row, trace_row, wanted_of, write_row};
 
 use crate::faults::Fault;
 use bp_check::CheckFault;
 use bp_code::ProgramFault;
+use bp_confirm::{ConfirmFault, StepReason, StepRefusal};
 use bp_machine::{Reply, SetupFault};
 use bp_syntax::ReadFault;
 use bp_trace::{DriveFault, ReplayFault};
@@ -30,8 +31,12 @@ pub enum Detail {
     Byte(u32),
     /// A guest thread.
     Thread(u32),
-    /// A line of the schedule or the trace.
+    /// A line of the schedule, the steps or the trace.
     Line(u32),
+    /// A line of the steps, and the thread that it names.
+    ThreadOn(u32, u32),
+    /// A line of the steps, and why its step is not taken.
+    Step(StepRefusal),
     /// A line of the trace, and the reply that it should have.
     Wanted(u32, Reply),
 }
@@ -156,6 +161,54 @@ fn trace_row(fault: &ReplayFault) -> Row
     }
 }
 
+/// The number of the faults of steps that are not taken for this reason.
+fn step_number(reason: StepReason) -> u32
+    ensures { result ≡ step_number reason }
+{
+    match reason {
+        StepReason::Elsewhere => 58,
+        StepReason::Ambiguous => 59,
+        StepReason::Finished => 60,
+        StepReason::Refused(_) => 61,
+        StepReason::Differs(_, _) => 62,
+    }
+}
+
+/// The name of these faults.
+fn step_name(reason: StepReason) -> &'static [u8]
+    ensures { result.now ≡ step_name reason }
+{
+    match reason {
+        StepReason::Elsewhere => b"Elsewhere",
+        StepReason::Ambiguous => b"Ambiguous",
+        StepReason::Finished => b"Finished",
+        StepReason::Refused(_) => b"Refused",
+        StepReason::Differs(_, _) => b"Differs",
+    }
+}
+
+fn steps_row(fault: &ConfirmFault) -> Row
+    ensures { row_of result ≡ steps_row fault.now }
+{
+    match fault {
+        ConfirmFault::TooLong => long_row(),
+        ConfirmFault::Line(line) => new_row(42, b"Line", Detail::Line(*line)),
+        ConfirmFault::NoThread(line, thread) => new_row(
+            36,
+            b"NoThread",
+            Detail::ThreadOn(*line, *thread),
+        ),
+        ConfirmFault::NoVariable(line, _) => new_row(57, b"NoVariable", Detail::Line(*line)),
+        ConfirmFault::Step(refusal) => new_row(
+            step_number(refusal.reason),
+            step_name(refusal.reason),
+            Detail::Step(*refusal),
+        ),
+        ConfirmFault::Memory => memory_row(),
+        ConfirmFault::Write => write_row(),
+    }
+}
+
 impl Fault {
     /// How users know the fault: its row of the table.
     pub fn row(&self) -> Row
@@ -169,6 +222,7 @@ impl Fault {
             Fault::Setup(fault) => setup_row(fault),
             Fault::Schedule(fault) => schedule_row(fault),
             Fault::Trace(fault) => trace_row(fault),
+            Fault::Steps(fault) => steps_row(fault),
             Fault::NoThread(thread) => new_row(36, b"NoThread", Detail::Thread(*thread)),
             Fault::NoVariable(_) => new_row(57, b"NoVariable", Detail::Nothing),
             Fault::NoFailure => new_row(56, b"NoFailure", Detail::Nothing),
@@ -200,6 +254,8 @@ impl Fault {
         match self.row().detail {
             Detail::Nothing => None,
             Detail::Byte(n) | Detail::Thread(n) | Detail::Line(n) | Detail::Wanted(n, _) => Some(n),
+            Detail::ThreadOn(n, _) => Some(n),
+            Detail::Step(refusal) => Some(refusal.line),
         }
     }
 

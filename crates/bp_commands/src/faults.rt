@@ -2,6 +2,7 @@
 use crate::inputs::InputFault;
 use bp_check::CheckFault;
 use bp_code::{CodeFault, ProgramFault};
+use bp_confirm::ConfirmFault;
 use bp_machine::SetupFault;
 use bp_run::RunFault;
 use bp_syntax::ReadFault;
@@ -34,6 +35,9 @@ pub enum Fault {
     /// The text is no trace of the program.
     #[error("{0}")]
     Trace(ReplayFault),
+    /// The reported steps are refused.
+    #[error("{0}")]
+    Steps(ConfirmFault),
     /// The trace has no thread of this number, whose calls alone were asked for.
     #[error("the trace has no thread {0}")]
     NoThread(u32),
@@ -166,6 +170,22 @@ impl From<ReplayFault> for Fault {
             ReplayFault::Setup(fault) => Fault::from(fault),
             ReplayFault::Memory => Fault::Memory,
             fault => Fault::Trace(fault),
+        }
+    }
+}
+
+impl From<ConfirmFault> for Fault {
+    ghost use Rattle.bp_commands.specs.Faults.{fault_of_steps};
+    ghost use Rattle.std.specs.Prelude.{◌≡◌};
+
+    ghost from_gives = { λ f e. e ≡ fault_of_steps f };
+
+    fn from(fault: ConfirmFault) -> Fault {
+        match fault {
+            ConfirmFault::TooLong => Fault::TooLong,
+            ConfirmFault::Memory => Fault::Memory,
+            ConfirmFault::Write => Fault::Write,
+            fault => Fault::Steps(fault),
         }
     }
 }

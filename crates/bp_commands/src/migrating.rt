@@ -18,6 +18,8 @@ impl PairCommand for Migrate {
     ghost use Rattle.bp_trace.specs.declared.limits.TheConstants.{MAX_TRACE};
     ghost use Rattle.bp_commands.specs.Traces.{migrates};
 
+    type Answer = Report;
+
     ghost command = { λ _. migrates };
 
     ghost limit = { λ _. MAX_TRACE };

@@ -23,6 +23,8 @@ impl PairCommand for ShowContexts {
     ghost use Rattle.bp_trace.specs.declared.limits.TheConstants.{MAX_TRACE};
     ghost use Rattle.bp_commands.specs.Traces.{lists_contexts};
 
+    type Answer = Report;
+
     ghost command = { λ s. lists_contexts s.format };
 
     ghost limit = { λ _. MAX_TRACE };

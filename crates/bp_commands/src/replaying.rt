@@ -19,6 +19,8 @@ impl PairCommand for Replay {
     ghost use Rattle.bp_trace.specs.declared.limits.TheConstants.{MAX_TRACE};
     ghost use Rattle.bp_commands.specs.Traces.{replays};
 
+    type Answer = Report;
+
     ghost command = { λ _. replays };
 
     ghost limit = { λ _. MAX_TRACE };

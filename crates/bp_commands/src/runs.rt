@@ -115,7 +115,7 @@ pub fn run_on_pair<C: PairCommand, F: Files, W: Write + Drop, E: Write>(
     errors: &mut E,
 ) -> (RunEnd, W)
     ensures { let old = writer_contents W.contents out in
-        let job = on_files (F.bytes files.now) format (C.command command.now)
+        let job = on_files (F.bytes files.now) format (C.command command.now) C.Answer.ending
         (C.limit command.now) (C.beside command.now) path.now input_path.now in
         let written = streams old (W.contents result.1)
         (E.contents errors.old) (E.contents errors.new) in

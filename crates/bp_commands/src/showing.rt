@@ -38,6 +38,8 @@ impl PairCommand for Show<'_> {
     ghost use Rattle.bp_trace.specs.declared.limits.TheConstants.{MAX_TRACE};
     ghost use Rattle.bp_commands.specs.Traces.{shows};
 
+    type Answer = Report;
+
     ghost command = { λ s. shows s.options };
 
     ghost limit = { λ _. MAX_TRACE };

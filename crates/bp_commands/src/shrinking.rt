@@ -20,6 +20,8 @@ impl PairCommand for Shrink {
     ghost use Rattle.bp_trace.specs.declared.limits.TheConstants.{MAX_TRACE};
     ghost use Rattle.bp_commands.specs.Shrinks.{shrinks};
 
+    type Answer = Report;
+
     ghost command = { λ _. shrinks };
 
     ghost limit = { λ _. MAX_TRACE };

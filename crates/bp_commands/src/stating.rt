@@ -25,6 +25,8 @@ impl PairCommand for ShowState {
     ghost use Rattle.bp_trace.specs.declared.limits.TheConstants.{MAX_TRACE};
     ghost use Rattle.bp_commands.specs.Traces.{states};
 
+    type Answer = Report;
+
     ghost command = { λ s. states s.format s.number };
 
     ghost limit = { λ _. MAX_TRACE };

@@ -5,7 +5,7 @@ ghost use Rattle.bp_commands.specs.Ends.{Ends};
 ghost use Rattle.bp_commands.specs.Explanations.{ExplainsPair, ExplainsText, IsExplanationOf, IsSaid, IsTold};
 ghost use Rattle.bp_commands.specs.FaultObjects.{name_in};
 ghost use Rattle.bp_commands.specs.FaultTable.{status_of};
-ghost use Rattle.bp_commands.specs.Given.{Pair};
+ghost use Rattle.bp_commands.specs.Given.{text_alone_of, Pair};
 ghost use Rattle.bp_commands.specs.Tellings.{is_explained, IsConcluded, IsFileOfPair, IsFileOfText, IsObjectIn, IsReported};
 ghost use Rattle.bp_commands.specs.declared.faults.Fault.{Fault as SomeFault};
 
@@ -16,6 +16,7 @@ use crate::fault_objects::put_fault_object;
 use crate::faults::Fault;
 use crate::hints::Hints;
 use crate::messages::message;
+use crate::step_objects::value_in;
 use bp_machine::Start;
 use std::alloc::{AllocError, Global};
 use std::io::Write;
@@ -26,7 +27,7 @@ pub(crate) trait Texts {
 
     ghost is_in: { Self → SomeFault → Option (List ℕ) → Type 0 };
 
-    ghost program: { Self → List ℕ };
+    ghost given: { Self → Pair };
 
     /// The lines that explain a fault of the texts; none where nothing does.
     fn explanation(&self, alloc: Global, fault: &Fault) -> Result<Vec<u8>, AllocError>
@@ -38,7 +39,11 @@ pub(crate) trait Texts {
 
     /// The text of the program.
     fn program(&self) -> &[u8]
-        ensures { result.now ≡ program self.now };
+        ensures { let texts = given self.now in result.now ≡ texts.text };
+
+    /// The input beside the program; it is empty where there is none.
+    fn input(&self) -> &[u8]
+        ensures { let texts = given self.now in result.now ≡ texts.input };
 }
 
 impl Texts for Named<'_> {
@@ -46,7 +51,7 @@ impl Texts for Named<'_> {
 
     ghost is_in = { λ t. IsFileOfText t.name.now };
 
-    ghost program = { λ t. t.text.now };
+    ghost given = { λ t. text_alone_of t.text.now };
 
     fn explanation(&self, alloc: Global, fault: &Fault) -> Result<Vec<u8>, AllocError> {
         of_program(alloc, fault, *self)
@@ -62,9 +67,14 @@ impl Texts for Named<'_> {
     fn program(&self) -> &[u8] {
         self.text
     }
+
+    fn input(&self) -> &[u8] {
+        b""
+    }
 }
 
-/// A program, and the schedule or the trace beside it, which has a start of its own or this one.
+/// A program, and the schedule, the steps or the trace beside it, which has a start of its own or
+/// this one.
 #[derive(Clone, Copy)]
 pub(crate) struct NamedPair<'a> {
     pub(crate) program: Named<'a>,
@@ -80,7 +90,7 @@ impl Texts for NamedPair<'_> {
 
     ghost is_in = { λ t. IsFileOfPair t.beside t.program.name.now t.input.name.now };
 
-    ghost program = { λ t. t.program.text.now };
+    ghost given = { λ t. record { text = t.program.text.now; input = t.input.text.now } };
 
     fn explanation(&self, alloc: Global, fault: &Fault) -> Result<Vec<u8>, AllocError> {
         of_pair(
@@ -102,9 +112,8 @@ impl Texts for NamedPair<'_> {
             } else {
                 input
             }),
-            (_, Fault::TooLong | Fault::Schedule(_) | Fault::Trace(_) | Fault::NoFailure) => {
-                Some(input)
-            }
+            (_, Fault::TooLong | Fault::Schedule(_) | Fault::Steps(_)) => Some(input),
+            (_, Fault::Trace(_) | Fault::NoFailure) => Some(input),
             (Beside::Trace, Fault::Setup(_)) => Some(input),
             _ => None,
         }
@@ -112,6 +121,10 @@ impl Texts for NamedPair<'_> {
 
     fn program(&self) -> &[u8] {
         self.program.text
+    }
+
+    fn input(&self) -> &[u8] {
+        self.input.text
     }
 }
 
@@ -125,11 +138,12 @@ fn end_by_object<G: Texts, E: Write>(
 ) -> RunEnd
     ensures status { result.status ≡ status_of fault.now }
     ensures object { (object : List ℕ)
-        × IsObjectIn (G.is_in given.now) (G.program given.now) fault.now object
+        × IsObjectIn (G.is_in given.now) (G.given given.now) fault.now object
         × Writes (E.contents errors.old) (E.contents errors.new) object result.told }
 {
     let lines = given.explanation(alloc, fault);
     let file = given.file(fault, hints);
+    let value = value_in(given.input(), fault.row().detail);
     let message = message(alloc, lines, file, fault, hints);
     let words = match &message {
         Ok(message) => message.as_slice(),
@@ -137,7 +151,7 @@ fn end_by_object<G: Texts, E: Write>(
     };
     RunEnd {
         status: fault.status(),
-        told: put_fault_object(fault, file, given.program(), words, errors),
+        told: put_fault_object(fault, file, given.program(), value, words, errors),
         explained: Explained::NOTHING,
     }
 }
@@ -151,7 +165,7 @@ fn report<G: Texts, T: Ended, E: Write>(
     hints: Hints<'_>,
     errors: &mut E,
 ) -> RunEnd
-    ensures { let IsObject = IsObjectIn (G.is_in given.now) (G.program given.now) in
+    ensures { let IsObject = IsObjectIn (G.is_in given.now) (G.given given.now) in
         Ends T.ending (IsReported format IsObject) done.now result
         (E.contents errors.old) (E.contents errors.new) }
 {
@@ -192,7 +206,7 @@ pub(crate) fn conclude<G: Texts, T: Ended, E: Write>(
     hints: Hints<'_>,
     errors: &mut E,
 ) -> RunEnd
-    ensures { let IsObject = IsObjectIn (G.is_in given.now) (G.program given.now) in
+    ensures { let IsObject = IsObjectIn (G.is_in given.now) (G.given given.now) in
         IsConcluded T.ending format IsObject (λ f. IsSaid (G.explains given.now f)) done.now result
         (E.contents errors.old) (E.contents errors.new) }
 {

@@ -127,8 +127,31 @@ entered_ours : (stop : Option (Text × List Text)) → NoHelp stop → IsOurs (e
 unfolding clap_on_literals
 entered_ours None fine = tt
 entered_ours (Some p) fine =
-    found_ours p (built btrun_app).subs
-    (inr (name.Check, refl), (inr (name.Code, refl), (inr (name.Drive, refl), (inr (name.Run, refl), (inr (name.Test, refl), (inr (name.Replay, refl), (inr (name.Show, refl), (inr (name.Migrate, refl), (inr (name.Shrink, refl), (inl (other_way p.0 (codes "help") fine), tt))))))))))
+    found_ours p (built btrun_app).subs (
+      inr (name.Check, refl),
+      (
+        inr (name.Code, refl),
+        (
+          inr (name.Drive, refl),
+          (
+            inr (name.Confirm, refl),
+            (
+              inr (name.Run, refl),
+              (
+                inr (name.Test, refl),
+                (
+                  inr (name.Replay, refl),
+                  (
+                    inr (name.Show, refl),
+                    (inr (name.Migrate, refl), (inr (name.Shrink, refl), (inl (other_way p.0 (codes "help") fine), tt))),
+                  ),
+                ),
+              ),
+            ),
+          ),
+        ),
+      ),
+    )
 
 enabled : (built btrun_app).top.disable_help_subcommand ≡ false
 unfolding clap_on_literals

@@ -20,10 +20,10 @@ use Rattle.std.proofs.lemmas.Slice.Eq.{bytes_eq-Decides}
 use Rattle.bp_words.specs.Commands.{btrun_app, words_fault, IsTaskOf}
 use Rattle.bp_words.specs.ExplainWords.{on_terminals}
 use Rattle.bp_words.specs.declared.explain.ExplainWords.{ExplainWords}
-use Rattle.bp_words.specs.PlainUses.{PlainUse, bundle, check, code, drive, run, test, replay, show, migrate, shrink, is_plain, words_of, HasPlainFiles, IsAskedBy, IsCheckOf, IsCodeOf, IsMigrateOf, IsPlainDriveOf, IsPlainRunOf, IsPlainShowOf, IsPlainTestOf, IsReplayOf, IsShrinkOf}
+use Rattle.bp_words.specs.PlainUses.{PlainUse, bundle, check, code, confirm, drive, run, test, replay, show, migrate, shrink, is_plain, words_of, HasPlainFiles, IsAskedBy, IsCheckOf, IsCodeOf, IsMigrateOf, IsPlainConfirmOf, IsPlainDriveOf, IsPlainRunOf, IsPlainShowOf, IsPlainTestOf, IsReplayOf, IsShrinkOf}
 use Rattle.bp_words.specs.Values.{init_fault}
 use Rattle.bp_words.specs.declared.commands.Task.{Task}
-use Rattle.bp_words.specs.declared.commands.Task.TheVariants.{Bundle, Check, Code, Drive, Run, Test, Replay, Show, Migrate, Shrink}
+use Rattle.bp_words.specs.declared.commands.Task.TheVariants.{Bundle, Check, Code, Drive, Confirm, Run, Test, Replay, Show, Migrate, Shrink}
 
 -- words that `clap` takes have no fault where the command's initial bits have none
 no_fault : (words : List Text) (command : Option (Text × List Row)) → fault_of btrun_app words ≡ [] → subcommand_of btrun_app words ≡ command → init_fault command ≡ [] → words_fault words ≡ []
@@ -171,6 +171,7 @@ check_of file Bundle asks = absurd asks
 check_of file (Check words) (named, of) = (of.program, of.json.1 refl, unasked words.explain (of.explain.always.1 refl) (of.explain.never.1 refl))
 check_of file (Code words) asks = absurd (check≢code asks.0)
 check_of file (Drive words) asks = absurd (check≢drive asks.0)
+check_of file (Confirm words) asks = absurd (differ (codes "check") (codes "confirm") refl asks.0)
 check_of file (Run words) asks = absurd (check≢run asks.0)
 check_of file (Test words) asks = absurd (differ (codes "check") (codes "test") refl asks.0)
 check_of file (Replay words) asks = absurd (check≢replay asks.0)
@@ -202,6 +203,7 @@ code_of file Bundle asks = absurd asks
 code_of file (Code words) (named, of) = (of.program, of.source.1 refl, of.json.1 refl, unasked words.explain (of.explain.always.1 refl) (of.explain.never.1 refl))
 code_of file (Check words) asks = absurd (check≢code (sym asks.0))
 code_of file (Drive words) asks = absurd (code≢drive asks.0)
+code_of file (Confirm words) asks = absurd (differ (codes "code") (codes "confirm") refl asks.0)
 code_of file (Run words) asks = absurd (code≢run asks.0)
 code_of file (Test words) asks = absurd (differ (codes "code") (codes "test") refl asks.0)
 code_of file (Replay words) asks = absurd (code≢replay asks.0)
@@ -241,6 +243,7 @@ drive_of file schedule Bundle asks = absurd asks
 drive_of file schedule (Check words) asks = absurd (check≢drive (sym asks.0))
 drive_of file schedule (Code words) asks = absurd (code≢drive (sym asks.0))
 drive_of file schedule (Drive words) (named, of) = (of.program, of.schedule, unasked words.explain (of.explain.always.1 refl) (of.explain.never.1 refl), start_is words.start of.entries of.init of.contexts of.calls)
+drive_of file schedule (Confirm words) asks = absurd (differ (codes "drive") (codes "confirm") refl asks.0)
 drive_of file schedule (Run words) asks = absurd (drive≢run asks.0)
 drive_of file schedule (Test words) asks = absurd (differ (codes "drive") (codes "test") refl asks.0)
 drive_of file schedule (Replay words) asks = absurd (drive≢replay asks.0)
@@ -251,6 +254,43 @@ drive_of file schedule (Shrink words) asks = absurd (differ (codes "drive") (cod
 drive_asked : (program file schedule : Text) (task : Task) → is_plain file ≡ true → is_plain schedule ≡ true → IsTaskOf (subcommand_of btrun_app (drive_words program file schedule)) task → IsPlainDriveOf file schedule task
 drive_asked program file schedule task plain even asks =
     drive_of file schedule task (subst (λ c. IsTaskOf c task) (drive_named program file schedule (is_word file plain) (is_word schedule even)) asks)
+
+abbrev confirm_words : Text → Text → Text → List Text
+confirm_words program file steps = program ∷ codes "confirm" ∷ file ∷ steps ∷ []
+
+abbrev confirm_rows : Text → Text → List Row
+confirm_rows file steps = given (codes "FILE") file ∷ given (codes "STEPS") steps ∷ down (codes "explain") ∷ down (codes "no-explain") ∷ down (codes "json") ∷ []
+
+confirm_named : (program file steps : Text) → IsWord file → IsWord steps → subcommand_of btrun_app (confirm_words program file steps) ≡ Some (codes "confirm", confirm_rows file steps)
+unfolding clap_on_literals
+confirm_named program file steps (no_end, no_long, no_short) (none_ends, none_long, none_short) = rw (no_end, no_long, no_short, none_ends, none_long, none_short) refl
+
+confirm_clean : (program file steps : Text) → IsWord file → IsWord steps → fault_of btrun_app (confirm_words program file steps) ≡ []
+unfolding clap_on_literals
+confirm_clean program file steps (no_end, no_long, no_short) (none_ends, none_long, none_short) = rw (no_end, no_long, no_short, none_ends, none_long, none_short) refl
+
+confirm_faulty : (program file steps : Text) → is_plain file ≡ true → is_plain steps ≡ true → words_fault (confirm_words program file steps) ≡ []
+confirm_faulty program file steps plain even =
+    let word = is_word file plain in
+    let other = is_word steps even in
+    no_fault (confirm_words program file steps) (Some (codes "confirm", confirm_rows file steps)) (confirm_clean program file steps word other) (confirm_named program file steps word other) refl
+
+confirm_of : (file steps : Text) (task : Task) → IsTaskOf (Some (codes "confirm", confirm_rows file steps)) task → IsPlainConfirmOf file steps task
+confirm_of file steps Bundle asks = absurd asks
+confirm_of file steps (Check words) asks = absurd (differ (codes "confirm") (codes "check") refl asks.0)
+confirm_of file steps (Code words) asks = absurd (differ (codes "confirm") (codes "code") refl asks.0)
+confirm_of file steps (Drive words) asks = absurd (differ (codes "confirm") (codes "drive") refl asks.0)
+confirm_of file steps (Confirm words) (named, of) = (of.program, of.steps, unasked words.explain (of.explain.always.1 refl) (of.explain.never.1 refl), of.bound, start_is words.start of.entries of.init of.contexts of.calls, of.json.1 refl)
+confirm_of file steps (Run words) asks = absurd (differ (codes "confirm") (codes "run") refl asks.0)
+confirm_of file steps (Test words) asks = absurd (differ (codes "confirm") (codes "test") refl asks.0)
+confirm_of file steps (Replay words) asks = absurd (differ (codes "confirm") (codes "replay") refl asks.0)
+confirm_of file steps (Show words) asks = absurd (differ (codes "confirm") (codes "show") refl asks.0)
+confirm_of file steps (Migrate words) asks = absurd (differ (codes "confirm") (codes "migrate") refl asks.0)
+confirm_of file steps (Shrink words) asks = absurd (differ (codes "confirm") (codes "shrink") refl asks.0)
+
+confirm_asked : (program file steps : Text) (task : Task) → is_plain file ≡ true → is_plain steps ≡ true → IsTaskOf (subcommand_of btrun_app (confirm_words program file steps)) task → IsPlainConfirmOf file steps task
+confirm_asked program file steps task plain even asks =
+    confirm_of file steps task (subst (λ c. IsTaskOf c task) (confirm_named program file steps (is_word file plain) (is_word steps even)) asks)
 
 abbrev run_words : Text → Text → List Text
 run_words program file = program ∷ codes "run" ∷ file ∷ []
@@ -281,6 +321,7 @@ run_of file Bundle asks = absurd asks
 run_of file (Check words) asks = absurd (check≢run (sym asks.0))
 run_of file (Code words) asks = absurd (code≢run (sym asks.0))
 run_of file (Drive words) asks = absurd (drive≢run (sym asks.0))
+run_of file (Confirm words) asks = absurd (differ (codes "run") (codes "confirm") refl asks.0)
 run_of file (Run words) (named, of) = (of.program, of.spread.1 refl, unasked words.explain (of.explain.always.1 refl) (of.explain.never.1 refl), options_are words.options (start_is words.options.start of.entries of.init of.contexts of.calls) of.turn of.seed of.ring)
 run_of file (Test words) asks = absurd (differ (codes "run") (codes "test") refl asks.0)
 run_of file (Replay words) asks = absurd (run≢replay asks.0)
@@ -319,6 +360,7 @@ test_of file Bundle asks = absurd asks
 test_of file (Check words) asks = absurd (differ (codes "test") (codes "check") refl asks.0)
 test_of file (Code words) asks = absurd (differ (codes "test") (codes "code") refl asks.0)
 test_of file (Drive words) asks = absurd (differ (codes "test") (codes "drive") refl asks.0)
+test_of file (Confirm words) asks = absurd (differ (codes "test") (codes "confirm") refl asks.0)
 test_of file (Run words) asks = absurd (differ (codes "test") (codes "run") refl asks.0)
 test_of file (Test words) (named, of) = (of.program, unasked words.explain (of.explain.always.1 refl) (of.explain.never.1 refl), start_is words.start of.entries of.init of.contexts of.calls, of.seed, of.runs, of.jobs, of.stuck.1 refl, of.unreached.1 refl, of.json.1 refl)
 test_of file (Replay words) asks = absurd (differ (codes "test") (codes "replay") refl asks.0)
@@ -351,6 +393,7 @@ replay_of file trace Bundle asks = absurd asks
 replay_of file trace (Check words) asks = absurd (check≢replay (sym asks.0))
 replay_of file trace (Code words) asks = absurd (code≢replay (sym asks.0))
 replay_of file trace (Drive words) asks = absurd (drive≢replay (sym asks.0))
+replay_of file trace (Confirm words) asks = absurd (differ (codes "replay") (codes "confirm") refl asks.0)
 replay_of file trace (Run words) asks = absurd (run≢replay (sym asks.0))
 replay_of file trace (Test words) asks = absurd (differ (codes "replay") (codes "test") refl asks.0)
 replay_of file trace (Replay words) (named, of) = (of.program, of.trace, unasked words.explain (of.explain.always.1 refl) (of.explain.never.1 refl))
@@ -391,6 +434,7 @@ show_of file trace Bundle asks = absurd asks
 show_of file trace (Check words) asks = absurd (check≢show (sym asks.0))
 show_of file trace (Code words) asks = absurd (code≢show (sym asks.0))
 show_of file trace (Drive words) asks = absurd (drive≢show (sym asks.0))
+show_of file trace (Confirm words) asks = absurd (differ (codes "show") (codes "confirm") refl asks.0)
 show_of file trace (Run words) asks = absurd (run≢show (sym asks.0))
 show_of file trace (Test words) asks = absurd (differ (codes "show") (codes "test") refl asks.0)
 show_of file trace (Replay words) asks = absurd (replay≢show (sym asks.0))
@@ -424,6 +468,7 @@ migrate_of file trace Bundle asks = absurd asks
 migrate_of file trace (Check words) asks = absurd (check≢migrate (sym asks.0))
 migrate_of file trace (Code words) asks = absurd (code≢migrate (sym asks.0))
 migrate_of file trace (Drive words) asks = absurd (drive≢migrate (sym asks.0))
+migrate_of file trace (Confirm words) asks = absurd (differ (codes "migrate") (codes "confirm") refl asks.0)
 migrate_of file trace (Run words) asks = absurd (run≢migrate (sym asks.0))
 migrate_of file trace (Test words) asks = absurd (differ (codes "migrate") (codes "test") refl asks.0)
 migrate_of file trace (Show words) asks = absurd (show≢migrate (sym asks.0))
@@ -457,6 +502,7 @@ shrink_of file trace Bundle asks = absurd asks
 shrink_of file trace (Check words) asks = absurd (differ (codes "shrink") (codes "check") refl asks.0)
 shrink_of file trace (Code words) asks = absurd (differ (codes "shrink") (codes "code") refl asks.0)
 shrink_of file trace (Drive words) asks = absurd (differ (codes "shrink") (codes "drive") refl asks.0)
+shrink_of file trace (Confirm words) asks = absurd (differ (codes "shrink") (codes "confirm") refl asks.0)
 shrink_of file trace (Run words) asks = absurd (differ (codes "shrink") (codes "run") refl asks.0)
 shrink_of file trace (Test words) asks = absurd (differ (codes "shrink") (codes "test") refl asks.0)
 shrink_of file trace (Show words) asks = absurd (differ (codes "shrink") (codes "show") refl asks.0)
@@ -474,6 +520,7 @@ plain_faulty bundle program plain = none_faulty program
 plain_faulty (check file) program plain = check_faulty program file plain
 plain_faulty (code file) program plain = code_faulty program file plain
 plain_faulty (drive file other) program (plain, even) = drive_faulty program file other plain even
+plain_faulty (confirm file other) program (plain, even) = confirm_faulty program file other plain even
 plain_faulty (run file) program plain = run_faulty program file plain
 plain_faulty (test file) program plain = test_faulty program file plain
 plain_faulty (replay file other) program (plain, even) = replay_faulty program file other plain even
@@ -487,6 +534,7 @@ plain_asked bundle program task plain asks = subst (λ c. IsTaskOf c task) (none
 plain_asked (check file) program task plain asks = check_asked program file task plain asks
 plain_asked (code file) program task plain asks = code_asked program file task plain asks
 plain_asked (drive file other) program task (plain, even) asks = drive_asked program file other task plain even asks
+plain_asked (confirm file other) program task (plain, even) asks = confirm_asked program file other task plain even asks
 plain_asked (run file) program task plain asks = run_asked program file task plain asks
 plain_asked (test file) program task plain asks = test_asked program file task plain asks
 plain_asked (replay file other) program task (plain, even) asks = replay_asked program file other task plain even asks

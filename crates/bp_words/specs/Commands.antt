@@ -18,13 +18,14 @@ use Rattle.bp_words.specs.Names.{IsNamed}
 use Rattle.bp_words.specs.Values.{init_fault}
 use Rattle.bp_words.specs.CheckWords.{IsCheckWordsOf}
 use Rattle.bp_words.specs.CodeWords.{IsCodeWordsOf}
+use Rattle.bp_words.specs.ConfirmWords.{IsConfirmOf}
 use Rattle.bp_words.specs.DriveWords.{IsDriveOf}
 use Rattle.bp_words.specs.RunWords.{IsRunOf}
 use Rattle.bp_words.specs.ShowWords.{IsShowOf}
 use Rattle.bp_words.specs.TestWords.{IsTestOf}
 use Rattle.bp_words.specs.TraceWords.{IsTraceWordsOf}
 use Rattle.bp_words.specs.declared.commands.Task.{Task}
-use Rattle.bp_words.specs.declared.commands.Task.TheVariants.{Bundle, Check, Code, Drive, Run, Test, Replay, Show, Migrate, Shrink}
+use Rattle.bp_words.specs.declared.commands.Task.TheVariants.{Bundle, Check, Code, Drive, Confirm, Run, Test, Replay, Show, Migrate, Shrink}
 
 -- an argument that has to be there
 abbrev pub required_rule : Text → Rule
@@ -98,6 +99,19 @@ drive_app =
     ∷ number_rule (codes "contexts")
     ∷ number_rule (codes "calls")
     ∷ option_rule (codes "init")
+    ∷ [])
+
+-- `confirm FILE STEPS [ENTRY].. [--contexts N] [--calls N] [--init BITS] [--json] [--explain]
+-- [--no-explain]`
+abbrev pub confirm_app : App
+confirm_app =
+    with_rules (file_app (codes "confirm")) (
+    required_rule (codes "STEPS")
+    ∷ values_rule (codes "ENTRY")
+    ∷ number_rule (codes "contexts")
+    ∷ number_rule (codes "calls")
+    ∷ option_rule (codes "init")
+    ∷ flag_rule (codes "json")
     ∷ [])
 
 -- `run FILE [ENTRY].. [--seed N] [--contexts N] [--calls N] [--turn N] [--init BITS] [--ring N]
@@ -179,6 +193,7 @@ abbrev pub command_app : Named → App
 command_app name.Check = check_app
 command_app name.Code = code_app
 command_app name.Drive = drive_app
+command_app name.Confirm = confirm_app
 command_app name.Run = run_app
 command_app name.Test = test_app
 command_app name.Replay = replay_app
@@ -201,6 +216,7 @@ IsTaskOfCommand name rows Bundle = ⊥
 IsTaskOfCommand name rows (Check words) = (name ≡ codes "check") × IsCheckWordsOf rows words
 IsTaskOfCommand name rows (Code words) = (name ≡ codes "code") × IsCodeWordsOf rows words
 IsTaskOfCommand name rows (Drive words) = (name ≡ codes "drive") × IsDriveOf rows words
+IsTaskOfCommand name rows (Confirm words) = (name ≡ codes "confirm") × IsConfirmOf rows words
 IsTaskOfCommand name rows (Run words) = (name ≡ codes "run") × IsRunOf rows words
 IsTaskOfCommand name rows (Test words) = (name ≡ codes "test") × IsTestOf rows words
 IsTaskOfCommand name rows (Replay words) = (name ≡ codes "replay") × IsTraceWordsOf rows words

@@ -1,6 +1,7 @@
 pub mod CheckWords
 pub mod CodeWords
 pub mod Commands
+pub mod ConfirmWords
 pub mod DriveWords
 pub mod ExplainWords
 pub mod Names

@@ -2,12 +2,13 @@
 use Rattle.std.specs.Prelude.{◌≡◌, codes}
 use Rattle.clap.specs.Walk.{Text}
 use Rattle.bp_words.specs.declared.names.Named.{Named}
-use Rattle.bp_words.specs.declared.names.Named.TheVariants.{Check, Code, Drive, Run, Test, Replay, Show, Migrate, Shrink}
+use Rattle.bp_words.specs.declared.names.Named.TheVariants.{Check, Code, Drive, Confirm, Run, Test, Replay, Show, Migrate, Shrink}
 
 abbrev pub command_name : Named → Text
 command_name Check = codes "check"
 command_name Code = codes "code"
 command_name Drive = codes "drive"
+command_name Confirm = codes "confirm"
 command_name Run = codes "run"
 command_name Test = codes "test"
 command_name Replay = codes "replay"

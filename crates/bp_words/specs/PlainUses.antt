@@ -17,6 +17,7 @@ pub data PlainUse : Type 0 where
   check : (file : Text) → PlainUse
   code : (file : Text) → PlainUse
   drive : (file schedule : Text) → PlainUse
+  confirm : (file steps : Text) → PlainUse
   run : (file : Text) → PlainUse
   test : (file : Text) → PlainUse
   replay : (file trace : Text) → PlainUse
@@ -30,6 +31,7 @@ words_of bundle = []
 words_of (check file) = codes "check" ∷ file ∷ []
 words_of (code file) = codes "code" ∷ file ∷ []
 words_of (drive file schedule) = codes "drive" ∷ file ∷ schedule ∷ []
+words_of (confirm file steps) = codes "confirm" ∷ file ∷ steps ∷ []
 words_of (run file) = codes "run" ∷ file ∷ []
 words_of (test file) = codes "test" ∷ file ∷ []
 words_of (replay file trace) = codes "replay" ∷ file ∷ trace ∷ []
@@ -48,6 +50,7 @@ HasPlainFiles bundle = ⊤
 HasPlainFiles (check file) = is_plain file ≡ true
 HasPlainFiles (code file) = is_plain file ≡ true
 HasPlainFiles (drive file schedule) = (is_plain file ≡ true) × (is_plain schedule ≡ true)
+HasPlainFiles (confirm file steps) = (is_plain file ≡ true) × (is_plain steps ≡ true)
 HasPlainFiles (run file) = is_plain file ≡ true
 HasPlainFiles (test file) = is_plain file ≡ true
 HasPlainFiles (replay file trace) = (is_plain file ≡ true) × (is_plain trace ≡ true)
@@ -78,6 +81,18 @@ IsPlainDriveOf file schedule (task.Drive words) =
     × (words.explain ≡ on_terminals)
     × (words.start ≡ default_start)
 IsPlainDriveOf file schedule other = ⊥
+
+-- the task is to confirm the steps of that file by the program of this one, under the defaults and
+-- within as many contexts as they use
+abbrev pub IsPlainConfirmOf : Text → Text → Task → Type 0
+IsPlainConfirmOf file steps (task.Confirm words) =
+    (words.program.now ≡ file)
+    × (words.steps.now ≡ steps)
+    × (words.explain ≡ on_terminals)
+    × (words.contexts ≡ None)
+    × (words.start ≡ default_start)
+    × (words.json ≡ false)
+IsPlainConfirmOf file steps other = ⊥
 
 -- the task is to run the program of this file under the defaults, its workers as they come
 abbrev pub IsPlainRunOf : Text → Task → Type 0
@@ -146,6 +161,7 @@ IsAskedBy bundle = λ t. t ≡ task.Bundle
 IsAskedBy (check file) = IsCheckOf file
 IsAskedBy (code file) = IsCodeOf file
 IsAskedBy (drive file schedule) = IsPlainDriveOf file schedule
+IsAskedBy (confirm file steps) = IsPlainConfirmOf file steps
 IsAskedBy (run file) = IsPlainRunOf file
 IsAskedBy (test file) = IsPlainTestOf file
 IsAskedBy (replay file trace) = IsReplayOf file trace

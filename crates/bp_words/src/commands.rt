@@ -7,6 +7,7 @@ ghost use Rattle.bp_words.specs.PlainUses.{PlainUse, words_of, HasPlainFiles, Is
 
 use crate::check::{CheckWords, check_words};
 use crate::code::{CodeWords, code_words};
+use crate::confirm::{ConfirmWords, confirm_words};
 use crate::drive::{DriveWords, drive_words};
 use crate::names::{NAMED, Named, command_named, with_help};
 use crate::run::{RunWords, run_words};
@@ -30,6 +31,8 @@ pub enum Task<'a> {
     Code(CodeWords<'a>),
     /// `drive FILE SCHEDULE [ENTRY]..`
     Drive(DriveWords<'a>),
+    /// `confirm FILE STEPS [ENTRY]..`
+    Confirm(ConfirmWords<'a>),
     /// `run FILE [ENTRY]..`
     Run(RunWords<'a>),
     /// `test FILE [ENTRY]..`
@@ -50,8 +53,9 @@ const NOTES: &str = "\
     'THREAD BIT'. One thread begins with 'main', all globals are 0, and at most 2 contexts and\n\
     1000 calls are allowed. The trace of the run is printed. A FILE '-' is standard input.\n\n\
     Examples:\n  btrun < FILE\n  btrun check FILE\n  btrun code FILE\n  \
-    btrun drive FILE SCHEDULE\n  btrun run FILE\n  btrun test FILE\n  btrun replay FILE TRACE\n  \
-    btrun show FILE TRACE\n  btrun migrate FILE TRACE\n  btrun shrink FILE TRACE\n\n\
+    btrun drive FILE SCHEDULE\n  btrun confirm FILE STEPS\n  btrun run FILE\n  btrun test FILE\n  \
+    btrun replay FILE TRACE\n  btrun show FILE TRACE\n  \
+    btrun migrate FILE TRACE\n  btrun shrink FILE TRACE\n\n\
     Exit status:\n  0  done, and no assertion failed\n  1  an assertion failed\n  \
     2  the input or the words were refused\n  3  memory, a device or the output failed";
 
@@ -96,6 +100,7 @@ fn task_named<'a>(
         Named::Check => Ok(Task::Check(check_words(words))),
         Named::Code => Ok(Task::Code(code_words(words))),
         Named::Drive => Ok(Task::Drive(drive_words(alloc, words)?)),
+        Named::Confirm => Ok(Task::Confirm(confirm_words(alloc, words)?)),
         Named::Run => Ok(Task::Run(run_words(alloc, words)?)),
         Named::Test => Ok(Task::Test(test_words(alloc, words)?)),
         Named::Replay => Ok(Task::Replay(trace_words(words))),

@@ -8,6 +8,7 @@ ghost use Rattle.bp_words.specs.declared.names.Named.{Named as Either};
 
 use crate::check::check_command;
 use crate::code::code_command;
+use crate::confirm::confirm_command;
 use crate::drive::drive_command;
 use crate::run::run_command;
 use crate::show::show_command;
@@ -25,6 +26,7 @@ pub enum Named {
     Check,
     Code,
     Drive,
+    Confirm,
     Run,
     Test,
     Replay,
@@ -34,13 +36,14 @@ pub enum Named {
 }
 
 /// How many commands have a name.
-const COMMANDS: usize = 9;
+const COMMANDS: usize = 10;
 
 /// The commands that have a name, in the order of the help.
 pub const NAMED: [Named; COMMANDS] = [
     Named::Check,
     Named::Code,
     Named::Drive,
+    Named::Confirm,
     Named::Run,
     Named::Test,
     Named::Replay,
@@ -57,6 +60,7 @@ fn name_of(command: Named) -> &'static str
         Named::Check => "check",
         Named::Code => "code",
         Named::Drive => "drive",
+        Named::Confirm => "confirm",
         Named::Run => "run",
         Named::Test => "test",
         Named::Replay => "replay",
@@ -90,6 +94,7 @@ pub fn with_help<'a>(alloc: Global, command: Named) -> Result<Command<'a>, Alloc
         Named::Check => check_command(alloc),
         Named::Code => code_command(alloc),
         Named::Drive => drive_command(alloc),
+        Named::Confirm => confirm_command(alloc),
         Named::Run => run_command(alloc),
         Named::Test => test_command(alloc),
         Named::Replay => trace_command(alloc, "replay", REPLAY_ABOUT, REPLAY_NOTES),

@@ -1,11 +1,12 @@
 -- What a run does, by the task that its words ask for.
 use Rattle.std.specs.Prelude.{if◌then◌else◌, ℕ, Bool, true, false, List, Option, None, Some}
 use Rattle.bp_commands.specs.Checks.{checks}
+use Rattle.bp_commands.specs.Confirms.{confirms, of_confirm}
 use Rattle.bp_commands.specs.Drives.{drives}
-use Rattle.bp_commands.specs.declared.explanations.Beside.TheVariants.{Schedule, Trace}
+use Rattle.bp_commands.specs.declared.explanations.Beside.TheVariants.{Schedule, Steps, Trace}
 use Rattle.bp_commands.specs.declared.coding.ListingForm.{ListingForm}
 use Rattle.bp_commands.specs.declared.coding.ListingForm.TheVariants as listing
-use Rattle.bp_commands.specs.Ends.{never, of_run}
+use Rattle.bp_commands.specs.Ends.{never, of_report, of_run}
 use Rattle.bp_commands.specs.declared.fault_formats.FaultFormat.{FaultFormat}
 use Rattle.bp_commands.specs.declared.fault_formats.FaultFormat.TheVariants as fault
 use Rattle.bp_commands.specs.Jobs.{on_bundle, on_file, on_files, Job}
@@ -14,6 +15,8 @@ use Rattle.bp_commands.specs.Runs.{runs}
 use Rattle.bp_commands.specs.Shrinks.{shrinks}
 use Rattle.bp_commands.specs.Tests.{of_test, tests}
 use Rattle.bp_commands.specs.Traces.{migrates, replays, shows_as}
+use Rattle.bp_confirm.specs.declared.context_bounds.ContextBound.{ContextBound}
+use Rattle.bp_confirm.specs.declared.context_bounds.ContextBound.TheVariants.{Kept, AsUsed}
 use Rattle.bp_test.specs.declared.options.TestOptions.{TestOptions}
 use Rattle.bp_trace.specs.declared.limits.TheConstants.{MAX_SCHEDULE, MAX_TRACE}
 use Rattle.bp_view.specs.declared.options.ViewFormat.{ViewFormat}
@@ -21,8 +24,9 @@ use Rattle.bp_view.specs.declared.options.ViewFormat.TheVariants.{Columns, Json}
 use Rattle.bp_view.specs.declared.options.ViewOptions.{ViewOptions}
 use Rattle.bp_words.specs.ExplainWords.{is_explained}
 use Rattle.bp_words.specs.declared.code.CodeWords.{CodeWords}
+use Rattle.bp_words.specs.declared.confirm.ConfirmWords.{ConfirmWords}
 use Rattle.bp_words.specs.declared.commands.Task.{Task}
-use Rattle.bp_words.specs.declared.commands.Task.TheVariants.{Bundle, Check, Code, Drive, Run, Test, Replay, Show, Migrate, Shrink}
+use Rattle.bp_words.specs.declared.commands.Task.TheVariants.{Bundle, Check, Code, Drive, Confirm, Run, Test, Replay, Show, Migrate, Shrink}
 use Rattle.bp_words.specs.declared.explain.ExplainWords.{ExplainWords}
 use Rattle.bp_words.specs.declared.run.RunWords.{RunWords}
 use Rattle.bp_words.specs.declared.show.ShowWords.{ShowWords}
@@ -69,6 +73,14 @@ test_options words = record {
   with_stuck = words.stuck;
 }
 
+-- how many contexts are allowed to steps: as many as they use, unless a number is given
+abbrev pub bound_for : Option ℕ → ContextBound
+bound_for None = AsUsed
+bound_for (Some n) = Kept
+
+abbrev pub bound_of : ConfirmWords → ContextBound
+bound_of words = bound_for words.contexts
+
 -- the name of the text whose statements are listed, where that is asked for
 abbrev pub listed_if : Bool → List ℕ → Option (List ℕ)
 listed_if true name = Some name
@@ -91,12 +103,19 @@ module _ (bytes : List ℕ → Option (List ℕ)) (has_colour on_terminal : Bool
       let command = tests words.start (test_options words) listed words.json in
       on_file bytes format command of_test words.program.now
 
+  -- the steps of a file are confirmed as these words ask for
+  abbrev pub confirm_job : ConfirmWords → Job
+  confirm_job words =
+      let format = fault_format words.json words.explain on_terminal in
+      let command = confirms words.start (bound_of words) in
+      on_files bytes format command of_confirm MAX_SCHEDULE Steps words.program.now words.steps.now
+
   -- the trace of a file is shown as these words ask for
   abbrev pub show_job : ShowWords → Job
   show_job words =
       let format = fault_format words.json words.explain on_terminal in
       let command = shows_as (view_options words has_colour) words.contexts words.at in
-      on_files bytes format command MAX_TRACE Trace words.program.now words.trace.now
+      on_files bytes format command of_report MAX_TRACE Trace words.program.now words.trace.now
 
   -- what a task asks for; standard input has these bytes
   abbrev pub job_of : (input : Option (List ℕ)) → Task → Job
@@ -110,16 +129,18 @@ module _ (bytes : List ℕ → Option (List ℕ)) (has_colour on_terminal : Bool
   job_of input (Drive words) =
       let format = fault_format false words.explain on_terminal in
       let command = drives words.start in
-      on_files bytes format command MAX_SCHEDULE Schedule words.program.now words.schedule.now
+      on_files
+      bytes format command of_report MAX_SCHEDULE Schedule words.program.now words.schedule.now
+  job_of input (Confirm words) = confirm_job words
   job_of input (Run words) = run_job words
   job_of input (Test words) = test_job words
   job_of input (Replay words) =
       let format = fault_format false words.explain on_terminal in
-      on_files bytes format replays MAX_TRACE Trace words.program.now words.trace.now
+      on_files bytes format replays of_report MAX_TRACE Trace words.program.now words.trace.now
   job_of input (Show words) = show_job words
   job_of input (Migrate words) =
       let format = fault_format false words.explain on_terminal in
-      on_files bytes format migrates MAX_TRACE Trace words.program.now words.trace.now
+      on_files bytes format migrates of_report MAX_TRACE Trace words.program.now words.trace.now
   job_of input (Shrink words) =
       let format = fault_format false words.explain on_terminal in
-      on_files bytes format shrinks MAX_TRACE Trace words.program.now words.trace.now
+      on_files bytes format shrinks of_report MAX_TRACE Trace words.program.now words.trace.now

@@ -2,17 +2,20 @@
 ghost use Rattle.std.specs.Io.Buffered.{writer_contents};
 ghost use Rattle.std.specs.Prelude.{◌≡◌, false};
 ghost use Rattle.bp_commands.specs.Jobs.{on_files, streams, IsRun};
-ghost use Rattle.btrun.specs.Tasks.{fault_format, format_of, job_of, listing_form, run_job, show_job, test_job, test_options, view_options};
+ghost use Rattle.btrun.specs.Tasks.{bound_of, confirm_job, fault_format, format_of, job_of, listing_form, run_job, show_job, test_job, test_options, view_options};
 
 use bp_commands::{
-    Check, Code, Drive, FaultFormat, Files, ListingForm, Migrate, PairCommand, Replay, RunEnd,
-    Show, ShowContexts, ShowState, Shrink, Test, Workers, run_by_workers, run_on_bundle,
+    Check, Code, Confirm, Drive, FaultFormat, Files, ListingForm, Migrate, PairCommand, Replay,
+    RunEnd, Show, ShowContexts, ShowState, Shrink, Test, Workers, run_by_workers, run_on_bundle,
     run_on_pair, run_on_program,
 };
+use bp_confirm::ContextBound;
 use bp_run::{Open, Spread};
 use bp_test::{Progress, TestOptions};
 use bp_view::{ViewFormat, ViewOptions};
-use bp_words::{CodeWords, ExplainWords, RunWords, ShowWords, Task, TestWords, TraceWords};
+use bp_words::{
+    CodeWords, ConfirmWords, ExplainWords, RunWords, ShowWords, Task, TestWords, TraceWords,
+};
 use std::alloc::Global;
 use std::io::{BufWriter, Read, Write};
 use std::sync::Wait;
@@ -122,6 +125,40 @@ fn test_as_asked<F: Files, T: Threads + Sync, P: Progress, W: Write + Drop, E: W
     )
 }
 
+/// How many contexts are allowed to steps: as many as they use, unless a number is given.
+fn bound_of(words: &ConfirmWords<'_>) -> ContextBound
+    ensures { result ≡ bound_of words.now }
+{
+    match words.contexts {
+        Some(_) => ContextBound::Kept,
+        None => ContextBound::AsUsed,
+    }
+}
+
+/// Confirms the steps of a file by the program of another one.
+fn confirm_as_asked<F: Files, W: Write + Drop, E: Write>(
+    io: Io<'_, F>,
+    words: &ConfirmWords<'_>,
+    out: BufWriter<W>,
+    errors: &mut E,
+) -> (RunEnd, W)
+    ensures { let old = writer_contents W.contents out in
+        let written = streams old (W.contents result.1)
+        (E.contents errors.old) (E.contents errors.new) in
+        let job = confirm_job (F.bytes io.entry.files.now)
+        io.entry.has_colour io.entry.on_terminal words.now in
+        IsRun job written result.0 }
+{
+    let Io { alloc, files, .. } = io;
+    let format = fault_format(words.json, words.explain, io.on_terminal);
+    let confirm = Confirm {
+        start: &words.start,
+        bound: bound_of(words),
+    };
+    let (path, steps) = (words.program, words.steps);
+    run_on_pair(alloc, files, &confirm, path, steps, format, out, errors)
+}
+
 /// How the code of a program is listed. JSON has the source of each instruction too.
 fn listing_form(words: &CodeWords<'_>) -> ListingForm
     ensures { result ≡ listing_form words.now }
@@ -148,7 +185,8 @@ fn on_trace<C: PairCommand, F: Files, W: Write + Drop, E: Write>(
         (E.contents errors.old) (E.contents errors.new) in
         let format = fault_format false words.now.explain io.entry.on_terminal in
         let job = on_files (F.bytes io.entry.files.now) format (C.command command.now)
-        (C.limit command.now) (C.beside command.now) words.now.program.now words.now.trace.now in
+        C.Answer.ending (C.limit command.now) (C.beside command.now)
+        words.now.program.now words.now.trace.now in
         IsRun job written result.0 }
 {
     let (path, trace) = (words.program, words.trace);
@@ -290,6 +328,7 @@ pub fn do_task<
                 errors,
             )
         }
+        Task::Confirm(words) => confirm_as_asked(io, words, out, errors),
         Task::Run(words) => run_as_asked(io, threads, words, out, errors),
         Task::Test(words) => test_as_asked(io, threads, progress, words, out, errors),
         Task::Show(words) => show_as_asked(io, words, out, errors),

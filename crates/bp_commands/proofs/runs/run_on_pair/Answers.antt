@@ -1,6 +1,5 @@
 use Rattle.std.proofs.Common.{ℕ, List, Option}
 use Rattle.std.specs.Io.Buffered.{writer_contents}
-use Rattle.bp_commands.specs.Ends.{of_report}
 use Rattle.bp_commands.specs.Explanations.{ExplainsPair, AreReadOr}
 use Rattle.bp_commands.specs.Files.{rest_of, pair_of_files}
 use Rattle.bp_commands.specs.Given.{Pair}
@@ -31,7 +30,7 @@ returns g c =
       final = c.flushed-done.result.0;
       flushed = c.flushed-done.ensures;
       concluded =
-          concluded_read inputs (λ (x : Pair). IsObjectIn (IsFileOfPair kind path input_path) x.text) (no_byte_unread_pair _ _ _ _ _) given (ExplainsPair kind path input_path)
-          (pair_unread kind path input_path _ _ _ _ _) of_report c.args.format _ _ _ _ _ _ _
+          concluded_read inputs (λ (x : Pair). IsObjectIn (IsFileOfPair kind path input_path) x) (no_byte_unread_pair _ _ _ _ _) given (ExplainsPair kind path input_path)
+          (pair_unread kind path input_path _ _ _ _ _) g.C.Answer.Ended.ending c.args.format _ _ _ _ _ _ _
           holds c.flushed-done.ensures (rw (c.beside.ensures, c.deref.ensures.value, c.deref-2.ensures.value) at c.conclude-end.ensures);
     }

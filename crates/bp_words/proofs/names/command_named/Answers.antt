@@ -1,7 +1,7 @@
 use Rattle.std.proofs.Common.{◌≡◌, ◌∙◌, ◌<◌, ℕ, List, true, false, ap, arith, below_more, bytes_eq, get_or, refl, rules, sym}
 use Rattle.std.proofs.lemmas.Slice.Eq.{bytes_eq-Decides}
 use Rattle.bp_words.specs.declared.names.Named.{Named}
-use Rattle.bp_words.specs.declared.names.Named.TheVariants.{Check, Code, Drive, Run, Test, Replay, Show, Migrate, Shrink}
+use Rattle.bp_words.specs.declared.names.Named.TheVariants.{Check, Code, Drive, Confirm, Run, Test, Replay, Show, Migrate, Shrink}
 use Rattle.bp_words.specs.declared.names.TheConstants.{NAMED}
 use Rattle.bp_words.specs.Names.{command_name}
 use Rattle.bp_words.proofs.names.command_named.Goals as goal
@@ -10,17 +10,19 @@ abbrev place : Named → ℕ
 place Check = 0
 place Code = 1
 place Drive = 2
-place Run = 3
-place Test = 4
-place Replay = 5
-place Show = 6
-place Migrate = 7
-place Shrink = 8
+place Confirm = 3
+place Run = 4
+place Test = 5
+place Replay = 6
+place Show = 7
+place Migrate = 8
+place Shrink = 9
 
 at_place : (n : Named) → get_or NAMED (place n) Check ≡ n
 at_place Check = refl
 at_place Code = refl
 at_place Drive = refl
+at_place Confirm = refl
 at_place Run = refl
 at_place Test = refl
 at_place Replay = refl
@@ -28,10 +30,11 @@ at_place Show = refl
 at_place Migrate = refl
 at_place Shrink = refl
 
-within : (n : Named) → place n < 9
+within : (n : Named) → place n < 10
 within Check = omega arith
 within Code = omega arith
 within Drive = omega arith
+within Confirm = omega arith
 within Run = omega arith
 within Test = omega arith
 within Replay = omega arith

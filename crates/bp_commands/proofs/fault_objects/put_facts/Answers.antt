@@ -1,4 +1,4 @@
-use Rattle.bp_commands.proofs.fault_objects.put_row_object.Goals as goal
+use Rattle.bp_commands.proofs.fault_objects.put_facts.Goals as goal
 
 pub returns : goal.returns
 returns g c =

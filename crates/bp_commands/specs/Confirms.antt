@@ -1,0 +1,75 @@
+-- The command `confirm`.
+use Rattle.std.specs.Prelude.{if◌then◌else◌, ◌≡◌, ◌⊎◌, ◌++◌, ℕ, List, [], None, codes}
+use Rattle.bp_tree.specs.Ast.{Program}
+use Rattle.bp_code.specs.LawfulTexts.{IsLawfulText}
+use Rattle.bp_machine.specs.declared.calls.Call.{Call}
+use Rattle.bp_machine.specs.Reports.{IsReport}
+use Rattle.bp_machine.specs.Setups.{SetupOf, setup_fault}
+use Rattle.bp_machine.specs.Starts.{StartOf, setup_from}
+use Rattle.bp_trace.specs.TraceText.{trace_text}
+use Rattle.bp_confirm.specs.declared.confirming.ConfirmFault.{ConfirmFault}
+use Rattle.bp_confirm.specs.declared.context_bounds.ContextBound.{ContextBound}
+use Rattle.bp_confirm.specs.ConfirmedTexts.{IsConfirmedText, IsStepsRefusal}
+use Rattle.bp_commands.specs.declared.confirming.Confirmed.{Confirmed}
+use Rattle.bp_commands.specs.declared.faults.Fault.{Fault}
+use Rattle.bp_commands.specs.Commands.{Command}
+use Rattle.bp_commands.specs.Drives.{IsSetupRefused}
+use Rattle.bp_commands.specs.Ends.{report_failed, Ending}
+use Rattle.bp_commands.specs.Faults.{fault_of_steps}
+use Rattle.bp_commands.specs.Given.{Pair}
+use Rattle.bp_commands.specs.Listings.{HasNoCode}
+
+-- what a user reads where the last step is no failed assertion
+abbrev pub not_failed_line : List ℕ
+not_failed_line =
+    codes "the steps are a run of the program; "
+    ++ codes "no assertion fails at the last one\n"
+
+-- an answer has a line unless an assertion failed
+abbrev pub of_confirm : Ending Confirmed
+of_confirm = record {
+  failed = λ x. report_failed x.report;
+  summary = λ x. if report_failed x.report then [] else not_failed_line;
+}
+
+-- Reported steps of the program of a text are confirmed from this start, within this bound of
+-- contexts.
+module _ (start : StartOf) (bound : ContextBound) (given : Pair) where
+  -- a history takes the steps, and its trace is written
+  pub record IsOfSteps (written : List ℕ) : Type 0 where
+    pub program : Program
+    pub lawful : IsLawfulText given.text program
+    pub fine : setup_fault program (setup_from start None program) ≡ None
+    pub setup : SetupOf
+    pub history : List Call
+    pub confirmed :
+        IsConfirmedText program (setup_from start None program) given.input given.text bound setup
+        history
+    pub is : written ≡ trace_text setup history
+
+  -- and this is its report
+  pub record IsStepsReport (written : List ℕ) (answer : Confirmed) : Type 0 where
+    pub trace : IsOfSteps written
+    pub reported : IsReport trace.setup trace.history answer.report
+
+  -- the program takes the setup, and no history is written that takes the steps
+  pub record AreStepsRefused (f : Fault) : Type 0 where
+    pub program : Program
+    pub lawful : IsLawfulText given.text program
+    pub fine : setup_fault program (setup_from start None program) ≡ None
+    pub cause : ConfirmFault
+    pub why :
+        IsStepsRefusal program (setup_from start None program) given.input given.text bound cause
+    pub is : f ≡ fault_of_steps cause
+
+  abbrev pub IsConfirmRefused : Fault → Type 0
+  IsConfirmRefused f = HasNoCode given.text f ⊎ (IsSetupRefused start given f ⊎ AreStepsRefused f)
+
+-- it writes the trace of the history that takes the steps
+abbrev pub confirms : StartOf → ContextBound → Command Pair Confirmed
+confirms start bound = record {
+  Writes = IsOfSteps start bound;
+  Reports = IsStepsReport start bound;
+  Refuses = IsConfirmRefused start bound;
+  Spoils = λ _ _ _. ⊥;
+}

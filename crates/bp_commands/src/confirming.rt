@@ -1,0 +1,88 @@
+//! The command `confirm`.
+ghost use Rattle.bp_commands.specs.Confirms.{of_confirm};
+
+use crate::commands::PairCommand;
+use crate::ends::Ended;
+use crate::explanations::Beside;
+use crate::faults::Fault;
+use crate::showing::program_of;
+use bp_confirm::{ContextBound, confirm};
+use bp_machine::{Report, Start};
+use bp_text::{WriteFault, put};
+use bp_trace::limits::MAX_SCHEDULE;
+use std::alloc::Global;
+use std::io::Write;
+
+/// `confirm`: takes the steps that a model checker reports, and writes the trace.
+#[derive(Clone, Copy)]
+pub struct Confirm<'a> {
+    /// What the steps start from.
+    pub start: &'a Start,
+    /// How many contexts are allowed to them.
+    pub bound: ContextBound,
+}
+
+/// The report of the history that takes reported steps.
+#[derive(Clone, Copy, Debug, Drop, PartialEq, Eq)]
+pub struct Confirmed {
+    pub report: Report,
+}
+
+/// What a user reads where the last step is no failed assertion.
+const NOT_FAILED: &[u8] = b"the steps are a run of the program; \
+    no assertion fails at the last one\n";
+
+impl Ended for Confirmed {
+    ghost ending = { of_confirm };
+
+    fn has_failed(&self) -> bool {
+        self.report.has_failed()
+    }
+
+    fn summarize<E: Write>(&self, errors: &mut E) -> Result<(), WriteFault> {
+        if self.report.has_failed() {
+            return Ok(());
+        }
+        put(errors, NOT_FAILED)
+    }
+}
+
+impl PairCommand for Confirm<'_> {
+    ghost use Rattle.bp_commands.specs.declared.explanations.Beside.{Beside};
+    ghost use Rattle.bp_trace.specs.declared.limits.TheConstants.{MAX_SCHEDULE};
+    ghost use Rattle.bp_commands.specs.Confirms.{confirms};
+
+    type Answer = Confirmed;
+
+    ghost command = { λ c. confirms c.start.now c.bound };
+
+    ghost limit = { λ _. MAX_SCHEDULE };
+
+    ghost beside = { λ _. Beside.Steps };
+
+    fn limit(&self) -> usize {
+        MAX_SCHEDULE
+    }
+
+    fn apply<W: Write>(
+        &self,
+        alloc: Global,
+        text: &[u8],
+        steps: &[u8],
+        out: &mut W,
+    ) -> Result<Confirmed, Fault> {
+        let (checked, code) = program_of(alloc, text)?;
+        let setup = self.start.setup(alloc, &code, None)?;
+        let bound = self.bound;
+        let report = confirm(alloc, text, &checked, &code, &setup, bound, steps, out)?;
+        Ok(Confirmed { report })
+    }
+
+    fn beside(&self) -> Beside {
+        Beside::Steps
+    }
+
+    fn start(&self) -> Option<&Start> {
+        Some(self.start)
+    }
+}

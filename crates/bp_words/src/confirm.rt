@@ -1,0 +1,108 @@
+//! The words of `confirm`.
+ghost use Rattle.std.specs.Prelude.{◌≡◌, false, IfOk};
+ghost use Rattle.clap.specs.Words.{app_of, found_of, rows_of};
+ghost use Rattle.clap.specs.declared.builder.command.Command.TheViews.{out-Command};
+ghost use Rattle.bp_words.specs.Commands.{confirm_app};
+ghost use Rattle.bp_words.specs.ConfirmWords.{IsConfirmOf};
+
+use crate::arguments::{Row, Takes, with_rows};
+use crate::explain::{ExplainWords, explain_words};
+use crate::files::file_command;
+use crate::values::{entries, given_number, init, is_given, number};
+use bp_machine::Start;
+use bp_machine::limits::{DEFAULT_CALLS, DEFAULT_CONTEXTS};
+use clap::{ArgMatches, Command};
+use std::alloc::{AllocError, Global};
+
+/// A program and reported steps, and what they start from.
+#[derive(Drop)]
+pub struct ConfirmWords<'a> {
+    /// The path of the program's text.
+    pub program: &'a str,
+    /// The path of the steps.
+    pub steps: &'a str,
+    /// Whether `--json` was given: a fault is then a JSON object.
+    pub json: bool,
+    /// When a fault is explained.
+    pub explain: ExplainWords,
+    /// The number of contexts, if one is given.
+    pub contexts: Option<u32>,
+    pub start: Start,
+}
+
+const ABOUT: &str = "Confirm the steps that a model checker reports and print the trace of the run";
+
+/// What `confirm --help` says after the arguments.
+const NOTES: &str = "\
+    A line of the steps is 'THREAD PLACE', and then any number of ' NAME=BIT'. The place is where\n\
+    the thread stands before the step: 'LINE', 'LINE:COLUMN', or '-' for a procedure's end. The\n\
+    values are those that the thread sees after the step. Choice bits are left out.\n\
+    The first fault is one line on standard error.\n\n\
+    Example:\n  btrun confirm race.bp steps.txt writer reader --init 00\n\n\
+    Exit status:\n  0  the steps are a run, and no assertion failed\n  \
+    1  an assertion failed at the last step\n  \
+    2  an input was refused, or the words were\n  3  memory, a device or the output failed";
+
+/// The arguments, options and help of the command.
+pub fn confirm_command<'a>(alloc: Global) -> Result<Command<'a>, AllocError>
+    ensures { IfOk result
+        (λ c. (app_of c ≡ confirm_app) × ((out-Command c).has_globals ≡ false)) }
+{
+    let rows = [
+        Row {
+            name: "STEPS",
+            takes: Takes::One,
+            help: "The file of the steps",
+        },
+        Row {
+            name: "ENTRY",
+            takes: Takes::Any,
+            help: "The entry procedure of each thread, in order [default: main]",
+        },
+        Row {
+            name: "contexts",
+            takes: Takes::Number,
+            help: "Allow N contexts [default: as many as the steps use]",
+        },
+        Row {
+            name: "calls",
+            takes: Takes::Number,
+            help: "Allow each thread N calls [default: 1000]",
+        },
+        Row {
+            name: "init",
+            takes: Takes::Text("BITS"),
+            help: "Set the initial bits of the globals, each 0 or 1 [default: all 0]",
+        },
+        Row {
+            name: "json",
+            takes: Takes::Nothing,
+            help: "Print a fault as one JSON object, for programs",
+        },
+    ];
+    let command = file_command(alloc, "confirm", ABOUT, NOTES)?;
+    with_rows(alloc, command, &rows)
+}
+
+/// What the words after `confirm` ask for.
+pub fn confirm_words<'a>(
+    alloc: Global,
+    words: &ArgMatches<'a>,
+) -> Result<ConfirmWords<'a>, AllocError>
+    ensures { IfOk result (IsConfirmOf (rows_of (found_of words.now))) }
+{
+    // FILE and STEPS are required, so they are there.
+    Ok(ConfirmWords {
+        program: words.get_str("FILE").unwrap_or(""),
+        steps: words.get_str("STEPS").unwrap_or(""),
+        json: is_given(words, "json"),
+        explain: explain_words(words),
+        contexts: given_number(words, "contexts"),
+        start: Start {
+            entries: entries(alloc, words)?,
+            init: init(alloc, words)?,
+            contexts: number(words, "contexts", DEFAULT_CONTEXTS),
+            calls: number(words, "calls", DEFAULT_CALLS),
+        },
+    })
+}
