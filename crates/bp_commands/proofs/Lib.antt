@@ -1,10 +1,10 @@
 mod Answered
+mod ConcludedReads
 mod ConfirmedSteps
 mod Driven
 mod ExplainedRuns
 mod FirstSeparator
 mod Migrated
-mod ObjectsOfReads
 mod RunAnswers
 mod ShrunkTraces
 mod TestAnswers

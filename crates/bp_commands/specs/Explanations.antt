@@ -83,9 +83,9 @@ IsTold asked IsSaid done e old new = (new ≡ old) × (e ≡ nothing_explained)
 abbrev pub AreReadOr : {X R : Type 0} → Inputs X → X → Result R Fault → Type 0
 AreReadOr inputs given done = inputs.Holds given ⊎ IsErrAnd done inputs.Unread
 
--- What is said of a fault of the inputs that were read; no lines explain one of others.
+-- What is said of a fault: it is of the inputs that were read, or is why they were not.
 module _ {X : Type 0} (inputs : Inputs X) (Explains : X → Fault → List ℕ → Type 0) where
   pub record IsSaidOfRead (f : Fault) (e : Explained) (said : List ℕ) : Type 0 where
     pub given : X
-    pub read : inputs.Holds given ⊎ ((lines : List ℕ) → Explains given f lines → ⊥)
+    pub read : inputs.Holds given ⊎ inputs.Unread f
     pub is : IsSaid (Explains given f) e said

@@ -4,8 +4,6 @@ use Rattle.bp_text.specs.Writing.{Writes}
 use Rattle.bp_text.specs.declared.writing.WriteFault.{WriteFault}
 use Rattle.bp_commands.specs.declared.explanations.Beside.{Beside}
 use Rattle.bp_commands.specs.declared.explanations.Beside.TheVariants as beside
-use Rattle.bp_commands.specs.declared.fault_table.Detail.{Detail}
-use Rattle.bp_commands.specs.declared.fault_table.Detail.TheVariants.{Byte, Step}
 use Rattle.bp_commands.specs.declared.fault_formats.FaultFormat.{FaultFormat}
 use Rattle.bp_commands.specs.declared.fault_formats.FaultFormat.TheVariants as format
 use Rattle.bp_commands.specs.declared.faults.Fault.{Fault}
@@ -83,25 +81,15 @@ on_pair kind name input_name = record {
 abbrev pub on_nothing : {X : Type 0} → Telling X
 on_nothing = record { Explains = λ _ _ _. ⊥; IsObject = λ _ _ _. ⊥ }
 
--- what the fault names is in the inputs: a byte of the program text, or a step
-abbrev pub is_in_inputs : Detail → Bool
-is_in_inputs (Byte at) = true
-is_in_inputs (Step r) = true
-is_in_inputs d = false
-
--- the fault names nothing that is in the inputs
-abbrev pub NamesNoByte : Fault → Type 0
-NamesNoByte f = let r = fault_row f in is_in_inputs r.detail ≡ false
-
--- the object of a fault of the inputs that were read: of any, where it names nothing in them
+-- the object of a fault of the inputs that were read, or of why they were not
 module _ {X : Type 0} (inputs : Inputs X) (IsObject : X → Fault → List ℕ → Type 0) where
   pub record IsObjectRead (f : Fault) (object : List ℕ) : Type 0 where
     pub given : X
-    pub read : inputs.Holds given ⊎ NamesNoByte f
+    pub read : inputs.Holds given ⊎ inputs.Unread f
     pub is : IsObject given f object
 
--- A run ended so: its summary was written, or its refusal in this format, by an object in JSON. Then
--- what is said of the refusal was, where the format explains it.
+-- A run ended so: its summary was written, or its refusal in this format, by an object in JSON.
+-- Then what is said of the refusal was, where the format explains it.
 abbrev pub IsConcluded
     : {R : Type 0} → Ending R → FaultFormat → (Fault → List ℕ → Type 0)
     → (Fault → Explained → List ℕ → Type 0) → Result R Fault → RunEnd

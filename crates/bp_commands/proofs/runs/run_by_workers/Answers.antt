@@ -4,8 +4,7 @@ use Rattle.bp_commands.specs.Explanations.{ExplainsText, AreReadOr}
 use Rattle.bp_commands.specs.Files.{rest_of}
 use Rattle.bp_commands.specs.Given.{text_alone, text_alone_of}
 use Rattle.bp_commands.specs.Tellings.{IsFileOfText, IsObjectIn}
-use Rattle.bp_commands.proofs.ExplainedRuns.{text_unread}
-use Rattle.bp_commands.proofs.ObjectsOfReads.{concluded_read, no_byte_unread}
+use Rattle.bp_commands.proofs.ConcludedReads.{concluded_read}
 use Rattle.bp_commands.proofs.runs.run_by_workers.Goals as goal
 
 pub returns : goal.returns
@@ -24,6 +23,6 @@ returns g c =
       final = c.flushed-done.result.0;
       flushed = c.flushed-done.ensures;
       concluded =
-          concluded_read inputs (λ t. IsObjectIn (IsFileOfText path) (text_alone_of t)) (no_byte_unread _ _) text (ExplainsText path) (text_unread path _ _) of_run c.args.format _ _ _ _ _ _ _
+          concluded_read inputs text (λ t. IsObjectIn (IsFileOfText path) (text_alone_of t)) (ExplainsText path) of_run c.args.format _ _ _ _ _ _ _
           holds c.flushed-done.ensures (rw c.deref.ensures.value at c.conclude-end.ensures);
     }

@@ -4,8 +4,7 @@ use Rattle.bp_commands.specs.Explanations.{ExplainsPair, AreReadOr}
 use Rattle.bp_commands.specs.Files.{rest_of, pair_of_files}
 use Rattle.bp_commands.specs.Given.{Pair}
 use Rattle.bp_commands.specs.Tellings.{IsFileOfPair, IsObjectIn}
-use Rattle.bp_commands.proofs.ExplainedRuns.{pair_unread}
-use Rattle.bp_commands.proofs.ObjectsOfReads.{concluded_read, no_byte_unread_pair}
+use Rattle.bp_commands.proofs.ConcludedReads.{concluded_read}
 use Rattle.bp_commands.proofs.runs.run_on_pair.Goals as goal
 
 pub returns : goal.returns
@@ -30,7 +29,6 @@ returns g c =
       final = c.flushed-done.result.0;
       flushed = c.flushed-done.ensures;
       concluded =
-          concluded_read inputs (λ (x : Pair). IsObjectIn (IsFileOfPair kind path input_path) x) (no_byte_unread_pair _ _ _ _ _) given (ExplainsPair kind path input_path)
-          (pair_unread kind path input_path _ _ _ _ _) g.C.Answer.Ended.ending c.args.format _ _ _ _ _ _ _
+          concluded_read inputs given (λ (x : Pair). IsObjectIn (IsFileOfPair kind path input_path) x) (ExplainsPair kind path input_path) g.C.Answer.Ended.ending c.args.format _ _ _ _ _ _ _
           holds c.flushed-done.ensures (rw (c.beside.ensures, c.deref.ensures.value, c.deref-2.ensures.value) at c.conclude-end.ensures);
     }

@@ -1,5 +1,5 @@
 use Rattle.bp_commands.specs.Tellings.{IsObjectIn, IsReported}
-use Rattle.bp_commands.proofs.ObjectsOfReads.{with_explained}
+use Rattle.bp_commands.proofs.ConcludedReads.{with_explained}
 use Rattle.bp_commands.proofs.tellings.conclude.Goals as goal
 
 pub returns : goal.returns
