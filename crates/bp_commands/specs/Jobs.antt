@@ -42,8 +42,8 @@ streams old new errors_old errors_new = record {
   errors_after = errors_new;
 }
 
--- The job was done: its command answered of the inputs, the output took what it wrote, or not all of
--- its end, and standard error has its summary or its refusal, which names the inputs that were read.
+-- The job was done: its command answered of the inputs; the output took what it wrote, or not all
+-- of its end; and standard error has its summary, or its refusal, which names the inputs read.
 pub record IsRun (job : Job) (s : Streams) (end : RunEnd) : Type 0 where
   pub left : job.Left
   pub held : Option (List ℕ)

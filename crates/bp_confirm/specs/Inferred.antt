@@ -18,9 +18,9 @@ bit_towards None taken other = false
 bit_towards (Some p) taken other =
     p (start_of_block taken) && not (p (start_of_block other))
 
--- The bit of the next statement, where the thread's next step is at this place, and steps follow or
--- not. Where `?` decides it, an assumption is 1, an assertion is 1 unless it is the last step, and a
--- branch or a loop goes where the next step is. All other bits are 0.
+-- The bit of the next statement, where the thread's next step is at this place, and steps follow
+-- or not. Where `?` decides it, an assumption is 1, an assertion is 1 unless it is the last step,
+-- and a branch or a loop goes where the next step is. All other bits are 0.
 abbrev pub bit_of_block : Block → Option Place → Bool → Bool
 bit_of_block (Then label at (Assumes Choose) r) next follow = true
 bit_of_block (Then label at (Asserts Choose) r) next follow = follow

@@ -48,8 +48,8 @@ fn undeclared_value(checked: &Checked, values: &[SeenValue]) -> Option<usize>
     None
 }
 
-/// Refuses the first line of a thread that the setup does not have, or of a variable that the program
-/// does not declare.
+/// Refuses the first line of a thread that the setup does not have, or of a variable that the
+/// program does not declare.
 pub(crate) fn check_lines(
     checked: &Checked,
     setup: &Setup,

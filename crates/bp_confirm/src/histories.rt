@@ -24,9 +24,9 @@ pub(crate) struct Confirmed {
     pub(crate) report: Report,
 }
 
-/// Confirms the steps of these lines in the program of a text: the history that takes them, one call
-/// for each, with the choice bits that are inferred; or the first line whose step no history takes
-/// after those before it.
+/// Confirms the steps of these lines in the program of a text: the history that takes them, one
+/// call for each, with the choice bits that are inferred; or the first line whose step no history
+/// takes after those before it.
 pub(crate) fn confirm_lines(
     alloc: Global,
     text: &[u8],

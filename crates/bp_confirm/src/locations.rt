@@ -4,8 +4,8 @@ ghost use Rattle.bp_confirm.specs.Places.{is_at};
 
 use bp_text::Position;
 
-/// Where a thread stands, as a step names it. Lines and columns are counted from 1, and a column is a
-/// byte.
+/// Where a thread stands, as a step names it. Lines and columns are counted from 1, and a column is
+/// a byte.
 #[derive(Clone, Copy, Debug, PartialEq, Eq)]
 pub enum Location {
     /// The end of a procedure.

@@ -18,9 +18,9 @@ pub fn views_are_single()
 
 /// The changes that a view shows of a call, put into the values before it, give those after it: of
 /// all globals, and of the frames of its thread. A frame at the top that stays has the changes, and
-/// those below it stay as they are. One that the call entered has the formals that the changes name,
-/// and 0 for each declared local; one that it left is gone. Other threads keep their stacks. The
-/// values of a history begin with those of its setup.
+/// those below it stay as they are. One that the call entered has the formals that the changes
+/// name, and 0 for each declared local; one that it left is gone. Other threads keep their stacks.
+/// The values of a history begin with those of its setup.
 pub fn changes_replay()
     ensures { ChangesReplay }
 {}

@@ -78,7 +78,10 @@ row_rule row = rule_taking row.takes row.name.now
 abbrev pub file_app : Text → App
 file_app name =
     with_rules (new_app name) (
-    required_rule (codes "FILE") ∷ flag_rule (codes "explain") ∷ flag_rule (codes "no-explain") ∷ [])
+    required_rule (codes "FILE")
+    ∷ flag_rule (codes "explain")
+    ∷ flag_rule (codes "no-explain")
+    ∷ [])
 
 -- `check FILE [--json] [--explain] [--no-explain]`
 abbrev pub check_app : App
@@ -87,7 +90,10 @@ check_app = with_rules (file_app (codes "check")) (flag_rule (codes "json") ∷ 
 -- `code FILE [--source] [--json] [--explain] [--no-explain]`
 abbrev pub code_app : App
 code_app =
-    with_rules (file_app (codes "code")) (flag_rule (codes "source") ∷ flag_rule (codes "json") ∷ [])
+    with_rules (file_app (codes "code")) (
+    flag_rule (codes "source")
+    ∷ flag_rule (codes "json")
+    ∷ [])
 
 -- `drive FILE SCHEDULE [ENTRY].. [--contexts N] [--calls N] [--init BITS] [--explain]
 -- [--no-explain]`
