@@ -24,3 +24,4 @@ pub mod OnePosition
 pub mod ColumnsTell
 pub mod FullBlocks
 pub mod OwnLinesTaken
+pub mod OwnStepsMade

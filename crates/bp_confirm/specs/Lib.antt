@@ -18,3 +18,4 @@ pub mod ConfirmedTexts
 pub mod ContextBounds
 pub mod Reading
 pub mod OwnLines
+pub mod OwnSteps

@@ -1,6 +1,7 @@
 -- The lines of a run's own steps, each with its column.
-use Rattle.std.specs.Prelude.{◌≡◌, ℕ, List, [], ◌∷◌, Option, None, Some}
+use Rattle.std.specs.Prelude.{◌≡◌, ℕ, List, [], ◌∷◌, Option, None, Some, option_map}
 use Rattle.bp_tree.specs.Ast.{Program}
+use Rattle.bp_text.specs.declared.positions.Position.{Position}
 use Rattle.bp_text.specs.Positions.{position_at}
 use Rattle.bp_code.specs.Configurations.{Frame, Configuration}
 use Rattle.bp_code.specs.Moves.{Moves}
@@ -11,10 +12,14 @@ use Rattle.bp_confirm.specs.declared.locations.Location.{Location}
 use Rattle.bp_confirm.specs.declared.locations.Location.TheVariants.{End, Column}
 use Rattle.bp_confirm.specs.StepLines.{StepLineOf}
 
--- the line and column of the statement that begins at this offset of a text, or a procedure's end
+-- the line and column of the statement that begins there, or a procedure's end
+abbrev pub location_at : Option Position → Location
+location_at None = End
+location_at (Some p) = Column p.line p.column
+
+-- that of the statement that begins at this offset of a text
 abbrev pub exact_location : List ℕ → Option ℕ → Location
-exact_location text None = End
-exact_location text (Some at) = Column (position_at text at).line (position_at text at).column
+exact_location text start = location_at (option_map (position_at text) start)
 
 -- where the topmost frame goes on
 abbrev pub next_start : List Frame → Option ℕ

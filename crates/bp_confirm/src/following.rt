@@ -21,12 +21,13 @@ ghost use Rattle.bp_confirm.specs.Steps.{StepOf};
 use crate::choices::inferred_bit;
 use crate::faults::{StepFault, StepReason, StepRefusal};
 use crate::locations::Location;
+use crate::noted_steps::is_granted;
 use crate::spots::{Spot, is_there};
 use crate::stands::stand_in;
 use crate::step_lines::StepLine;
 use crate::values::first_unseen;
 use bp_check::Checked;
-use bp_machine::{AskFault, Call, Reply, Session, Top};
+use bp_machine::{AskFault, Call, Session, Top};
 use std::alloc::Global;
 
 /// What the later steps tell of a step: the location of its thread before the thread's next step,
@@ -93,13 +94,6 @@ fn bit_at(session: &Session, spots: &[Spot], top: Top, next: Next) -> Option<boo
         return None;
     };
     inferred_bit(instr, top.store, spots, next.location, next.follows)
-}
-
-/// Whether a call with this reply made a step.
-fn is_granted(reply: Reply) -> bool
-    ensures { result ≡ is_granted reply }
-{
-    matches!(reply, Reply::Stepped | Reply::Failed)
 }
 
 /// Makes the call of a thread that is there.

@@ -1,5 +1,5 @@
-//! Confirming the steps that a model checker reports: the history that takes them, or the first step
-//! that none takes.
+//! Confirming the steps that a model checker reports: the history that takes them, or the first
+//! step that none takes.
 #![tactic(auto)]
 
 mod choices;
@@ -14,6 +14,8 @@ mod laws;
 mod line_values;
 mod locations;
 mod next_locations;
+mod noted_steps;
+mod own_step_texts;
 mod spots;
 mod stands;
 mod step_lines;
@@ -23,9 +25,11 @@ mod values;
 pub use confirming::{ConfirmFault, confirm};
 pub use context_bounds::ContextBound;
 pub use faults::{StepReason, StepRefusal};
-pub use laws::{refused_steps_are_not_taken, texts_are_read_in_one_way};
+pub use laws::{refused_steps_are_not_taken, steps_are_of_the_run, texts_are_read_in_one_way};
 pub use line_values::value_on_line;
 pub use locations::Location;
+pub use noted_steps::{OwnStep, OwnSteps, own_steps};
+pub use own_step_texts::put_steps;
 pub use stands::Stand;
 pub use step_lines::{SeenValue, StepLine};
 pub use step_texts::{StepsFault, read_steps};

@@ -51,6 +51,16 @@ pub(crate) fn spots_of(
     Ok(spots)
 }
 
+/// The spot of an instruction.
+pub(crate) fn spot_of(spots: &[Spot], number: u32) -> Option<Spot>
+    ensures { result ≡ slice_get spots.now number }
+{
+    match spots.get(number as usize) {
+        Some(spot) => Some(*spot),
+        None => None,
+    }
+}
+
 /// Whether the statement of an instruction is at a location.
 pub(crate) fn is_there(spots: &[Spot], location: Location, number: u32) -> bool
     ensures { result ≡ is_there spots.now location number }

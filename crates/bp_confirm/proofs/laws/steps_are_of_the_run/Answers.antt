@@ -1,0 +1,8 @@
+use Rattle.bp_confirm.proofs.OwnStepsMade.{steps_of_the_run, text_of_lines}
+use Rattle.bp_confirm.proofs.laws.steps_are_of_the_run.Goals as goal
+
+pub returns-clause-run : goal.returns-clause-run
+returns-clause-run c = steps_of_the_run
+
+pub returns-clause-text : goal.returns-clause-text
+returns-clause-text c = text_of_lines

@@ -1,0 +1,136 @@
+//! The steps that the history of a trace makes, each with its column.
+ghost use Rattle.std.specs.Prelude.{◌≡◌, ◌++◌, ◌∷◌, [], List, ℕ, option_map, MatchResult, OnOk};
+ghost use Rattle.bp_tree.specs.Ast.{Program};
+ghost use Rattle.bp_text.specs.Positions.{position_at};
+ghost use Rattle.bp_code.specs.StandsFor.{StandsFor};
+ghost use Rattle.bp_machine.specs.declared.calls.Call.{Call as Answered};
+ghost use Rattle.bp_machine.specs.Answers.{stack_of};
+ghost use Rattle.bp_machine.specs.Histories.{configuration_after};
+ghost use Rattle.bp_machine.specs.Replies.{is_granted};
+ghost use Rattle.bp_machine.specs.Sessions.{Stands};
+ghost use Rattle.bp_trace.specs.Replays.{IsReplayRefusal};
+ghost use Rattle.bp_confirm.specs.OwnLines.{next_start};
+ghost use Rattle.bp_confirm.specs.OwnSteps.{AreStepsOfTrace};
+ghost use Rattle.bp_confirm.specs.Spots.{spots_of};
+
+use crate::spots::{Spot, spot_of, spots_of};
+use bp_check::Checked;
+use bp_code::Code;
+use bp_machine::{AskFault, Call, Reply, Report, Session, Setup};
+use bp_text::Position;
+use bp_trace::limits::MAX_TRACE;
+use bp_trace::{ReplayFault, Watcher, replay_watched};
+use std::alloc::{AllocError, Global};
+
+/// A step: its thread, and where the thread stands before it.
+#[derive(Clone, Copy, Debug, PartialEq, Eq)]
+pub struct OwnStep {
+    /// The thread, from 0.
+    pub thread: u32,
+    /// Where its next statement begins; none at a procedure's end.
+    pub position: Option<Position>,
+}
+
+/// The steps of a history, and its report.
+#[derive(Drop)]
+pub struct OwnSteps {
+    /// A step for each call that makes one, in their order.
+    pub steps: Vec<OwnStep>,
+    pub report: Report,
+}
+
+/// Whether a call with this reply made a step.
+pub(crate) fn is_granted(reply: Reply) -> bool
+    ensures { result ≡ is_granted reply }
+{
+    matches!(reply, Reply::Stepped | Reply::Failed)
+}
+
+/// Where the next statement of a thread begins.
+fn position_of(session: &Session, spots: &[Spot], thread: u32) -> Option<Position>
+    ensures { (text : List ℕ) (t : Program) (h : List Answered)
+        → StandsFor session.now.code t
+        → spots.now ≡ spots_of text t
+        → Stands t session.now h
+        → let now = configuration_after t session.now.setup h in
+        result ≡ option_map (position_at text) (next_start (stack_of now thread)) }
+{
+    let Some(top) = session.top(thread) else {
+        return None;
+    };
+    let Some(spot) = spot_of(spots, top.number) else {
+        return None;
+    };
+    spot.position
+}
+
+/// Adds a step.
+fn note(steps: &mut Vec<OwnStep>, step: OwnStep) -> Result<(), AllocError>
+    ensures { OnOk result (steps.new.items ≡ steps.old.items ++ step ∷ []) }
+{
+    steps.push(step)?;
+    Ok(())
+}
+
+/// Notes the steps of a replay.
+#[derive(Drop)]
+struct StepWatcher<'a> {
+    spots: &'a [Spot],
+    steps: Vec<OwnStep>,
+}
+
+impl Watcher for StepWatcher<'_> {
+    ghost use Rattle.std.specs.Prelude.{◌≡◌, ◌++◌, List, ℕ};
+    ghost use Rattle.bp_confirm.specs.OwnSteps.{own_steps};
+    ghost use Rattle.bp_confirm.specs.Spots.{spots_of};
+
+    ghost sees = { λ first last t s h.
+        (last.spots ≡ first.spots)
+        × ((text : List ℕ)
+        → first.spots.now ≡ spots_of text t
+        → last.steps.items ≡ first.steps.items ++ own_steps text t s h) };
+
+    fn begin(&mut self, _setup: &Setup) -> Result<(), AllocError> {
+        Ok(())
+    }
+
+    fn make(&mut self, session: &mut Session, recorded: &Call) -> Result<Call, AskFault> {
+        let position = position_of(session, self.spots, recorded.thread);
+        let call = session.ask_as_recorded(recorded.thread, recorded.bit)?;
+        if is_granted(call.reply) {
+            let thread = call.thread;
+            note(&mut self.steps, OwnStep { thread, position })?;
+        }
+        Ok(call)
+    }
+}
+
+/// The steps of the history of a trace, each at the column at which its statement begins in the
+/// program text. A text that is no trace of the program is refused as a replay refuses it.
+pub fn own_steps(
+    alloc: Global,
+    text: &[u8],
+    checked: &Checked,
+    code: &Code,
+    trace: &[u8],
+) -> Result<OwnSteps, ReplayFault>
+    requires { StandsFor code.now checked.now }
+    ensures { MatchResult result
+        (λ found.
+        AreStepsOfTrace text.now checked.now trace.now found.steps.items found.report)
+        (IsReplayRefusal checked.now trace.now) }
+{
+    if trace.len() > MAX_TRACE {
+        return Err(ReplayFault::TooLong);
+    }
+    let spots = spots_of(alloc, text, checked)?;
+    let watcher = StepWatcher {
+        spots: spots.as_slice(),
+        steps: Vec::new(alloc),
+    };
+    let watched = replay_watched(alloc, code, trace, watcher)?;
+    Ok(OwnSteps {
+        steps: watched.watcher.steps,
+        report: watched.replayed.report,
+    })
+}
