@@ -73,6 +73,11 @@ pub trait PairCommand {
     fn start(&self) -> Option<&Start> {
         None
     }
+
+    /// The names of variables that are watched, with commas between them.
+    fn watch(&self) -> Option<&str> {
+        None
+    }
 }
 
 /// Reads a program text, and does a command on it. At most 65,537 bytes are read.

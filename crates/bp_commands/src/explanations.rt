@@ -157,14 +157,14 @@ fn put_words<E: Write>(words: &[u8], errors: &mut E) -> Result<(), WriteFault>
 fn put_sentence<E: Write>(
     alloc: Global,
     fault: &Fault,
-    hints: Hints<'_>,
+    hints: Hints<'_, '_>,
     errors: &mut E,
 ) -> Result<(), WriteFault>
     ensures { (said : List ℕ) × IsInWords said
         × Writes (E.contents errors.old) (E.contents errors.new) said result }
 {
     match sentence(alloc, fault, hints) {
-        Ok(sentence) => put_words(sentence.as_bytes(), errors),
+        Ok(sentence) => put_words(sentence.as_slice(), errors),
         Err(_) => put_words(b"out of memory", errors),
     }
 }
@@ -175,7 +175,7 @@ pub(crate) fn put_explanation<E: Write>(
     alloc: Global,
     lines: &Result<Vec<u8>, AllocError>,
     fault: &Fault,
-    hints: Hints<'_>,
+    hints: Hints<'_, '_>,
     errors: &mut E,
 ) -> Explained
     ensures { (said : List ℕ) × IsSaidFor lines.now result said

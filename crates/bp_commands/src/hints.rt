@@ -3,9 +3,13 @@
 use crate::faults::Fault;
 use crate::files::Failure;
 use bp_board::limits::{MAX_RING, MAX_TURN};
+use bp_code::ProgramFault;
+use bp_explain::{start_sentence, variable_sentence};
 use bp_machine::limits::{MAX_CALLS, MAX_CONTEXTS};
 use bp_machine::{SetupFault, Start};
 use bp_run::RunOptions;
+use bp_syntax::ReadFault;
+use bp_syntax::limits::TEXT_LIMIT;
 use std::alloc::Global;
 
 /// The numbers among the options of a command that have a range.
@@ -34,6 +38,13 @@ impl Numbers {
             ..Numbers::of_start(&options.start)
         }
     }
+}
+
+/// The bytes of a text that was made.
+fn bytes_of(alloc: Global, text: &str) -> Option<Vec<u8>> {
+    let mut bytes = Vec::new(alloc);
+    bytes.extend_from_slice(text.as_bytes()).ok()?;
+    Some(bytes)
 }
 
 /// The option of a setup whose number is out of its range, and that range.
@@ -88,14 +99,67 @@ fn of_file(alloc: Global, unread: Option<Unread<'_>>) -> Option<String> {
     format!(in alloc; "cannot {verb} '{name}': {reason}").ok()
 }
 
-/// What is known of the command line of a run.
+/// A file and how many bytes it may have.
 #[derive(Clone, Copy)]
-pub(crate) struct Hints<'a> {
-    pub(crate) unread: Option<Unread<'a>>,
-    pub(crate) numbers: Option<Numbers>,
+pub(crate) struct Limited<'a> {
+    pub(crate) name: &'a str,
+    pub(crate) limit: usize,
 }
 
-impl Hints<'_> {
+/// That a file has more bytes than it may have. The number has a comma before each three digits.
+fn of_limit(alloc: Global, file: Limited<'_>) -> Option<String> {
+    let Limited { name, limit } = file;
+    let (millions, thousands, ones) = (limit / 1_000_000, limit / 1_000 % 1_000, limit % 1_000);
+    if millions > 0 {
+        format!(in alloc; "{name} has over {millions},{thousands:03},{ones:03} bytes").ok()
+    } else {
+        format!(in alloc; "{name} has over {thousands},{ones:03} bytes").ok()
+    }
+}
+
+/// The words of the command line that are of the program: its text, what a run of it starts from,
+/// and the names of variables that are watched.
+#[derive(Clone, Copy)]
+pub(crate) struct Asked<'a, 't> {
+    pub(crate) program: &'t [u8],
+    pub(crate) start: Option<&'a Start>,
+    pub(crate) watch: Option<&'a str>,
+}
+
+/// What does not fit the program in what a run starts from.
+fn of_start(alloc: Global, asked: Asked<'_, '_>, fault: SetupFault) -> Option<Vec<u8>> {
+    let sentence = start_sentence(alloc, asked.program, asked.start?, fault).ok()?;
+    if sentence.is_empty() {
+        None
+    } else {
+        Some(sentence)
+    }
+}
+
+/// The watched name of this number, from 1, of which no variable is.
+fn of_watch(alloc: Global, asked: Asked<'_, '_>, number: u64) -> Option<Vec<u8>> {
+    let mut place: u64 = 1;
+    for name in asked.watch?.split(',') {
+        if place == number {
+            return variable_sentence(alloc, asked.program, name).ok();
+        }
+        place = place.saturating_add(1);
+    }
+    None
+}
+
+/// What is known of the command line of a run.
+#[derive(Clone, Copy)]
+pub(crate) struct Hints<'a, 't> {
+    pub(crate) unread: Option<Unread<'a>>,
+    pub(crate) numbers: Option<Numbers>,
+    pub(crate) asked: Asked<'a, 't>,
+    /// The file of the program, and that of the input beside it.
+    pub(crate) program: &'a str,
+    pub(crate) input: Option<Limited<'a>>,
+}
+
+impl Hints<'_, '_> {
     /// Whether it is the file of this name that could not be opened or read.
     pub(crate) fn is_unread(&self, name: &str) -> bool {
         match self.unread {
@@ -104,11 +168,28 @@ impl Hints<'_> {
         }
     }
 
-    /// What is said of a fault in place of its sentence, where there is more to say.
-    pub(crate) fn words(&self, alloc: Global, fault: &Fault) -> Option<String> {
+    /// What is said of a fault of a file or of a number, where there is more to say.
+    fn of_files(&self, alloc: Global, fault: &Fault) -> Option<String> {
         match fault {
             Fault::Device => of_file(alloc, self.unread),
+            Fault::Program(ProgramFault::Read(ReadFault::TooLong)) => {
+                let (name, limit) = (self.program, TEXT_LIMIT);
+                of_limit(alloc, Limited { name, limit })
+            }
+            Fault::TooLong => of_limit(alloc, self.input?),
             Fault::Setup(SetupFault::OutOfRange) => of_numbers(alloc, self.numbers),
+            _ => None,
+        }
+    }
+
+    /// What is said of a fault in place of its sentence, where there is more to say.
+    pub(crate) fn words(&self, alloc: Global, fault: &Fault) -> Option<Vec<u8>> {
+        if let Some(words) = self.of_files(alloc, fault) {
+            return bytes_of(alloc, words.as_str());
+        }
+        match fault {
+            Fault::Setup(fault) => of_start(alloc, self.asked, *fault),
+            Fault::NoVariable(number) => of_watch(alloc, self.asked, *number),
             _ => None,
         }
     }

@@ -9,12 +9,15 @@ use std::alloc::{AllocError, Global};
 pub(crate) fn sentence(
     alloc: Global,
     fault: &Fault,
-    hints: Hints<'_>,
-) -> Result<String, AllocError> {
-    match hints.words(alloc, fault) {
-        Some(words) => Ok(words),
-        None => format!(in alloc; "{fault}"),
+    hints: Hints<'_, '_>,
+) -> Result<Vec<u8>, AllocError> {
+    if let Some(words) = hints.words(alloc, fault) {
+        return Ok(words);
     }
+    let words = format!(in alloc; "{fault}")?;
+    let mut sentence = Vec::new(alloc);
+    push_bytes(&mut sentence, words.as_bytes())?;
+    Ok(sentence)
 }
 
 /// The sentence of an explanation. Its first line has the name of a file, a place, and a space
@@ -33,14 +36,14 @@ pub(crate) fn message(
     lines: Result<Vec<u8>, AllocError>,
     file: Option<&str>,
     fault: &Fault,
-    hints: Hints<'_>,
+    hints: Hints<'_, '_>,
 ) -> Result<Vec<u8>, AllocError> {
     let mut message = Vec::new(alloc);
     match &lines {
         Ok(lines) if !lines.is_empty() => {
             push_bytes(&mut message, sentence_in(file.unwrap_or(""), lines))?
         }
-        _ => push_bytes(&mut message, sentence(alloc, fault, hints)?.as_bytes())?,
+        _ => push_bytes(&mut message, sentence(alloc, fault, hints)?.as_slice())?,
     }
     Ok(message)
 }

@@ -11,7 +11,7 @@ use crate::explanations::Named;
 use crate::fault_formats::FaultFormat;
 use crate::files::{Files, InputFile};
 use crate::flushes::flushed;
-use crate::hints::{Hints, Numbers};
+use crate::hints::{Asked, Hints, Limited, Numbers};
 use crate::inputs::Source;
 use crate::running::run_program;
 use crate::tellings::{NamedPair, conclude};
@@ -23,11 +23,11 @@ use std::thread::Threads;
 use std::time::Clock;
 
 /// Does a command on the program of a file, and answers how it ends and the output.
-pub fn run_on_program<C: ProgramCommand, F: Files, W: Write + Drop, E: Write>(
+pub fn run_on_program<'a, C: ProgramCommand, F: Files, W: Write + Drop, E: Write>(
     alloc: Global,
-    files: &F,
-    command: &C,
-    path: &str,
+    files: &'a F,
+    command: &'a C,
+    path: &'a str,
     format: FaultFormat,
     mut out: BufWriter<W>,
     errors: &mut E,
@@ -43,13 +43,21 @@ pub fn run_on_program<C: ProgramCommand, F: Files, W: Write + Drop, E: Write>(
     let mut program = InputFile::source(alloc, files, path);
     let done = do_on_program(alloc, command, &mut program, &mut out);
     let (done, output) = flushed(done, out);
-    let hints = Hints {
-        unread: program.reader.unread(),
-        numbers: command.start().map(Numbers::of_start),
-    };
+    let unread = program.reader.unread();
     let given = Named {
         name: path,
         text: &program.bytes,
+    };
+    let hints = Hints {
+        unread,
+        numbers: command.start().map(Numbers::of_start),
+        asked: Asked {
+            program: given.text,
+            start: command.start(),
+            watch: None,
+        },
+        program: path,
+        input: None,
     };
     let end = conclude(alloc, format, &given, &done, hints, errors);
     (end, output)
@@ -64,6 +72,7 @@ pub struct Workers<'a, G> {
 
 /// Runs the program of a file by real workers, and answers how it ends and the output.
 pub fn run_by_workers<
+    'a,
     F: Files,
     G: Gate,
     T: Threads + Wait + Clock + Sync,
@@ -71,10 +80,10 @@ pub fn run_by_workers<
     E: Write,
 >(
     alloc: Global,
-    files: &F,
+    files: &'a F,
     threads: &T,
-    workers: &Workers<'_, G>,
-    path: &str,
+    workers: &Workers<'a, G>,
+    path: &'a str,
     format: FaultFormat,
     mut out: BufWriter<W>,
     errors: &mut E,
@@ -90,13 +99,21 @@ pub fn run_by_workers<
     let (options, gate) = (workers.options, workers.gate);
     let done = run_program(alloc, threads, options, gate, &mut program, &mut out);
     let (done, output) = flushed(done, out);
-    let hints = Hints {
-        unread: program.reader.unread(),
-        numbers: Some(Numbers::of_run(options)),
-    };
+    let unread = program.reader.unread();
     let given = Named {
         name: path,
         text: &program.bytes,
+    };
+    let hints = Hints {
+        unread,
+        numbers: Some(Numbers::of_run(options)),
+        asked: Asked {
+            program: given.text,
+            start: Some(&options.start),
+            watch: None,
+        },
+        program: path,
+        input: None,
     };
     let end = conclude(alloc, format, &given, &done, hints, errors);
     (end, output)
@@ -104,12 +121,12 @@ pub fn run_by_workers<
 
 /// Does a command on the program of a file and the input that another file has, and answers how
 /// it ends and the output.
-pub fn run_on_pair<C: PairCommand, F: Files, W: Write + Drop, E: Write>(
+pub fn run_on_pair<'a, C: PairCommand, F: Files, W: Write + Drop, E: Write>(
     alloc: Global,
-    files: &F,
-    command: &C,
-    path: &str,
-    input_path: &str,
+    files: &'a F,
+    command: &'a C,
+    path: &'a str,
+    input_path: &'a str,
     format: FaultFormat,
     mut out: BufWriter<W>,
     errors: &mut E,
@@ -125,10 +142,7 @@ pub fn run_on_pair<C: PairCommand, F: Files, W: Write + Drop, E: Write>(
     let mut input = InputFile::source(alloc, files, input_path);
     let done = do_on_pair(alloc, command, &mut program, &mut input, &mut out);
     let (done, output) = flushed(done, out);
-    let hints = Hints {
-        unread: program.reader.unread().or(input.reader.unread()),
-        numbers: command.start().map(Numbers::of_start),
-    };
+    let unread = program.reader.unread().or(input.reader.unread());
     let given = NamedPair {
         program: Named {
             name: path,
@@ -140,6 +154,20 @@ pub fn run_on_pair<C: PairCommand, F: Files, W: Write + Drop, E: Write>(
         },
         beside: command.beside(),
         start: command.start(),
+    };
+    let hints = Hints {
+        unread,
+        numbers: command.start().map(Numbers::of_start),
+        asked: Asked {
+            program: given.program.text,
+            start: command.start(),
+            watch: command.watch(),
+        },
+        program: path,
+        input: Some(Limited {
+            name: input_path,
+            limit: command.limit(),
+        }),
     };
     let end = conclude(alloc, format, &given, &done, hints, errors);
     (end, output)

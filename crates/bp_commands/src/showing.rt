@@ -65,4 +65,8 @@ impl PairCommand for Show<'_> {
     fn beside(&self) -> Beside {
         Beside::Trace
     }
+
+    fn watch(&self) -> Option<&str> {
+        self.options.watch
+    }
 }

@@ -34,7 +34,7 @@ pub(crate) trait Texts {
         ensures { IfOk result (λ v. IsExplanationOf (explains self.now fault.now) v.items) };
 
     /// The name of the file that a fault is in.
-    fn file(&self, fault: &Fault, hints: Hints<'_>) -> Option<&str>
+    fn file(&self, fault: &Fault, hints: Hints<'_, '_>) -> Option<&str>
         ensures { is_in self.now fault.now (name_in result) };
 
     /// The text of the program.
@@ -57,7 +57,7 @@ impl Texts for Named<'_> {
         of_program(alloc, fault, *self)
     }
 
-    fn file(&self, fault: &Fault, _hints: Hints<'_>) -> Option<&str> {
+    fn file(&self, fault: &Fault, _hints: Hints<'_, '_>) -> Option<&str> {
         match fault {
             Fault::Device | Fault::Program(_) => Some(self.name),
             _ => None,
@@ -103,7 +103,7 @@ impl Texts for NamedPair<'_> {
         )
     }
 
-    fn file(&self, fault: &Fault, hints: Hints<'_>) -> Option<&str> {
+    fn file(&self, fault: &Fault, hints: Hints<'_, '_>) -> Option<&str> {
         let (program, input) = (self.program.name, self.input.name);
         match (self.beside, fault) {
             (_, Fault::Program(_)) => Some(program),
@@ -133,7 +133,7 @@ fn end_by_object<G: Texts, E: Write>(
     alloc: Global,
     given: &G,
     fault: &Fault,
-    hints: Hints<'_>,
+    hints: Hints<'_, '_>,
     errors: &mut E,
 ) -> RunEnd
     ensures status { result.status ≡ status_of fault.now }
@@ -162,7 +162,7 @@ fn report<G: Texts, T: Ended, E: Write>(
     format: FaultFormat,
     given: &G,
     done: &Result<T, Fault>,
-    hints: Hints<'_>,
+    hints: Hints<'_, '_>,
     errors: &mut E,
 ) -> RunEnd
     ensures { let IsObject = IsObjectIn (G.is_in given.now) (G.given given.now) in
@@ -181,7 +181,7 @@ fn explain<G: Texts, T, E: Write>(
     format: FaultFormat,
     given: &G,
     done: &Result<T, Fault>,
-    hints: Hints<'_>,
+    hints: Hints<'_, '_>,
     errors: &mut E,
 ) -> Explained
     ensures { IsTold (is_explained format) (λ f. IsSaid (G.explains given.now f)) done.now result
@@ -203,7 +203,7 @@ pub(crate) fn conclude<G: Texts, T: Ended, E: Write>(
     format: FaultFormat,
     given: &G,
     done: &Result<T, Fault>,
-    hints: Hints<'_>,
+    hints: Hints<'_, '_>,
     errors: &mut E,
 ) -> RunEnd
     ensures { let IsObject = IsObjectIn (G.is_in given.now) (G.given given.now) in

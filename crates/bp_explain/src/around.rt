@@ -13,6 +13,8 @@ pub(crate) struct Around<'a> {
     third: &'a [u8],
     second: &'a [u8],
     pub(crate) before: &'a [u8],
+    /// The last name before the place that a bracket follows, as in a call.
+    pub(crate) called: &'a [u8],
     /// The token at the place, and the one after it.
     pub(crate) found: &'a [u8],
     pub(crate) next: &'a [u8],
@@ -80,6 +82,22 @@ fn last_tokens(text: &[u8]) -> (&[u8], &[u8], &[u8]) {
     tokens
 }
 
+/// The last name of a text that a bracket follows. It has no bytes where there is none.
+fn last_called(text: &[u8]) -> &[u8] {
+    let mut called = part_before(text, 0);
+    let mut last = called;
+    let mut rest = text;
+    while let Some(lexeme) = take_lexeme(&mut rest) {
+        if lexeme.text == b"(".as_slice() && is_name(last) {
+            called = last;
+        }
+        if !lexeme.is_gap() {
+            last = lexeme.text;
+        }
+    }
+    called
+}
+
 /// The tokens around this place of a text.
 pub(crate) fn tokens_around(text: &[u8], at: usize) -> Around<'_> {
     let front = part_before(text, at);
@@ -90,6 +108,7 @@ pub(crate) fn tokens_around(text: &[u8], at: usize) -> Around<'_> {
         third,
         second,
         before,
+        called: last_called(front),
         found,
         next: first_token(part_from(text, at.saturating_add(found.len()))),
         is_on_new_line: gap.iter().any(|byte| *byte == b'\n'),

@@ -162,8 +162,8 @@ fn push_unknown_variable(
     push_about(out, b"there is no global ", name, but)?;
     push_procedure(out, tree, at)?;
     match name {
-        b"true" => push_all(out, &[b"; true is written '1'"]),
-        b"false" => push_all(out, &[b"; false is written '0'"]),
+        b"true" | b"True" | b"TRUE" | b"T" => push_all(out, &[b"; true is written '1'"]),
+        b"false" | b"False" | b"FALSE" | b"F" => push_all(out, &[b"; false is written '0'"]),
         _ => push_near_variable(out, tree, name, at),
     }
 }

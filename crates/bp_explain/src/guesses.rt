@@ -119,6 +119,21 @@ pub(crate) fn push_near_variable(
     push_guess(out, guess)
 }
 
+/// Adds the variable of any procedure or of all that a name may stand for, where one is near.
+pub(crate) fn push_near_name(
+    out: &mut Vec<u8>,
+    tree: &Tree,
+    name: &[u8],
+) -> Result<(), AllocError> {
+    let alloc = *out.allocator();
+    let mut guess = weighed_names(alloc, no_guess(name), tree.globals())?;
+    for proc in tree.procs() {
+        guess = weighed_names(alloc, guess, proc.formals())?;
+        guess = weighed_names(alloc, guess, proc.locals())?;
+    }
+    push_guess(out, guess)
+}
+
 /// Adds the procedure that the name of an entry may stand for, where one is near.
 pub(crate) fn push_near_entry(
     out: &mut Vec<u8>,

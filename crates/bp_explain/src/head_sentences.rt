@@ -1,5 +1,6 @@
 //! Sentences on a line of a trace's head that is not as expected.
 
+use crate::other_texts::{ENDS_IN_CR_LF, ends_in_cr_lf};
 use crate::sentences::push_all;
 use crate::trace_heads::init_line;
 use bp_text::line_of;
@@ -24,7 +25,8 @@ pub(crate) fn push_head(out: &mut Vec<u8>, trace: &[u8], number: usize) -> Resul
     let due = due_on(number, init_line(trace));
     match line_of(trace, number) {
         None => push_all(out, &[b"the trace ends here; expected ", due]),
+        Some(line) if ends_in_cr_lf(line) => push_all(out, &[ENDS_IN_CR_LF]),
         Some(line) if line.is_ended => push_all(out, &[b"expected ", due]),
-        Some(_) => push_all(out, &[b"expected ", due, b", and a line feed behind it"]),
+        Some(_) => push_all(out, &[b"expected ", due, b", and a line feed after it"]),
     }
 }

@@ -19,6 +19,8 @@ mod line_sentences;
 mod mistakes;
 mod numbers;
 mod offers;
+mod option_sentences;
+mod other_texts;
 mod programs;
 mod read_sentences;
 mod recorded_calls;
@@ -34,6 +36,7 @@ mod tokens_at;
 mod trace_heads;
 mod traces;
 
+pub use option_sentences::{start_sentence, variable_sentence};
 pub use programs::explain_program;
 pub use schedules::explain_schedule;
 pub use steps::explain_steps;

@@ -1,6 +1,7 @@
 //! Sentences on a line of a trace that is no line of calls and no end.
 
 use crate::numbers::number_at_front;
+use crate::other_texts::{ENDS_IN_CR_LF, ends_in_cr_lf};
 use crate::sentences::{push_all, push_count, push_number};
 use crate::trace_heads::{entry_count, is_version_two};
 use bp_text::{Line, line_of};
@@ -59,7 +60,8 @@ fn push_sentence(
         Some(thread) if is_version_two(trace) && thread_of(before) == Some(thread) => {
             push_same_thread(out, thread)
         }
-        _ if !line.is_ended => push_all(out, &[b"there is no line feed behind this line"]),
+        _ if !line.is_ended => push_all(out, &[b"there is no line feed after this line"]),
+        _ if ends_in_cr_lf(line) => push_all(out, &[ENDS_IN_CR_LF]),
         _ => push_forms(out, trace),
     }
 }

@@ -26,6 +26,8 @@ pub(crate) enum Mistake {
     /// `decl` after a procedure or a statement.
     LateGlobal,
     LateLocal,
+    /// `elsif`, or another word for it.
+    ElseIf,
     /// `if` without `else`.
     NoElse,
     /// No statement.
@@ -112,9 +114,16 @@ fn declaration_mistake(offers: &[Offer], around: &Around<'_>) -> Option<Mistake>
     }
 }
 
+/// Whether another language writes an `if` in an `else` by this word.
+fn is_else_if(token: &[u8]) -> bool {
+    matches!(token, b"elsif" | b"elif" | b"elseif" | b"elsf")
+}
+
 /// The mistake in how statements stand.
 fn statement_mistake(offers: &[Offer], around: &Around<'_>) -> Option<Mistake> {
-    if ends_body(around.found) && has_token(offers, TokenKind::Else) {
+    if around.found == b"then".as_slice() && is_else_if(around.called) {
+        Some(Mistake::ElseIf)
+    } else if ends_body(around.found) && has_token(offers, TokenKind::Else) {
         Some(Mistake::NoElse)
     } else if ends_body(around.found) && is_statement_due(offers) {
         Some(Mistake::EmptyBody)

@@ -6,9 +6,11 @@ ghost use Rattle.bp_explain.specs.Explanations.{IsPlain};
 
 use crate::around::{is_name, tokens_around};
 use crate::explanations::about_place;
+use crate::other_texts::other_than_program;
 use crate::sentences::{push_all, push_number, push_quoted};
 use bp_syntax::ReadFault;
 use bp_syntax::limits::{NESTING_LIMIT, SUCCESSION_LIMIT, TEXT_LIMIT};
+use bp_text::{last_line, part_before};
 use std::alloc::{AllocError, Global};
 
 fn push_too_long(out: &mut Vec<u8>) -> Result<(), AllocError> {
@@ -47,9 +49,22 @@ fn push_hint(out: &mut Vec<u8>, byte: u8, text: &[u8], at: usize) -> Result<(), 
     push_all(out, &[hint(byte)])
 }
 
+/// Whether a line has an open brace.
+fn has_open_brace(line: &[u8]) -> bool {
+    let mut is_open = false;
+    for byte in line {
+        match byte {
+            b'{' => is_open = true,
+            b'}' => is_open = false,
+            _ => {}
+        }
+    }
+    is_open
+}
+
 /// Adds that nothing begins with the byte at this place of a text. It is named by its number where
 /// a terminal does not show it.
-fn push_bad_byte(out: &mut Vec<u8>, text: &[u8], at: usize) -> Result<(), AllocError> {
+fn push_lone_byte(out: &mut Vec<u8>, text: &[u8], at: usize) -> Result<(), AllocError> {
     let byte = text.get(at).copied().unwrap_or(0);
     push_all(out, &[b"nothing in a program begins with "])?;
     if matches!(byte, b'!'..=b'~') {
@@ -61,11 +76,22 @@ fn push_bad_byte(out: &mut Vec<u8>, text: &[u8], at: usize) -> Result<(), AllocE
     push_hint(out, byte, text, at)
 }
 
+/// Adds why the byte at this place of a text begins no token.
+fn push_bad_byte(out: &mut Vec<u8>, text: &[u8], at: usize) -> Result<(), AllocError> {
+    match other_than_program(text) {
+        Some(words) => push_all(out, &[words]),
+        None if has_open_brace(last_line(part_before(text, at))) => {
+            push_all(out, &[b"the '{' before this byte has no '}'"])
+        }
+        None => push_lone_byte(out, text, at),
+    }
+}
+
 fn push_open_name(out: &mut Vec<u8>) -> Result<(), AllocError> {
     push_all(
         out,
         &[
-            b"this name is not closed: a name in braces has printable ASCII characters alone, \
+            b"this name is not closed: a name in braces has only printable ASCII characters, \
             and ends with '}'",
         ],
     )

@@ -6,6 +6,7 @@ ghost use Rattle.bp_explain.specs.Explanations.{IsPlain};
 use crate::explanations::{about_line, explain_too_long};
 use crate::last_calls::{last_call, push_last_call};
 use crate::numbers::number_at_front;
+use crate::other_texts::{ENDS_IN_CR_LF, ends_in_cr_lf};
 use crate::sentences::{push_all, push_number};
 use bp_machine::Start;
 use bp_text::{Line, line_of};
@@ -25,7 +26,8 @@ pub(crate) fn push_no_entry(out: &mut Vec<u8>, thread: u32) -> Result<(), AllocE
 fn push_line_sentence(out: &mut Vec<u8>, line: Line<'_>) -> Result<(), AllocError> {
     match number_at_front(line.words) {
         Some((thread, b"0" | b"1")) if line.is_ended => push_no_entry(out, thread),
-        Some((_, b"0" | b"1")) => push_all(out, &[b"there is no line feed behind this line"]),
+        Some((_, b"0" | b"1")) => push_all(out, &[b"there is no line feed after this line"]),
+        _ if ends_in_cr_lf(line) => push_all(out, &[ENDS_IN_CR_LF]),
         _ => push_all(
             out,
             &[b"expected a line as '0 1', a thread, one space and a choice bit"],

@@ -63,7 +63,8 @@ fn push_unknown_entry(out: &mut Vec<u8>, tree: &Tree, entry: &[u8]) -> Result<()
     push_near_entry(out, tree, entry)
 }
 
-fn push_formals(out: &mut Vec<u8>, tree: &Tree, entry: &[u8]) -> Result<(), AllocError> {
+/// Adds that a procedure, which is to be an entry, has formals.
+pub(crate) fn push_formals(out: &mut Vec<u8>, tree: &Tree, entry: &[u8]) -> Result<(), AllocError> {
     let formals = match first_procedure(tree, entry) {
         Some(proc) => proc.formals().len(),
         None => 0,

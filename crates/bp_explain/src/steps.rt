@@ -4,6 +4,7 @@ ghost use Rattle.bp_explain.specs.Explained.{ExplainsLine, ExplainsSteps};
 ghost use Rattle.bp_explain.specs.Explanations.{IsPlain};
 
 use crate::explanations::{about_line, explain_too_long};
+use crate::other_texts::{ENDS_IN_CR_LF, ends_in_cr_lf};
 use crate::schedules::push_no_entry;
 use crate::sentences::{push_all, push_quoted};
 use crate::step_sentences::{Confirming, push_refusal};
@@ -21,6 +22,7 @@ fn explain_line(alloc: Global, name: &str, steps: &[u8], number: u32) -> Result<
     let number = number as usize;
     let sentence: &[u8] = match line_of(steps, number) {
         Some(line) if !line.is_ended => b"there is no line feed after this line",
+        Some(line) if ends_in_cr_lf(line) => ENDS_IN_CR_LF,
         _ => b"expected a line as '0 8:3 x=1', a thread, a place and any number of values",
     };
     about_line(alloc, name, steps, number, sentence)

@@ -9,6 +9,7 @@ use crate::candidates::may_follow;
 use crate::explanations::about_place;
 use crate::mistakes::{misses_semicolon, mistake_at};
 use crate::offers::{Offer, offers_behind, push_offers};
+use crate::other_texts::other_than_program;
 use crate::sentences::{push_all, push_quoted};
 use bp_text::{part_before, part_from};
 use std::alloc::{AllocError, Global};
@@ -26,9 +27,13 @@ fn push_expected(out: &mut Vec<u8>, offers: &[Offer]) -> Result<(), AllocError> 
 /// Adds what was expected at a place of a text, what stands there instead, and what to write.
 fn push_misplaced(
     out: &mut Vec<u8>,
+    text: &[u8],
     offers: &[Offer],
     around: &Around<'_>,
 ) -> Result<(), AllocError> {
+    if let Some(words) = other_than_program(text) {
+        return push_all(out, &[words]);
+    }
     if around.found.is_empty() {
         push_all(out, &[b"the text ends here; "])?;
         return push_expected(out, offers);
@@ -59,7 +64,7 @@ fn semicolon_place(
 ) -> Result<Option<u32>, AllocError>
     ensures { IfOk result (λ o. IfSome o (λ place. MissesSemicolon text.now at place)) }
 {
-    if !misses_semicolon(offers, around) {
+    if other_than_program(text).is_some() || !misses_semicolon(offers, around) {
         return Ok(None);
     }
     let front = part_before(text, at as usize);
@@ -88,6 +93,6 @@ pub(crate) fn explain_syntax(
         push_missing(&mut sentence, &around)?;
         return about_place(alloc, name, text, Some(place), sentence.as_slice());
     }
-    push_misplaced(&mut sentence, offers.as_slice(), &around)?;
+    push_misplaced(&mut sentence, text, offers.as_slice(), &around)?;
     about_place(alloc, name, text, Some(at), sentence.as_slice())
 }

@@ -1,0 +1,157 @@
+//! Sentences on words of the command line that do not fit the program: entries, initial bits, names
+//! of variables.
+
+use crate::declared::tree_of;
+use crate::guesses::{push_near_entry, push_near_name};
+use crate::sentences::{push_all, push_count, push_name, push_number, push_quoted};
+use crate::setup_sentences::push_formals;
+use bp_machine::limits::DEFAULT_ENTRY;
+use bp_machine::{SetupFault, Start};
+use bp_syntax::Tree;
+use bp_tree::Name;
+use std::alloc::{AllocError, Global};
+
+/// How many names are listed before dots.
+const LISTED_NAMES: usize = 6;
+
+/// Adds the name of this place in a list, or dots after the last one that is listed.
+fn push_listed(out: &mut Vec<u8>, place: usize, name: &Name) -> Result<(), AllocError> {
+    if place > LISTED_NAMES {
+        return Ok(());
+    }
+    if place > 0 {
+        push_all(out, &[b", "])?;
+    }
+    if place == LISTED_NAMES {
+        return push_all(out, &[b".."]);
+    }
+    push_name(out, name.text().as_bytes())
+}
+
+/// Adds the procedures with which a thread may begin.
+fn push_possible_entries(out: &mut Vec<u8>, tree: &Tree) -> Result<(), AllocError> {
+    let mut place: usize = 0;
+    for proc in tree.procs() {
+        if proc.formals().is_empty() {
+            push_listed(out, place, proc.name())?;
+            place = place.saturating_add(1);
+        }
+    }
+    Ok(())
+}
+
+/// Adds that there is no procedure with which threads begin where no entries are named.
+fn push_no_default(out: &mut Vec<u8>, tree: &Tree) -> Result<(), AllocError> {
+    push_all(out, &[b"there is no procedure "])?;
+    push_quoted(out, DEFAULT_ENTRY.as_bytes())?;
+    if tree.procs().iter().all(|proc| !proc.formals().is_empty()) {
+        return push_all(out, &[b", and none without formals"]);
+    }
+    push_all(out, &[b"; name an entry for each thread: "])?;
+    push_possible_entries(out, tree)
+}
+
+/// Adds which thread a sentence is about.
+fn push_thread(out: &mut Vec<u8>, thread: u32) -> Result<(), AllocError> {
+    push_all(out, &[b"thread "])?;
+    push_number(out, thread as usize)?;
+    push_all(out, &[b": "])
+}
+
+/// Adds that the entry of a thread is no procedure.
+fn push_unknown_entry(
+    out: &mut Vec<u8>,
+    tree: &Tree,
+    start: &Start,
+    thread: u32,
+) -> Result<(), AllocError> {
+    let Some(entry) = start.entries.get(thread as usize) else {
+        return Ok(());
+    };
+    if start.entries.len() == 1 && entry.as_str() == DEFAULT_ENTRY {
+        return push_no_default(out, tree);
+    }
+    push_thread(out, thread)?;
+    push_all(out, &[b"no procedure "])?;
+    push_quoted(out, entry.as_bytes())?;
+    push_near_entry(out, tree, entry.as_bytes())
+}
+
+/// Adds that the entry of a thread has formals.
+fn push_entry_formals(
+    out: &mut Vec<u8>,
+    tree: &Tree,
+    start: &Start,
+    thread: u32,
+) -> Result<(), AllocError> {
+    match start.entries.get(thread as usize) {
+        Some(entry) => {
+            push_thread(out, thread)?;
+            push_formals(out, tree, entry.as_bytes())
+        }
+        None => Ok(()),
+    }
+}
+
+/// Adds how many globals there are, and their names.
+fn push_globals(out: &mut Vec<u8>, globals: &[Name]) -> Result<(), AllocError> {
+    if globals.is_empty() {
+        return push_all(out, &[b"there are no globals"]);
+    }
+    let verb: &[u8] = if globals.len() == 1 { b"is " } else { b"are " };
+    push_all(out, &[b"there ", verb])?;
+    push_count(out, globals.len(), b"global")?;
+    push_all(out, &[b": "])?;
+    for (place, name) in globals.iter().enumerate() {
+        push_listed(out, place, name)?;
+    }
+    Ok(())
+}
+
+/// Adds that there are not as many initial bits as globals.
+fn push_init(out: &mut Vec<u8>, tree: &Tree, start: &Start) -> Result<(), AllocError> {
+    let Some(bits) = &start.init else {
+        return Ok(());
+    };
+    push_all(out, &[b"--init has "])?;
+    push_count(out, bits.len(), b"bit")?;
+    push_all(out, &[b", but "])?;
+    push_globals(out, tree.globals())
+}
+
+/// The sentence on a fault of the setup that a run of the program of a text would start from. It is
+/// empty where the fault needs no word of the program. The only error is refused memory.
+pub fn start_sentence(
+    alloc: Global,
+    program: &[u8],
+    start: &Start,
+    fault: SetupFault,
+) -> Result<Vec<u8>, AllocError> {
+    let mut sentence = Vec::new(alloc);
+    let Some(tree) = &tree_of(alloc, program)? else {
+        return Ok(sentence);
+    };
+    match fault {
+        SetupFault::UnknownEntry(thread) => {
+            push_unknown_entry(&mut sentence, tree, start, thread)?
+        }
+        SetupFault::EntryHasFormals(thread) => {
+            push_entry_formals(&mut sentence, tree, start, thread)?
+        }
+        SetupFault::InitLength => push_init(&mut sentence, tree, start)?,
+        _ => {}
+    }
+    Ok(sentence)
+}
+
+/// The sentence on a name of which no variable of the program of a text is. The only error is
+/// refused memory.
+pub fn variable_sentence(alloc: Global, program: &[u8], name: &str) -> Result<Vec<u8>, AllocError> {
+    let mut sentence = Vec::new(alloc);
+    push_all(&mut sentence, &[b"no variable "])?;
+    push_quoted(&mut sentence, name.as_bytes())?;
+    if let Some(tree) = &tree_of(alloc, program)? {
+        push_near_name(&mut sentence, tree, name.as_bytes())?;
+    }
+    Ok(sentence)
+}
