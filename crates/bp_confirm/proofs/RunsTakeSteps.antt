@@ -17,7 +17,7 @@ use Rattle.bp_confirm.specs.StepLines.{StepLineOf, steps_of}
 use Rattle.bp_confirm.specs.Places.{stands_at}
 use Rattle.bp_confirm.specs.Steps.{StepOf, SeesValues, TakeAfter, Takes}
 use Rattle.bp_confirm.specs.StepRuns.{MovesTake, IsRunOfSteps}
-use Rattle.bp_confirm.specs.Confirmations.{RefusedHasNoRun}
+use Rattle.bp_confirm.specs.Confirmations.{RefusedFrontHasNoRun, RefusedHasNoRun}
 use Rattle.bp_confirm.proofs.OneConfirmed.{refused_is_not_taken}
 
 module _ (t : Program) (s : SetupOf) where
@@ -57,6 +57,9 @@ module _ (text : List ℕ) (t : Program) (s : SetupOf) (lines : List StepLineOf)
   by_reason Finished none = none_runs t s each (steps_of text lines) none
   by_reason (Refused q) none = none_runs t s each (steps_of text lines) none
   by_reason (Differs value seen) none = none_runs t s each (steps_of text lines) none
+
+pub refused_front_has_no_run : RunsAreHistories → RefusedFrontHasNoRun
+refused_front_has_no_run each text t s lines r refused = by_reason text t s (refused.before ++ refused.step ∷ []) each r.reason refused.none
 
 pub refused_has_no_run : RunsAreHistories → RefusedHasNoRun
 refused_has_no_run each text t s lines r refused = by_reason text t s lines each r.reason (refused_is_not_taken text t s lines r refused)

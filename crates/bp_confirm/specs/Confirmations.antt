@@ -1,5 +1,5 @@
 -- Laws of reported steps.
-use Rattle.std.specs.Prelude.{◌≡◌, ℕ, List, Some}
+use Rattle.std.specs.Prelude.{◌≡◌, ℕ, List, [], ◌∷◌, ◌++◌, Some}
 use Rattle.bp_tree.specs.Ast.{Program}
 use Rattle.bp_machine.specs.declared.calls.Call.{Call}
 use Rattle.bp_code.specs.Configurations.{Configuration}
@@ -36,6 +36,14 @@ RefusedHasNoRun =
     (text : List ℕ) (t : Program) (s : SetupOf) (lines : List StepLineOf) (r : StepRefusal)
     → IsStepRefusal text t s lines r
     → ForStuck r.reason ((calls : List Call) → IsRunOfSteps t s (steps_of text lines) calls → ⊥)
+
+-- nor does such a run take the steps up to the one that is refused
+abbrev pub RefusedFrontHasNoRun : Type 0
+RefusedFrontHasNoRun =
+    (text : List ℕ) (t : Program) (s : SetupOf) (lines : List StepLineOf) (r : StepRefusal)
+    → (refused : IsStepRefusal text t s lines r)
+    → let front = steps_of text (refused.before ++ refused.step ∷ []) in
+    ForStuck r.reason ((calls : List Call) → IsRunOfSteps t s front calls → ⊥)
 
 -- a step is refused as ambiguous only where its thread's next step has a line without a column
 abbrev pub OnlyLinesAreAmbiguous : Type 0
