@@ -1,5 +1,5 @@
--- The commands on a trace of a program: `replay`, `migrate`, `show`, `show --at` and
--- `show --contexts`.
+-- The commands on a trace of a program: `replay`, `migrate`, `show`, `show --at`,
+-- `show --contexts` and `show --steps`.
 use Rattle.std.specs.Prelude.{◌≡◌, ◌⊎◌, ◌≤◌, ◌++◌, ℕ, Bool, true, false, List, Option, None, Some, length, take}
 use Rattle.bp_tree.specs.Ast.{Program}
 use Rattle.bp_code.specs.LawfulTexts.{IsLawfulText}
@@ -12,6 +12,7 @@ use Rattle.bp_trace.specs.declared.replay_faults.ReplayFault.{ReplayFault}
 use Rattle.bp_trace.specs.declared.versions.Version.{Version}
 use Rattle.bp_trace.specs.Replays.{IsTrace, IsReplayRefusal}
 use Rattle.bp_trace.specs.TraceText.{trace_text_2}
+use Rattle.bp_confirm.specs.OwnSteps.{own_steps, own_steps_text}
 use Rattle.bp_view.specs.declared.options.ViewFormat.{ViewFormat}
 use Rattle.bp_view.specs.declared.options.ViewOptions.{ViewOptions}
 use Rattle.bp_view.specs.ContextLines.{AreContextLines}
@@ -57,6 +58,10 @@ IsStateOf format n text t s h written = IsStateText format t text s (take n h) (
 -- a line for each context of a history
 abbrev pub AreContextsOf : ViewFormat → TextRule
 AreContextsOf format text t s h written = AreContextLines format t text s h written
+
+-- a line for each step of a history
+abbrev pub AreStepsOf : TextRule
+AreStepsOf text t s h written = written ≡ own_steps_text (own_steps text t s h)
 
 -- the text has this lawful program, and the trace is that of a legal history of it
 pub record IsTraceOf
@@ -151,9 +156,14 @@ states format n = on_trace (IsStateOf format n)
 abbrev pub lists_contexts : ViewFormat → Command Pair Report
 lists_contexts format = on_trace (AreContextsOf format)
 
--- The first of these that is asked for: the state after a number of calls, the contexts. If none
--- is, the calls.
-abbrev pub shows_as : ViewOptions → (contexts : Bool) → Option ℕ → Command Pair Report
-shows_as o contexts (Some n) = states o.format n
-shows_as o true None = lists_contexts o.format
-shows_as o false None = shows o
+-- it writes a line for each step of the history
+abbrev pub lists_steps : Command Pair Report
+lists_steps = on_trace AreStepsOf
+
+-- The first of these that is asked for: the state after a number of calls, the contexts, the steps.
+-- If none is, the calls.
+abbrev pub shows_as : ViewOptions → (contexts steps : Bool) → Option ℕ → Command Pair Report
+shows_as o contexts steps (Some n) = states o.format n
+shows_as o true steps None = lists_contexts o.format
+shows_as o false true None = lists_steps
+shows_as o false false None = shows o

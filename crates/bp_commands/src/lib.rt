@@ -33,6 +33,7 @@ mod showing;
 mod shrinking;
 mod stating;
 mod step_objects;
+mod stepping;
 mod summaries;
 mod summary_objects;
 mod tellings;
@@ -63,4 +64,5 @@ pub use runs::{Workers, run_by_workers, run_on_bundle, run_on_pair, run_on_progr
 pub use showing::Show;
 pub use shrinking::Shrink;
 pub use stating::ShowState;
+pub use stepping::ShowSteps;
 pub use testing::{Test, Tested};

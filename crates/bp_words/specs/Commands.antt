@@ -161,7 +161,7 @@ abbrev pub replay_app : App
 replay_app = trace_app (codes "replay")
 
 -- `show FILE TRACE [--thread N] [--last N] [--from N] [--to N] [--watch NAMES] [--fold] [--state]
--- [--at N] [--contexts] [--json] [--explain] [--no-explain]`
+-- [--at N] [--contexts] [--steps] [--json] [--explain] [--no-explain]`
 abbrev pub show_app : App
 show_app =
     with_rules (trace_app (codes "show")) (
@@ -174,6 +174,7 @@ show_app =
     ∷ flag_rule (codes "state")
     ∷ long_number_rule (codes "at")
     ∷ flag_rule (codes "contexts")
+    ∷ flag_rule (codes "steps")
     ∷ flag_rule (codes "json")
     ∷ [])
 

@@ -141,6 +141,7 @@ IsPlainShowOf file trace (task.Show words) =
     × (words.state ≡ false)
     × (words.at ≡ None)
     × (words.contexts ≡ false)
+    × (words.steps ≡ false)
     × (words.json ≡ false)
     × (words.explain ≡ on_terminals)
 IsPlainShowOf file trace other = ⊥

@@ -18,5 +18,6 @@ pub record IsShowOf (rows : List Row) (words : ShowWords) : Type 0 where
   pub state : IsFlagOf (one_of (codes "state") rows) words.state
   pub at : IsNumberIn 64 (one_of (codes "at") rows) words.at
   pub contexts : IsFlagOf (one_of (codes "contexts") rows) words.contexts
+  pub steps : IsFlagOf (one_of (codes "steps") rows) words.steps
   pub json : IsFlagOf (one_of (codes "json") rows) words.json
   pub explain : IsExplainOf rows words.explain

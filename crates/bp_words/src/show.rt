@@ -37,6 +37,9 @@ pub struct ShowWords<'a> {
     pub at: Option<u64>,
     /// Whether `--contexts` was given: the contexts are shown, in place of the calls.
     pub contexts: bool,
+    /// Whether `--steps` was given: the steps are shown as `confirm` takes them, in place of the
+    /// calls.
+    pub steps: bool,
     /// Whether `--json` was given: each line is then a JSON object.
     pub json: bool,
     /// When a fault is explained.
@@ -110,6 +113,11 @@ pub fn show_command<'a>(alloc: Global) -> Result<Command<'a>, AllocError>
             help: "Show one line for each context in place of the calls",
         },
         Row {
+            name: "steps",
+            takes: Takes::Nothing,
+            help: "Show only the steps, as 'confirm' takes them, in place of the calls",
+        },
+        Row {
             name: "json",
             takes: Takes::Nothing,
             help: "Print one JSON object a line, for programs",
@@ -136,6 +144,7 @@ pub fn show_words<'a>(words: &ArgMatches<'a>) -> ShowWords<'a>
         state: is_given(words, "state"),
         at: given_long_number(words, "at"),
         contexts: is_given(words, "contexts"),
+        steps: is_given(words, "steps"),
         json: is_given(words, "json"),
         explain: explain_words(words),
     }

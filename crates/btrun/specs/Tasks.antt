@@ -114,7 +114,8 @@ module _ (bytes : List ℕ → Option (List ℕ)) (has_colour on_terminal : Bool
   abbrev pub show_job : ShowWords → Job
   show_job words =
       let format = fault_format words.json words.explain on_terminal in
-      let command = shows_as (view_options words has_colour) words.contexts words.at in
+      let options = view_options words has_colour in
+      let command = shows_as options words.contexts words.steps words.at in
       on_files bytes format command of_report MAX_TRACE Trace words.program.now words.trace.now
 
   -- what a task asks for; standard input has these bytes

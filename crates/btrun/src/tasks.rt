@@ -6,8 +6,8 @@ ghost use Rattle.btrun.specs.Tasks.{bound_of, confirm_job, fault_format, format_
 
 use bp_commands::{
     Check, Code, Confirm, Drive, FaultFormat, Files, ListingForm, Migrate, PairCommand, Replay,
-    RunEnd, Show, ShowContexts, ShowState, Shrink, Test, Workers, run_by_workers, run_on_bundle,
-    run_on_pair, run_on_program,
+    RunEnd, Show, ShowContexts, ShowState, ShowSteps, Shrink, Test, Workers, run_by_workers,
+    run_on_bundle, run_on_pair, run_on_program,
 };
 use bp_confirm::ContextBound;
 use bp_run::{Open, Spread};
@@ -224,8 +224,8 @@ fn view_options<'a>(words: &ShowWords<'a>, has_colour: bool) -> ViewOptions<'a>
     }
 }
 
-/// Shows the trace of a file: the state after a number of calls, its contexts, or its calls, by the
-/// first of these that is asked for.
+/// Shows the trace of a file: the state after a number of calls, its contexts, its steps, or its
+/// calls, by the first of these that is asked for.
 fn show_as_asked<F: Files, W: Write + Drop, E: Write>(
     io: Io<'_, F>,
     words: &ShowWords<'_>,
@@ -251,6 +251,9 @@ fn show_as_asked<F: Files, W: Write + Drop, E: Write>(
         None if words.contexts => {
             let contexts = ShowContexts { format };
             run_on_pair(alloc, files, &contexts, path, trace, told, out, errors)
+        }
+        None if words.steps => {
+            run_on_pair(alloc, files, &ShowSteps, path, trace, told, out, errors)
         }
         None => {
             let options = view_options(words, io.has_colour);

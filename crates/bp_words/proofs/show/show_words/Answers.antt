@@ -17,6 +17,7 @@ returns c = record {
   state = c.is_given-2.ensures;
   at = c.given_long_number-4.ensures;
   contexts = c.is_given-3.ensures;
-  json = c.is_given-4.ensures;
+  steps = c.is_given-4.ensures;
+  json = c.is_given-5.ensures;
   explain = c.explain_words.ensures;
 }
