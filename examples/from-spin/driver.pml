@@ -1,37 +1,35 @@
-// The driver of ../bluetooth/bluetooth.bp: a statement here is a step there, so a call of a procedure
-// and its end are steps that do nothing. The count of pending work is a number.
+// The driver of ../bluetooth/bluetooth.bp: each statement stands on the line on which the program
+// has it. A call and the end of a procedure are steps there, so they are steps here: `skip` before
+// what is called, and `ended`. SPIN wants procedures before their callers, so `#line` has the lines
+// of both. The count of pending work is a number.
+#define ended assert(true)
 bit stopping, idle, stopped;
 byte pending = 1;
 
+#line 23
 inline count() {
-  skip;
   pending = pending + 1;
-  skip
-}
+  ended }
 
 inline discount() {
-  skip;
   pending = pending - 1;
-  if
-  :: pending > 0 -> skip
-  :: else -> idle = 1
-  fi;
-  skip
-}
+  if :: pending > 0 -> skip :: else -> idle = 1 fi;
+  ended }
 
+#line 6
 active proctype worker() {
-  if
-  :: stopping -> skip
-  :: else ->
-    count();
+  if :: !stopping -> goto work :: else fi;
+    skip;
+    goto over;
+    work: skip; count();
     assert(!stopped);
-    discount()
-  fi
+    skip; discount();
+  over: ended
 }
 
 active proctype stopper() {
   stopping = 1;
-  discount();
+  skip; discount();
   idle;
-  stopped = 1
-}
+  stopped = 1;
+  ended }

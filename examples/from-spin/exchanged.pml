@@ -1,5 +1,5 @@
-// Peterson's lock with one assignment too late, as ../peterson/exchanged.bp has it: a statement here
-// is a step there.
+// Peterson's lock with one assignment too late, as ../peterson/exchanged.bp has it: each statement
+// stands on the line on which the program has it.
 bit first_wants, second_wants, second_first, busy;
 
 active proctype first() {
