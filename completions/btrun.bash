@@ -28,6 +28,7 @@ _btrun_options() {
         check) echo "$common --json" ;;
         code) echo "$common --source --json" ;;
         drive) echo "$common $start" ;;
+        confirm) echo "$common $start --json" ;;
         run) echo "$common $start --seed --turn --ring --spread" ;;
         test) echo "$common $start --seed --runs --jobs --stuck --unreached --json" ;;
         show) echo "$common --thread --last --from --to --watch --fold --state --at --contexts --json" ;;
@@ -46,10 +47,10 @@ _btrun() {
         *--contexts | *--calls | *--init | *--seed | *--turn | *--ring | *--runs | *--jobs | *--thread | *--last | *--from | *--to | *--at) return ;;
     esac
     if ((COMP_CWORD == 1)); then
-        words="check code drive run test replay show migrate shrink help --help --version"
+        words="check code drive confirm run test replay show migrate shrink help --help --version"
     elif [[ $word == -* ]]; then
         words=$(_btrun_options "${COMP_WORDS[1]}")
-    elif [[ ${COMP_WORDS[1]}${#files[@]} == @(run1|test1|drive2) ]]; then
+    elif [[ ${COMP_WORDS[1]}${#files[@]} == @(run1|test1|drive2|confirm2) ]]; then
         words=$(_btrun_entries "${files[0]}")
     else
         mapfile -t COMPREPLY < <(compgen -f -- "$word")

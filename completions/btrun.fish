@@ -11,7 +11,7 @@ end
 function __btrun_takes_entry
     set -l command (commandline -opc)[2]
     set -l files (count (__btrun_files))
-    contains $command$files run1 test1 drive2
+    contains $command$files run1 test1 drive2 confirm2
 end
 
 # The procedures of a program that take no arguments, as `check --json` has them.
@@ -30,6 +30,7 @@ complete -c btrun -n __btrun_takes_entry -f -a '(__btrun_entries)' -d 'An entry'
 complete -c btrun -n __fish_use_subcommand -f -a check -d 'Check a program'
 complete -c btrun -n __fish_use_subcommand -f -a code -d 'Print the listing of its code'
 complete -c btrun -n __fish_use_subcommand -f -a drive -d 'Drive it by a schedule'
+complete -c btrun -n __fish_use_subcommand -f -a confirm -d 'Confirm the steps that another tool reports'
 complete -c btrun -n __fish_use_subcommand -f -a run -d 'Run it by one worker for each thread'
 complete -c btrun -n __fish_use_subcommand -f -a test -d 'Test it by runs whose schedules are drawn'
 complete -c btrun -n __fish_use_subcommand -f -a replay -d 'Replay a trace'
@@ -38,12 +39,12 @@ complete -c btrun -n __fish_use_subcommand -f -a migrate -d 'Print the trace of 
 complete -c btrun -n __fish_use_subcommand -f -a shrink -d 'Make a failing trace smaller'
 complete -c btrun -n __fish_use_subcommand -f -a help -d 'Print help'
 
-set -l all check code drive run test replay show migrate shrink
+set -l all check code drive confirm run test replay show migrate shrink
 complete -c btrun -n "__fish_seen_subcommand_from $all" -l explain -d 'Explain a fault on further lines'
 complete -c btrun -n "__fish_seen_subcommand_from $all" -l no-explain -d 'Explain no fault'
 complete -c btrun -n "__fish_seen_subcommand_from $all" -l help -d 'Print help'
 
-set -l starting drive run test
+set -l starting drive confirm run test
 complete -c btrun -n "__fish_seen_subcommand_from $starting" -x -l contexts -d 'Allow N contexts'
 complete -c btrun -n "__fish_seen_subcommand_from $starting" -x -l calls -d 'Allow each thread N calls'
 complete -c btrun -n "__fish_seen_subcommand_from $starting" -x -l init -d 'The initial bits of the globals'
@@ -54,6 +55,8 @@ complete -c btrun -n "__fish_seen_subcommand_from $seeded" -x -l seed -d 'The se
 complete -c btrun -n '__fish_seen_subcommand_from check' -l json -d 'Print one JSON object'
 complete -c btrun -n '__fish_seen_subcommand_from code' -l source -d 'Print the statement of each instruction'
 complete -c btrun -n '__fish_seen_subcommand_from code' -l json -d 'Print one JSON object a line'
+
+complete -c btrun -n '__fish_seen_subcommand_from confirm' -l json -d 'Print a fault as one JSON object'
 
 complete -c btrun -n '__fish_seen_subcommand_from run' -x -l turn -d 'How many calls a worker makes in a turn'
 complete -c btrun -n '__fish_seen_subcommand_from run' -x -l ring -d 'How many calls wait to be printed'
