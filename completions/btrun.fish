@@ -77,4 +77,5 @@ complete -c btrun -n '__fish_seen_subcommand_from show' -l fold -d 'Show equal w
 complete -c btrun -n '__fish_seen_subcommand_from show' -l state -d 'Show the state after the last call too'
 complete -c btrun -n '__fish_seen_subcommand_from show' -x -l at -d 'Show the state after this call'
 complete -c btrun -n '__fish_seen_subcommand_from show' -l contexts -d 'Show a line for each context'
+complete -c btrun -n '__fish_seen_subcommand_from show' -l steps -d 'Show only the steps'
 complete -c btrun -n '__fish_seen_subcommand_from show' -l json -d 'Print one JSON object a line'
