@@ -61,8 +61,8 @@ fn word_of(action: &Action) -> &'static [u8]
     }
 }
 
-/// The number of the procedure that an instruction calls, and those of its successors: so many of
-/// these two.
+/// The numbers at the end of an instruction's line: its callee and its successors. The second
+/// result says how many of the two there are.
 fn successors(action: &Action) -> ([u32; 2], usize)
     ensures numbers { let numbers = listing.successors (instruction_of action.now) in
         take result.1 result.0 ≡ numbers }

@@ -43,7 +43,7 @@ impl Bell {
         }
     }
 
-    /// Wakes at most so many of the threads that sleep.
+    /// Wakes at most this number of the threads that sleep.
     pub fn ring(&self, most: u64) {
         self.wake(self.sleepers.load(Ordering::SeqCst).min(most));
     }

@@ -27,7 +27,7 @@ pub enum ReplayFault {
     #[error("the trace is too long")]
     TooLong,
     /// This line of the head is not as expected, or is not there.
-    #[error("line {0} of the trace is not the line of the head that is due")]
+    #[error("line {0} of the trace is not the one that the head has there")]
     Head(u32),
     /// The program does not take the setup that the head says.
     #[error("{0}")]
