@@ -3,7 +3,7 @@
 use crate::last_calls::{LastCall, push_last_call};
 use crate::sentences::{push_all, push_count, push_name, push_number, push_quoted};
 use crate::stand_sentences::{push_location, push_stand};
-use crate::steps_before::steps_before;
+use crate::steps_before::{next_line_of, push_context_lines, steps_before};
 use bp_confirm::{Stand, StepReason, StepRefusal, value_on_line};
 use bp_machine::limits::MAX_FRAMES;
 use bp_machine::{Reply, Start};
@@ -47,8 +47,15 @@ fn push_ambiguous(
     push_thread(out, refusal.thread)?;
     push_all(out, &[b" is at the '?' of "])?;
     push_stand(out, texts.program, refusal.stand)?;
-    let why = b", and both ways lead to the line of its next step, which wants a column";
-    push_all(out, &[why.as_slice()])
+    push_all(out, &[b", and both ways lead to the place of "])?;
+    match next_line_of(texts.steps, refusal.thread, refusal.line as usize) {
+        Some(line) => {
+            push_all(out, &[b"line "])?;
+            push_number(out, line)?;
+        }
+        None => push_all(out, &[b"its next step"])?,
+    }
+    push_all(out, &[b", which wants a column"])
 }
 
 /// Adds by which step a thread was finished, and why.
@@ -81,12 +88,17 @@ fn push_no_contexts(
     let before = steps_before(texts.steps, refusal.thread, refusal.line as usize);
     push_all(out, &[b"this step begins another context, and only "])?;
     push_count(out, before.contexts, b"context")?;
-    let verb: &[u8] = if before.contexts == 1 {
-        b" is"
-    } else {
-        b" are"
-    };
-    push_all(out, &[verb, b" allowed"])
+    match before.contexts {
+        0 => push_all(out, &[b" are allowed"]),
+        1 => {
+            push_all(out, &[b" is allowed; it begins at line"])?;
+            push_context_lines(out, texts.steps, refusal.line as usize)
+        }
+        _ => {
+            push_all(out, &[b" are allowed; they begin at lines"])?;
+            push_context_lines(out, texts.steps, refusal.line as usize)
+        }
+    }
 }
 
 /// Adds why the machine does not grant the step.

@@ -1,7 +1,12 @@
-//! What the steps before a line were.
+//! What the steps before and after a line are.
 
 use crate::numbers::number_at_front;
-use bp_text::take_line;
+use crate::sentences::{push_all, push_number};
+use bp_text::{Line, take_line};
+use std::alloc::AllocError;
+
+/// How many lines are listed before dots.
+const LISTED_LINES: usize = 6;
 
 /// The steps before a line, as far as they concern one thread.
 #[derive(Clone, Copy)]
@@ -14,6 +19,12 @@ pub(crate) struct StepsBefore {
     pub(crate) contexts: usize,
 }
 
+/// The thread that a line of steps names.
+fn thread_of(line: Option<Line<'_>>) -> Option<u32> {
+    let (thread, _) = number_at_front(line?.words)?;
+    Some(thread)
+}
+
 /// The steps before the line of this number, as far as they concern this thread.
 pub(crate) fn steps_before(steps: &[u8], thread: u32, number: usize) -> StepsBefore {
     let mut rest = steps;
@@ -24,11 +35,7 @@ pub(crate) fn steps_before(steps: &[u8], thread: u32, number: usize) -> StepsBef
         contexts: 0,
     };
     for line in 1..number {
-        let other = match take_line(&mut rest) {
-            Some(line) => number_at_front(line.words),
-            None => None,
-        };
-        let Some((other, _)) = other else {
+        let Some(other) = thread_of(take_line(&mut rest)) else {
             return before;
         };
         if other == thread {
@@ -41,4 +48,44 @@ pub(crate) fn steps_before(steps: &[u8], thread: u32, number: usize) -> StepsBef
         last = Some(other);
     }
     before
+}
+
+/// Adds the lines before the line of this number at which contexts begin: the first few of them.
+pub(crate) fn push_context_lines(
+    out: &mut Vec<u8>,
+    steps: &[u8],
+    number: usize,
+) -> Result<(), AllocError> {
+    let mut rest = steps;
+    let mut last = None;
+    let mut contexts: usize = 0;
+    for line in 1..number {
+        let thread = thread_of(take_line(&mut rest));
+        if thread == last || contexts > LISTED_LINES {
+            continue;
+        }
+        if contexts == LISTED_LINES {
+            push_all(out, &[b", .."])?;
+        } else {
+            let between: &[u8] = if contexts == 0 { b" " } else { b", " };
+            push_all(out, &[between])?;
+            push_number(out, line)?;
+        }
+        contexts += 1;
+        last = thread;
+    }
+    Ok(())
+}
+
+/// The first line after that of this number that is of this thread, where there is one.
+pub(crate) fn next_line_of(steps: &[u8], thread: u32, number: usize) -> Option<usize> {
+    let mut rest = steps;
+    let mut line: usize = 0;
+    while let Some(words) = take_line(&mut rest) {
+        line = line.saturating_add(1);
+        if line > number && thread_of(Some(words)) == Some(thread) {
+            return Some(line);
+        }
+    }
+    None
 }
