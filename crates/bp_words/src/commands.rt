@@ -150,6 +150,13 @@ fn invalid_value(alloc: Global, message: &str) -> Result<Error, AllocError>
     command(alloc)?.error(ErrorKind::InvalidValue, message)
 }
 
+/// The error of a word that is no command.
+pub(crate) fn no_command(alloc: Global, message: &str) -> Result<Error, AllocError>
+    ensures { IfOk result (λ e. kind_of e ≡ ErrorKind.InvalidSubcommand) }
+{
+    command(alloc)?.error(ErrorKind::InvalidSubcommand, message)
+}
+
 /// The error of words that are not UTF-8.
 pub fn not_text(alloc: Global) -> Result<Error, AllocError>
     ensures { IfOk result (λ e. kind_of e ≡ ErrorKind.InvalidValue) }

@@ -9,6 +9,7 @@ mod confirm;
 mod drive;
 mod explain;
 mod files;
+mod meant;
 mod names;
 mod run;
 mod show;

@@ -1,7 +1,9 @@
-//! What is said of the bad value of an option: also how the command is used.
+//! What is said of words that are refused: also how the command is used, and what was meant.
 ghost use Rattle.std.specs.Prelude.{◌≡◌, IfOk, IfSome};
 ghost use Rattle.clap.specs.Words.{kind_of};
 
+use crate::commands::no_command;
+use crate::meant::{of_file, of_number};
 use crate::names::{command_named, with_help};
 use clap::Error;
 use clap::error::ErrorKind;
@@ -24,13 +26,15 @@ fn program_of(path: &str) -> &str {
     }
 }
 
-/// The same error with the usage of the command that the words name, where they name one.
+/// The error of this kind with this message and the usage of the command that the words name,
+/// where they name one.
 fn error_with_usage(
     alloc: Global,
     words: &[String],
-    error: &Error,
+    kind: ErrorKind,
+    message: &str,
 ) -> Result<Option<Error>, AllocError>
-    ensures { IfOk result (λ o. IfSome o (λ e. kind_of e ≡ kind_of error.now)) }
+    ensures { IfOk result (λ o. IfSome o (λ e. kind_of e ≡ kind)) }
 {
     let (Some(path), Some(name)) = (words.first(), words.get(1)) else {
         return Ok(None);
@@ -40,23 +44,67 @@ fn error_with_usage(
     };
     let command = with_help(alloc, command)?;
     let called = format!(in alloc; "{} {}", program_of(path.as_str()), name.as_str())?;
-    let text = format!(in alloc; "{error}")?;
     let mut command = command.bin_name(called.as_str())?;
-    Ok(Some(command.error(error.kind(), message_of(text.as_str()))?))
+    Ok(Some(command.error(kind, message)?))
+}
+
+/// The same error with the usage of the command that the words name, where they name one.
+fn same_with_usage(
+    alloc: Global,
+    words: &[String],
+    error: &Error,
+) -> Result<Option<Error>, AllocError>
+    ensures { IfOk result (λ o. IfSome o (λ e. kind_of e ≡ kind_of error.now)) }
+{
+    let text = format!(in alloc; "{error}")?;
+    error_with_usage(alloc, words, error.kind(), message_of(text.as_str()))
+}
+
+/// The error of an option whose value is a number below 0, where that is why the words are refused.
+fn error_of_number(alloc: Global, words: &[String]) -> Result<Option<Error>, AllocError>
+    ensures { IfOk result (λ o. IfSome o (λ e. kind_of e ≡ ErrorKind.UnknownArgument)) }
+{
+    match of_number(alloc, words)? {
+        Some(said) => { error_with_usage(alloc, words, ErrorKind::UnknownArgument, said.as_str()) }
+        None => Ok(None),
+    }
+}
+
+/// The error of a file where a command is due, where that is why the words are refused.
+fn error_of_file(alloc: Global, words: &[String]) -> Result<Option<Error>, AllocError>
+    ensures { IfOk result (λ o. IfSome o (λ e. kind_of e ≡ ErrorKind.InvalidSubcommand)) }
+{
+    match of_file(alloc, words)? {
+        Some(said) => Ok(Some(no_command(alloc, said.as_str())?)),
+        None => Ok(None),
+    }
+}
+
+/// An error that says more than that of these words, where there is more to say.
+fn error_that_says_more(
+    alloc: Global,
+    words: &[String],
+    error: &Error,
+) -> Result<Option<Error>, AllocError>
+    ensures { IfOk result (λ o. IfSome o (λ e. kind_of e ≡ kind_of error.now)) }
+{
+    match error.kind() {
+        ErrorKind::InvalidValue | ErrorKind::ValueValidation => {
+            same_with_usage(alloc, words, error)
+        }
+        ErrorKind::UnknownArgument => error_of_number(alloc, words),
+        ErrorKind::InvalidSubcommand => error_of_file(alloc, words),
+        _ => Ok(None),
+    }
 }
 
 /// The error of words. That of a bad value of an option also says how the command is used that the
-/// words name. Where memory is refused it stays as it is.
+/// words name. That of a number below 0 says the range of its option, and that of a program's file
+/// in place of a command what was meant. Where memory is refused it stays as it is.
 pub fn with_usage(alloc: Global, words: &[String], error: Error) -> Error
     ensures { kind_of result ≡ kind_of error }
 {
-    if !matches!(
-        error.kind(),
-        ErrorKind::InvalidValue | ErrorKind::ValueValidation
-    ) {
-        return error;
-    }
-    match error_with_usage(alloc, words, &error) {
+    match error_that_says_more(alloc, words, &error) {
         Ok(Some(other)) => other,
         _ => error,
     }
