@@ -8,7 +8,7 @@ ghost use Rattle.bp_commands.specs.Given.{Pair};
 use crate::ends::Explained;
 use crate::faults::Fault;
 use crate::hints::Hints;
-use crate::messages::sentence;
+use crate::messages::shown_sentence;
 use bp_code::ProgramFault;
 use bp_confirm::ConfirmFault;
 use bp_explain::{explain_program, explain_schedule, explain_steps, explain_trace};
@@ -163,7 +163,7 @@ fn put_sentence<E: Write>(
     ensures { (said : List ℕ) × IsInWords said
         × Writes (E.contents errors.old) (E.contents errors.new) said result }
 {
-    match sentence(alloc, fault, hints) {
+    match shown_sentence(alloc, fault, hints) {
         Ok(sentence) => put_words(sentence.as_slice(), errors),
         Err(_) => put_words(b"out of memory", errors),
     }

@@ -6,11 +6,7 @@ use bp_text::{first_line, part_from, push_bytes};
 use std::alloc::{AllocError, Global};
 
 /// The fault in a sentence, which says what is known of the command line.
-pub(crate) fn sentence(
-    alloc: Global,
-    fault: &Fault,
-    hints: Hints<'_, '_>,
-) -> Result<Vec<u8>, AllocError> {
+fn sentence(alloc: Global, fault: &Fault, hints: Hints<'_, '_>) -> Result<Vec<u8>, AllocError> {
     if let Some(words) = hints.words(alloc, fault) {
         return Ok(words);
     }
@@ -18,6 +14,20 @@ pub(crate) fn sentence(
     let mut sentence = Vec::new(alloc);
     push_bytes(&mut sentence, words.as_bytes())?;
     Ok(sentence)
+}
+
+/// The same sentence for a terminal: a byte that would control it is shown as `?`.
+pub(crate) fn shown_sentence(
+    alloc: Global,
+    fault: &Fault,
+    hints: Hints<'_, '_>,
+) -> Result<Vec<u8>, AllocError> {
+    let words = sentence(alloc, fault, hints)?;
+    let mut shown = Vec::new(alloc);
+    for byte in words.as_slice() {
+        shown.push(if byte.is_ascii_control() { b'?' } else { *byte })?;
+    }
+    Ok(shown)
 }
 
 /// The sentence of an explanation. Its first line has the name of a file, a place, and a space
