@@ -4,7 +4,7 @@
 The terminal is a pseudoterminal. A failure is red and a switch is
 yellow there, unless NO_COLOR is set to a text; elsewhere nothing has a colour. A line of progress is shown and cleared
 there, unless NO_PROGRESS is set to a text; elsewhere there is none. A fault is explained there, unless --no-explain is
-given; elsewhere it is only with --explain.
+given; elsewhere it is only with --explain, or if BTRUN_EXPLAIN is set to a text.
 """
 import os
 import pty
@@ -89,7 +89,11 @@ def test_explanations(report, words):
     """Looks at what is said of a fault."""
     line = "btrun: 6 Syntax at 13\n"
     explained = harness.run([*words, "--explain"]).stderr.decode()
+    asked, unset = {**os.environ, "BTRUN_EXPLAIN": "1"}, {**os.environ, "BTRUN_EXPLAIN": ""}
     for name, told, is_explained in (
+        ("with BTRUN_EXPLAIN", harness.run(words, env=asked).stderr.decode(), True),
+        ("with BTRUN_EXPLAIN empty", harness.run(words, env=unset).stderr.decode(), False),
+        ("with BTRUN_EXPLAIN and --no-explain", harness.run([*words, "--no-explain"], env=asked).stderr.decode(), False),
         ("off a terminal", harness.run(words).stderr.decode(), False),
         ("on a terminal", shown_on_terminal(words, os.environ), True),
         ("with --no-explain", shown_on_terminal([*words, "--no-explain"], os.environ), False),

@@ -31,6 +31,12 @@ fn has_colour(rt: &HostRuntime) -> bool {
     !is_set(rt, "NO_COLOR") && rt.stdout().is_terminal()
 }
 
+/// Whether faults are explained where no option says so: standard error is a terminal, or
+/// BTRUN_EXPLAIN is set to a text.
+fn explains_faults(rt: &HostRuntime) -> bool {
+    is_set(rt, "BTRUN_EXPLAIN") || rt.stderr().is_terminal()
+}
+
 /// Whether what the task writes on standard error is JSON.
 fn has_json(task: &Task<'_>) -> bool {
     match task {
@@ -79,7 +85,7 @@ fn do_on_host<T: Threads + Wait + Clock + Sync>(
         alloc,
         files: &files,
         has_colour: has_colour(rt),
-        on_terminal: rt.stderr().is_terminal(),
+        on_terminal: explains_faults(rt),
     };
     let progress = progress_line(rt, task);
     let (end, _output) = do_task(io, threads, &progress, rt.stdin(), task, out, &mut errors);
