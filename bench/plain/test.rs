@@ -438,4 +438,13 @@ fn main() {
     );
     eprintln!("contexts: least {least}, middle {middle}, most {most}");
     eprintln!("reached: statements {tried} of {statements}, assertions {asserted} of 1, threads {stepped} of 2");
+    let notes = [
+        (test.contexts < 2, "fewer contexts than threads; raise --contexts"),
+        (tally.runs > 0 && asserted == 0, "no run reached an assertion"),
+        (tally.finished < tally.out_of_contexts, "more runs ran out of contexts than finished; raise --contexts"),
+        (tally.finished < tally.cut_off, "more runs were cut off than finished; raise --calls"),
+    ];
+    for (_, note) in notes.iter().filter(|(applies, _)| *applies && found.is_none()) {
+        eprintln!("note: {note}");
+    }
 }

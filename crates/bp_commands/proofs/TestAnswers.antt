@@ -1,5 +1,5 @@
 -- What testing a program says of the command `test`.
-use Rattle.std.proofs.Common.{◌≡◌, refl, sym, subst, inl, inr, ℕ, ◌<◌, ◌^◌, length, Bool, List, [], ◌∷◌, ◌++◌, Option, None, Some, map}
+use Rattle.std.proofs.Common.{◌≡◌, ◌∙◌, ap, refl, sym, subst, inl, inr, ℕ, ◌<◌, ◌^◌, length, Bool, List, [], ◌∷◌, ◌++◌, Option, None, Some, map}
 use Rattle.std.specs.Io.KnownBytes.{Appends, Keeps}
 use Rattle.std.proofs.KnownBytes.{Appends-nil, Keeps-refl}
 use Rattle.bp_tree.specs.Ast.{Program}
@@ -24,6 +24,7 @@ use Rattle.bp_commands.specs.Commands.{IsDoneWith, IsRefusedWith}
 use Rattle.bp_commands.specs.Faults.{fault_of_setup, fault_of_test}
 use Rattle.bp_commands.specs.declared.faults.Fault.TheVariants.{Memory}
 use Rattle.bp_commands.specs.declared.testing.Tested.{Tested}
+use Rattle.bp_commands.specs.Notes.{notes_of}
 use Rattle.bp_commands.specs.Tests.{tests, AreListed, IsTestable}
 
 module _ (start : StartOf) (x : TestOptions) (listed : Option (List ℕ)) (json : Bool) (text : List ℕ) (t : Program) (lawful : IsLawfulText text t) where
@@ -74,9 +75,10 @@ module _ (start : StartOf) (x : TestOptions) (listed : Option (List ℕ)) (json 
 
     pub done : (made : Made) → IsTest t s x old new made → (tested : Tested) → tested.found ≡ made.found → tested.reached ≡ made.tally.reached
         → ((z : SetupOf) (runs : List MadeRun) → length runs < 2 ^ 64 → IsCounted z runs made.tally → AreCounts z runs tested.counts)
+        → tested.notes ≡ notes_of tested.found s.contexts tested.counts
         → tested.options ≡ x → tested.json ≡ json → AreListed json listed text t (map (λ v. v.items) tested.lines.items)
         → IsDoneWith (tests start x listed json) old new text tested
-    done made test tested found_is reached_is counts options form lines =
+    done made test tested found_is reached_is counts notes options form lines =
         let of_setup = subst (λ y. IsTest t y x old new made) setup test in
         let found = alone tested.found of_setup.runs (subst (λ f. IsFound t taken x old new f of_setup.runs) (sym found_is) of_setup.found) in record {
           text = found.text_is;
@@ -86,6 +88,7 @@ module _ (start : StartOf) (x : TestOptions) (listed : Option (List ℕ)) (json 
             found = found.found;
             counted = counts taken of_setup.runs of_setup.few of_setup.tallied.counted;
             reached = subst (λ v. HasReached t taken of_setup.runs v.items) (sym reached_is) of_setup.tallied.reached;
+            notes_are = notes ∙ ap (λ z. notes_of tested.found z.contexts tested.counts) setup;
             options_are = options;
             json_is = form;
             lines = lines;

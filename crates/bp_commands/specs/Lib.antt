@@ -15,6 +15,7 @@ pub mod Given
 pub mod Inputs
 pub mod Jobs
 pub mod Listings
+pub mod Notes
 pub mod ProgressTexts
 pub mod ReplayLines
 pub mod Runs

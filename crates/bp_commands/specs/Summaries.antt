@@ -7,6 +7,7 @@ use Rattle.bp_test.specs.declared.options.TestOptions.{TestOptions}
 use Rattle.bp_test.specs.declared.testing.Found.{Found}
 use Rattle.bp_test.specs.declared.testing.Found.TheVariants.{Nothing, Failed, Stuck}
 use Rattle.bp_commands.specs.declared.testing.Tested.{Tested}
+use Rattle.bp_commands.specs.Notes.{notes_text}
 
 abbrev pub found_text : List ℕ → (run runs : ℕ) → List ℕ
 found_text words run runs =
@@ -67,4 +68,5 @@ unreached_text (line ∷ lines) (is_reached ∷ marks) =
 abbrev pub summary_text : Tested → List ℕ
 summary_text x =
     finding_text x.options x.found
-    ++ (counts_text x.counts ++ unreached_text x.lines.items x.reached.items)
+    ++ (counts_text x.counts
+    ++ (notes_text x.notes ++ unreached_text x.lines.items x.reached.items))

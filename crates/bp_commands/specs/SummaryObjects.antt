@@ -8,6 +8,7 @@ use Rattle.bp_test.specs.declared.testing.Found.TheVariants.{Nothing, Failed, St
 use Rattle.bp_text.specs.JsonStrings.{string_text}
 use Rattle.bp_text.specs.Pieces.{key_text, number_or_null}
 use Rattle.bp_commands.specs.declared.testing.Tested.{Tested}
+use Rattle.bp_commands.specs.Notes.{notes_members}
 use Rattle.bp_commands.specs.Summaries.{unreached_text}
 
 abbrev pub found_name : Found → List ℕ
@@ -50,10 +51,11 @@ counts_members x =
     ∷ key_text (codes "all") ∷ decimal x.assertions.all
     ∷ codes "},\"threads\":{\"reached\":" ∷ decimal x.threads.reached
     ∷ key_text (codes "all") ∷ decimal x.threads.all
-    ∷ codes "}}\n" ∷ [])
+    ∷ codes "}" ∷ [])
 
 abbrev pub summary_object : Tested → List ℕ
-summary_object x = finding_members x.found x.options.runs ++ counts_members x.counts
+summary_object x =
+    finding_members x.found x.options.runs ++ (counts_members x.counts ++ notes_members x.notes)
 
 -- the summary, and the objects of the statements that were not reached
 abbrev pub summary_objects : Tested → List ℕ

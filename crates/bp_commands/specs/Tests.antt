@@ -22,6 +22,7 @@ use Rattle.bp_commands.specs.Commands.{Command}
 use Rattle.bp_commands.specs.Ends.{Ending}
 use Rattle.bp_commands.specs.Faults.{fault_of_setup}
 use Rattle.bp_commands.specs.Listings.{HasNoCode}
+use Rattle.bp_commands.specs.Notes.{notes_of}
 use Rattle.bp_commands.specs.Summaries.{summary_text}
 use Rattle.bp_commands.specs.SummaryObjects.{summary_objects}
 
@@ -85,6 +86,7 @@ module _
     pub reached :
         let t = testable.program in
         HasReached t (setup_from start None t) runs tested.reached.items
+    pub notes_are : tested.notes ≡ notes_of tested.found start.contexts tested.counts
     pub options_are : tested.options ≡ x
     pub json_is : tested.json ≡ json
     pub lines : AreListed json listed text testable.program (map (λ v. v.items) tested.lines.items)

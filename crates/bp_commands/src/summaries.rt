@@ -4,6 +4,7 @@ ghost use Rattle.bp_text.specs.Writing.{Writes};
 ghost use Rattle.bp_commands.specs.Summaries.{counts_text, finding_text, found_text};
 ghost use Rattle.bp_commands.specs.Summaries.{line_unless, nothing_text, nothing_words, summary_text, unreached_text};
 
+use crate::notes::put_notes;
 use crate::testing::Tested;
 use bp_test::{Counts, Found, TestOptions};
 use bp_text::Piece::{Bytes, Number};
@@ -148,5 +149,6 @@ pub(crate) fn put_summary<W: Write>(tested: &Tested, out: &mut W) -> Result<(), 
 {
     put_finding(&tested.options, tested.found, out)?;
     put_counts(&tested.counts, out)?;
+    put_notes(tested.notes, out)?;
     put_unreached(tested.lines.as_slice(), tested.reached.as_slice(), out)
 }

@@ -4,6 +4,7 @@ ghost use Rattle.std.specs.Prelude.{◌≡◌};
 ghost use Rattle.bp_text.specs.Writing.{Writes};
 ghost use Rattle.bp_commands.specs.SummaryObjects.{counts_members, finding_members, found_name, found_run, summary_object, summary_objects};
 
+use crate::notes::put_notes_members;
 use crate::summaries::put_unreached;
 use crate::testing::Tested;
 use bp_test::{Counts, Found};
@@ -91,7 +92,7 @@ fn put_counts_members<W: Write>(counts: &Counts, out: &mut W) -> Result<(), Writ
             Number(counts.threads.reached),
             Key(b"all"),
             Number(counts.threads.all),
-            Bytes(b"}}\n"),
+            Bytes(b"}"),
         ],
     )
 }
@@ -102,7 +103,8 @@ fn put_summary_object<W: Write>(tested: &Tested, out: &mut W) -> Result<(), Writ
         Writes (W.contents out.old) (W.contents out.new) text result }
 {
     put_finding_members(tested.found, tested.options.runs, out)?;
-    put_counts_members(&tested.counts, out)
+    put_counts_members(&tested.counts, out)?;
+    put_notes_members(tested.notes, out)
 }
 
 /// Writes the summary of a test as objects, each on a line.

@@ -5,6 +5,7 @@ ghost use Rattle.bp_commands.specs.Tests.{name_of, AreListed};
 use crate::commands::ProgramCommand;
 use crate::ends::Ended;
 use crate::faults::Fault;
+use crate::notes::{Notes, notes_of};
 use crate::showing::program_of;
 use crate::summaries::put_summary;
 use crate::summary_objects::put_summary_objects;
@@ -42,6 +43,8 @@ pub struct Tested {
     pub options: TestOptions,
     pub found: Found,
     pub counts: Counts,
+    /// Where that may mislead.
+    pub notes: Notes,
     /// The lines of the program's statements, where those that no run reached are listed.
     pub lines: Vec<Vec<u8>>,
     /// For each instruction of the code, whether a run reached it.
@@ -104,10 +107,13 @@ impl<R: Threads + Sync, P: Progress> ProgramCommand for Test<'_, R, P> {
         let options = self.options;
         let (runtime, progress) = (self.runtime, self.progress);
         let tested = test(runtime, alloc, &code, &setup, &options, progress, out)?;
+        let counts = tested.tally.counts(&code);
+        let notes = notes_of(tested.found, setup.contexts(), &counts);
         Ok(Tested {
             options,
             found: tested.found,
-            counts: tested.tally.counts(&code),
+            counts,
+            notes,
             lines,
             reached: tested.tally.reached,
             json: self.json,

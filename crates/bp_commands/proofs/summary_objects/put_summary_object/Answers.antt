@@ -1,5 +1,7 @@
+use Rattle.std.proofs.Common.{◌++◌}
 use Rattle.std.proofs.lemmas.Result.{err_from_is_err_and}
-use Rattle.bp_text.proofs.Appends.{part_first, writes_then}
+use Rattle.bp_text.proofs.Appends.{part_first, part_then, writes_then}
+use Rattle.bp_commands.specs.Notes.{notes_members}
 use Rattle.bp_commands.specs.SummaryObjects.{counts_members, finding_members}
 use Rattle.bp_commands.proofs.summary_objects.put_summary_object.Goals as goal
 
@@ -7,9 +9,17 @@ pub returns-in_err-put_finding_members : goal.returns-in_err-put_finding_members
 returns-in_err-put_finding_members g c =
     let p = err_from_is_err_and c.from_residual.result c.from_residual.ensures.1 in
     let x = c.args.tested.now in
-    rw p.1 (part_first _ _ (finding_members x.found x.options.runs) (counts_members x.counts) c.in_err-put_finding_members.ensures)
+    rw p.1 (part_first _ _ (finding_members x.found x.options.runs) (counts_members x.counts ++ notes_members x.notes) c.in_err-put_finding_members.ensures)
+
+pub returns-in_err-put_counts_members : goal.returns-in_err-put_counts_members
+returns-in_err-put_counts_members g c =
+    let p = err_from_is_err_and c.from_residual-in_err-put_counts_members.result c.from_residual-in_err-put_counts_members.ensures.1 in
+    let x = c.args.tested.now in
+    rw p.1 (part_then _ _ _ (finding_members x.found x.options.runs) (counts_members x.counts ++ notes_members x.notes) c.in_ok-put_finding_members.ensures
+    (part_first _ _ (counts_members x.counts) (notes_members x.notes) c.in_err-put_counts_members.ensures))
 
 pub returns : goal.returns
 returns g c =
     let x = c.args.tested.now in
-    writes_then _ _ _ (finding_members x.found x.options.runs) (counts_members x.counts) _ c.in_ok-put_finding_members.ensures c.put_counts_members.ensures
+    writes_then _ _ _ (finding_members x.found x.options.runs) (counts_members x.counts ++ notes_members x.notes) _ c.in_ok-put_finding_members.ensures
+    (writes_then _ _ _ (counts_members x.counts) (notes_members x.notes) _ c.in_ok-put_counts_members.ensures c.put_notes_members.ensures)

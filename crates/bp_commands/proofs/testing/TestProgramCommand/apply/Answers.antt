@@ -31,4 +31,4 @@ returns g c =
     let of = c.in_ok-checked.ensures in
     let setup = c.in_ok-setup.ensures.answer c.in_ok-checked.checked of.1 in
     done c.args.self.now.start.now c.args.self.now.options _ c.args.self.now.json c.args.text.now c.in_ok-checked.checked of.0 _ setup.0 setup.1 _ _
-    c.in_ok-tested.tested (c.in_ok-tested.ensures c.in_ok-checked.checked of.1) _ refl refl c.counts.ensures refl refl c.in_ok-lines.ensures
+    c.in_ok-tested.tested (c.in_ok-tested.ensures c.in_ok-checked.checked of.1) _ refl refl c.counts-counts.ensures (rw c.contexts.ensures at c.notes_of-notes.ensures) refl refl c.in_ok-lines.ensures
