@@ -7,7 +7,7 @@ use Rattle.bp_test.specs.declared.testing.Found.TheVariants.{Nothing, Failed, St
 use Rattle.bp_text.specs.Pieces.{key_text, truth_text}
 use Rattle.bp_commands.specs.declared.notes.Notes.{Notes}
 
--- what was found may mislead where it is nothing: with k contexts allowed, and these counts
+-- how a test that found nothing may mislead, with k contexts allowed and these counts
 abbrev pub notes_of : Found → (k : ℕ) → Counts → Notes
 notes_of Nothing k x = record {
   few_contexts = nat_lt k x.threads.all;

@@ -52,7 +52,7 @@ pub(crate) fn of_program(
     }
 }
 
-/// The explanation of a fault of a schedule. Where no start is said the run has the defaults.
+/// The explanation of a fault of a schedule. Without a start, the defaults apply.
 fn of_schedule(
     alloc: Global,
     fault: &DriveFault,
@@ -73,7 +73,7 @@ fn of_schedule(
     }
 }
 
-/// The explanation of a fault of reported steps. Where no start is said the run has the defaults.
+/// The explanation of a fault of reported steps. Without a start, the defaults apply.
 fn of_steps(
     alloc: Global,
     fault: &ConfirmFault,

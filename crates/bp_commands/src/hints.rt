@@ -136,7 +136,7 @@ fn of_start(alloc: Global, asked: Asked<'_, '_>, fault: SetupFault) -> Option<Ve
     }
 }
 
-/// The watched name of this number, from 1, of which no variable is.
+/// What is said of the watched name at this place, from 1. No variable has that name.
 fn of_watch(alloc: Global, asked: Asked<'_, '_>, number: u64) -> Option<Vec<u8>> {
     let mut place: u64 = 1;
     for name in asked.watch?.split(',') {

@@ -41,7 +41,7 @@ const OUT_OF_CONTEXTS: &[u8] =
 
 const CUT_OFF: &[u8] = b"note: more runs were cut off than finished; raise --calls\n";
 
-/// Where a test may mislead that found this, with as many contexts as were allowed and these counts.
+/// Where a test may mislead, by what it found, how many contexts were allowed, and its counts.
 pub(crate) fn notes_of(found: Found, contexts: u32, counts: &Counts) -> Notes
     ensures { result ≡ notes_of found contexts counts.now }
 {

@@ -41,8 +41,8 @@ fn values_on(steps: &[u8], line: u32) -> Option<&[u8]>
     Some(values)
 }
 
-/// The value of this place on a line of a text of steps. Lines are counted from 1, and the values of
-/// a line from 0.
+/// The value at this place on a line of a text of steps. Lines are counted from 1, and the values
+/// of a line from 0.
 pub fn value_on_line(steps: &[u8], line: u32, place: usize) -> Option<SeenValue<'_>>
     ensures { IsValueOnLine steps.now line place (option_map value_of result) }
 {

@@ -118,7 +118,8 @@ abbrev pub ExplainsSteps : List ℕ → List ℕ → ConfirmFault → List ℕ �
 ExplainsSteps name steps confirm.TooLong explained = ExplainsLength name explained
 ExplainsSteps name steps (confirm.Line n) explained = ExplainsLine name steps n explained
 ExplainsSteps name steps (confirm.NoThread n thread) explained = ExplainsLine name steps n explained
-ExplainsSteps name steps (confirm.NoVariable n value) explained = ExplainsLine name steps n explained
+ExplainsSteps name steps (confirm.NoVariable n value) explained =
+    ExplainsLine name steps n explained
 ExplainsSteps name steps (confirm.Step r) explained = ExplainsLine name steps r.line explained
 ExplainsSteps name steps confirm.Memory explained = explained ≡ []
 ExplainsSteps name steps confirm.Write explained = explained ≡ []

@@ -28,7 +28,7 @@ fn push_listed(out: &mut Vec<u8>, place: usize, name: &Name) -> Result<(), Alloc
     push_name(out, name.text().as_bytes())
 }
 
-/// Adds the procedures with which a thread may begin.
+/// Adds the possible entries of a thread: the procedures without formals.
 fn push_possible_entries(out: &mut Vec<u8>, tree: &Tree) -> Result<(), AllocError> {
     let mut place: usize = 0;
     for proc in tree.procs() {
@@ -40,7 +40,7 @@ fn push_possible_entries(out: &mut Vec<u8>, tree: &Tree) -> Result<(), AllocErro
     Ok(())
 }
 
-/// Adds that there is no procedure with which threads begin where no entries are named.
+/// Adds that the default entry does not exist, and lists the possible entries.
 fn push_no_default(out: &mut Vec<u8>, tree: &Tree) -> Result<(), AllocError> {
     push_all(out, &[b"there is no procedure "])?;
     push_quoted(out, DEFAULT_ENTRY.as_bytes())?;
@@ -144,8 +144,7 @@ pub fn start_sentence(
     Ok(sentence)
 }
 
-/// The sentence on a name of which no variable of the program of a text is. The only error is
-/// refused memory.
+/// The sentence on a name that no variable of the program has. The only error is refused memory.
 pub fn variable_sentence(alloc: Global, program: &[u8], name: &str) -> Result<Vec<u8>, AllocError> {
     let mut sentence = Vec::new(alloc);
     push_all(&mut sentence, &[b"no variable "])?;

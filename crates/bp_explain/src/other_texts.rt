@@ -11,7 +11,7 @@ const BYTE_ORDER_MARK: &[u8] = b"\xef\xbb\xbf";
 /// What is said of a line that ends in a carriage return and a line feed.
 pub(crate) const ENDS_IN_CR_LF: &[u8] = b"the line ends in CR LF; end each line in LF only";
 
-/// What a text is that is no program text, where its front tells.
+/// What is said of a text that is no program, if its beginning tells what it is.
 pub(crate) fn other_than_program(text: &[u8]) -> Option<&'static [u8]> {
     if text.starts_with(TRACE) {
         return Some(b"this file is a trace; the program comes first");

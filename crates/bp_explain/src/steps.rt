@@ -83,8 +83,8 @@ fn explain_refusal(
 
 /// Explains this fault of the reported steps of the program of a text, which run from this start: a
 /// line `NAME:LINE: ` and a sentence, and that line of the steps. Steps that are too long have the
-/// line `NAME: ` and a sentence. Nothing is said of refused memory and of an output that failed. The
-/// only error is refused memory.
+/// line `NAME: ` and a sentence. Nothing is said of refused memory and of an output that failed.
+/// The only error is refused memory.
 pub fn explain_steps(
     alloc: Global,
     program: &[u8],

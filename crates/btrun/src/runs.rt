@@ -31,7 +31,7 @@ fn has_colour(rt: &HostRuntime) -> bool {
     !is_set(rt, "NO_COLOR") && rt.stdout().is_terminal()
 }
 
-/// Whether faults are explained where no option says so: standard error is a terminal, or
+/// Whether faults are explained if no option says so: standard error is a terminal, or
 /// BTRUN_EXPLAIN is set to a text.
 fn explains_faults(rt: &HostRuntime) -> bool {
     is_set(rt, "BTRUN_EXPLAIN") || rt.stderr().is_terminal()

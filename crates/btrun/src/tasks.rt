@@ -29,7 +29,7 @@ pub struct Io<'a, F> {
     pub files: &'a F,
     /// Whether colours are wanted on standard output.
     pub has_colour: bool,
-    /// Whether faults are explained where no option says so, as on a terminal.
+    /// Whether faults are explained if no option says so, as on a terminal.
     pub on_terminal: bool,
 }
 
