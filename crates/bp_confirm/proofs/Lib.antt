@@ -25,3 +25,7 @@ pub mod ColumnsTell
 pub mod FullBlocks
 pub mod OwnLinesTaken
 pub mod OwnStepsMade
+pub mod OneInstruction
+pub mod OneReason
+pub mod OneStepRefusal
+pub mod OneTextRefusal

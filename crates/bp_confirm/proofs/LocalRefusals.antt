@@ -18,7 +18,7 @@ use Rattle.bp_confirm.specs.Steps.{StepOf, value_seen, SeesValues, IsStepOf}
 use Rattle.bp_confirm.specs.Inferred.{bit_of_block, bit_of_stack, some_follow}
 use Rattle.bp_confirm.proofs.StepMoves.{move_of, has_left, has_failed}
 
-not_granted : (r q : Reply) → Some q ≡ Some r → is_granted q ≡ true → is_granted r ≡ false → ⊥
+pub not_granted : (r q : Reply) → Some q ≡ Some r → is_granted q ≡ true → is_granted r ≡ false → ⊥
 not_granted r q e yes_it no_it = let same : q ≡ r = cc in false≢true (sym no_it ∙ sym (ap is_granted same) ∙ yes_it)
 
 module _ (ps : List Procedure) (g : Valuation) (f : Frame) (fs : List Frame) (r : Reply) (refused : is_granted r ≡ false) where
@@ -149,24 +149,30 @@ sees_alike : (c d : Configuration) (i : ℕ) → ((x : List ℕ) → value_seen 
 sees_alike c d i same [] sees = tt
 sees_alike c d i same (v ∷ vs) (here, rest) = (same v.0 ∙ here, sees_alike c d i same vs rest)
 
--- the values after a granted call with the inferred bit are those after a call with another bit
-pub other_values : (t : Program) (s : SetupOf) (h : List Call) (x : StepOf) (a : Call) → IsStepOf t s h (record x { values = [] }) a
-    → (SeesValues (configuration_after t s (h ++ a ∷ [])) x.thread x.values → ⊥)
-    → (y : Call) → IsStepOf t s h x y → ⊥
-other_values t s h x a takes differ y wanted =
+-- after two calls that are granted, whatever their bits, the thread sees the same
+pub seen_same : (t : Program) (s : SetupOf) (h : List Call) (x : StepOf) (a y : Call) → IsStepOf t s h (record x { values = [] }) a → IsStepOf t s h (record x { values = [] }) y
+    → (z : List ℕ)
+    → value_seen (configuration_after t s (h ++ a ∷ [])).globals (stack_of (configuration_after t s (h ++ a ∷ [])) x.thread) z
+    ≡ value_seen (configuration_after t s (h ++ y ∷ [])).globals (stack_of (configuration_after t s (h ++ y ∷ [])) x.thread) z
+seen_same t s h x a y takes as_well z =
     let c = configuration_after t s h in
     let own = move_of t s h (record x { values = [] }) a takes in
-    let other = move_of t s h x y wanted in
+    let other = move_of t s h (record x { values = [] }) y as_well in
     let tops : own.frame ∷ own.below ≡ other.frame ∷ other.below = sym own.stack ∙ other.stack in
     let frame : own.frame ≡ other.frame = cc in
     let below : own.below ≡ other.below = cc in
     let moved : after_effect c x.thread (effect t.procedures other.frame.left c.globals other.frame other.below a.bit) ≡ Some (configuration_after t s (h ++ a ∷ [])) =
     (λ j. after_effect c x.thread (effect t.procedures (sym frame j).left c.globals (sym frame j) (sym below j) a.bit)) ∙ own.moved in
-    differ (sees_alike (configuration_after t s (h ++ a ∷ [])) (configuration_after t s (h ++ y ∷ [])) x.thread
-    (λ z.
     seen_there c (configuration_after t s (h ++ a ∷ [])) x.thread (other.frame ∷ other.below) (effect t.procedures other.frame.left c.globals other.frame other.below a.bit) z own.within other.stack moved
     ∙ seen_alike t.procedures c.globals other.frame other.below z other.frame.left a.bit y.bit
     (moves_on c (configuration_after t s (h ++ a ∷ [])) x.thread (effect t.procedures other.frame.left c.globals other.frame other.below a.bit) moved)
     (moves_on c (configuration_after t s (h ++ y ∷ [])) x.thread (effect t.procedures other.frame.left c.globals other.frame other.below y.bit) other.moved)
-    ∙ sym (seen_there c (configuration_after t s (h ++ y ∷ [])) x.thread (other.frame ∷ other.below) (effect t.procedures other.frame.left c.globals other.frame other.below y.bit) z other.within other.stack other.moved))
-    x.values wanted.values)
+    ∙ sym (seen_there c (configuration_after t s (h ++ y ∷ [])) x.thread (other.frame ∷ other.below) (effect t.procedures other.frame.left c.globals other.frame other.below y.bit) z other.within other.stack other.moved)
+
+-- so where the thread does not see the values after one, it does not after the other
+pub other_values : (t : Program) (s : SetupOf) (h : List Call) (x : StepOf) (a : Call) → IsStepOf t s h (record x { values = [] }) a
+    → (SeesValues (configuration_after t s (h ++ a ∷ [])) x.thread x.values → ⊥)
+    → (y : Call) → IsStepOf t s h x y → ⊥
+other_values t s h x a takes differ y wanted =
+    let bare : IsStepOf t s h (record x { values = [] }) y = record { thread = wanted.thread; allowed = wanted.allowed; granted = wanted.granted; at = wanted.at; values = tt } in
+    differ (sees_alike (configuration_after t s (h ++ a ∷ [])) (configuration_after t s (h ++ y ∷ [])) x.thread (seen_same t s h x a y takes bare) x.values wanted.values)

@@ -23,7 +23,7 @@ module _ (t : Program) (s : SetupOf) where
       let line : line_of_call a ≡ line_of_call b = λ j. record { thread = thread j; bit = bit j } in
       same_call t s h a b line p.takes.allowed q.takes.allowed
 
-  one_history : (h : List Call) (xs later : List StepOf) (p q : List Call) → FollowAfter t s h xs later p → FollowAfter t s h xs later q → p ≡ q
+  pub one_history : (h : List Call) (xs later : List StepOf) (p q : List Call) → FollowAfter t s h xs later p → FollowAfter t s h xs later q → p ≡ q
   one_history h [] later [] [] f g = refl
   one_history h [] later [] (b ∷ q) f g = absurd g
   one_history h [] later (a ∷ p) q f g = absurd f

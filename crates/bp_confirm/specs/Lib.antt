@@ -19,3 +19,4 @@ pub mod ContextBounds
 pub mod Reading
 pub mod OwnLines
 pub mod OwnSteps
+pub mod OneRefusal

@@ -25,7 +25,10 @@ mod values;
 pub use confirming::{ConfirmFault, confirm};
 pub use context_bounds::ContextBound;
 pub use faults::{StepReason, StepRefusal};
-pub use laws::{refused_steps_are_not_taken, steps_are_of_the_run, texts_are_read_in_one_way};
+pub use laws::{
+    refused_steps_are_not_taken, steps_are_of_the_run, steps_have_one_answer,
+    texts_are_read_in_one_way,
+};
 pub use line_values::value_on_line;
 pub use locations::Location;
 pub use noted_steps::{OwnStep, OwnSteps, own_steps};

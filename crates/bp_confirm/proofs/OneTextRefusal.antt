@@ -1,0 +1,176 @@
+-- A text of steps has at most one refusal, and none where a history confirms them.
+use Rattle.std.proofs.Common.{◌≡◌, ◌≢◌, ◌∙◌, ◌⊎◌, inl, inr, ◌<◌, ◌≤◌, ◌+◌, ℕ, Bool, true, false, List, [], ◌∷◌, ◌++◌, length, refl, ap, sym, subst, arith}
+use Rattle.std.specs.List.{AllByRecursion}
+use Rattle.std.proofs.lemmas.Bool.{false≢true}
+use Rattle.bp_tree.specs.Ast.{Program}
+use Rattle.bp_code.specs.LawfulTexts.{IsLawfulText}
+use Rattle.bp_code.specs.Values.{Valuation}
+use Rattle.bp_machine.specs.declared.calls.Call.{Call}
+use Rattle.bp_machine.specs.Contexts.{IsLeastWithin}
+use Rattle.bp_machine.specs.Setups.{SetupOf, threads}
+use Rattle.bp_machine.proofs.ContextCounts.{least_opened}
+use Rattle.bp_trace.specs.declared.limits.TheConstants.{MAX_SCHEDULE}
+use Rattle.bp_confirm.specs.declared.confirming.ConfirmFault.{ConfirmFault}
+use Rattle.bp_confirm.specs.declared.confirming.ConfirmFault.TheVariants.{TooLong, Line, NoThread, NoVariable, Step, Memory, Write}
+use Rattle.bp_confirm.specs.declared.context_bounds.ContextBound.{ContextBound}
+use Rattle.bp_confirm.specs.declared.context_bounds.ContextBound.TheVariants.{Kept, AsUsed}
+use Rattle.bp_confirm.specs.declared.faults.StepRefusal.{StepRefusal}
+use Rattle.bp_confirm.specs.Confirms.{IsStepRefusal}
+use Rattle.bp_confirm.specs.ConfirmedTexts.{AreRead, HasStray, IsConfirmedText, IsShortText, IsStepsRefusal}
+use Rattle.bp_confirm.specs.ContextBounds.{IsSetupFor, contexts_allowed, thread_of}
+use Rattle.bp_confirm.specs.DeclaredLines.{AreDeclared, AreDeclaredLines, IsDeclared, IsFirstStray, IsFirstUndeclared, IsOfNoThread, IsOfNoVariable, declares}
+use Rattle.bp_confirm.specs.OneRefusal.{NoRefusalOfConfirmed, OneRefusal}
+use Rattle.bp_confirm.specs.StepLines.{StepLineOf, steps_of}
+use Rattle.bp_confirm.specs.StepTexts.{HasLines, IsBadLine}
+use Rattle.bp_confirm.proofs.OneReading.{bad_begins, one_bad, one_reading}
+use Rattle.bp_confirm.proofs.OneStepRefusal.{IsInFront, cuts, not_confirmed_too, one_step_refusal}
+
+all_here : {X : Type 0} (P : X → Type 0) (a : List X) (x : X) (c : List X) → AllByRecursion P (a ++ x ∷ c) → P x
+all_here P [] x c all = all.0
+all_here P (y ∷ a) x c all = all_here P a x c all.1
+
+-- lines of what is not declared
+module _ (t : Program) (s : SetupOf) where
+  not_both : (vs : Valuation) (n : ℕ) → IsFirstUndeclared t vs n → AreDeclared t vs → ⊥
+  not_both vs n p all =
+      false≢true (sym p.undeclared ∙ all_here (λ v. declares t v.0 ≡ true) p.before p.value p.after (subst (AreDeclared t) p.parts all))
+
+  one_undeclared : (vs : Valuation) (m n : ℕ) → IsFirstUndeclared t vs m → IsFirstUndeclared t vs n → m ≡ n
+  one_undeclared vs m n p q =
+      elim (cuts p.before p.value p.after q.before q.value q.after (sym p.parts ∙ q.parts)) [
+        | inl same ↦ p.number ∙ ap length same.front ∙ sym q.number
+        | inr other ↦ elim other [
+          | inl cut ↦ absurd (false≢true (sym p.undeclared ∙ all_here (λ v. declares t v.0 ≡ true) p.before p.value cut.middle (subst (AreDeclared t) cut.front q.first)))
+          | inr cut ↦ absurd (false≢true (sym q.undeclared ∙ all_here (λ v. declares t v.0 ≡ true) q.before q.value cut.middle (subst (AreDeclared t) cut.front p.first)))
+        ]
+      ]
+
+  abbrev IsStray : (StepLineOf → Type 0) → Type 0
+  IsStray Is = (x : StepLineOf) → Is x → IsDeclared t s x → ⊥
+
+  no_thread : (i : ℕ) → IsStray (IsOfNoThread s i)
+  no_thread i x is declared = omega (arith, is.is, is.none, declared.thread)
+
+  no_variable : (n : ℕ) → IsStray (IsOfNoVariable t s n)
+  no_variable n x is declared = not_both x.values n is.variable declared.variables
+
+  module _ (lines : List StepLineOf) where
+    stray_alone : (n : ℕ) (Is : StepLineOf → Type 0) → IsStray Is → IsFirstStray t s lines n Is → AreDeclaredLines t s lines → ⊥
+    stray_alone n Is stray p all = stray p.line p.is (all_here (IsDeclared t s) p.before p.line p.later (subst (AreDeclaredLines t s) p.parts all))
+
+    one_stray : (m n : ℕ) (Is Are : StepLineOf → Type 0) → IsStray Is → IsStray Are → (p : IsFirstStray t s lines m Is) → (q : IsFirstStray t s lines n Are)
+        → (m ≡ n) × (p.line ≡ q.line)
+    one_stray m n Is Are one two p q =
+        elim (cuts p.before p.line p.later q.before q.line q.later (sym p.parts ∙ q.parts)) [
+          | inl same ↦ (p.number ∙ ap (λ b. length b + 1) same.front ∙ sym q.number, same.here)
+          | inr other ↦ elim other [
+            | inl cut ↦ absurd (one p.line p.is (all_here (IsDeclared t s) p.before p.line cut.middle (subst (AreDeclaredLines t s) cut.front q.first)))
+            | inr cut ↦ absurd (two q.line q.is (all_here (IsDeclared t s) q.before q.line cut.middle (subst (AreDeclaredLines t s) cut.front p.first)))
+          ]
+        ]
+
+one_setup : (s : SetupOf) (lines : List StepLineOf) (bound : ContextBound) (a b : SetupOf) → IsSetupFor s lines bound a → IsSetupFor s lines bound b → a ≡ b
+one_setup s lines Kept a b p q = p ∙ sym q
+one_setup s lines AsUsed a b p q =
+    let used : p.used ≡ q.used = least_opened p.used _ p.least ∙ sym (least_opened q.used _ q.least) in
+    p.is ∙ ap (λ k. record s { contexts = contexts_allowed k }) used ∙ sym q.is
+
+module _ (text : List ℕ) (t : Program) (is : IsLawfulText text t) (s : SetupOf) (steps : List ℕ) (bound : ContextBound) where
+  -- what the lines of the text are refused for
+  data OnLines (lines : List StepLineOf) : ConfirmFault → Type 0 where
+    of_no_thread : (n i : ℕ) → IsFirstStray t s lines n (IsOfNoThread s i) → OnLines lines (NoThread n i)
+    of_no_variable : (n k : ℕ) → IsFirstStray t s lines n (IsOfNoVariable t s k) → OnLines lines (NoVariable n k)
+    of_step : (r : StepRefusal) (setup : SetupOf) → AreDeclaredLines t s lines → IsSetupFor s lines bound setup → IsStepRefusal text t setup lines r → OnLines lines (Step r)
+
+  data OnText : ConfirmFault → Type 0 where
+    of_length : MAX_SCHEDULE < length steps → OnText TooLong
+    of_line : (n : ℕ) → IsShortText t s steps → IsBadLine steps n → OnText (Line n)
+    of_lines : (f : ConfirmFault) (lines : List StepLineOf) → AreRead t s steps lines → OnLines lines f → OnText f
+
+  sorted : (f : ConfirmFault) → f ≢ Memory → IsStepsRefusal t s steps text bound f → OnText f
+  sorted TooLong other p = of_length p
+  sorted (Line n) other p = of_line n p.0 p.1
+  sorted (NoThread n i) other p = of_lines (NoThread n i) p.lines p.read (of_no_thread n i p.stray)
+  sorted (NoVariable n k) other p = of_lines (NoVariable n k) p.lines p.read (of_no_variable n k p.stray)
+  sorted (Step r) other p = of_lines (Step r) p.lines p.told.read (of_step r p.setup p.told.declared p.allows p.refused)
+  sorted Memory other p = absurd (other refl)
+  sorted Write other p = absurd p
+
+  too_long : {X : Type 0} → MAX_SCHEDULE < length steps → IsShortText t s steps → X
+  too_long long short = absurd (omega (arith, long, short))
+
+  bad_or_read : {X : Type 0} (n : ℕ) (lines : List StepLineOf) → IsBadLine steps n → HasLines steps lines → X
+  bad_or_read n lines bad has = absurd (bad_begins lines bad.before bad.rest has.each bad.each (sym has.is ∙ bad.whole) bad.some bad.bad)
+
+  same_bad : (m n : ℕ) → IsBadLine steps m → IsBadLine steps n → m ≡ n
+  same_bad m n p q =
+      let same = one_bad p.before q.before p.rest q.rest p.each q.each (sym p.whole ∙ q.whole) p.bad q.bad in
+      omega (arith, same, p.number, q.number)
+
+  same_lines : (xs ys : List StepLineOf) → AreRead t s steps xs → AreRead t s steps ys → xs ≡ ys
+  same_lines xs ys p q = one_reading xs ys p.has.each q.has.each (sym p.has.is ∙ q.has.is)
+
+  module _ (lines : List StepLineOf) where
+    thread_or_variable : {X : Type 0} (m n i k : ℕ) → IsFirstStray t s lines m (IsOfNoThread s i) → IsFirstStray t s lines n (IsOfNoVariable t s k) → X
+    thread_or_variable m n i k p q =
+        let same = (one_stray t s lines m n (IsOfNoThread s i) (IsOfNoVariable t s k) (no_thread t s i) (no_variable t s k) p q).1 in
+        let thread = ap (λ x. x.thread) same in
+        absurd (omega (arith, thread, p.is.is, p.is.none, q.is.thread))
+
+    one_on_lines : (f g : ConfirmFault) → OnLines lines f → OnLines lines g → f ≡ g
+    one_on_lines _ _ (of_no_thread m i p) (of_no_thread n j q) =
+        let same = one_stray t s lines m n (IsOfNoThread s i) (IsOfNoThread s j) (no_thread t s i) (no_thread t s j) p q in
+        let thread : i ≡ j = sym p.is.is ∙ ap (λ x. x.thread) same.1 ∙ q.is.is in
+        λ x. NoThread (same.0 x) (thread x)
+    one_on_lines _ _ (of_no_thread m i p) (of_no_variable n k q) = thread_or_variable m n i k p q
+    one_on_lines _ _ (of_no_thread m i p) (of_step r setup declared allows q) = absurd (stray_alone t s lines m (IsOfNoThread s i) (no_thread t s i) p declared)
+    one_on_lines _ _ (of_no_variable m k p) (of_no_thread n i q) = thread_or_variable n m i k q p
+    one_on_lines _ _ (of_no_variable m k p) (of_no_variable n l q) =
+        let same = one_stray t s lines m n (IsOfNoVariable t s k) (IsOfNoVariable t s l) (no_variable t s k) (no_variable t s l) p q in
+        let value : k ≡ l = one_undeclared t s q.line.values k l (subst (λ x. IsFirstUndeclared t x.values k) same.1 p.is.variable) q.is.variable in
+        λ x. NoVariable (same.0 x) (value x)
+    one_on_lines _ _ (of_no_variable m k p) (of_step r setup declared allows q) = absurd (stray_alone t s lines m (IsOfNoVariable t s k) (no_variable t s k) p declared)
+    one_on_lines _ _ (of_step r setup declared allows p) (of_no_thread n i q) = absurd (stray_alone t s lines n (IsOfNoThread s i) (no_thread t s i) q declared)
+    one_on_lines _ _ (of_step r setup declared allows p) (of_no_variable n k q) = absurd (stray_alone t s lines n (IsOfNoVariable t s k) (no_variable t s k) q declared)
+    one_on_lines _ _ (of_step r setup declared allows p) (of_step o other as_well permits q) =
+        let same = one_setup s lines bound other setup permits allows in
+        ap Step (one_step_refusal text t is setup lines r o p (subst (λ z. IsStepRefusal text t z lines o) same q))
+
+  one_sorted : (f g : ConfirmFault) → OnText f → OnText g → f ≡ g
+  one_sorted _ _ (of_length long) (of_length more) = refl
+  one_sorted _ _ (of_length long) (of_line n short bad) = too_long long short
+  one_sorted _ _ (of_length long) (of_lines g lines read on) = too_long long read.short
+  one_sorted _ _ (of_line n short bad) (of_length long) = too_long long short
+  one_sorted _ _ (of_line m short bad) (of_line n also worse) = ap Line (same_bad m n bad worse)
+  one_sorted _ _ (of_line n short bad) (of_lines g lines read on) = bad_or_read n lines bad read.has
+  one_sorted _ _ (of_lines f lines read on) (of_length long) = too_long long read.short
+  one_sorted _ _ (of_lines f lines read on) (of_line n short bad) = bad_or_read n lines bad read.has
+  one_sorted _ _ (of_lines f xs read on) (of_lines g ys also to) = one_on_lines xs f g on (subst (λ zs. OnLines zs g) (same_lines ys xs also read) to)
+
+  module _ (setup : SetupOf) (h : List Call) (confirmed : IsConfirmedText t s steps text bound setup h) where
+    none_on_lines : (f : ConfirmFault) → OnLines confirmed.lines f → ⊥
+    none_on_lines _ (of_no_thread n i p) = stray_alone t s confirmed.lines n (IsOfNoThread s i) (no_thread t s i) p confirmed.told.declared
+    none_on_lines _ (of_no_variable n k p) = stray_alone t s confirmed.lines n (IsOfNoVariable t s k) (no_variable t s k) p confirmed.told.declared
+    none_on_lines _ (of_step r other declared allows p) =
+        let same = one_setup s confirmed.lines bound other setup allows confirmed.allows in
+        not_confirmed_too text t is setup confirmed.lines r (subst (λ z. IsStepRefusal text t z confirmed.lines r) same p) h confirmed.confirmed
+
+    none_sorted : (f : ConfirmFault) → OnText f → ⊥
+    none_sorted _ (of_length long) = too_long long confirmed.told.read.short
+    none_sorted _ (of_line n short bad) = bad_or_read n confirmed.lines bad confirmed.told.read.has
+    none_sorted _ (of_lines f lines read on) = none_on_lines f (subst (λ zs. OnLines zs f) (same_lines lines confirmed.lines read confirmed.told.read) on)
+
+    by_fault : (f : ConfirmFault) → IsStepsRefusal t s steps text bound f → f ≡ Memory
+    by_fault Memory p = refl
+    by_fault TooLong p = absurd (none_sorted TooLong (of_length p))
+    by_fault (Line n) p = absurd (none_sorted (Line n) (of_line n p.0 p.1))
+    by_fault (NoThread n i) p = absurd (none_sorted (NoThread n i) (of_lines (NoThread n i) p.lines p.read (of_no_thread n i p.stray)))
+    by_fault (NoVariable n k) p = absurd (none_sorted (NoVariable n k) (of_lines (NoVariable n k) p.lines p.read (of_no_variable n k p.stray)))
+    by_fault (Step r) p = absurd (none_sorted (Step r) (of_lines (Step r) p.lines p.told.read (of_step r p.setup p.told.declared p.allows p.refused)))
+    by_fault Write p = absurd p
+
+pub one_refusal : OneRefusal
+one_refusal text t s steps bound f g is one two p q = one_sorted text t is s steps bound f g (sorted text t is s steps bound f one p) (sorted text t is s steps bound g two q)
+
+pub no_refusal_of_confirmed : NoRefusalOfConfirmed
+no_refusal_of_confirmed text t s steps bound setup h f is confirmed p = by_fault text t is s steps bound setup h confirmed f p
