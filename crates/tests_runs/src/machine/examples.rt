@@ -1,7 +1,7 @@
 //! Worked examples: the replies to some calls, which threads may continue then, and how many
 //! contexts are used. The cases of `btrun drive` have these replies too, and those of longer runs.
 
-use bp_machine::{Session, Setup};
+use bp_machine::{AskFault, Session, Setup};
 use std::alloc::Global;
 use std::test::Fail;
 use tests_common::{code_of, names};
@@ -121,8 +121,7 @@ fn session_of(alloc: Global, example: Example) -> Result<Session, Fail> {
 }
 
 /// Whether the calls of the example have its replies, and the session then reports what it says.
-fn is_as_said(alloc: Global, example: Example) -> Result<bool, Fail> {
-    let mut session = session_of(alloc, example)?;
+fn is_as_said(session: &mut Session, example: Example) -> Result<bool, AskFault> {
     for (thread, letter) in example.threads.iter().zip(example.letters) {
         if session.ask_with(*thread, false)?.reply.letter() != *letter {
             return Ok(false);
@@ -139,7 +138,8 @@ fn is_as_said(alloc: Global, example: Example) -> Result<bool, Fail> {
 #[test]
 fn contexts_and_open_lines(rt: HostRuntime) -> Result<(), Fail> {
     for example in EXAMPLES {
-        assert!(rt; is_as_said(rt.alloc(), example)?);
+        let mut session = session_of(rt.alloc(), example)?;
+        assert!(rt; is_as_said(&mut session, example)?);
     }
     Ok(())
 }

@@ -52,15 +52,15 @@ fn is_over(session: &mut Session) -> bool {
 }
 
 /// Whether an assertion of a choice bit fails at a 0, and the thread makes no further call.
-fn fails_at_a_choice(alloc: Global) -> Result<bool, Fail> {
-    let mut session = session_of(alloc, b"main() begin assert (?); end", &[], 1000)?;
+fn fails_at_a_choice(session: &mut Session) -> Result<bool, AskFault> {
     let reply = session.ask_with(0, false)?.reply;
-    Ok(reply == Reply::Failed && session.is_failed() && is_over(&mut session))
+    Ok(reply == Reply::Failed && session.is_failed() && is_over(session))
 }
 
 #[test]
 fn false_choice(rt: HostRuntime) -> Result<(), Fail> {
-    assert!(rt; fails_at_a_choice(rt.alloc())?);
+    let mut session = session_of(rt.alloc(), b"main() begin assert (?); end", &[], 1000)?;
+    assert!(rt; fails_at_a_choice(&mut session)?);
     Ok(())
 }
 
@@ -72,18 +72,18 @@ fn wants_bits(session: &mut Session) -> bool {
 }
 
 /// Whether a thread that may make one call makes it with a bit that is handed in, and no other.
-fn makes_one_call(alloc: Global) -> Result<bool, Fail> {
-    let text = b"main() begin while (?) do skip; od end";
-    let mut session = session_of(alloc, text, &[], 1)?;
-    let is_refused = wants_bits(&mut session);
+fn makes_one_call(session: &mut Session) -> Result<bool, AskFault> {
+    let is_refused = wants_bits(session);
     let call = session.ask_with(0, true)?;
     let is_made = is_refused && call.reply == Reply::Stepped;
-    Ok(is_made && session.ask(0) == Err(AskFault::Finished) && is_over(&mut session))
+    Ok(is_made && session.ask(0) == Err(AskFault::Finished) && is_over(session))
 }
 
 #[test]
 fn calls_without_a_seed(rt: HostRuntime) -> Result<(), Fail> {
-    assert!(rt; makes_one_call(rt.alloc())?);
+    let text = b"main() begin while (?) do skip; od end";
+    let mut session = session_of(rt.alloc(), text, &[], 1)?;
+    assert!(rt; makes_one_call(&mut session)?);
     Ok(())
 }
 
@@ -95,30 +95,30 @@ fn prints(session: &Session, values: &[bool; 2]) -> Result<bool, AskFault> {
     }
 }
 
+/// Whether thread 0 prints nothing next.
+fn prints_nothing(session: &Session) -> Result<bool, AskFault> {
+    Ok(session.next_print(0)?.is_none())
+}
+
 /// Whether two globals are swapped by a step, and the next would print them.
-fn swaps(alloc: Global) -> Result<bool, Fail> {
-    let text = b"decl x, y; main() begin x, y := y, x; print (x, y); end";
-    let mut session = session_of(alloc, text, &[true, false], 1000)?;
-    let prints_nothing = session.next_print(0)?.is_none();
+fn swaps(session: &mut Session) -> Result<bool, AskFault> {
+    let printed_nothing = prints_nothing(session)?;
     session.ask_with(0, false)?;
     let globals = (session.global(0), session.global(1), session.global(2));
-    Ok(
-        prints_nothing
-            && globals == (Some(false), Some(true), None)
-            && prints(&session, &[false, true])?,
-    )
+    let are_swapped = globals == (Some(false), Some(true), None);
+    Ok(printed_nothing && are_swapped && prints(session, &[false, true])?)
 }
 
 #[test]
 fn swapped_globals(rt: HostRuntime) -> Result<(), Fail> {
-    assert!(rt; swaps(rt.alloc())?);
+    let text = b"decl x, y; main() begin x, y := y, x; print (x, y); end";
+    let mut session = session_of(rt.alloc(), text, &[true, false], 1000)?;
+    assert!(rt; swaps(&mut session)?);
     Ok(())
 }
 
 /// Whether a recorded call is made with its bit and counted, and its thread is then at a print.
-fn makes_a_recorded_call(alloc: Global) -> Result<bool, Fail> {
-    let text = b"main() begin skip; print (1); end";
-    let mut session = session_of(alloc, text, &[], 1000)?;
+fn makes_a_recorded_call(session: &mut Session) -> Result<bool, AskFault> {
     let was_at_print = session.is_at_print(0);
     let call = session.ask_as_recorded(0, true)?;
     session.is_in_order();
@@ -128,7 +128,9 @@ fn makes_a_recorded_call(alloc: Global) -> Result<bool, Fail> {
 
 #[test]
 fn recorded_calls(rt: HostRuntime) -> Result<(), Fail> {
-    assert!(rt; makes_a_recorded_call(rt.alloc())?);
+    let text = b"main() begin skip; print (1); end";
+    let mut session = session_of(rt.alloc(), text, &[], 1000)?;
+    assert!(rt; makes_a_recorded_call(&mut session)?);
     Ok(())
 }
 
@@ -150,16 +152,20 @@ fn top_of(session: &Session, thread: u32) -> Option<(u32, u128, usize)> {
     Some((top.number, top.store.globals, top.depth))
 }
 
+/// Whether the tops of a thread that sets the first global are these, before and after its steps.
+fn has_tops(session: &mut Session) -> Result<bool, AskFault> {
+    let before = top_of(session, 0) == Some((0, 0, 1)) && top_of(session, 1).is_none();
+    session.ask_with(0, false)?;
+    let after = top_of(session, 0) == Some((1, 1, 1));
+    session.ask_with(0, false)?;
+    Ok(before && after && top_of(session, 0).is_none())
+}
+
 #[test]
 fn tops_of_threads(rt: HostRuntime) -> Result<(), Fail> {
     let text = b"decl x; main() begin x := 1; end";
     let mut session = session_of(rt.alloc(), text, &[false], 1000)?;
-    assert!(rt; top_of(&session, 0) == Some((0, 0, 1)));
-    assert!(rt; top_of(&session, 1).is_none());
-    session.ask_with(0, false)?;
-    assert!(rt; top_of(&session, 0) == Some((1, 1, 1)));
-    session.ask_with(0, false)?;
-    assert!(rt; top_of(&session, 0).is_none());
+    assert!(rt; has_tops(&mut session)?);
     Ok(())
 }
 
@@ -169,27 +175,33 @@ fn below_of(session: &Session, returned: usize) -> Option<(u32, u128, usize)> {
     Some((top.number, top.store.locals, top.depth))
 }
 
+/// Whether the frames of a thread are these before and after it calls a procedure.
+fn has_frames(session: &mut Session) -> Result<bool, AskFault> {
+    let before = below_of(session, 0) == Some((2, 0, 1));
+    session.ask_with(0, false)?;
+    let callee = below_of(session, 0) == Some((0, 1, 2));
+    let caller = below_of(session, 1) == Some((3, 0, 1));
+    Ok(before && callee && caller && below_of(session, 2).is_none())
+}
+
 #[test]
 fn frames_below_the_top(rt: HostRuntime) -> Result<(), Fail> {
     let text = b"decl x; f(a) begin assume (x); end main() begin f(1); end";
     let mut session = session_of(rt.alloc(), text, &[true], 1000)?;
-    assert!(rt; below_of(&session, 0) == Some((2, 0, 1)));
-    session.ask_with(0, false)?;
-    assert!(rt; below_of(&session, 0) == Some((0, 1, 2)));
-    assert!(rt; below_of(&session, 1) == Some((3, 0, 1)));
-    assert!(rt; below_of(&session, 2).is_none());
+    assert!(rt; has_frames(&mut session)?);
     Ok(())
+}
+
+/// Whether thread 0 waits, whether thread 1 does, and the globals, where the first has this bit.
+fn waits_at(alloc: Global, first: bool) -> Result<(bool, bool, u128), Fail> {
+    let text = b"decl x; main() begin assume (x); x := 0; end";
+    let session = session_of(alloc, text, &[first], 1000)?;
+    Ok((session.waits(0), session.waits(1), session.globals()))
 }
 
 #[test]
 fn threads_that_wait(rt: HostRuntime) -> Result<(), Fail> {
-    let text = b"decl x; main() begin assume (x); x := 0; end";
-    let waiting = session_of(rt.alloc(), text, &[false], 1000)?;
-    assert!(rt; waiting.waits(0));
-    assert!(rt; waiting.globals() == 0);
-    let going_on = session_of(rt.alloc(), text, &[true], 1000)?;
-    assert!(rt; !going_on.waits(0));
-    assert!(rt; !going_on.waits(1));
-    assert!(rt; going_on.globals() == 1);
+    assert!(rt; waits_at(rt.alloc(), false)? == (true, false, 0));
+    assert!(rt; waits_at(rt.alloc(), true)? == (false, false, 1));
     Ok(())
 }
