@@ -90,6 +90,22 @@ fn play_at_desk<C: Calls, O: Ledger>(
     Ok(refused)
 }
 
+/// Makes the calls of the first seat at a desk: whether one was refused.
+fn calls_at_desk<C: Calls, O: Ledger>(
+    desk: &mut Desk<C, O>,
+    seats: &mut [Seat<C, O>],
+    tap: &mut Tap<C>,
+    way: Way,
+    made: &mut [Option<Call>],
+) -> Result<bool, Fail> {
+    let Some(seat) = seats.get_mut(0) else {
+        return Err(Fail::from("no seat"));
+    };
+    let refused = play_at_desk(desk, seat, way)?;
+    take(tap, made);
+    Ok(refused)
+}
+
 /// Makes the calls of thread 0 at a desk of this kit: whether one was refused, or the desk.
 fn desk_calls<C: Calls, O: Ledger>(
     alloc: Global,
@@ -109,12 +125,7 @@ fn desk_calls<C: Calls, O: Ledger>(
     let Ok((mut desk, mut seats, mut tap)) = Desk::<C, O>::open(alloc, kit, code, setup) else {
         return Ok(true);
     };
-    let Some(seat) = seats.get_mut(0) else {
-        return Err(Fail::from("no seat"));
-    };
-    let refused = play_at_desk(&mut desk, seat, way)?;
-    take(&mut tap, made);
-    Ok(refused)
+    calls_at_desk(&mut desk, seats.as_mut_slice(), &mut tap, way, made)
 }
 
 /// Makes the calls of a seat at a board: whether one was refused.
@@ -134,6 +145,23 @@ fn play_at_board<C: Calls, O: Ledger, R: Wait + Clock>(
             refused = refused || answer;
         }
     }
+    Ok(refused)
+}
+
+/// Makes the calls of the first seat at a board: whether one was refused.
+fn calls_at_board<C: Calls, O: Ledger, R: Wait + Clock>(
+    rt: &R,
+    board: &Board<C, O>,
+    seats: &mut [Seat<C, O>],
+    tap: &mut Tap<C>,
+    way: Way,
+    made: &mut [Option<Call>],
+) -> Result<bool, Fail> {
+    let Some(seat) = seats.get_mut(0) else {
+        return Err(Fail::from("no seat"));
+    };
+    let refused = play_at_board(rt, board, seat, way)?;
+    take(tap, made);
     Ok(refused)
 }
 
@@ -157,12 +185,7 @@ fn board_calls<C: Calls, O: Ledger, R: Wait + Clock>(
     let Ok((board, mut seats, mut tap)) = Board::<C, O>::open(alloc, kit, code, setup) else {
         return Ok(true);
     };
-    let Some(seat) = seats.get_mut(0) else {
-        return Err(Fail::from("no seat"));
-    };
-    let refused = play_at_board(rt, &board, seat, way)?;
-    take(&mut tap, made);
-    Ok(refused)
+    calls_at_board(rt, &board, seats.as_mut_slice(), &mut tap, way, made)
 }
 
 /// Makes the calls of thread 0 at a desk or a board that is made for it.
@@ -188,23 +211,50 @@ fn make_calls<R: Wait + Clock>(
     }
 }
 
-/// Whether something was refused, and the calls are those without a refusal. Where a desk or board
-/// was refused, another one is opened.
+/// Makes the calls, and once more at another desk or board where the first one was refused:
+/// whether something was refused.
+fn make_some_calls<R: Wait + Clock>(
+    rt: &R,
+    alloc: Global,
+    code: &Code,
+    setup: &Setup,
+    way: Way,
+    made: &mut [Option<Call>],
+) -> Result<bool, Fail>
+    requires fits { FitsCode code.now setup.now }
+    requires seeded { is_some setup.now.seed ≡ true }
+{
+    let was_refused = make_calls(rt, alloc, code, setup, way, made)?;
+    if let Some(None) = made.first() {
+        make_calls(rt, alloc, code, setup, way, made)?;
+    }
+    Ok(was_refused)
+}
+
+/// Whether something was refused, and the calls are those without a refusal.
+fn are_alike<R: Wait + Clock>(
+    rt: &R,
+    alloc: Global,
+    code: &Code,
+    setup: &Setup,
+    way: Way,
+) -> Result<bool, Fail>
+    requires fits { FitsCode code.now setup.now }
+    requires seeded { is_some setup.now.seed ≡ true }
+{
+    let mut first = [None; 20];
+    let mut second = [None; 20];
+    let one = make_some_calls(rt, alloc, code, setup, way, &mut first)?;
+    let two = make_some_calls(rt, alloc, code, setup, way, &mut second)?;
+    wants(first == second && first[0].is_some())?;
+    Ok(one || two)
+}
+
+/// Whether something was refused, and the calls of `CALLS` are those without a refusal.
 fn calls_alike<R: Wait + Clock>(rt: &R, alloc: Global, way: Way) -> Result<bool, Fail> {
     let code = code(alloc, CALLS)?;
     let setup = setup(alloc, &code, 1, Some(42))?;
-    let mut first = [None; 20];
-    let mut second = [None; 20];
-    let mut was_refused = make_calls(rt, alloc, &code, &setup, way, &mut first)?;
-    if first[0].is_none() {
-        make_calls(rt, alloc, &code, &setup, way, &mut first)?;
-    }
-    was_refused = make_calls(rt, alloc, &code, &setup, way, &mut second)? || was_refused;
-    if second[0].is_none() {
-        make_calls(rt, alloc, &code, &setup, way, &mut second)?;
-    }
-    wants(first == second && first[0].is_some())?;
-    Ok(was_refused)
+    are_alike(rt, alloc, &code, &setup, way)
 }
 
 #[test]

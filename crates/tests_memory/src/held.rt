@@ -3,7 +3,7 @@
 use super::ready::{output, tell, wants};
 use super::runs::is_replayed;
 use bp_machine::{Outcome, Reply, Report, Start};
-use bp_run::{Gate, RunOptions, RunReport, run};
+use bp_run::{Gate, RunFault, RunOptions, RunReport, run};
 use std::alloc::{AllocError, Global};
 use std::sync::Wait;
 use std::sync::atomic::{AtomicU64, Ordering};
@@ -128,25 +128,36 @@ fn is_counted(done: &RunReport) -> bool {
     }
 }
 
-/// Whether the worker of `b` was refused memory. The run itself may be, and has then written
-/// nothing.
+/// Whether the worker of `b` was refused memory in a run that came to this. The run itself may be,
+/// and has then written nothing.
+fn has_refused_caller(
+    alloc: Global,
+    gate: &Held,
+    trace: &[u8],
+    done: &Result<RunReport, RunFault>,
+) -> Result<bool, Fail> {
+    match done {
+        Ok(done) => {
+            wants(is_right(gate, trace, done.report) && is_counted(done))?;
+            wants(is_replayed(alloc, PROGRAM, trace, done.report)?)?;
+            Ok(done.report.left_open == 1)
+        }
+        Err(fault) => {
+            wants(matches!(fault.number(), 7 | 53) && trace.is_empty())?;
+            Ok(false)
+        }
+    }
+}
+
+/// Whether the worker of `b` was refused memory.
 fn is_caller_refused<R: Threads + Wait + Clock + Sync>(
     rt: &R,
     alloc: Global,
 ) -> Result<bool, Fail> {
     let options = options(alloc)?;
     let (gate, mut out) = (Held::new(), output(alloc)?);
-    match run(rt, alloc, PROGRAM, &options, &gate, &mut out) {
-        Ok(done) => {
-            wants(is_right(&gate, &out, done.report) && is_counted(&done))?;
-            wants(is_replayed(alloc, PROGRAM, &out, done.report)?)?;
-            Ok(done.report.left_open == 1)
-        }
-        Err(fault) => {
-            wants(matches!(fault.number(), 7 | 53) && out.is_empty())?;
-            Ok(false)
-        }
-    }
+    let done = run(rt, alloc, PROGRAM, &options, &gate, &mut out);
+    has_refused_caller(alloc, &gate, &out, &done)
 }
 
 #[test]

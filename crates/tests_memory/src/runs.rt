@@ -56,18 +56,28 @@ fn report<R: Threads + Wait + Clock + Sync>(
 }
 
 /// Whether the run, or one of its workers, was refused.
-fn runs<R: Threads + Wait + Clock + Sync>(rt: &R, alloc: Global, ring: u32) -> Result<bool, Fail> {
-    let options = options(alloc, ring)?;
-    let mut out = output(alloc)?;
-    if let Some(done) = report(rt, alloc, &options, &mut out)? {
-        wants(is_replayed(alloc, PROGRAM, &out, done)?)?;
+fn runs_with<R: Threads + Wait + Clock + Sync>(
+    rt: &R,
+    alloc: Global,
+    options: &RunOptions,
+    out: &mut Vec<u8>,
+) -> Result<bool, Fail> {
+    if let Some(done) = report(rt, alloc, options, out)? {
+        wants(is_replayed(alloc, PROGRAM, out, done)?)?;
         return Ok(done.left_open > 0);
     }
-    match report(rt, alloc, &options, &mut out)? {
-        Some(done) => wants(is_replayed(alloc, PROGRAM, &out, done)? && done.left_open == 0)?,
+    match report(rt, alloc, options, out)? {
+        Some(done) => wants(is_replayed(alloc, PROGRAM, out, done)? && done.left_open == 0)?,
         None => return Err(Fail::from("refused again")),
     }
     Ok(true)
+}
+
+/// The same with a ring of this many calls.
+fn runs<R: Threads + Wait + Clock + Sync>(rt: &R, alloc: Global, ring: u32) -> Result<bool, Fail> {
+    let options = options(alloc, ring)?;
+    let mut out = output(alloc)?;
+    runs_with(rt, alloc, &options, &mut out)
 }
 
 #[test]

@@ -82,16 +82,23 @@ fn make_calls(
 }
 
 /// Whether a call was refused, and the calls are those without a refusal.
+fn are_alike(alloc: Global, code: &Code, setup: &Setup, way: Way) -> Result<bool, Fail>
+    requires fits { FitsCode code.now setup.now }
+{
+    let mut first = [None; 20];
+    let mut second = [None; 20];
+    let was_refused = make_calls(alloc, code, setup, way, &mut first)?;
+    let is_late = make_calls(alloc, code, setup, way, &mut second)?;
+    wants(first == second && first[0].is_some())?;
+    Ok(was_refused || is_late)
+}
+
+/// The same of the calls of `CALLS`.
 fn calls_alike(alloc: Global, way: Way) -> Result<bool, Fail> {
     let code = code(alloc, CALLS)?;
     let seed = if way == Way::AskWith { None } else { Some(42) };
     let setup = setup(alloc, &code, 1, seed)?;
-    let mut first = [None; 20];
-    let mut second = [None; 20];
-    let was_refused = make_calls(alloc, &code, &setup, way, &mut first)?;
-    let is_late = make_calls(alloc, &code, &setup, way, &mut second)?;
-    wants(first == second && first[0].is_some())?;
-    Ok(was_refused || is_late)
+    are_alike(alloc, &code, &setup, way)
 }
 
 #[test]
@@ -122,19 +129,24 @@ fn prints_next(session: &Session) -> Result<bool, Fail> {
     Ok(was_refused)
 }
 
-/// The same at the print after the loop.
-fn prints_behind_the_loop(alloc: Global) -> Result<bool, Fail> {
+/// A session of one thread without a seed.
+fn session_of(alloc: Global) -> Result<Session, Fail> {
     let code = code(alloc, PROGRAM)?;
     let setup = setup(alloc, &code, 1, None)?;
-    let mut session = match Session::new(alloc, &code, &setup) {
-        Ok(session) => session,
-        Err(_) => Session::new(alloc, &code, &setup)?,
-    };
+    match Session::new(alloc, &code, &setup) {
+        Ok(session) => Ok(session),
+        Err(_) => Ok(Session::new(alloc, &code, &setup)?),
+    }
+}
+
+/// The same at the print after the loop.
+fn prints_after_the_loop(alloc: Global) -> Result<bool, Fail> {
+    let mut session = session_of(alloc)?;
     session.ask_with(0, false)?;
     prints_next(&session)
 }
 
 #[test]
 fn next_print(rt: HostRuntime) -> Result<(), Fail> {
-    tell(&rt, prints_behind_the_loop(rt.alloc())?)
+    tell(&rt, prints_after_the_loop(rt.alloc())?)
 }
