@@ -1,13 +1,12 @@
 -- A text of steps has at most one refusal, and none where a history confirms them.
-use Rattle.std.proofs.Common.{◌≡◌, ◌≢◌, ◌∙◌, ◌⊎◌, inl, inr, ◌<◌, ◌≤◌, ◌+◌, ℕ, Bool, true, false, List, [], ◌∷◌, ◌++◌, length, refl, ap, sym, subst, arith}
+use Rattle.std.proofs.Common.{◌≡◌, ◌≢◌, ◌∙◌, inl, inr, ◌<◌, ◌+◌, ℕ, true, List, [], ◌∷◌, ◌++◌, length, refl, ap, sym, subst, arith}
 use Rattle.std.specs.List.{AllByRecursion}
 use Rattle.std.proofs.lemmas.Bool.{false≢true}
 use Rattle.bp_tree.specs.Ast.{Program}
 use Rattle.bp_code.specs.LawfulTexts.{IsLawfulText}
 use Rattle.bp_code.specs.Values.{Valuation}
 use Rattle.bp_machine.specs.declared.calls.Call.{Call}
-use Rattle.bp_machine.specs.Contexts.{IsLeastWithin}
-use Rattle.bp_machine.specs.Setups.{SetupOf, threads}
+use Rattle.bp_machine.specs.Setups.{SetupOf}
 use Rattle.bp_machine.proofs.ContextCounts.{least_opened}
 use Rattle.bp_trace.specs.declared.limits.TheConstants.{MAX_SCHEDULE}
 use Rattle.bp_confirm.specs.declared.confirming.ConfirmFault.{ConfirmFault}
@@ -16,14 +15,14 @@ use Rattle.bp_confirm.specs.declared.context_bounds.ContextBound.{ContextBound}
 use Rattle.bp_confirm.specs.declared.context_bounds.ContextBound.TheVariants.{Kept, AsUsed}
 use Rattle.bp_confirm.specs.declared.faults.StepRefusal.{StepRefusal}
 use Rattle.bp_confirm.specs.Confirms.{IsStepRefusal}
-use Rattle.bp_confirm.specs.ConfirmedTexts.{AreRead, HasStray, IsConfirmedText, IsShortText, IsStepsRefusal}
-use Rattle.bp_confirm.specs.ContextBounds.{IsSetupFor, contexts_allowed, thread_of}
+use Rattle.bp_confirm.specs.ConfirmedTexts.{AreRead, IsConfirmedText, IsShortText, IsStepsRefusal}
+use Rattle.bp_confirm.specs.ContextBounds.{IsSetupFor, contexts_allowed}
 use Rattle.bp_confirm.specs.DeclaredLines.{AreDeclared, AreDeclaredLines, IsDeclared, IsFirstStray, IsFirstUndeclared, IsOfNoThread, IsOfNoVariable, declares}
 use Rattle.bp_confirm.specs.OneRefusal.{NoRefusalOfConfirmed, OneRefusal}
-use Rattle.bp_confirm.specs.StepLines.{StepLineOf, steps_of}
+use Rattle.bp_confirm.specs.StepLines.{StepLineOf}
 use Rattle.bp_confirm.specs.StepTexts.{HasLines, IsBadLine}
 use Rattle.bp_confirm.proofs.OneReading.{bad_begins, one_bad, one_reading}
-use Rattle.bp_confirm.proofs.OneStepRefusal.{IsInFront, cuts, not_confirmed_too, one_step_refusal}
+use Rattle.bp_confirm.proofs.OneStepRefusal.{cuts, not_confirmed_too, one_step_refusal}
 
 all_here : {X : Type 0} (P : X → Type 0) (a : List X) (x : X) (c : List X) → AllByRecursion P (a ++ x ∷ c) → P x
 all_here P [] x c all = all.0
