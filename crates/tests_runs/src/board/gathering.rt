@@ -56,43 +56,38 @@ fn is_gathered(alloc: Global, code: &Code, setup: &Setup, seats: Seats) -> Resul
 
 const TWO: Example = Example { threads: 2, ..LOOP };
 
-#[test]
-fn takes_equal_codes_and_setups(rt: HostRuntime) -> Result<(), Fail> {
-    let alloc = rt.alloc();
+/// A setup of this many threads of the loop within this many contexts.
+fn setup_within(alloc: Global, threads: u32, contexts: u32) -> Result<Setup, Fail> {
     let code = code_of(alloc, LOOP.text)?;
-    let setup = setup_of(alloc, &code, TWO)?;
-    assert!(rt; is_gathered(alloc, &code, &setup, Seats::All)?);
-    assert!(rt; is_gathered(alloc, &code.try_copy()?, &setup.try_copy()?, Seats::Turned)?);
-    Ok(())
+    let entries = mains(alloc, threads)?;
+    Ok(Setup::new(alloc, &code, &entries, &[], contexts, LOOP.calls, Some(42))?)
+}
+
+/// Whether the board is gathered with a code of this text, and a setup of these numbers of threads
+/// and contexts.
+fn gathers(
+    alloc: Global,
+    text: &[u8],
+    (threads, contexts): (u32, u32),
+    seats: Seats,
+) -> Result<bool, Fail> {
+    let code = code_of(alloc, text)?;
+    let setup = setup_within(alloc, threads, contexts)?;
+    is_gathered(alloc, &code, &setup, seats)
 }
 
 #[test]
-fn refuses_other_seats(rt: HostRuntime) -> Result<(), Fail> {
-    let alloc = rt.alloc();
-    let code = code_of(alloc, LOOP.text)?;
-    let setup = setup_of(alloc, &code, TWO)?;
-    assert!(rt; !is_gathered(alloc, &code, &setup, Seats::OneShort)?);
-    Ok(())
-}
-
-#[test]
-fn refuses_another_code(rt: HostRuntime) -> Result<(), Fail> {
-    let alloc = rt.alloc();
-    let code = code_of(alloc, LOOP.text)?;
-    let setup = setup_of(alloc, &code, TWO)?;
-    let other = code_of(alloc, b"main() begin skip; end")?;
-    assert!(rt; !is_gathered(alloc, &other, &setup, Seats::All)?);
-    Ok(())
-}
-
-#[test]
-fn refuses_another_setup(rt: HostRuntime) -> Result<(), Fail> {
-    let alloc = rt.alloc();
-    let code = code_of(alloc, LOOP.text)?;
-    let entries = mains(alloc, 2)?;
-    let other = Setup::new(alloc, &code, &entries, &[], 2, 10, Some(42))?;
-    assert!(rt; !is_gathered(alloc, &code, &other, Seats::All)?);
-    let other = setup_of(alloc, &code, Example { threads: 1, ..LOOP })?;
-    assert!(rt; !is_gathered(alloc, &code, &other, Seats::All)?);
+fn wants_its_own_code_setup_and_seats(rt: HostRuntime) -> Result<(), Fail> {
+    let other: &[u8] = b"main() begin skip; end";
+    for (text, numbers, seats, is_right) in [
+        (LOOP.text, (2, 1), Seats::All, true),
+        (LOOP.text, (2, 1), Seats::Turned, true),
+        (LOOP.text, (2, 1), Seats::OneShort, false),
+        (other, (2, 1), Seats::All, false),
+        (LOOP.text, (2, 2), Seats::All, false),
+        (LOOP.text, (1, 1), Seats::All, false),
+    ] {
+        assert!(rt; gathers(rt.alloc(), text, numbers, seats)? == is_right);
+    }
     Ok(())
 }

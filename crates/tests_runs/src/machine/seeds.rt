@@ -58,15 +58,15 @@ const ENDED: Report = Report {
 };
 
 /// Whether the loop ends by the bits of the seed.
-fn ends(alloc: Global) -> Result<bool, Fail> {
-    let mut session = session_of(alloc)?;
-    let made = makes(&mut session, b"111011010", b"sssssssse")?;
+fn ends(session: &mut Session) -> Result<bool, AskFault> {
+    let made = makes(session, b"111011010", b"sssssssse")?;
     Ok(made && session.report() == ENDED && session.ask(0) == Err(AskFault::Finished))
 }
 
 #[test]
 fn seeded_loop(rt: HostRuntime) -> Result<(), Fail> {
-    assert!(rt; ends(rt.alloc())?);
+    let mut session = session_of(rt.alloc())?;
+    assert!(rt; ends(&mut session)?);
     Ok(())
 }
 
@@ -84,20 +84,20 @@ fn prepared(session: &mut Session) -> Result<Option<Call>, AskFault> {
 }
 
 /// Whether refused calls use no bit, and one that is prepared twice uses one.
-fn prepares(alloc: Global) -> Result<bool, Fail> {
-    let mut session = session_of(alloc)?;
-    let is_refused = wants_its_bits(&mut session);
+fn prepares(session: &mut Session) -> Result<bool, AskFault> {
+    let is_refused = wants_its_bits(session);
     let expected = Call {
         thread: 0,
         bit: true,
         reply: Reply::Stepped,
     };
-    let is_made = prepared(&mut session)? == Some(expected);
-    Ok(is_refused && is_made && makes(&mut session, b"11011010", b"ssssssse")?)
+    let is_made = prepared(session)? == Some(expected);
+    Ok(is_refused && is_made && makes(session, b"11011010", b"ssssssse")?)
 }
 
 #[test]
 fn prepared_call(rt: HostRuntime) -> Result<(), Fail> {
-    assert!(rt; prepares(rt.alloc())?);
+    let mut session = session_of(rt.alloc())?;
+    assert!(rt; prepares(&mut session)?);
     Ok(())
 }
