@@ -5,7 +5,7 @@ ghost use Rattle.bp_machine.specs.Setups.{threads, FitsCode};
 ghost use Rattle.bp_board.specs.Kits.{IsNamed};
 
 use super::ready::{CALLS, code, kit, setup, tell, wants};
-use bp_board::{Board, Calls, Kit};
+use bp_board::{Board, Calls, Kit, Seat};
 use bp_code::Code;
 use bp_machine::Setup;
 use bp_run::{Open, Signals, Unfinished, work};
@@ -15,8 +15,25 @@ use std::sync::ledger::Ledger;
 use std::test::Fail;
 use std::time::Clock;
 
-/// Whether a worker at a board of this kit gives back that memory was refused. Its seat is then
-/// still open.
+/// Whether a worker at this seat gives back that memory was refused. Its seat is then still open.
+fn stops<C: Calls, O: Ledger, R: Wait + Clock>(
+    out: &HostRuntime,
+    rt: &R,
+    board: &Board<C, O>,
+    seat: &mut Seat<C, O>,
+) -> Result<bool, Fail> {
+    println!(out; "no memory is left")?;
+    match work(rt, board, seat, 3, &Open, &Signals::new()) {
+        Ok(()) => Ok(false),
+        Err(Unfinished::Memory) => {
+            wants(seat.is_open())?;
+            Ok(true)
+        }
+        Err(_) => Err(Fail::from("another refusal")),
+    }
+}
+
+/// The same of the first seat of a board of this kit.
 fn is_refused<C: Calls, O: Ledger, R: Wait + Clock>(
     out: &HostRuntime,
     rt: &R,
@@ -35,15 +52,7 @@ fn is_refused<C: Calls, O: Ledger, R: Wait + Clock>(
     let Some(seat) = seats.get_mut(0) else {
         return Err(Fail::from("no seat"));
     };
-    println!(out; "no memory is left")?;
-    match work(rt, &board, seat, 3, &Open, &Signals::new()) {
-        Ok(()) => Ok(false),
-        Err(Unfinished::Memory) => {
-            wants(seat.is_open())?;
-            Ok(true)
-        }
-        Err(_) => Err(Fail::from("another refusal")),
-    }
+    stops(out, rt, &board, seat)
 }
 
 #[test]

@@ -15,15 +15,32 @@ enum Way {
     Prepare,
 }
 
+/// Whether a session of three threads is as it is made.
+fn is_new(session: &Session, setup: &Setup) -> bool {
+    session.open_lines() == 3 && *session.setup() == *setup
+}
+
+/// Whether the first session was refused. The one that is made is new.
+fn is_refused_once(alloc: Global, code: &Code, setup: &Setup) -> Result<bool, Fail>
+    requires fits { FitsCode code.now setup.now }
+{
+    match Session::new(alloc, code, setup) {
+        Ok(session) => {
+            wants(is_new(&session, setup))?;
+            Ok(false)
+        }
+        Err(_) => {
+            let session = Session::new(alloc, code, setup)?;
+            wants(is_new(&session, setup))?;
+            Ok(true)
+        }
+    }
+}
+
 fn makes_a_session(alloc: Global) -> Result<bool, Fail> {
     let code = code(alloc, PROGRAM)?;
     let setup = setup(alloc, &code, 3, None)?;
-    let (session, was_refused) = match Session::new(alloc, &code, &setup) {
-        Ok(session) => (session, false),
-        Err(_) => (Session::new(alloc, &code, &setup)?, true),
-    };
-    wants(session.open_lines() == 3 && *session.setup() == setup)?;
-    Ok(was_refused)
+    is_refused_once(alloc, &code, &setup)
 }
 
 #[test]
