@@ -97,7 +97,6 @@ def test_explanations(report, words):
         ("off a terminal", harness.run(words).stderr.decode(), False),
         ("on a terminal", shown_on_terminal(words, os.environ), True),
         ("with --no-explain", shown_on_terminal([*words, "--no-explain"], os.environ), False),
-        ("with --explain and --no-explain", harness.run([*words, "--explain", "--no-explain"]).stderr.decode(), False),
     ):
         report.tell("explanation " + name, "" if told == (explained if is_explained else line) else "said %r" % told)
     is_more = explained.startswith(line) and len(explained) > len(line)

@@ -21,13 +21,13 @@ use Rattle.bp_words.specs.Commands.{btrun_app, words_fault, IsTaskOf}
 use Rattle.bp_words.specs.ExplainWords.{on_terminals}
 use Rattle.bp_words.specs.declared.explain.ExplainWords.{ExplainWords}
 use Rattle.bp_words.specs.PlainUses.{PlainUse, bundle, check, code, confirm, drive, run, test, replay, show, migrate, shrink, is_plain, words_of, HasPlainFiles, IsAskedBy, IsCheckOf, IsCodeOf, IsMigrateOf, IsPlainConfirmOf, IsPlainDriveOf, IsPlainRunOf, IsPlainShowOf, IsPlainTestOf, IsReplayOf, IsShrinkOf}
-use Rattle.bp_words.specs.Values.{init_fault}
+use Rattle.bp_words.specs.Misuses.{misuse_fault}
 use Rattle.bp_words.specs.declared.commands.Task.{Task}
 use Rattle.bp_words.specs.declared.commands.Task.TheVariants.{Bundle, Check, Code, Drive, Confirm, Run, Test, Replay, Show, Migrate, Shrink}
 
--- words that `clap` takes have no fault where the command's initial bits have none
-no_fault : (words : List Text) (command : Option (Text × List Row)) → fault_of btrun_app words ≡ [] → subcommand_of btrun_app words ≡ command → init_fault command ≡ [] → words_fault words ≡ []
-no_fault words command clean named fine = ap₂ (λ f c. or_else f (init_fault c)) clean named ∙ fine
+-- words that `clap` takes have no fault where the command's options have none
+no_fault : (words : List Text) (command : Option (Text × List Row)) → fault_of btrun_app words ≡ [] → subcommand_of btrun_app words ≡ command → misuse_fault command ≡ [] → words_fault words ≡ []
+no_fault words command clean named fine = ap₂ (λ f c. or_else f (misuse_fault c)) clean named ∙ fine
 
 none_clean : (program : Text) → fault_of btrun_app (program ∷ []) ≡ []
 unfolding clap_on_literals

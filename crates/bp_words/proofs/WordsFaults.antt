@@ -1,5 +1,6 @@
 -- Which kind of fault refuses words, from what a parse of them answers.
-use Rattle.std.proofs.Common.{◌≡◌, ◌∙◌, if◌then◌else◌, ap, ap₂, refl, sym, subst, inl, inr, true, false, List, Option, [], ◌∷◌}
+use Rattle.std.proofs.Common.{◌≡◌, ◌∙◌, ap, ap₂, refl, sym, subst, inl, inr, true, List, Option, Some, None, [], ◌∷◌}
+use Rattle.std.specs.Option.{option_map_or}
 use Rattle.clap.specs.Kinds.{HasKind, Kinds, or_else}
 use Rattle.clap.specs.Simple.{HasMatchesOf, app_of, is_simple, subcommand_of, subcommand_rows_of}
 use Rattle.clap.specs.Faults.{fault_of, is_simple_and_free}
@@ -7,10 +8,11 @@ use Rattle.clap.specs.Walk.{Row, Text}
 use Rattle.clap.specs.Values.{kind_of}
 use Rattle.clap.specs.declared.builder.command.Command.{Command}
 use Rattle.clap.specs.declared.error.Error.{Error}
-use Rattle.clap.specs.declared.error.kind.ErrorKind.TheVariants.{InvalidValue, OutOfMemory}
+use Rattle.clap.specs.declared.error.kind.ErrorKind.TheVariants.{OutOfMemory}
 use Rattle.clap.specs.declared.parser.matches.ArgMatches.{ArgMatches}
 use Rattle.bp_words.specs.Commands.{btrun_app, words_fault}
-use Rattle.bp_words.specs.Values.{has_bad_init}
+use Rattle.bp_words.specs.Misuses.{misuse_fault, misuse_kind, misuse_of}
+use Rattle.bp_words.specs.declared.misuses.Misuse.{Misuse}
 use Rattle.bp_words.proofs.PlainWords.{only_memory}
 
 is_exact : is_simple_and_free btrun_app ≡ true
@@ -36,21 +38,24 @@ module _ (command : Command) (words : List Text) (is : app_of command ≡ btrun_
   pub refused_for_memory : (e : Error) → (is_simple_and_free (app_of command) ≡ true → HasKind (fault_of (app_of command) words) e) → words_fault words ≡ [] → kind_of e ≡ OutOfMemory
   refused_for_memory e kinds none = only_memory (words_fault words) e none (refused e kinds)
 
+abbrev kinds_of : Option Misuse → Kinds
+kinds_of m = option_map_or (λ m. misuse_kind m ∷ []) m []
+
 module _ (words : List Text) (command : Option (Text × List Row)) (clean : fault_of btrun_app words ≡ []) (is : command ≡ subcommand_of btrun_app words) where
-  pub faulty : words_fault words ≡ (if has_bad_init command then InvalidValue ∷ [] else [])
-  faulty = ap₂ (λ f c. or_else f (if has_bad_init c then InvalidValue ∷ [] else [])) clean (sym is)
+  pub faulty : words_fault words ≡ kinds_of (misuse_of command)
+  faulty = ap₂ (λ f c. or_else f (misuse_fault c)) clean (sym is)
 
-  pub bad_refused : (e : Error) → has_bad_init command ≡ true → kind_of e ≡ InvalidValue → HasKind (words_fault words) e
-  bad_refused e bad kind = subst (λ kinds. HasKind kinds e) (sym (faulty ∙ ap (λ b. if b then InvalidValue ∷ [] else []) bad)) (inr (inl kind))
+  pub misused : (e : Error) (m : Misuse) → misuse_of command ≡ Some m → kind_of e ≡ misuse_kind m → HasKind (words_fault words) e
+  misused e m bad kind = subst (λ kinds. HasKind kinds e) (sym (faulty ∙ ap kinds_of bad)) (inr (inl kind))
 
-  pub fine_faulty : has_bad_init command ≡ false → words_fault words ≡ []
-  fine_faulty fine = faulty ∙ ap (λ b. if b then InvalidValue ∷ [] else []) fine
+  pub fine_faulty : misuse_of command ≡ None → words_fault words ≡ []
+  fine_faulty fine = faulty ∙ ap kinds_of fine
 
-  -- words that have no fault have no bad bits
-  pub not_bad : has_bad_init command ≡ true → words_fault words ≡ [] → ⊥
-  not_bad bad none =
-      let some : InvalidValue ∷ [] ≡ [] = sym (faulty ∙ ap (λ b. if b then InvalidValue ∷ [] else []) bad) ∙ none in
+  -- words that have no fault have no misuse
+  pub not_misused : (m : Misuse) → misuse_of command ≡ Some m → words_fault words ≡ [] → ⊥
+  not_misused m bad none =
+      let some : misuse_kind m ∷ [] ≡ [] = sym (faulty ∙ ap kinds_of bad) ∙ none in
       no_kind some
     where
-      no_kind : InvalidValue ∷ [] ≡ [] → ⊥
+      no_kind : misuse_kind m ∷ [] ≡ [] → ⊥
       no_kind same = cc

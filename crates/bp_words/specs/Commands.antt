@@ -15,7 +15,7 @@ use Rattle.bp_words.specs.declared.names.Named.{Named}
 use Rattle.bp_words.specs.declared.names.Named.TheVariants as name
 use Rattle.bp_words.specs.declared.names.TheConstants.{NAMED}
 use Rattle.bp_words.specs.Names.{IsNamed}
-use Rattle.bp_words.specs.Values.{init_fault}
+use Rattle.bp_words.specs.Misuses.{misuse_fault}
 use Rattle.bp_words.specs.CheckWords.{IsCheckWordsOf}
 use Rattle.bp_words.specs.CodeWords.{IsCodeWordsOf}
 use Rattle.bp_words.specs.ConfirmWords.{IsConfirmOf}
@@ -236,6 +236,7 @@ abbrev pub IsTaskOf : Option (Text × List Row) → Task → Type 0
 IsTaskOf None task = task ≡ Bundle
 IsTaskOf (Some command) task = IsTaskOfCommand command.0 command.1 task
 
--- why words are refused: as `clap` says, or else for their initial bits
+-- why words are refused: as `clap` says, or else for options that are wrong together or by value
 abbrev pub words_fault : List Text → Kinds
-words_fault words = or_else (fault_of btrun_app words) (init_fault (subcommand_of btrun_app words))
+words_fault words =
+    or_else (fault_of btrun_app words) (misuse_fault (subcommand_of btrun_app words))

@@ -4,6 +4,7 @@ pub mod Commands
 pub mod ConfirmWords
 pub mod DriveWords
 pub mod ExplainWords
+pub mod Misuses
 pub mod Names
 pub mod PlainUses
 pub mod RunWords

@@ -1,35 +1,47 @@
 -- What the values of arguments say: numbers, bits, names.
-use Rattle.std.specs.Prelude.{if◌then◌else◌, ◌≡◌, ◌⊎◌, ◌<◌, ◌^◌, ◌==◌, ◌||◌, ℕ, Bool, false, true, not, List, [], ◌∷◌, Option, Some, None, codes, map, unwrap_or}
+use Rattle.std.specs.Prelude.{if◌then◌else◌, ◌≡◌, ◌⊎◌, ◌<◌, ◌^◌, ◌==◌, ◌&&◌, ◌||◌, ℕ, Bool, false, true, not, List, [], ◌∷◌, Option, Some, None, codes, map, nat_lt, option_and_then, unwrap_or}
 use Rattle.std.specs.List.{list_all}
 use Rattle.std.specs.Option.{option_map_or}
 use Rattle.std.specs.Str.Parse.{IsNumeral, digits_value, without_leading_plus}
-use Rattle.clap.specs.Kinds.{Kinds}
+use Rattle.clap.specs.ValueTests.{is_numeral}
 use Rattle.clap.specs.Walk.{Row, Text, all_of, first_of}
-use Rattle.clap.specs.declared.error.kind.ErrorKind.TheVariants.{InvalidValue}
 
 -- the value of an argument, empty where it has none
 abbrev pub value_of : Text → List Row → Text
 value_of id rows = unwrap_or (first_of id rows) []
 
+abbrev pub number_of : Text → ℕ
+number_of text = digits_value 10 (without_leading_plus text)
+
 -- the text is a number of this many bits
 abbrev pub IsNumberText : ℕ → Text → Type 0
 IsNumberText bits text =
     IsNumeral 10 (without_leading_plus text)
-    × (digits_value 10 (without_leading_plus text) < 2 ^ bits)
+    × (number_of text < 2 ^ bits)
+
+-- the same, as a test
+abbrev pub is_number_text : ℕ → Text → Bool
+is_number_text bits text =
+    is_numeral (without_leading_plus text) && nat_lt (number_of text) (2 ^ bits)
 
 -- the number of a text; the default where none is given, or the text is no such number
 abbrev pub IsNumberOf : ℕ → ℕ → Option Text → ℕ → Type 0
 IsNumberOf bits default None n = n ≡ default
 IsNumberOf bits default (Some text) n =
-    (IsNumberText bits text × (n ≡ digits_value 10 (without_leading_plus text)))
+    (IsNumberText bits text × (n ≡ number_of text))
     ⊎ ((IsNumberText bits text → ⊥) × (n ≡ default))
 
 -- the number of a text, and none if none is given or the text is no such number
 abbrev pub IsNumberIn : ℕ → Option Text → Option ℕ → Type 0
 IsNumberIn bits None n = n ≡ None
 IsNumberIn bits (Some text) (Some n) =
-    IsNumberText bits text × (n ≡ digits_value 10 (without_leading_plus text))
+    IsNumberText bits text × (n ≡ number_of text)
 IsNumberIn bits (Some text) None = IsNumberText bits text → ⊥
+
+-- the same as a function of the text
+abbrev pub number_in : ℕ → Option Text → Option ℕ
+number_in bits text =
+    option_and_then (λ t. if is_number_text bits t then Some (number_of t) else None) text
 
 -- a flag is up where it is given; `clap` has a text for either
 abbrev pub IsFlagOf : Option Text → Bool → Type 0
@@ -52,10 +64,3 @@ entries_in rows = unwrap_or (all_of (codes "ENTRY") rows) (codes "main" ∷ [])
 -- the initial bits have another character than 0 and 1
 abbrev pub has_bad_bits : List Row → Bool
 has_bad_bits rows = option_map_or (λ t. not (is_bits t)) (first_of (codes "init") rows) false
-
-abbrev pub has_bad_init : Option (Text × List Row) → Bool
-has_bad_init command = option_map_or (λ c. has_bad_bits c.1) command false
-
--- the kind of error of a command's values that `clap` takes for any text
-abbrev pub init_fault : Option (Text × List Row) → Kinds
-init_fault command = if has_bad_init command then InvalidValue ∷ [] else []

@@ -2,6 +2,7 @@
 ghost use Rattle.std.specs.Prelude.{◌≡◌, false, ℕ, List, ◌∷◌, map, string_bytes, IfOk, MatchResult};
 ghost use Rattle.clap.specs.Words.{FailsBy, app_of, found_of, kind_of, rows_of, subcommand_of, subcommand_rows_of};
 ghost use Rattle.bp_words.specs.Commands.{btrun_app, program_app, words_fault, IsOurs, IsTaskOf, IsTaskOfCommand};
+ghost use Rattle.bp_words.specs.Misuses.{misuse_kind};
 ghost use Rattle.bp_words.specs.Names.{command_name};
 ghost use Rattle.bp_words.specs.PlainUses.{PlainUse, words_of, HasPlainFiles, IsAskedBy};
 
@@ -9,12 +10,12 @@ use crate::check::{CheckWords, check_words};
 use crate::code::{CodeWords, code_words};
 use crate::confirm::{ConfirmWords, confirm_words};
 use crate::drive::{DriveWords, drive_words};
+use crate::misuses::{Misuse, misuse_kind, misuse_of, misuse_text};
 use crate::names::{NAMED, Named, command_named, with_help};
 use crate::run::{RunWords, run_words};
 use crate::show::{ShowWords, show_words};
 use crate::test::{TestWords, test_words};
 use crate::trace::{TraceWords, trace_words};
-use crate::values::has_bad_init;
 use crate::version::version;
 use clap::error::ErrorKind;
 use clap::{ArgMatches, Command, Error};
@@ -58,9 +59,6 @@ const NOTES: &str = "\
     btrun migrate FILE TRACE\n  btrun shrink FILE TRACE\n\n\
     Exit status:\n  0  done, and no assertion failed\n  1  an assertion failed\n  \
     2  the input or the words were refused\n  3  memory, a device or the output failed";
-
-/// What is wrong with the value of `--init`.
-const BAD_INIT: &str = "the value of '--init' has a character other than 0 and 1";
 
 /// What stands before the commands.
 fn program<'a>(alloc: Global) -> Command<'a>
@@ -137,17 +135,18 @@ pub fn read_words<'a>(alloc: Global, words: &'a [String]) -> Result<Task<'a>, Er
 {
     let command = command(alloc)?;
     let matches = command.try_get_matches_from(words)?;
-    if has_bad_init(&matches) {
-        return Err(invalid_value(alloc, BAD_INIT)?);
+    if let Some(misuse) = misuse_of(&matches) {
+        return Err(misuse_error(alloc, misuse)?);
     }
     Ok(task_of(alloc, &matches)?)
 }
 
-/// The error of a value that `clap` takes.
-fn invalid_value(alloc: Global, message: &str) -> Result<Error, AllocError>
-    ensures { IfOk result (λ e. kind_of e ≡ ErrorKind.InvalidValue) }
+/// The error of options that `clap` takes one by one.
+fn misuse_error(alloc: Global, misuse: Misuse) -> Result<Error, AllocError>
+    ensures { IfOk result (λ e. kind_of e ≡ misuse_kind misuse) }
 {
-    command(alloc)?.error(ErrorKind::InvalidValue, message)
+    let text = misuse_text(alloc, misuse)?;
+    command(alloc)?.error(misuse_kind(misuse), text.as_str())
 }
 
 /// The error of a word that is no command.
@@ -161,5 +160,5 @@ pub(crate) fn no_command(alloc: Global, message: &str) -> Result<Error, AllocErr
 pub fn not_text(alloc: Global) -> Result<Error, AllocError>
     ensures { IfOk result (λ e. kind_of e ≡ ErrorKind.InvalidValue) }
 {
-    invalid_value(alloc, "a word is not UTF-8")
+    command(alloc)?.error(ErrorKind::InvalidValue, "a word is not UTF-8")
 }

@@ -12,7 +12,7 @@ use clap::ArgMatches;
 pub struct ExplainWords {
     /// Whether `--explain` was given.
     pub always: bool,
-    /// Whether `--no-explain` was given. It goes before the other.
+    /// Whether `--no-explain` was given. It is not given with the other.
     pub never: bool,
 }
 

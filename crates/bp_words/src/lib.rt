@@ -10,6 +10,7 @@ mod drive;
 mod explain;
 mod files;
 mod meant;
+mod misuses;
 mod names;
 mod run;
 mod show;

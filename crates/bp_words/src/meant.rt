@@ -1,6 +1,7 @@
 //! What was meant by words that are refused.
 
 use bp_machine::limits::{MAX_CALLS, MAX_CONTEXTS};
+use bp_test::limits::MAX_JOBS;
 use std::alloc::{AllocError, Global};
 
 /// What the name of a program's file ends with.
@@ -25,6 +26,7 @@ fn range_of(alloc: Global, option: &str) -> Result<String, AllocError> {
     match option {
         "--contexts" => format!(in alloc; "{option} takes 0 to {MAX_CONTEXTS}"),
         "--calls" => format!(in alloc; "{option} takes 1 to {MAX_CALLS}"),
+        "--jobs" => format!(in alloc; "{option} takes 0 to {MAX_JOBS}"),
         _ => format!(in alloc; "{option} takes a number from 0"),
     }
 }

@@ -89,7 +89,7 @@ fn error_that_says_more(
     ensures { IfOk result (λ o. IfSome o (λ e. kind_of e ≡ kind_of error.now)) }
 {
     match error.kind() {
-        ErrorKind::InvalidValue | ErrorKind::ValueValidation => {
+        ErrorKind::InvalidValue | ErrorKind::ValueValidation | ErrorKind::ArgumentConflict => {
             same_with_usage(alloc, words, error)
         }
         ErrorKind::UnknownArgument => error_of_number(alloc, words),
@@ -98,9 +98,9 @@ fn error_that_says_more(
     }
 }
 
-/// The error of words. That of a bad value of an option also says how the command is used that the
-/// words name. That of a number below 0 says the range of its option, and that of a program's file
-/// in place of a command what was meant. Where memory is refused it stays as it is.
+/// The error of words. That of a bad value, or of options that clash, also says how the command is
+/// used that the words name. That of a number below 0 says the range of its option, and that of a
+/// program's file in place of a command what was meant. Where memory is refused it stays as it is.
 pub fn with_usage(alloc: Global, words: &[String], error: Error) -> Error
     ensures { kind_of result ≡ kind_of error }
 {

@@ -1,7 +1,7 @@
 //! The values of arguments.
 ghost use Rattle.std.specs.Prelude.{◌≡◌, codes, map, string_bytes, option_map, IfOk};
-ghost use Rattle.clap.specs.Words.{first_of, found_of, one_of, rows_of, subcommand_rows_of};
-ghost use Rattle.bp_words.specs.Values.{bits_in, entries_in, has_bad_bits, has_bad_init, is_bits, IsFlagOf, IsNumberIn, IsNumberOf};
+ghost use Rattle.clap.specs.Words.{first_of, found_of, one_of, rows_of};
+ghost use Rattle.bp_words.specs.Values.{bits_in, entries_in, has_bad_bits, is_bits, IsFlagOf, IsNumberIn, IsNumberOf};
 
 use bp_machine::limits::DEFAULT_ENTRY;
 use clap::ArgMatches;
@@ -92,21 +92,11 @@ pub fn is_given(words: &ArgMatches<'_>, name: &str) -> bool
 }
 
 /// Whether the initial bits have another character than 0 and 1.
-fn has_bad_bits(words: &ArgMatches<'_>) -> bool
+pub fn has_bad_bits(words: &ArgMatches<'_>) -> bool
     ensures { result ≡ has_bad_bits (rows_of (found_of words.now)) }
 {
     match words.get_str("init") {
         Some(text) => !is_bits(text),
-        None => false,
-    }
-}
-
-/// Whether the words of a command give initial bits with another character than 0 and 1.
-pub fn has_bad_init(matches: &ArgMatches<'_>) -> bool
-    ensures { result ≡ has_bad_init (subcommand_rows_of matches.now) }
-{
-    match matches.subcommand() {
-        Some((_, words)) => has_bad_bits(words),
         None => false,
     }
 }

@@ -3,7 +3,7 @@ use Rattle.clap.specs.Words.{subcommand_of}
 use Rattle.bp_words.specs.Commands.{btrun_app, words_fault, IsOurs, IsTaskOf}
 use Rattle.bp_words.proofs.NoHelpEntered.{named_ours}
 use Rattle.bp_words.proofs.PlainWords.{plain_faulty, plain_asked}
-use Rattle.bp_words.proofs.WordsFaults.{cleared, named, refused, refused_for_memory, bad_refused, fine_faulty, not_bad}
+use Rattle.bp_words.proofs.WordsFaults.{cleared, named, refused, refused_for_memory, misused, fine_faulty, not_misused}
 use Rattle.bp_words.proofs.commands.read_words.Goals as goal
 
 pub returns-in_err-matches-clause-refusal : goal.returns-in_err-matches-clause-refusal
@@ -17,19 +17,19 @@ returns-in_err-matches-clause-plain c usage program plain is =
     let memory = refused_for_memory _ (map string_bytes c.args.words.now) c.in_ok-command.ensures c.in_err-matches.field-0.0 c.in_err-matches.ensures.kinds none in
     search rules
 
-pub returns-then-has_bad_init-clause-refusal : goal.returns-then-has_bad_init-clause-refusal
-returns-then-has_bad_init-clause-refusal c =
+pub returns-in-Some-clause-refusal : goal.returns-in-Some-clause-refusal
+returns-in-Some-clause-refusal c =
     let words = map string_bytes c.args.words.now in
     let clean = cleared _ words c.in_ok-command.ensures c.in_ok-matches.ensures.kinds in
     let name = named _ words c.in_ok-command.ensures c.in_ok-matches.matches c.in_ok-matches.ensures.matches in
-    bad_refused words _ clean name c.in_ok-invalid_value.field-0 (sym c.has_bad_init.ensures ∙ c.if-has_bad_init.true) c.in_ok-invalid_value.ensures
+    misused words _ clean name c.in_ok-misuse_error.field-0 c.in-Some.misuse (sym c.misuse_of.ensures ∙ c.in-Some.is) c.in_ok-misuse_error.ensures
 
-pub returns-then-has_bad_init-clause-plain : goal.returns-then-has_bad_init-clause-plain
-returns-then-has_bad_init-clause-plain c usage program plain is =
+pub returns-in-Some-clause-plain : goal.returns-in-Some-clause-plain
+returns-in-Some-clause-plain c usage program plain is =
     let words = map string_bytes c.args.words.now in
     let clean = cleared _ words c.in_ok-command.ensures c.in_ok-matches.ensures.kinds in
     let name = named _ words c.in_ok-command.ensures c.in_ok-matches.matches c.in_ok-matches.ensures.matches in
-    absurd (not_bad words _ clean name (sym c.has_bad_init.ensures ∙ c.if-has_bad_init.true) (ap words_fault is ∙ plain_faulty usage program plain))
+    absurd (not_misused words _ clean name c.in-Some.misuse (sym c.misuse_of.ensures ∙ c.in-Some.is) (ap words_fault is ∙ plain_faulty usage program plain))
 
 pub task_of-requires : goal.task_of-requires
 task_of-requires c =
@@ -49,7 +49,7 @@ returns-clause-refusal c =
     let words = map string_bytes c.args.words.now in
     let clean = cleared _ words c.in_ok-command.ensures c.in_ok-matches.ensures.kinds in
     let name = named _ words c.in_ok-command.ensures c.in_ok-matches.matches c.in_ok-matches.ensures.matches in
-    fine_faulty words _ clean name (sym c.has_bad_init.ensures ∙ c.if-has_bad_init.false)
+    fine_faulty words _ clean name (sym c.misuse_of.ensures ∙ c.in_default.is)
 
 pub returns-clause-plain : goal.returns-clause-plain
 returns-clause-plain c usage program plain is =
