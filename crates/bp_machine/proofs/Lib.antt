@@ -2,6 +2,7 @@ pub mod CallsAtOnce
 pub mod CallsOfThread
 pub mod ContextCounts
 pub mod ContextFronts
+pub mod Deadlocks
 pub mod EffectSizes
 pub mod EntryFaults
 pub mod ForEveryProgram

@@ -1,14 +1,18 @@
 -- Laws of histories.
-use Rattle.std.specs.Prelude.{◌≡◌, ◌≢◌, ◌≤◌, ◌*◌, ℕ, List, All, length}
+use Rattle.std.specs.Prelude.{◌≡◌, ◌≢◌, ◌≤◌, ◌*◌, ℕ, Bool, false, List, ◌++◌, [], Some, All, length}
 use Rattle.bp_tree.specs.Ast.{Program}
 use Rattle.bp_syntax.specs.Texts.{HasText}
 use Rattle.bp_code.specs.Configurations.{Configuration}
 use Rattle.bp_code.specs.Flat.{Flat}
 use Rattle.bp_code.specs.StandsFor.{StandsFor}
 use Rattle.bp_machine.specs.declared.calls.Call.{Call}
+use Rattle.bp_machine.specs.declared.calls.Reply.{Reply}
 use Rattle.bp_machine.specs.declared.reports.Outcome.TheVariants.{Failed}
+use Rattle.bp_machine.specs.Answers.{reply_of}
 use Rattle.bp_machine.specs.BoundedRuns.{IsBoundedRun, history_of_run, IsHistoryOfSteps, HasBoundedRun}
 use Rattle.bp_machine.specs.Contexts.{IsWithin}
+use Rattle.bp_machine.specs.Deadlocks.{IsDeadlocked}
+use Rattle.bp_machine.specs.Replies.{is_granted}
 use Rattle.bp_machine.specs.Setups.{SetupOf, start, threads, Fits, FitsCode}
 use Rattle.bp_machine.specs.Histories.{configuration_after, granted_threads, granted_calls, IsLegal}
 use Rattle.bp_machine.specs.PrintedRows.{printed_rows}
@@ -56,6 +60,24 @@ HistoriesAreShort =
     (t : Program) (s : SetupOf) (h : List Call)
     → IsLegal t s h
     → length h ≤ threads s * s.calls
+
+-- in a deadlock no thread is granted a step, whatever its choice bit, and whether one more step is
+-- within the contexts or not
+abbrev pub DeadlocksGrantNothing : Type 0
+DeadlocksGrantNothing =
+    (t : Program) (c : Configuration) (fits : Bool) (i : ℕ) (bit : Bool) (r : Reply)
+    → IsDeadlocked t c
+    → reply_of t fits c i bit ≡ Some r
+    → is_granted r ≡ false
+
+-- so a legal history that comes to a deadlock has no granted call after it, with whatever contexts
+-- and calls of a thread its setup allows
+abbrev pub DeadlocksLast : Type 0
+DeadlocksLast =
+    (t : Program) (s : SetupOf) (h more : List Call)
+    → IsLegal t s (h ++ more)
+    → IsDeadlocked t (configuration_after t s h)
+    → granted_calls more ≡ []
 
 -- the names of a program's entry procedures hold no line feed
 abbrev pub EntriesOnOneLine : Type 0

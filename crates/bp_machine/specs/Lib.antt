@@ -3,6 +3,7 @@ pub mod BoundedRuns
 pub mod ChoiceBits
 pub mod ContextCounts
 pub mod Contexts
+pub mod Deadlocks
 pub mod GuestThreads
 pub mod Histories
 pub mod KeptSessions

@@ -1,5 +1,5 @@
 //! Laws of histories. These functions do nothing: their contracts are the laws.
-ghost use Rattle.bp_machine.specs.Laws.{StepsAreARun, StepsAreWithin, RunsAreHistories, HistoriesAreRuns, FailuresAreReal, HistoriesAreShort, EntriesOnOneLine, OneCodeOneMeaning};
+ghost use Rattle.bp_machine.specs.Laws.{StepsAreARun, StepsAreWithin, RunsAreHistories, HistoriesAreRuns, FailuresAreReal, HistoriesAreShort, DeadlocksGrantNothing, DeadlocksLast, EntriesOnOneLine, OneCodeOneMeaning};
 
 /// The granted steps of a legal history are a run of the program.
 pub fn steps_are_a_run()
@@ -31,6 +31,13 @@ pub fn failures_are_real()
 /// A legal history has at most as many calls as its threads may make together.
 pub fn histories_are_short()
     ensures { HistoriesAreShort }
+{}
+
+/// In a deadlock no thread is granted a step, whatever its choice bit and the contexts that are left.
+/// So a legal history has no granted call after it.
+pub fn deadlocks_last()
+    ensures each { DeadlocksGrantNothing }
+    ensures later { DeadlocksLast }
 {}
 
 /// The entry procedures of a setup have names without a line feed, where the setup fits the program

@@ -1,8 +1,9 @@
-//! Whether a thread waits in a session.
-ghost use Rattle.std.specs.Prelude.{◌≡◌, ℕ, List, Some, slice_get};
+//! Whether a thread waits in a session, and whether all that are left do.
+ghost use Rattle.std.specs.Prelude.{◌≡◌, ◌↔◌, IsTrue, ℕ, List, Some, slice_get};
 ghost use Rattle.bp_tree.specs.Ast.{Program};
 ghost use Rattle.bp_code.specs.StandsFor.{StandsFor};
 ghost use Rattle.bp_machine.specs.declared.calls.Call.{Call as Answered};
+ghost use Rattle.bp_machine.specs.Deadlocks.{has_frames, IsDeadlocked};
 ghost use Rattle.bp_machine.specs.Histories.{configuration_after};
 ghost use Rattle.bp_machine.specs.Sessions.{Stands};
 ghost use Rattle.bp_machine.specs.Waiting.{finds_zero, is_blocked, waits};
@@ -48,5 +49,37 @@ impl Session {
         };
         let finds_zero = self.finds_zero(guest, false);
         finds_zero && self.finds_zero(guest, true)
+    }
+
+    /// Whether a thread has frames left: it did not come to the end of its program.
+    fn has_frames(&self, thread: u32) -> bool
+        ensures { (t : Program) (h : List Answered)
+            → StandsFor self.now.code t
+            → Stands t self.now h
+            → let now = configuration_after t self.now.setup h in
+            result ≡ has_frames now thread }
+    {
+        self.top(thread).is_some()
+    }
+
+    /// Whether the threads are deadlocked: some have frames left, and each of those waits. It does
+    /// not matter whether a thread may make a further call, or was refused a context.
+    pub fn is_deadlocked(&self) -> bool
+        ensures { (t : Program) (h : List Answered)
+            → StandsFor self.now.code t
+            → Stands t self.now h
+            → let now = configuration_after t self.now.setup h in
+            IsTrue result ↔ IsDeadlocked t now }
+    {
+        let mut is_any_left = false;
+        for thread in 0..self.setup.threads() {
+            if self.has_frames(thread) {
+                if !self.waits(thread) {
+                    return false;
+                }
+                is_any_left = true;
+            }
+        }
+        is_any_left
     }
 }
