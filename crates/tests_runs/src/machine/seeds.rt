@@ -63,10 +63,20 @@ fn ends(session: &mut Session) -> Result<bool, AskFault> {
     Ok(made && session.report() == ENDED && session.ask(0) == Err(AskFault::Finished))
 }
 
+/// Whether a session ends so, or prepares its calls so.
+fn is_so(alloc: Global, prepared: bool) -> Result<bool, Fail> {
+    let mut session = session_of(alloc)?;
+    let is_right = if prepared {
+        prepares(&mut session)
+    } else {
+        ends(&mut session)
+    };
+    Ok(is_right?)
+}
+
 #[test]
 fn seeded_loop(rt: HostRuntime) -> Result<(), Fail> {
-    let mut session = session_of(rt.alloc())?;
-    assert!(rt; ends(&mut session)?);
+    assert!(rt; is_so(rt.alloc(), false)?);
     Ok(())
 }
 
@@ -97,7 +107,6 @@ fn prepares(session: &mut Session) -> Result<bool, AskFault> {
 
 #[test]
 fn prepared_call(rt: HostRuntime) -> Result<(), Fail> {
-    let mut session = session_of(rt.alloc())?;
-    assert!(rt; prepares(&mut session)?);
+    assert!(rt; is_so(rt.alloc(), true)?);
     Ok(())
 }

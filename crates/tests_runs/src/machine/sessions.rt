@@ -1,4 +1,6 @@
 //! Sessions without a seed.
+ghost use Rattle.std.specs.Prelude.{IfOk};
+ghost use Rattle.bp_machine.specs.Setups.{FitsCode};
 
 use bp_code::Code;
 use bp_machine::{AskFault, Reply, Session, Setup};
@@ -21,21 +23,66 @@ fn session_of(alloc: Global, text: &[u8], init: &[bool], calls: u32) -> Result<S
     Ok(Session::new(alloc, &code, &setup)?)
 }
 
+/// What is asked of a session of one thread.
+#[derive(Clone, Copy)]
+enum Question {
+    FailsAtAChoice,
+    MakesOneCall,
+    Swaps,
+    MakesARecordedCall,
+    HasTops,
+    HasFrames,
+}
+
+/// The answer of a session of this program, with these initial bits and this many calls.
+fn answer_of(
+    alloc: Global,
+    text: &[u8],
+    init: &[bool],
+    calls: u32,
+    question: Question,
+) -> Result<bool, Fail> {
+    let mut session = session_of(alloc, text, init, calls)?;
+    Ok(answer(&mut session, question)?)
+}
+
+fn answer(session: &mut Session, question: Question) -> Result<bool, AskFault> {
+    match question {
+        Question::FailsAtAChoice => fails_at_a_choice(session),
+        Question::MakesOneCall => makes_one_call(session),
+        Question::Swaps => swaps(session),
+        Question::MakesARecordedCall => makes_a_recorded_call(session),
+        Question::HasTops => has_tops(session),
+        Question::HasFrames => has_frames(session),
+    }
+}
+
 /// Whether the session is of this code and setup, and its first thread may continue.
 fn is_new(session: &Session, code: &Code, setup: &Setup) -> bool {
     session.setup().is_in_range();
     session.code() == code && session.setup() == setup && !session.is_finished(0)
 }
 
-/// Whether a session of one call of one thread is of its code and setup, and its thread is finished
-/// by that call.
+/// Whether the session is of this code and setup, and its thread is finished by a call.
+fn ends_by_a_call(session: &mut Session, code: &Code, setup: &Setup) -> Result<bool, AskFault> {
+    let before = is_new(session, code, setup);
+    session.ask_with(0, false)?;
+    Ok(before && !is_new(session, code, setup))
+}
+
+/// The setup of one call of one thread.
+fn setup_of_a_call(alloc: Global, code: &Code) -> Result<Setup, Fail>
+    ensures { IfOk result (λ s. FitsCode code.now s) }
+{
+    Ok(Setup::new(alloc, code, &names(alloc, &["main"])?, &[true], 1, 1, None)?)
+}
+
+/// Whether that is so of a session of one call of one thread.
 fn is_finished_by_a_call(alloc: Global) -> Result<bool, Fail> {
     let code = code_of(alloc, b"decl x; main() begin x := 1; assert (x); end")?;
-    let setup = Setup::new(alloc, &code, &names(alloc, &["main"])?, &[true], 1, 1, None)?;
+    let setup = setup_of_a_call(alloc, &code)?;
     let mut session = Session::new(alloc, &code, &setup)?;
-    let before = is_new(&session, &code, &setup);
-    session.ask_with(0, false)?;
-    Ok(before && !is_new(&session, &code, &setup))
+    Ok(ends_by_a_call(&mut session, &code, &setup)?)
 }
 
 #[test]
@@ -59,8 +106,8 @@ fn fails_at_a_choice(session: &mut Session) -> Result<bool, AskFault> {
 
 #[test]
 fn false_choice(rt: HostRuntime) -> Result<(), Fail> {
-    let mut session = session_of(rt.alloc(), b"main() begin assert (?); end", &[], 1000)?;
-    assert!(rt; fails_at_a_choice(&mut session)?);
+    let text = b"main() begin assert (?); end";
+    assert!(rt; answer_of(rt.alloc(), text, &[], 1000, Question::FailsAtAChoice)?);
     Ok(())
 }
 
@@ -82,8 +129,7 @@ fn makes_one_call(session: &mut Session) -> Result<bool, AskFault> {
 #[test]
 fn calls_without_a_seed(rt: HostRuntime) -> Result<(), Fail> {
     let text = b"main() begin while (?) do skip; od end";
-    let mut session = session_of(rt.alloc(), text, &[], 1)?;
-    assert!(rt; makes_one_call(&mut session)?);
+    assert!(rt; answer_of(rt.alloc(), text, &[], 1, Question::MakesOneCall)?);
     Ok(())
 }
 
@@ -112,8 +158,7 @@ fn swaps(session: &mut Session) -> Result<bool, AskFault> {
 #[test]
 fn swapped_globals(rt: HostRuntime) -> Result<(), Fail> {
     let text = b"decl x, y; main() begin x, y := y, x; print (x, y); end";
-    let mut session = session_of(rt.alloc(), text, &[true, false], 1000)?;
-    assert!(rt; swaps(&mut session)?);
+    assert!(rt; answer_of(rt.alloc(), text, &[true, false], 1000, Question::Swaps)?);
     Ok(())
 }
 
@@ -129,8 +174,7 @@ fn makes_a_recorded_call(session: &mut Session) -> Result<bool, AskFault> {
 #[test]
 fn recorded_calls(rt: HostRuntime) -> Result<(), Fail> {
     let text = b"main() begin skip; print (1); end";
-    let mut session = session_of(rt.alloc(), text, &[], 1000)?;
-    assert!(rt; makes_a_recorded_call(&mut session)?);
+    assert!(rt; answer_of(rt.alloc(), text, &[], 1000, Question::MakesARecordedCall)?);
     Ok(())
 }
 
@@ -164,8 +208,7 @@ fn has_tops(session: &mut Session) -> Result<bool, AskFault> {
 #[test]
 fn tops_of_threads(rt: HostRuntime) -> Result<(), Fail> {
     let text = b"decl x; main() begin x := 1; end";
-    let mut session = session_of(rt.alloc(), text, &[false], 1000)?;
-    assert!(rt; has_tops(&mut session)?);
+    assert!(rt; answer_of(rt.alloc(), text, &[false], 1000, Question::HasTops)?);
     Ok(())
 }
 
@@ -187,8 +230,7 @@ fn has_frames(session: &mut Session) -> Result<bool, AskFault> {
 #[test]
 fn frames_below_the_top(rt: HostRuntime) -> Result<(), Fail> {
     let text = b"decl x; f(a) begin assume (x); end main() begin f(1); end";
-    let mut session = session_of(rt.alloc(), text, &[true], 1000)?;
-    assert!(rt; has_frames(&mut session)?);
+    assert!(rt; answer_of(rt.alloc(), text, &[true], 1000, Question::HasFrames)?);
     Ok(())
 }
 
