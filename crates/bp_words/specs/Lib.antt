@@ -11,4 +11,5 @@ pub mod RunWords
 pub mod ShowWords
 pub mod TestWords
 pub mod TraceWords
+pub mod Usages
 pub mod Values

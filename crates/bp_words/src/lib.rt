@@ -30,4 +30,4 @@ pub use run::RunWords;
 pub use show::ShowWords;
 pub use test::TestWords;
 pub use trace::TraceWords;
-pub use usages::with_usage;
+pub use usages::{asks_for_json, message_of, with_usage};

@@ -1,6 +1,7 @@
 //! What is said of words that are refused: also how the command is used, and what was meant.
-ghost use Rattle.std.specs.Prelude.{◌≡◌, IfOk, IfSome};
+ghost use Rattle.std.specs.Prelude.{◌≡◌, map, string_bytes, IfOk, IfSome};
 ghost use Rattle.clap.specs.Words.{kind_of};
+ghost use Rattle.bp_words.specs.Usages.{asks_for_json};
 
 use crate::commands::no_command;
 use crate::meant::{of_file, of_number};
@@ -9,8 +10,23 @@ use clap::Error;
 use clap::error::ErrorKind;
 use std::alloc::{AllocError, Global};
 
+/// Whether a word asks for JSON: one that stands before a word `--`.
+pub fn asks_for_json(words: &[String]) -> bool
+    ensures { result ≡ asks_for_json (map string_bytes words.now) }
+{
+    for word in words {
+        if word.as_str() == "--" {
+            return false;
+        }
+        if word.as_str() == "--json" {
+            return true;
+        }
+    }
+    false
+}
+
 /// The first paragraph of the text of an error, without the word before it.
-fn message_of(text: &str) -> &str {
+pub fn message_of(text: &str) -> &str {
     let message = text.strip_prefix("error: ").unwrap_or(text);
     match message.split_once("\n\n") {
         Some((first, _)) => first,

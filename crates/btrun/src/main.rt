@@ -5,6 +5,7 @@
 mod echoes;
 mod host_files;
 mod progress_lines;
+mod refusals;
 mod runs;
 mod tasks;
 mod usage;

@@ -6,7 +6,7 @@ use crate::progress_lines::ProgressLine;
 use crate::tasks::{Io, do_task};
 use crate::usage::{refuse_memory, refuse_words, tell};
 use bp_text::put;
-use bp_words::{Task, read_words};
+use bp_words::{Task, asks_for_json, read_words};
 use std::env;
 use std::io::{self, BufWriter, IsTerminal};
 use std::sync::Wait;
@@ -103,7 +103,7 @@ fn run_words<T: Threads + Wait + Clock + Sync>(
         Ok(task) => do_on_host(rt, threads, &task),
         Err(error) => {
             let error = error_on_lines(rt.alloc(), words, error);
-            tell(rt, &error, &mut rt.stderr()).status
+            tell(rt, &error, asks_for_json(words), &mut rt.stderr()).status
         }
     }
 }

@@ -7,6 +7,7 @@ ghost use Rattle.bp_commands.specs.Ends.{HasFaultLine};
 ghost use Rattle.btrun.specs.Statuses.{IsWordsStatus, IsWordsLine, IsUnreadStatus, IsUnreadLine};
 
 use crate::echoes::Echo;
+use crate::refusals::put_refusal;
 use bp_commands::{Explained, Fault, RunEnd, end};
 use bp_text::WriteFault;
 use bp_words::not_text;
@@ -35,12 +36,20 @@ fn end_printed<E: Write>(printed: &io::Result<()>, errors: &mut E) -> RunEnd
 fn end_echoed(echoed: &io::Result<()>) -> RunEnd
     ensures { result.status ≡ 2 }
 {
+    end_refused(match echoed {
+        Ok(()) => Ok(()),
+        Err(_) => Err(WriteFault::Write),
+    })
+}
+
+/// Ends a run whose words were refused, by what became of the text that says so.
+fn end_refused(told: Result<(), WriteFault>) -> RunEnd
+    ensures status { result.status ≡ 2 }
+    ensures told { result.told ≡ told }
+{
     RunEnd {
         status: USAGE_STATUS,
-        told: match echoed {
-            Ok(()) => Ok(()),
-            Err(_) => Err(WriteFault::Write),
-        },
+        told,
         explained: Explained {
             lines: Ok(()),
             told: Ok(()),
@@ -58,15 +67,17 @@ pub fn refuse_memory<E: Write>(errors: &mut E) -> RunEnd
 }
 
 /// Prints the fault of the words on standard error, or the help or the version on standard output.
-/// Where that is not what happened, our line is in `errors`.
-pub fn tell<E: Write>(rt: &HostRuntime, error: &Error, errors: &mut E) -> RunEnd
+/// With `json` the fault is an object in `errors`. So is our line, where memory was refused or the
+/// help was not printed.
+pub fn tell<E: Write>(rt: &HostRuntime, error: &Error, json: bool, errors: &mut E) -> RunEnd
     ensures status { IsWordsStatus (kind_of error.now) result.status }
-    ensures line { IsWordsLine (kind_of error.now)
+    ensures line { IsWordsLine json (kind_of error.now)
         (E.contents errors.old) (E.contents errors.new) result.told }
 {
     match error.kind() {
         ErrorKind::OutOfMemory => refuse_memory(errors),
         ErrorKind::DisplayHelp | ErrorKind::DisplayVersion => end_printed(&error.print(rt), errors),
+        _ if json => end_refused(put_refusal(rt.alloc(), error, errors)),
         _ => end_echoed(&rt.eprint(&Echo { error })),
     }
 }
@@ -81,7 +92,8 @@ pub fn refuse_words<E: Write>(rt: &HostRuntime, error: &io::Error, errors: &mut 
         return refuse_memory(errors);
     }
     match not_text(rt.alloc()) {
-        Ok(error) => tell(rt, &error, errors),
+        // No word is known then, so none asks for JSON.
+        Ok(error) => tell(rt, &error, false, errors),
         Err(_) => refuse_memory(errors),
     }
 }
