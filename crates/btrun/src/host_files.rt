@@ -30,13 +30,31 @@ pub struct HostFiles<'a> {
     rt: &'a HostRuntime,
     /// Whether a path stands for standard input already.
     is_taken: AtomicBool,
+    /// Why standard input cannot be read, if so.
+    unreadable: Option<Error>,
+}
+
+/// Why standard input cannot be read, if so. A read of no byte takes nothing from it.
+fn why_unreadable(rt: &HostRuntime) -> Option<Error> {
+    rt.stdin().read(&mut []).err()
 }
 
 impl<'a> HostFiles<'a> {
-    pub fn new(rt: &'a HostRuntime) -> HostFiles<'a> {
+    /// The files, before any is opened. A word `-` may be a path.
+    ///
+    /// Where standard input is closed, the first file that is opened takes its number, and would be
+    /// read in its place. So it is tried before. Without such a word it is not, since a process in
+    /// the background is stopped when it reads from its terminal.
+    pub fn new(rt: &'a HostRuntime, words: &[String]) -> HostFiles<'a> {
+        let is_asked_for = words.iter().any(|word| word.as_str() == STANDARD_INPUT);
         HostFiles {
             rt,
             is_taken: AtomicBool::new(false),
+            unreadable: if is_asked_for {
+                why_unreadable(rt)
+            } else {
+                None
+            },
         }
     }
 
@@ -44,6 +62,9 @@ impl<'a> HostFiles<'a> {
     fn standard_input(&self) -> io::Result<HostInput> {
         if self.is_taken.swap(true, Ordering::SeqCst) {
             return Err(Error::from(ErrorKind::AlreadyExists));
+        }
+        if let Some(error) = self.unreadable {
+            return Err(error);
         }
         Ok(HostInput::Standard(self.rt.stdin()))
     }

@@ -69,13 +69,15 @@ fn say_that_it_waits(rt: &HostRuntime, task: &Task<'_>) {
     }
 }
 
-/// Does a task on the files and the streams of the machine, and answers the exit status.
+/// Does the task that the words ask for on the files and the streams of the machine, and answers
+/// the exit status.
 fn do_on_host<T: Threads + Wait + Clock + Sync>(
     rt: &HostRuntime,
     threads: &T,
+    words: &[String],
     task: &Task<'_>,
 ) -> u8 {
-    let (alloc, files) = (rt.alloc(), HostFiles::new(rt));
+    let (alloc, files) = (rt.alloc(), HostFiles::new(rt, words));
     let mut errors = rt.stderr();
     let Ok(out) = BufWriter::new(alloc, rt.stdout()) else {
         return refuse_memory(&mut errors).status;
@@ -100,7 +102,7 @@ fn run_words<T: Threads + Wait + Clock + Sync>(
     words: &[String],
 ) -> u8 {
     match read_words(rt.alloc(), words) {
-        Ok(task) => do_on_host(rt, threads, &task),
+        Ok(task) => do_on_host(rt, threads, words, &task),
         Err(error) => {
             let error = error_on_lines(rt.alloc(), words, error);
             tell(rt, &error, asks_for_json(words), &mut rt.stderr()).status
