@@ -30,7 +30,7 @@ _btrun_options() {
         drive) echo "$common $start" ;;
         confirm) echo "$common $start --json" ;;
         run) echo "$common $start --seed --turn --ring --spread" ;;
-        test) echo "$common $start --seed --runs --jobs --stuck --unreached --json" ;;
+        test) echo "$common $start --seed --runs --jobs --deadlock --unreached --json" ;;
         show) echo "$common --thread --last --from --to --watch --fold --state --at --contexts --steps --json" ;;
     esac
 }

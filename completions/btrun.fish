@@ -64,7 +64,7 @@ complete -c btrun -n '__fish_seen_subcommand_from run' -l spread -d 'Take turns 
 
 complete -c btrun -n '__fish_seen_subcommand_from test' -x -l runs -d 'Make at most N runs'
 complete -c btrun -n '__fish_seen_subcommand_from test' -x -l jobs -d 'How many blocks of runs are made side by side'
-complete -c btrun -n '__fish_seen_subcommand_from test' -l stuck -d 'Also stop at a run in which all open threads wait'
+complete -c btrun -n '__fish_seen_subcommand_from test' -l deadlock -d 'Also stop at a run that ends in a deadlock'
 complete -c btrun -n '__fish_seen_subcommand_from test' -l unreached -d 'List the statements that no run reached'
 complete -c btrun -n '__fish_seen_subcommand_from test' -l json -d 'Write the summary as JSON objects'
 

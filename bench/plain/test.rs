@@ -339,7 +339,8 @@ struct Tally {
     finished: u64,
     out_of_contexts: u64,
     cut_off: u64,
-    stuck: u64,
+    starved: u64,
+    deadlocked: u64,
     contexts: Vec<u64>,
     stepped: [bool; 2],
 }
@@ -366,8 +367,11 @@ impl Tally {
         if has_failed {
             return;
         }
-        if (0..ENTRIES.len() as u32).any(|thread| !test.is_finished(thread)) {
-            self.stuck += 1;
+        let left: Vec<u32> = (0..ENTRIES.len() as u32).filter(|&thread| !test.threads[thread as usize].frames.is_empty()).collect();
+        if !left.is_empty() && left.iter().all(|&thread| test.waits(thread)) {
+            self.deadlocked += 1;
+        } else if (0..ENTRIES.len() as u32).any(|thread| !test.is_finished(thread)) {
+            self.starved += 1;
         } else if refused {
             self.out_of_contexts += 1;
         } else if ended == ENTRIES.len() {
@@ -433,8 +437,8 @@ fn main() {
     let stepped = tally.stepped.iter().filter(|has_stepped| **has_stepped).count();
     eprintln!("runs {}, calls {}, longest {}", tally.runs, tally.calls, tally.longest);
     eprintln!(
-        "ended: finished {}, out of contexts {}, cut off {}, stuck {}",
-        tally.finished, tally.out_of_contexts, tally.cut_off, tally.stuck
+        "ended: finished {}, out of contexts {}, cut off {}, starved {}, deadlocked {}",
+        tally.finished, tally.out_of_contexts, tally.cut_off, tally.starved, tally.deadlocked
     );
     eprintln!("contexts: least {least}, middle {middle}, most {most}");
     eprintln!("reached: statements {tried} of {statements}, assertions {asserted} of 1, threads {stepped} of 2");
@@ -443,6 +447,7 @@ fn main() {
         (tally.runs > 0 && asserted == 0, "no run reached an assertion"),
         (tally.finished < tally.out_of_contexts, "more runs ran out of contexts than finished; raise --contexts"),
         (tally.finished < tally.cut_off, "more runs were cut off than finished; raise --calls"),
+        (tally.finished < tally.starved, "more runs starved than finished; raise --contexts"),
     ];
     for (_, note) in notes.iter().filter(|(applies, _)| *applies && found.is_none()) {
         eprintln!("note: {note}");

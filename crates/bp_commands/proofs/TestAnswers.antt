@@ -15,7 +15,7 @@ use Rattle.bp_test.specs.declared.faults.TestFault.{TestFault}
 use Rattle.bp_test.specs.declared.faults.TestFault.TheVariants as fault
 use Rattle.bp_test.specs.declared.options.TestOptions.{TestOptions}
 use Rattle.bp_test.specs.declared.testing.Found.{Found}
-use Rattle.bp_test.specs.declared.testing.Found.TheVariants.{Nothing, Failed, Stuck}
+use Rattle.bp_test.specs.declared.testing.Found.TheVariants.{Nothing, Failed, Deadlock}
 use Rattle.bp_test.specs.declared.testing.Tested.{Tested as Made}
 use Rattle.bp_test.specs.Counts.{AreCounts}
 use Rattle.bp_test.specs.Tallies.{MadeRun, made as made_of, HasReached, IsCounted}
@@ -41,6 +41,7 @@ module _ (start : StartOf) (x : TestOptions) (listed : Option (List ℕ)) (json 
     written_alone Holds run r runs is = record {
       history = is.history;
       others = is.others;
+      deadlocked = is.deadlocked;
       whole = is.whole;
       number = is.number;
       below = is.below;
@@ -67,7 +68,7 @@ module _ (start : StartOf) (x : TestOptions) (listed : Option (List ℕ)) (json 
       found = written_alone _ run r runs is;
       written = is.written;
     }
-    alone (Stuck run r) runs (asked, is) = record {
+    alone (Deadlock run r) runs (asked, is) = record {
       text_is = trace_text (setup_of_run taken x.seed run) is.history;
       found = (asked, written_alone _ run r runs is);
       written = is.written;
@@ -107,10 +108,11 @@ module _ (start : StartOf) (x : TestOptions) (listed : Option (List ℕ)) (json 
           testable = testable;
           run = cut.run;
           report = cut.report;
-          runs = cut.others ++ made_of cut.history cut.report ∷ [];
+          runs = cut.others ++ made_of cut.history cut.report cut.deadlocked ∷ [];
           first = record {
             history = cut.history;
             others = cut.others;
+            deadlocked = cut.deadlocked;
             whole = refl;
             number = cut.number;
             below = cut.below;

@@ -3,7 +3,7 @@ use Rattle.std.specs.Prelude.{ℕ, Bool, true, false, ◌&&◌, ◌==◌, nat_lt
 use Rattle.std.specs.List.{concat}
 use Rattle.bp_test.specs.declared.counts.Counts.{Counts}
 use Rattle.bp_test.specs.declared.testing.Found.{Found}
-use Rattle.bp_test.specs.declared.testing.Found.TheVariants.{Nothing, Failed, Stuck}
+use Rattle.bp_test.specs.declared.testing.Found.TheVariants.{Nothing}
 use Rattle.bp_text.specs.Pieces.{key_text, truth_text}
 use Rattle.bp_commands.specs.declared.notes.Notes.{Notes}
 
@@ -14,12 +14,14 @@ notes_of Nothing k x = record {
   no_assertion = nat_lt 0 x.runs && (x.assertions.reached == 0);
   out_of_contexts = nat_lt x.ends.finished x.ends.out_of_contexts;
   cut_off = nat_lt x.ends.finished x.ends.cut_off;
+  starved = nat_lt x.ends.finished x.ends.starved;
 }
 notes_of found k x = record {
   few_contexts = false;
   no_assertion = false;
   out_of_contexts = false;
   cut_off = false;
+  starved = false;
 }
 
 abbrev pub note_if : Bool → List ℕ → List ℕ
@@ -35,6 +37,7 @@ notes_text x =
     ∷ note_if x.out_of_contexts
     (codes "note: more runs ran out of contexts than finished; raise --contexts\n")
     ∷ note_if x.cut_off (codes "note: more runs were cut off than finished; raise --calls\n")
+    ∷ note_if x.starved (codes "note: more runs starved than finished; raise --contexts\n")
     ∷ [])
 
 -- which notes apply, as the last member of an object
@@ -45,4 +48,5 @@ notes_members x =
     ∷ key_text (codes "no_assertion") ∷ truth_text x.no_assertion
     ∷ key_text (codes "out_of_contexts") ∷ truth_text x.out_of_contexts
     ∷ key_text (codes "cut_off") ∷ truth_text x.cut_off
+    ∷ key_text (codes "starved") ∷ truth_text x.starved
     ∷ codes "}}\n" ∷ [])

@@ -5,7 +5,7 @@ use Rattle.std.specs.List.{concat}
 use Rattle.bp_test.specs.declared.counts.Counts.{Counts}
 use Rattle.bp_test.specs.declared.options.TestOptions.{TestOptions}
 use Rattle.bp_test.specs.declared.testing.Found.{Found}
-use Rattle.bp_test.specs.declared.testing.Found.TheVariants.{Nothing, Failed, Stuck}
+use Rattle.bp_test.specs.declared.testing.Found.TheVariants.{Nothing, Failed, Deadlock}
 use Rattle.bp_commands.specs.declared.testing.Tested.{Tested}
 use Rattle.bp_commands.specs.Notes.{notes_text}
 
@@ -23,13 +23,13 @@ nothing_text words runs = concat (words ∷ codes " in " ∷ decimal runs ∷ co
 -- what was looked for and not found
 abbrev pub nothing_words : Bool → List ℕ
 nothing_words false = codes "no assertion failed"
-nothing_words true = codes "no assertion failed and no run was stuck"
+nothing_words true = codes "no assertion failed and no deadlock"
 
 -- the first line: what was found
 abbrev pub finding_text : TestOptions → Found → List ℕ
-finding_text x Nothing = nothing_text (nothing_words x.with_stuck) x.runs
+finding_text x Nothing = nothing_text (nothing_words x.with_deadlock) x.runs
 finding_text x (Failed run report) = found_text (codes "an assertion failed") run x.runs
-finding_text x (Stuck run report) = found_text (codes "all open threads wait") run x.runs
+finding_text x (Deadlock run report) = found_text (codes "deadlock") run x.runs
 
 -- how many runs were made, how they ended, and what they reached
 abbrev pub counts_text : Counts → List ℕ
@@ -41,7 +41,8 @@ counts_text x =
     ∷ codes "\nended: finished " ∷ decimal x.ends.finished
     ∷ codes ", out of contexts " ∷ decimal x.ends.out_of_contexts
     ∷ codes ", cut off " ∷ decimal x.ends.cut_off
-    ∷ codes ", stuck " ∷ decimal x.ends.stuck
+    ∷ codes ", starved " ∷ decimal x.ends.starved
+    ∷ codes ", deadlocked " ∷ decimal x.ends.deadlocked
     ∷ codes "\ncontexts: least " ∷ decimal x.contexts.least
     ∷ codes ", middle " ∷ decimal x.contexts.middle
     ∷ codes ", most " ∷ decimal x.contexts.most

@@ -4,7 +4,7 @@ use Rattle.std.specs.Prelude.{ℕ, List, [], ◌∷◌, ◌++◌, Option, None, 
 use Rattle.std.specs.List.{concat}
 use Rattle.bp_test.specs.declared.counts.Counts.{Counts}
 use Rattle.bp_test.specs.declared.testing.Found.{Found}
-use Rattle.bp_test.specs.declared.testing.Found.TheVariants.{Nothing, Failed, Stuck}
+use Rattle.bp_test.specs.declared.testing.Found.TheVariants.{Nothing, Failed, Deadlock}
 use Rattle.bp_text.specs.JsonStrings.{string_text}
 use Rattle.bp_text.specs.Pieces.{key_text, number_or_null}
 use Rattle.bp_commands.specs.declared.testing.Tested.{Tested}
@@ -14,19 +14,19 @@ use Rattle.bp_commands.specs.Summaries.{unreached_text}
 abbrev pub found_name : Found → List ℕ
 found_name Nothing = codes "nothing"
 found_name (Failed run report) = codes "failed"
-found_name (Stuck run report) = codes "stuck"
+found_name (Deadlock run report) = codes "deadlock"
 
 -- the run in which something was found
 abbrev pub found_run : Found → Option ℕ
 found_run Nothing = None
 found_run (Failed run report) = Some run
-found_run (Stuck run report) = Some run
+found_run (Deadlock run report) = Some run
 
 -- what was found, and in which run of how many
 abbrev pub finding_members : Found → (runs : ℕ) → List ℕ
 finding_members found runs =
     concat (
-    codes "{\"kind\":\"test\",\"version\":1"
+    codes "{\"kind\":\"test\",\"version\":2"
     ∷ key_text (codes "found") ∷ string_text (found_name found)
     ∷ key_text (codes "run") ∷ number_or_null (found_run found)
     ∷ key_text (codes "of") ∷ decimal runs ∷ [])
@@ -41,7 +41,8 @@ counts_members x =
     ∷ codes ",\"ended\":{\"finished\":" ∷ decimal x.ends.finished
     ∷ key_text (codes "out_of_contexts") ∷ decimal x.ends.out_of_contexts
     ∷ key_text (codes "cut_off") ∷ decimal x.ends.cut_off
-    ∷ key_text (codes "stuck") ∷ decimal x.ends.stuck
+    ∷ key_text (codes "starved") ∷ decimal x.ends.starved
+    ∷ key_text (codes "deadlocked") ∷ decimal x.ends.deadlocked
     ∷ codes "},\"contexts\":{\"least\":" ∷ decimal x.contexts.least
     ∷ key_text (codes "middle") ∷ decimal x.contexts.middle
     ∷ key_text (codes "most") ∷ decimal x.contexts.most

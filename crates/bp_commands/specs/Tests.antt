@@ -9,7 +9,7 @@ use Rattle.bp_machine.specs.Setups.{setup_fault, IsSetupRefusal}
 use Rattle.bp_machine.specs.Starts.{StartOf, setup_from}
 use Rattle.bp_test.specs.declared.options.TestOptions.{TestOptions}
 use Rattle.bp_test.specs.declared.testing.Found.{Found}
-use Rattle.bp_test.specs.declared.testing.Found.TheVariants.{Nothing, Failed, Stuck}
+use Rattle.bp_test.specs.declared.testing.Found.TheVariants.{Nothing, Failed, Deadlock}
 use Rattle.bp_test.specs.Counts.{AreCounts}
 use Rattle.bp_test.specs.Tallies.{MadeRun, HasReached}
 use Rattle.bp_test.specs.Tests.{IsFound, IsSought, IsWrittenRun}
@@ -30,7 +30,7 @@ use Rattle.bp_commands.specs.SummaryObjects.{summary_objects}
 abbrev pub has_found : Found → Bool
 has_found Nothing = false
 has_found (Failed run report) = true
-has_found (Stuck run report) = true
+has_found (Deadlock run report) = true
 
 -- what a user reads of a test, as JSON or not
 abbrev pub summary_of : Tested → List ℕ
@@ -70,7 +70,7 @@ module _
     pub first :
         let t = testable.program in
         IsWrittenRun t (setup_from start None t) x (Some []) (Some written)
-        (λ s h. IsSought t s x.with_stuck h) run report runs
+        (λ s h. IsSought t s x.with_deadlock h) run report runs
 
   -- what an empty output has after the test, and what is answered: what was found, and the counts
   -- and the marks of the runs up to it, that one included

@@ -20,6 +20,8 @@ pub struct Notes {
     pub out_of_contexts: bool,
     /// More runs were cut off than finished.
     pub cut_off: bool,
+    /// More runs starved than finished.
+    pub starved: bool,
 }
 
 impl Notes {
@@ -29,6 +31,7 @@ impl Notes {
         no_assertion: false,
         out_of_contexts: false,
         cut_off: false,
+        starved: false,
     };
 }
 
@@ -41,6 +44,8 @@ const OUT_OF_CONTEXTS: &[u8] =
 
 const CUT_OFF: &[u8] = b"note: more runs were cut off than finished; raise --calls\n";
 
+const STARVED: &[u8] = b"note: more runs starved than finished; raise --contexts\n";
+
 /// Where a test may mislead, by what it found, how many contexts were allowed, and its counts.
 pub(crate) fn notes_of(found: Found, contexts: u32, counts: &Counts) -> Notes
     ensures { result ≡ notes_of found contexts counts.now }
@@ -51,6 +56,7 @@ pub(crate) fn notes_of(found: Found, contexts: u32, counts: &Counts) -> Notes
             no_assertion: 0 < counts.runs && counts.assertions.reached == 0,
             out_of_contexts: counts.ends.finished < counts.ends.out_of_contexts,
             cut_off: counts.ends.finished < counts.ends.cut_off,
+            starved: counts.ends.finished < counts.ends.starved,
         },
         _ => Notes::NONE,
     }
@@ -74,6 +80,7 @@ pub(crate) fn put_notes<W: Write>(notes: Notes, out: &mut W) -> Result<(), Write
             note_if(notes.no_assertion, NO_ASSERTION),
             note_if(notes.out_of_contexts, OUT_OF_CONTEXTS),
             note_if(notes.cut_off, CUT_OFF),
+            note_if(notes.starved, STARVED),
         ],
     )
 }
@@ -93,6 +100,8 @@ pub(crate) fn put_notes_members<W: Write>(notes: Notes, out: &mut W) -> Result<(
             Truth(notes.out_of_contexts),
             Key(b"cut_off"),
             Truth(notes.cut_off),
+            Key(b"starved"),
+            Truth(notes.starved),
             Bytes(b"}}\n"),
         ],
     )

@@ -30,11 +30,11 @@ fn put_found<W: Write>(words: &[u8], run: u64, runs: u64, out: &mut W) -> Result
 }
 
 /// What was looked for and not found.
-fn nothing_words(with_stuck: bool) -> &'static [u8]
-    ensures { result.now ≡ nothing_words with_stuck }
+fn nothing_words(with_deadlock: bool) -> &'static [u8]
+    ensures { result.now ≡ nothing_words with_deadlock }
 {
-    if with_stuck {
-        b"no assertion failed and no run was stuck"
+    if with_deadlock {
+        b"no assertion failed and no deadlock"
     } else {
         b"no assertion failed"
     }
@@ -62,9 +62,9 @@ fn put_finding<W: Write>(options: &TestOptions, found: Found, out: &mut W) -> Re
         Writes (W.contents out.old) (W.contents out.new) text result }
 {
     match found {
-        Found::Nothing => put_nothing(nothing_words(options.with_stuck), options.runs, out),
+        Found::Nothing => put_nothing(nothing_words(options.with_deadlock), options.runs, out),
         Found::Failed { run, .. } => put_found(b"an assertion failed", run, options.runs, out),
-        Found::Stuck { run, .. } => put_found(b"all open threads wait", run, options.runs, out),
+        Found::Deadlock { run, .. } => put_found(b"deadlock", run, options.runs, out),
     }
 }
 
@@ -88,8 +88,10 @@ fn put_counts<W: Write>(counts: &Counts, out: &mut W) -> Result<(), WriteFault>
             Number(counts.ends.out_of_contexts),
             Bytes(b", cut off "),
             Number(counts.ends.cut_off),
-            Bytes(b", stuck "),
-            Number(counts.ends.stuck),
+            Bytes(b", starved "),
+            Number(counts.ends.starved),
+            Bytes(b", deadlocked "),
+            Number(counts.ends.deadlocked),
             Bytes(b"\ncontexts: least "),
             Number(counts.contexts.least),
             Bytes(b", middle "),

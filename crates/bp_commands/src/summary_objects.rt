@@ -19,7 +19,7 @@ fn found_name(found: Found) -> &'static [u8]
     match found {
         Found::Nothing => b"nothing",
         Found::Failed { .. } => b"failed",
-        Found::Stuck { .. } => b"stuck",
+        Found::Deadlock { .. } => b"deadlock",
     }
 }
 
@@ -29,7 +29,7 @@ fn found_run(found: Found) -> Option<u64>
 {
     match found {
         Found::Nothing => None,
-        Found::Failed { run, .. } | Found::Stuck { run, .. } => Some(run),
+        Found::Failed { run, .. } | Found::Deadlock { run, .. } => Some(run),
     }
 }
 
@@ -41,7 +41,7 @@ fn put_finding_members<W: Write>(found: Found, runs: u64, out: &mut W) -> Result
     put_pieces(
         out,
         &[
-            Bytes(b"{\"kind\":\"test\",\"version\":1"),
+            Bytes(b"{\"kind\":\"test\",\"version\":2"),
             Key(b"found"),
             Text(found_name(found)),
             Key(b"run"),
@@ -72,8 +72,10 @@ fn put_counts_members<W: Write>(counts: &Counts, out: &mut W) -> Result<(), Writ
             Number(counts.ends.out_of_contexts),
             Key(b"cut_off"),
             Number(counts.ends.cut_off),
-            Key(b"stuck"),
-            Number(counts.ends.stuck),
+            Key(b"starved"),
+            Number(counts.ends.starved),
+            Key(b"deadlocked"),
+            Number(counts.ends.deadlocked),
             Bytes(b"},\"contexts\":{\"least\":"),
             Number(counts.contexts.least),
             Key(b"middle"),

@@ -34,7 +34,7 @@ module _ {E : Type 0} (k : Flat) (s : SetupOf) (p : Plan) (from runs : ℕ) (t :
     pub blocks : AreBlocks k s p from runs before rest
     pub made : List MadeRun
     pub size : start_of_block from 0 runs + length made ≡ start_of_block from before runs
-    pub clean : AreCleanRuns t s p.with_stuck p.seed (start_of_block from 0 runs) made
+    pub clean : AreCleanRuns t s p.with_deadlock p.seed (start_of_block from 0 runs) made
     pub tallied : IsTally t s (earlier ++ made) tally
 
   pub before_all : (all : List (Result Block E)) (tally : Tally) → AreBlocks k s p from runs 0 all → IsTally t s earlier tally → IsBefore all all tally
@@ -49,8 +49,8 @@ module _ {E : Type 0} (k : Flat) (s : SetupOf) (p : Plan) (from runs : ℕ) (t :
   }
 
   module _ (all rest : List (Result Block E)) (block : Block) (old new : Tally) (was : IsBefore all (Ok block ∷ rest) old) (adds : Adds old block.tally new) where
-    this : IsTallied t s p.with_stuck p.seed (start_of_block from was.before runs) (start_of_block from (was.before + 1) runs) block.found block.tally
-    this = let same : was.before + 0 ≡ was.before = omega arith in subst (λ n. IsTallied t s p.with_stuck p.seed (start_of_block from n runs) (start_of_block from (n + 1) runs) block.found block.tally) same (was.blocks 0 (Ok block) (omega arith) t is)
+    this : IsTallied t s p.with_deadlock p.seed (start_of_block from was.before runs) (start_of_block from (was.before + 1) runs) block.found block.tally
+    this = let same : was.before + 0 ≡ was.before = omega arith in subst (λ n. IsTallied t s p.with_deadlock p.seed (start_of_block from n runs) (start_of_block from (n + 1) runs) block.found block.tally) same (was.blocks 0 (Ok block) (omega arith) t is)
 
     abbrev both : List MadeRun
     both = was.made ++ this.runs
@@ -58,13 +58,13 @@ module _ {E : Type 0} (k : Flat) (s : SetupOf) (p : Plan) (from runs : ℕ) (t :
     tallied_both : IsTally t s (earlier ++ both) new
     tallied_both = subst (λ rs. IsTally t s rs new) (append_assoc earlier was.made this.runs) (adds t s (earlier ++ was.made) this.runs was.tallied this.tallied)
 
-    both_first : IsFirstFound t s p.with_stuck p.seed (start_of_block from 0 runs) (start_of_block from (was.before + 1) runs) block.found both
-    both_first = found_later t s p.with_stuck p.seed (start_of_block from 0 runs) (start_of_block from was.before runs) (start_of_block from (was.before + 1) runs) was.made was.size was.clean
+    both_first : IsFirstFound t s p.with_deadlock p.seed (start_of_block from 0 runs) (start_of_block from (was.before + 1) runs) block.found both
+    both_first = found_later t s p.with_deadlock p.seed (start_of_block from 0 runs) (start_of_block from was.before runs) (start_of_block from (was.before + 1) runs) was.made was.size was.clean
         (starts_rise from was.before (was.before + 1) runs (omega arith)) block.found this.runs this.first
 
     pub before_rest : is_some block.found ≡ false → IsBefore all rest new
     before_rest e =
-        let none = subst (λ o. IsFirstFound t s p.with_stuck p.seed (start_of_block from 0 runs) (start_of_block from (was.before + 1) runs) o both) (none_of block.found e) both_first in record {
+        let none = subst (λ o. IsFirstFound t s p.with_deadlock p.seed (start_of_block from 0 runs) (start_of_block from (was.before + 1) runs) o both) (none_of block.found e) both_first in record {
           before = was.before + 1;
           count = let e = was.count in omega (arith, e);
           blocks = λ n d l. let more : was.before + suc n ≡ was.before + 1 + n = omega arith in subst (λ m. IsBlock k s p from runs m (slice_index_or rest n d)) more (was.blocks (suc n) d (omega (arith, l)));
@@ -74,14 +74,14 @@ module _ {E : Type 0} (k : Flat) (s : SetupOf) (p : Plan) (from runs : ℕ) (t :
           tallied = tallied_both;
         }
 
-    found_first : (o : Option FoundRun) → is_some o ≡ true → IsFirstFound t s p.with_stuck p.seed (start_of_block from 0 runs) (start_of_block from (was.before + 1) runs) o both → IsFirstFound t s p.with_stuck p.seed (start_of_block from 0 runs) (start_of_block from (length all) runs) o both
+    found_first : (o : Option FoundRun) → is_some o ≡ true → IsFirstFound t s p.with_deadlock p.seed (start_of_block from 0 runs) (start_of_block from (was.before + 1) runs) o both → IsFirstFound t s p.with_deadlock p.seed (start_of_block from 0 runs) (start_of_block from (length all) runs) o both
     found_first None some first = absurd cc
-    found_first (Some f) some first = found_among_more t s p.with_stuck p.seed (start_of_block from 0 runs) (start_of_block from (was.before + 1) runs) (start_of_block from (length all) runs) (starts_rise from (was.before + 1) (length all) runs (let e = was.count in omega (arith, e))) f both first
+    found_first (Some f) some first = found_among_more t s p.with_deadlock p.seed (start_of_block from 0 runs) (start_of_block from (was.before + 1) runs) (start_of_block from (length all) runs) (starts_rise from (was.before + 1) (length all) runs (let e = was.count in omega (arith, e))) f both first
 
-    pub found_any : is_some block.found ≡ true → IsTalliedAfter earlier t s p.with_stuck p.seed (start_of_block from 0 runs) (start_of_block from (length all) runs) block.found new
+    pub found_any : is_some block.found ≡ true → IsTalliedAfter earlier t s p.with_deadlock p.seed (start_of_block from 0 runs) (start_of_block from (length all) runs) block.found new
     found_any e = record { runs = both; first = found_first block.found e both_first; tallied = tallied_both }
 
-  pub after_all : (all rest : List (Result Block E)) (tally : Tally) → length rest ≡ 0 → IsBefore all rest tally → IsTalliedAfter earlier t s p.with_stuck p.seed (start_of_block from 0 runs) (start_of_block from (length all) runs) None tally
+  pub after_all : (all rest : List (Result Block E)) (tally : Tally) → length rest ≡ 0 → IsBefore all rest tally → IsTalliedAfter earlier t s p.with_deadlock p.seed (start_of_block from 0 runs) (start_of_block from (length all) runs) None tally
   after_all all rest tally none was = record {
     runs = was.made;
     first = (
@@ -94,21 +94,21 @@ module _ {E : Type 0} (k : Flat) (s : SetupOf) (p : Plan) (from runs : ℕ) (t :
   }
 
 -- a wave after runs that are not looked for
-module _ (t : Program) (s : SetupOf) (with_stuck : Bool) (seed from runs n : ℕ) (within : from ≤ runs) (before : List MadeRun) (count : length before ≡ from - 0) (clean : AreCleanRuns t s with_stuck seed 0 before) (tally : Tally) where
+module _ (t : Program) (s : SetupOf) (with_deadlock : Bool) (seed from runs n : ℕ) (within : from ≤ runs) (before : List MadeRun) (count : length before ≡ from - 0) (clean : AreCleanRuns t s with_deadlock seed 0 before) (tally : Tally) where
   here : start_of_block from 0 runs ≡ from
   here = omega (arith, within)
 
   from_zero : 0 + length before ≡ from
   from_zero = omega (arith, count)
 
-  all_first : (o : Option FoundRun) (made : List MadeRun) → IsFirstFound t s with_stuck seed (start_of_block from 0 runs) (start_of_block from n runs) o made → IsFirstFound t s with_stuck seed 0 (start_of_block from n runs) o (before ++ made)
-  all_first o made first = found_later t s with_stuck seed 0 from (start_of_block from n runs) before from_zero clean (omega (arith, within)) o made (subst (λ b. IsFirstFound t s with_stuck seed b (start_of_block from n runs) o made) here first)
+  all_first : (o : Option FoundRun) (made : List MadeRun) → IsFirstFound t s with_deadlock seed (start_of_block from 0 runs) (start_of_block from n runs) o made → IsFirstFound t s with_deadlock seed 0 (start_of_block from n runs) o (before ++ made)
+  all_first o made first = found_later t s with_deadlock seed 0 from (start_of_block from n runs) before from_zero clean (omega (arith, within)) o made (subst (λ b. IsFirstFound t s with_deadlock seed b (start_of_block from n runs) o made) here first)
 
-  more_first : (o : Option FoundRun) → is_some o ≡ true → (made : List MadeRun) → IsFirstFound t s with_stuck seed 0 (start_of_block from n runs) o made → IsFirstFound t s with_stuck seed 0 runs o made
+  more_first : (o : Option FoundRun) → is_some o ≡ true → (made : List MadeRun) → IsFirstFound t s with_deadlock seed 0 (start_of_block from n runs) o made → IsFirstFound t s with_deadlock seed 0 runs o made
   more_first None some made first = absurd cc
-  more_first (Some f) some made first = found_among_more t s with_stuck seed 0 (start_of_block from n runs) runs (omega arith) f made first
+  more_first (Some f) some made first = found_among_more t s with_deadlock seed 0 (start_of_block from n runs) runs (omega arith) f made first
 
-  pub found_in_wave : (o : Option FoundRun) → is_some o ≡ true → IsTalliedAfter before t s with_stuck seed (start_of_block from 0 runs) (start_of_block from n runs) o tally → IsTallied t s with_stuck seed 0 runs o tally
+  pub found_in_wave : (o : Option FoundRun) → is_some o ≡ true → IsTalliedAfter before t s with_deadlock seed (start_of_block from 0 runs) (start_of_block from n runs) o tally → IsTallied t s with_deadlock seed 0 runs o tally
   found_in_wave o some wave = record {
     runs = before ++ wave.runs;
     first = more_first o some (before ++ wave.runs) (all_first o wave.runs wave.first);
@@ -116,9 +116,9 @@ module _ (t : Program) (s : SetupOf) (with_stuck : Bool) (seed from runs n : ℕ
   }
 
   -- the runs up to the end of the wave, where nothing was found
-  pub clean_after_wave : (o : Option FoundRun) → is_some o ≡ false → IsTalliedAfter before t s with_stuck seed (start_of_block from 0 runs) (start_of_block from n runs) o tally → IsTallied t s with_stuck seed 0 (start_of_block from n runs) None tally
+  pub clean_after_wave : (o : Option FoundRun) → is_some o ≡ false → IsTalliedAfter before t s with_deadlock seed (start_of_block from 0 runs) (start_of_block from n runs) o tally → IsTallied t s with_deadlock seed 0 (start_of_block from n runs) None tally
   clean_after_wave o none wave = record {
     runs = before ++ wave.runs;
-    first = subst (λ p. IsFirstFound t s with_stuck seed 0 (start_of_block from n runs) p (before ++ wave.runs)) (none_of o none) (all_first o wave.runs wave.first);
+    first = subst (λ p. IsFirstFound t s with_deadlock seed 0 (start_of_block from n runs) p (before ++ wave.runs)) (none_of o none) (all_first o wave.runs wave.first);
     tallied = wave.tallied;
   }

@@ -12,31 +12,32 @@ use Rattle.bp_trace.specs.TraceText.{trace_text}
 use Rattle.bp_test.specs.declared.blocks.FoundRun.{FoundRun}
 use Rattle.bp_test.specs.declared.options.TestOptions.{TestOptions}
 use Rattle.bp_test.specs.Tallies.{MadeRun}
-use Rattle.bp_test.specs.Tests.{setup_of_run, found_by, found_in, IsStuck, IsCleanRun, AreCleanRuns, IsFirstFound, IsFoundRun, IsWrittenRun, IsFound, IsCutRun}
+use Rattle.bp_test.specs.Tests.{setup_of_run, found_by, found_in, IsDeadlock, IsCleanRun, AreCleanRuns, IsFirstFound, IsFoundRun, IsWrittenRun, IsFound, IsCutRun}
 
-module _ (t : Program) (s : SetupOf) (with_stuck : Bool) (seed : ℕ) where
+module _ (t : Program) (s : SetupOf) (with_deadlock : Bool) (seed : ℕ) where
   -- runs and those after them
-  pub clean_both : (n : ℕ) (xs ys : List MadeRun) → AreCleanRuns t s with_stuck seed n xs → AreCleanRuns t s with_stuck seed (n + length xs) ys → AreCleanRuns t s with_stuck seed n (xs ++ ys)
-  clean_both n [] ys first later = let none : n + 0 ≡ n = omega arith in subst (λ k. AreCleanRuns t s with_stuck seed k ys) none later
+  pub clean_both : (n : ℕ) (xs ys : List MadeRun) → AreCleanRuns t s with_deadlock seed n xs → AreCleanRuns t s with_deadlock seed (n + length xs) ys → AreCleanRuns t s with_deadlock seed n (xs ++ ys)
+  clean_both n [] ys first later = let none : n + 0 ≡ n = omega arith in subst (λ k. AreCleanRuns t s with_deadlock seed k ys) none later
   clean_both n (x ∷ xs) ys first later =
       let next : n + length (x ∷ xs) ≡ suc n + length xs = omega arith in
-      (first.0, clean_both (suc n) xs ys first.1 (subst (λ k. AreCleanRuns t s with_stuck seed k ys) next later))
+      (first.0, clean_both (suc n) xs ys first.1 (subst (λ k. AreCleanRuns t s with_deadlock seed k ys) next later))
 
-  pub clean_one : (n : ℕ) (xs : List MadeRun) (x : MadeRun) → AreCleanRuns t s with_stuck seed n xs → IsCleanRun t (setup_of_run s seed (n + length xs)) with_stuck x → AreCleanRuns t s with_stuck seed n (xs ++ x ∷ [])
+  pub clean_one : (n : ℕ) (xs : List MadeRun) (x : MadeRun) → AreCleanRuns t s with_deadlock seed n xs → IsCleanRun t (setup_of_run s seed (n + length xs)) with_deadlock x → AreCleanRuns t s with_deadlock seed n (xs ++ x ∷ [])
   clean_one n xs x first last = clean_both n xs (x ∷ []) first (last, tt)
 
   -- what is found after runs that are not looked for is the first of all
-  module _ (a b c : ℕ) (before : List MadeRun) (count : a + length before ≡ b) (clean : AreCleanRuns t s with_stuck seed a before) where
-    then_clean : (ys : List MadeRun) → AreCleanRuns t s with_stuck seed b ys → AreCleanRuns t s with_stuck seed a (before ++ ys)
-    then_clean ys later = clean_both a before ys clean (subst (λ k. AreCleanRuns t s with_stuck seed k ys) (sym count) later)
+  module _ (a b c : ℕ) (before : List MadeRun) (count : a + length before ≡ b) (clean : AreCleanRuns t s with_deadlock seed a before) where
+    then_clean : (ys : List MadeRun) → AreCleanRuns t s with_deadlock seed b ys → AreCleanRuns t s with_deadlock seed a (before ++ ys)
+    then_clean ys later = clean_both a before ys clean (subst (λ k. AreCleanRuns t s with_deadlock seed k ys) (sym count) later)
 
-    pub found_later : b ≤ c → (o : Option FoundRun) (runs : List MadeRun) → IsFirstFound t s with_stuck seed b c o runs → IsFirstFound t s with_stuck seed a c o (before ++ runs)
+    pub found_later : b ≤ c → (o : Option FoundRun) (runs : List MadeRun) → IsFirstFound t s with_deadlock seed b c o runs → IsFirstFound t s with_deadlock seed a c o (before ++ runs)
     found_later le None runs later = (
       (let size = later.0 in rw length-append (omega (arith, size, count, le))),
       then_clean runs later.1,
     )
     found_later le (Some f) runs later = record {
       others = before ++ later.others;
+      deadlocked = later.deadlocked;
       whole = ap (λ ys. before ++ ys) later.whole ∙ sym (append_assoc before later.others _);
       number = (let here = later.number in rw length-append (omega (arith, here, count)));
       below = later.below;
@@ -46,9 +47,10 @@ module _ (t : Program) (s : SetupOf) (with_stuck : Bool) (seed : ℕ) where
     }
 
   -- and of more runs
-  pub found_among_more : (a b c : ℕ) → b ≤ c → (f : FoundRun) (runs : List MadeRun) → IsFoundRun t s with_stuck seed a b f runs → IsFoundRun t s with_stuck seed a c f runs
+  pub found_among_more : (a b c : ℕ) → b ≤ c → (f : FoundRun) (runs : List MadeRun) → IsFoundRun t s with_deadlock seed a b f runs → IsFoundRun t s with_deadlock seed a c f runs
   found_among_more a b c le f runs found = record {
     others = found.others;
+    deadlocked = found.deadlocked;
     whole = found.whole;
     number = found.number;
     below = (let two = found.below in grind (arith, le, two));
@@ -58,20 +60,20 @@ module _ (t : Program) (s : SetupOf) (with_stuck : Bool) (seed : ℕ) where
   }
 
 -- what was found by a plan of a test is what the test asks for
-pub as_asked : (t : Program) (s : SetupOf) (x : TestOptions) (seed : ℕ) → seed ≡ x.seed → (with_stuck : Bool) → with_stuck ≡ x.with_stuck → (o found : Option FoundRun) → o ≡ found → (runs : List MadeRun)
-    → IsFirstFound t s with_stuck seed 0 x.runs o runs → IsFirstFound t s x.with_stuck x.seed 0 x.runs found runs
-as_asked t s x seed seed_is with_stuck stuck_is o found same runs first = rw⁻¹ seed_is (rw⁻¹ stuck_is (subst (λ p. IsFirstFound t s with_stuck seed 0 x.runs p runs) same first))
+pub as_asked : (t : Program) (s : SetupOf) (x : TestOptions) (seed : ℕ) → seed ≡ x.seed → (with_deadlock : Bool) → with_deadlock ≡ x.with_deadlock → (o found : Option FoundRun) → o ≡ found → (runs : List MadeRun)
+    → IsFirstFound t s with_deadlock seed 0 x.runs o runs → IsFirstFound t s x.with_deadlock x.seed 0 x.runs found runs
+as_asked t s x seed seed_is with_deadlock deadlock_is o found same runs first = rw⁻¹ seed_is (rw⁻¹ deadlock_is (subst (λ p. IsFirstFound t s with_deadlock seed 0 x.runs p runs) same first))
 
 -- there are no more runs than were asked for
-pub few_with : (t : Program) (s : SetupOf) (with_stuck : Bool) (seed count : ℕ) → count < 2 ^ 64 → (f : FoundRun) (runs : List MadeRun) → IsFoundRun t s with_stuck seed 0 count f runs → length runs < 2 ^ 64
-few_with t s with_stuck seed count few f runs found =
+pub few_with : (t : Program) (s : SetupOf) (with_deadlock : Bool) (seed count : ℕ) → count < 2 ^ 64 → (f : FoundRun) (runs : List MadeRun) → IsFoundRun t s with_deadlock seed 0 count f runs → length runs < 2 ^ 64
+few_with t s with_deadlock seed count few f runs found =
     let number = found.number in
     let below = found.below in
     let size = ap length found.whole ∙ length_push found.others _ in
     omega (arith, few, number, below, size)
 
 -- what the first found run of all says of a test
-module _ (t : Program) (s : SetupOf) (x : TestOptions) (f : FoundRun) (runs : List MadeRun) (first : IsFoundRun t s x.with_stuck x.seed 0 x.runs f runs) (z : SetupOf) (setup : z ≡ setup_of_run s x.seed f.run) (old new : Option (List ℕ)) where
+module _ (t : Program) (s : SetupOf) (x : TestOptions) (f : FoundRun) (runs : List MadeRun) (first : IsFoundRun t s x.with_deadlock x.seed 0 x.runs f runs) (z : SetupOf) (setup : z ≡ setup_of_run s x.seed f.run) (old new : Option (List ℕ)) where
   count : length first.others ≡ f.run
   count = let here = first.number in omega (arith, here)
 
@@ -79,6 +81,7 @@ module _ (t : Program) (s : SetupOf) (x : TestOptions) (f : FoundRun) (runs : Li
   written_run Holds holds written = record {
     history = f.history.items;
     others = first.others;
+    deadlocked = first.deadlocked;
     whole = first.whole;
     number = count;
     below = first.below;
@@ -89,13 +92,13 @@ module _ (t : Program) (s : SetupOf) (x : TestOptions) (f : FoundRun) (runs : Li
   }
 
   own_outcome : f.report.outcome ≡ outcome_of f.history.items
-  own_outcome = first.found.report.outcome
+  own_outcome = first.found.made.report.outcome
 
   found_as : (o : Outcome) → f.report.outcome ≡ o → AppendsAll old new (trace_text z f.history.items) → IsFound t s x old new (found_by f.run f.report o) runs
   found_as (Failed i) e written = written_run (λ y h. is_failure (outcome_of h) ≡ true) (ap is_failure (sym own_outcome ∙ e)) written
   found_as Clean e written = let clean : outcome_of f.history.items ≡ Clean = sym own_outcome ∙ e in elim first.found.sought [
     | inl fails ↦ absurd (let a = sym (ap is_failure clean) ∙ fails in cc)
-    | inr stuck ↦ (stuck.0, written_run (IsStuck t) stuck.1 written)
+    | inr dead ↦ (dead.0, written_run (IsDeadlock t) dead.1 written)
   ]
 
   pub found_of_run : AppendsAll old new (trace_text z f.history.items) → IsFound t s x old new (found_in f.run f.report) runs
@@ -106,6 +109,7 @@ module _ (t : Program) (s : SetupOf) (x : TestOptions) (f : FoundRun) (runs : Li
     run = f.run;
     history = f.history.items;
     report = f.report;
+    deadlocked = first.deadlocked;
     others = first.others;
     number = count;
     below = first.below;

@@ -1,5 +1,5 @@
 -- Blocks of runs that are made side by side.
-use Rattle.std.specs.Prelude.{◌+◌, ◌*◌, ◌++◌, ◌<◌, ℕ, min, Bool, ◌||◌, ◌&&◌, nat_le, List, Option, Result, length, slice_index_or, IfOk}
+use Rattle.std.specs.Prelude.{◌+◌, ◌*◌, ◌++◌, ◌<◌, ℕ, min, Bool, ◌||◌, ◌&&◌, List, Option, Result, length, slice_index_or, IfOk}
 use Rattle.bp_tree.specs.Ast.{Program}
 use Rattle.bp_code.specs.Flat.{Flat}
 use Rattle.bp_code.specs.StandsFor.{StandsFor}
@@ -14,9 +14,9 @@ use Rattle.bp_test.specs.declared.plans.Plan.{Plan}
 use Rattle.bp_test.specs.Tallies.{MadeRun, IsTally}
 use Rattle.bp_test.specs.Tests.{IsFirstFound, IsTallied}
 
--- a test looks for a run with this report
-abbrev pub is_sought : Bool → Report → Bool
-is_sought with_stuck r = is_failure r.outcome || (with_stuck && nat_le 1 r.left_open)
+-- a test looks for a run with this report, which ended in a deadlock or not
+abbrev pub is_sought : Bool → Report → Bool → Bool
+is_sought with_deadlock r deadlocked = is_failure r.outcome || (with_deadlock && deadlocked)
 
 -- where block n of a wave begins, in a test of this many runs
 abbrev pub start_of_block : (from n runs : ℕ) → ℕ
@@ -31,7 +31,7 @@ module _ {E : Type 0} (k : Flat) (s : SetupOf) (p : Plan) (from runs : ℕ) wher
       → StandsFor k t
       → let start = start_of_block from n runs in
       let end = start_of_block from (n + 1) runs in
-      IsTallied t s p.with_stuck p.seed start end block.found block.tally)
+      IsTallied t s p.with_deadlock p.seed start end block.found block.tally)
 
   -- the blocks of a wave, from block m on
   abbrev pub AreBlocks : ℕ → List (Result Block E) → Type 0
@@ -39,8 +39,8 @@ module _ {E : Type 0} (k : Flat) (s : SetupOf) (p : Plan) (from runs : ℕ) wher
       (n : ℕ) (d : Result Block E) → n < length rs → IsBlock (m + n) (slice_index_or rs n d)
 
 -- what was found, and the tally of the runs up to it, where these others were made before
-pub record IsTalliedAfter (before : List MadeRun) (t : Program) (s : SetupOf) (with_stuck : Bool)
+pub record IsTalliedAfter (before : List MadeRun) (t : Program) (s : SetupOf) (with_deadlock : Bool)
     (seed from to : ℕ) (found : Option FoundRun) (tally : Tally) : Type 0 where
   pub runs : List MadeRun
-  pub first : IsFirstFound t s with_stuck seed from to found runs
+  pub first : IsFirstFound t s with_deadlock seed from to found runs
   pub tallied : IsTally t s (before ++ runs) tally

@@ -12,13 +12,14 @@ use Rattle.bp_test.specs.declared.tallies.Ends.{Ends}
 use Rattle.bp_test.specs.declared.tallies.Tally.{Tally}
 use Rattle.bp_test.specs.Reached.{refuses_context, place_of, AreMarks, HasStep, Reaches}
 
--- a run that was made: its history, and the report of that
+-- a run that was made: its history, the report of that, and whether it ended in a deadlock
 pub record MadeRun : Type 0 where
   pub history : List Call
   pub report : Report
+  pub deadlocked : Bool
 
-abbrev pub made : List Call → Report → MadeRun
-made h r = record { history = h; report = r }
+abbrev pub made : List Call → Report → Bool → MadeRun
+made h r deadlocked = record { history = h; report = r; deadlocked = deadlocked }
 
 -- a count as it is kept, in 64 bits
 abbrev pub capped : ℕ → ℕ
@@ -29,8 +30,9 @@ abbrev pub is_end : Reply → Bool
 is_end Ended = true
 is_end r = false
 
--- Each run ended in one of these ways, the first that applies: an assertion failed; some lines are
--- open; a thread was refused a context; each thread came to its end; none of these.
+-- Each run ended in one of these ways, the first that applies: an assertion failed; its threads are
+-- deadlocked; some lines are open; a thread was refused a context; each thread came to its end; none
+-- of these.
 abbrev pub fails : MadeRun → Bool
 fails r = is_failure r.report.outcome
 
@@ -43,19 +45,26 @@ lacks_contexts r = nat_le 1 (count_by (λ x. refuses_context x.reply) r.history)
 abbrev pub has_ends : (count : ℕ) → MadeRun → Bool
 has_ends count r = count_by (λ x. is_end x.reply) r.history == count
 
-abbrev pub is_stuck_run : MadeRun → Bool
-is_stuck_run r = not (fails r) && leaves_open r
+abbrev pub is_deadlocked_run : MadeRun → Bool
+is_deadlocked_run r = not (fails r) && r.deadlocked
+
+-- no assertion failed, and its threads are not deadlocked
+abbrev pub lives : MadeRun → Bool
+lives r = not (fails r) && not r.deadlocked
+
+abbrev pub is_starved : MadeRun → Bool
+is_starved r = lives r && leaves_open r
 
 abbrev pub is_out_of_contexts : MadeRun → Bool
-is_out_of_contexts r = not (fails r) && (not (leaves_open r) && lacks_contexts r)
+is_out_of_contexts r = lives r && (not (leaves_open r) && lacks_contexts r)
 
 abbrev pub is_finished_run : (count : ℕ) → MadeRun → Bool
 is_finished_run count r =
-    not (fails r) && (not (leaves_open r) && (not (lacks_contexts r) && has_ends count r))
+    lives r && (not (leaves_open r) && (not (lacks_contexts r) && has_ends count r))
 
 abbrev pub is_cut_off : (count : ℕ) → MadeRun → Bool
 is_cut_off count r =
-    not (fails r) && (not (leaves_open r) && (not (lacks_contexts r) && not (has_ends count r)))
+    lives r && (not (leaves_open r) && (not (lacks_contexts r) && not (has_ends count r)))
 
 -- how many runs of so many threads ended in each way
 abbrev pub ends_of : (count : ℕ) → List MadeRun → Ends
@@ -64,7 +73,8 @@ ends_of count runs =
       finished = capped (count_by (is_finished_run count) runs);
       out_of_contexts = capped (count_by is_out_of_contexts runs);
       cut_off = capped (count_by (is_cut_off count) runs);
-      stuck = capped (count_by is_stuck_run runs);
+      starved = capped (count_by is_starved runs);
+      deadlocked = capped (count_by is_deadlocked_run runs);
     }
 
 -- how many calls a run made
@@ -110,7 +120,8 @@ ends_sum a b =
       finished = capped (a.finished + b.finished);
       out_of_contexts = capped (a.out_of_contexts + b.out_of_contexts);
       cut_off = capped (a.cut_off + b.cut_off);
-      stuck = capped (a.stuck + b.stuck);
+      starved = capped (a.starved + b.starved);
+      deadlocked = capped (a.deadlocked + b.deadlocked);
     }
 
 -- count k after so many runs used some number of contexts

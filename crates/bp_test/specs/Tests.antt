@@ -1,5 +1,5 @@
 -- What a test of a program finds.
-use Rattle.std.specs.Prelude.{◌≡◌, ◌⊎◌, ◌<◌, ◌+◌, ◌-◌, ◌%◌, ◌^◌, ℕ, suc, Bool, true, List, [], ◌∷◌, ◌++◌, Option, None, Some, length, MatchOption}
+use Rattle.std.specs.Prelude.{◌≡◌, ◌⊎◌, ◌↔◌, ◌<◌, ◌+◌, ◌-◌, ◌%◌, ◌^◌, ℕ, suc, Bool, true, List, [], ◌∷◌, ◌++◌, Option, None, Some, length, IsTrue, MatchOption}
 use Rattle.bp_tree.specs.Ast.{Program}
 use Rattle.bp_text.specs.Writing.{AppendsAll, AppendsPart}
 use Rattle.bp_machine.specs.declared.calls.Call.{Call}
@@ -7,7 +7,8 @@ use Rattle.bp_machine.specs.declared.reports.Outcome.{Outcome}
 use Rattle.bp_machine.specs.declared.reports.Outcome.TheVariants.{Clean, Failed}
 use Rattle.bp_machine.specs.declared.reports.Report.{Report}
 use Rattle.bp_machine.specs.Contexts.{IsWithin}
-use Rattle.bp_machine.specs.Histories.{granted_threads, open_lines, IsLegal}
+use Rattle.bp_machine.specs.Deadlocks.{IsDeadlocked}
+use Rattle.bp_machine.specs.Histories.{configuration_after, granted_threads, IsLegal}
 use Rattle.bp_machine.specs.Reports.{outcome_of, is_failure, IsReport}
 use Rattle.bp_machine.specs.SeededHistories.{HasSeededBits}
 use Rattle.bp_machine.specs.Setups.{SetupOf}
@@ -21,7 +22,7 @@ use Rattle.bp_test.specs.declared.testing.Found.{Found}
 use Rattle.bp_test.specs.declared.testing.Found.TheVariants as found
 use Rattle.bp_test.specs.declared.testing.Tested.{Tested}
 use Rattle.bp_test.specs.Failing.{FailsAt}
-use Rattle.bp_test.specs.Resting.{EachRests}
+use Rattle.bp_test.specs.Resting.{IsOver}
 use Rattle.bp_test.specs.Tallies.{MadeRun, made, IsTally}
 
 -- the number of a fault
@@ -39,51 +40,59 @@ pub record IsSample (t : Program) (s : SetupOf) (h : List Call) : Type 0 where
   pub seeded : HasSeededBits s h
   pub within : IsWithin s.contexts (granted_threads h)
 
--- no assertion failed, a line is open, and each thread rests
-pub record IsStuck (t : Program) (s : SetupOf) (h : List Call) : Type 0 where
+-- no assertion failed, and the threads are deadlocked
+pub record IsDeadlock (t : Program) (s : SetupOf) (h : List Call) : Type 0 where
   pub clean : outcome_of h ≡ Clean
-  pub left_open : 0 < open_lines s h
-  pub rests : EachRests t s h
+  pub deadlocked : IsDeadlocked t (configuration_after t s h)
 
--- what a test looks for: an assertion failed, or the history is stuck, where that is asked for too
+-- what a test looks for: an assertion failed, or the history is a deadlock, where that is asked for
+-- too
 abbrev pub IsSought : Program → SetupOf → Bool → List Call → Type 0
-IsSought t s with_stuck h =
-    (is_failure (outcome_of h) ≡ true) ⊎ ((with_stuck ≡ true) × IsStuck t s h)
+IsSought t s with_deadlock h =
+    (is_failure (outcome_of h) ≡ true) ⊎ ((with_deadlock ≡ true) × IsDeadlock t s h)
 
--- a run that came to its end, and is not what a test looks for
-pub record IsCleanRun (t : Program) (s : SetupOf) (with_stuck : Bool) (r : MadeRun)
-    : Type 0 where
+-- a run that came to its end: its history is over, and has this report; and whether its threads are
+-- deadlocked is told
+pub record IsMadeRun (t : Program) (s : SetupOf) (r : MadeRun) : Type 0 where
   pub sample : IsSample t s r.history
-  pub clean : outcome_of r.history ≡ Clean
-  pub rests : EachRests t s r.history
-  pub closed : with_stuck ≡ true → open_lines s r.history ≡ 0
+  pub over : IsOver t s r.history
   pub report : IsReport s r.history r.report
+  pub deadlock : IsTrue r.deadlocked ↔ IsDeadlocked t (configuration_after t s r.history)
 
--- a history that a test looks for
-pub record IsSoughtSample (t : Program) (s : SetupOf) (with_stuck : Bool) (h : List Call)
-    (r : Report) : Type 0 where
-  pub sample : IsSample t s h
-  pub sought : IsSought t s with_stuck h
-  pub report : IsReport s h r
+-- a run that is not what a test looks for
+pub record IsCleanRun (t : Program) (s : SetupOf) (with_deadlock : Bool) (r : MadeRun)
+    : Type 0 where
+  pub made : IsMadeRun t s r
+  pub clean : outcome_of r.history ≡ Clean
+  pub lives : with_deadlock ≡ true → IsDeadlocked t (configuration_after t s r.history) → ⊥
+
+-- a run that a test looks for
+pub record IsSoughtRun (t : Program) (s : SetupOf) (with_deadlock : Bool) (r : MadeRun)
+    : Type 0 where
+  pub made : IsMadeRun t s r
+  pub sought : IsSought t s with_deadlock r.history
 
 -- these are the runs from number n on, each with its own seed: each came to its end, and is not
 -- what the test looks for
 abbrev pub AreCleanRuns : Program → SetupOf → Bool → (seed n : ℕ) → List MadeRun → Type 0
-AreCleanRuns t s with_stuck seed n [] = Unit {0}
-AreCleanRuns t s with_stuck seed n (r ∷ rs) =
-    IsCleanRun t (setup_of_run s seed n) with_stuck r
-    × AreCleanRuns t s with_stuck seed (suc n) rs
+AreCleanRuns t s with_deadlock seed n [] = Unit {0}
+AreCleanRuns t s with_deadlock seed n (r ∷ rs) =
+    IsCleanRun t (setup_of_run s seed n) with_deadlock r
+    × AreCleanRuns t s with_deadlock seed (suc n) rs
 
 -- These are the runs up to the one that was found: the first of those from one number to before
 -- another that the test looks for. It is known at which instruction it fails, if it does.
-pub record IsFoundRun (t : Program) (s : SetupOf) (with_stuck : Bool) (seed from to : ℕ)
+pub record IsFoundRun (t : Program) (s : SetupOf) (with_deadlock : Bool) (seed from to : ℕ)
     (f : FoundRun) (runs : List MadeRun) : Type 0 where
   pub others : List MadeRun
-  pub whole : runs ≡ others ++ made f.history.items f.report ∷ []
+  pub deadlocked : Bool
+  pub whole : runs ≡ others ++ made f.history.items f.report deadlocked ∷ []
   pub number : from + length others ≡ f.run
   pub below : f.run < to
-  pub clean : AreCleanRuns t s with_stuck seed from others
-  pub found : IsSoughtSample t (setup_of_run s seed f.run) with_stuck f.history.items f.report
+  pub clean : AreCleanRuns t s with_deadlock seed from others
+  pub found :
+      let run = made f.history.items f.report deadlocked in
+      IsSoughtRun t (setup_of_run s seed f.run) with_deadlock run
   pub at : MatchOption f.number
       (outcome_of f.history.items ≡ Clean)
       (FailsAt t (setup_of_run s seed f.run) f.history.items)
@@ -92,22 +101,22 @@ pub record IsFoundRun (t : Program) (s : SetupOf) (with_stuck : Bool) (seed from
 -- them, where none was found
 abbrev pub IsFirstFound
     : Program → SetupOf → Bool → (seed from to : ℕ) → Option FoundRun → List MadeRun → Type 0
-IsFirstFound t s with_stuck seed from to None runs =
-    (length runs ≡ to - from) × AreCleanRuns t s with_stuck seed from runs
-IsFirstFound t s with_stuck seed from to (Some f) runs =
-    IsFoundRun t s with_stuck seed from to f runs
+IsFirstFound t s with_deadlock seed from to None runs =
+    (length runs ≡ to - from) × AreCleanRuns t s with_deadlock seed from runs
+IsFirstFound t s with_deadlock seed from to (Some f) runs =
+    IsFoundRun t s with_deadlock seed from to f runs
 
 -- what was found, and the tally of the runs up to it
-pub record IsTallied (t : Program) (s : SetupOf) (with_stuck : Bool) (seed from to : ℕ)
+pub record IsTallied (t : Program) (s : SetupOf) (with_deadlock : Bool) (seed from to : ℕ)
     (found : Option FoundRun) (tally : Tally) : Type 0 where
   pub runs : List MadeRun
-  pub first : IsFirstFound t s with_stuck seed from to found runs
+  pub first : IsFirstFound t s with_deadlock seed from to found runs
   pub tallied : IsTally t s runs tally
 
 -- what was found in a run with this report
 abbrev pub found_by : ℕ → Report → Outcome → Found
 found_by run r (Failed i) = found.Failed run r
-found_by run r Clean = found.Stuck run r
+found_by run r Clean = found.Deadlock run r
 
 abbrev pub found_in : ℕ → Report → Found
 found_in run r = found_by run r r.outcome
@@ -120,22 +129,25 @@ module _ (t : Program) (s : SetupOf) (x : TestOptions) (old new : Option (List �
       (runs : List MadeRun) : Type 0 where
     pub history : List Call
     pub others : List MadeRun
-    pub whole : runs ≡ others ++ made history report ∷ []
+    pub deadlocked : Bool
+    pub whole : runs ≡ others ++ made history report deadlocked ∷ []
     pub number : length others ≡ run
     pub below : run < x.runs
-    pub clean : AreCleanRuns t s x.with_stuck x.seed 0 others
-    pub found : IsSoughtSample t (setup_of_run s x.seed run) x.with_stuck history report
+    pub clean : AreCleanRuns t s x.with_deadlock x.seed 0 others
+    pub found :
+        let made_run = made history report deadlocked in
+        IsSoughtRun t (setup_of_run s x.seed run) x.with_deadlock made_run
     pub holds : Holds (setup_of_run s x.seed run) history
     pub written : AppendsAll old new (trace_text (setup_of_run s x.seed run) history)
 
   -- what was found, and the runs up to it
   abbrev pub IsFound : Found → List MadeRun → Type 0
   IsFound found.Nothing runs =
-      (new ≡ old) × (length runs ≡ x.runs) × AreCleanRuns t s x.with_stuck x.seed 0 runs
+      (new ≡ old) × (length runs ≡ x.runs) × AreCleanRuns t s x.with_deadlock x.seed 0 runs
   IsFound (found.Failed run report) runs =
       IsWrittenRun (λ z h. is_failure (outcome_of h) ≡ true) run report runs
-  IsFound (found.Stuck run report) runs =
-      (x.with_stuck ≡ true) × IsWrittenRun (IsStuck t) run report runs
+  IsFound (found.Deadlock run report) runs =
+      (x.with_deadlock ≡ true) × IsWrittenRun (IsDeadlock t) run report runs
 
   -- what was found, and the tally of the runs up to it, that one included
   pub record IsTest (tested : Tested) : Type 0 where
@@ -149,11 +161,14 @@ module _ (t : Program) (s : SetupOf) (x : TestOptions) (old new : Option (List �
     pub run : ℕ
     pub history : List Call
     pub report : Report
+    pub deadlocked : Bool
     pub others : List MadeRun
     pub number : length others ≡ run
     pub below : run < x.runs
-    pub clean : AreCleanRuns t s x.with_stuck x.seed 0 others
-    pub found : IsSoughtSample t (setup_of_run s x.seed run) x.with_stuck history report
+    pub clean : AreCleanRuns t s x.with_deadlock x.seed 0 others
+    pub found :
+        let made_run = made history report deadlocked in
+        IsSoughtRun t (setup_of_run s x.seed run) x.with_deadlock made_run
     pub written : AppendsPart old new (trace_text (setup_of_run s x.seed run) history)
 
   abbrev pub IsTestRefusal : TestFault → Type 0

@@ -36,13 +36,13 @@ pub struct Block {
 }
 
 /// Whether a test looks for a run with this report: one in which an assertion failed, or one that
-/// is stuck, where those are looked for.
-fn is_sought(report: &Report, with_stuck: bool) -> bool
-    ensures { result ≡ is_sought with_stuck report.now }
+/// ended in a deadlock, where those are looked for.
+fn is_sought(report: &Report, is_deadlocked: bool, with_deadlock: bool) -> bool
+    ensures { result ≡ is_sought with_deadlock report.now is_deadlocked }
 {
     match report.outcome {
         Outcome::Failed { .. } => true,
-        Outcome::Clean => with_stuck && report.left_open > 0,
+        Outcome::Clean => with_deadlock && is_deadlocked,
     }
 }
 
@@ -61,7 +61,7 @@ pub fn first_found(
         (t : Program)
         → StandsFor code.now t
         → let p = plan.now in
-        IsTallied t setup.now p.with_stuck p.seed from to block.found block.tally) }
+        IsTallied t setup.now p.with_deadlock p.seed from to block.found block.tally) }
 {
     let mut session = Session::new(alloc, code, setup)?;
     let mut history = Vec::new(alloc);
@@ -71,8 +71,9 @@ pub fn first_found(
         let lengths = plan.lengths.as_slice();
         session = run_once(session, seed, lengths, &mut history, &mut tally.reached)?;
         let report = session.report();
-        tally.add_run(history.as_slice(), &report)?;
-        if is_sought(&report, plan.with_stuck) {
+        let is_deadlocked = session.is_deadlocked();
+        tally.add_run(history.as_slice(), &report, is_deadlocked)?;
+        if is_sought(&report, is_deadlocked, plan.with_deadlock) {
             let number = failed_instruction(&session);
             let found = Some(FoundRun {
                 run,

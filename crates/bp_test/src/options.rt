@@ -10,7 +10,6 @@ pub struct TestOptions {
     /// How many blocks of runs are made side by side, each in a thread of its own. What is found
     /// does not depend on it. It counts as 1 where it is 0, and as `MAX_JOBS` where it is greater.
     pub jobs: u32,
-    /// Whether the test also looks for a run in which some threads are open and all of them wait
-    /// for ever.
-    pub with_stuck: bool,
+    /// Whether the test also looks for a run that ends in a deadlock.
+    pub with_deadlock: bool,
 }

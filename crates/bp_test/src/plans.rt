@@ -15,8 +15,8 @@ const PILOTS: u64 = 64;
 pub struct Plan {
     /// The seed of run 0. Each other run has the seed after that of the run before it.
     pub seed: u64,
-    /// Whether the test also looks for runs that are stuck.
-    pub with_stuck: bool,
+    /// Whether the test also looks for runs that end in a deadlock.
+    pub with_deadlock: bool,
     /// The lengths of pilots, over which the switches of runs are spread.
     pub lengths: Vec<u64>,
 }
@@ -42,11 +42,11 @@ impl Plan {
         code: &Code,
         setup: &Setup,
         seed: u64,
-        with_stuck: bool,
+        with_deadlock: bool,
     ) -> Result<Plan, AllocError>
         requires { FitsCode code.now setup.now }
         ensures seed { IfOk result (λ p. p.seed ≡ seed) }
-        ensures stuck { IfOk result (λ p. p.with_stuck ≡ with_stuck) }
+        ensures deadlock { IfOk result (λ p. p.with_deadlock ≡ with_deadlock) }
     {
         let mut session = Session::new(alloc, code, setup)?;
         let mut history = Vec::new(alloc);
@@ -61,7 +61,7 @@ impl Plan {
         }
         Ok(Plan {
             seed,
-            with_stuck,
+            with_deadlock,
             lengths,
         })
     }

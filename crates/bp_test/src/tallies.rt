@@ -23,8 +23,11 @@ pub struct Ends {
     pub out_of_contexts: u64,
     /// A thread made all calls that it may make, or its stack was full.
     pub cut_off: u64,
-    /// Some threads were open, and each of them waits for ever.
-    pub stuck: u64,
+    /// Some threads were open, and each of them waits for one that could step, but was refused a
+    /// context, made all its calls or has a full stack.
+    pub starved: u64,
+    /// Some threads had not ended, and each of those waits for ever.
+    pub deadlocked: u64,
 }
 
 /// What runs of a test came to. No count is greater than the greatest number of 64 bits.
@@ -144,20 +147,24 @@ impl Ends {
         finished: 0,
         out_of_contexts: 0,
         cut_off: 0,
-        stuck: 0,
+        starved: 0,
+        deadlocked: 0,
     };
 
     /// Counts a run of this many threads, where no assertion failed in it.
-    fn add_run(&mut self, history: &[Call], report: &Report, threads: usize)
+    fn add_run(&mut self, history: &[Call], report: &Report, is_deadlocked: bool, threads: usize)
         ensures { (runs : List MadeRun)
             → self.old ≡ ends_of threads runs
-            → self.new ≡ ends_of threads (runs ++ made history.now report.now ∷ []) }
+            → let run = made history.now report.now is_deadlocked in
+            self.new ≡ ends_of threads (runs ++ run ∷ []) }
     {
         if matches!(report.outcome, Outcome::Failed { .. }) {
             return;
         }
-        if report.left_open > 0 {
-            self.stuck = self.stuck.saturating_add(1);
+        if is_deadlocked {
+            self.deadlocked = self.deadlocked.saturating_add(1);
+        } else if report.left_open > 0 {
+            self.starved = self.starved.saturating_add(1);
         } else if count_refused(history) > 0 {
             self.out_of_contexts = self.out_of_contexts.saturating_add(1);
         } else if count_ended(history) == threads {
@@ -174,7 +181,8 @@ impl Ends {
         self.finished = self.finished.saturating_add(other.finished);
         self.out_of_contexts = self.out_of_contexts.saturating_add(other.out_of_contexts);
         self.cut_off = self.cut_off.saturating_add(other.cut_off);
-        self.stuck = self.stuck.saturating_add(other.stuck);
+        self.starved = self.starved.saturating_add(other.starved);
+        self.deadlocked = self.deadlocked.saturating_add(other.deadlocked);
     }
 }
 
@@ -221,17 +229,24 @@ impl Tally {
     }
 
     /// Adds a run.
-    pub(crate) fn add_run(&mut self, history: &[Call], report: &Report) -> Result<(), AllocError>
-        ensures counted { OnOk result
+    pub(crate) fn add_run(
+        &mut self,
+        history: &[Call],
+        report: &Report,
+        is_deadlocked: bool,
+    ) -> Result<(), AllocError>
+        ensures counted { let run = made history.now report.now is_deadlocked in
+            OnOk result
             ((s : SetupOf) (runs : List MadeRun)
             → IsCounted s runs self.old
-            → IsCounted s (runs ++ made history.now report.now ∷ []) self.new) }
+            → IsCounted s (runs ++ run ∷ []) self.new) }
         ensures reached { OnOk result (self.new.reached.items ≡ self.old.reached.items) }
     {
         self.runs = self.runs.saturating_add(1);
         self.calls = self.calls.saturating_add(report.calls);
         self.longest = self.longest.max(report.calls);
-        self.ends.add_run(history, report, self.stepped.len());
+        self.ends
+            .add_run(history, report, is_deadlocked, self.stepped.len());
         note_steps(&mut self.stepped, history);
         count_contexts(&mut self.contexts, report.contexts as usize, 1)
     }

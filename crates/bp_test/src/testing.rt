@@ -27,9 +27,9 @@ pub enum Found {
     Nothing,
     /// An assertion failed in this run. No run before it is what the test looks for.
     Failed { run: u64, report: Report },
-    /// In this run some threads are open, and all of them wait for ever. No run before it is what
-    /// the test looks for.
-    Stuck { run: u64, report: Report },
+    /// This run ended in a deadlock: some threads had not ended, and each of those waits for ever. No
+    /// run before it is what the test looks for.
+    Deadlock { run: u64, report: Report },
 }
 
 /// What a test found, and what the runs that it made came to.
@@ -45,14 +45,14 @@ fn found_in(run: u64, report: Report) -> Found
 {
     match report.outcome {
         Outcome::Failed { .. } => Found::Failed { run, report },
-        Outcome::Clean => Found::Stuck { run, report },
+        Outcome::Clean => Found::Deadlock { run, report },
     }
 }
 
 /// Makes runs, each with the seed after that of the one before, until an assertion fails, or a run
-/// is stuck where that is looked for, and then writes the trace of that run. Where none is found
-/// nothing is written. At a refusal nothing is written, but for a writer that refuses: it then has
-/// a proper prefix of the trace. What `progress` is told changes nothing of that.
+/// ends in a deadlock where that is looked for, and then writes the trace of that run. Where none
+/// is found nothing is written. At a refusal nothing is written, but for a writer that refuses: it
+/// then has a proper prefix of the trace. What `progress` is told changes nothing of that.
 pub fn test<R: Threads + Sync, P: Progress, W: Write>(
     rt: &R,
     alloc: Global,
@@ -71,7 +71,7 @@ pub fn test<R: Threads + Sync, P: Progress, W: Write>(
         (IsTest t setup.now options.now old new)
         (IsTestRefusal t setup.now options.now old new) }
 {
-    let plan = Plan::new(alloc, code, setup, options.seed, options.with_stuck)?;
+    let plan = Plan::new(alloc, code, setup, options.seed, options.with_deadlock)?;
     let jobs = options.jobs.clamp(1, MAX_JOBS) as usize;
     let made = search(rt, alloc, code, setup, &plan, options.runs, jobs, progress);
     progress.end();

@@ -70,7 +70,7 @@ fn first_of(
         → IsTally t s before tally.old
         → let start = start_of_block from 0 runs in
         let end = start_of_block from (length blocks.items) runs in
-        IsTalliedAfter before t s p.with_stuck p.seed start end found tally.new) }
+        IsTalliedAfter before t s p.with_deadlock p.seed start end found tally.new) }
 {
     for block in blocks {
         let block = block?;
@@ -100,7 +100,7 @@ pub(crate) fn search<R: Threads + Sync, P: Progress>(
         (t : Program)
         → StandsFor code.now t
         → let p = plan.now in
-        IsTallied t setup.now p.with_stuck p.seed 0 runs block.found block.tally) }
+        IsTallied t setup.now p.with_deadlock p.seed 0 runs block.found block.tally) }
 {
     let mut tally = Tally::new(alloc, code, setup)?;
     let mut from = 0;

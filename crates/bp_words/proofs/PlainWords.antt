@@ -340,7 +340,7 @@ test_words program file = program ∷ codes "test" ∷ file ∷ []
 
 abbrev test_rows : Text → List Row
 test_rows file =
-    given (codes "FILE") file ∷ down (codes "explain") ∷ down (codes "no-explain") ∷ down (codes "stuck") ∷ down (codes "unreached") ∷ down (codes "json") ∷ []
+    given (codes "FILE") file ∷ down (codes "explain") ∷ down (codes "no-explain") ∷ down (codes "deadlock") ∷ down (codes "unreached") ∷ down (codes "json") ∷ []
 
 test_named : (program file : Text) → IsWord file → subcommand_of btrun_app (test_words program file) ≡ Some (codes "test", test_rows file)
 unfolding clap_on_literals
@@ -362,7 +362,7 @@ test_of file (Code words) asks = absurd (differ (codes "test") (codes "code") re
 test_of file (Drive words) asks = absurd (differ (codes "test") (codes "drive") refl asks.0)
 test_of file (Confirm words) asks = absurd (differ (codes "test") (codes "confirm") refl asks.0)
 test_of file (Run words) asks = absurd (differ (codes "test") (codes "run") refl asks.0)
-test_of file (Test words) (named, of) = (of.program, unasked words.explain (of.explain.always.1 refl) (of.explain.never.1 refl), start_is words.start of.entries of.init of.contexts of.calls, of.seed, of.runs, of.jobs, of.stuck.1 refl, of.unreached.1 refl, of.json.1 refl)
+test_of file (Test words) (named, of) = (of.program, unasked words.explain (of.explain.always.1 refl) (of.explain.never.1 refl), start_is words.start of.entries of.init of.contexts of.calls, of.seed, of.runs, of.jobs, of.deadlock.1 refl, of.unreached.1 refl, of.json.1 refl)
 test_of file (Replay words) asks = absurd (differ (codes "test") (codes "replay") refl asks.0)
 test_of file (Show words) asks = absurd (differ (codes "test") (codes "show") refl asks.0)
 test_of file (Migrate words) asks = absurd (differ (codes "test") (codes "migrate") refl asks.0)

@@ -136,7 +136,7 @@ run_app =
     ∷ [])
 
 -- `test FILE [ENTRY].. [--seed N] [--contexts N] [--calls N] [--init BITS] [--runs N] [--jobs N]
--- [--stuck] [--unreached] [--json] [--explain] [--no-explain]`
+-- [--deadlock] [--unreached] [--json] [--explain] [--no-explain]`
 abbrev pub test_app : App
 test_app =
     with_rules (file_app (codes "test")) (
@@ -147,7 +147,7 @@ test_app =
     ∷ option_rule (codes "init")
     ∷ long_number_rule (codes "runs")
     ∷ number_rule (codes "jobs")
-    ∷ flag_rule (codes "stuck")
+    ∷ flag_rule (codes "deadlock")
     ∷ flag_rule (codes "unreached")
     ∷ flag_rule (codes "json")
     ∷ [])

@@ -112,7 +112,7 @@ IsPlainTestOf file (task.Test words) =
     × (words.seed ≡ DEFAULT_SEED)
     × (words.runs ≡ DEFAULT_RUNS)
     × (words.jobs ≡ DEFAULT_JOBS)
-    × (words.stuck ≡ false)
+    × (words.deadlock ≡ false)
     × (words.unreached ≡ false)
     × (words.json ≡ false)
 IsPlainTestOf file other = ⊥

@@ -19,7 +19,7 @@ pub record IsTestOf (rows : List Row) (words : TestWords) : Type 0 where
   pub seed : IsNumberOf 64 DEFAULT_SEED (one_of (codes "seed") rows) words.seed
   pub runs : IsNumberOf 64 DEFAULT_RUNS (one_of (codes "runs") rows) words.runs
   pub jobs : IsNumberOf 32 DEFAULT_JOBS (one_of (codes "jobs") rows) words.jobs
-  pub stuck : IsFlagOf (one_of (codes "stuck") rows) words.stuck
+  pub deadlock : IsFlagOf (one_of (codes "deadlock") rows) words.deadlock
   pub unreached : IsFlagOf (one_of (codes "unreached") rows) words.unreached
   pub json : IsFlagOf (one_of (codes "json") rows) words.json
   pub explain : IsExplainOf rows words.explain

@@ -31,9 +31,8 @@ pub struct TestWords<'a> {
     pub runs: u64,
     /// How many blocks of runs are made side by side.
     pub jobs: u32,
-    /// Whether `--stuck` was given: the test then also looks for a run in which all open threads
-    /// wait for ever.
-    pub stuck: bool,
+    /// Whether `--deadlock` was given: the test then also looks for a run that ends in a deadlock.
+    pub deadlock: bool,
     /// Whether `--unreached` was given: the statements that no run reached are then listed.
     pub unreached: bool,
     /// Whether `--json` was given: the summary is then JSON objects, and so is a fault.
@@ -53,7 +52,7 @@ const NOTES: &str = "\
     What is found and printed does not depend on the number of jobs.\n\n\
     Example:\n  btrun test race.bp writer reader --contexts 4 --runs 100000\n\n\
     Exit status:\n  0  nothing was found in any run\n  \
-    1  an assertion failed, or a run was stuck\n  \
+    1  an assertion failed, or a run ended in a deadlock\n  \
     2  the program was refused, or the words were\n  \
     3  memory, a device or the output failed";
 
@@ -99,9 +98,9 @@ pub fn test_command<'a>(alloc: Global) -> Result<Command<'a>, AllocError>
             help: "Make N blocks of runs side by side, at most 64 [default: 1]",
         },
         Row {
-            name: "stuck",
+            name: "deadlock",
             takes: Takes::Nothing,
-            help: "Also stop at a run in which all open threads wait for ever",
+            help: "Also stop at a run in which all threads that have not ended wait",
         },
         Row {
             name: "unreached",
@@ -135,7 +134,7 @@ pub fn test_words<'a>(alloc: Global, words: &ArgMatches<'a>) -> Result<TestWords
         seed: long_number(words, "seed", DEFAULT_SEED),
         runs: long_number(words, "runs", DEFAULT_RUNS),
         jobs: number(words, "jobs", DEFAULT_JOBS),
-        stuck: is_given(words, "stuck"),
+        deadlock: is_given(words, "deadlock"),
         unreached: is_given(words, "unreached"),
         json: is_given(words, "json"),
     })

@@ -70,7 +70,7 @@ test_options words = record {
   seed = words.seed;
   runs = words.runs;
   jobs = words.jobs;
-  with_stuck = words.stuck;
+  with_deadlock = words.deadlock;
 }
 
 -- how many contexts are allowed to steps: as many as they use, unless a number is given

@@ -85,7 +85,7 @@ fn test_options(words: &TestWords<'_>) -> TestOptions
         seed: words.seed,
         runs: words.runs,
         jobs: words.jobs,
-        with_stuck: words.stuck,
+        with_deadlock: words.deadlock,
     }
 }
 

@@ -35,7 +35,7 @@ fn options_of(runs: u64) -> TestOptions {
         seed: SEED,
         runs,
         jobs: 1,
-        with_stuck: false,
+        with_deadlock: false,
     }
 }
 
@@ -111,7 +111,7 @@ fn runs_end_where_threads_wait(rt: HostRuntime) -> Result<(), Fail> {
 }
 
 /// What is found with two threads of `main` by this many jobs, and how many runs were counted.
-fn finds_stuck<R: Threads + Sync>(
+fn finds_deadlock<R: Threads + Sync>(
     rt: &R,
     alloc: Global,
     text: &[u8],
@@ -122,7 +122,7 @@ fn finds_stuck<R: Threads + Sync>(
     let mut out = Vec::new(alloc);
     let options = TestOptions {
         jobs,
-        with_stuck: true,
+        with_deadlock: true,
         ..options_of(12_000)
     };
     let tested = test(rt, alloc, &code, &setup, &options, &Untold, &mut out)?;
@@ -130,15 +130,15 @@ fn finds_stuck<R: Threads + Sync>(
 }
 
 #[test]
-fn a_stuck_run_is_found(rt: HostRuntime) -> Result<(), Fail> {
-    let (found, runs) = finds_stuck(&rt, rt.alloc(), WAITS, 2)?;
-    assert!(rt; matches!(found, Found::Stuck { run: 0, .. }) && runs == 1);
+fn a_deadlock_is_found(rt: HostRuntime) -> Result<(), Fail> {
+    let (found, runs) = finds_deadlock(&rt, rt.alloc(), WAITS, 2)?;
+    assert!(rt; matches!(found, Found::Deadlock { run: 0, .. }) && runs == 1);
     Ok(())
 }
 
 #[test]
 fn jobs_make_each_run_once(rt: HostRuntime) -> Result<(), Fail> {
-    let (found, runs) = finds_stuck(&rt, rt.alloc(), CLEAN, 3)?;
+    let (found, runs) = finds_deadlock(&rt, rt.alloc(), CLEAN, 3)?;
     assert!(rt; found == Found::Nothing && runs == 12_000);
     Ok(())
 }

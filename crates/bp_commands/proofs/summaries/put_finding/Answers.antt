@@ -6,5 +6,5 @@ returns-in-Nothing g c = rw c.in-Nothing.is (rw c.nothing_words.ensures at c.put
 pub returns-in-Failed : goal.returns-in-Failed
 returns-in-Failed g c = rw c.in-Failed.is c.put_found.ensures
 
-pub returns-in-Stuck : goal.returns-in-Stuck
-returns-in-Stuck g c = rw c.in-Stuck.is c.put_found-in-Stuck.ensures
+pub returns-in-Deadlock : goal.returns-in-Deadlock
+returns-in-Deadlock g c = rw c.in-Deadlock.is c.put_found-in-Deadlock.ensures

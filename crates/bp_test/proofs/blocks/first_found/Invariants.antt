@@ -13,6 +13,6 @@ invariant-loop-run l = record {
   earlier : List MadeRun;
   count : length earlier ≡ l.run - l.fn.from;
   ahead : l.run ≤ max l.fn.from l.fn.to;
-  clean : (t : Program) → StandsFor l.fn.code t → AreCleanRuns t l.fn.setup l.fn.plan.with_stuck l.fn.plan.seed l.fn.from earlier;
+  clean : (t : Program) → StandsFor l.fn.code t → AreCleanRuns t l.fn.setup l.fn.plan.with_deadlock l.fn.plan.seed l.fn.from earlier;
   tallied : (t : Program) → StandsFor l.fn.code t → IsTally t l.fn.setup earlier l.tally;
 }

@@ -7,7 +7,7 @@ use Rattle.bp_test.proofs.testing.test.Goals as goal
 pub returns-in_default : goal.returns-in_default
 returns-in_default g c = λ t is.
     let found = c.in_ok-found.ensures t is in
-    let first = as_asked t c.args.setup.now c.args.options.now _ c.in_ok-plan.ensures.seed _ c.in_ok-plan.ensures.stuck _ _ c.in_default.is found.runs found.first in
+    let first = as_asked t c.args.setup.now c.args.options.now _ c.in_ok-plan.ensures.seed _ c.in_ok-plan.ensures.deadlock _ _ c.in_default.is found.runs found.first in
     record {
       runs = found.runs;
       few = (let size = first.0 in omega (arith, size));
@@ -21,7 +21,7 @@ returns-in_err-write_trace g c = λ t is.
     let written = rw c.as_slice.ensures.value at c.in_err-write_trace.ensures in
     let setup = c.with_seed-setup.ensures ∙ ap {A = SetupOf} (λ y. record y { seed = Some ((c.args.options.now.seed + c.in-Some.found.run) % 2 ^ 64) }) c.in_ok-try_copy.ensures in
     let found = c.in_ok-found.ensures t is in
-    let first = as_asked t c.args.setup.now c.args.options.now _ c.in_ok-plan.ensures.seed _ c.in_ok-plan.ensures.stuck _ _ c.in-Some.is found.runs found.first in
+    let first = as_asked t c.args.setup.now c.args.options.now _ c.in_ok-plan.ensures.seed _ c.in_ok-plan.ensures.deadlock _ _ c.in-Some.is found.runs found.first in
     rw (p.1, p.2) (cut_run t c.args.setup.now c.args.options.now c.in-Some.found found.runs first c.with_seed-setup.result setup
     (g.W.Write.contents c.args.out.now) (g.W.Write.contents c.write_trace.new.out) written)
 
@@ -30,10 +30,10 @@ returns g c = λ t is.
     let written = rw c.as_slice.ensures.value at c.in_ok-write_trace.ensures in
     let setup = c.with_seed-setup.ensures ∙ ap {A = SetupOf} (λ y. record y { seed = Some ((c.args.options.now.seed + c.in-Some.found.run) % 2 ^ 64) }) c.in_ok-try_copy.ensures in
     let found = c.in_ok-found.ensures t is in
-    let first = as_asked t c.args.setup.now c.args.options.now _ c.in_ok-plan.ensures.seed _ c.in_ok-plan.ensures.stuck _ _ c.in-Some.is found.runs found.first in
+    let first = as_asked t c.args.setup.now c.args.options.now _ c.in_ok-plan.ensures.seed _ c.in_ok-plan.ensures.deadlock _ _ c.in-Some.is found.runs found.first in
     record {
       runs = found.runs;
-      few = few_with t c.args.setup.now c.args.options.now.with_stuck c.args.options.now.seed c.args.options.now.runs (omega arith) c.in-Some.found found.runs first;
+      few = few_with t c.args.setup.now c.args.options.now.with_deadlock c.args.options.now.seed c.args.options.now.runs (omega arith) c.in-Some.found found.runs first;
       found = rw c.found_in-found.ensures (found_of_run t c.args.setup.now c.args.options.now c.in-Some.found found.runs first c.with_seed-setup.result setup
           (g.W.Write.contents c.args.out.now) (g.W.Write.contents c.write_trace.new.out) written);
       tallied = found.tallied;

@@ -7,7 +7,7 @@ use Rattle.bp_test.proofs.waves.search.Given as goal
 abbrev pub invariant-loop-from : goal.invariant-loop-from
 invariant-loop-from g l = record {
   within : l.from ≤ l.fn.runs;
-  tallied : (t : Program) → StandsFor l.fn.code t → IsTallied t l.fn.setup l.fn.plan.with_stuck l.fn.plan.seed 0 l.from None l.tally;
+  tallied : (t : Program) → StandsFor l.fn.code t → IsTallied t l.fn.setup l.fn.plan.with_deadlock l.fn.plan.seed 0 l.from None l.tally;
 }
 
 abbrev pub decreases-loop-from : goal.decreases-loop-from
