@@ -26,3 +26,4 @@ pub mod SummaryObjects
 pub mod Tellings
 pub mod Tests
 pub mod Traces
+pub mod Waits

@@ -3,19 +3,24 @@ use Rattle.std.specs.Prelude.{ℕ, Bool, true, false, List, [], ◌∷◌, ◌++
 use Rattle.std.specs.declared.alloc.Global.{Global}
 use Rattle.std.specs.List.{concat}
 use Rattle.bp_test.specs.declared.counts.Counts.{Counts}
-use Rattle.bp_test.specs.declared.options.TestOptions.{TestOptions}
 use Rattle.bp_test.specs.declared.testing.Found.{Found}
 use Rattle.bp_test.specs.declared.testing.Found.TheVariants.{Nothing, Failed, Deadlock}
 use Rattle.bp_commands.specs.declared.testing.Tested.{Tested}
 use Rattle.bp_commands.specs.Notes.{notes_text}
+use Rattle.bp_commands.specs.Waits.{waits_text}
 
-abbrev pub found_text : List ℕ → (run runs : ℕ) → List ℕ
-found_text words run runs =
-    concat (
-    words
-    ∷ codes " in run " ∷ decimal run
-    ∷ codes " of " ∷ decimal runs
-    ∷ codes "\n" ∷ [])
+abbrev pub found_words : List ℕ → (run runs : ℕ) → List ℕ
+found_words words run runs =
+    concat (words ∷ codes " in run " ∷ decimal run ∷ codes " of " ∷ decimal runs ∷ [])
+
+abbrev pub failure_text : (run runs : ℕ) → List ℕ
+failure_text run runs = found_words (codes "an assertion failed") run runs ++ codes "\n"
+
+-- a deadlock in a run of this test, and where its threads wait
+abbrev pub deadlock_text : Tested → (run : ℕ) → List ℕ
+deadlock_text x run =
+    found_words (codes "deadlock") run x.options.runs
+    ++ (waits_text x.positions.items x.waiting.items ++ codes "\n")
 
 abbrev pub nothing_text : List ℕ → (runs : ℕ) → List ℕ
 nothing_text words runs = concat (words ∷ codes " in " ∷ decimal runs ∷ codes " runs\n" ∷ [])
@@ -26,10 +31,10 @@ nothing_words false = codes "no assertion failed"
 nothing_words true = codes "no assertion failed and no deadlock"
 
 -- the first line: what was found
-abbrev pub finding_text : TestOptions → Found → List ℕ
-finding_text x Nothing = nothing_text (nothing_words x.with_deadlock) x.runs
-finding_text x (Failed run report) = found_text (codes "an assertion failed") run x.runs
-finding_text x (Deadlock run report) = found_text (codes "deadlock") run x.runs
+abbrev pub finding_text : Tested → Found → List ℕ
+finding_text x Nothing = nothing_text (nothing_words x.options.with_deadlock) x.options.runs
+finding_text x (Failed run report) = failure_text run x.options.runs
+finding_text x (Deadlock run report) = deadlock_text x run
 
 -- how many runs were made, how they ended, and what they reached
 abbrev pub counts_text : Counts → List ℕ
@@ -68,6 +73,6 @@ unreached_text (line ∷ lines) (is_reached ∷ marks) =
 
 abbrev pub summary_text : Tested → List ℕ
 summary_text x =
-    finding_text x.options x.found
+    finding_text x x.found
     ++ (counts_text x.counts
     ++ (notes_text x.notes ++ unreached_text x.lines.items x.reached.items))

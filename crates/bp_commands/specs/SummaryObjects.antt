@@ -10,6 +10,7 @@ use Rattle.bp_text.specs.Pieces.{key_text, number_or_null}
 use Rattle.bp_commands.specs.declared.testing.Tested.{Tested}
 use Rattle.bp_commands.specs.Notes.{notes_members}
 use Rattle.bp_commands.specs.Summaries.{unreached_text}
+use Rattle.bp_commands.specs.Waits.{waits_member}
 
 abbrev pub found_name : Found → List ℕ
 found_name Nothing = codes "nothing"
@@ -56,7 +57,9 @@ counts_members x =
 
 abbrev pub summary_object : Tested → List ℕ
 summary_object x =
-    finding_members x.found x.options.runs ++ (counts_members x.counts ++ notes_members x.notes)
+    finding_members x.found x.options.runs
+    ++ (waits_member x.positions.items x.waiting.items
+    ++ (counts_members x.counts ++ notes_members x.notes))
 
 -- the summary, and the objects of the statements that were not reached
 abbrev pub summary_objects : Tested → List ℕ

@@ -13,7 +13,7 @@ use Rattle.bp_test.specs.declared.testing.Found.TheVariants.{Nothing, Failed, De
 use Rattle.bp_test.specs.Counts.{AreCounts}
 use Rattle.bp_test.specs.Tallies.{MadeRun, HasReached}
 use Rattle.bp_test.specs.Tests.{IsFound, IsSought, IsWrittenRun}
-use Rattle.bp_view.specs.StatementLines.{AreStatementLines}
+use Rattle.bp_view.specs.StatementLines.{positions_of, AreStatementLines}
 use Rattle.bp_view.specs.Unreached.{AreUnreachedObjects}
 use Rattle.bp_commands.specs.declared.faults.Fault.{Fault}
 use Rattle.bp_commands.specs.declared.faults.Fault.TheVariants.{Memory}
@@ -79,13 +79,15 @@ module _
     pub runs : List MadeRun
     pub found :
         let t = testable.program in
-        IsFound t (setup_from start None t) x (Some []) (Some written) tested.found runs
+        let waiting = tested.waiting.items in
+        IsFound t (setup_from start None t) x (Some []) (Some written) tested.found waiting runs
     pub counted :
         let t = testable.program in
         AreCounts (setup_from start None t) runs tested.counts
     pub reached :
         let t = testable.program in
         HasReached t (setup_from start None t) runs tested.reached.items
+    pub positions_are : tested.positions.items ≡ positions_of text testable.program
     pub notes_are : tested.notes ≡ notes_of tested.found start.contexts tested.counts
     pub options_are : tested.options ≡ x
     pub json_is : tested.json ≡ json

@@ -39,6 +39,7 @@ mod summaries;
 mod summary_objects;
 mod tellings;
 mod testing;
+mod waits;
 
 pub use bundles::{BundleFault, drive_bundle};
 pub use checking::{Check, show_check};

@@ -1,19 +1,20 @@
 //! The summary of a test: what was found, and how well the program was tested.
 ghost use Rattle.std.specs.Prelude.{◌≡◌};
 ghost use Rattle.bp_text.specs.Writing.{Writes};
-ghost use Rattle.bp_commands.specs.Summaries.{counts_text, finding_text, found_text};
+ghost use Rattle.bp_commands.specs.Summaries.{counts_text, deadlock_text, failure_text, finding_text, found_words};
 ghost use Rattle.bp_commands.specs.Summaries.{line_unless, nothing_text, nothing_words, summary_text, unreached_text};
 
 use crate::notes::put_notes;
 use crate::testing::Tested;
-use bp_test::{Counts, Found, TestOptions};
+use crate::waits::put_waits;
+use bp_test::{Counts, Found};
 use bp_text::Piece::{Bytes, Number};
 use bp_text::{WriteFault, put, put_pieces};
 use std::io::Write;
 
 /// Writes what was found in one of this many runs.
 fn put_found<W: Write>(words: &[u8], run: u64, runs: u64, out: &mut W) -> Result<(), WriteFault>
-    ensures { let text = found_text words.now run runs in
+    ensures { let text = found_words words.now run runs in
         Writes (W.contents out.old) (W.contents out.new) text result }
 {
     put_pieces(
@@ -24,9 +25,27 @@ fn put_found<W: Write>(words: &[u8], run: u64, runs: u64, out: &mut W) -> Result
             Number(run),
             Bytes(b" of "),
             Number(runs),
-            Bytes(b"\n"),
         ],
     )
+}
+
+/// Writes that a failure was found in one of this many runs.
+fn put_failure<W: Write>(run: u64, runs: u64, out: &mut W) -> Result<(), WriteFault>
+    ensures { let text = failure_text run runs in
+        Writes (W.contents out.old) (W.contents out.new) text result }
+{
+    put_found(b"an assertion failed", run, runs, out)?;
+    put(out, b"\n")
+}
+
+/// Writes that a deadlock was found in a run of this test, and where its threads wait.
+fn put_deadlock<W: Write>(tested: &Tested, run: u64, out: &mut W) -> Result<(), WriteFault>
+    ensures { let text = deadlock_text tested.now run in
+        Writes (W.contents out.old) (W.contents out.new) text result }
+{
+    put_found(b"deadlock", run, tested.options.runs, out)?;
+    put_waits(tested.positions.as_slice(), tested.waiting.as_slice(), out)?;
+    put(out, b"\n")
 }
 
 /// What was looked for and not found.
@@ -57,14 +76,15 @@ fn put_nothing<W: Write>(words: &[u8], runs: u64, out: &mut W) -> Result<(), Wri
 }
 
 /// Writes what was found.
-fn put_finding<W: Write>(options: &TestOptions, found: Found, out: &mut W) -> Result<(), WriteFault>
-    ensures { let text = finding_text options.now found in
+fn put_finding<W: Write>(tested: &Tested, out: &mut W) -> Result<(), WriteFault>
+    ensures { let text = finding_text tested.now tested.now.found in
         Writes (W.contents out.old) (W.contents out.new) text result }
 {
-    match found {
-        Found::Nothing => put_nothing(nothing_words(options.with_deadlock), options.runs, out),
-        Found::Failed { run, .. } => put_found(b"an assertion failed", run, options.runs, out),
-        Found::Deadlock { run, .. } => put_found(b"deadlock", run, options.runs, out),
+    let runs = tested.options.runs;
+    match tested.found {
+        Found::Nothing => put_nothing(nothing_words(tested.options.with_deadlock), runs, out),
+        Found::Failed { run, .. } => put_failure(run, runs, out),
+        Found::Deadlock { run, .. } => put_deadlock(tested, run, out),
     }
 }
 
@@ -149,7 +169,7 @@ pub(crate) fn put_summary<W: Write>(tested: &Tested, out: &mut W) -> Result<(), 
     ensures { let text = summary_text tested.now in
         Writes (W.contents out.old) (W.contents out.new) text result }
 {
-    put_finding(&tested.options, tested.found, out)?;
+    put_finding(tested, out)?;
     put_counts(&tested.counts, out)?;
     put_notes(tested.notes, out)?;
     put_unreached(tested.lines.as_slice(), tested.reached.as_slice(), out)

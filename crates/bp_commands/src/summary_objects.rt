@@ -7,6 +7,7 @@ ghost use Rattle.bp_commands.specs.SummaryObjects.{counts_members, finding_membe
 use crate::notes::put_notes_members;
 use crate::summaries::put_unreached;
 use crate::testing::Tested;
+use crate::waits::put_waits_member;
 use bp_test::{Counts, Found};
 use bp_text::Piece::{Bytes, Key, Number, NumberOrNull, Text};
 use bp_text::{WriteFault, put_pieces};
@@ -105,6 +106,7 @@ fn put_summary_object<W: Write>(tested: &Tested, out: &mut W) -> Result<(), Writ
         Writes (W.contents out.old) (W.contents out.new) text result }
 {
     put_finding_members(tested.found, tested.options.runs, out)?;
+    put_waits_member(tested.positions.as_slice(), tested.waiting.as_slice(), out)?;
     put_counts_members(&tested.counts, out)?;
     put_notes_members(tested.notes, out)
 }

@@ -11,9 +11,9 @@ use crate::summaries::put_summary;
 use crate::summary_objects::put_summary_objects;
 use bp_check::Checked;
 use bp_machine::Start;
-use bp_test::{Counts, Found, Progress, TestOptions, test};
-use bp_text::WriteFault;
-use bp_view::{statement_lines, unreached_objects};
+use bp_test::{Counts, Found, Progress, TestOptions, Waiting, test};
+use bp_text::{Position, WriteFault};
+use bp_view::{statement_lines, statement_positions, unreached_objects};
 use std::alloc::{AllocError, Global};
 use std::io::Write;
 use std::thread::Threads;
@@ -42,6 +42,10 @@ pub struct Tested {
     /// What was asked for.
     pub options: TestOptions,
     pub found: Found,
+    /// The threads that wait at the end of the run that was found.
+    pub waiting: Vec<Waiting>,
+    /// Where the statements of the instructions begin.
+    pub positions: Vec<Option<Position>>,
     pub counts: Counts,
     /// Where that may mislead.
     pub notes: Notes,
@@ -104,6 +108,7 @@ impl<R: Threads + Sync, P: Progress> ProgramCommand for Test<'_, R, P> {
         let (checked, code) = program_of(alloc, text)?;
         let setup = self.start.setup(alloc, &code, None)?;
         let lines = lines_of(alloc, self.json, self.listed, text, &checked)?;
+        let positions = statement_positions(alloc, text, &checked)?;
         let options = self.options;
         let (runtime, progress) = (self.runtime, self.progress);
         let tested = test(runtime, alloc, &code, &setup, &options, progress, out)?;
@@ -112,6 +117,8 @@ impl<R: Threads + Sync, P: Progress> ProgramCommand for Test<'_, R, P> {
         Ok(Tested {
             options,
             found: tested.found,
+            waiting: tested.waiting,
+            positions,
             counts,
             notes,
             lines,

@@ -12,7 +12,7 @@ use Rattle.bp_trace.specs.TraceText.{trace_text}
 use Rattle.bp_test.specs.declared.blocks.FoundRun.{FoundRun}
 use Rattle.bp_test.specs.declared.options.TestOptions.{TestOptions}
 use Rattle.bp_test.specs.Tallies.{MadeRun}
-use Rattle.bp_test.specs.Tests.{setup_of_run, found_by, found_in, IsDeadlock, IsCleanRun, AreCleanRuns, IsFirstFound, IsFoundRun, IsWrittenRun, IsFound, IsCutRun}
+use Rattle.bp_test.specs.Tests.{setup_of_run, found_by, found_in, IsDeadlock, IsCleanRun, AreCleanRuns, IsFirstFound, IsFoundRun, IsWrittenRun, IsFound, IsCutRun, Wait}
 
 module _ (t : Program) (s : SetupOf) (with_deadlock : Bool) (seed : ℕ) where
   -- runs and those after them
@@ -44,6 +44,7 @@ module _ (t : Program) (s : SetupOf) (with_deadlock : Bool) (seed : ℕ) where
       clean = then_clean later.others later.clean;
       found = later.found;
       at = later.at;
+      waiting = later.waiting;
     }
 
   -- and of more runs
@@ -57,6 +58,7 @@ module _ (t : Program) (s : SetupOf) (with_deadlock : Bool) (seed : ℕ) where
     clean = found.clean;
     found = found.found;
     at = found.at;
+    waiting = found.waiting;
   }
 
 -- what was found by a plan of a test is what the test asks for
@@ -94,14 +96,14 @@ module _ (t : Program) (s : SetupOf) (x : TestOptions) (f : FoundRun) (runs : Li
   own_outcome : f.report.outcome ≡ outcome_of f.history.items
   own_outcome = first.found.made.report.outcome
 
-  found_as : (o : Outcome) → f.report.outcome ≡ o → AppendsAll old new (trace_text z f.history.items) → IsFound t s x old new (found_by f.run f.report o) runs
-  found_as (Failed i) e written = written_run (λ y h. is_failure (outcome_of h) ≡ true) (ap is_failure (sym own_outcome ∙ e)) written
+  found_as : (o : Outcome) → f.report.outcome ≡ o → AppendsAll old new (trace_text z f.history.items) → IsFound t s x old new (found_by f.run f.report o) f.waiting.items runs
+  found_as (Failed i) e written = written_run (λ y h. (is_failure (outcome_of h) ≡ true) × Wait t y h f.waiting.items) (ap is_failure (sym own_outcome ∙ e), first.waiting) written
   found_as Clean e written = let clean : outcome_of f.history.items ≡ Clean = sym own_outcome ∙ e in elim first.found.sought [
     | inl fails ↦ absurd (let a = sym (ap is_failure clean) ∙ fails in cc)
-    | inr dead ↦ (dead.0, written_run (IsDeadlock t) dead.1 written)
+    | inr dead ↦ (dead.0, written_run (λ y h. IsDeadlock t y h × Wait t y h f.waiting.items) (dead.1, first.waiting) written)
   ]
 
-  pub found_of_run : AppendsAll old new (trace_text z f.history.items) → IsFound t s x old new (found_in f.run f.report) runs
+  pub found_of_run : AppendsAll old new (trace_text z f.history.items) → IsFound t s x old new (found_in f.run f.report) f.waiting.items runs
   found_of_run written = found_as f.report.outcome refl written
 
   pub cut_run : AppendsPart old new (trace_text z f.history.items) → IsCutRun t s x old new

@@ -13,3 +13,4 @@ pub mod SearchStarts
 pub mod ShrunkHistories
 pub mod TallyLemmas
 pub mod Unseeded
+pub mod WaitingThreads

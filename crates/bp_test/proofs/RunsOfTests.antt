@@ -10,7 +10,7 @@ use Rattle.bp_machine.specs.declared.reports.Outcome.TheVariants.{Clean, Failed}
 use Rattle.bp_machine.specs.declared.reports.Report.{Report}
 use Rattle.bp_machine.specs.Deadlocks.{IsDeadlocked}
 use Rattle.bp_machine.specs.Histories.{configuration_after}
-use Rattle.bp_machine.specs.Setups.{SetupOf, FitsCode}
+use Rattle.bp_machine.specs.Setups.{SetupOf, threads, FitsCode}
 use Rattle.bp_machine.specs.Reports.{outcome_of, is_failure, IsReport}
 use Rattle.bp_machine.specs.Sessions.{SessionOf, Stands, StandsForAll}
 use Rattle.bp_machine.proofs.GrantedSteps.{within as within_contexts}
@@ -19,7 +19,9 @@ use Rattle.bp_test.specs.Reached.{place_of, MarksGrow, Reaches}
 use Rattle.bp_test.specs.Resting.{IsOver}
 use Rattle.bp_test.specs.Blocks.{is_sought}
 use Rattle.bp_test.specs.Tallies.{made}
-use Rattle.bp_test.specs.Tests.{setup_of_run, IsSought, IsMadeRun, IsCleanRun, IsSoughtRun}
+use Rattle.bp_test.specs.declared.waiting.Waiting.{Waiting}
+use Rattle.bp_test.specs.Waits.{AreWaiting}
+use Rattle.bp_test.specs.Tests.{setup_of_run, IsSought, IsMadeRun, IsCleanRun, IsSoughtRun, Wait}
 use Rattle.bp_test.proofs.MarkLemmas.{same_marks}
 use Rattle.bp_test.proofs.ReachedPlaces.{reaches_with, reaches_without}
 
@@ -114,6 +116,12 @@ module _ (c : Flat) (s : SetupOf) (with_deadlock : Bool) (seed run : ℕ) (old x
 
   fails_at : StandsForAll x h → (t : Program) → StandsFor c t → (number : Option ℕ) → ((u : Program) (g : List Call) → StandsFor x.code u → Stands u x g → IfSome number (FailsAt u x.setup g)) → IfSome number (FailsAt t (setup_of_run s seed run) h)
   fails_at stands t is number fails = subst (λ z. IfSome number (FailsAt t z h)) setup_is (fails t h (own_program t is) (stands t (own_program t is)))
+
+  -- and who waits
+  pub waits_there : StandsForAll x h → (t : Program) → StandsFor c t → (xs : List Waiting)
+      → ((u : Program) (g : List Call) → StandsFor x.code u → Stands u x g → AreWaiting u (configuration_after u x.setup g) (threads x.setup) xs)
+      → Wait t (setup_of_run s seed run) h xs
+  waits_there stands t is xs waiting = subst (λ z. Wait t z h xs) setup_is (waiting t h (own_program t is) (stands t (own_program t is)))
 
   -- and where that is
   pub fails_there : StandsForAll x h → (t : Program) → StandsFor c t → (number : Option ℕ)

@@ -6,3 +6,4 @@ pub mod Resting
 pub mod Shrinks
 pub mod Tallies
 pub mod Tests
+pub mod Waits

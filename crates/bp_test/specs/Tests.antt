@@ -11,7 +11,7 @@ use Rattle.bp_machine.specs.Deadlocks.{IsDeadlocked}
 use Rattle.bp_machine.specs.Histories.{configuration_after, granted_threads, IsLegal}
 use Rattle.bp_machine.specs.Reports.{outcome_of, is_failure, IsReport}
 use Rattle.bp_machine.specs.SeededHistories.{HasSeededBits}
-use Rattle.bp_machine.specs.Setups.{SetupOf}
+use Rattle.bp_machine.specs.Setups.{SetupOf, threads}
 use Rattle.bp_trace.specs.TraceText.{trace_text}
 use Rattle.bp_test.specs.declared.blocks.FoundRun.{FoundRun}
 use Rattle.bp_test.specs.declared.faults.TestFault.{TestFault}
@@ -21,9 +21,11 @@ use Rattle.bp_test.specs.declared.tallies.Tally.{Tally}
 use Rattle.bp_test.specs.declared.testing.Found.{Found}
 use Rattle.bp_test.specs.declared.testing.Found.TheVariants as found
 use Rattle.bp_test.specs.declared.testing.Tested.{Tested}
+use Rattle.bp_test.specs.declared.waiting.Waiting.{Waiting}
 use Rattle.bp_test.specs.Failing.{FailsAt}
 use Rattle.bp_test.specs.Resting.{IsOver}
 use Rattle.bp_test.specs.Tallies.{MadeRun, made, IsTally}
+use Rattle.bp_test.specs.Waits.{AreWaiting}
 
 -- the number of a fault
 abbrev pub test_fault_number : TestFault → ℕ
@@ -80,6 +82,10 @@ AreCleanRuns t s with_deadlock seed n (r ∷ rs) =
     IsCleanRun t (setup_of_run s seed n) with_deadlock r
     × AreCleanRuns t s with_deadlock seed (suc n) rs
 
+-- these are the threads that wait after the history
+abbrev pub Wait : Program → SetupOf → List Call → List Waiting → Type 0
+Wait t s h xs = AreWaiting t (configuration_after t s h) (threads s) xs
+
 -- These are the runs up to the one that was found: the first of those from one number to before
 -- another that the test looks for. It is known at which instruction it fails, if it does.
 pub record IsFoundRun (t : Program) (s : SetupOf) (with_deadlock : Bool) (seed from to : ℕ)
@@ -96,6 +102,7 @@ pub record IsFoundRun (t : Program) (s : SetupOf) (with_deadlock : Bool) (seed f
   pub at : MatchOption f.number
       (outcome_of f.history.items ≡ Clean)
       (FailsAt t (setup_of_run s seed f.run) f.history.items)
+  pub waiting : Wait t (setup_of_run s seed f.run) f.history.items f.waiting.items
 
 -- what was found among the runs from one number to before another, and the runs up to it; all of
 -- them, where none was found
@@ -140,20 +147,24 @@ module _ (t : Program) (s : SetupOf) (x : TestOptions) (old new : Option (List �
     pub holds : Holds (setup_of_run s x.seed run) history
     pub written : AppendsAll old new (trace_text (setup_of_run s x.seed run) history)
 
-  -- what was found, and the runs up to it
-  abbrev pub IsFound : Found → List MadeRun → Type 0
-  IsFound found.Nothing runs =
-      (new ≡ old) × (length runs ≡ x.runs) × AreCleanRuns t s x.with_deadlock x.seed 0 runs
-  IsFound (found.Failed run report) runs =
-      IsWrittenRun (λ z h. is_failure (outcome_of h) ≡ true) run report runs
-  IsFound (found.Deadlock run report) runs =
-      (x.with_deadlock ≡ true) × IsWrittenRun (IsDeadlock t) run report runs
+  -- what was found, the threads that wait then, and the runs up to it
+  abbrev pub IsFound : Found → List Waiting → List MadeRun → Type 0
+  IsFound found.Nothing waiting runs =
+      (new ≡ old)
+      × (waiting ≡ [])
+      × (length runs ≡ x.runs)
+      × AreCleanRuns t s x.with_deadlock x.seed 0 runs
+  IsFound (found.Failed run report) waiting runs =
+      IsWrittenRun (λ z h. (is_failure (outcome_of h) ≡ true) × Wait t z h waiting) run report runs
+  IsFound (found.Deadlock run report) waiting runs =
+      (x.with_deadlock ≡ true)
+      × IsWrittenRun (λ z h. IsDeadlock t z h × Wait t z h waiting) run report runs
 
   -- what was found, and the tally of the runs up to it, that one included
   pub record IsTest (tested : Tested) : Type 0 where
     pub runs : List MadeRun
     pub few : length runs < 2 ^ 64
-    pub found : IsFound tested.found runs
+    pub found : IsFound tested.found tested.waiting.items runs
     pub tallied : IsTally t s runs tested.tally
 
   -- a proper prefix of the trace of the first run that the test looks for was written

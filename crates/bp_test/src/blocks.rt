@@ -10,6 +10,7 @@ use crate::failing::failed_instruction;
 use crate::plans::Plan;
 use crate::runs::run_once;
 use crate::tallies::Tally;
+use crate::waiting::{Waiting, waiting_threads};
 use bp_code::Code;
 use bp_machine::{Call, Outcome, Report, Session, Setup};
 use std::alloc::{AllocError, Global};
@@ -25,6 +26,8 @@ pub struct FoundRun {
     pub report: Report,
     /// The number of the instruction whose assertion failed, where one did.
     pub number: Option<u32>,
+    /// The threads that wait in the end, in ascending order.
+    pub waiting: Vec<Waiting>,
 }
 
 /// What a block of runs came to.
@@ -75,11 +78,13 @@ pub fn first_found(
         tally.add_run(history.as_slice(), &report, is_deadlocked)?;
         if is_sought(&report, is_deadlocked, plan.with_deadlock) {
             let number = failed_instruction(&session);
+            let waiting = waiting_threads(alloc, &session)?;
             let found = Some(FoundRun {
                 run,
                 history,
                 report,
                 number,
+                waiting,
             });
             return Ok(Block { found, tally });
         }

@@ -32,3 +32,4 @@ pub use progress::{Progress, Untold};
 pub use shrinking::{Shrunk, shrink};
 pub use tallies::{ContextsUsed, Ends, Tally};
 pub use testing::{Found, Tested, test};
+pub use waiting::Waiting;

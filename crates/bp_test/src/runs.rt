@@ -42,7 +42,7 @@ fn play(session: &mut Session, history: &mut Vec<Call>, thread: u32) -> Result<R
 }
 
 /// The number of the instruction that is next for a thread, where there is one.
-fn next_number(session: &Session, thread: u32) -> Option<u32>
+pub(crate) fn next_number(session: &Session, thread: u32) -> Option<u32>
     ensures { (t : Program) (h : List Answered)
         → StandsFor session.now.code t
         → Stands t session.now h

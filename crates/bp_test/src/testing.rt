@@ -12,6 +12,7 @@ use crate::options::TestOptions;
 use crate::plans::Plan;
 use crate::progress::Progress;
 use crate::tallies::Tally;
+use crate::waiting::Waiting;
 use crate::waves::search;
 use bp_code::Code;
 use bp_machine::{Outcome, Report, Setup};
@@ -36,6 +37,8 @@ pub enum Found {
 #[derive(Drop)]
 pub struct Tested {
     pub found: Found,
+    /// The threads that wait at the end of the run that was found, in ascending order.
+    pub waiting: Vec<Waiting>,
     pub tally: Tally,
 }
 
@@ -79,12 +82,16 @@ pub fn test<R: Threads + Sync, P: Progress, W: Write>(
     let Some(found) = found else {
         return Ok(Tested {
             found: Found::Nothing,
+            waiting: Vec::new(alloc),
             tally,
         });
     };
     let seed = options.seed.wrapping_add(found.run);
     let setup = setup.try_copy()?.with_seed(Some(seed));
     write_trace(&setup, found.history.as_slice(), out)?;
-    let found = found_in(found.run, found.report);
-    Ok(Tested { found, tally })
+    Ok(Tested {
+        found: found_in(found.run, found.report),
+        waiting: found.waiting,
+        tally,
+    })
 }

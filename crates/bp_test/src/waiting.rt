@@ -1,10 +1,27 @@
-//! Whether a thread may step.
-ghost use Rattle.std.specs.Prelude.{◌≡◌, ◌<◌, true, false};
+//! Whether a thread may step, and where threads wait.
+ghost use Rattle.std.specs.Prelude.{◌≡◌, ◌<◌, List, true, false, IfOk, MatchOption};
+ghost use Rattle.bp_tree.specs.Ast.{Program};
+ghost use Rattle.bp_code.specs.StandsFor.{StandsFor};
+ghost use Rattle.bp_machine.specs.declared.calls.Call.{Call as Answered};
+ghost use Rattle.bp_machine.specs.Histories.{configuration_after};
+ghost use Rattle.bp_machine.specs.Sessions.{Stands};
 ghost use Rattle.bp_machine.specs.Setups.{threads};
+ghost use Rattle.bp_machine.specs.Waiting.{waits};
 ghost use Rattle.bp_test.specs.Resting.{RestsIn};
+ghost use Rattle.bp_test.specs.Waits.{AreWaiting, IsWait};
 
+use crate::runs::next_number;
 use bp_code::Kind;
 use bp_machine::Session;
+use std::alloc::{AllocError, Global};
+
+/// A thread that waits.
+#[derive(Clone, Copy, Debug, PartialEq, Eq)]
+pub struct Waiting {
+    pub thread: u32,
+    /// The number of the instruction at which it waits.
+    pub number: u32,
+}
 
 /// Whether the next statement of a thread is an assumption. A thread at another one does not wait,
 /// and this is quicker to tell.
@@ -32,4 +49,37 @@ pub(crate) fn may_step(session: &Session, thread: u32) -> bool
         return false;
     }
     !(is_at_assumption(session, thread) && session.waits(thread))
+}
+
+/// Where a thread waits, if it does.
+fn waiting_at(session: &Session, thread: u32) -> Option<Waiting>
+    ensures { (t : Program) (h : List Answered)
+        → StandsFor session.now.code t
+        → Stands t session.now h
+        → let now = configuration_after t session.now.setup h in
+        MatchOption result (waits t now thread ≡ false) (IsWait t now thread) }
+{
+    if !session.waits(thread) {
+        return None;
+    }
+    let number = next_number(session, thread)?;
+    Some(Waiting { thread, number })
+}
+
+/// The threads that wait, in ascending order, and where.
+pub(crate) fn waiting_threads(alloc: Global, session: &Session) -> Result<Vec<Waiting>, AllocError>
+    ensures { IfOk result (λ v.
+        (t : Program) (h : List Answered)
+        → StandsFor session.now.code t
+        → Stands t session.now h
+        → let now = configuration_after t session.now.setup h in
+        AreWaiting t now (threads session.now.setup) v.items) }
+{
+    let mut waiting = Vec::new(alloc);
+    for thread in 0..session.setup().threads() {
+        if let Some(found) = waiting_at(session, thread) {
+            waiting.push(found)?;
+        }
+    }
+    Ok(waiting)
 }

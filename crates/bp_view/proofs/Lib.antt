@@ -25,6 +25,7 @@ pub mod PartsOfTexts
 pub mod PlacedStacks
 pub mod PlacesOfTops
 pub mod PlayedFronts
+pub mod PositionsOfScenes
 pub mod PrintedValues
 pub mod RecordedCalls
 pub mod SceneLists

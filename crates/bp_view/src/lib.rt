@@ -51,7 +51,7 @@ pub use laws::{changes_replay, lines_stand_for_each_call_once, views_are_single}
 pub use listings::sourced_listing;
 pub use options::{ViewFormat, ViewOptions};
 pub use programs::program_object;
-pub use statements::statement_lines;
+pub use statements::{statement_lines, statement_positions};
 pub use states::state_at;
 pub use unreached::unreached_objects;
 pub use views::view;

@@ -1,10 +1,10 @@
-//! The statements of a program, a line each.
+//! The statements of a program, a line each, and where they begin.
 ghost use Rattle.std.specs.Prelude.{◌≡◌, map, IfOk};
-ghost use Rattle.bp_view.specs.StatementLines.{line_of_scene, AreStatementLines};
+ghost use Rattle.bp_view.specs.StatementLines.{line_of_scene, positions_of, AreStatementLines};
 
 use crate::scenes::{Scene, scenes_of};
 use bp_check::Checked;
-use bp_text::push_bytes;
+use bp_text::{Position, push_bytes};
 use std::alloc::{AllocError, Global};
 
 /// The line of an instruction's statement: the file's name, the place and the statement's text. It
@@ -43,4 +43,21 @@ pub fn statement_lines(
         lines.push(line_of(alloc, file, scene)?)?;
     }
     Ok(lines)
+}
+
+/// Where the statement of each instruction begins in the program of a text. The end of a procedure
+/// begins nowhere.
+pub fn statement_positions(
+    alloc: Global,
+    text: &[u8],
+    checked: &Checked,
+) -> Result<Vec<Option<Position>>, AllocError>
+    ensures { IfOk result (λ v. v.items ≡ positions_of text.now checked.now) }
+{
+    let scenes = scenes_of(alloc, text, checked)?;
+    let mut positions = Vec::with_capacity(alloc, scenes.len())?;
+    for scene in scenes.iter() {
+        positions.push(scene.position)?;
+    }
+    Ok(positions)
 }

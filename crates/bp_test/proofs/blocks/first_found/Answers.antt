@@ -4,7 +4,7 @@ use Rattle.bp_machine.specs.Setups.{SetupOf}
 use Rattle.bp_test.specs.Tallies.{made}
 use Rattle.bp_test.specs.Tests.{setup_of_run, IsCleanRun}
 use Rattle.bp_test.proofs.FirstFound.{clean_one}
-use Rattle.bp_test.proofs.RunsOfTests.{fits_again, reseeded, clean_run, reaches_is, sought_run, fails_there}
+use Rattle.bp_test.proofs.RunsOfTests.{fits_again, reseeded, clean_run, reaches_is, sought_run, waits_there, fails_there}
 use Rattle.bp_test.proofs.TallyLemmas.{same_counts, tally_run}
 use Rattle.bp_test.proofs.blocks.first_found.Goals as goal
 
@@ -40,6 +40,8 @@ returns-then-is_sought c = λ t is.
             now.ensures.stands now.ensures.over c.report-report.result c.report-report.ensures c.is_deadlocked-is_deadlocked.result c.is_deadlocked-is_deadlocked.ensures (sym c.is_sought.ensures ∙ c.if-is_sought.true) t is;
         at = fails_there c.args.code.now c.args.setup.now c.args.plan.now.with_deadlock c.args.plan.now.seed c.loop-run.run c.loop-run.session now.session c.run_once.new.history.items _ refl before.code before.setup now.ensures.code now.ensures.setup
             now.ensures.stands t is c.failed_instruction-number.result c.failed_instruction-number.ensures.at c.failed_instruction-number.ensures.none;
+        waiting = waits_there c.args.code.now c.args.setup.now c.args.plan.now.with_deadlock c.args.plan.now.seed c.loop-run.run c.loop-run.session now.session c.run_once.new.history.items _ refl before.code before.setup now.ensures.code now.ensures.setup
+            now.ensures.stands t is c.in_ok-waiting.waiting.items c.in_ok-waiting.ensures;
       };
       tallied = tally_run t c.args.setup.now before.earlier run c.loop-run.tally c.add_run.new.self c.run_once.new.reached.items (before.tallied t is)
           (reaches_is c.args.code.now c.args.setup.now c.args.plan.now.with_deadlock c.args.plan.now.seed c.loop-run.run c.loop-run.session now.session c.run_once.new.history.items _ refl before.code before.setup now.ensures.code now.ensures.setup

@@ -11,7 +11,7 @@ returns-in_default g c = λ t is.
     record {
       runs = found.runs;
       few = (let size = first.0 in omega (arith, size));
-      found = (refl, (let size = first.0 in omega (arith, size)), first.1);
+      found = (refl, c.new-in_default.ensures.items, (let size = first.0 in omega (arith, size)), first.1);
       tallied = found.tallied;
     }
 
@@ -34,7 +34,7 @@ returns g c = λ t is.
     record {
       runs = found.runs;
       few = few_with t c.args.setup.now c.args.options.now.with_deadlock c.args.options.now.seed c.args.options.now.runs (omega arith) c.in-Some.found found.runs first;
-      found = rw c.found_in-found.ensures (found_of_run t c.args.setup.now c.args.options.now c.in-Some.found found.runs first c.with_seed-setup.result setup
+      found = rw c.found_in.ensures (found_of_run t c.args.setup.now c.args.options.now c.in-Some.found found.runs first c.with_seed-setup.result setup
           (g.W.Write.contents c.args.out.now) (g.W.Write.contents c.write_trace.new.out) written);
       tallied = found.tallied;
     }

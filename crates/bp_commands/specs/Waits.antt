@@ -1,0 +1,54 @@
+-- Which threads wait at the end of a run, and where.
+use Rattle.std.specs.Prelude.{ℕ, List, [], ◌∷◌, ◌++◌, Option, None, Some, codes, decimal, option_map, slice_index_or}
+use Rattle.std.specs.List.{concat}
+use Rattle.bp_test.specs.declared.waiting.Waiting.{Waiting}
+use Rattle.bp_text.specs.Pieces.{key_text, number_or_null}
+use Rattle.bp_text.specs.declared.positions.Position.{Position}
+
+-- where the statement begins at which a thread waits, where those of the instructions begin there
+abbrev pub position_of_wait : List (Option Position) → Waiting → Option Position
+position_of_wait positions x = slice_index_or positions x.number None
+
+-- a thread that waits, after these words, and where
+abbrev pub wait_text : (before verb : List ℕ) → (thread : ℕ) → Option Position → List ℕ
+wait_text before verb i None = concat (before ∷ decimal i ∷ [])
+wait_text before verb i (Some p) =
+    concat (
+    before
+    ∷ decimal i
+    ∷ verb
+    ∷ decimal p.line
+    ∷ codes ":"
+    ∷ decimal p.column
+    ∷ [])
+
+-- the threads that wait, one after the other; these words are for the first
+abbrev pub waits_after : (before verb : List ℕ) → List (Option Position) → List Waiting → List ℕ
+waits_after before verb positions [] = []
+waits_after before verb positions (x ∷ xs) =
+    wait_text before verb x.thread (position_of_wait positions x)
+    ++ waits_after (codes ", thread ") (codes " at ") positions xs
+
+abbrev pub waits_text : List (Option Position) → List Waiting → List ℕ
+waits_text positions xs = waits_after (codes ": thread ") (codes " waits at ") positions xs
+
+-- the object of a thread that waits, after this
+abbrev pub wait_object : (before : List ℕ) → (thread : ℕ) → Option Position → List ℕ
+wait_object before i position =
+    concat (
+    before
+    ∷ codes "{\"thread\":" ∷ decimal i
+    ∷ key_text (codes "line") ∷ number_or_null (option_map (λ p. p.line) position)
+    ∷ key_text (codes "column") ∷ number_or_null (option_map (λ p. p.column) position)
+    ∷ codes "}" ∷ [])
+
+abbrev pub wait_objects : (before : List ℕ) → List (Option Position) → List Waiting → List ℕ
+wait_objects before positions [] = []
+wait_objects before positions (x ∷ xs) =
+    wait_object before x.thread (position_of_wait positions x)
+    ++ wait_objects (codes ",") positions xs
+
+-- the member of an object with the threads that wait
+abbrev pub waits_member : List (Option Position) → List Waiting → List ℕ
+waits_member positions xs =
+    codes ",\"waiting\":[" ++ (wait_objects [] positions xs ++ codes "]")
