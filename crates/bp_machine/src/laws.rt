@@ -33,8 +33,8 @@ pub fn histories_are_short()
     ensures { HistoriesAreShort }
 {}
 
-/// In a deadlock no thread is granted a step, whatever its choice bit and the contexts that are left.
-/// So a legal history has no granted call after it.
+/// In a deadlock no thread is granted a step, whatever its choice bit and the contexts that are
+/// left. So a legal history has no granted call after it.
 pub fn deadlocks_last()
     ensures each { DeadlocksGrantNothing }
     ensures later { DeadlocksLast }

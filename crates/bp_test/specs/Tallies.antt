@@ -31,8 +31,8 @@ is_end Ended = true
 is_end r = false
 
 -- Each run ended in one of these ways, the first that applies: an assertion failed; its threads are
--- deadlocked; some lines are open; a thread was refused a context; each thread came to its end; none
--- of these.
+-- deadlocked; some lines are open; a thread was refused a context; each thread came to its end;
+-- none of these.
 abbrev pub fails : MadeRun → Bool
 fails r = is_failure r.report.outcome
 

@@ -28,8 +28,8 @@ pub enum Found {
     Nothing,
     /// An assertion failed in this run. No run before it is what the test looks for.
     Failed { run: u64, report: Report },
-    /// This run ended in a deadlock: some threads had not ended, and each of those waits for ever. No
-    /// run before it is what the test looks for.
+    /// This run ended in a deadlock: some threads had not ended, and each of those waits for ever.
+    /// No run before it is what the test looks for.
     Deadlock { run: u64, report: Report },
 }
 

@@ -59,8 +59,8 @@ on_calls =
 abbrev pub pairs_of : OptionName → List OptionName → List (OptionName × OptionName)
 pairs_of first others = map (λ other. (first, other)) others
 
--- Of these options the first leaves the second without effect. A view in place of the calls does so
--- to another view, and to what is asked of the calls.
+-- Beside the first option of a pair, the second has no effect. A view in place of the calls clashes
+-- with other views, and with the options on calls.
 abbrev pub clashes : List (OptionName × OptionName)
 clashes =
     pairs_of option.At (option.Contexts ∷ option.Steps ∷ on_calls)

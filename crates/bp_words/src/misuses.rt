@@ -10,7 +10,7 @@ use clap::error::ErrorKind;
 use clap::parser::ValueSource;
 use std::alloc::{AllocError, Global};
 
-/// An option that leaves another one without effect, or is left so by one.
+/// An option that clashes with another one.
 #[derive(Clone, Copy, Debug, PartialEq, Eq)]
 pub enum OptionName {
     At,
@@ -35,7 +35,7 @@ pub enum Misuse {
     BadInit,
     /// More blocks of runs are to be made side by side than there may be.
     ManyJobs,
-    /// Of these two options the first leaves the second without effect.
+    /// Beside the first of these options, the second has no effect.
     Together(OptionName, OptionName),
     /// The first call that is to be shown, this one, comes after the last, that one.
     Backwards(u64, u64),
@@ -44,8 +44,8 @@ pub enum Misuse {
 /// How many pairs of options are refused.
 const PAIRS: usize = 26;
 
-/// The pairs of options of which the first leaves the second without effect, in the order in which
-/// they are looked for.
+/// The options that clash: beside the first of a pair, the second has no effect. Earlier pairs are
+/// reported first.
 pub const CLASHES: [(OptionName, OptionName); PAIRS] = [
     (OptionName::At, OptionName::Contexts),
     (OptionName::At, OptionName::Steps),
