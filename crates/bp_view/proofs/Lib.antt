@@ -11,6 +11,7 @@ pub mod CodeObjects
 pub mod EqualWaits
 pub mod FailedStatements
 pub mod FramesOfTops
+pub mod LastReplies
 pub mod LastSteps
 pub mod LongestPlaces
 pub mod NextConfigurations

@@ -19,7 +19,8 @@ use Rattle.bp_view.specs.Changes.{variables_text}
 use Rattle.bp_view.specs.Ends.{after_foot, IsEnd, IsStateIf}
 use Rattle.bp_view.specs.Frames.{frame_in, IsFrameText, IsStackText}
 use Rattle.bp_view.specs.Scenes.{AreScenes}
-use Rattle.bp_view.specs.States.{standing, state_in, thread_state_in, IsStateText, IsThreadText}
+use Rattle.bp_view.specs.Standings.{standing}
+use Rattle.bp_view.specs.States.{state_in, thread_state_in, IsStateText, IsThreadText}
 use Rattle.bp_view.proofs.PartsOfTexts.{part_of_each, some_parts}
 use Rattle.bp_view.proofs.PlacedStacks.{stack_placed, ArePlaced, IsPlaced}
 use Rattle.bp_view.proofs.SceneLists.{scene_at}

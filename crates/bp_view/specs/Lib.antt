@@ -22,6 +22,7 @@ pub mod Programs
 pub mod ReplayedChanges
 pub mod Scenes
 pub mod Spans
+pub mod Standings
 pub mod StatementLines
 pub mod Statements
 pub mod States

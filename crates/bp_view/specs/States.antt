@@ -1,5 +1,5 @@
 -- The state after a history: the values of the globals, and how each thread stands.
-use Rattle.std.specs.Prelude.{if◌then◌else◌, ◌≡◌, ℕ, List, [], ◌∷◌, Option, None, Some, codes, decimal, length, take}
+use Rattle.std.specs.Prelude.{◌≡◌, ℕ, List, [], ◌∷◌, Option, None, Some, codes, decimal, length, take}
 use Rattle.std.specs.List.{concat}
 use Rattle.bp_tree.specs.Ast.{Program}
 use Rattle.bp_code.specs.Values.{Valuation}
@@ -8,10 +8,9 @@ use Rattle.bp_machine.specs.declared.reports.Outcome.{Outcome}
 use Rattle.bp_machine.specs.declared.reports.Outcome.TheVariants.{Clean, Failed}
 use Rattle.bp_machine.specs.declared.reports.Report.{Report}
 use Rattle.bp_machine.specs.Answers.{stack_of}
-use Rattle.bp_machine.specs.Histories.{configuration_after, is_finished}
+use Rattle.bp_machine.specs.Histories.{configuration_after}
 use Rattle.bp_machine.specs.Reports.{outcome_of}
 use Rattle.bp_machine.specs.Setups.{SetupOf, threads}
-use Rattle.bp_machine.specs.Waiting.{waits}
 use Rattle.bp_text.specs.JsonStrings.{string_text}
 use Rattle.bp_text.specs.Pieces.{key_text, list_text, number_or_null}
 use Rattle.bp_trace.specs.declared.replaying.Replayed.{Replayed}
@@ -19,34 +18,11 @@ use Rattle.bp_trace.specs.Replayed.{IsReplayed}
 use Rattle.bp_view.specs.declared.options.ViewFormat.{ViewFormat}
 use Rattle.bp_view.specs.declared.options.ViewFormat.TheVariants.{Columns, Json}
 use Rattle.bp_view.specs.declared.standings.Standing.{Standing}
-use Rattle.bp_view.specs.declared.standings.Standing.TheVariants.{Finished, Stopped, Waiting, Open}
 use Rattle.bp_view.specs.Changes.{variables_text}
 use Rattle.bp_view.specs.Frames.{IsStackText}
 use Rattle.bp_view.specs.Heads.{globals_line}
 use Rattle.bp_view.specs.Parts.{IsInParts}
-
--- How a thread stands after a history, by the first that applies: its line is finished; its next
--- statement is an assumption of 0, whatever its choice bit is; an assertion failed. If none does,
--- it goes on.
-abbrev pub standing : Program → SetupOf → List Call → ℕ → Standing
-standing t s h i =
-    let now = configuration_after t s h in
-    if is_finished s h i then Finished
-    else if waits t now i then Waiting
-    else if now.failed then Stopped
-    else Open
-
-abbrev pub standing_words : Standing → List ℕ
-standing_words Finished = codes " is finished"
-standing_words Stopped = codes " is stopped"
-standing_words Waiting = codes " waits"
-standing_words Open = codes " goes on"
-
-abbrev pub standing_name : Standing → List ℕ
-standing_name Finished = codes "finished"
-standing_name Stopped = codes "stopped"
-standing_name Waiting = codes "waiting"
-standing_name Open = codes "open"
+use Rattle.bp_view.specs.Standings.{standing, standing_name, standing_words}
 
 -- a thread for people, after an empty line, and the frames of its stack
 abbrev pub thread_state_lines : ℕ → Standing → (frames : List ℕ) → List ℕ
@@ -92,7 +68,7 @@ failed_thread (Failed i) = Some i
 abbrev pub state_members : (n count : ℕ) → Outcome → List ℕ
 state_members n count outcome =
     concat (
-    codes "{\"kind\":\"state\",\"version\":1"
+    codes "{\"kind\":\"state\",\"version\":2"
     ∷ key_text (codes "call") ∷ decimal n
     ∷ key_text (codes "calls") ∷ decimal count
     ∷ key_text (codes "failed") ∷ number_or_null (failed_thread outcome)

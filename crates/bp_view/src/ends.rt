@@ -45,7 +45,7 @@ fn push_state(
         OnOk result (Adds state view.old.items view.new.items) }
 {
     if setting.options.has_state {
-        let state = state_of(alloc, setting, session, setting.count())?;
+        let state = state_of(alloc, setting, session, setting.history, setting.count())?;
         push_after_foot(view, setting.options.format, &state)?;
     }
     Ok(())

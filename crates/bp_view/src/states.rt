@@ -3,7 +3,6 @@ ghost use Rattle.std.specs.Prelude.{◌≡◌, ◌++◌, ◌<◌, ℕ, List, cod
 ghost use Rattle.bp_tree.specs.Ast.{Program};
 ghost use Rattle.bp_code.specs.Bits.{bits_of};
 ghost use Rattle.bp_code.specs.StandsFor.{valuation_of, StandsFor};
-ghost use Rattle.bp_machine.specs.declared.calls.Call.{Call as Answered};
 ghost use Rattle.bp_machine.specs.Sessions.{Stands};
 ghost use Rattle.bp_machine.specs.Setups.{threads};
 ghost use Rattle.bp_trace.specs.Replays.{IsReplayRefusal};
@@ -105,38 +104,42 @@ fn push_thread(
     room: &mut Room,
     setting: &Setting<'_>,
     session: &Session,
+    history: &[Call],
     thread: u32,
 ) -> Result<(), AllocError>
     requires { thread < threads session.now.setup }
-    ensures { (t : Program) (text : List ℕ) (h : List Answered)
+    ensures { (t : Program) (text : List ℕ)
         → IsSettingOf t text setting.now
         → StandsFor session.now.code t
-        → Stands t session.now h
+        → Stands t session.now history.now
         → let format = setting.now.options.format in
-        let said = IsThreadText format t text session.now.setup h thread in
+        let said = IsThreadText format t text session.now.setup history.now thread in
         OnOk result (Adds said view.old.items view.new.items) }
 {
     let format = setting.options.format;
     room.frames.clear();
     push_frames(&mut room.frames, &mut room.note, setting, session, thread)?;
-    let standing = Standing::of(session, thread);
+    let standing = Standing::of(session, history, thread);
     push_thread_in(view, format, thread, standing, &room.frames)?;
     Ok(())
 }
 
-/// How each thread of the session stands, and the frames of its stack.
+/// How each thread of the session stands, and the frames of its stack. The session stands after this
+/// history.
 fn threads_of(
     alloc: Global,
     setting: &Setting<'_>,
     session: &Session,
+    history: &[Call],
 ) -> Result<Vec<u8>, AllocError>
-    ensures { (t : Program) (text : List ℕ) (h : List Answered)
+    ensures { (t : Program) (text : List ℕ)
         → IsSettingOf t text setting.now
         → StandsFor session.now.code t
-        → Stands t session.now h
+        → Stands t session.now history.now
         → let format = setting.now.options.format in
         let s = session.now.setup in
-        IfOk result (λ v. IsInParts (IsThreadText format t text s h) (threads s) v.items) }
+        let thread = IsThreadText format t text s history.now in
+        IfOk result (λ v. IsInParts thread (threads s) v.items) }
 {
     session.setup().is_in_range();
     let mut view = Vec::new(alloc);
@@ -145,7 +148,7 @@ fn threads_of(
         note: Vec::new(alloc),
     };
     for thread in 0..session.setup().threads() {
-        push_thread(&mut view, &mut room, setting, session, thread)?;
+        push_thread(&mut view, &mut room, setting, session, history, thread)?;
     }
     Ok(view)
 }
@@ -238,7 +241,7 @@ fn push_state_members(view: &mut Vec<u8>, head: StateHead) -> Result<(), AllocEr
     push_pieces(
         view,
         &[
-            Bytes(b"{\"kind\":\"state\",\"version\":1"),
+            Bytes(b"{\"kind\":\"state\",\"version\":2"),
             Key(b"call"),
             Number(head.number),
             Key(b"calls"),
@@ -295,22 +298,23 @@ fn state_text(
     Ok(view)
 }
 
-/// The state of the session, which stands within a history of `count` calls.
+/// The state of the session, which stands after this history, the front of one of `count` calls.
 pub(crate) fn state_of(
     alloc: Global,
     setting: &Setting<'_>,
     session: &Session,
+    history: &[Call],
     count: u64,
 ) -> Result<Vec<u8>, AllocError>
-    ensures { (t : Program) (text : List ℕ) (h : List Answered)
+    ensures { (t : Program) (text : List ℕ)
         → IsSettingOf t text setting.now
         → StandsFor session.now.code t
-        → Stands t session.now h
+        → Stands t session.now history.now
         → let format = setting.now.options.format in
         let s = session.now.setup in
-        IfOk result (λ v. IsStateText format t text s h count v.items) }
+        IfOk result (λ v. IsStateText format t text s history.now count v.items) }
 {
-    let threads = threads_of(alloc, setting, session)?;
+    let threads = threads_of(alloc, setting, session, history)?;
     let report = session.report();
     let head = StateHead {
         number: report.calls,
@@ -372,6 +376,6 @@ pub fn state_at(
         options,
         &[],
     );
-    let state = state_of(alloc, &setting, &session, setting.count())?;
+    let state = state_of(alloc, &setting, &session, calls, setting.count())?;
     Ok((state, replayed.report))
 }

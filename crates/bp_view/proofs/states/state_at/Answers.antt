@@ -36,7 +36,7 @@ returns c =
           ∙ ap watched_names (sym (ap (λ (o : ViewOptions). o.watch) c.setting_of-setting.ensures.options ∙ c.all-options.ensures.1));
     } in
     let code = subst (λ k. StandsFor k t) (sym c.in-Ok.ensures.kept.0) c.requires in
-    let made = c.in_ok-state.ensures t text calls known code (c.in-Ok.ensures.stands t c.requires) in
+    let made = c.in_ok-state.ensures t text known code (c.in-Ok.ensures.stands t c.requires) in
     let count : c.count.result ≡ length all = c.count.ensures ∙ ap length c.setting_of-setting.ensures.history in
     let own = subst (λ n. IsStateText c.setting_of-setting.result.options.format t text x.setup calls n said) count made in
     let format = ap (λ (o : ViewOptions). o.format) c.setting_of-setting.ensures.options ∙ c.all-options.ensures.0 in
