@@ -78,6 +78,12 @@ function resultOf(call) {
 
 const placeOf = (call) => (call.line === null ? "-" : `${call.line}:${call.column}`);
 
+/** Where a thread fails or waits, in the words of `show`, with the values that its statement reads. */
+function conditionText({ line, column, statement, values }) {
+  const known = values.map((it) => `${variableName(it)}=${it.value}`).join(" ");
+  return ` at ${line}:${column}: ${statement}${known ? ` with ${known}` : ""}`;
+}
+
 /** The page: which call is chosen, and which calls are shown. */
 class Page {
   constructor(trace, program) {
@@ -109,31 +115,23 @@ class Page {
     const limits = `at most ${counted(setup.contexts, "context")} and ${counted(setup.calls, "call")} of a thread`;
     byId("counts").textContent = `${had}; ${limits}; ${seed}`;
     byId("outcome").textContent = this.outcomeText();
-    byId("outcome").classList.toggle("failed", end.failure !== null || this.trace.deadlocked().length > 0);
+    byId("outcome").classList.toggle("failed", end.failure !== null || end.deadlock.length > 0);
     byId("go-failure").hidden = failure < 0;
     byId("number").max = calls.length;
     byId("of").textContent = `of ${calls.length}`;
   }
 
   outcomeText() {
-    const waiting = this.trace.deadlocked();
-    if (this.trace.end.failure !== null) return this.failureText();
-    if (!waiting.length) return "No assertion failed.";
-    const threads = `${waiting.length === 1 ? "thread" : "threads"} ${waiting.join(", ")}`;
-    return `No assertion failed; at the end every open thread waits: ${threads}.`;
+    const { failure, deadlock } = this.trace.end;
+    if (failure !== null) return `An assertion of thread ${failure.thread} failed${conditionText(failure)}.`;
+    if (!deadlock.length) return "No assertion failed.";
+    return `Deadlock: ${deadlock.map((it) => `thread ${it.thread} waits${conditionText(it)}`).join("; ")}.`;
   }
 
-  /** The call that is chosen first: the failure, or the end of a trace after which every open thread waits. */
+  /** The call that is chosen first: the failure, or the end of a trace that ends in a deadlock. */
   whereItOpens() {
     if (this.trace.failure >= 0) return this.trace.failure;
-    return this.trace.deadlocked().length ? this.trace.calls.length - 1 : 0;
-  }
-
-  failureText() {
-    const { thread, line, column, statement, values } = this.trace.end.failure;
-    const known = values.map((it) => `${variableName(it)}=${it.value}`).join(" ");
-    const failed = `An assertion of thread ${thread} failed at ${line}:${column}: ${statement}`;
-    return `${failed}${known ? ` with ${known}` : ""}.`;
+    return this.trace.end.deadlock.length ? Math.max(0, this.trace.calls.length - 1) : 0;
   }
 
   /** A menu with a box to tick for each thread. */

@@ -187,16 +187,6 @@ class Trace {
     return [...this.callsOf.keys()].filter((thread) => this.callsOf[thread].length > 0);
   }
 
-  /** The threads that wait at the end, where no open thread does anything else; none where one might go on. */
-  deadlocked() {
-    if (this.end.failure !== null || this.end.open === 0) return [];
-    const lastStep = this.calls.length ? this.stepBefore[this.calls.length - 1] : -1;
-    const last = this.callsOf.map((own) => own[own.length - 1] ?? -1);
-    const waits = (thread) => last[thread] > lastStep && this.calls[last[thread]].reply === "waits";
-    const waiting = [...last.keys()].filter(waits);
-    return waiting.length === this.end.open ? waiting : [];
-  }
-
   /** The context that goes on at a call, whoever makes it: its number and its thread. */
   contextAround(index) {
     const before = this.calls[this.stepBefore[index]];

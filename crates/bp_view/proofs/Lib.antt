@@ -1,6 +1,4 @@
 pub mod AllContexts
-pub mod AssertedPlaces
-pub mod AssertionTexts
 pub mod BegunViews
 mod CallsOfLines
 pub mod ChangedEntries
@@ -8,7 +6,11 @@ pub mod ChangedVariables
 pub mod ChangesOfFrames
 pub mod ChangesReplay
 pub mod CodeObjects
+pub mod ConditionTexts
+pub mod DecidedDeadlocks
+pub mod DecidersOfPlaces
 pub mod EqualWaits
+pub mod FailedConditions
 pub mod FailedStatements
 pub mod FramesOfTops
 pub mod LastReplies
@@ -34,6 +36,7 @@ pub mod ShownLines
 pub mod SpansOfHistories
 pub mod StepsInContexts
 pub mod ViewableSettings
+pub mod WaitingConditions
 pub mod WatchedVariables
 pub mod WholeStates
 pub mod WholeViews

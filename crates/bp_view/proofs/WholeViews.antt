@@ -15,7 +15,8 @@ use Rattle.bp_machine.specs.Answers.{stack_of}
 use Rattle.bp_machine.specs.Histories.{configuration_after, granted_threads, IsLegal}
 use Rattle.bp_machine.specs.Replies.{is_granted}
 use Rattle.bp_machine.specs.Reports.{outcome_of, IsRealFailure}
-use Rattle.bp_machine.specs.Setups.{SetupOf}
+use Rattle.bp_machine.specs.Setups.{SetupOf, threads}
+use Rattle.bp_machine.specs.Waiting.{waits}
 use Rattle.bp_machine.proofs.ContextCounts.{opened, opened_least}
 use Rattle.bp_machine.proofs.RealFailures.{real}
 use Rattle.bp_text.specs.Positions.{position_at}
@@ -27,14 +28,18 @@ use Rattle.bp_view.specs.Assertions.{variables_read}
 use Rattle.bp_view.specs.CallFacts.{changes_by, nothing_next, printed_in, AreCallFacts, ShownCall, IsNextOf, Next}
 use Rattle.bp_view.specs.Moments.{is_switch, IsContext}
 use Rattle.bp_view.specs.Scenes.{AreScenes, IsStatementAt}
-use Rattle.bp_view.specs.Outcomes.{assertion_in, clean_in, failure_in, foot_text, named_values, IsAssertionText, IsFoot, IsOutcomeText}
+use Rattle.bp_view.specs.Conditions.{condition_in, named_values, IsAtCondition, IsConditionText}
+use Rattle.bp_view.specs.Deadlocks.{wait_in, AreWaits, IsWait}
+use Rattle.bp_view.specs.Outcomes.{clean_in, failure_in, foot_text, IsAssertionText, IsFoot, IsOutcomeText}
 use Rattle.bp_view.specs.Places.{place_text}
 use Rattle.bp_view.specs.Statements.{IsStatement}
 use Rattle.bp_view.specs.Options.{calls_of}
 use Rattle.bp_view.specs.Views.{has_line, line_in, IsShownLine, IsViewLine, IsViewLineIf}
-use Rattle.bp_view.proofs.PartsOfTexts.{part_of_each}
+use Rattle.bp_view.proofs.PartsOfTexts.{part_of_each, some_parts}
+use Rattle.bp_view.proofs.DecidedDeadlocks.{decided}
 use Rattle.bp_view.proofs.PlacedStacks.{stack_placed, ArePlaced, IsPlaced}
 use Rattle.bp_view.proofs.SceneLists.{scene_at, SceneAt}
+use Rattle.bp_view.proofs.WaitingConditions.{at_assumption}
 
 module _ (c : Flat) (t : Program) (code : StandsFor c t) (text : List ℕ) (scenes : List Scene) (are : AreScenes text t scenes) (s : SetupOf) where
   -- the scene of a frame
@@ -107,19 +112,52 @@ module _ (c : Flat) (t : Program) (code : StandsFor c t) (text : List ℕ) (scen
         let own : IsStatement (drop failure.stands.at text) words found.scene.excerpt.reads_choice =
         subst (λ at. IsStatementAt text frame.procedure at words found.scene.excerpt.reads_choice) begins found.is.statement
         in (
-          assertion_in format (position_at text failure.stands.at) words
+          condition_in format (position_at text failure.stands.at) words
               (named_values format frame.procedure (frame_store before.globals frame) (variables_read failure.stands.decision)),
           record { failure = failure; words = words; reads = found.scene.excerpt.reads_choice; words_are = own; is = refl },
         )
 
-    some_outcome : (h : List Call) → IsLegal t s h → (outcome : Outcome) → outcome ≡ outcome_of h
-        → (said : List ℕ) × IsOutcomeText format t text s h outcome said
-    some_outcome h legal Clean is = (clean_in format, refl)
-    some_outcome h legal (Failed i) is =
+    some_outcome : (h : List Call) → IsLegal t s h → (deadlocked : Bool) → (outcome : Outcome) → outcome ≡ outcome_of h
+        → (said : List ℕ) × IsOutcomeText format t text s h deadlocked outcome said
+    some_outcome h legal deadlocked Clean is = (clean_in format deadlocked, refl)
+    some_outcome h legal deadlocked (Failed i) is =
         let (said, said_is) = some_assertion h i (real t s h i legal (sym is)) in
         (failure_in format i said, (said, refl, said_is))
 
+    some_condition : (h : List Call) (i : ℕ) → IsAtCondition (configuration_after t s h) i
+        → (said : List ℕ) × IsConditionText format text (configuration_after t s h) i said
+    some_condition h i stands =
+        let frame = stands.frame in
+        let now = configuration_after t s h in
+        let placed : ArePlaced t (frame ∷ stands.below) = subst (ArePlaced t) stands.stack (stack_placed c t code s h i) in
+        let (n, found) = scene_of frame placed.0 in
+        let words = found.scene.excerpt.words.items in
+        let own : IsStatement (drop stands.at text) words found.scene.excerpt.reads_choice =
+        subst (λ at. IsStatementAt text frame.procedure at words found.scene.excerpt.reads_choice) stands.begins found.is.statement
+        in (
+          condition_in format (position_at text stands.at) words (named_values format frame.procedure (frame_store now.globals frame) (variables_read stands.decision)),
+          record { stands = stands; words = words; reads = found.scene.excerpt.reads_choice; words_are = own; is = refl },
+        )
+
+    some_wait : (h : List Call) (i : ℕ) (does : Bool) → waits t (configuration_after t s h) i ≡ does
+        → (part : List ℕ) × IsWait format t text (configuration_after t s h) i does part
+    some_wait h i false e = ([], refl)
+    some_wait h i true e =
+        let (said, said_is) = some_condition h i (at_assumption t (configuration_after t s h) i e) in
+        (wait_in format i said, (said, refl, said_is))
+
+    some_waits : (h : List Call) (deadlocked : Bool)
+        → (said : List ℕ) × AreWaits format t text (configuration_after t s h) (threads s) deadlocked said
+    some_waits h false = ([], refl)
+    some_waits h true =
+        let now = configuration_after t s h in
+        some_parts (λ i part. IsWait format t text now i (waits t now i) part) (threads s) (λ i within. some_wait h i (waits t now i) refl)
+
     pub some_foot : (h : List Call) → IsLegal t s h → (r : Report) → r.outcome ≡ outcome_of h → (foot : List ℕ) × IsFoot format t text s h r foot
     some_foot h legal r is =
-        let (said, said_is) = some_outcome h legal r.outcome is in
-        (foot_text format r said, record { outcome = said; is = refl; outcome_is = said_is })
+        let (deadlocked, decides) = decided t (configuration_after t s h) in
+        let (said, said_is) = some_outcome h legal deadlocked r.outcome is in
+        let (waiting, waiting_are) = some_waits h deadlocked in (
+          foot_text format r said waiting,
+          record { deadlocked = deadlocked; decides = decides; outcome = said; waits = waiting; is = refl; outcome_is = said_is; waits_are = waiting_are },
+        )

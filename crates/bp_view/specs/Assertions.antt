@@ -1,7 +1,8 @@
--- What decides the assertions of a program, and the variables that a decider reads.
+-- What decides the assertions and the assumptions of a program, and the variables that a decider
+-- reads.
 use Rattle.std.specs.Prelude.{if◌then◌else◌, ℕ, List, [], ◌∷◌, ◌++◌, Option, None, Some, option_map}
 use Rattle.std.specs.Borrow.{Bor}
-use Rattle.bp_tree.specs.Ast.{Expression, Constant, Variable, Negation, Operation, Decision, Choose, Decide, Block, Done, Then, Statement, Branches, Loops, Asserts}
+use Rattle.bp_tree.specs.Ast.{Expression, Constant, Variable, Negation, Operation, Decision, Choose, Decide, Block, Done, Then, Statement, Branches, Loops, Asserts, Assumes}
 use Rattle.bp_tree.specs.Views.{decision_of}
 use Rattle.bp_tree.specs.declared.exprs.Decider.{Decider}
 use Rattle.bp_view.specs.Watches.{is_named}
@@ -22,26 +23,27 @@ abbrev pub variables_read : Decision → List (List ℕ)
 variables_read Choose = []
 variables_read (Decide e) = names_after [] e
 
--- a device: what decides a statement, where it is an assertion
-abbrev pub asserted_by : Statement → Option Decision
-asserted_by (Asserts d) = Some d
-asserted_by s = None
+-- a device: what decides a statement, where it is an assertion or an assumption
+abbrev pub decision_in : Statement → Option Decision
+decision_in (Asserts d) = Some d
+decision_in (Assumes d) = Some d
+decision_in s = None
 
 -- a device: the same of the statement that comes next
-abbrev pub asserted_next : Block → Option Decision
-asserted_next Done = None
-asserted_next (Then label at s rest) = asserted_by s
+abbrev pub next_decision : Block → Option Decision
+next_decision Done = None
+next_decision (Then label at s rest) = decision_in s
 
 -- a device: the same of the statements of a block, at any depth, and of those inside a statement
 abbrev mutual
-  pub block_asserted : Block → List (Option Decision)
-  block_asserted Done = []
-  block_asserted (Then label at s t) = asserted_by s ∷ (inner_asserted s ++ block_asserted t)
+  pub block_decisions : Block → List (Option Decision)
+  block_decisions Done = []
+  block_decisions (Then label at s t) = decision_in s ∷ (inner_decisions s ++ block_decisions t)
 
-  pub inner_asserted : Statement → List (Option Decision)
-  inner_asserted (Branches d a b) = block_asserted a ++ block_asserted b
-  inner_asserted (Loops d a) = block_asserted a
-  inner_asserted s = []
+  pub inner_decisions : Statement → List (Option Decision)
+  inner_decisions (Branches d a b) = block_decisions a ++ block_decisions b
+  inner_decisions (Loops d a) = block_decisions a
+  inner_decisions s = []
 
 -- a device: the decision of a decider
 abbrev pub reading_of : Option (Bor Decider) → Option Decision

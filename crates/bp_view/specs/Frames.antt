@@ -13,7 +13,7 @@ use Rattle.bp_view.specs.declared.options.ViewFormat.{ViewFormat}
 use Rattle.bp_view.specs.declared.options.ViewFormat.TheVariants.{Columns, Json}
 use Rattle.bp_view.specs.Changes.{variables_text}
 use Rattle.bp_view.specs.JsonTexts.{column_of, line_of}
-use Rattle.bp_view.specs.Outcomes.{assertion_text}
+use Rattle.bp_view.specs.Conditions.{condition_text}
 use Rattle.bp_view.specs.Parts.{IsInParts}
 use Rattle.bp_view.specs.Places.{place_text}
 use Rattle.bp_view.specs.Scenes.{IsStatementAt}
@@ -28,7 +28,7 @@ abbrev pub frame_lines : ℕ → Procedure → (place words values : List ℕ) �
 frame_lines n p place words values =
     concat (
     concat (lead n ∷ map on_one_line p.name.text ∷ [])
-    ∷ assertion_text place words values
+    ∷ condition_text place words values
     ∷ codes "\n" ∷ [])
 
 -- the same as an object of JSON after a comma

@@ -3,7 +3,9 @@ pub mod CallFacts
 pub mod ChangeFacts
 pub mod Changes
 pub mod Colours
+pub mod Conditions
 pub mod ContextLines
+pub mod Deadlocks
 pub mod Ends
 pub mod Frames
 pub mod Heads

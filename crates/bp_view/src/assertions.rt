@@ -1,10 +1,11 @@
-//! What decides the assertions of a program, and the variables that a decider reads.
+//! What decides the assertions and the assumptions of a program, and the variables that a decider
+//! reads.
 ghost use Rattle.std.specs.Prelude.{◌≡◌, ◌++◌, List, Some, ℕ, map, option_map, slice_get, IfOk, OnOk};
 ghost use Rattle.bp_tree.specs.Ast.{Procedure};
 ghost use Rattle.bp_tree.specs.Blocks.{block_of, statement_of};
 ghost use Rattle.bp_tree.specs.Views.{decision_of, expression_of};
 ghost use Rattle.bp_code.specs.StandsFor.{places_of, Place};
-ghost use Rattle.bp_view.specs.Assertions.{asserted_by, asserted_next, block_asserted, inner_asserted, names_after, reading_of, variables_read, with_name};
+ghost use Rattle.bp_view.specs.Assertions.{decision_in, next_decision, block_decisions, inner_decisions, names_after, reading_of, variables_read, with_name};
 
 use crate::watches::is_named;
 use bp_tree::{Decider, Expr, Form, Proc, Stmt};
@@ -53,42 +54,42 @@ pub(crate) fn variables_read<'a>(
     Ok(names)
 }
 
-/// What decides a statement, where it is an assertion.
-fn asserted_by<'a>(form: &'a Form) -> Option<&'a Decider>
-    ensures { let asserted = asserted_by (statement_of form.entry.now) in
-        option_map (λ d. decision_of d.now) result ≡ asserted }
+/// What decides a statement, where it is an assertion or an assumption.
+fn decision_in<'a>(form: &'a Form) -> Option<&'a Decider>
+    ensures { let decides = decision_in (statement_of form.entry.now) in
+        option_map (λ d. decision_of d.now) result ≡ decides }
 {
     match form {
-        Form::Assert(decider) => Some(decider),
+        Form::Assert(decider) | Form::Assume(decider) => Some(decider),
         _ => None,
     }
 }
 
 /// Notes what decides each of these statements, and those inside them.
-#[cycle(note_asserted)]
+#[cycle(note_deciders)]
 fn note_block<'a>(
     deciders: &mut Vec<Option<&'a Decider>>,
     stmts: &'a [Stmt],
 ) -> Result<(), AllocError>
-    ensures { let more = block_asserted (block_of stmts.entry.now) in
+    ensures { let more = block_decisions (block_of stmts.entry.now) in
         OnOk result
         (map reading_of deciders.new.items ≡ map reading_of deciders.old.items ++ more) }
 {
     for stmt in stmts {
         let form = stmt.form();
-        deciders.push(asserted_by(form))?;
+        deciders.push(decision_in(form))?;
         note_inside(deciders, form)?;
     }
     Ok(())
 }
 
 /// Notes what decides each of the statements inside a statement.
-#[cycle(note_asserted)]
+#[cycle(note_deciders)]
 fn note_inside<'a>(
     deciders: &mut Vec<Option<&'a Decider>>,
     form: &'a Form,
 ) -> Result<(), AllocError>
-    ensures { let more = inner_asserted (statement_of form.entry.now) in
+    ensures { let more = inner_decisions (statement_of form.entry.now) in
         OnOk result
         (map reading_of deciders.new.items ≡ map reading_of deciders.old.items ++ more) }
 {
@@ -103,10 +104,10 @@ fn note_inside<'a>(
 }
 
 /// For each instruction of the program's code, in order, what decides its statement where that is
-/// an assertion.
-fn asserted_in<'a>(alloc: Global, procs: &'a [Proc]) -> Result<Vec<Option<&'a Decider>>, AllocError>
-    ensures { let asserted = map (λ x. asserted_next x.left) (places_of procs.entry.now) in
-        IfOk result (λ v. map reading_of v.items ≡ asserted) }
+/// an assertion or an assumption.
+fn deciders_in<'a>(alloc: Global, procs: &'a [Proc]) -> Result<Vec<Option<&'a Decider>>, AllocError>
+    ensures { let decides = map (λ x. next_decision x.left) (places_of procs.entry.now) in
+        IfOk result (λ v. map reading_of v.items ≡ decides) }
 {
     let mut deciders = Vec::new(alloc);
     for proc in procs {
@@ -116,17 +117,18 @@ fn asserted_in<'a>(alloc: Global, procs: &'a [Proc]) -> Result<Vec<Option<&'a De
     Ok(deciders)
 }
 
-/// What decides the statement of the instruction with this number, where that is an assertion.
-pub(crate) fn asserted_at<'a>(
+/// What decides the statement of the instruction with this number, where that is an assertion or an
+/// assumption.
+pub(crate) fn decider_at<'a>(
     alloc: Global,
     procs: &'a [Proc],
     number: u32,
 ) -> Result<Option<&'a Decider>, AllocError>
     ensures { (x : Place)
         → slice_get (places_of procs.entry.now) number ≡ Some x
-        → IfOk result (λ d. reading_of d ≡ asserted_next x.left) }
+        → IfOk result (λ d. reading_of d ≡ next_decision x.left) }
 {
-    let deciders = asserted_in(alloc, procs)?;
+    let deciders = deciders_in(alloc, procs)?;
     match deciders.get(number as usize) {
         Some(decider) => Ok(*decider),
         None => Ok(None),

@@ -16,9 +16,9 @@ ghost use Rattle.bp_view.specs.Moments.{IsSettingOf};
 ghost use Rattle.bp_view.specs.Parts.{Adds};
 ghost use Rattle.bp_view.specs.Places.{place_text};
 
+use crate::conditions::push_condition_text;
 use crate::json_texts::{column_of, line_of};
 use crate::options::ViewFormat;
-use crate::outcomes::push_assertion_text;
 use crate::scenes::Scene;
 use crate::settings::Setting;
 use crate::variables::push_values;
@@ -49,7 +49,7 @@ fn push_frame_lines(
 {
     let name = proc.name().text().as_bytes();
     push_pieces(view, &[Bytes(lead(returned)), OneLine(name)])?;
-    push_assertion_text(view, scene, values)?;
+    push_condition_text(view, scene, values)?;
     push_piece(view, Bytes(b"\n"))?;
     Ok(())
 }

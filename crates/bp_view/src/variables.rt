@@ -4,7 +4,7 @@ ghost use Rattle.bp_code.specs.Bits.{bits_of, store_of};
 ghost use Rattle.bp_code.specs.StandsFor.{named_store, valuation_of};
 ghost use Rattle.bp_view.specs.Changes.{owner_text, variable_object, variable_text, variable_words, variables_text};
 ghost use Rattle.bp_text.specs.Pieces.{piece_text};
-ghost use Rattle.bp_view.specs.Outcomes.{named_value};
+ghost use Rattle.bp_view.specs.Conditions.{named_value};
 
 use crate::options::ViewFormat;
 use bp_code::{Store, bit_of, local_slot_of, slot_of};

@@ -4,7 +4,7 @@ use Rattle.bp_code.specs.Bits.{bits_of}
 use Rattle.bp_code.specs.StandsFor.{valuation_of, variables}
 use Rattle.bp_code.specs.Values.{lookup}
 use Rattle.bp_view.specs.Changes.{variable_text}
-use Rattle.bp_view.specs.Outcomes.{resolved_value}
+use Rattle.bp_view.specs.Conditions.{resolved_value}
 use Rattle.bp_code.proofs.SlotsOfNames.{value_of_slot}
 use Rattle.bp_view.proofs.variables.push_variable.Goals as goal
 

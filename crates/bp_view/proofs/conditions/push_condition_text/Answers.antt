@@ -1,8 +1,8 @@
 use Rattle.std.proofs.Common.{[], ◌∷◌, codes}
 use Rattle.std.specs.List.{concat}
 use Rattle.bp_text.proofs.PiecesInTurn.{all_added}
-use Rattle.bp_view.specs.Outcomes.{values_line}
-use Rattle.bp_view.proofs.outcomes.push_assertion_text.Goals as goal
+use Rattle.bp_view.specs.Conditions.{values_line}
+use Rattle.bp_view.proofs.conditions.push_condition_text.Goals as goal
 
 pub returns : goal.returns
 returns c =

@@ -1,8 +1,8 @@
 use Rattle.std.proofs.Common.{◌∙◌, append-nil, map, refl, sym}
 use Rattle.bp_code.proofs.ListItems.{dropped_all}
 use Rattle.bp_view.specs.Assertions.{reading_of}
-use Rattle.bp_view.proofs.AssertedPlaces.{noted_one, procedure_more}
-use Rattle.bp_view.proofs.assertions.asserted_in.Goals as goal
+use Rattle.bp_view.proofs.DecidersOfPlaces.{noted_one, procedure_more}
+use Rattle.bp_view.proofs.assertions.deciders_in.Goals as goal
 
 pub loop-proc-preserved : goal.loop-proc-preserved
 loop-proc-preserved c =

@@ -9,23 +9,23 @@ use Rattle.bp_tree.specs.Ast.{Name, Block, Done, Then, Statement, Skips, GoesTo,
 use Rattle.bp_code.specs.Continuations.{chain}
 use Rattle.bp_code.specs.StandsFor.{Place, places, places_in, places_of}
 use Rattle.bp_code.proofs.ListItems.{drop_item}
-use Rattle.bp_view.specs.Assertions.{asserted_by, asserted_next, block_asserted, inner_asserted, reading_of}
+use Rattle.bp_view.specs.Assertions.{decision_in, next_decision, block_decisions, inner_decisions, reading_of}
 
 abbrev pub asserted : List Place → List (Option Decision)
-asserted xs = map (λ (x : Place). asserted_next x.left) xs
+asserted xs = map (λ (x : Place). next_decision x.left) xs
 
 asserted_both : (xs ys : List Place) → asserted (xs ++ ys) ≡ asserted xs ++ asserted ys
-asserted_both xs ys = map-append (λ (x : Place). asserted_next x.left) xs ys
+asserted_both xs ys = map-append (λ (x : Place). next_decision x.left) xs ys
 
 mutual
-  in_block : (p : Procedure) (b r : Block) → asserted (places p b r) ≡ block_asserted b
+  in_block : (p : Procedure) (b r : Block) → asserted (places p b r) ≡ block_decisions b
   in_block p Done r = refl
   in_block p (Then label at s t) r =
       asserted_both (places_in p s label at (chain t r)) (places p t r)
       ∙ ap₂ (λ xs ys. xs ++ ys) (in_statement p s label at (chain t r)) (in_block p t r)
 
   in_statement : (p : Procedure) (s : Statement) (label : Option Name) (at : ℕ) (r : Block)
-      → asserted (places_in p s label at r) ≡ asserted_by s ∷ inner_asserted s
+      → asserted (places_in p s label at r) ≡ decision_in s ∷ inner_decisions s
   in_statement p (Branches d a b) label at r =
       ap (λ xs. None ∷ xs) (asserted_both (places p a r) (places p b r) ∙ ap₂ (λ xs ys. xs ++ ys) (in_block p a r) (in_block p b r))
   in_statement p (Loops d a) label at r = ap (λ xs. None ∷ xs) (in_block p a (Then label at (Loops d a) r))
@@ -38,7 +38,7 @@ mutual
   in_statement p (Prints es) label at r = refl
   in_statement p (Calls x es) label at r = refl
 
-pub first_procedure : (p : Procedure) (ps : List Procedure) → asserted (places_of (p ∷ ps)) ≡ block_asserted p.body ++ None ∷ asserted (places_of ps)
+pub first_procedure : (p : Procedure) (ps : List Procedure) → asserted (places_of (p ∷ ps)) ≡ block_decisions p.body ++ None ∷ asserted (places_of ps)
 first_procedure p ps =
     asserted_both (places p p.body Done) _ ∙ ap (λ xs. xs ++ None ∷ asserted (places_of ps)) (in_block p p.body Done)
 
@@ -54,12 +54,12 @@ three_parts old mid new one more rest all first second before =
 
 module _ (items : List Stmt) (i : ℕ) (s : Stmt) (h : i < length items) (e : s ≡ get_or items i s) where
   -- one more statement, and those inside it
-  pub statement_more : (old mid new all : List (Option Decision)) → mid ≡ old ++ asserted_by (statement_of s.form) ∷ []
-      → new ≡ mid ++ inner_asserted (statement_of s.form)
-      → old ++ block_asserted (block_of (drop i items)) ≡ all → new ++ block_asserted (block_of (drop (i + 1) items)) ≡ all
+  pub statement_more : (old mid new all : List (Option Decision)) → mid ≡ old ++ decision_in (statement_of s.form) ∷ []
+      → new ≡ mid ++ inner_decisions (statement_of s.form)
+      → old ++ block_decisions (block_of (drop i items)) ≡ all → new ++ block_decisions (block_of (drop (i + 1) items)) ≡ all
   statement_more old mid new all first second before =
       let split = rw (drop_item items i s h e) at before in
-      three_parts old mid new (asserted_by (statement_of s.form) ∷ []) (inner_asserted (statement_of s.form)) (block_asserted (block_of (drop (i + 1) items))) all first second split
+      three_parts old mid new (decision_in (statement_of s.form) ∷ []) (inner_decisions (statement_of s.form)) (block_decisions (block_of (drop (i + 1) items))) all first second split
 
   -- it is less deep than all of them
   pub depth_inside : statement_depth (statement_of s.form) ≤ depth (block_of items)
@@ -75,8 +75,8 @@ module _ (items : List Stmt) (i : ℕ) (s : Stmt) (h : i < length items) (e : s 
 
 -- one more procedure, and its end
 pub procedure_more : (ps : List Procedure) (i : ℕ) (p : Procedure) → i < length ps → p ≡ get_or ps i p → (old mid new all : List (Option Decision))
-    → mid ≡ old ++ block_asserted p.body → new ≡ mid ++ None ∷ [] → old ++ asserted (places_of (drop i ps)) ≡ all
+    → mid ≡ old ++ block_decisions p.body → new ≡ mid ++ None ∷ [] → old ++ asserted (places_of (drop i ps)) ≡ all
     → new ++ asserted (places_of (drop (i + 1) ps)) ≡ all
 procedure_more ps i p h e old mid new all first second before =
     let split = rw (drop_item ps i p h e, first_procedure p (drop (i + 1) ps)) at before in
-    three_parts old mid new (block_asserted p.body) (None ∷ []) (asserted (places_of (drop (i + 1) ps))) all first second split
+    three_parts old mid new (block_decisions p.body) (None ∷ []) (asserted (places_of (drop (i + 1) ps))) all first second split

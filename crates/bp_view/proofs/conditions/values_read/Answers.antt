@@ -3,8 +3,8 @@ use Rattle.bp_tree.specs.Views.{decision_of}
 use Rattle.bp_code.specs.Bits.{store_of}
 use Rattle.bp_code.specs.StandsFor.{named_store, place}
 use Rattle.bp_view.specs.Assertions.{variables_read}
-use Rattle.bp_view.specs.Outcomes.{named_values}
-use Rattle.bp_view.proofs.outcomes.values_read.Goals as goal
+use Rattle.bp_view.specs.Conditions.{named_values}
+use Rattle.bp_view.proofs.conditions.values_read.Goals as goal
 
 pub returns : goal.returns
 returns c = λ t text now i set is.

@@ -3,8 +3,8 @@ use Rattle.std.proofs.lemmas.List.{take_all}
 use Rattle.std.proofs.lemmas.List.Folds.{flat_map-map}
 use Rattle.bp_code.specs.Bits.{store_of}
 use Rattle.bp_code.specs.StandsFor.{named_store}
-use Rattle.bp_view.specs.Outcomes.{named_value}
-use Rattle.bp_view.proofs.outcomes.push_variables.Goals as goal
+use Rattle.bp_view.specs.Conditions.{named_value}
+use Rattle.bp_view.proofs.conditions.push_variables.Goals as goal
 
 pub returns : goal.returns
 returns c =

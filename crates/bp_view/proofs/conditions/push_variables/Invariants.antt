@@ -1,8 +1,8 @@
 use Rattle.std.proofs.Common.{◌≡◌, ◌++◌, flat_map, take}
 use Rattle.bp_code.specs.Bits.{store_of}
 use Rattle.bp_code.specs.StandsFor.{named_store}
-use Rattle.bp_view.specs.Outcomes.{named_value}
-use Rattle.bp_view.proofs.outcomes.push_variables.Given as goal
+use Rattle.bp_view.specs.Conditions.{named_value}
+use Rattle.bp_view.proofs.conditions.push_variables.Given as goal
 
 abbrev pub invariant-loop-name : goal.invariant-loop-name
 invariant-loop-name l =

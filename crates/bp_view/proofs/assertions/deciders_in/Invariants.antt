@@ -1,8 +1,8 @@
 use Rattle.std.proofs.Common.{◌≡◌, ◌++◌, drop, map}
 use Rattle.bp_code.specs.StandsFor.{places_of}
 use Rattle.bp_view.specs.Assertions.{reading_of}
-use Rattle.bp_view.proofs.AssertedPlaces.{asserted}
-use Rattle.bp_view.proofs.assertions.asserted_in.Given as goal
+use Rattle.bp_view.proofs.DecidersOfPlaces.{asserted}
+use Rattle.bp_view.proofs.assertions.deciders_in.Given as goal
 
 abbrev pub invariant-loop-proc : goal.invariant-loop-proc
 invariant-loop-proc l =
