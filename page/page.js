@@ -1,6 +1,6 @@
 // What the page shows, and what its keys and buttons do.
 
-const VERSION = 1;
+const VERSION = 2;
 const CALLS_OF_A_PAGE = 20;
 const MAX_FRAMES = 8;
 const MAX_CALLS_PRINTED = 2000;
@@ -70,7 +70,7 @@ function chooseTheme() {
 /** What came of a call, in the words of `show`. */
 function resultOf(call) {
   const words = call.choice === null ? [] : [`?=${call.choice}`];
-  if (call.reply !== "stepped") words.push(call.reply);
+  if (call.reply !== "stepped") words.push(call.reply.replaceAll("_", " "));
   call.changes.forEach((change) => words.push(`${variableName(change)}=${change.value}`));
   if (call.printed !== null) words.push(`printed ${call.printed.join("")}`);
   return words.join(" ");
@@ -112,7 +112,7 @@ class Page {
     const seed = setup.seed === null ? "no seed" : `seed ${setup.seed}`;
     const counts = [[end.calls, "call"], [end.contexts, "context"], [end.open, "open thread"]];
     const had = counts.map(([count, name]) => counted(count, name)).join(", ");
-    const limits = `at most ${counted(setup.contexts, "context")} and ${counted(setup.calls, "call")} of a thread`;
+    const limits = `at most ${counted(setup.max_contexts, "context")} and ${counted(setup.max_calls, "call")} of a thread`;
     byId("counts").textContent = `${had}; ${limits}; ${seed}`;
     byId("outcome").textContent = this.outcomeText();
     byId("outcome").classList.toggle("failed", end.failure !== null || end.deadlock.length > 0);

@@ -51,8 +51,8 @@ string_item text = concat (codes "," ∷ string_text text ∷ [])
 abbrev pub limit_members : SetupOf → List ℕ
 limit_members s =
     concat (
-    key_text (codes "contexts") ∷ decimal s.contexts
-    ∷ key_text (codes "calls") ∷ decimal s.calls
+    key_text (codes "max_contexts") ∷ decimal s.contexts
+    ∷ key_text (codes "max_calls") ∷ decimal s.calls
     ∷ key_text (codes "seed") ∷ number_or_null s.seed
     ∷ codes "}\n" ∷ [])
 
@@ -61,7 +61,7 @@ abbrev pub head_object : List Name → SetupOf → List ℕ
 head_object globals s =
     concat (
     concat (
-    codes "{\"kind\":\"setup\",\"version\":1"
+    codes "{\"kind\":\"setup\",\"version\":2"
     ∷ key_text (codes "threads") ∷ list_text (flat_map string_item s.entries) ∷ [])
     ∷ concat (
     key_text (codes "globals")

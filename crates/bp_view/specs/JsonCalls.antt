@@ -14,8 +14,8 @@ use Rattle.bp_view.specs.JsonTexts.{column_of, line_of}
 abbrev pub reply_name : Reply → List ℕ
 reply_name Stopped = codes "stopped"
 reply_name Ended = codes "ended"
-reply_name NoContexts = codes "out of contexts"
-reply_name Full = codes "stack full"
+reply_name NoContexts = codes "out_of_contexts"
+reply_name Full = codes "stack_full"
 reply_name Blocked = codes "waits"
 reply_name Failed = codes "failed"
 reply_name Stepped = codes "stepped"

@@ -150,9 +150,9 @@ fn push_limits(head: &mut Vec<u8>, setup: &Setup) -> Result<(), AllocError>
     push_pieces(
         head,
         &[
-            Key(b"contexts"),
+            Key(b"max_contexts"),
             Number(u64::from(setup.contexts())),
-            Key(b"calls"),
+            Key(b"max_calls"),
             Number(u64::from(setup.calls())),
             Key(b"seed"),
             NumberOrNull(setup.seed()),
@@ -172,7 +172,7 @@ fn head_object(alloc: Global, setup: &Setup, globals: &[Name]) -> Result<Vec<u8>
     push_pieces(
         &mut head,
         &[
-            Bytes(b"{\"kind\":\"setup\",\"version\":1"),
+            Bytes(b"{\"kind\":\"setup\",\"version\":2"),
             Key(b"threads"),
             List(&entries),
         ],

@@ -26,8 +26,8 @@ fn reply_name(reply: Reply) -> &'static [u8]
     match reply {
         Reply::Stopped => b"stopped",
         Reply::Ended => b"ended",
-        Reply::NoContexts => b"out of contexts",
-        Reply::Full => b"stack full",
+        Reply::NoContexts => b"out_of_contexts",
+        Reply::Full => b"stack_full",
         Reply::Blocked => b"waits",
         Reply::Failed => b"failed",
         Reply::Stepped => b"stepped",

@@ -101,9 +101,9 @@ impl Standing {
         match self {
             Standing::Finished => b"finished",
             Standing::Failed => b"failed",
-            Standing::OutOfContexts => b"out of contexts",
-            Standing::OutOfCalls => b"out of calls",
-            Standing::FullStack => b"stack full",
+            Standing::OutOfContexts => b"out_of_contexts",
+            Standing::OutOfCalls => b"out_of_calls",
+            Standing::FullStack => b"stack_full",
             Standing::Stopped => b"stopped",
             Standing::Waiting => b"waiting",
             Standing::Open => b"open",
