@@ -10,6 +10,7 @@ use bp_machine::{SetupFault, Start};
 use bp_run::RunOptions;
 use bp_syntax::ReadFault;
 use bp_syntax::limits::TEXT_LIMIT;
+use bp_view::watched_names;
 use std::alloc::Global;
 
 /// The numbers among the options of a command that have a range.
@@ -138,14 +139,9 @@ fn of_start(alloc: Global, asked: Asked<'_, '_>, fault: SetupFault) -> Option<Ve
 
 /// What is said of the watched name at this place, from 1. No variable has that name.
 fn of_watch(alloc: Global, asked: Asked<'_, '_>, number: u64) -> Option<Vec<u8>> {
-    let mut place: u64 = 1;
-    for name in asked.watch?.split(',') {
-        if place == number {
-            return variable_sentence(alloc, asked.program, name).ok();
-        }
-        place = place.saturating_add(1);
-    }
-    None
+    let names = watched_names(alloc, asked.watch).ok()?;
+    let name = names.get((number as usize).checked_sub(1)?)?;
+    variable_sentence(alloc, asked.program, name).ok()
 }
 
 /// What is known of the command line of a run.

@@ -145,12 +145,16 @@ pub fn start_sentence(
 }
 
 /// The sentence on a name that no variable of the program has. The only error is refused memory.
-pub fn variable_sentence(alloc: Global, program: &[u8], name: &str) -> Result<Vec<u8>, AllocError> {
+pub fn variable_sentence(
+    alloc: Global,
+    program: &[u8],
+    name: &[u8],
+) -> Result<Vec<u8>, AllocError> {
     let mut sentence = Vec::new(alloc);
     push_all(&mut sentence, &[b"no variable "])?;
-    push_quoted(&mut sentence, name.as_bytes())?;
+    push_quoted(&mut sentence, name)?;
     if let Some(tree) = &tree_of(alloc, program)? {
-        push_near_name(&mut sentence, tree, name.as_bytes())?;
+        push_near_name(&mut sentence, tree, name)?;
     }
     Ok(sentence)
 }

@@ -12,6 +12,7 @@ pub mod DecidersOfPlaces
 pub mod EqualWaits
 pub mod FailedConditions
 pub mod FailedStatements
+pub mod FirstPieces
 pub mod FramesOfTops
 pub mod LastReplies
 pub mod LastSteps

@@ -1,17 +1,43 @@
 -- The names of the watched variables.
-use Rattle.std.specs.Prelude.{◌≡◌, ◌==◌, ◌||◌, ℕ, suc, Bool, true, false, List, [], Option, None, Some, is_some, bytes_eq, slice_get, take}
+use Rattle.std.specs.Prelude.{◌≡◌, ◌==◌, ◌-◌, ◌&&◌, ◌||◌, if◌then◌else◌, ℕ, suc, Bool, true, false, not, List, [], ◌∷◌, Option, None, Some, is_some, bytes_eq, length, map, slice_get, take, drop}
 use Rattle.std.specs.Borrow.{Bor}
-use Rattle.std.specs.List.{list_all, list_any, slice_split}
+use Rattle.std.specs.List.{list_all, list_any, onto_first, prefix_len, suffix_len}
 use Rattle.bp_tree.specs.Ast.{Procedure, Program}
 use Rattle.bp_check.specs.Tables.{first_index}
 use Rattle.bp_code.specs.StandsFor.{variables}
 use Rattle.bp_view.specs.declared.faults.ViewFault.{ViewFault}
 use Rattle.bp_view.specs.declared.faults.ViewFault.TheVariants.{NoVariable}
 
--- the names that are watched: those that a list has between its commas, and none without a list
+-- what follows a byte is inside braces, where the byte itself is inside or outside
+abbrev pub is_braced_after : (braced : Bool) → ℕ → Bool
+is_braced_after true b = not (b == 125)
+is_braced_after false b = b == 123
+
+-- the pieces of a text that is cut at its commas outside braces, and begins inside or outside
+abbrev pub pieces : (braced : Bool) → List ℕ → List (List ℕ)
+pieces braced [] = [] ∷ []
+pieces braced (b ∷ bs) =
+    if b == 44 && not braced then [] ∷ pieces false bs
+    else onto_first b (pieces (is_braced_after braced b) bs)
+
+-- a text without the spaces that it begins with, and those that it ends with
+abbrev pub trimmed : List ℕ → List ℕ
+trimmed text =
+    let rest = drop (prefix_len (λ b. b == 32) text) text in
+    take (length rest - suffix_len (λ b. b == 32) rest) rest
+
+-- the names that are watched: those that a list has between its commas outside braces, each
+-- without the spaces around it, and none without a list
 abbrev pub watched_names : Option (Bor (List ℕ)) → List (List ℕ)
 watched_names None = []
-watched_names (Some list) = slice_split (λ b. b == 44) list.now
+watched_names (Some list) = map trimmed (pieces false list.now)
+
+-- A device: how many bytes are before the first comma outside braces, or in all where there is
+-- none.
+abbrev pub piece_size : (braced : Bool) → List ℕ → ℕ
+piece_size braced [] = 0
+piece_size braced (b ∷ bs) =
+    if b == 44 && not braced then 0 else suc (piece_size (is_braced_after braced b) bs)
 
 -- a formal or local of one of these procedures has this name
 abbrev pub has_local : List Procedure → List ℕ → Bool

@@ -57,3 +57,4 @@ pub use statements::{statement_lines, statement_positions};
 pub use states::state_at;
 pub use unreached::unreached_objects;
 pub use views::view;
+pub use watches::watched_names;

@@ -22,9 +22,9 @@ pub struct ViewOptions<'a> {
     pub from: Option<u64>,
     /// The number of the last call that is shown.
     pub to: Option<u64>,
-    /// Those alone that change a variable of one of these names, which commas separate. It is a
-    /// global, or a formal or a local of any procedure. A step that enters a procedure changes its
-    /// formals.
+    /// Those alone that change a variable of one of these names, as `watched_names` reads them. It
+    /// is a global, or a formal or a local of any procedure. A step that enters a procedure changes
+    /// its formals.
     pub watch: Option<&'a str>,
     /// Whether more than three equal waits of a thread in succession have one line. Objects are
     /// never folded.

@@ -1,10 +1,10 @@
-use Rattle.std.proofs.Common.{◌≡◌, ◌==◌, ◌++◌, ℕ, List, length, map}
-use Rattle.std.specs.List.{position_or_len, slice_split}
+use Rattle.std.proofs.Common.{◌≡◌, ◌++◌, ℕ, List, false, length, map}
+use Rattle.bp_view.specs.Watches.{piece_size, pieces, trimmed}
 use Rattle.bp_view.proofs.watches.names_in.Given as goal
 
 pub record Split (whole rest : List ℕ) (names : List (List ℕ)) (size : ℕ) : Type 0 where
-  pub is : slice_split (λ b. b == 44) whole ≡ names ++ slice_split (λ b. b == 44) rest
-  pub size_is : size ≡ position_or_len (λ b. b == 44) rest
+  pub is : map trimmed (pieces false whole) ≡ names ++ map trimmed (pieces false rest)
+  pub size_is : size ≡ piece_size false rest
 
 abbrev pub invariant-loop-size : goal.invariant-loop-size
 invariant-loop-size l = Split l.list l.rest (map (λ n. n.now) l.names.items) l.size
