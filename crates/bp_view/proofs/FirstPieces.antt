@@ -9,7 +9,7 @@ pub first_piece :
     → piece_size braced text < length text
     → pieces braced text ≡ take (piece_size braced text) text ∷ pieces false (drop (piece_size braced text + 1) text)
 first_piece braced [] some = absurd (omega (arith, some))
-first_piece braced (b ∷ bs) some = by_comma (b == 44 && not braced) (first_piece (is_braced_after braced b) bs) some
+first_piece braced (b ∷ bs) some = by_comma (not braced && b == 44) (first_piece (is_braced_after braced b) bs) some
   where
     later : Bool
     later = is_braced_after braced b
@@ -31,7 +31,7 @@ first_piece braced (b ∷ bs) some = by_comma (b == 44 && not braced) (first_pie
 -- it is the whole text where there are none
 pub one_piece : (braced : Bool) (text : List ℕ) → length text ≤ piece_size braced text → pieces braced text ≡ text ∷ []
 one_piece braced [] all = refl
-one_piece braced (b ∷ bs) all = by_comma (b == 44 && not braced) (one_piece (is_braced_after braced b) bs) all
+one_piece braced (b ∷ bs) all = by_comma (not braced && b == 44) (one_piece (is_braced_after braced b) bs) all
   where
     later : Bool
     later = is_braced_after braced b

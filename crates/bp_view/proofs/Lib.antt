@@ -16,6 +16,7 @@ pub mod FirstPieces
 pub mod FramesOfTops
 pub mod LastReplies
 pub mod LastSteps
+pub mod ListedNames
 pub mod LongestPlaces
 pub mod NextConfigurations
 pub mod OneCall

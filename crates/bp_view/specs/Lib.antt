@@ -16,6 +16,7 @@ pub mod Laws
 pub mod Lines
 pub mod Listings
 pub mod Moments
+pub mod NameLists
 pub mod Options
 pub mod Outcomes
 pub mod Parts

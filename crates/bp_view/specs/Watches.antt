@@ -17,7 +17,7 @@ is_braced_after false b = b == 123
 abbrev pub pieces : (braced : Bool) → List ℕ → List (List ℕ)
 pieces braced [] = [] ∷ []
 pieces braced (b ∷ bs) =
-    if b == 44 && not braced then [] ∷ pieces false bs
+    if not braced && b == 44 then [] ∷ pieces false bs
     else onto_first b (pieces (is_braced_after braced b) bs)
 
 -- a text without the spaces that it begins with, and those that it ends with
@@ -37,7 +37,7 @@ watched_names (Some list) = map trimmed (pieces false list.now)
 abbrev pub piece_size : (braced : Bool) → List ℕ → ℕ
 piece_size braced [] = 0
 piece_size braced (b ∷ bs) =
-    if b == 44 && not braced then 0 else suc (piece_size (is_braced_after braced b) bs)
+    if not braced && b == 44 then 0 else suc (piece_size (is_braced_after braced b) bs)
 
 -- a formal or local of one of these procedures has this name
 abbrev pub has_local : List Procedure → List ℕ → Bool

@@ -1,5 +1,5 @@
 //! Laws of views. These functions do nothing: their contracts are the laws.
-ghost use Rattle.bp_view.specs.Laws.{ChangesReplay, OneListOfContexts, OneState, OneView};
+ghost use Rattle.bp_view.specs.Laws.{ChangesReplay, ListedNames, OneListOfContexts, OneState, OneView};
 ghost use Rattle.bp_view.specs.Waits.{StandForEachOnce};
 
 /// States that the lines of calls, folded or not, stand for these calls, each once.
@@ -23,4 +23,10 @@ pub fn views_are_single()
 /// The values of a history begin with those of its setup.
 pub fn changes_replay()
     ensures { ChangesReplay }
+{}
+
+/// Where names of the language are listed, these are watched, in their order. A comma is between
+/// each two, and spaces may be around each. A comma or a space in braces is part of a name.
+pub fn listed_names_are_watched()
+    ensures { ListedNames }
 {}

@@ -49,7 +49,9 @@ mod writers;
 pub use contexts::contexts_of;
 pub use faults::ViewFault;
 pub use json_listings::code_objects;
-pub use laws::{changes_replay, lines_stand_for_each_call_once, views_are_single};
+pub use laws::{
+    changes_replay, lines_stand_for_each_call_once, listed_names_are_watched, views_are_single,
+};
 pub use listings::sourced_listing;
 pub use options::{ViewFormat, ViewOptions};
 pub use programs::program_object;

@@ -23,7 +23,7 @@ fn piece_size(list: &[u8]) -> usize
 {
     let mut braced = false;
     for (i, byte) in list.iter().enumerate() {
-        if *byte == b',' && !braced {
+        if !braced && *byte == b',' {
             return i;
         }
         braced = is_braced_after(braced, *byte);
