@@ -4,6 +4,7 @@ use Rattle.std.specs.Io.KnownBytes.{Appends, Keeps}
 use Rattle.std.proofs.KnownBytes.{Appends-nil, Keeps-refl}
 use Rattle.bp_tree.specs.Ast.{Program}
 use Rattle.bp_code.specs.LawfulTexts.{IsLawfulText}
+use Rattle.bp_code.specs.StandsFor.{places_of}
 use Rattle.bp_text.specs.Writing.{AppendsAll}
 use Rattle.bp_machine.specs.declared.calls.Call.{Call}
 use Rattle.bp_machine.specs.declared.reports.Report.{Report}
@@ -21,6 +22,7 @@ use Rattle.bp_test.specs.declared.waiting.Waiting.{Waiting}
 use Rattle.bp_test.specs.Counts.{AreCounts}
 use Rattle.bp_test.specs.Tallies.{MadeRun, made as made_of, HasReached, IsCounted}
 use Rattle.bp_test.specs.Tests.{setup_of_run, IsFound, IsTest, IsTestRefusal, IsWrittenRun}
+use Rattle.bp_view.specs.Scenes.{AreStatements}
 use Rattle.bp_view.specs.StatementLines.{positions_of}
 use Rattle.bp_commands.specs.Commands.{IsDoneWith, IsRefusedWith}
 use Rattle.bp_commands.specs.Faults.{fault_of_setup, fault_of_test}
@@ -54,36 +56,36 @@ module _ (start : StartOf) (x : TestOptions) (listed : Option (List ℕ)) (json 
     }
 
     -- what an empty output has after the test, where this one has more
-    record IsAlone (f : Found) (ws : List Waiting) (runs : List MadeRun) : Type 0 where
+    record IsAlone (f : Found) (at : Option ℕ) (ws : List Waiting) (runs : List MadeRun) : Type 0 where
       text_is : List ℕ
-      found : IsFound t taken x (Some []) (Some text_is) f ws runs
+      found : IsFound t taken x (Some []) (Some text_is) f at ws runs
       written : AppendsAll old new text_is
 
-    alone : (f : Found) (ws : List Waiting) (runs : List MadeRun) → IsFound t taken x old new f ws runs → IsAlone f ws runs
-    alone Nothing ws runs (same, none, count, clean) = record {
+    alone : (f : Found) (at : Option ℕ) (ws : List Waiting) (runs : List MadeRun) → IsFound t taken x old new f at ws runs → IsAlone f at ws runs
+    alone Nothing at ws runs (same, nowhere, none, count, clean) = record {
       text_is = [];
-      found = (refl, none, count, clean);
+      found = (refl, nowhere, none, count, clean);
       written = record { grown = subst (λ y. Appends old y []) (sym same) (Appends-nil old) };
     }
-    alone (Failed run r) ws runs is = record {
+    alone (Failed run r) at ws runs is = record {
       text_is = trace_text (setup_of_run taken x.seed run) is.history;
       found = written_alone _ run r runs is;
       written = is.written;
     }
-    alone (Deadlock run r) ws runs (asked, is) = record {
+    alone (Deadlock run r) at ws runs (asked, nowhere, is) = record {
       text_is = trace_text (setup_of_run taken x.seed run) is.history;
-      found = (asked, written_alone _ run r runs is);
+      found = (asked, nowhere, written_alone _ run r runs is);
       written = is.written;
     }
 
-    pub done : (made : Made) → IsTest t s x old new made → (tested : Tested) → tested.found ≡ made.found → tested.waiting ≡ made.waiting → tested.positions.items ≡ positions_of text t → tested.reached ≡ made.tally.reached
+    pub done : (made : Made) → IsTest t s x old new made → (tested : Tested) → tested.found ≡ made.found → tested.failed ≡ made.failed → tested.waiting ≡ made.waiting → tested.positions.items ≡ positions_of text t → AreStatements text (places_of t.procedures) (map (λ v. v.items) tested.statements.items) → tested.reached ≡ made.tally.reached
         → ((z : SetupOf) (runs : List MadeRun) → length runs < 2 ^ 64 → IsCounted z runs made.tally → AreCounts z runs tested.counts)
         → tested.notes ≡ notes_of tested.found s.contexts tested.counts
         → tested.options ≡ x → tested.json ≡ json → AreListed json listed text t (map (λ v. v.items) tested.lines.items)
         → IsDoneWith (tests start x listed json) old new text tested
-    done made test tested found_is waiting_is positions reached_is counts notes options form lines =
+    done made test tested found_is failed_is waiting_is positions statements reached_is counts notes options form lines =
         let of_setup = subst (λ y. IsTest t y x old new made) setup test in
-        let found = alone tested.found tested.waiting.items of_setup.runs (subst (λ v. IsFound t taken x old new tested.found v.items of_setup.runs) (sym waiting_is) (subst (λ f. IsFound t taken x old new f made.waiting.items of_setup.runs) (sym found_is) of_setup.found)) in record {
+        let found = alone tested.found tested.failed tested.waiting.items of_setup.runs (subst (λ v. IsFound t taken x old new tested.found tested.failed v.items of_setup.runs) (sym waiting_is) (subst (λ n. IsFound t taken x old new tested.found n made.waiting.items of_setup.runs) (sym failed_is) (subst (λ f. IsFound t taken x old new f made.failed made.waiting.items of_setup.runs) (sym found_is) of_setup.found))) in record {
           text = found.text_is;
           reports = record {
             testable = testable;
@@ -92,6 +94,7 @@ module _ (start : StartOf) (x : TestOptions) (listed : Option (List ℕ)) (json 
             counted = counts taken of_setup.runs of_setup.few of_setup.tallied.counted;
             reached = subst (λ v. HasReached t taken of_setup.runs v.items) (sym reached_is) of_setup.tallied.reached;
             positions_are = positions;
+            statements_are = statements;
             notes_are = notes ∙ ap (λ z. notes_of tested.found z.contexts tested.counts) setup;
             options_are = options;
             json_is = form;

@@ -6,6 +6,7 @@ pub mod Confirms
 pub mod Drives
 pub mod Ends
 pub mod Explanations
+pub mod Failures
 pub mod FaultObjects
 pub mod FaultTable
 pub mod Faults

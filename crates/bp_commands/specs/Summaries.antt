@@ -6,15 +6,13 @@ use Rattle.bp_test.specs.declared.counts.Counts.{Counts}
 use Rattle.bp_test.specs.declared.testing.Found.{Found}
 use Rattle.bp_test.specs.declared.testing.Found.TheVariants.{Nothing, Failed, Deadlock}
 use Rattle.bp_commands.specs.declared.testing.Tested.{Tested}
+use Rattle.bp_commands.specs.Failures.{failure_of, failure_text, statement_of}
 use Rattle.bp_commands.specs.Notes.{notes_text}
 use Rattle.bp_commands.specs.Waits.{waits_text}
 
 abbrev pub found_words : List ℕ → (run runs : ℕ) → List ℕ
 found_words words run runs =
     concat (words ∷ codes " in run " ∷ decimal run ∷ codes " of " ∷ decimal runs ∷ [])
-
-abbrev pub failure_text : (run runs : ℕ) → List ℕ
-failure_text run runs = found_words (codes "an assertion failed") run runs ++ codes "\n"
 
 -- a deadlock in a run of this test, and where its threads wait
 abbrev pub deadlock_text : Tested → (run : ℕ) → List ℕ
@@ -33,7 +31,9 @@ nothing_words true = codes "no assertion failed and no deadlock"
 -- the first line: what was found
 abbrev pub finding_text : Tested → Found → List ℕ
 finding_text x Nothing = nothing_text (nothing_words x.options.with_deadlock) x.options.runs
-finding_text x (Failed run report) = failure_text run x.options.runs
+finding_text x (Failed run report) =
+    let failure = failure_of x in
+    failure_text failure (statement_of x.statements.items failure) run x.options.runs
 finding_text x (Deadlock run report) = deadlock_text x run
 
 -- how many runs were made, how they ended, and what they reached

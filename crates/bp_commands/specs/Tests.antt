@@ -3,6 +3,7 @@ use Rattle.std.specs.Prelude.{if◌then◌else◌, ◌≡◌, ◌⊎◌, ℕ, Bo
 use Rattle.std.specs.Borrow.{Bor}
 use Rattle.bp_tree.specs.Ast.{Program}
 use Rattle.bp_code.specs.LawfulTexts.{IsLawfulText}
+use Rattle.bp_code.specs.StandsFor.{places_of}
 use Rattle.bp_machine.specs.declared.reports.Report.{Report}
 use Rattle.bp_machine.specs.declared.setup_faults.SetupFault.{SetupFault}
 use Rattle.bp_machine.specs.Setups.{setup_fault, IsSetupRefusal}
@@ -13,6 +14,7 @@ use Rattle.bp_test.specs.declared.testing.Found.TheVariants.{Nothing, Failed, De
 use Rattle.bp_test.specs.Counts.{AreCounts}
 use Rattle.bp_test.specs.Tallies.{MadeRun, HasReached}
 use Rattle.bp_test.specs.Tests.{IsFound, IsSought, IsWrittenRun}
+use Rattle.bp_view.specs.Scenes.{AreStatements}
 use Rattle.bp_view.specs.StatementLines.{positions_of, AreStatementLines}
 use Rattle.bp_view.specs.Unreached.{AreUnreachedObjects}
 use Rattle.bp_commands.specs.declared.faults.Fault.{Fault}
@@ -80,7 +82,8 @@ module _
     pub found :
         let t = testable.program in
         let waiting = tested.waiting.items in
-        IsFound t (setup_from start None t) x (Some []) (Some written) tested.found waiting runs
+        IsFound t (setup_from start None t) x (Some []) (Some written) tested.found tested.failed waiting
+        runs
     pub counted :
         let t = testable.program in
         AreCounts (setup_from start None t) runs tested.counts
@@ -88,6 +91,9 @@ module _
         let t = testable.program in
         HasReached t (setup_from start None t) runs tested.reached.items
     pub positions_are : tested.positions.items ≡ positions_of text testable.program
+    pub statements_are :
+        let statements = map (λ v. v.items) tested.statements.items in
+        AreStatements text (places_of testable.program.procedures) statements
     pub notes_are : tested.notes ≡ notes_of tested.found start.contexts tested.counts
     pub options_are : tested.options ≡ x
     pub json_is : tested.json ≡ json

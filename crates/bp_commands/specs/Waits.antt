@@ -5,9 +5,13 @@ use Rattle.bp_test.specs.declared.waiting.Waiting.{Waiting}
 use Rattle.bp_text.specs.Pieces.{key_text, number_or_null}
 use Rattle.bp_text.specs.declared.positions.Position.{Position}
 
--- where the statement begins at which a thread waits, where those of the instructions begin there
+-- where the statement of an instruction begins, where those of all begin there
+abbrev pub position_of : List (Option Position) → (number : ℕ) → Option Position
+position_of positions number = slice_index_or positions number None
+
+-- that of the statement at which a thread waits
 abbrev pub position_of_wait : List (Option Position) → Waiting → Option Position
-position_of_wait positions x = slice_index_or positions x.number None
+position_of_wait positions x = position_of positions x.number
 
 -- a thread that waits, after these words, and where
 abbrev pub wait_text : (before verb : List ℕ) → (thread : ℕ) → Option Position → List ℕ

@@ -11,6 +11,7 @@ mod confirming;
 mod driving;
 mod ends;
 mod explanations;
+mod failures;
 mod fault_formats;
 mod fault_lines;
 mod fault_objects;

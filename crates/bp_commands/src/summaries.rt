@@ -1,9 +1,10 @@
 //! The summary of a test: what was found, and how well the program was tested.
 ghost use Rattle.std.specs.Prelude.{◌≡◌};
 ghost use Rattle.bp_text.specs.Writing.{Writes};
-ghost use Rattle.bp_commands.specs.Summaries.{counts_text, deadlock_text, failure_text, finding_text, found_words};
+ghost use Rattle.bp_commands.specs.Summaries.{counts_text, deadlock_text, finding_text, found_words};
 ghost use Rattle.bp_commands.specs.Summaries.{line_unless, nothing_text, nothing_words, summary_text, unreached_text};
 
+use crate::failures::{failure_of, put_failure, statement_of};
 use crate::notes::put_notes;
 use crate::testing::Tested;
 use crate::waits::put_waits;
@@ -27,15 +28,6 @@ fn put_found<W: Write>(words: &[u8], run: u64, runs: u64, out: &mut W) -> Result
             Number(runs),
         ],
     )
-}
-
-/// Writes that a failure was found in one of this many runs.
-fn put_failure<W: Write>(run: u64, runs: u64, out: &mut W) -> Result<(), WriteFault>
-    ensures { let text = failure_text run runs in
-        Writes (W.contents out.old) (W.contents out.new) text result }
-{
-    put_found(b"an assertion failed", run, runs, out)?;
-    put(out, b"\n")
 }
 
 /// Writes that a deadlock was found in a run of this test, and where its threads wait.
@@ -83,7 +75,11 @@ fn put_finding<W: Write>(tested: &Tested, out: &mut W) -> Result<(), WriteFault>
     let runs = tested.options.runs;
     match tested.found {
         Found::Nothing => put_nothing(nothing_words(tested.options.with_deadlock), runs, out),
-        Found::Failed { run, .. } => put_failure(run, runs, out),
+        Found::Failed { run, .. } => {
+            let failure = failure_of(tested);
+            let statement = statement_of(tested.statements.as_slice(), failure);
+            put_failure(failure, statement, run, runs, out)
+        }
         Found::Deadlock { run, .. } => put_deadlock(tested, run, out),
     }
 }

@@ -13,7 +13,7 @@ use bp_check::Checked;
 use bp_machine::Start;
 use bp_test::{Counts, Found, Progress, TestOptions, Waiting, test};
 use bp_text::{Position, WriteFault};
-use bp_view::{statement_lines, statement_positions, unreached_objects};
+use bp_view::{statement_lines, statement_positions, statement_texts, unreached_objects};
 use std::alloc::{AllocError, Global};
 use std::io::Write;
 use std::thread::Threads;
@@ -42,10 +42,14 @@ pub struct Tested {
     /// What was asked for.
     pub options: TestOptions,
     pub found: Found,
+    /// The number of the instruction whose assertion failed in the run that was found, where one did.
+    pub failed: Option<u32>,
     /// The threads that wait at the end of the run that was found.
     pub waiting: Vec<Waiting>,
     /// Where the statements of the instructions begin.
     pub positions: Vec<Option<Position>>,
+    /// The texts of the statements of the instructions.
+    pub statements: Vec<Vec<u8>>,
     pub counts: Counts,
     /// Where that may mislead.
     pub notes: Notes,
@@ -109,6 +113,7 @@ impl<R: Threads + Sync, P: Progress> ProgramCommand for Test<'_, R, P> {
         let setup = self.start.setup(alloc, &code, None)?;
         let lines = lines_of(alloc, self.json, self.listed, text, &checked)?;
         let positions = statement_positions(alloc, text, &checked)?;
+        let statements = statement_texts(alloc, text, &checked)?;
         let options = self.options;
         let (runtime, progress) = (self.runtime, self.progress);
         let tested = test(runtime, alloc, &code, &setup, &options, progress, out)?;
@@ -117,8 +122,10 @@ impl<R: Threads + Sync, P: Progress> ProgramCommand for Test<'_, R, P> {
         Ok(Tested {
             options,
             found: tested.found,
+            failed: tested.failed,
             waiting: tested.waiting,
             positions,
+            statements,
             counts,
             notes,
             lines,

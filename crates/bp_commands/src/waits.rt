@@ -1,7 +1,7 @@
 //! Which threads wait at the end of a run, and where. They are written without memory.
 ghost use Rattle.std.specs.Prelude.{◌≡◌, [], codes, option_map};
 ghost use Rattle.bp_text.specs.Writing.{Writes};
-ghost use Rattle.bp_commands.specs.Waits.{position_of_wait, wait_object, wait_objects, wait_text};
+ghost use Rattle.bp_commands.specs.Waits.{position_of, position_of_wait, wait_object, wait_objects, wait_text};
 ghost use Rattle.bp_commands.specs.Waits.{waits_member, waits_text};
 
 use bp_test::Waiting;
@@ -9,14 +9,21 @@ use bp_text::Piece::{Bytes, Key, Number, NumberOrNull};
 use bp_text::{Position, WriteFault, put, put_pieces};
 use std::io::Write;
 
-/// Where the statement begins at which a thread waits, where those of the instructions begin there.
-fn position_of_wait(positions: &[Option<Position>], wait: Waiting) -> Option<Position>
-    ensures { result ≡ position_of_wait positions.now wait }
+/// Where the statement of an instruction begins, where those of all begin there.
+pub(crate) fn position_of(positions: &[Option<Position>], number: u32) -> Option<Position>
+    ensures { result ≡ position_of positions.now number }
 {
-    match positions.get(wait.number as usize) {
+    match positions.get(number as usize) {
         Some(position) => *position,
         None => None,
     }
+}
+
+/// Where the statement begins at which a thread waits.
+fn position_of_wait(positions: &[Option<Position>], wait: Waiting) -> Option<Position>
+    ensures { result ≡ position_of_wait positions.now wait }
+{
+    position_of(positions, wait.number)
 }
 
 /// Writes a thread that waits, after these words, and where.

@@ -1,5 +1,6 @@
 -- What the first found run of some runs says of more of them, and of a test.
 use Rattle.std.proofs.Common.{◌≡◌, ℕ, suc, ◌+◌, ◌<◌, ◌≤◌, ◌^◌, Bool, true, List, [], ◌∷◌, ◌++◌, length, length-append, append_assoc, Option, None, Some, refl, ap, sym, ◌∙◌, subst, arith, inl, inr}
+use Rattle.std.specs.Prelude.{MatchOption}
 use Rattle.std.proofs.lemmas.List.{length_push}
 use Rattle.bp_tree.specs.Ast.{Program}
 use Rattle.bp_machine.specs.declared.calls.Call.{Call}
@@ -11,8 +12,9 @@ use Rattle.bp_text.specs.Writing.{AppendsAll, AppendsPart}
 use Rattle.bp_trace.specs.TraceText.{trace_text}
 use Rattle.bp_test.specs.declared.blocks.FoundRun.{FoundRun}
 use Rattle.bp_test.specs.declared.options.TestOptions.{TestOptions}
+use Rattle.bp_test.specs.Failing.{FailsAt}
 use Rattle.bp_test.specs.Tallies.{MadeRun}
-use Rattle.bp_test.specs.Tests.{setup_of_run, found_by, found_in, IsDeadlock, IsCleanRun, AreCleanRuns, IsFirstFound, IsFoundRun, IsWrittenRun, IsFound, IsCutRun, Wait}
+use Rattle.bp_test.specs.Tests.{setup_of_run, found_by, found_in, IsDeadlock, IsCleanRun, AreCleanRuns, IsFirstFound, IsFoundRun, IsWrittenRun, IsFound, IsCutRun, HasFailed, Wait}
 
 module _ (t : Program) (s : SetupOf) (with_deadlock : Bool) (seed : ℕ) where
   -- runs and those after them
@@ -96,14 +98,26 @@ module _ (t : Program) (s : SetupOf) (x : TestOptions) (f : FoundRun) (runs : Li
   own_outcome : f.report.outcome ≡ outcome_of f.history.items
   own_outcome = first.found.made.report.outcome
 
-  found_as : (o : Outcome) → f.report.outcome ≡ o → AppendsAll old new (trace_text z f.history.items) → IsFound t s x old new (found_by f.run f.report o) f.waiting.items runs
-  found_as (Failed i) e written = written_run (λ y h. (is_failure (outcome_of h) ≡ true) × Wait t y h f.waiting.items) (ap is_failure (sym own_outcome ∙ e), first.waiting) written
+  -- at which instruction it fails, if it does
+  abbrev At : Option ℕ → Type 0
+  At number = MatchOption number (outcome_of f.history.items ≡ Clean) (FailsAt t (setup_of_run s x.seed f.run) f.history.items)
+
+  failed_at : (number : Option ℕ) → At number → is_failure (outcome_of f.history.items) ≡ true → HasFailed t (setup_of_run s x.seed f.run) f.history.items number
+  failed_at None clean fails = let a = sym (ap is_failure clean) ∙ fails in cc
+  failed_at (Some n) at fails = (fails, at)
+
+  failed_nowhere : (number : Option ℕ) → At number → outcome_of f.history.items ≡ Clean → number ≡ None
+  failed_nowhere None at clean = refl
+  failed_nowhere (Some n) at clean = absurd (let a = sym (ap is_failure clean) ∙ ap is_failure at.failed in cc)
+
+  found_as : (o : Outcome) → f.report.outcome ≡ o → AppendsAll old new (trace_text z f.history.items) → IsFound t s x old new (found_by f.run f.report o) f.number f.waiting.items runs
+  found_as (Failed i) e written = written_run (λ y h. HasFailed t y h f.number × Wait t y h f.waiting.items) (failed_at f.number first.at (ap is_failure (sym own_outcome ∙ e)), first.waiting) written
   found_as Clean e written = let clean : outcome_of f.history.items ≡ Clean = sym own_outcome ∙ e in elim first.found.sought [
     | inl fails ↦ absurd (let a = sym (ap is_failure clean) ∙ fails in cc)
-    | inr dead ↦ (dead.0, written_run (λ y h. IsDeadlock t y h × Wait t y h f.waiting.items) (dead.1, first.waiting) written)
+    | inr dead ↦ (dead.0, failed_nowhere f.number first.at clean, written_run (λ y h. IsDeadlock t y h × Wait t y h f.waiting.items) (dead.1, first.waiting) written)
   ]
 
-  pub found_of_run : AppendsAll old new (trace_text z f.history.items) → IsFound t s x old new (found_in f.run f.report) f.waiting.items runs
+  pub found_of_run : AppendsAll old new (trace_text z f.history.items) → IsFound t s x old new (found_in f.run f.report) f.number f.waiting.items runs
   found_of_run written = found_as f.report.outcome refl written
 
   pub cut_run : AppendsPart old new (trace_text z f.history.items) → IsCutRun t s x old new

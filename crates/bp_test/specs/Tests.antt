@@ -128,6 +128,11 @@ found_by run r Clean = found.Deadlock run r
 abbrev pub found_in : ℕ → Report → Found
 found_in run r = found_by run r r.outcome
 
+-- an assertion failed, at the instruction of this number
+abbrev pub HasFailed : Program → SetupOf → List Call → Option ℕ → Type 0
+HasFailed t s h None = ⊥
+HasFailed t s h (Some number) = (is_failure (outcome_of h) ≡ true) × FailsAt t s h number
+
 -- the bytes of the writer before and after the test
 module _ (t : Program) (s : SetupOf) (x : TestOptions) (old new : Option (List ℕ)) where
   -- the first run that the test looks for, of which this holds, after these others; its trace was
@@ -147,24 +152,27 @@ module _ (t : Program) (s : SetupOf) (x : TestOptions) (old new : Option (List �
     pub holds : Holds (setup_of_run s x.seed run) history
     pub written : AppendsAll old new (trace_text (setup_of_run s x.seed run) history)
 
-  -- what was found, the threads that wait then, and the runs up to it
-  abbrev pub IsFound : Found → List Waiting → List MadeRun → Type 0
-  IsFound found.Nothing waiting runs =
+  -- what was found, at which instruction an assertion failed, if one did, the threads that wait
+  -- then, and the runs up to it
+  abbrev pub IsFound : Found → Option ℕ → List Waiting → List MadeRun → Type 0
+  IsFound found.Nothing failed waiting runs =
       (new ≡ old)
+      × (failed ≡ None)
       × (waiting ≡ [])
       × (length runs ≡ x.runs)
       × AreCleanRuns t s x.with_deadlock x.seed 0 runs
-  IsFound (found.Failed run report) waiting runs =
-      IsWrittenRun (λ z h. (is_failure (outcome_of h) ≡ true) × Wait t z h waiting) run report runs
-  IsFound (found.Deadlock run report) waiting runs =
+  IsFound (found.Failed run report) failed waiting runs =
+      IsWrittenRun (λ z h. HasFailed t z h failed × Wait t z h waiting) run report runs
+  IsFound (found.Deadlock run report) failed waiting runs =
       (x.with_deadlock ≡ true)
+      × (failed ≡ None)
       × IsWrittenRun (λ z h. IsDeadlock t z h × Wait t z h waiting) run report runs
 
   -- what was found, and the tally of the runs up to it, that one included
   pub record IsTest (tested : Tested) : Type 0 where
     pub runs : List MadeRun
     pub few : length runs < 2 ^ 64
-    pub found : IsFound tested.found tested.waiting.items runs
+    pub found : IsFound tested.found tested.failed tested.waiting.items runs
     pub tallied : IsTally t s runs tested.tally
 
   -- a proper prefix of the trace of the first run that the test looks for was written

@@ -37,6 +37,8 @@ pub enum Found {
 #[derive(Drop)]
 pub struct Tested {
     pub found: Found,
+    /// The number of the instruction whose assertion failed in the run that was found, where one did.
+    pub failed: Option<u32>,
     /// The threads that wait at the end of the run that was found, in ascending order.
     pub waiting: Vec<Waiting>,
     pub tally: Tally,
@@ -82,6 +84,7 @@ pub fn test<R: Threads + Sync, P: Progress, W: Write>(
     let Some(found) = found else {
         return Ok(Tested {
             found: Found::Nothing,
+            failed: None,
             waiting: Vec::new(alloc),
             tally,
         });
@@ -91,6 +94,7 @@ pub fn test<R: Threads + Sync, P: Progress, W: Write>(
     write_trace(&setup, found.history.as_slice(), out)?;
     Ok(Tested {
         found: found_in(found.run, found.report),
+        failed: found.number,
         waiting: found.waiting,
         tally,
     })

@@ -55,7 +55,7 @@ pub use laws::{
 pub use listings::sourced_listing;
 pub use options::{ViewFormat, ViewOptions};
 pub use programs::program_object;
-pub use statements::{statement_lines, statement_positions};
+pub use statements::{statement_lines, statement_positions, statement_texts};
 pub use states::state_at;
 pub use unreached::unreached_objects;
 pub use views::view;

@@ -1,5 +1,7 @@
-//! The statements of a program, a line each, and where they begin.
+//! The statements of a program: a line each, their texts, and where they begin.
 ghost use Rattle.std.specs.Prelude.{◌≡◌, map, IfOk};
+ghost use Rattle.bp_code.specs.StandsFor.{places_of};
+ghost use Rattle.bp_view.specs.Scenes.{AreStatements};
 ghost use Rattle.bp_view.specs.StatementLines.{line_of_scene, positions_of, AreStatementLines};
 
 use crate::scenes::{Scene, scenes_of};
@@ -60,4 +62,32 @@ pub fn statement_positions(
         positions.push(scene.position)?;
     }
     Ok(positions)
+}
+
+/// The text of an instruction's statement.
+fn words_of(alloc: Global, scene: &Scene) -> Result<Vec<u8>, AllocError>
+    ensures { IfOk result (λ v. v.items ≡ scene.now.excerpt.words.items) }
+{
+    let mut words = Vec::new(alloc);
+    push_bytes(&mut words, &scene.excerpt.words)?;
+    Ok(words)
+}
+
+/// The text of each instruction's statement in the program of a text, on one line. At the end of a
+/// procedure it says that.
+pub fn statement_texts(
+    alloc: Global,
+    text: &[u8],
+    checked: &Checked,
+) -> Result<Vec<Vec<u8>>, AllocError>
+    ensures { IfOk result (λ v.
+        let texts = map (λ words. words.items) v.items in
+        AreStatements text.now (places_of checked.now.procedures) texts) }
+{
+    let scenes = scenes_of(alloc, text, checked)?;
+    let mut texts = Vec::with_capacity(alloc, scenes.len())?;
+    for scene in scenes.iter() {
+        texts.push(words_of(alloc, scene)?)?;
+    }
+    Ok(texts)
 }

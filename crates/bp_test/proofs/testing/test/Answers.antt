@@ -11,7 +11,7 @@ returns-in_default g c = λ t is.
     record {
       runs = found.runs;
       few = (let size = first.0 in omega (arith, size));
-      found = (refl, c.new-in_default.ensures.items, (let size = first.0 in omega (arith, size)), first.1);
+      found = (refl, refl, c.new-in_default.ensures.items, (let size = first.0 in omega (arith, size)), first.1);
       tallied = found.tallied;
     }
 

@@ -26,6 +26,14 @@ returns-in_err-positions g c =
     let out = g.W.Write.contents c.args.out.now in
     rw (p.1, p.2) (lacks_memory c.args.self.now.start.now c.args.self.now.options _ c.args.self.now.json c.args.text.now c.in_ok-checked.checked of.0 _ setup.0 setup.1 out out out)
 
+pub returns-in_err-statements : goal.returns-in_err-statements
+returns-in_err-statements g c =
+    let p = err_from_is_err_and c.from_residual-in_err-statements.result c.from_residual-in_err-statements.ensures.1 in
+    let of = c.in_ok-checked.ensures in
+    let setup = c.in_ok-setup.ensures.answer c.in_ok-checked.checked of.1 in
+    let out = g.W.Write.contents c.args.out.now in
+    rw (p.1, p.2) (lacks_memory c.args.self.now.start.now c.args.self.now.options _ c.args.self.now.json c.args.text.now c.in_ok-checked.checked of.0 _ setup.0 setup.1 out out out)
+
 pub returns-in_err-tested : goal.returns-in_err-tested
 returns-in_err-tested g c =
     let p = err_from_is_err_and c.from_residual-in_err-tested.result c.from_residual-in_err-tested.ensures.1 in
@@ -39,4 +47,4 @@ returns g c =
     let of = c.in_ok-checked.ensures in
     let setup = c.in_ok-setup.ensures.answer c.in_ok-checked.checked of.1 in
     done c.args.self.now.start.now c.args.self.now.options _ c.args.self.now.json c.args.text.now c.in_ok-checked.checked of.0 _ setup.0 setup.1 _ _
-    c.in_ok-tested.tested (c.in_ok-tested.ensures c.in_ok-checked.checked of.1) _ refl refl c.in_ok-positions.ensures refl c.counts-counts.ensures (rw c.contexts.ensures at c.notes_of-notes.ensures) refl refl c.in_ok-lines.ensures
+    c.in_ok-tested.tested (c.in_ok-tested.ensures c.in_ok-checked.checked of.1) _ refl refl refl c.in_ok-positions.ensures c.in_ok-statements.ensures refl c.counts-counts.ensures (rw c.contexts.ensures at c.notes_of-notes.ensures) refl refl c.in_ok-lines.ensures
