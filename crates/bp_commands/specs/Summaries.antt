@@ -6,7 +6,7 @@ use Rattle.bp_test.specs.declared.counts.Counts.{Counts}
 use Rattle.bp_test.specs.declared.testing.Found.{Found}
 use Rattle.bp_test.specs.declared.testing.Found.TheVariants.{Nothing, Failed, Deadlock}
 use Rattle.bp_commands.specs.declared.testing.Tested.{Tested}
-use Rattle.bp_commands.specs.Failures.{failure_of, failure_text, statement_of}
+use Rattle.bp_commands.specs.Failures.{failed_assertion, failure_text, statement_of}
 use Rattle.bp_commands.specs.Notes.{notes_text}
 use Rattle.bp_commands.specs.Waits.{waits_text}
 
@@ -32,7 +32,7 @@ nothing_words true = codes "no assertion failed and no deadlock"
 abbrev pub finding_text : Tested → Found → List ℕ
 finding_text x Nothing = nothing_text (nothing_words x.options.with_deadlock) x.options.runs
 finding_text x (Failed run report) =
-    let failure = failure_of x in
+    let failure = failed_assertion x in
     failure_text failure (statement_of x.statements.items failure) run x.options.runs
 finding_text x (Deadlock run report) = deadlock_text x run
 

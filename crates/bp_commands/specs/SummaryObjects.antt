@@ -8,7 +8,7 @@ use Rattle.bp_test.specs.declared.testing.Found.TheVariants.{Nothing, Failed, De
 use Rattle.bp_text.specs.JsonStrings.{string_text}
 use Rattle.bp_text.specs.Pieces.{key_text, number_or_null}
 use Rattle.bp_commands.specs.declared.testing.Tested.{Tested}
-use Rattle.bp_commands.specs.Failures.{failure_member, failure_of, statement_of}
+use Rattle.bp_commands.specs.Failures.{failure_member, failed_assertion, statement_of}
 use Rattle.bp_commands.specs.Notes.{notes_members}
 use Rattle.bp_commands.specs.Summaries.{unreached_text}
 use Rattle.bp_commands.specs.Waits.{waits_member}
@@ -58,7 +58,7 @@ counts_members x =
 
 abbrev pub summary_object : Tested → List ℕ
 summary_object x =
-    let failure = failure_of x in
+    let failure = failed_assertion x in
     finding_members x.found x.options.runs
     ++ (failure_member failure (statement_of x.statements.items failure)
     ++ (waits_member x.positions.items x.waiting.items

@@ -81,9 +81,9 @@ module _
     pub runs : List MadeRun
     pub found :
         let t = testable.program in
+        let s = setup_from start None t in
         let waiting = tested.waiting.items in
-        IsFound t (setup_from start None t) x (Some []) (Some written) tested.found tested.failed waiting
-        runs
+        IsFound t s x (Some []) (Some written) tested.found tested.failed waiting runs
     pub counted :
         let t = testable.program in
         AreCounts (setup_from start None t) runs tested.counts

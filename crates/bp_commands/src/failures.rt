@@ -1,7 +1,7 @@
 //! Which assertion failed in the run that a test found, and where. It is written without memory.
 ghost use Rattle.std.specs.Prelude.{◌≡◌};
 ghost use Rattle.bp_text.specs.Writing.{Writes};
-ghost use Rattle.bp_commands.specs.Failures.{failure_member, failure_of, failure_text, statement_of};
+ghost use Rattle.bp_commands.specs.Failures.{failure_member, failed_assertion, failure_text, statement_of};
 
 use crate::testing::Tested;
 use crate::waits::position_of;
@@ -13,7 +13,7 @@ use std::io::Write;
 
 /// An assertion that failed.
 #[derive(Clone, Copy)]
-pub(crate) struct Failure {
+pub(crate) struct FailedAssertion {
     pub(crate) thread: u32,
     /// The number of its instruction.
     pub(crate) number: u32,
@@ -22,8 +22,8 @@ pub(crate) struct Failure {
 }
 
 /// The assertion that failed, where one did.
-pub(crate) fn failure_of(tested: &Tested) -> Option<Failure>
-    ensures { result ≡ failure_of tested.now }
+pub(crate) fn failed_assertion(tested: &Tested) -> Option<FailedAssertion>
+    ensures { result ≡ failed_assertion tested.now }
 {
     let Found::Failed { report, .. } = tested.found else {
         return None;
@@ -33,7 +33,7 @@ pub(crate) fn failure_of(tested: &Tested) -> Option<Failure>
     };
     let number = tested.failed?;
     let position = position_of(tested.positions.as_slice(), number)?;
-    Some(Failure {
+    Some(FailedAssertion {
         thread,
         number,
         position,
@@ -41,7 +41,7 @@ pub(crate) fn failure_of(tested: &Tested) -> Option<Failure>
 }
 
 /// The text of its statement, among those of the instructions.
-pub(crate) fn statement_of(statements: &[Vec<u8>], failure: Option<Failure>) -> &[u8]
+pub(crate) fn statement_of(statements: &[Vec<u8>], failure: Option<FailedAssertion>) -> &[u8]
     ensures { result.now ≡ statement_of statements.now failure }
 {
     let Some(failure) = failure else {
@@ -55,7 +55,7 @@ pub(crate) fn statement_of(statements: &[Vec<u8>], failure: Option<Failure>) -> 
 
 /// Writes in which run of how many an assertion failed, and where that is.
 pub(crate) fn put_failure<'a, W: Write>(
-    failure: Option<Failure>,
+    failure: Option<FailedAssertion>,
     statement: &'a [u8],
     run: u64,
     runs: u64,
@@ -98,7 +98,7 @@ pub(crate) fn put_failure<'a, W: Write>(
 
 /// Writes the member of an object with the assertion that failed.
 pub(crate) fn put_failure_member<'a, W: Write>(
-    failure: Option<Failure>,
+    failure: Option<FailedAssertion>,
     statement: &'a [u8],
     out: &mut W,
 ) -> Result<(), WriteFault>

@@ -4,7 +4,7 @@ ghost use Rattle.bp_text.specs.Writing.{Writes};
 ghost use Rattle.bp_commands.specs.Summaries.{counts_text, deadlock_text, finding_text, found_words};
 ghost use Rattle.bp_commands.specs.Summaries.{line_unless, nothing_text, nothing_words, summary_text, unreached_text};
 
-use crate::failures::{failure_of, put_failure, statement_of};
+use crate::failures::{failed_assertion, put_failure, statement_of};
 use crate::notes::put_notes;
 use crate::testing::Tested;
 use crate::waits::put_waits;
@@ -76,7 +76,7 @@ fn put_finding<W: Write>(tested: &Tested, out: &mut W) -> Result<(), WriteFault>
     match tested.found {
         Found::Nothing => put_nothing(nothing_words(tested.options.with_deadlock), runs, out),
         Found::Failed { run, .. } => {
-            let failure = failure_of(tested);
+            let failure = failed_assertion(tested);
             let statement = statement_of(tested.statements.as_slice(), failure);
             put_failure(failure, statement, run, runs, out)
         }

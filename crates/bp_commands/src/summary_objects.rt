@@ -4,7 +4,7 @@ ghost use Rattle.std.specs.Prelude.{◌≡◌};
 ghost use Rattle.bp_text.specs.Writing.{Writes};
 ghost use Rattle.bp_commands.specs.SummaryObjects.{counts_members, finding_members, found_name, found_run, summary_object, summary_objects};
 
-use crate::failures::{failure_of, put_failure_member, statement_of};
+use crate::failures::{failed_assertion, put_failure_member, statement_of};
 use crate::notes::put_notes_members;
 use crate::summaries::put_unreached;
 use crate::testing::Tested;
@@ -107,7 +107,7 @@ fn put_summary_object<W: Write>(tested: &Tested, out: &mut W) -> Result<(), Writ
         Writes (W.contents out.old) (W.contents out.new) text result }
 {
     put_finding_members(tested.found, tested.options.runs, out)?;
-    let failure = failure_of(tested);
+    let failure = failed_assertion(tested);
     let statement = statement_of(tested.statements.as_slice(), failure);
     put_failure_member(failure, statement, out)?;
     put_waits_member(tested.positions.as_slice(), tested.waiting.as_slice(), out)?;

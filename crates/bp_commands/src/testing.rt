@@ -42,7 +42,7 @@ pub struct Tested {
     /// What was asked for.
     pub options: TestOptions,
     pub found: Found,
-    /// The number of the instruction whose assertion failed in the run that was found, where one did.
+    /// The instruction whose assertion failed in the run that was found, where one did.
     pub failed: Option<u32>,
     /// The threads that wait at the end of the run that was found.
     pub waiting: Vec<Waiting>,

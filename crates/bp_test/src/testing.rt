@@ -37,7 +37,7 @@ pub enum Found {
 #[derive(Drop)]
 pub struct Tested {
     pub found: Found,
-    /// The number of the instruction whose assertion failed in the run that was found, where one did.
+    /// The instruction whose assertion failed in the run that was found, where one did.
     pub failed: Option<u32>,
     /// The threads that wait at the end of the run that was found, in ascending order.
     pub waiting: Vec<Waiting>,
