@@ -35,7 +35,8 @@ def section(text, heading):
 
 def options(text):
     """The long options that a help text lists."""
-    return {name for line in section(text, "Options") for name in re.findall(r"^ +(?:-\w, )?--([\w-]+)", line)}
+    lines = [*section(text, "Options"), *section(text, "Advanced")]
+    return {name for line in lines for name in re.findall(r"^ +(?:-\w, )?--([\w-]+)", line)}
 
 
 def helps(program):

@@ -120,17 +120,19 @@ confirm_app =
     ∷ flag_rule (codes "json")
     ∷ [])
 
--- `run FILE [ENTRY].. [--seed N] [--contexts N] [--calls N] [--turn N] [--init BITS] [--ring N]
+-- `run FILE [ENTRY].. [--seed N] [--contexts N] [--calls N] [--init BITS] [--turn N] [--ring N]
 -- [--spread] [--explain] [--no-explain]`
 abbrev pub run_app : App
 run_app =
+    with_rules (
     with_rules (file_app (codes "run")) (
     values_rule (codes "ENTRY")
     ∷ long_number_rule (codes "seed")
     ∷ number_rule (codes "contexts")
     ∷ number_rule (codes "calls")
-    ∷ number_rule (codes "turn")
     ∷ option_rule (codes "init")
+    ∷ [])) (
+    number_rule (codes "turn")
     ∷ number_rule (codes "ring")
     ∷ flag_rule (codes "spread")
     ∷ [])

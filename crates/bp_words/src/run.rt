@@ -68,14 +68,16 @@ pub fn run_command<'a>(alloc: Global) -> Result<Command<'a>, AllocError>
             help: "Allow each thread N calls [default: 1000]",
         },
         Row {
-            name: "turn",
-            takes: Takes::Number,
-            help: "Let a worker make N calls in a turn, 1 to 64 [default: 1]",
-        },
-        Row {
             name: "init",
             takes: Takes::Text("BITS"),
             help: "Set the initial bits of the globals, each 0 or 1 [default: all 0]",
+        },
+    ];
+    let advanced = [
+        Row {
+            name: "turn",
+            takes: Takes::Number,
+            help: "Let a worker make N calls in a turn, 1 to 64 [default: 1]",
         },
         Row {
             name: "ring",
@@ -89,7 +91,8 @@ pub fn run_command<'a>(alloc: Global) -> Result<Command<'a>, AllocError>
         },
     ];
     let command = file_command(alloc, "run", ABOUT, NOTES)?;
-    with_rows(alloc, command, &rows)
+    let command = with_rows(alloc, command, &rows)?;
+    with_rows(alloc, command.next_help_heading("Advanced"), &advanced)
 }
 
 /// What the words after `run` ask for.
