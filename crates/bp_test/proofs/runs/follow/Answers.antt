@@ -1,4 +1,4 @@
-use Rattle.std.proofs.Common.{◌∙◌, sym, subst, inr}
+use Rattle.std.proofs.Common.{rules, ◌∙◌, sym, subst, inr}
 use Rattle.bp_code.specs.Programs.{IsOfProgram}
 use Rattle.bp_code.specs.StandsFor.{StandsFor}
 use Rattle.bp_test.proofs.Playing.{smaller}
@@ -35,3 +35,6 @@ loop-thread-preserved c = record {
       (c.next_number-number.ensures t c.loop-thread.history.items was (c.loop-thread.invariant.stands t was))
       c.reach.ensures (c.loop-thread.invariant.marks t was);
 }
+
+pub returns-then-eq-clause-over : goal.returns-then-eq-clause-over
+returns-then-eq-clause-over c = search rules depth 1

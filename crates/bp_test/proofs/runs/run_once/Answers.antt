@@ -1,4 +1,4 @@
-use Rattle.std.proofs.Common.{subst}
+use Rattle.std.proofs.Common.{rules, subst}
 use Rattle.bp_code.specs.Programs.{IsOfProgram}
 use Rattle.bp_test.specs.Reached.{place_of, IsTried, IsWaitedAt}
 use Rattle.bp_test.proofs.MarkLemmas.{more_marks}
@@ -13,3 +13,6 @@ returns-clause-marks c = λ t is.
     let h = c.follow.new.history.items in
     more_marks (place_of t) (IsTried t s h) (IsWaitedAt t s h) c.args.reached.now.items c.follow.new.reached.items (c.in_ok-follow.ensures.marks t is) c.reach_waiting.new.reached.items
     (c.reach_waiting.ensures t h is (c.in_ok-follow.ensures.stands t is))
+
+pub returns-clause-setup : goal.returns-clause-setup
+returns-clause-setup c = search rules depth 1

@@ -1,3 +1,4 @@
+use Rattle.std.proofs.Common.{rules}
 use denote.Param.Send.{sendable}
 use Rattle.std.proofs.Crossing.{crosses}
 use Rattle.bp_test.proofs.CodesShared.{code_sync, setup_sync, plan_sync}
@@ -5,3 +6,6 @@ use Rattle.bp_test.proofs.waves.wave.Goals as goal
 
 pub map_indices-requires-sync-F : goal.map_indices-requires-sync-F
 map_indices-requires-sync-F g c κs within = search (sendable, crosses, code_sync, setup_sync, plan_sync) depth 40 fits 10000
+
+pub returns-clause-blocks : goal.returns-clause-blocks
+returns-clause-blocks g c = search rules depth 1

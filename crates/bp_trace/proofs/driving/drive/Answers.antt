@@ -1,4 +1,4 @@
-use Rattle.std.proofs.Common.{◌∙◌, sym, subst}
+use Rattle.std.proofs.Common.{rules, ◌∙◌, sym, subst}
 use Rattle.std.proofs.lemmas.Result.{err_from_is_err_and}
 use Rattle.bp_code.specs.Programs.{IsOfProgram}
 use Rattle.bp_code.specs.StandsFor.{StandsFor}
@@ -25,3 +25,6 @@ returns-in_err-calls g c = λ t is.
     let is_kept = subst (λ k. StandsFor k t) (sym kept.0) is in
     let refused = c.in_err-calls.ensures.refused t (g.W.Write.contents c.args.out.now) is_kept in
     rw (p.1, p.2) (rw kept.1 at refused)
+
+pub returns-then-schedule-gt-MAX_SCHEDULE : goal.returns-then-schedule-gt-MAX_SCHEDULE
+returns-then-schedule-gt-MAX_SCHEDULE g c = search rules depth 1

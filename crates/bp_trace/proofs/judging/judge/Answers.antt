@@ -14,3 +14,6 @@ returns-in_err-matched-clause-refused g c = λ t h is stands same.
     let made : c.len-made.result ≡ length h = c.len-made.ensures ∙ sym len ∙ ap length (sym same) in
     let other = subst (λ k. IsMismatch own x c.args.n k c.in_err-matched.field-0.0) made c.in_err-matched.ensures.other in
     rw (p.1, p.2) (other_call_refused t c.args.session.now.setup h c.args.n x own next c.in_err-matched.field-0.0 other)
+
+pub returns-clause-printed : goal.returns-clause-printed
+returns-clause-printed g c = search rules depth 1

@@ -1,4 +1,4 @@
-use Rattle.std.proofs.Common.{◌∙◌, ◌&&◌, ap, sym, true, false}
+use Rattle.std.proofs.Common.{rules, ◌∙◌, ◌&&◌, ap, sym, true, false}
 use Rattle.std.specs.Prelude.{slice_get}
 use Rattle.bp_machine.specs.Answers.{reply_on_stack}
 use Rattle.bp_machine.specs.Histories.{configuration_after}
@@ -13,3 +13,6 @@ returns-in_default c = λ t h is stands.
     let none = c.in_default.ensures ∙ ap (λ y. slice_get y.machine.state.threads c.args.thread) c.self.view_is in
     let gone = no_stack t x.setup x.machine.state h stands.state c.args.thread none in
     sym (ap (λ fs. is_blocked (reply_on_stack t true globals fs false) && is_blocked (reply_on_stack t true globals fs true)) gone)
+
+pub returns-then-finds_zero : goal.returns-then-finds_zero
+returns-then-finds_zero c = search rules depth 1
