@@ -3,7 +3,7 @@ ghost use Rattle.std.specs.Prelude.{◌≡◌, true, is_some};
 ghost use Rattle.bp_machine.specs.Setups.{threads, FitsCode};
 ghost use Rattle.bp_board.specs.Kits.{IsNamed};
 
-use super::ready::{CALLS, code, kit, setup, tell, wants};
+use super::ready::{calls, code, kit, setup, tell, wants};
 use bp_board::{Board, Calls, Desk, Kit, Seat, Tap};
 use bp_code::Code;
 use bp_machine::{AskFault, Call, Setup};
@@ -250,9 +250,9 @@ fn are_alike<R: Wait + Clock>(
     Ok(one || two)
 }
 
-/// Whether something was refused, and the calls of `CALLS` are those without a refusal.
+/// Whether something was refused, and the calls of the program that calls itself are those without a refusal.
 fn calls_alike<R: Wait + Clock>(rt: &R, alloc: Global, way: Way) -> Result<bool, Fail> {
-    let code = code(alloc, CALLS)?;
+    let code = code(alloc, calls())?;
     let setup = setup(alloc, &code, 1, Some(42))?;
     are_alike(rt, alloc, &code, &setup, way)
 }

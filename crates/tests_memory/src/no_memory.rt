@@ -4,7 +4,7 @@ ghost use Rattle.std.specs.Prelude.{◌≡◌, true, is_some};
 ghost use Rattle.bp_machine.specs.Setups.{threads, FitsCode};
 ghost use Rattle.bp_board.specs.Kits.{IsNamed};
 
-use super::ready::{CALLS, code, kit, setup, tell, wants};
+use super::ready::{calls, code, kit, setup, tell, wants};
 use bp_board::{Board, Calls, Kit, Seat};
 use bp_code::Code;
 use bp_machine::Setup;
@@ -58,7 +58,7 @@ fn is_refused<C: Calls, O: Ledger, R: Wait + Clock>(
 #[test]
 fn work_at_a_board(rt: HostRuntime) -> Result<(), Fail> {
     let alloc = rt.alloc();
-    let code = code(alloc, CALLS)?;
+    let code = code(alloc, calls())?;
     let setup = setup(alloc, &code, 1, Some(42))?;
     let kit = kit(alloc, &setup, 64)?;
     tell(

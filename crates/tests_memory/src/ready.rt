@@ -11,12 +11,23 @@ use std::test::Fail;
 use tests_common::{code_of, mains};
 
 /// Two globals and two procedures, one of which calls the other by a choice.
-pub(super) const PROGRAM: &[u8] = b"decl x, y; \
+const PROGRAM: &[u8] = b"decl x, y; \
     main() begin decl h; while (?) do h := !h; f(h, 1); od print (x, y); end \
     f(a, b) begin x, y := a, b; if (?) then f(b, a); else skip; fi end";
 
 /// A procedure that calls itself, so that each step takes a frame.
-pub(super) const CALLS: &[u8] = b"decl x, y; main() begin f(0); end f(a) begin f(!a); end";
+const CALLS: &[u8] = b"decl x, y; main() begin f(0); end f(a) begin f(!a); end";
+
+/// The text of the first of these programs: a function hands it out, so that no proof of a test
+/// reads all of it.
+pub(super) fn program() -> &'static [u8] {
+    PROGRAM
+}
+
+/// The text of the second one.
+pub(super) fn calls() -> &'static [u8] {
+    CALLS
+}
 
 /// The code of a program with two globals.
 pub(super) fn code(alloc: Global, text: &[u8]) -> Result<Code, Fail> {

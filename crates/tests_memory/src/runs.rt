@@ -1,5 +1,5 @@
 //! Runs: 7 or 53 with nothing written, or a whole trace; the line of a refused worker stays open.
-use super::ready::{PROGRAM, code, entries, output, tell, wants};
+use super::ready::{code, entries, output, program, tell, wants};
 use bp_machine::{Report, Start};
 use bp_run::{Open, RunOptions, run};
 use bp_trace::{ReplayFault, replay};
@@ -46,7 +46,7 @@ fn report<R: Threads + Wait + Clock + Sync>(
     options: &RunOptions,
     out: &mut Vec<u8>,
 ) -> Result<Option<Report>, Fail> {
-    match run(rt, alloc, PROGRAM, options, &Open, out) {
+    match run(rt, alloc, program(), options, &Open, out) {
         Ok(done) => Ok(Some(done.report)),
         Err(fault) => {
             wants(matches!(fault.number(), 7 | 53) && out.is_empty())?;
@@ -63,11 +63,11 @@ fn runs_with<R: Threads + Wait + Clock + Sync>(
     out: &mut Vec<u8>,
 ) -> Result<bool, Fail> {
     if let Some(done) = report(rt, alloc, options, out)? {
-        wants(is_replayed(alloc, PROGRAM, out, done)?)?;
+        wants(is_replayed(alloc, program(), out, done)?)?;
         return Ok(done.left_open > 0);
     }
     match report(rt, alloc, options, out)? {
-        Some(done) => wants(is_replayed(alloc, PROGRAM, out, done)? && done.left_open == 0)?,
+        Some(done) => wants(is_replayed(alloc, program(), out, done)? && done.left_open == 0)?,
         None => return Err(Fail::from("refused again")),
     }
     Ok(true)

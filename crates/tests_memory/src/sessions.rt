@@ -1,7 +1,7 @@
 //! Sessions and their calls: after a refusal a session makes the calls that it makes without one.
 ghost use Rattle.bp_machine.specs.Setups.{FitsCode};
 
-use super::ready::{CALLS, PROGRAM, code, setup, tell, wants};
+use super::ready::{calls, code, program, setup, tell, wants};
 use bp_code::Code;
 use bp_machine::{AskFault, Call, Session, Setup};
 use std::alloc::Global;
@@ -38,7 +38,7 @@ fn is_refused_once(alloc: Global, code: &Code, setup: &Setup) -> Result<bool, Fa
 }
 
 fn makes_a_session(alloc: Global) -> Result<bool, Fail> {
-    let code = code(alloc, PROGRAM)?;
+    let code = code(alloc, program())?;
     let setup = setup(alloc, &code, 3, None)?;
     is_refused_once(alloc, &code, &setup)
 }
@@ -110,9 +110,9 @@ fn are_alike(alloc: Global, code: &Code, setup: &Setup, way: Way) -> Result<bool
     Ok(was_refused || is_late)
 }
 
-/// The same of the calls of `CALLS`.
+/// The same of the calls of the program that calls itself.
 fn calls_alike(alloc: Global, way: Way) -> Result<bool, Fail> {
-    let code = code(alloc, CALLS)?;
+    let code = code(alloc, calls())?;
     let seed = if way == Way::AskWith { None } else { Some(42) };
     let setup = setup(alloc, &code, 1, seed)?;
     are_alike(alloc, &code, &setup, way)
@@ -148,7 +148,7 @@ fn prints_next(session: &Session) -> Result<bool, Fail> {
 
 /// A session of one thread without a seed.
 fn session_of(alloc: Global) -> Result<Session, Fail> {
-    let code = code(alloc, PROGRAM)?;
+    let code = code(alloc, program())?;
     let setup = setup(alloc, &code, 1, None)?;
     match Session::new(alloc, &code, &setup) {
         Ok(session) => Ok(session),

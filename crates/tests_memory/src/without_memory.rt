@@ -4,10 +4,10 @@ ghost use Rattle.std.specs.Prelude.{◌≡◌, true, is_some};
 ghost use Rattle.bp_machine.specs.Setups.{threads, FitsCode};
 ghost use Rattle.bp_board.specs.Kits.{IsNamed};
 
-use super::ready::{CALLS, PROGRAM, code, kit, setup, wants};
+use super::ready::{calls, code, kit, program, setup, wants};
 use bp_board::{Board, Calls, Kit, gather};
 use bp_code::Code;
-use bp_machine::{Outcome, Session, Setup, open_lines};
+use bp_machine::{Call, Outcome, Session, Setup, open_lines};
 use std::marker::Brand;
 use std::sync::Wait;
 use std::sync::ledger::Ledger;
@@ -40,18 +40,25 @@ fn tells_frames(session: &Session) -> bool {
         && session.top_below(1, 1).is_none()
 }
 
+/// Whether the session has this code and setup, and stands after the call.
+fn stands_after(session: &Session, code: &Code, setup: &Setup, call: Call) -> bool {
+    *session.code() == *code
+        && *session.setup() == *setup
+        && stands_after_a_step(session)
+        && tells_frames(session)
+        && open_lines(setup, &[call]) == 2
+}
+
 #[test]
 fn sessions(rt: HostRuntime) -> Result<(), Fail> {
     let alloc = rt.alloc();
-    let code = code(alloc, PROGRAM)?;
+    let code = code(alloc, program())?;
     let setup = setup(alloc, &code, 2, Some(42))?;
     let mut session = Session::new(alloc, &code, &setup)?;
     let call = session.prepare(1)?;
     begin(&rt)?;
     session.commit(&call);
-    wants(*session.code() == code && *session.setup() == setup)?;
-    wants(stands_after_a_step(&session) && tells_frames(&session))?;
-    wants(open_lines(&setup, &[call]) == 2)
+    wants(stands_after(&session, &code, &setup, call))
 }
 
 /// Makes a turn of two calls at a board of one thread, takes one of them, gathers the board, and
@@ -88,7 +95,7 @@ fn gathers<C: Calls, O: Ledger, R: Wait>(
 #[test]
 fn boards(rt: HostRuntime) -> Result<(), Fail> {
     let alloc = rt.alloc();
-    let code = code(alloc, CALLS)?;
+    let code = code(alloc, calls())?;
     let setup = setup(alloc, &code, 1, Some(42))?;
     let kit = kit(alloc, &setup, 8)?;
     gathers::<Brand, Brand, HostRuntime>(&rt, &rt, kit, &code, &setup)

@@ -6,7 +6,7 @@ ghost use Rattle.bp_board.specs.Kits.{IsNamed};
 
 use super::{Act, Example, LOOP, kit_of, loop_calls, own, setup_of};
 use bp_board::limits::MAX_TURN;
-use bp_board::{Board, Calls, Kit, Seat, gather};
+use bp_board::{Board, Calls, Gathered, Kit, Seat, Tap, gather};
 use bp_code::Code;
 use bp_machine::{AskFault, Call, Reply, Setup};
 use std::alloc::Global;
@@ -32,6 +32,53 @@ fn open_seats<C: Calls, O: Ledger>(seats: &[Seat<C, O>]) -> usize {
     seats.iter().filter(|seat| seat.is_open()).count()
 }
 
+/// Does this at a board with its seats and its tap, and answers how many calls the tap gave.
+fn act<C: Calls, O: Ledger, R: Wait + Abort>(
+    rt: &R,
+    board: &Board<C, O>,
+    seats: &mut [Seat<C, O>],
+    tap: &mut Tap<C>,
+    act: Act,
+) -> Result<u64, Fail> {
+    match act {
+        Act::Turn(number, n, answer, calls) => {
+            let Some(seat) = seats.get_mut(number) else {
+                return Err(Fail::from("no seat"));
+            };
+            if n == 0 || n > MAX_TURN {
+                return Err(Fail::from("no turn"));
+            }
+            assert!(rt; board.turn(rt, seat, n) == answer);
+            assert_eq!(rt; seat.calls(), calls);
+            Ok(0)
+        }
+        Act::Take(call) => {
+            assert!(rt; tap.next() == call);
+            Ok(u64::from(call.is_some()))
+        }
+        Act::Ask(_, _, _) => Err(Fail::from("a board takes turns")),
+    }
+}
+
+/// Looks at what was gathered after the tap gave this many calls.
+fn look<C: Calls, O: Ledger, R: Abort>(
+    rt: &R,
+    gathered: &mut Gathered<C, O>,
+    taken: u64,
+    scene: Scene<'_>,
+) -> Result<(), Fail> {
+    let calls = taken.saturating_add(scene.rest.len() as u64);
+    assert_eq!(rt; gathered.report.calls, calls);
+    assert_eq!(rt; gathered.report.left_open, scene.left_open);
+    assert_eq!(rt; gathered.report.contexts, scene.contexts);
+    assert_eq!(rt; open_seats(&gathered.seats), scene.left_open as usize);
+    for call in scene.rest {
+        assert!(rt; gathered.tap.next() == Some(*call));
+    }
+    assert!(rt; gathered.tap.next().is_none());
+    Ok(())
+}
+
 /// Plays at a board of this kit.
 fn play_with<C: Calls, O: Ledger, R: Wait + Abort>(
     rt: &R,
@@ -50,40 +97,14 @@ fn play_with<C: Calls, O: Ledger, R: Wait + Abort>(
 {
     let (board, mut seats, mut tap) = Board::<C, O>::open(alloc, kit, code, setup)?;
     let mut taken = 0u64;
-    for act in scene.acts {
-        match *act {
-            Act::Turn(number, n, answer, calls) => {
-                let Some(seat) = seats.get_mut(number) else {
-                    return Err(Fail::from("no seat"));
-                };
-                if n == 0 || n > MAX_TURN {
-                    return Err(Fail::from("no turn"));
-                }
-                assert!(rt; board.turn(rt, seat, n) == answer);
-                assert_eq!(rt; seat.calls(), calls);
-            }
-            Act::Take(call) => {
-                assert!(rt; tap.next() == call);
-                taken = taken.saturating_add(u64::from(call.is_some()));
-            }
-            Act::Ask(_, _, _) => return Err(Fail::from("a board takes turns")),
-        }
+    for one in scene.acts {
+        let more = act(rt, &board, seats.as_mut_slice(), &mut tap, *one)?;
+        taken = taken.saturating_add(more);
     }
     let Ok(mut gathered) = gather(board, seats, tap, code, setup) else {
         return Err(Fail::from("foreign"));
     };
-    assert_eq!(rt;
-        gathered.report.calls,
-        taken.saturating_add(scene.rest.len() as u64)
-    );
-    assert_eq!(rt; gathered.report.left_open, scene.left_open);
-    assert_eq!(rt; gathered.report.contexts, scene.contexts);
-    assert_eq!(rt; open_seats(&gathered.seats), scene.left_open as usize);
-    for call in scene.rest {
-        assert!(rt; gathered.tap.next() == Some(*call));
-    }
-    assert!(rt; gathered.tap.next().is_none());
-    Ok(())
+    look(rt, &mut gathered, taken, scene)
 }
 
 /// Plays at a board of the example.

@@ -6,7 +6,7 @@ ghost use Rattle.bp_board.specs.Kits.{IsNamed};
 
 use super::{Act, Example, LOOP, kit_of, own, setup_of};
 use bp_board::limits::MAX_TURN;
-use bp_board::{Calls, Desk, Kit};
+use bp_board::{Calls, Desk, Kit, Seat, Tap};
 use bp_code::Code;
 use bp_machine::{AskFault, Reply, Setup};
 use std::alloc::Global;
@@ -15,6 +15,37 @@ use std::process::Abort;
 use std::sync::ledger::Ledger;
 use std::test::Fail;
 use tests_common::code_of;
+
+/// Does this at a desk with its seats and its tap.
+fn act<C: Calls, O: Ledger, R: Abort>(
+    rt: &R,
+    desk: &mut Desk<C, O>,
+    seats: &mut [Seat<C, O>],
+    tap: &mut Tap<C>,
+    act: Act,
+) -> Result<(), Fail> {
+    match act {
+        Act::Turn(number, n, answer, calls) => {
+            let Some(seat) = seats.get_mut(number) else {
+                return Err(Fail::from("no seat"));
+            };
+            if n == 0 || n > MAX_TURN {
+                return Err(Fail::from("no turn"));
+            }
+            assert!(rt; desk.turn(seat, n) == answer);
+            assert_eq!(rt; seat.calls(), calls);
+        }
+        Act::Ask(number, answer, calls) => {
+            let Some(seat) = seats.get_mut(number) else {
+                return Err(Fail::from("no seat"));
+            };
+            assert!(rt; desk.ask(seat) == answer);
+            assert_eq!(rt; seat.calls(), calls);
+        }
+        Act::Take(call) => assert!(rt; tap.next() == call),
+    }
+    Ok(())
+}
 
 /// Plays at a desk of this kit.
 fn play_with<C: Calls, O: Ledger, R: Abort>(
@@ -33,27 +64,8 @@ fn play_with<C: Calls, O: Ledger, R: Abort>(
     requires seeded { is_some setup.now.seed ≡ true }
 {
     let (mut desk, mut seats, mut tap) = Desk::<C, O>::open(alloc, kit, code, setup)?;
-    for act in acts {
-        match *act {
-            Act::Turn(number, n, answer, calls) => {
-                let Some(seat) = seats.get_mut(number) else {
-                    return Err(Fail::from("no seat"));
-                };
-                if n == 0 || n > MAX_TURN {
-                    return Err(Fail::from("no turn"));
-                }
-                assert!(rt; desk.turn(seat, n) == answer);
-                assert_eq!(rt; seat.calls(), calls);
-            }
-            Act::Ask(number, answer, calls) => {
-                let Some(seat) = seats.get_mut(number) else {
-                    return Err(Fail::from("no seat"));
-                };
-                assert!(rt; desk.ask(seat) == answer);
-                assert_eq!(rt; seat.calls(), calls);
-            }
-            Act::Take(call) => assert!(rt; tap.next() == call),
-        }
+    for one in acts {
+        act(rt, &mut desk, seats.as_mut_slice(), &mut tap, *one)?;
     }
     Ok(())
 }

@@ -43,7 +43,7 @@ const WAIT: Example = Example {
     ..RACE
 };
 
-const EXAMPLES: [Example; 9] = [
+const EXAMPLES: &[Example] = &[
     RACE,
     // One more step would open a third context.
     Example {
@@ -107,6 +107,11 @@ const EXAMPLES: [Example; 9] = [
     },
 ];
 
+/// The examples: a function hands them out, so that no proof reads them all.
+fn examples() -> &'static [Example] {
+    EXAMPLES
+}
+
 /// A session of the example before any call.
 fn session_of(alloc: Global, example: Example) -> Result<Session, Fail> {
     let code = code_of(alloc, example.text)?;
@@ -137,9 +142,9 @@ fn is_as_said(session: &mut Session, example: Example) -> Result<bool, AskFault>
 
 #[test]
 fn contexts_and_open_lines(rt: HostRuntime) -> Result<(), Fail> {
-    for example in EXAMPLES {
-        let mut session = session_of(rt.alloc(), example)?;
-        assert!(rt; is_as_said(&mut session, example)?);
+    for example in examples() {
+        let mut session = session_of(rt.alloc(), *example)?;
+        assert!(rt; is_as_said(&mut session, *example)?);
     }
     Ok(())
 }

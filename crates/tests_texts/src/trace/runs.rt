@@ -84,16 +84,21 @@ const HEAD: &str = "btrace 1\nentry main\ninit 10\ncontexts 2\ncalls 1000\nseed 
 /// The same with a seed, whose first bit of thread 0 is 1.
 const SEEDED: &str = "btrace 1\nentry main\ninit 10\ncontexts 2\ncalls 1000\nseed 42\n";
 
-/// The fault of the trace with this head and these lines.
-fn fault_of(alloc: Global, head: &str, lines: &str) -> Result<Option<ReplayFault>, Fail> {
+/// Whether the trace with this head and these lines is refused by this fault.
+fn is_refused_by(
+    alloc: Global,
+    head: &str,
+    lines: &str,
+    wanted: ReplayFault,
+) -> Result<bool, Fail> {
     let code = code_of(alloc, SWAP)?;
     let mut text = Vec::new(alloc);
     text.extend_from_slice(head.as_bytes())?;
     text.extend_from_slice(lines.as_bytes())?;
-    match replay(alloc, &code, &text) {
-        Ok(_) => Ok(None),
-        Err(fault) => Ok(Some(fault)),
-    }
+    Ok(match replay(alloc, &code, &text) {
+        Ok(_) => false,
+        Err(fault) => fault == wanted,
+    })
 }
 
 /// The call of thread 0 that is due after `calls` calls.
@@ -110,27 +115,23 @@ const fn counts(calls: u64, left_open: u32) -> Counts {
 
 #[test]
 fn refused_traces_say_what_is_due(rt: HostRuntime) -> Result<(), Fail> {
-    let all = "0 0 s\n0 1 s\n0 0 s\n0 0 e\n";
-    for (head, lines, wanted) in [
-        (
-            HEAD,
-            "0 0 s\n0 0 e\n",
-            ReplayFault::Reply(8, due(1, false, Reply::Stepped)),
-        ),
-        (
-            SEEDED,
-            "0 0 s\n",
-            ReplayFault::Bit(7, due(0, true, Reply::Stepped)),
-        ),
-        (HEAD, "0 0 s\n", ReplayFault::NoEnd(counts(1, 1))),
-    ] {
-        assert_eq!(rt; fault_of(rt.alloc(), head, lines)?, Some(wanted));
-    }
-    let finished = format!(in rt.alloc(); "{all}0 0 e\n")?;
-    let wanted = ReplayFault::AfterFinish(11, 4);
-    assert_eq!(rt; fault_of(rt.alloc(), HEAD, &finished)?, Some(wanted));
-    let ended = format!(in rt.alloc(); "{all}end 4 1\n")?;
-    let wanted = ReplayFault::EndCount(11, counts(4, 0));
-    assert_eq!(rt; fault_of(rt.alloc(), HEAD, &ended)?, Some(wanted));
+    let alloc = rt.alloc();
+    let reply = ReplayFault::Reply(8, due(1, false, Reply::Stepped));
+    assert!(rt; is_refused_by(alloc, HEAD, "0 0 s\n0 0 e\n", reply)?);
+    let bit = ReplayFault::Bit(7, due(0, true, Reply::Stepped));
+    assert!(rt; is_refused_by(alloc, SEEDED, "0 0 s\n", bit)?);
+    let no_end = ReplayFault::NoEnd(counts(1, 1));
+    assert!(rt; is_refused_by(alloc, HEAD, "0 0 s\n", no_end)?);
+    Ok(())
+}
+
+#[test]
+fn finished_traces_say_what_is_due(rt: HostRuntime) -> Result<(), Fail> {
+    let alloc = rt.alloc();
+    let finished = "0 0 s\n0 1 s\n0 0 s\n0 0 e\n0 0 e\n";
+    assert!(rt; is_refused_by(alloc, HEAD, finished, ReplayFault::AfterFinish(11, 4))?);
+    let ended = "0 0 s\n0 1 s\n0 0 s\n0 0 e\nend 4 1\n";
+    let count = ReplayFault::EndCount(11, counts(4, 0));
+    assert!(rt; is_refused_by(alloc, HEAD, ended, count)?);
     Ok(())
 }
