@@ -89,12 +89,28 @@ fn ends_body(token: &[u8]) -> bool {
     matches!(token, b"end" | b"else" | b"fi" | b"od")
 }
 
-/// Whether another language begins a declaration with the word.
-fn is_type(token: &[u8]) -> bool {
-    matches!(
-        token,
-        b"bool" | b"boolean" | b"int" | b"bit" | b"var" | b"let" | b"void" | b"proc" | b"procedure"
-    )
+/// The words by which other languages begin a declaration.
+const TYPES: &[&[u8]] = &[
+    b"bool",
+    b"boolean",
+    b"int",
+    b"bit",
+    b"var",
+    b"let",
+    b"void",
+    b"proc",
+    b"procedure",
+];
+
+/// The words that begin what may follow a statement or a declaration.
+const BEGINNINGS: &[&[u8]] = &[
+    b"skip", b"goto", b"return", b"if", b"while", b"assert", b"assume", b"print", b"end", b"else",
+    b"fi", b"od", b"decl",
+];
+
+/// Whether the token is one of these words.
+fn is_among(token: &[u8], words: &[&[u8]]) -> bool {
+    words.iter().any(|word| *word == token)
 }
 
 /// The mistake in a declaration.
@@ -103,7 +119,7 @@ fn declaration_mistake(offers: &[Offer], around: &Around<'_>) -> Option<Mistake>
         Some(Mistake::LateGlobal)
     } else if around.found == b"decl".as_slice() && has_statement(offers) {
         Some(Mistake::LateLocal)
-    } else if !is_type(around.before) || !is_name(around.found) {
+    } else if !is_among(around.before, TYPES) || !is_name(around.found) {
         None
     } else if has_token(offers, TokenKind::Close) {
         Some(Mistake::TypedFormal)
@@ -173,24 +189,14 @@ pub(crate) fn mistake_at(offers: &[Offer], around: &Around<'_>) -> Option<Mistak
 /// Whether the token at the place begins what may follow a statement or a declaration. A name may
 /// continue an expression instead: on the same line the token after it decides.
 fn begins_next(around: &Around<'_>) -> bool {
-    let is_returned = around.before == b"return".as_slice() && !around.is_on_new_line;
-    match around.found {
-        b"skip"
-        | b"goto"
-        | b"return"
-        | b"if"
-        | b"while"
-        | b"assert"
-        | b"assume"
-        | b"print"
-        | b"end"
-        | b"else"
-        | b"fi"
-        | b"od"
-        | b"decl" => true,
-        found if !is_name(found) || is_returned => false,
-        _ => around.is_on_new_line || matches!(around.next, b":=" | b"(" | b":" | b","),
+    if is_among(around.found, BEGINNINGS) {
+        return true;
     }
+    let is_returned = around.before == b"return".as_slice() && !around.is_on_new_line;
+    if !is_name(around.found) || is_returned {
+        return false;
+    }
+    around.is_on_new_line || matches!(around.next, b":=" | b"(" | b":" | b",")
 }
 
 /// Whether a semicolon is missing before the token at a place, where the offers could stand there.
