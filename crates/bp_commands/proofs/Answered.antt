@@ -2,8 +2,8 @@
 use Rattle.std.proofs.Common.{refl, inl, inr, ℕ, List, Option, Result, Ok, Err}
 use Rattle.std.proofs.KnownBytes.{Keeps-refl}
 use Rattle.bp_text.specs.Writing.{AppendsPart}
-use Rattle.bp_commands.specs.declared.faults.Fault.{Fault}
-use Rattle.bp_commands.specs.declared.faults.Fault.TheVariants.{Write}
+use Rattle.bp_messages.specs.declared.faults.Fault.{Fault}
+use Rattle.bp_messages.specs.declared.faults.Fault.TheVariants.{Write}
 use Rattle.bp_commands.specs.Commands.{Command, IsNotDone, IsRefusedWith, Answers, AnswersOf}
 use Rattle.bp_commands.specs.Given.{Inputs}
 

@@ -2,7 +2,7 @@
 use Rattle.std.proofs.Common.{◌≡◌, ◌⊎◌, ℕ, List, Bool, true, false, Option, Result, Ok, Err, refl, subst, sym, inl, inr}
 use Rattle.bp_commands.specs.declared.fault_formats.FaultFormat.{FaultFormat}
 use Rattle.bp_commands.specs.declared.fault_formats.FaultFormat.TheVariants as format
-use Rattle.bp_commands.specs.declared.faults.Fault.{Fault}
+use Rattle.bp_messages.specs.declared.faults.Fault.{Fault}
 use Rattle.bp_text.specs.declared.writing.WriteFault.{WriteFault}
 use Rattle.bp_commands.specs.declared.ends.Explained.{Explained}
 use Rattle.bp_commands.specs.declared.ends.RunEnd.{RunEnd}

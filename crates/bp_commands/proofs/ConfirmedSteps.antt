@@ -15,7 +15,7 @@ use Rattle.bp_confirm.specs.ConfirmedTexts.{ConfirmsTo, IsConfirmRefusal, IsStep
 use Rattle.bp_commands.specs.declared.confirming.Confirmed.{Confirmed}
 use Rattle.bp_commands.specs.Commands.{IsDoneWith, IsRefusedWith}
 use Rattle.bp_commands.specs.Confirms.{confirms, IsConfirmRefused}
-use Rattle.bp_commands.specs.Faults.{fault_of_setup, fault_of_steps}
+use Rattle.bp_messages.specs.Faults.{fault_of_setup, fault_of_steps}
 use Rattle.bp_commands.specs.Given.{Pair}
 
 module _ (start : StartOf) (bound : ContextBound) (given : Pair) (t : Program) (lawful : IsLawfulText given.text t) where

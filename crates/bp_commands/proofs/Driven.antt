@@ -14,7 +14,7 @@ use Rattle.bp_trace.specs.Drives.{DrivesTo, IsRefusal, IsScheduleRefusal}
 use Rattle.bp_trace.specs.TraceText.{trace_text}
 use Rattle.bp_commands.specs.Commands.{IsDoneWith, IsRefusedWith}
 use Rattle.bp_commands.specs.Drives.{drives, IsDriveRefused}
-use Rattle.bp_commands.specs.Faults.{fault_of_schedule, fault_of_setup}
+use Rattle.bp_messages.specs.Faults.{fault_of_schedule, fault_of_setup}
 use Rattle.bp_commands.specs.Given.{Pair}
 
 module _ (start : StartOf) (given : Pair) (c : Flat) (code : IsProgramCode given.text c) (s : SetupOf)

@@ -3,7 +3,7 @@ use Rattle.std.specs.declared.alloc.AllocError.{AllocError}
 use Rattle.std.specs.declared.alloc.Global.{Global}
 use Rattle.bp_text.specs.Writing.{Writes}
 use Rattle.std.proofs.Common.{◌≡◌, ◌⊎◌, ℕ, List, Bool, true, Option, Result, Ok, Err, IfOk, Vec, [], sym, ◌∙◌, subst, inl, inr}
-use Rattle.bp_commands.specs.declared.faults.Fault.{Fault}
+use Rattle.bp_messages.specs.declared.faults.Fault.{Fault}
 use Rattle.bp_commands.specs.declared.ends.Explained.{Explained}
 use Rattle.bp_commands.specs.Explanations.{IsExplanationOf, IsSaid, IsSaidFor, IsTold}
 

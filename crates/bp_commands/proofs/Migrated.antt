@@ -10,7 +10,7 @@ use Rattle.bp_trace.specs.declared.migrate_faults.MigrateFault.TheVariants as mi
 use Rattle.bp_trace.specs.Migrations.{IsMigrated, IsMigrateRefusal}
 use Rattle.bp_trace.specs.TraceText.{trace_text_2}
 use Rattle.bp_commands.specs.Commands.{IsDoneWith, IsRefusedWith}
-use Rattle.bp_commands.specs.Faults.{fault_of_migration}
+use Rattle.bp_messages.specs.Faults.{fault_of_migration}
 use Rattle.bp_commands.specs.Given.{Pair}
 use Rattle.bp_commands.specs.Traces.{migrates}
 

@@ -9,8 +9,8 @@ use Rattle.bp_run.specs.Options.{OptionsOf, setup_under}
 use Rattle.bp_run.specs.Runs.{IsTracedRun, IsRunRefusal}
 use Rattle.bp_trace.specs.TraceText.{trace_text}
 use Rattle.bp_commands.specs.Commands.{IsDoneWith, IsRefusedWith}
-use Rattle.bp_commands.specs.Faults.{fault_of_run}
-use Rattle.bp_commands.specs.declared.faults.Fault.TheVariants.{Early}
+use Rattle.bp_messages.specs.Faults.{fault_of_run}
+use Rattle.bp_messages.specs.declared.faults.Fault.TheVariants.{Early}
 use Rattle.bp_commands.specs.Runs.{runs, IsRunReport, IsEarly}
 
 module _ (o : OptionsOf) (text : List ℕ) (old new : Option (List ℕ)) where

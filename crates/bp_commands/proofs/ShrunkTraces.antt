@@ -15,8 +15,8 @@ use Rattle.bp_trace.specs.Heads.{HasHead}
 use Rattle.bp_trace.specs.Replayed.{IsReplayed}
 use Rattle.bp_trace.specs.Replays.{IsTrace}
 use Rattle.bp_trace.specs.TraceText.{trace_text}
-use Rattle.bp_commands.specs.declared.faults.Fault.{Fault}
-use Rattle.bp_commands.specs.declared.faults.Fault.TheVariants.{Memory, NoFailure}
+use Rattle.bp_messages.specs.declared.faults.Fault.{Fault}
+use Rattle.bp_messages.specs.declared.faults.Fault.TheVariants.{Memory, NoFailure}
 use Rattle.bp_commands.specs.Given.{Pair}
 use Rattle.bp_commands.specs.Traces.{IsOfTrace, IsTraceOf, IsTraceReport}
 use Rattle.bp_commands.specs.Shrinks.{IsShrunkText, HasNoFailure, LacksMemory}

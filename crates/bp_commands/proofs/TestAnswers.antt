@@ -25,10 +25,10 @@ use Rattle.bp_test.specs.Tests.{setup_of_run, IsFound, IsTest, IsTestRefusal, Is
 use Rattle.bp_view.specs.Scenes.{AreStatements}
 use Rattle.bp_view.specs.StatementLines.{positions_of}
 use Rattle.bp_commands.specs.Commands.{IsDoneWith, IsRefusedWith}
-use Rattle.bp_commands.specs.Faults.{fault_of_setup, fault_of_test}
-use Rattle.bp_commands.specs.declared.faults.Fault.TheVariants.{Memory}
-use Rattle.bp_commands.specs.declared.testing.Tested.{Tested}
-use Rattle.bp_commands.specs.Notes.{notes_of}
+use Rattle.bp_messages.specs.Faults.{fault_of_setup, fault_of_test}
+use Rattle.bp_messages.specs.declared.faults.Fault.TheVariants.{Memory}
+use Rattle.bp_messages.specs.declared.tested.Tested.{Tested}
+use Rattle.bp_messages.specs.Notes.{notes_of}
 use Rattle.bp_commands.specs.Tests.{tests, AreListed, IsTestable}
 
 module _ (start : StartOf) (x : TestOptions) (listed : Option (List ℕ)) (json : Bool) (text : List ℕ) (t : Program) (lawful : IsLawfulText text t) where

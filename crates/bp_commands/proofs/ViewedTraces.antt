@@ -11,7 +11,7 @@ use Rattle.bp_view.specs.declared.faults.ViewFault.TheVariants as view
 use Rattle.bp_view.specs.declared.options.ViewOptions.{ViewOptions}
 use Rattle.bp_view.specs.Views.{IsViewed, IsViewOfTrace, IsViewRefusal}
 use Rattle.bp_commands.specs.Commands.{IsDoneWith, IsRefusedWith}
-use Rattle.bp_commands.specs.Faults.{fault_of_view}
+use Rattle.bp_messages.specs.Faults.{fault_of_view}
 use Rattle.bp_commands.specs.Given.{Pair}
 use Rattle.bp_commands.specs.Traces.{shows, IsOfTrace, IsTraceReport, IsViewText}
 

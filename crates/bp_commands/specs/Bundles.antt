@@ -2,7 +2,7 @@
 use Rattle.std.specs.Prelude.{◌≡◌, ◌⊎◌, ℕ, List}
 use Rattle.bp_machine.specs.declared.reports.Report.{Report}
 use Rattle.bp_machine.specs.Starts.{default_start}
-use Rattle.bp_commands.specs.declared.faults.Fault.TheVariants.{Memory}
+use Rattle.bp_messages.specs.declared.faults.Fault.TheVariants.{Memory}
 use Rattle.bp_commands.specs.BundleParts.{IsParted}
 use Rattle.bp_commands.specs.Commands.{Command}
 use Rattle.bp_commands.specs.Drives.{drives}

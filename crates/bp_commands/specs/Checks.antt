@@ -5,8 +5,8 @@ use Rattle.bp_tree.specs.Ast.{Program}
 use Rattle.bp_code.specs.LawfulTexts.{IsLawfulText, IsProgramRefusal}
 use Rattle.bp_code.specs.declared.texts.ProgramFault.{ProgramFault}
 use Rattle.bp_view.specs.Programs.{program_object}
-use Rattle.bp_commands.specs.declared.faults.Fault.{Fault}
-use Rattle.bp_commands.specs.Faults.{fault_of_program}
+use Rattle.bp_messages.specs.declared.faults.Fault.{Fault}
+use Rattle.bp_messages.specs.Faults.{fault_of_program}
 use Rattle.bp_commands.specs.Commands.{Command}
 
 -- `ok`, the number of procedures, and the number of globals

@@ -2,8 +2,8 @@
 use Rattle.std.specs.Prelude.{◌≡◌, ◌⊎◌, ℕ, List, Option, Result, MatchResult}
 use Rattle.std.specs.Io.KnownBytes.{Keeps}
 use Rattle.bp_text.specs.Writing.{AppendsAll, AppendsPart}
-use Rattle.bp_commands.specs.declared.faults.Fault.{Fault}
-use Rattle.bp_commands.specs.declared.faults.Fault.TheVariants.{Write}
+use Rattle.bp_messages.specs.declared.faults.Fault.{Fault}
+use Rattle.bp_messages.specs.declared.faults.Fault.TheVariants.{Write}
 use Rattle.bp_commands.specs.Given.{Inputs}
 
 -- A command: the texts that it may write of its inputs; what it reports where it has written one

@@ -11,11 +11,11 @@ use Rattle.bp_confirm.specs.declared.confirming.ConfirmFault.{ConfirmFault}
 use Rattle.bp_confirm.specs.declared.context_bounds.ContextBound.{ContextBound}
 use Rattle.bp_confirm.specs.ConfirmedTexts.{IsConfirmedText, IsStepsRefusal}
 use Rattle.bp_commands.specs.declared.confirming.Confirmed.{Confirmed}
-use Rattle.bp_commands.specs.declared.faults.Fault.{Fault}
+use Rattle.bp_messages.specs.declared.faults.Fault.{Fault}
 use Rattle.bp_commands.specs.Commands.{Command}
 use Rattle.bp_commands.specs.Drives.{IsSetupRefused}
 use Rattle.bp_commands.specs.Ends.{report_failed, Ending}
-use Rattle.bp_commands.specs.Faults.{fault_of_steps}
+use Rattle.bp_messages.specs.Faults.{fault_of_steps}
 use Rattle.bp_commands.specs.Given.{Pair}
 use Rattle.bp_commands.specs.Listings.{HasNoCode}
 

@@ -11,9 +11,9 @@ use Rattle.bp_machine.specs.Starts.{StartOf, setup_from}
 use Rattle.bp_trace.specs.declared.faults.DriveFault.{DriveFault}
 use Rattle.bp_trace.specs.Drives.{IsDriven, IsScheduleRefusal}
 use Rattle.bp_trace.specs.TraceText.{trace_text}
-use Rattle.bp_commands.specs.declared.faults.Fault.{Fault}
+use Rattle.bp_messages.specs.declared.faults.Fault.{Fault}
 use Rattle.bp_commands.specs.Commands.{Command}
-use Rattle.bp_commands.specs.Faults.{fault_of_schedule, fault_of_setup}
+use Rattle.bp_messages.specs.Faults.{fault_of_schedule, fault_of_setup}
 use Rattle.bp_commands.specs.Given.{Pair}
 use Rattle.bp_commands.specs.Listings.{HasNoCode}
 

@@ -8,8 +8,8 @@ use Rattle.bp_machine.specs.declared.reports.Report.{Report}
 use Rattle.bp_run.specs.declared.answers.RunReport.{RunReport}
 use Rattle.bp_commands.specs.declared.ends.Explained.{Explained}
 use Rattle.bp_commands.specs.declared.ends.RunEnd.{RunEnd}
-use Rattle.bp_commands.specs.declared.faults.Fault.{Fault}
-use Rattle.bp_commands.specs.FaultTable.{exit_status, fault_line, status_of}
+use Rattle.bp_messages.specs.declared.faults.Fault.{Fault}
+use Rattle.bp_messages.specs.FaultTable.{exit_status, fault_line, status_of}
 
 -- an assertion failed
 abbrev pub has_failed : Outcome → Bool

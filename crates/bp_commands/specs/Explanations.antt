@@ -11,8 +11,8 @@ use Rattle.bp_trace.specs.declared.replay_faults.ReplayFault.TheVariants as repl
 use Rattle.bp_explain.specs.Explained.{ExplainsProgram, ExplainsTrace, ExplainsSchedule, ExplainsSteps}
 use Rattle.bp_commands.specs.declared.explanations.Beside.{Beside}
 use Rattle.bp_commands.specs.declared.explanations.Beside.TheVariants as beside
-use Rattle.bp_commands.specs.declared.faults.Fault.{Fault}
-use Rattle.bp_commands.specs.declared.faults.Fault.TheVariants.{Program, Setup, Schedule, Steps, Trace}
+use Rattle.bp_messages.specs.declared.faults.Fault.{Fault}
+use Rattle.bp_messages.specs.declared.faults.Fault.TheVariants.{Program, Setup, Schedule, Steps, Trace}
 use Rattle.bp_commands.specs.declared.ends.Explained.{Explained}
 use Rattle.bp_commands.specs.Ends.{nothing_explained}
 use Rattle.bp_commands.specs.Given.{Inputs, Pair}

@@ -2,10 +2,10 @@
 use Rattle.std.specs.Prelude.{◌≡◌, ◌⊎◌, ℕ, ◌+◌, List, [], Option}
 use Rattle.bp_syntax.specs.declared.limits.TheConstants.{TEXT_LIMIT}
 use Rattle.bp_commands.specs.declared.limits.TheConstants.{MAX_BUNDLE}
-use Rattle.bp_commands.specs.declared.inputs.InputFault.{InputFault}
-use Rattle.bp_commands.specs.declared.faults.Fault.{Fault}
+use Rattle.bp_messages.specs.declared.input_faults.InputFault.{InputFault}
+use Rattle.bp_messages.specs.declared.faults.Fault.{Fault}
 use Rattle.bp_commands.specs.Inputs.{IsInput, IsInputRefusal, TookAtMost}
-use Rattle.bp_commands.specs.Faults.{fault_of_input, fault_of_text}
+use Rattle.bp_messages.specs.Faults.{fault_of_input, fault_of_text}
 
 -- what was read of the inputs, and for which faults they are not read
 pub record Inputs (X : Type 0) : Type 1 where

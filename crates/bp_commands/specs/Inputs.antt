@@ -3,8 +3,8 @@ use Rattle.std.specs.Prelude.{◌≡◌, ℕ, ◌+◌, ◌≤◌, List, Option, 
 use Rattle.std.specs.Io.KnownBytes.{Consumes, IsAtEnd}
 use Rattle.std.specs.declared.io.ErrorKind.{ErrorKind}
 use Rattle.std.specs.declared.io.ErrorKind.TheVariants.{OutOfMemory}
-use Rattle.bp_commands.specs.declared.inputs.InputFault.{InputFault}
-use Rattle.bp_commands.specs.declared.inputs.InputFault.TheVariants.{Device, TooLong, Memory}
+use Rattle.bp_messages.specs.declared.input_faults.InputFault.{InputFault}
+use Rattle.bp_messages.specs.declared.input_faults.InputFault.TheVariants.{Device, TooLong, Memory}
 
 -- why an input is not opened or read, by the kind of the system's error
 abbrev pub reading_fault_of : ErrorKind → InputFault

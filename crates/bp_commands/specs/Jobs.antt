@@ -7,7 +7,7 @@ use Rattle.bp_commands.specs.declared.ends.RunEnd.{RunEnd}
 use Rattle.bp_commands.specs.declared.explanations.Beside.{Beside}
 use Rattle.bp_commands.specs.declared.fault_formats.FaultFormat.{FaultFormat}
 use Rattle.bp_commands.specs.declared.fault_formats.FaultFormat.TheVariants.{Line}
-use Rattle.bp_commands.specs.declared.faults.Fault.{Fault}
+use Rattle.bp_messages.specs.declared.faults.Fault.{Fault}
 use Rattle.bp_commands.specs.Ends.{of_report, Ending}
 use Rattle.bp_commands.specs.Explanations.{IsSaidOfRead}
 use Rattle.bp_commands.specs.Files.{pair_of_files}

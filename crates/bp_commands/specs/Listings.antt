@@ -9,8 +9,8 @@ use Rattle.bp_view.specs.JsonListings.{IsCodeInJson}
 use Rattle.bp_view.specs.Listings.{IsSourcedListing}
 use Rattle.bp_commands.specs.declared.coding.ListingForm.{ListingForm}
 use Rattle.bp_commands.specs.declared.coding.ListingForm.TheVariants.{Lines, Sourced, Json}
-use Rattle.bp_commands.specs.declared.faults.Fault.{Fault}
-use Rattle.bp_commands.specs.Faults.{fault_of_code}
+use Rattle.bp_messages.specs.declared.faults.Fault.{Fault}
+use Rattle.bp_messages.specs.Faults.{fault_of_code}
 use Rattle.bp_commands.specs.Commands.{Command}
 
 -- the listing of the code of a program

@@ -9,11 +9,11 @@ use Rattle.bp_run.specs.declared.run_faults.RunFault.TheVariants as run
 use Rattle.bp_run.specs.Options.{OptionsOf, setup_under, options_fault, IsOptionsRefusal}
 use Rattle.bp_run.specs.Runs.{OfProgram, IsTracedRun, IsRefusedInPlay}
 use Rattle.bp_trace.specs.TraceText.{trace_text}
-use Rattle.bp_commands.specs.declared.faults.Fault.{Fault}
-use Rattle.bp_commands.specs.declared.faults.Fault.TheVariants.{Start, Early, Memory}
+use Rattle.bp_messages.specs.declared.faults.Fault.{Fault}
+use Rattle.bp_messages.specs.declared.faults.Fault.TheVariants.{Start, Early, Memory}
 use Rattle.bp_commands.specs.Checks.{IsUnlawful}
 use Rattle.bp_commands.specs.Commands.{Command}
-use Rattle.bp_commands.specs.Faults.{fault_of_setup}
+use Rattle.bp_messages.specs.Faults.{fault_of_setup}
 
 -- The program of a text is run by real threads, under these options.
 module _ (o : OptionsOf) (text : List ℕ) where

@@ -12,8 +12,8 @@ use Rattle.bp_test.specs.Failing.{FailsAt}
 use Rattle.bp_test.specs.Shrinks.{budgeted}
 use Rattle.bp_trace.specs.declared.versions.Version.TheVariants.{One}
 use Rattle.bp_trace.specs.Replays.{IsTrace}
-use Rattle.bp_commands.specs.declared.faults.Fault.{Fault}
-use Rattle.bp_commands.specs.declared.faults.Fault.TheVariants.{Memory, NoFailure}
+use Rattle.bp_messages.specs.declared.faults.Fault.{Fault}
+use Rattle.bp_messages.specs.declared.faults.Fault.TheVariants.{Memory, NoFailure}
 use Rattle.bp_commands.specs.Commands.{Command}
 use Rattle.bp_commands.specs.Given.{Pair}
 use Rattle.bp_commands.specs.Listings.{HasNoCode}

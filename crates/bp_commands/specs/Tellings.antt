@@ -6,16 +6,16 @@ use Rattle.bp_commands.specs.declared.explanations.Beside.{Beside}
 use Rattle.bp_commands.specs.declared.explanations.Beside.TheVariants as beside
 use Rattle.bp_commands.specs.declared.fault_formats.FaultFormat.{FaultFormat}
 use Rattle.bp_commands.specs.declared.fault_formats.FaultFormat.TheVariants as format
-use Rattle.bp_commands.specs.declared.faults.Fault.{Fault}
-use Rattle.bp_commands.specs.declared.faults.Fault.TheVariants.{Device, TooLong, Program, Setup, Schedule, Steps, Trace, NoFailure}
+use Rattle.bp_messages.specs.declared.faults.Fault.{Fault}
+use Rattle.bp_messages.specs.declared.faults.Fault.TheVariants.{Device, TooLong, Program, Setup, Schedule, Steps, Trace, NoFailure}
 use Rattle.bp_commands.specs.declared.ends.Explained.{Explained}
 use Rattle.bp_commands.specs.declared.ends.RunEnd.{RunEnd}
 use Rattle.bp_commands.specs.Ends.{Ending, Ends, HasFaultLine}
 use Rattle.bp_commands.specs.Explanations.{ExplainsPair, ExplainsText, IsTold}
-use Rattle.bp_commands.specs.FaultObjects.{fault_object}
-use Rattle.bp_commands.specs.FaultTable.{fault_row}
+use Rattle.bp_messages.specs.FaultObjects.{fault_object}
+use Rattle.bp_messages.specs.FaultTable.{fault_row}
 use Rattle.bp_commands.specs.Given.{text_alone_of, Inputs, Pair}
-use Rattle.bp_commands.specs.StepObjects.{IsValueIn}
+use Rattle.bp_messages.specs.StepObjects.{IsValueIn}
 
 -- lines explain the fault after its line
 abbrev pub is_explained : FaultFormat → Bool

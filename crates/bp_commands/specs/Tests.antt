@@ -17,16 +17,16 @@ use Rattle.bp_test.specs.Tests.{IsFound, IsSought, IsWrittenRun}
 use Rattle.bp_view.specs.Scenes.{AreStatements}
 use Rattle.bp_view.specs.StatementLines.{positions_of, AreStatementLines}
 use Rattle.bp_view.specs.Unreached.{AreUnreachedObjects}
-use Rattle.bp_commands.specs.declared.faults.Fault.{Fault}
-use Rattle.bp_commands.specs.declared.faults.Fault.TheVariants.{Memory}
-use Rattle.bp_commands.specs.declared.testing.Tested.{Tested}
+use Rattle.bp_messages.specs.declared.faults.Fault.{Fault}
+use Rattle.bp_messages.specs.declared.faults.Fault.TheVariants.{Memory}
+use Rattle.bp_messages.specs.declared.tested.Tested.{Tested}
 use Rattle.bp_commands.specs.Commands.{Command}
 use Rattle.bp_commands.specs.Ends.{Ending}
-use Rattle.bp_commands.specs.Faults.{fault_of_setup}
+use Rattle.bp_messages.specs.Faults.{fault_of_setup}
 use Rattle.bp_commands.specs.Listings.{HasNoCode}
-use Rattle.bp_commands.specs.Notes.{notes_of}
-use Rattle.bp_commands.specs.Summaries.{summary_text}
-use Rattle.bp_commands.specs.SummaryObjects.{summary_objects}
+use Rattle.bp_messages.specs.Notes.{notes_of}
+use Rattle.bp_messages.specs.Summaries.{summary_text}
+use Rattle.bp_messages.specs.SummaryObjects.{summary_objects}
 
 -- a test found what it looks for
 abbrev pub has_found : Found → Bool

@@ -19,13 +19,13 @@ use Rattle.bp_view.specs.ContextLines.{AreContextLines}
 use Rattle.bp_view.specs.States.{IsStateText}
 use Rattle.bp_view.specs.Views.{IsThere, IsView}
 use Rattle.bp_view.specs.Watches.{watched_names, AreDeclared, IsUndeclared}
-use Rattle.bp_commands.specs.declared.faults.Fault.{Fault}
-use Rattle.bp_commands.specs.declared.faults.Fault.TheVariants.{Memory, NoThread, NoVariable}
+use Rattle.bp_messages.specs.declared.faults.Fault.{Fault}
+use Rattle.bp_messages.specs.declared.faults.Fault.TheVariants.{Memory, NoThread, NoVariable}
 use Rattle.bp_commands.specs.Commands.{Command}
-use Rattle.bp_commands.specs.Faults.{fault_of_trace}
+use Rattle.bp_messages.specs.Faults.{fault_of_trace}
 use Rattle.bp_commands.specs.Given.{Pair}
 use Rattle.bp_commands.specs.Listings.{HasNoCode}
-use Rattle.bp_commands.specs.ReplayLines.{shown_text}
+use Rattle.bp_messages.specs.ReplayLines.{shown_text}
 
 -- What a command writes of a history, as a rule on the program text, the program, the setup, the
 -- history and what is written of them.

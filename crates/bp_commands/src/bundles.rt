@@ -6,10 +6,10 @@ ghost use Rattle.bp_commands.specs.Given.{bundle_alone};
 use crate::bundle_parts::parts;
 use crate::commands::PairCommand;
 use crate::driving::Drive;
-use crate::faults::Fault;
 use crate::inputs::{Source, read_input};
 use crate::limits::MAX_BUNDLE;
 use bp_machine::{Report, Start};
+use bp_messages::Fault;
 use std::alloc::Global;
 use std::io::{Read, Write};
 

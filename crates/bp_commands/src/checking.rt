@@ -3,9 +3,9 @@ ghost use Rattle.bp_text.specs.Writing.{Writes};
 ghost use Rattle.bp_commands.specs.Checks.{check_line};
 
 use crate::commands::ProgramCommand;
-use crate::faults::Fault;
 use bp_check::Checked;
 use bp_code::lawful_program;
+use bp_messages::Fault;
 use bp_text::Piece::{Bytes, Number};
 use bp_text::{WriteFault, put, put_pieces};
 use bp_view::program_object;

@@ -4,9 +4,9 @@ ghost use Rattle.bp_code.specs.Listing.{listing_text};
 ghost use Rattle.bp_view.specs.Listings.{IsSourcedListing};
 
 use crate::commands::ProgramCommand;
-use crate::faults::Fault;
 use bp_check::Checked;
 use bp_code::{Code as Flat, compile, lawful_program, list};
+use bp_messages::Fault;
 use bp_text::put;
 use bp_view::{code_objects, sourced_listing};
 use std::alloc::{AllocError, Global};

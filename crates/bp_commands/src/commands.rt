@@ -7,9 +7,9 @@ ghost use Rattle.bp_commands.specs.Given.{text_alone, text_and, Pair};
 
 use crate::ends::Ended;
 use crate::explanations::Beside;
-use crate::faults::Fault;
 use crate::inputs::{Source, read_pair, read_text};
 use bp_machine::Start;
+use bp_messages::Fault;
 use std::alloc::Global;
 use std::io::{Read, Write};
 

@@ -1,9 +1,9 @@
 //! The command `drive`.
 use crate::commands::PairCommand;
 use crate::explanations::Beside;
-use crate::faults::Fault;
 use bp_code::code_of;
 use bp_machine::{Report, Start};
+use bp_messages::Fault;
 use bp_trace::drive;
 use bp_trace::limits::MAX_SCHEDULE;
 use std::alloc::Global;

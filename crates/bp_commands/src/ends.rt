@@ -2,10 +2,8 @@
 ghost use Rattle.std.specs.Prelude.{◌≡◌};
 ghost use Rattle.bp_commands.specs.Ends.{Ending, Ends, HasFaultLine, HasSummary, never, nothing_explained, of_report, of_run};
 
-use crate::fault_lines::show_fault;
-use crate::fault_table::exit_status;
-use crate::faults::Fault;
 use bp_machine::{Outcome, Report};
+use bp_messages::{Fault, exit_status, show_fault};
 use bp_run::RunReport;
 use bp_text::WriteFault;
 use std::alloc::AllocError;

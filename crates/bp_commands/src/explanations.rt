@@ -6,13 +6,13 @@ ghost use Rattle.bp_commands.specs.Explanations.{ExplainsInput, ExplainsPair, Ex
 ghost use Rattle.bp_commands.specs.Given.{Pair};
 
 use crate::ends::Explained;
-use crate::faults::Fault;
 use crate::hints::Hints;
 use crate::messages::shown_sentence;
 use bp_code::ProgramFault;
 use bp_confirm::ConfirmFault;
 use bp_explain::{explain_program, explain_schedule, explain_steps, explain_trace};
 use bp_machine::Start;
+use bp_messages::Fault;
 use bp_syntax::ReadFault;
 use bp_text::Piece::Bytes;
 use bp_text::{WriteFault, first_line, put, put_pieces};

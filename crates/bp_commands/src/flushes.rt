@@ -2,7 +2,7 @@
 ghost use Rattle.std.specs.Io.Buffered.{writer_contents};
 ghost use Rattle.bp_commands.specs.Flushes.{IsFlushed};
 
-use crate::faults::Fault;
+use bp_messages::Fault;
 use std::io::{BufWriter, Write};
 
 /// Flushes a buffer after a command's answer, and gives back the output.

@@ -1,12 +1,12 @@
 //! What the sentence of a fault says of the command line: which file, or which option.
 
-use crate::faults::Fault;
 use crate::files::Failure;
 use bp_board::limits::{MAX_RING, MAX_TURN};
 use bp_code::ProgramFault;
 use bp_explain::{start_sentence, variable_sentence};
 use bp_machine::limits::{MAX_CALLS, MAX_CONTEXTS};
 use bp_machine::{SetupFault, Start};
+use bp_messages::Fault;
 use bp_run::RunOptions;
 use bp_syntax::ReadFault;
 use bp_syntax::limits::TEXT_LIMIT;

@@ -1,44 +1,19 @@
 //! Reading the inputs of a command, each within its limit.
 ghost use Rattle.std.specs.Prelude.{◌≡◌, ◌+◌, MatchResult};
 ghost use Rattle.std.specs.IoError.{error_kind};
-ghost use Rattle.bp_commands.specs.Faults.{fault_of_text};
+ghost use Rattle.bp_messages.specs.Faults.{fault_of_text};
 ghost use Rattle.bp_commands.specs.Inputs.{reading_fault_of, IsInput, IsInputRefusal, TookAtMost};
 ghost use Rattle.bp_commands.specs.Given.{IsPairIn, IsPairUnread, IsReadRefused, IsText, IsTextUnread};
 
-use crate::faults::Fault;
 use bp_code::ProgramFault;
+use bp_messages::{Fault, InputFault};
 use bp_syntax::ReadFault;
 use bp_syntax::limits::TEXT_LIMIT;
-use std::alloc::{AllocError, Global};
+use std::alloc::Global;
 use std::io::{self, ErrorKind, Read};
-use thiserror::Error;
 
 /// How many bytes are asked for at a time.
 const CHUNK: usize = 4096;
-
-/// Why an input is not read.
-#[derive(Clone, Copy, Debug, PartialEq, Eq, Error)]
-pub enum InputFault {
-    /// It could not be opened, or a read failed.
-    #[error("the input could not be read")]
-    Device,
-    /// The input is longer than its limit.
-    #[error("the input is too long")]
-    TooLong,
-    /// There was not enough memory.
-    #[error("out of memory")]
-    Memory,
-}
-
-impl From<AllocError> for InputFault {
-    ghost use Rattle.bp_commands.specs.declared.inputs.InputFault.{InputFault};
-
-    ghost from_gives = { λ _ e. e ≡ InputFault.Memory };
-
-    fn from(_: AllocError) -> InputFault {
-        InputFault::Memory
-    }
-}
 
 /// Why an input is not opened or read.
 fn reading_fault(error: &io::Error) -> InputFault

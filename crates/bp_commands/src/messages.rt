@@ -1,7 +1,7 @@
 //! The sentence that says what a fault is, alone.
 
-use crate::faults::Fault;
 use crate::hints::Hints;
+use bp_messages::Fault;
 use bp_text::{first_line, part_from, push_bytes};
 use std::alloc::{AllocError, Global};
 

@@ -1,9 +1,9 @@
 //! The command `migrate`.
 use crate::commands::PairCommand;
 use crate::explanations::Beside;
-use crate::faults::Fault;
 use bp_code::code_of;
 use bp_machine::Report;
+use bp_messages::Fault;
 use bp_trace::limits::MAX_TRACE;
 use bp_trace::migrate;
 use std::alloc::Global;

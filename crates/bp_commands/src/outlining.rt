@@ -1,9 +1,9 @@
 //! The command `show --contexts`.
 use crate::commands::PairCommand;
 use crate::explanations::Beside;
-use crate::faults::Fault;
 use crate::showing::program_of;
 use bp_machine::Report;
+use bp_messages::Fault;
 use bp_text::put;
 use bp_trace::limits::MAX_TRACE;
 use bp_view::{ViewFormat, contexts_of};

@@ -1,10 +1,9 @@
 //! The command `replay`.
 use crate::commands::PairCommand;
 use crate::explanations::Beside;
-use crate::faults::Fault;
-use crate::replay_lines::show_replay;
 use bp_code::code_of;
 use bp_machine::Report;
+use bp_messages::{Fault, show_replay};
 use bp_trace::limits::MAX_TRACE;
 use bp_trace::replay;
 use std::alloc::Global;

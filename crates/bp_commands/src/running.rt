@@ -5,8 +5,8 @@ ghost use Rattle.bp_commands.specs.Explanations.{AreReadOr};
 ghost use Rattle.bp_commands.specs.Given.{text_alone};
 ghost use Rattle.bp_commands.specs.Runs.{runs};
 
-use crate::faults::Fault;
 use crate::inputs::{Source, read_text};
+use bp_messages::Fault;
 use bp_run::{Gate, RunOptions, RunReport, run};
 use std::alloc::Global;
 use std::io::{Read, Write};

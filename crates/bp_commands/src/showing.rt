@@ -5,10 +5,10 @@ ghost use Rattle.bp_code.specs.StandsFor.{StandsFor};
 
 use crate::commands::PairCommand;
 use crate::explanations::Beside;
-use crate::faults::Fault;
 use bp_check::Checked;
 use bp_code::{Code, CodeFault, compile, lawful_program};
 use bp_machine::Report;
+use bp_messages::Fault;
 use bp_trace::limits::MAX_TRACE;
 use bp_view::{ViewOptions, view};
 use std::alloc::Global;

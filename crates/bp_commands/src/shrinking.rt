@@ -1,9 +1,9 @@
 //! The command `shrink`.
 use crate::commands::PairCommand;
 use crate::explanations::Beside;
-use crate::faults::Fault;
 use bp_code::code_of;
 use bp_machine::Report;
+use bp_messages::Fault;
 use bp_test::{failed_instruction, shrink};
 use bp_trace::limits::MAX_TRACE;
 use bp_trace::{Unwatched, replay_watched, write_trace};

@@ -1,10 +1,10 @@
 //! The command `show --steps`.
 use crate::commands::PairCommand;
 use crate::explanations::Beside;
-use crate::faults::Fault;
 use crate::showing::program_of;
 use bp_confirm::{own_steps, put_steps};
 use bp_machine::Report;
+use bp_messages::Fault;
 use bp_trace::limits::MAX_TRACE;
 use std::alloc::Global;
 use std::io::Write;

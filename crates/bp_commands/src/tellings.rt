@@ -3,21 +3,19 @@ ghost use Rattle.std.specs.Prelude.{◌≡◌, ℕ, List, Option, IfOk};
 ghost use Rattle.bp_text.specs.Writing.{Writes};
 ghost use Rattle.bp_commands.specs.Ends.{Ends};
 ghost use Rattle.bp_commands.specs.Explanations.{ExplainsPair, ExplainsText, IsExplanationOf, IsSaid, IsTold};
-ghost use Rattle.bp_commands.specs.FaultObjects.{name_in};
-ghost use Rattle.bp_commands.specs.FaultTable.{status_of};
+ghost use Rattle.bp_messages.specs.FaultObjects.{name_in};
+ghost use Rattle.bp_messages.specs.FaultTable.{status_of};
 ghost use Rattle.bp_commands.specs.Given.{text_alone_of, Pair};
 ghost use Rattle.bp_commands.specs.Tellings.{is_explained, IsConcluded, IsFileOfPair, IsFileOfText, IsObjectIn, IsReported};
-ghost use Rattle.bp_commands.specs.declared.faults.Fault.{Fault as SomeFault};
+ghost use Rattle.bp_messages.specs.declared.faults.Fault.{Fault as SomeFault};
 
 use crate::ends::{Ended, Explained, RunEnd, end};
 use crate::explanations::{Beside, Named, of_pair, of_program, put_explanation};
 use crate::fault_formats::FaultFormat;
-use crate::fault_objects::put_fault_object;
-use crate::faults::Fault;
 use crate::hints::Hints;
 use crate::messages::message;
-use crate::step_objects::value_in;
 use bp_machine::Start;
+use bp_messages::{Fault, put_fault_object, value_in};
 use std::alloc::{AllocError, Global};
 use std::io::Write;
 

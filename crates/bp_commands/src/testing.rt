@@ -4,13 +4,10 @@ ghost use Rattle.bp_commands.specs.Tests.{name_of, AreListed};
 
 use crate::commands::ProgramCommand;
 use crate::ends::Ended;
-use crate::faults::Fault;
-use crate::notes::{Notes, notes_of};
 use crate::showing::program_of;
-use crate::summaries::put_summary;
-use crate::summary_objects::put_summary_objects;
 use bp_check::Checked;
 use bp_machine::Start;
+use bp_messages::{Fault, Notes, Tested, notes_of, put_summary, put_summary_objects};
 use bp_test::{Counts, Found, Progress, TestOptions, Waiting, test};
 use bp_text::{Position, WriteFault};
 use bp_view::{statement_lines, statement_positions, statement_texts, unreached_objects};
@@ -33,31 +30,6 @@ pub struct Test<'a, R, P> {
     /// The name of the program's text, where its statements that no run reached are listed.
     pub listed: Option<&'a str>,
     /// Whether the summary is JSON objects.
-    pub json: bool,
-}
-
-/// What a test found, and how well the program was tested.
-#[derive(Drop)]
-pub struct Tested {
-    /// What was asked for.
-    pub options: TestOptions,
-    pub found: Found,
-    /// The instruction whose assertion failed in the run that was found, where one did.
-    pub failed: Option<u32>,
-    /// The threads that wait at the end of the run that was found.
-    pub waiting: Vec<Waiting>,
-    /// Where the statements of the instructions begin.
-    pub positions: Vec<Option<Position>>,
-    /// The texts of the statements of the instructions.
-    pub statements: Vec<Vec<u8>>,
-    pub counts: Counts,
-    /// Where that may mislead.
-    pub notes: Notes,
-    /// The lines of the program's statements, where those that no run reached are listed.
-    pub lines: Vec<Vec<u8>>,
-    /// For each instruction of the code, whether a run reached it.
-    pub reached: Vec<bool>,
-    /// Whether the summary is JSON objects. The lines of the statements then are objects too.
     pub json: bool,
 }
 

@@ -6,7 +6,7 @@ use Rattle.std.specs.declared.io.ErrorKind.TheVariants as io
 use Rattle.bp_text.specs.Writing.{Writes}
 use Rattle.bp_text.specs.declared.writing.WriteFault.{WriteFault}
 use Rattle.bp_commands.specs.Ends.{HasFaultLine}
-use Rattle.bp_commands.specs.declared.faults.Fault.TheVariants as fault
+use Rattle.bp_messages.specs.declared.faults.Fault.TheVariants as fault
 use Rattle.clap.specs.declared.error.kind.ErrorKind.{ErrorKind}
 use Rattle.clap.specs.declared.error.kind.ErrorKind.TheVariants.{OutOfMemory, DisplayHelp, DisplayVersion}
 use Rattle.btrun.specs.Refusals.{refusal_object}

@@ -1,6 +1,6 @@
 //! The line of progress of a test, on a terminal.
 
-use bp_commands::{clear_progress, put_progress};
+use bp_messages::{clear_progress, put_progress};
 use bp_test::Progress;
 use std::time::Instant;
 

@@ -2,13 +2,14 @@
 ghost use Rattle.std.specs.IoError.{error_kind};
 ghost use Rattle.clap.specs.Words.{kind_of};
 ghost use Rattle.std.specs.Prelude.{◌≡◌, MatchResult};
-ghost use Rattle.bp_commands.specs.declared.faults.Fault.{Fault};
+ghost use Rattle.bp_messages.specs.declared.faults.Fault.{Fault};
 ghost use Rattle.bp_commands.specs.Ends.{HasFaultLine};
 ghost use Rattle.btrun.specs.Statuses.{IsWordsStatus, IsWordsLine, IsUnreadStatus, IsUnreadLine};
 
 use crate::echoes::Echo;
 use crate::refusals::put_refusal;
-use bp_commands::{Explained, Fault, RunEnd, end};
+use bp_commands::{Explained, RunEnd, end};
+use bp_messages::Fault;
 use bp_text::WriteFault;
 use bp_words::not_text;
 use clap::Error;

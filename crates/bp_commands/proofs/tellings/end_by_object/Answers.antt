@@ -1,7 +1,7 @@
 use Rattle.std.proofs.Common.{refl, option_map, subst}
 use Rattle.bp_confirm.specs.StepLines.{value_of}
-use Rattle.bp_commands.specs.FaultObjects.{fault_object, name_in}
-use Rattle.bp_commands.specs.StepObjects.{IsValueIn}
+use Rattle.bp_messages.specs.FaultObjects.{fault_object, name_in}
+use Rattle.bp_messages.specs.StepObjects.{IsValueIn}
 use Rattle.bp_commands.specs.Tellings.{IsObjectIn}
 use Rattle.bp_commands.proofs.tellings.end_by_object.Goals as goal
 

@@ -1,0 +1,11 @@
+pub mod Failures
+pub mod FaultObjects
+pub mod FaultTable
+pub mod Faults
+pub mod Notes
+pub mod ProgressTexts
+pub mod ReplayLines
+pub mod StepObjects
+pub mod Summaries
+pub mod SummaryObjects
+pub mod Waits

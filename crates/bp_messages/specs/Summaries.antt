@@ -1,0 +1,78 @@
+-- What a user reads of a test on standard error.
+use Rattle.std.specs.Prelude.{ℕ, Bool, true, false, List, [], ◌∷◌, ◌++◌, Vec, codes, decimal}
+use Rattle.std.specs.declared.alloc.Global.{Global}
+use Rattle.std.specs.List.{concat}
+use Rattle.bp_test.specs.declared.counts.Counts.{Counts}
+use Rattle.bp_test.specs.declared.testing.Found.{Found}
+use Rattle.bp_test.specs.declared.testing.Found.TheVariants.{Nothing, Failed, Deadlock}
+use Rattle.bp_messages.specs.declared.tested.Tested.{Tested}
+use Rattle.bp_messages.specs.Failures.{failed_assertion, failure_text, statement_of}
+use Rattle.bp_messages.specs.Notes.{notes_text}
+use Rattle.bp_messages.specs.Waits.{waits_text}
+
+abbrev pub found_words : List ℕ → (run runs : ℕ) → List ℕ
+found_words words run runs =
+    concat (words ∷ codes " in run " ∷ decimal run ∷ codes " of " ∷ decimal runs ∷ [])
+
+-- a deadlock in a run of this test, and where its threads wait
+abbrev pub deadlock_text : Tested → (run : ℕ) → List ℕ
+deadlock_text x run =
+    found_words (codes "deadlock") run x.options.runs
+    ++ (waits_text x.positions.items x.waiting.items ++ codes "\n")
+
+abbrev pub nothing_text : List ℕ → (runs : ℕ) → List ℕ
+nothing_text words runs = concat (words ∷ codes " in " ∷ decimal runs ∷ codes " runs\n" ∷ [])
+
+-- what was looked for and not found
+abbrev pub nothing_words : Bool → List ℕ
+nothing_words false = codes "no assertion failed"
+nothing_words true = codes "no assertion failed and no deadlock"
+
+-- the first line: what was found
+abbrev pub finding_text : Tested → Found → List ℕ
+finding_text x Nothing = nothing_text (nothing_words x.options.with_deadlock) x.options.runs
+finding_text x (Failed run report) =
+    let failure = failed_assertion x in
+    failure_text failure (statement_of x.statements.items failure) run x.options.runs
+finding_text x (Deadlock run report) = deadlock_text x run
+
+-- how many runs were made, how they ended, and what they reached
+abbrev pub counts_text : Counts → List ℕ
+counts_text x =
+    concat (
+    codes "runs " ∷ decimal x.runs
+    ∷ codes ", calls " ∷ decimal x.calls
+    ∷ codes ", longest " ∷ decimal x.longest
+    ∷ codes "\nended: finished " ∷ decimal x.ends.finished
+    ∷ codes ", out of contexts " ∷ decimal x.ends.out_of_contexts
+    ∷ codes ", cut off " ∷ decimal x.ends.cut_off
+    ∷ codes ", starved " ∷ decimal x.ends.starved
+    ∷ codes ", deadlocked " ∷ decimal x.ends.deadlocked
+    ∷ codes "\ncontexts: least " ∷ decimal x.contexts.least
+    ∷ codes ", middle " ∷ decimal x.contexts.middle
+    ∷ codes ", most " ∷ decimal x.contexts.most
+    ∷ codes "\nreached: statements " ∷ decimal x.statements.reached
+    ∷ codes " of " ∷ decimal x.statements.all
+    ∷ codes ", assertions " ∷ decimal x.assertions.reached
+    ∷ codes " of " ∷ decimal x.assertions.all
+    ∷ codes ", threads " ∷ decimal x.threads.reached
+    ∷ codes " of " ∷ decimal x.threads.all
+    ∷ codes "\n" ∷ [])
+
+-- the line of a statement that was not reached
+abbrev pub line_unless : Bool → Vec ℕ Global → List ℕ
+line_unless true line = []
+line_unless false line = line.items
+
+-- those of these lines whose statements were not reached
+abbrev pub unreached_text : List (Vec ℕ Global) → List Bool → List ℕ
+unreached_text [] marks = []
+unreached_text (line ∷ lines) [] = []
+unreached_text (line ∷ lines) (is_reached ∷ marks) =
+    line_unless is_reached line ++ unreached_text lines marks
+
+abbrev pub summary_text : Tested → List ℕ
+summary_text x =
+    finding_text x x.found
+    ++ (counts_text x.counts
+    ++ (notes_text x.notes ++ unreached_text x.lines.items x.reached.items))

@@ -1,0 +1,69 @@
+-- What a tool reads of a test on standard error: an object of what was found and of what the runs
+-- reached, and one for each statement that no run reached.
+use Rattle.std.specs.Prelude.{ℕ, List, [], ◌∷◌, ◌++◌, Option, None, Some, codes, decimal}
+use Rattle.std.specs.List.{concat}
+use Rattle.bp_test.specs.declared.counts.Counts.{Counts}
+use Rattle.bp_test.specs.declared.testing.Found.{Found}
+use Rattle.bp_test.specs.declared.testing.Found.TheVariants.{Nothing, Failed, Deadlock}
+use Rattle.bp_text.specs.JsonStrings.{string_text}
+use Rattle.bp_text.specs.Pieces.{key_text, number_or_null}
+use Rattle.bp_messages.specs.declared.tested.Tested.{Tested}
+use Rattle.bp_messages.specs.Failures.{failure_member, failed_assertion, statement_of}
+use Rattle.bp_messages.specs.Notes.{notes_members}
+use Rattle.bp_messages.specs.Summaries.{unreached_text}
+use Rattle.bp_messages.specs.Waits.{waits_member}
+
+abbrev pub found_name : Found → List ℕ
+found_name Nothing = codes "nothing"
+found_name (Failed run report) = codes "failed"
+found_name (Deadlock run report) = codes "deadlock"
+
+-- the run in which something was found
+abbrev pub found_run : Found → Option ℕ
+found_run Nothing = None
+found_run (Failed run report) = Some run
+found_run (Deadlock run report) = Some run
+
+-- what was found, and in which run of how many
+abbrev pub finding_members : Found → (runs : ℕ) → List ℕ
+finding_members found runs =
+    concat (
+    codes "{\"kind\":\"test\",\"version\":2"
+    ∷ key_text (codes "found") ∷ string_text (found_name found)
+    ∷ key_text (codes "run") ∷ number_or_null (found_run found)
+    ∷ key_text (codes "of") ∷ decimal runs ∷ [])
+
+-- how many runs were made, how they ended, how many contexts they used, and what they reached
+abbrev pub counts_members : Counts → List ℕ
+counts_members x =
+    concat (
+    key_text (codes "runs") ∷ decimal x.runs
+    ∷ key_text (codes "calls") ∷ decimal x.calls
+    ∷ key_text (codes "longest") ∷ decimal x.longest
+    ∷ codes ",\"ended\":{\"finished\":" ∷ decimal x.ends.finished
+    ∷ key_text (codes "out_of_contexts") ∷ decimal x.ends.out_of_contexts
+    ∷ key_text (codes "cut_off") ∷ decimal x.ends.cut_off
+    ∷ key_text (codes "starved") ∷ decimal x.ends.starved
+    ∷ key_text (codes "deadlocked") ∷ decimal x.ends.deadlocked
+    ∷ codes "},\"contexts\":{\"least\":" ∷ decimal x.contexts.least
+    ∷ key_text (codes "middle") ∷ decimal x.contexts.middle
+    ∷ key_text (codes "most") ∷ decimal x.contexts.most
+    ∷ codes "},\"statements\":{\"reached\":" ∷ decimal x.statements.reached
+    ∷ key_text (codes "all") ∷ decimal x.statements.all
+    ∷ codes "},\"assertions\":{\"reached\":" ∷ decimal x.assertions.reached
+    ∷ key_text (codes "all") ∷ decimal x.assertions.all
+    ∷ codes "},\"threads\":{\"reached\":" ∷ decimal x.threads.reached
+    ∷ key_text (codes "all") ∷ decimal x.threads.all
+    ∷ codes "}" ∷ [])
+
+abbrev pub summary_object : Tested → List ℕ
+summary_object x =
+    let failure = failed_assertion x in
+    finding_members x.found x.options.runs
+    ++ (failure_member failure (statement_of x.statements.items failure)
+    ++ (waits_member x.positions.items x.waiting.items
+    ++ (counts_members x.counts ++ notes_members x.notes)))
+
+-- the summary, and the objects of the statements that were not reached
+abbrev pub summary_objects : Tested → List ℕ
+summary_objects x = summary_object x ++ unreached_text x.lines.items x.reached.items

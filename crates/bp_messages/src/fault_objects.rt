@@ -1,0 +1,144 @@
+//! The object of a fault in JSON. It is written without memory, so that refused memory has one too.
+ghost use Rattle.std.specs.Prelude.{◌≡◌, option_map};
+ghost use Rattle.bp_text.specs.Writing.{Writes};
+ghost use Rattle.bp_text.specs.Pieces.{piece_text, string_or_null};
+ghost use Rattle.bp_confirm.specs.StepLines.{value_of};
+ghost use Rattle.bp_messages.specs.FaultObjects.{byte_of, column_in, facts_text, fault_object, letter_text, line_in, message_text, name_in, thread_of};
+ghost use Rattle.bp_messages.specs.FaultTable.{row_of};
+
+use crate::fault_table::{Detail, Row};
+use crate::faults::Fault;
+use crate::step_objects::put_step;
+use bp_confirm::SeenValue;
+use bp_text::Piece::{Bytes, Key, Letter, Number, NumberOrNull, Text, TextOrNull};
+use bp_text::{Piece, WriteFault, position_of, put_pieces};
+use std::io::Write;
+
+/// The byte of the program text that a fault names.
+fn byte_of(detail: Detail) -> Option<u64>
+    ensures { result ≡ byte_of detail }
+{
+    match detail {
+        Detail::Byte(at) => Some(u64::from(at)),
+        _ => None,
+    }
+}
+
+/// The guest thread that a fault names.
+fn thread_of(detail: Detail) -> Option<u64>
+    ensures { result ≡ thread_of detail }
+{
+    match detail {
+        Detail::Thread(thread) | Detail::ThreadOn(_, thread) => Some(u64::from(thread)),
+        Detail::Step(refusal) => Some(u64::from(refusal.thread)),
+        _ => None,
+    }
+}
+
+/// The line that a fault names: that of its byte, or that of a schedule, of steps or of a trace.
+fn line_in(text: &[u8], detail: Detail) -> Option<u64>
+    ensures { result ≡ line_in text.now detail }
+{
+    match detail {
+        Detail::Byte(at) => Some(position_of(text, at as usize).line as u64),
+        Detail::Line(line) | Detail::ThreadOn(line, _) | Detail::Wanted(line, _) => {
+            Some(u64::from(line))
+        }
+        Detail::Step(refusal) => Some(u64::from(refusal.line)),
+        _ => None,
+    }
+}
+
+/// The column of the byte of the program text that a fault names.
+fn column_in(text: &[u8], detail: Detail) -> Option<u64>
+    ensures { result ≡ column_in text.now detail }
+{
+    match detail {
+        Detail::Byte(at) => Some(position_of(text, at as usize).column as u64),
+        _ => None,
+    }
+}
+
+/// The letter of the reply that is wanted, as a trace has it.
+fn wanted_letter<'a>(detail: Detail) -> Piece<'a>
+    ensures { piece_text result ≡ string_or_null (letter_text detail) }
+{
+    match detail {
+        Detail::Wanted(_, reply) => Letter(reply.letter()),
+        _ => TextOrNull(None),
+    }
+}
+
+/// The bytes of a name, where there is one.
+fn bytes_of<'a>(name: Option<&'a str>) -> Option<&'a [u8]>
+    ensures { name_in result ≡ name_in name.entry }
+{
+    match name {
+        Some(name) => Some(name.as_bytes()),
+        None => None,
+    }
+}
+
+/// Writes the facts of a row of the table that each fault has.
+fn put_facts<'a, W: Write>(
+    row: Row,
+    file: Option<&'a str>,
+    text: &[u8],
+    out: &mut W,
+) -> Result<(), WriteFault>
+    ensures { let facts = facts_text (row_of row) (name_in file.entry) text.now in
+        Writes (W.contents out.old) (W.contents out.new) facts result }
+{
+    let detail = row.detail;
+    put_pieces(
+        out,
+        &[
+            Bytes(b"{\"kind\":\"fault\",\"version\":1"),
+            Key(b"number"),
+            Number(u64::from(row.number)),
+            Key(b"name"),
+            Text(row.name),
+            Key(b"file"),
+            TextOrNull(bytes_of(file)),
+            Key(b"offset"),
+            NumberOrNull(byte_of(detail)),
+            Key(b"line"),
+            NumberOrNull(line_in(text, detail)),
+            Key(b"column"),
+            NumberOrNull(column_in(text, detail)),
+            Key(b"thread"),
+            NumberOrNull(thread_of(detail)),
+            Key(b"wanted"),
+            wanted_letter(detail),
+        ],
+    )
+}
+
+/// Writes the sentence that ends an object.
+fn put_message<W: Write>(message: &[u8], out: &mut W) -> Result<(), WriteFault>
+    ensures { Writes (W.contents out.old) (W.contents out.new) (message_text message.now) result }
+{
+    put_pieces(out, &[Key(b"message"), Text(message), Bytes(b"}\n")])
+}
+
+/// Writes the object of a fault: its row of the table, the file that it is in, its place there, the
+/// step that it is about, and a sentence that says what it is. The text is that of the program, and
+/// the value is the one on a line of steps that the fault names.
+pub fn put_fault_object<'a, W: Write>(
+    fault: &Fault,
+    file: Option<&'a str>,
+    text: &[u8],
+    value: Option<SeenValue<'a>>,
+    message: &'a [u8],
+    out: &mut W,
+) -> Result<(), WriteFault>
+    ensures { let file = name_in file.entry in
+        let value = option_map value_of value.entry in
+        let object = fault_object fault.now file text.now value message.entry.now in
+        Writes (W.contents out.old) (W.contents out.new) object result }
+{
+    let row = fault.row();
+    put_facts(row, file, text, out)?;
+    put_step(row.detail, value, out)?;
+    put_message(message, out)
+}

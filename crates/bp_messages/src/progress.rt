@@ -1,0 +1,64 @@
+//! The line of progress of a test.
+ghost use Rattle.std.specs.Prelude.{◌≡◌};
+ghost use Rattle.bp_text.specs.Writing.{Writes};
+ghost use Rattle.bp_messages.specs.ProgressTexts.{cleared, progress_text, rate_of, seconds_left};
+
+use bp_text::Piece::{Bytes, Number};
+use bp_text::{WriteFault, put, put_pieces};
+use std::io::Write;
+
+/// What puts the cursor of a terminal at the beginning of the line and clears it.
+fn cleared() -> &'static [u8]
+    ensures { result.now ≡ cleared }
+{
+    b"\r\x1b[K"
+}
+
+/// How many runs are made in a second, at the rate of those that were made in this time.
+fn rate_of(done: u64, millis: u64) -> u64
+    ensures { result ≡ rate_of done millis }
+{
+    done.saturating_mul(1000) / millis.max(1)
+}
+
+/// How many seconds the other runs take at this rate, rounded down.
+fn seconds_left(done: u64, runs: u64, rate: u64) -> u64
+    ensures { result ≡ seconds_left done runs rate }
+{
+    runs.saturating_sub(done) / rate.max(1)
+}
+
+/// Writes a line over the one before: how many runs of all are done, how many are made in a second,
+/// and how many seconds are left.
+pub fn put_progress<W: Write>(
+    done: u64,
+    runs: u64,
+    millis: u64,
+    out: &mut W,
+) -> Result<(), WriteFault>
+    ensures { let text = progress_text done runs millis in
+        Writes (W.contents out.old) (W.contents out.new) text result }
+{
+    let rate = rate_of(done, millis);
+    put_pieces(
+        out,
+        &[
+            Bytes(cleared()),
+            Number(done),
+            Bytes(b" of "),
+            Number(runs),
+            Bytes(b" runs, "),
+            Number(rate),
+            Bytes(b" a second, "),
+            Number(seconds_left(done, runs, rate)),
+            Bytes(b" s left"),
+        ],
+    )
+}
+
+/// Takes the line of progress away.
+pub fn clear_progress<W: Write>(out: &mut W) -> Result<(), WriteFault>
+    ensures { Writes (W.contents out.old) (W.contents out.new) cleared result }
+{
+    put(out, cleared())
+}

@@ -1,0 +1,74 @@
+//! The lines that show a replay.
+ghost use Rattle.std.specs.Prelude.{◌≡◌, flat_map, map};
+ghost use Rattle.bp_text.specs.Writing.{Writes};
+ghost use Rattle.bp_trace.specs.Replayed.{row_of};
+ghost use Rattle.bp_messages.specs.ReplayLines.{bit_text, outcome_line, printed_line, row_line, shown_text};
+
+use bp_machine::Outcome;
+use bp_text::Piece::{Bytes, Number};
+use bp_text::{WriteFault, put, put_pieces};
+use bp_trace::{Printed, Replayed};
+use std::io::Write;
+
+/// The digit of a value.
+fn bit_text(value: bool) -> &'static [u8]
+    ensures { result.now ≡ bit_text value }
+{
+    if value { b"1" } else { b"0" }
+}
+
+/// Writes the digit of each value.
+fn put_values<W: Write>(values: &[bool], out: &mut W) -> Result<(), WriteFault>
+    ensures { Writes (W.contents out.old) (W.contents out.new)
+        (flat_map bit_text values.now) result }
+{
+    for value in values {
+        put(out, bit_text(*value))?;
+    }
+    Ok(())
+}
+
+/// Writes the line of what a step printed.
+fn put_row<W: Write>(row: &Printed, out: &mut W) -> Result<(), WriteFault>
+    ensures { Writes (W.contents out.old) (W.contents out.new) (row_line (row_of row.now)) result }
+{
+    let thread = u64::from(row.thread);
+    put_pieces(out, &[Bytes(b"print "), Number(thread), Bytes(b" ")])?;
+    put_values(row.values.as_slice(), out)?;
+    put(out, b"\n")
+}
+
+/// Writes a line for each row.
+fn put_rows<W: Write>(rows: &[Printed], out: &mut W) -> Result<(), WriteFault>
+    ensures { Writes (W.contents out.old) (W.contents out.new)
+        (flat_map printed_line rows.now) result }
+{
+    for row in rows {
+        put_row(row, out)?;
+    }
+    Ok(())
+}
+
+/// Writes the line of an outcome.
+fn put_outcome<W: Write>(outcome: Outcome, out: &mut W) -> Result<(), WriteFault>
+    ensures { Writes (W.contents out.old) (W.contents out.new) (outcome_line outcome) result }
+{
+    match outcome {
+        Outcome::Clean => put(out, b"outcome clean\n"),
+        Outcome::Failed { thread } => {
+            let number = Number(u64::from(thread));
+            put_pieces(out, &[Bytes(b"outcome failed "), number, Bytes(b"\n")])
+        }
+    }
+}
+
+/// Writes `print T BITS` for each step that printed, with its thread and values, and after them
+/// `outcome clean`, or `outcome failed T` with the thread whose assertion failed.
+pub fn show_replay<W: Write>(replayed: &Replayed, out: &mut W) -> Result<(), WriteFault>
+    ensures { let rows = map row_of replayed.now.printed.items in
+        Writes (W.contents out.old) (W.contents out.new)
+        (shown_text rows replayed.now.report.outcome) result }
+{
+    put_rows(replayed.printed.as_slice(), out)?;
+    put_outcome(replayed.report.outcome, out)
+}

@@ -1,0 +1,172 @@
+//! The summary of a test: what was found, and how well the program was tested.
+ghost use Rattle.std.specs.Prelude.{◌≡◌};
+ghost use Rattle.bp_text.specs.Writing.{Writes};
+ghost use Rattle.bp_messages.specs.Summaries.{counts_text, deadlock_text, finding_text, found_words};
+ghost use Rattle.bp_messages.specs.Summaries.{line_unless, nothing_text, nothing_words, summary_text, unreached_text};
+
+use crate::failures::{failed_assertion, put_failure, statement_of};
+use crate::notes::put_notes;
+use crate::tested::Tested;
+use crate::waits::put_waits;
+use bp_test::{Counts, Found};
+use bp_text::Piece::{Bytes, Number};
+use bp_text::{WriteFault, put, put_pieces};
+use std::io::Write;
+
+/// Writes what was found in one of this many runs.
+fn put_found<W: Write>(words: &[u8], run: u64, runs: u64, out: &mut W) -> Result<(), WriteFault>
+    ensures { let text = found_words words.now run runs in
+        Writes (W.contents out.old) (W.contents out.new) text result }
+{
+    put_pieces(
+        out,
+        &[
+            Bytes(words),
+            Bytes(b" in run "),
+            Number(run),
+            Bytes(b" of "),
+            Number(runs),
+        ],
+    )
+}
+
+/// Writes that a deadlock was found in a run of this test, and where its threads wait.
+fn put_deadlock<W: Write>(tested: &Tested, run: u64, out: &mut W) -> Result<(), WriteFault>
+    ensures { let text = deadlock_text tested.now run in
+        Writes (W.contents out.old) (W.contents out.new) text result }
+{
+    put_found(b"deadlock", run, tested.options.runs, out)?;
+    put_waits(tested.positions.as_slice(), tested.waiting.as_slice(), out)?;
+    put(out, b"\n")
+}
+
+/// What was looked for and not found.
+fn nothing_words(with_deadlock: bool) -> &'static [u8]
+    ensures { result.now ≡ nothing_words with_deadlock }
+{
+    if with_deadlock {
+        b"no assertion failed and no deadlock"
+    } else {
+        b"no assertion failed"
+    }
+}
+
+/// Writes that nothing was found in this many runs.
+fn put_nothing<W: Write>(words: &[u8], runs: u64, out: &mut W) -> Result<(), WriteFault>
+    ensures { let text = nothing_text words.now runs in
+        Writes (W.contents out.old) (W.contents out.new) text result }
+{
+    put_pieces(
+        out,
+        &[
+            Bytes(words),
+            Bytes(b" in "),
+            Number(runs),
+            Bytes(b" runs\n"),
+        ],
+    )
+}
+
+/// Writes what was found.
+fn put_finding<W: Write>(tested: &Tested, out: &mut W) -> Result<(), WriteFault>
+    ensures { let text = finding_text tested.now tested.now.found in
+        Writes (W.contents out.old) (W.contents out.new) text result }
+{
+    let runs = tested.options.runs;
+    match tested.found {
+        Found::Nothing => put_nothing(nothing_words(tested.options.with_deadlock), runs, out),
+        Found::Failed { run, .. } => {
+            let failure = failed_assertion(tested);
+            let statement = statement_of(tested.statements.as_slice(), failure);
+            put_failure(failure, statement, run, runs, out)
+        }
+        Found::Deadlock { run, .. } => put_deadlock(tested, run, out),
+    }
+}
+
+/// Writes how many runs were made, how they ended, and what they reached.
+fn put_counts<W: Write>(counts: &Counts, out: &mut W) -> Result<(), WriteFault>
+    ensures { let text = counts_text counts.now in
+        Writes (W.contents out.old) (W.contents out.new) text result }
+{
+    put_pieces(
+        out,
+        &[
+            Bytes(b"runs "),
+            Number(counts.runs),
+            Bytes(b", calls "),
+            Number(counts.calls),
+            Bytes(b", longest "),
+            Number(counts.longest),
+            Bytes(b"\nended: finished "),
+            Number(counts.ends.finished),
+            Bytes(b", out of contexts "),
+            Number(counts.ends.out_of_contexts),
+            Bytes(b", cut off "),
+            Number(counts.ends.cut_off),
+            Bytes(b", starved "),
+            Number(counts.ends.starved),
+            Bytes(b", deadlocked "),
+            Number(counts.ends.deadlocked),
+            Bytes(b"\ncontexts: least "),
+            Number(counts.contexts.least),
+            Bytes(b", middle "),
+            Number(counts.contexts.middle),
+            Bytes(b", most "),
+            Number(counts.contexts.most),
+            Bytes(b"\nreached: statements "),
+            Number(counts.statements.reached),
+            Bytes(b" of "),
+            Number(counts.statements.all),
+            Bytes(b", assertions "),
+            Number(counts.assertions.reached),
+            Bytes(b" of "),
+            Number(counts.assertions.all),
+            Bytes(b", threads "),
+            Number(counts.threads.reached),
+            Bytes(b" of "),
+            Number(counts.threads.all),
+            Bytes(b"\n"),
+        ],
+    )
+}
+
+/// The line of a statement that was not reached.
+fn line_unless(is_reached: bool, line: &Vec<u8>) -> &[u8]
+    ensures { result.now ≡ line_unless is_reached line.now }
+{
+    if is_reached { b"" } else { line.as_slice() }
+}
+
+/// Writes the lines of the statements that no run reached.
+pub(crate) fn put_unreached<W: Write>(
+    lines: &[Vec<u8>],
+    reached: &[bool],
+    out: &mut W,
+) -> Result<(), WriteFault>
+    ensures { let text = unreached_text lines.now reached.now in
+        Writes (W.contents out.old) (W.contents out.new) text result }
+{
+    let mut lines = lines;
+    let mut reached = reached;
+    while let (Some((line, more)), Some((is_reached, others))) = (
+        lines.split_first(),
+        reached.split_first(),
+    ) {
+        put(out, line_unless(*is_reached, line))?;
+        lines = more;
+        reached = others;
+    }
+    Ok(())
+}
+
+/// Writes the summary of a test.
+pub fn put_summary<W: Write>(tested: &Tested, out: &mut W) -> Result<(), WriteFault>
+    ensures { let text = summary_text tested.now in
+        Writes (W.contents out.old) (W.contents out.new) text result }
+{
+    put_finding(tested, out)?;
+    put_counts(&tested.counts, out)?;
+    put_notes(tested.notes, out)?;
+    put_unreached(tested.lines.as_slice(), tested.reached.as_slice(), out)
+}

@@ -1,0 +1,125 @@
+//! The summary of a test in JSON: an object of what was found and of what the runs reached, and one
+//! for each statement that no run reached. It is written without memory.
+ghost use Rattle.std.specs.Prelude.{◌≡◌};
+ghost use Rattle.bp_text.specs.Writing.{Writes};
+ghost use Rattle.bp_messages.specs.SummaryObjects.{counts_members, finding_members, found_name, found_run, summary_object, summary_objects};
+
+use crate::failures::{failed_assertion, put_failure_member, statement_of};
+use crate::notes::put_notes_members;
+use crate::summaries::put_unreached;
+use crate::tested::Tested;
+use crate::waits::put_waits_member;
+use bp_test::{Counts, Found};
+use bp_text::Piece::{Bytes, Key, Number, NumberOrNull, Text};
+use bp_text::{WriteFault, put_pieces};
+use std::io::Write;
+
+/// The word for what was found.
+fn found_name(found: Found) -> &'static [u8]
+    ensures { result.now ≡ found_name found }
+{
+    match found {
+        Found::Nothing => b"nothing",
+        Found::Failed { .. } => b"failed",
+        Found::Deadlock { .. } => b"deadlock",
+    }
+}
+
+/// The run in which something was found.
+fn found_run(found: Found) -> Option<u64>
+    ensures { result ≡ found_run found }
+{
+    match found {
+        Found::Nothing => None,
+        Found::Failed { run, .. } | Found::Deadlock { run, .. } => Some(run),
+    }
+}
+
+/// Writes what was found, and in which run of this many.
+fn put_finding_members<W: Write>(found: Found, runs: u64, out: &mut W) -> Result<(), WriteFault>
+    ensures { let text = finding_members found runs in
+        Writes (W.contents out.old) (W.contents out.new) text result }
+{
+    put_pieces(
+        out,
+        &[
+            Bytes(b"{\"kind\":\"test\",\"version\":2"),
+            Key(b"found"),
+            Text(found_name(found)),
+            Key(b"run"),
+            NumberOrNull(found_run(found)),
+            Key(b"of"),
+            Number(runs),
+        ],
+    )
+}
+
+/// Writes how many runs were made, how they ended, and what they reached.
+fn put_counts_members<W: Write>(counts: &Counts, out: &mut W) -> Result<(), WriteFault>
+    ensures { let text = counts_members counts.now in
+        Writes (W.contents out.old) (W.contents out.new) text result }
+{
+    put_pieces(
+        out,
+        &[
+            Key(b"runs"),
+            Number(counts.runs),
+            Key(b"calls"),
+            Number(counts.calls),
+            Key(b"longest"),
+            Number(counts.longest),
+            Bytes(b",\"ended\":{\"finished\":"),
+            Number(counts.ends.finished),
+            Key(b"out_of_contexts"),
+            Number(counts.ends.out_of_contexts),
+            Key(b"cut_off"),
+            Number(counts.ends.cut_off),
+            Key(b"starved"),
+            Number(counts.ends.starved),
+            Key(b"deadlocked"),
+            Number(counts.ends.deadlocked),
+            Bytes(b"},\"contexts\":{\"least\":"),
+            Number(counts.contexts.least),
+            Key(b"middle"),
+            Number(counts.contexts.middle),
+            Key(b"most"),
+            Number(counts.contexts.most),
+            Bytes(b"},\"statements\":{\"reached\":"),
+            Number(counts.statements.reached),
+            Key(b"all"),
+            Number(counts.statements.all),
+            Bytes(b"},\"assertions\":{\"reached\":"),
+            Number(counts.assertions.reached),
+            Key(b"all"),
+            Number(counts.assertions.all),
+            Bytes(b"},\"threads\":{\"reached\":"),
+            Number(counts.threads.reached),
+            Key(b"all"),
+            Number(counts.threads.all),
+            Bytes(b"}"),
+        ],
+    )
+}
+
+/// Writes the object of what was found and of what the runs reached.
+fn put_summary_object<W: Write>(tested: &Tested, out: &mut W) -> Result<(), WriteFault>
+    ensures { let text = summary_object tested.now in
+        Writes (W.contents out.old) (W.contents out.new) text result }
+{
+    put_finding_members(tested.found, tested.options.runs, out)?;
+    let failure = failed_assertion(tested);
+    let statement = statement_of(tested.statements.as_slice(), failure);
+    put_failure_member(failure, statement, out)?;
+    put_waits_member(tested.positions.as_slice(), tested.waiting.as_slice(), out)?;
+    put_counts_members(&tested.counts, out)?;
+    put_notes_members(tested.notes, out)
+}
+
+/// Writes the summary of a test as objects, each on a line.
+pub fn put_summary_objects<W: Write>(tested: &Tested, out: &mut W) -> Result<(), WriteFault>
+    ensures { let text = summary_objects tested.now in
+        Writes (W.contents out.old) (W.contents out.new) text result }
+{
+    put_summary_object(tested, out)?;
+    put_unreached(tested.lines.as_slice(), tested.reached.as_slice(), out)
+}

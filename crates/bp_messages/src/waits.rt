@@ -1,0 +1,150 @@
+//! Which threads wait at the end of a run, and where. They are written without memory.
+ghost use Rattle.std.specs.Prelude.{◌≡◌, [], codes, option_map};
+ghost use Rattle.bp_text.specs.Writing.{Writes};
+ghost use Rattle.bp_messages.specs.Waits.{position_of, position_of_wait, wait_object, wait_objects, wait_text};
+ghost use Rattle.bp_messages.specs.Waits.{waits_member, waits_text};
+
+use bp_test::Waiting;
+use bp_text::Piece::{Bytes, Key, Number, NumberOrNull};
+use bp_text::{Position, WriteFault, put, put_pieces};
+use std::io::Write;
+
+/// Where the statement of an instruction begins, where those of all begin there.
+pub(crate) fn position_of(positions: &[Option<Position>], number: u32) -> Option<Position>
+    ensures { result ≡ position_of positions.now number }
+{
+    match positions.get(number as usize) {
+        Some(position) => *position,
+        None => None,
+    }
+}
+
+/// Where the statement begins at which a thread waits.
+fn position_of_wait(positions: &[Option<Position>], wait: Waiting) -> Option<Position>
+    ensures { result ≡ position_of_wait positions.now wait }
+{
+    position_of(positions, wait.number)
+}
+
+/// Writes a thread that waits, after these words, and where.
+fn put_wait<'a, W: Write>(
+    before: &'a [u8],
+    verb: &'a [u8],
+    thread: u32,
+    position: Option<Position>,
+    out: &mut W,
+) -> Result<(), WriteFault>
+    ensures { let text = wait_text before.now verb.now thread position in
+        Writes (W.contents out.old) (W.contents out.new) text result }
+{
+    match position {
+        None => put_pieces(out, &[Bytes(before), Number(thread as u64)]),
+        Some(position) => put_pieces(
+            out,
+            &[
+                Bytes(before),
+                Number(thread as u64),
+                Bytes(verb),
+                Number(position.line as u64),
+                Bytes(b":"),
+                Number(position.column as u64),
+            ],
+        ),
+    }
+}
+
+/// Writes the threads that wait, and where, after a colon.
+pub(crate) fn put_waits<W: Write>(
+    positions: &[Option<Position>],
+    waiting: &[Waiting],
+    out: &mut W,
+) -> Result<(), WriteFault>
+    ensures { let text = waits_text positions.now waiting.now in
+        Writes (W.contents out.old) (W.contents out.new) text result }
+{
+    let mut before: &[u8] = b": thread ";
+    let mut verb: &[u8] = b" waits at ";
+    let mut waiting = waiting;
+    while let Some((wait, more)) = waiting.split_first() {
+        let position = position_of_wait(positions, *wait);
+        put_wait(before, verb, wait.thread, position, out)?;
+        before = b", thread ";
+        verb = b" at ";
+        waiting = more;
+    }
+    Ok(())
+}
+
+/// The line of a position.
+fn line_of(position: Option<Position>) -> Option<u64>
+    ensures { result ≡ option_map (λ p. p.line) position }
+{
+    let position = position?;
+    Some(position.line as u64)
+}
+
+/// The column of a position.
+fn column_of(position: Option<Position>) -> Option<u64>
+    ensures { result ≡ option_map (λ p. p.column) position }
+{
+    let position = position?;
+    Some(position.column as u64)
+}
+
+/// Writes the object of a thread that waits, after this.
+fn put_wait_object<W: Write>(
+    before: &[u8],
+    thread: u32,
+    position: Option<Position>,
+    out: &mut W,
+) -> Result<(), WriteFault>
+    ensures { let text = wait_object before.now thread position in
+        Writes (W.contents out.old) (W.contents out.new) text result }
+{
+    put_pieces(
+        out,
+        &[
+            Bytes(before),
+            Bytes(b"{\"thread\":"),
+            Number(thread as u64),
+            Key(b"line"),
+            NumberOrNull(line_of(position)),
+            Key(b"column"),
+            NumberOrNull(column_of(position)),
+            Bytes(b"}"),
+        ],
+    )
+}
+
+/// Writes the objects of the threads that wait, with commas between them.
+fn put_wait_objects<W: Write>(
+    positions: &[Option<Position>],
+    waiting: &[Waiting],
+    out: &mut W,
+) -> Result<(), WriteFault>
+    ensures { let text = wait_objects [] positions.now waiting.now in
+        Writes (W.contents out.old) (W.contents out.new) text result }
+{
+    let mut before: &[u8] = b"";
+    let mut waiting = waiting;
+    while let Some((wait, more)) = waiting.split_first() {
+        put_wait_object(before, wait.thread, position_of_wait(positions, *wait), out)?;
+        before = b",";
+        waiting = more;
+    }
+    Ok(())
+}
+
+/// Writes the member of an object with the threads that wait.
+pub(crate) fn put_waits_member<W: Write>(
+    positions: &[Option<Position>],
+    waiting: &[Waiting],
+    out: &mut W,
+) -> Result<(), WriteFault>
+    ensures { let text = waits_member positions.now waiting.now in
+        Writes (W.contents out.old) (W.contents out.new) text result }
+{
+    put(out, b",\"waiting\":[")?;
+    put_wait_objects(positions, waiting, out)?;
+    put(out, b"]")
+}
