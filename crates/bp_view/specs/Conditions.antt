@@ -1,4 +1,4 @@
--- The conditions at which threads stand, assertions and assumptions, with the values that they read.
+-- The conditions at which threads stand, assertions and assumptions, with the values they read.
 use Rattle.std.specs.Prelude.{◌≡◌, ℕ, Bool, List, [], ◌∷◌, ◌++◌, Option, None, Some, codes, decimal, drop, flat_map}
 use Rattle.std.specs.List.{concat}
 use Rattle.bp_tree.specs.Ast.{Decision, Procedure}

@@ -124,8 +124,8 @@ fn push_thread(
     Ok(())
 }
 
-/// How each thread of the session stands, and the frames of its stack. The session stands after this
-/// history.
+/// How each thread of the session stands, and the frames of its stack. The session stands after
+/// this history.
 fn threads_of(
     alloc: Global,
     setting: &Setting<'_>,

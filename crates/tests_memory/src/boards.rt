@@ -250,7 +250,8 @@ fn are_alike<R: Wait + Clock>(
     Ok(one || two)
 }
 
-/// Whether something was refused, and the calls of the program that calls itself are those without a refusal.
+/// Whether something was refused, and the calls of the program that calls itself are those without
+/// a refusal.
 fn calls_alike<R: Wait + Clock>(rt: &R, alloc: Global, way: Way) -> Result<bool, Fail> {
     let code = code(alloc, calls())?;
     let setup = setup(alloc, &code, 1, Some(42))?;
