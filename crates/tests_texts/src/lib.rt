@@ -1,4 +1,4 @@
-//! Tests of the public calls on texts: reading, checking, compiling and traces. They stand
+//! Tests of what no command shows of texts: trees, codes, and watchers of a replay. They stand
 //! here, and not in those crates, since a crate with tests is proved once more with them.
 #![tactic(auto)]
 
@@ -9,8 +9,6 @@ mod code;
 #[cfg(test)]
 mod syntax;
 #[cfg(test)]
-mod text;
-#[cfg(test)]
-mod trace;
-#[cfg(test)]
 mod tree;
+#[cfg(test)]
+mod watching;

@@ -1,4 +1,4 @@
-//! Watching a replay.
+//! Tests of watchers of a replay.
 
 use bp_machine::{AskFault, Call, Session, Setup};
 use bp_trace::{Watched, Watcher, replay_watched};
