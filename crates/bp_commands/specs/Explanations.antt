@@ -8,7 +8,8 @@ use Rattle.bp_code.specs.declared.texts.ProgramFault.TheVariants.{Read}
 use Rattle.bp_text.specs.OneLine.{IsOneLine}
 use Rattle.bp_text.specs.Writing.{Writes}
 use Rattle.bp_trace.specs.declared.replay_faults.ReplayFault.TheVariants as replay
-use Rattle.bp_explain.specs.Explained.{ExplainsProgram, ExplainsTrace, ExplainsSchedule, ExplainsSteps}
+use Rattle.bp_advice.specs.ExplainedPrograms.{ExplainsProgram}
+use Rattle.bp_explain.specs.Explained.{ExplainsTrace, ExplainsSchedule, ExplainsSteps}
 use Rattle.bp_commands.specs.declared.explanations.Beside.{Beside}
 use Rattle.bp_commands.specs.declared.explanations.Beside.TheVariants as beside
 use Rattle.bp_messages.specs.declared.faults.Fault.{Fault}

@@ -104,9 +104,9 @@ pub record EntriesLeft (s : SetupOf) (rest : List ℕ) (count : ℕ) (text : Lis
   pub text_is : text ≡ concat (map entry_line names) ++ (concat (setting_lines s) ++ rest)
 
 module _ (v : Version) (s : SetupOf) (has : HasHead s) (rest : List ℕ) where
-  behind_version : (w : Version) → after_line (head_text w s ++ rest) ≡ concat (map entry_line s.entries ++ setting_lines s) ++ rest
-  behind_version One = refl
-  behind_version Two = refl
+  after_version : (w : Version) → after_line (head_text w s ++ rest) ≡ concat (map entry_line s.entries ++ setting_lines s) ++ rest
+  after_version One = refl
+  after_version Two = refl
 
   pub all_entries : (trace text : List ℕ) → trace ≡ head_text v s ++ rest → text ≡ after_line trace → EntriesLeft s rest 0 text
   all_entries trace text e taken = record {
@@ -114,14 +114,14 @@ module _ (v : Version) (s : SetupOf) (has : HasHead s) (rest : List ℕ) where
     named = has.names;
     count_is = omega arith;
     text_is =
-        taken ∙ ap after_line e ∙ behind_version v ∙ ap (λ t. t ++ rest) (concat-append (map entry_line s.entries) (setting_lines s))
+        taken ∙ ap after_line e ∙ after_version v ∙ ap (λ t. t ++ rest) (concat-append (map entry_line s.entries) (setting_lines s))
         ∙ append_assoc (concat (map entry_line s.entries)) (concat (setting_lines s)) rest;
   }
 
 -- what follows the word that begins an entry line
-pub entry_cut : (name behind rest text : List ℕ) → text ≡ entry_line name ++ behind → text ≡ codes "entry " ++ rest → rest ≡ name ++ 10 ∷ behind
-entry_cut name behind rest text line word =
-    append_cancel_left (codes "entry ") rest (name ++ 10 ∷ behind) (sym word ∙ line ∙ ap (λ t. codes "entry " ++ t) (append_assoc name (codes "\n") behind))
+pub entry_cut : (name after rest text : List ℕ) → text ≡ entry_line name ++ after → text ≡ codes "entry " ++ rest → rest ≡ name ++ 10 ∷ after
+entry_cut name after rest text line word =
+    append_cancel_left (codes "entry ") rest (name ++ 10 ∷ after) (sym word ∙ line ∙ ap (λ t. codes "entry " ++ t) (append_assoc name (codes "\n") after))
 
 module _ (s : SetupOf) (rest text : List ℕ) (count : ℕ) where
   at_init : text ≡ concat (setting_lines s) ++ rest → text ≡ init_line s.init ++ (concat (limit_lines s) ++ rest)
@@ -133,8 +133,8 @@ module _ (s : SetupOf) (rest text : List ℕ) (count : ℕ) where
 
   -- where a line of an entry was taken, it was that of the first one that was left
   pub entry_passed : (more : List ℕ)
-      → ((name behind : List ℕ) → IsEntryName name → text ≡ entry_line name ++ behind → more ≡ behind)
-      → ((bits : List Bool) (behind : List ℕ) → text ≡ init_line bits ++ behind → ⊥)
+      → ((name after : List ℕ) → IsEntryName name → text ≡ entry_line name ++ after → more ≡ after)
+      → ((bits : List Bool) (after : List ℕ) → text ≡ init_line bits ++ after → ⊥)
       → EntriesLeft s rest count text → EntriesLeft s rest (count + 1) more
   entry_passed more entry init left = go left.names left.named left.count_is left.text_is
     where
@@ -148,7 +148,7 @@ module _ (s : SetupOf) (rest text : List ℕ) (count : ℕ) where
       }
 
   -- where none was taken, none was left
-  pub none_left : ((name behind : List ℕ) → IsEntryName name → text ≡ entry_line name ++ behind → ⊥)
+  pub none_left : ((name after : List ℕ) → IsEntryName name → text ≡ entry_line name ++ after → ⊥)
       → EntriesLeft s rest count text → (count ≡ threads s) × (text ≡ concat (setting_lines s) ++ rest)
   none_left entry left = go left.names left.named left.count_is left.text_is
     where

@@ -1,8 +1,3 @@
-mod AllKinds
 mod CallLines
 mod FirstCuts
-pub mod Followed
-pub mod Gaps
 mod HeadLines
-mod OneSpelling
-pub mod PlainTexts

@@ -1,59 +1,16 @@
--- What explains a fault of a program, of a trace, of a schedule and of reported steps.
-use Rattle.std.specs.Prelude.{◌≡◌, ◌⊎◌, ◌≤◌, ℕ, List, [], ◌∷◌, Option, Some, length, take, drop}
-use Rattle.bp_syntax.specs.Cut.{HasTokens}
-use Rattle.bp_syntax.specs.declared.faults.ReadFault.TheVariants as read
-use Rattle.bp_check.specs.declared.faults.CheckFault.TheVariants as check
-use Rattle.bp_code.specs.LawfulTexts.{program_fault_place}
-use Rattle.bp_code.specs.declared.texts.ProgramFault.{ProgramFault}
-use Rattle.bp_code.specs.declared.texts.ProgramFault.TheVariants.{Read, Check}
+-- What explains a fault of a trace, of a schedule and of reported steps.
+use Rattle.std.specs.Prelude.{◌≡◌, ◌⊎◌, ℕ, List, [], length}
 use Rattle.bp_machine.specs.declared.setup_faults.SetupFault.{SetupFault}
 use Rattle.bp_confirm.specs.declared.confirming.ConfirmFault.{ConfirmFault}
 use Rattle.bp_confirm.specs.declared.confirming.ConfirmFault.TheVariants as confirm
-use Rattle.bp_text.specs.Excerpts.{excerpt_of_place, excerpt_of_line, excerpt_of_fault}
+use Rattle.bp_text.specs.Excerpts.{excerpt_of_place, excerpt_of_line}
 use Rattle.bp_text.specs.Positions.{position_at}
 use Rattle.bp_trace.specs.declared.faults.DriveFault.{DriveFault}
 use Rattle.bp_trace.specs.declared.faults.DriveFault.TheVariants as drive
 use Rattle.bp_trace.specs.declared.replay_faults.ReplayFault.{ReplayFault}
 use Rattle.bp_trace.specs.declared.replay_faults.ReplayFault.TheVariants as replay
-use Rattle.bp_explain.specs.Explanations.{file_head, line_head, place_head, IsExplanation}
-use Rattle.bp_explain.specs.Followers.{MayFollow}
+use Rattle.bp_advice.specs.Explanations.{line_head, ExplainsLength, ExplainsLine, IsExplanation}
 use Rattle.bp_explain.specs.TraceParts.{IsSetupLine, IsWrongByte}
-
--- the explanation names this place of a text, where there is one, and shows its line with a caret
-abbrev pub ExplainsPlace : List ℕ → List ℕ → Option ℕ → List ℕ → Type 0
-ExplainsPlace name text place explained =
-    IsExplanation (place_head name text place) (excerpt_of_fault text place) explained
-
--- a semicolon is missing at this place, before the token that cannot come at `at`: a program may go
--- on with one there, and from there to the token is white and comments alone
-pub record MissesSemicolon (text : List ℕ) (at place : ℕ) : Type 0 where
-  pub before : place ≤ at
-  pub gap : HasTokens (drop place (take at text)) []
-  pub follows : MayFollow (take place text) (59 ∷ [])
-
--- the explanation names this place of a token that cannot come there, or one where a semicolon is
--- missing, and shows its line with a caret
-abbrev pub ExplainsSyntax : List ℕ → List ℕ → ℕ → List ℕ → Type 0
-ExplainsSyntax name text at explained =
-    (place : ℕ) × ((place ≡ at) ⊎ MissesSemicolon text at place)
-    × ExplainsPlace name text (Some place) explained
-
--- the explanation of a fault of a program's text: none of refused memory
-abbrev pub ExplainsProgram : List ℕ → List ℕ → ProgramFault → List ℕ → Type 0
-ExplainsProgram name text (Read read.Memory) explained = explained ≡ []
-ExplainsProgram name text (Read (read.Syntax at)) explained = ExplainsSyntax name text at explained
-ExplainsProgram name text (Check check.Memory at) explained = explained ≡ []
-ExplainsProgram name text fault explained =
-    ExplainsPlace name text (program_fault_place fault) explained
-
--- the explanation says that a text is too long, and shows none of it
-abbrev pub ExplainsLength : List ℕ → List ℕ → Type 0
-ExplainsLength name explained = IsExplanation (file_head name) [] explained
-
--- the explanation names this line of the text, and shows it
-abbrev pub ExplainsLine : List ℕ → List ℕ → ℕ → List ℕ → Type 0
-ExplainsLine name text n explained =
-    IsExplanation (line_head name n) (excerpt_of_line text n) explained
 
 -- this byte of the text is on this line
 abbrev pub IsOnLine : List ℕ → ℕ → ℕ → Type 0

@@ -1,8 +1,9 @@
 //! Sentences on a call of a trace that is not the machine's own, and on the end of a trace.
 
 use crate::recorded_calls::{Recorded, recorded_call};
-use crate::sentences::{push_all, push_number};
 use crate::trace_heads::is_version_two;
+use bp_advice::Part::{Number, Words};
+use bp_advice::{push_all, push_parts};
 use bp_machine::{Call, Reply};
 use bp_trace::{Counts, Due};
 use std::alloc::AllocError;
@@ -25,52 +26,68 @@ fn reason(reply: Reply) -> &'static [u8] {
     }
 }
 
-/// Adds a call as a trace of this version has it.
-fn push_call(out: &mut Vec<u8>, is_version_two: bool, call: Call) -> Result<(), AllocError> {
-    let digit = [digit_of(call.bit)];
-    let letter = [call.reply.letter()];
-    if is_version_two {
-        return push_all(out, &[b"'", &digit, &letter, b"'"]);
-    }
-    push_all(out, &[b"'"])?;
-    push_number(out, call.thread as usize)?;
-    push_all(out, &[b" ", &digit, b" ", &letter, b"'"])
-}
-
-/// Adds the line that ends a trace with these counts.
-fn push_end_line(out: &mut Vec<u8>, counts: Counts) -> Result<(), AllocError> {
-    push_all(out, &[b"'end "])?;
-    push_number(out, counts.calls as usize)?;
-    push_all(out, &[b" "])?;
-    push_number(out, counts.left_open as usize)?;
-    push_all(out, &[b"'"])
+/// Adds the line that ends a trace with these counts, between these words.
+fn push_end_line<'a>(
+    out: &mut Vec<u8>,
+    before: &'a [u8],
+    counts: Counts,
+    after: &'a [u8],
+) -> Result<(), AllocError> {
+    push_parts(
+        out,
+        &[
+            Words(before),
+            Words(b"'end "),
+            Number(counts.calls as usize),
+            Words(b" "),
+            Number(counts.left_open as usize),
+            Words(b"'"),
+            Words(after),
+        ],
+    )
 }
 
 /// Adds that the end line of a trace has to have these counts.
 pub(crate) fn push_other_end(out: &mut Vec<u8>, counts: Counts) -> Result<(), AllocError> {
-    push_all(out, &[b"expected "])?;
-    push_end_line(out, counts)?;
-    push_all(
-        out,
-        &[b": the number of calls, and of threads that may go on"],
-    )
+    let after = b": the number of calls, and of threads that may go on".as_slice();
+    push_end_line(out, b"expected ", counts, after)
 }
 
 /// Adds that an end line with these counts has to follow a trace.
 pub(crate) fn push_no_end(out: &mut Vec<u8>, counts: Counts) -> Result<(), AllocError> {
-    push_all(out, &[b"the trace ends here; expected "])?;
-    push_end_line(out, counts)?;
-    if counts.left_open > 0 {
-        push_all(out, &[b" or another line of calls"])?;
+    let after: &[u8] = if counts.left_open > 0 {
+        b" or another line of calls"
+    } else {
+        b""
+    };
+    push_end_line(out, b"the trace ends here; expected ", counts, after)
+}
+
+/// Adds that a call is due, as a trace of this version has it.
+fn push_due(out: &mut Vec<u8>, is_version_two: bool, call: Call) -> Result<(), AllocError> {
+    let digit = [digit_of(call.bit)];
+    let letter = [call.reply.letter()];
+    if is_version_two {
+        return push_all(out, &[b"expected '", &digit, &letter, b"': "]);
     }
-    Ok(())
+    push_parts(
+        out,
+        &[
+            Words(b"expected '"),
+            Number(call.thread as usize),
+            Words(b" "),
+            Words(&digit),
+            Words(b" "),
+            Words(&letter),
+            Words(b"': "),
+        ],
+    )
 }
 
 /// Adds the machine's own call in place of that of a trace, and why it is due.
 fn push_due_call(out: &mut Vec<u8>, trace: &[u8], own: Call, why: &[u8]) -> Result<(), AllocError> {
-    push_all(out, &[b"expected "])?;
-    push_call(out, is_version_two(trace), own)?;
-    push_all(out, &[b": ", why])
+    push_due(out, is_version_two(trace), own)?;
+    push_all(out, &[why])
 }
 
 /// Adds that a call of a trace has another choice bit than the seed.

@@ -1,8 +1,7 @@
 //! Sentences on a line of a trace's head that is not as expected.
 
-use crate::other_texts::{ENDS_IN_CR_LF, ends_in_cr_lf};
-use crate::sentences::push_all;
 use crate::trace_heads::init_line;
+use bp_advice::{ENDS_IN_CR_LF, ends_in_cr_lf, push_all};
 use bp_text::line_of;
 use std::alloc::AllocError;
 

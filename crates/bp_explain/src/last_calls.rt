@@ -1,7 +1,7 @@
 //! By which call of a schedule a thread is finished, and why.
 
-use crate::numbers::number_at_front;
-use crate::sentences::{push_all, push_name, push_number};
+use bp_advice::Part::{Name, Number, Words};
+use bp_advice::{number_at_front, push_all, push_parts};
 use bp_check::CheckFault;
 use bp_code::{Code, CodeFault, ProgramFault, code_of};
 use bp_machine::limits::MAX_FRAMES;
@@ -109,10 +109,16 @@ pub(crate) fn last_call(
 
 /// Adds an option with its number, and that this number is used up.
 fn push_used_up(out: &mut Vec<u8>, option: &[u8], number: u32) -> Result<(), AllocError> {
-    push_all(out, &[option])?;
-    push_number(out, number as usize)?;
     let verb: &[u8] = if number == 1 { b" is" } else { b" are" };
-    push_all(out, &[verb, b" used up"])
+    push_parts(
+        out,
+        &[
+            Words(option),
+            Number(number as usize),
+            Words(verb),
+            Words(b" used up"),
+        ],
+    )
 }
 
 /// Adds what was answered to a last call, and the line of it.
@@ -125,11 +131,17 @@ fn push_answer(out: &mut Vec<u8>, last: LastCall) -> Result<(), AllocError> {
         Reply::Failed => b" failed",
         Reply::Blocked | Reply::Stepped => b" made its last call",
     };
-    push_all(out, &[b"thread "])?;
-    push_number(out, last.thread as usize)?;
-    push_all(out, &[answer, b" at line "])?;
-    push_number(out, last.line)?;
-    push_all(out, &[b": "])
+    push_parts(
+        out,
+        &[
+            Words(b"thread "),
+            Number(last.thread as usize),
+            Words(answer),
+            Words(b" at line "),
+            Number(last.line),
+            Words(b": "),
+        ],
+    )
 }
 
 /// Adds that the procedure of a thread has ended.
@@ -137,9 +149,14 @@ fn push_ended(out: &mut Vec<u8>, start: &Start, thread: u32) -> Result<(), Alloc
     let Some(entry) = start.entries.get(thread as usize) else {
         return push_all(out, &[b"its procedure is finished"]);
     };
-    push_all(out, &[b"its procedure '"])?;
-    push_name(out, entry.as_bytes())?;
-    push_all(out, &[b"' is finished"])
+    push_parts(
+        out,
+        &[
+            Words(b"its procedure '"),
+            Name(entry.as_bytes()),
+            Words(b"' is finished"),
+        ],
+    )
 }
 
 /// Adds by which call a thread was finished, in a run from this start, and why.
@@ -153,11 +170,14 @@ pub(crate) fn push_last_call(
         Reply::Stopped => push_all(out, &[b"an assertion failed before"]),
         Reply::Ended => push_ended(out, start, last.thread),
         Reply::NoContexts => push_used_up(out, b"--contexts ", start.contexts),
-        Reply::Full => {
-            push_all(out, &[b"a stack has at most "])?;
-            push_number(out, MAX_FRAMES)?;
-            push_all(out, &[b" frames"])
-        }
+        Reply::Full => push_parts(
+            out,
+            &[
+                Words(b"a stack has at most "),
+                Number(MAX_FRAMES),
+                Words(b" frames"),
+            ],
+        ),
         Reply::Failed => push_all(out, &[b"its assertion was false"]),
         Reply::Blocked | Reply::Stepped => push_used_up(out, b"--calls ", start.calls),
     }

@@ -1,9 +1,8 @@
 //! Sentences on a line of a trace that is no line of calls and no end.
 
-use crate::numbers::number_at_front;
-use crate::other_texts::{ENDS_IN_CR_LF, ends_in_cr_lf};
-use crate::sentences::{push_all, push_count, push_number};
 use crate::trace_heads::{entry_count, is_version_two};
+use bp_advice::Part::{Count, Number, Words};
+use bp_advice::{ENDS_IN_CR_LF, ends_in_cr_lf, number_at_front, push_all, push_parts};
 use bp_text::{Line, line_of};
 use std::alloc::AllocError;
 
@@ -17,17 +16,27 @@ fn thread_of(line: Option<Line<'_>>) -> Option<u32> {
 }
 
 fn push_no_thread(out: &mut Vec<u8>, thread: u32, threads: usize) -> Result<(), AllocError> {
-    push_all(out, &[b"there is no thread "])?;
-    push_number(out, thread as usize)?;
-    push_all(out, &[b": the trace has "])?;
-    push_count(out, threads, b"thread")?;
-    push_all(out, &[b", counted from 0"])
+    push_parts(
+        out,
+        &[
+            Words(b"there is no thread "),
+            Number(thread as usize),
+            Words(b": the trace has "),
+            Count(threads, b"thread"),
+            Words(b", counted from 0"),
+        ],
+    )
 }
 
 fn push_same_thread(out: &mut Vec<u8>, thread: u32) -> Result<(), AllocError> {
-    push_all(out, &[b"the line before is of thread "])?;
-    push_number(out, thread as usize)?;
-    push_all(out, &[b" too, and has all its successive calls"])
+    push_parts(
+        out,
+        &[
+            Words(b"the line before is of thread "),
+            Number(thread as usize),
+            Words(b" too, and has all its successive calls"),
+        ],
+    )
 }
 
 /// Adds what a line after the head of a trace may be.

@@ -1,10 +1,9 @@
 //! Sentences on words of the command line that do not fit the program: entries, initial bits, names
 //! of variables.
 
-use crate::declared::tree_of;
-use crate::guesses::{push_near_entry, push_near_name};
-use crate::sentences::{push_all, push_count, push_name, push_number, push_quoted};
 use crate::setup_sentences::push_formals;
+use bp_advice::Part::{Count, Name as Named, Number, Quoted, Words};
+use bp_advice::{push_all, push_near_entry, push_near_name, push_parts, tree_of};
 use bp_machine::limits::DEFAULT_ENTRY;
 use bp_machine::{SetupFault, Start};
 use bp_syntax::Tree;
@@ -19,13 +18,11 @@ fn push_listed(out: &mut Vec<u8>, place: usize, name: &Name) -> Result<(), Alloc
     if place > LISTED_NAMES {
         return Ok(());
     }
-    if place > 0 {
-        push_all(out, &[b", "])?;
-    }
     if place == LISTED_NAMES {
-        return push_all(out, &[b".."]);
+        return push_all(out, &[b", .."]);
     }
-    push_name(out, name.text().as_bytes())
+    let between: &[u8] = if place == 0 { b"" } else { b", " };
+    push_parts(out, &[Words(between), Named(name.text().as_bytes())])
 }
 
 /// Adds the possible entries of a thread: the procedures without formals.
@@ -42,20 +39,16 @@ fn push_possible_entries(out: &mut Vec<u8>, tree: &Tree) -> Result<(), AllocErro
 
 /// Adds that the default entry does not exist, and lists the possible entries.
 fn push_no_default(out: &mut Vec<u8>, tree: &Tree) -> Result<(), AllocError> {
-    push_all(out, &[b"there is no procedure "])?;
-    push_quoted(out, DEFAULT_ENTRY.as_bytes())?;
+    let parts = [
+        Words(b"there is no procedure "),
+        Quoted(DEFAULT_ENTRY.as_bytes()),
+    ];
+    push_parts(out, &parts)?;
     if tree.procs().iter().all(|proc| !proc.formals().is_empty()) {
         return push_all(out, &[b", and none without formals"]);
     }
     push_all(out, &[b"; name an entry for each thread: "])?;
     push_possible_entries(out, tree)
-}
-
-/// Adds which thread a sentence is about.
-fn push_thread(out: &mut Vec<u8>, thread: u32) -> Result<(), AllocError> {
-    push_all(out, &[b"thread "])?;
-    push_number(out, thread as usize)?;
-    push_all(out, &[b": "])
 }
 
 /// Adds that the entry of a thread is no procedure.
@@ -71,9 +64,15 @@ fn push_unknown_entry(
     if start.entries.len() == 1 && entry.as_str() == DEFAULT_ENTRY {
         return push_no_default(out, tree);
     }
-    push_thread(out, thread)?;
-    push_all(out, &[b"no procedure "])?;
-    push_quoted(out, entry.as_bytes())?;
+    push_parts(
+        out,
+        &[
+            Words(b"thread "),
+            Number(thread as usize),
+            Words(b": no procedure "),
+            Quoted(entry.as_bytes()),
+        ],
+    )?;
     push_near_entry(out, tree, entry.as_bytes())
 }
 
@@ -86,7 +85,8 @@ fn push_entry_formals(
 ) -> Result<(), AllocError> {
     match start.entries.get(thread as usize) {
         Some(entry) => {
-            push_thread(out, thread)?;
+            let thread = Number(thread as usize);
+            push_parts(out, &[Words(b"thread "), thread, Words(b": ")])?;
             push_formals(out, tree, entry.as_bytes())
         }
         None => Ok(()),
@@ -99,9 +99,8 @@ fn push_globals(out: &mut Vec<u8>, globals: &[Name]) -> Result<(), AllocError> {
         return push_all(out, &[b"there are no globals"]);
     }
     let verb: &[u8] = if globals.len() == 1 { b"is " } else { b"are " };
-    push_all(out, &[b"there ", verb])?;
-    push_count(out, globals.len(), b"global")?;
-    push_all(out, &[b": "])?;
+    let count = Count(globals.len(), b"global");
+    push_parts(out, &[Words(b"there "), Words(verb), count, Words(b": ")])?;
     for (place, name) in globals.iter().enumerate() {
         push_listed(out, place, name)?;
     }
@@ -113,9 +112,8 @@ fn push_init(out: &mut Vec<u8>, tree: &Tree, start: &Start) -> Result<(), AllocE
     let Some(bits) = &start.init else {
         return Ok(());
     };
-    push_all(out, &[b"--init has "])?;
-    push_count(out, bits.len(), b"bit")?;
-    push_all(out, &[b", but "])?;
+    let count = Count(bits.len(), b"bit");
+    push_parts(out, &[Words(b"--init has "), count, Words(b", but ")])?;
     push_globals(out, tree.globals())
 }
 
@@ -151,8 +149,7 @@ pub fn variable_sentence(
     name: &[u8],
 ) -> Result<Vec<u8>, AllocError> {
     let mut sentence = Vec::new(alloc);
-    push_all(&mut sentence, &[b"no variable "])?;
-    push_quoted(&mut sentence, name)?;
+    push_parts(&mut sentence, &[Words(b"no variable "), Quoted(name)])?;
     if let Some(tree) = &tree_of(alloc, program)? {
         push_near_name(&mut sentence, tree, name)?;
     }

@@ -59,7 +59,7 @@ fn goes_on(text: &[u8]) -> bool
 }
 
 /// Passes over this many symbols of a line, which have this size, or as many as it has.
-fn behind_symbols(text: &[u8], size: usize, count: u64) -> Passed<'_>
+fn after_symbols(text: &[u8], size: usize, count: u64) -> Passed<'_>
     requires { 0 < size }
     ensures is { (v : Version) (xs : List Symbol) (more : List ℕ)
         → size ≡ symbol_size v
@@ -87,7 +87,7 @@ pub(crate) fn recorded_call(trace: &[u8], before: u64) -> Option<Recorded<'_>>
     let mut rest = body_of(trace);
     let mut left = before;
     while let Some((thread, symbols)) = cut_at_space(rest) {
-        let passed = behind_symbols(symbols, size, left);
+        let passed = after_symbols(symbols, size, left);
         if goes_on(passed.rest) {
             let bit_at = trace.len().saturating_sub(passed.rest.len());
             return Some(Recorded {

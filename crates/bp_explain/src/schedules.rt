@@ -1,13 +1,14 @@
 //! Explanations of the faults of schedules.
 ghost use Rattle.std.specs.Prelude.{IfOk};
-ghost use Rattle.bp_explain.specs.Explained.{ExplainsLine, ExplainsSchedule};
-ghost use Rattle.bp_explain.specs.Explanations.{IsPlain};
+ghost use Rattle.bp_explain.specs.Explained.{ExplainsSchedule};
+ghost use Rattle.bp_advice.specs.Explanations.{ExplainsLine, IsPlain};
 
-use crate::explanations::{about_line, explain_too_long};
 use crate::last_calls::{last_call, push_last_call};
-use crate::numbers::number_at_front;
-use crate::other_texts::{ENDS_IN_CR_LF, ends_in_cr_lf};
-use crate::sentences::{push_all, push_number};
+use bp_advice::Part::{Number, Words};
+use bp_advice::{
+    ENDS_IN_CR_LF, about_line, ends_in_cr_lf, explain_too_long, number_at_front, push_all,
+    push_parts,
+};
 use bp_machine::Start;
 use bp_text::{Line, line_of};
 use bp_trace::DriveFault;
@@ -16,9 +17,14 @@ use std::alloc::{AllocError, Global};
 
 /// Adds that no entry makes a thread of this number.
 pub(crate) fn push_no_entry(out: &mut Vec<u8>, thread: u32) -> Result<(), AllocError> {
-    push_all(out, &[b"there is no thread "])?;
-    push_number(out, thread as usize)?;
-    push_all(out, &[b": the first thread is 0, and each entry makes one"])
+    push_parts(
+        out,
+        &[
+            Words(b"there is no thread "),
+            Number(thread as usize),
+            Words(b": the first thread is 0, and each entry makes one"),
+        ],
+    )
 }
 
 /// Adds why this line is none of a schedule. One that is a thread and a choice bit is refused for

@@ -3,10 +3,9 @@ ghost use Rattle.std.specs.Prelude.{◌≡◌, nat_lt};
 ghost use Rattle.bp_machine.specs.declared.limits.TheConstants.{MAX_CONTEXTS};
 ghost use Rattle.bp_explain.specs.TraceParts.{BeginsWithHead, IsSetupLine, threads_line_number};
 
-use crate::declared::first_procedure;
-use crate::guesses::push_near_entry;
-use crate::sentences::{push_all, push_count, push_number, push_quoted};
 use crate::trace_heads::{FIRST_ENTRY, entries_of, entry_count, entry_of, init_line};
+use bp_advice::Part::{Count, Number, Quoted, Words};
+use bp_advice::{first_procedure, push_near_entry, push_parts};
 use bp_machine::SetupFault;
 use bp_machine::limits::{MAX_CALLS, MAX_CONTEXTS, MAX_THREADS};
 use bp_syntax::Tree;
@@ -58,8 +57,7 @@ pub(crate) fn line_of_setup(trace: &[u8], fault: SetupFault) -> usize
 }
 
 fn push_unknown_entry(out: &mut Vec<u8>, tree: &Tree, entry: &[u8]) -> Result<(), AllocError> {
-    push_all(out, &[b"there is no procedure "])?;
-    push_quoted(out, entry)?;
+    push_parts(out, &[Words(b"there is no procedure "), Quoted(entry)])?;
     push_near_entry(out, tree, entry)
 }
 
@@ -69,28 +67,40 @@ pub(crate) fn push_formals(out: &mut Vec<u8>, tree: &Tree, entry: &[u8]) -> Resu
         Some(proc) => proc.formals().len(),
         None => 0,
     };
-    push_quoted(out, entry)?;
-    push_all(out, &[b" has "])?;
-    push_count(out, formals, b"formal")?;
-    push_all(out, &[b"; a thread begins with a procedure that has none"])
+    push_parts(
+        out,
+        &[
+            Quoted(entry),
+            Words(b" has "),
+            Count(formals, b"formal"),
+            Words(b"; a thread begins with a procedure that has none"),
+        ],
+    )
 }
 
 fn push_globals(out: &mut Vec<u8>, tree: &Tree) -> Result<(), AllocError> {
-    push_all(
+    push_parts(
         out,
-        &[b"expected one initial bit for each global; the program has "],
-    )?;
-    push_count(out, tree.globals().len(), b"global")
+        &[
+            Words(b"expected one initial bit for each global; the program has "),
+            Count(tree.globals().len(), b"global"),
+        ],
+    )
 }
 
 fn push_range(out: &mut Vec<u8>, trace: &[u8]) -> Result<(), AllocError> {
-    if has_many_contexts(trace) {
-        push_all(out, &[b"the contexts are at most "])?;
-        push_number(out, MAX_CONTEXTS as usize)
+    let parts = if has_many_contexts(trace) {
+        [
+            Words(b"the contexts are at most "),
+            Number(MAX_CONTEXTS as usize),
+        ]
     } else {
-        push_all(out, &[b"the calls of a thread are 1 to "])?;
-        push_number(out, MAX_CALLS as usize)
-    }
+        [
+            Words(b"the calls of a thread are 1 to "),
+            Number(MAX_CALLS as usize),
+        ]
+    };
+    push_parts(out, &parts)
 }
 
 /// Adds what is wrong with the head of a trace, which says no setup of the program of this tree.
@@ -101,11 +111,14 @@ pub(crate) fn push_setup(
     fault: SetupFault,
 ) -> Result<(), AllocError> {
     match fault {
-        SetupFault::Threads => {
-            push_all(out, &[b"there must be 1 to "])?;
-            push_number(out, MAX_THREADS)?;
-            push_all(out, &[b" threads, each with a line 'entry NAME'"])
-        }
+        SetupFault::Threads => push_parts(
+            out,
+            &[
+                Words(b"there must be 1 to "),
+                Number(MAX_THREADS),
+                Words(b" threads, each with a line 'entry NAME'"),
+            ],
+        ),
         SetupFault::UnknownEntry(thread) => {
             push_unknown_entry(out, tree, entry_of(trace, thread as usize))
         }

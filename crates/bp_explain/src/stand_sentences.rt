@@ -1,26 +1,19 @@
 //! Words for the places at which threads stand.
 
-use crate::sentences::{push_all, push_number, push_quoted};
+use bp_advice::Part::{Number, Place, Quoted, Words};
+use bp_advice::{push_all, push_parts};
 use bp_confirm::{Location, Stand};
 use bp_text::{Position, line_of, part_before, part_from};
 use std::alloc::AllocError;
-
-/// Adds a line and a column.
-fn push_position(out: &mut Vec<u8>, line: usize, column: usize) -> Result<(), AllocError> {
-    push_number(out, line)?;
-    push_all(out, &[b":"])?;
-    push_number(out, column)
-}
 
 /// Adds a place as a line of steps names it.
 pub(crate) fn push_location(out: &mut Vec<u8>, location: Location) -> Result<(), AllocError> {
     match location {
         Location::End => push_all(out, &[b"the end of a procedure"]),
-        Location::Line(line) => {
-            push_all(out, &[b"line "])?;
-            push_number(out, line as usize)
+        Location::Line(line) => push_parts(out, &[Words(b"line "), Number(line as usize)]),
+        Location::Column(line, column) => {
+            push_parts(out, &[Place(line as usize, column as usize)])
         }
-        Location::Column(line, column) => push_position(out, line as usize, column as usize),
     }
 }
 
@@ -46,9 +39,9 @@ pub(crate) fn push_stand(
         Stand::Ended => push_all(out, &[b"no statement"]),
         Stand::End => push_all(out, &[b"the end of a procedure"]),
         Stand::Statement(position) => {
-            push_position(out, position.line, position.column)?;
-            push_all(out, &[b" "])?;
-            push_quoted(out, source_at(program, position).trim_ascii_end())
+            let source = source_at(program, position).trim_ascii_end();
+            let place = Place(position.line, position.column);
+            push_parts(out, &[place, Words(b" "), Quoted(source)])
         }
     }
 }

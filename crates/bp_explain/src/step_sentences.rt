@@ -1,9 +1,10 @@
 //! Sentences on a step that is not taken.
 
 use crate::last_calls::{LastCall, push_last_call};
-use crate::sentences::{push_all, push_count, push_name, push_number, push_quoted};
 use crate::stand_sentences::{push_location, push_stand};
 use crate::steps_before::{next_line_of, push_context_lines, steps_before};
+use bp_advice::Part::{Count, Name, Number, Quoted, Words};
+use bp_advice::{push_all, push_parts};
 use bp_confirm::{Stand, StepReason, StepRefusal, value_on_line};
 use bp_machine::limits::MAX_FRAMES;
 use bp_machine::{Reply, Start};
@@ -17,9 +18,12 @@ pub(crate) struct Confirming<'a> {
     pub(crate) steps: &'a [u8],
 }
 
-fn push_thread(out: &mut Vec<u8>, thread: u32) -> Result<(), AllocError> {
-    push_all(out, &[b"thread "])?;
-    push_number(out, thread as usize)
+/// Adds a thread and words on it.
+fn push_of_thread(out: &mut Vec<u8>, thread: u32, words: &[u8]) -> Result<(), AllocError> {
+    push_parts(
+        out,
+        &[Words(b"thread "), Number(thread as usize), Words(words)],
+    )
 }
 
 /// Adds where the thread is in place of the location of its line.
@@ -28,11 +32,10 @@ fn push_elsewhere(
     texts: Confirming<'_>,
     refusal: StepRefusal,
 ) -> Result<(), AllocError> {
-    push_thread(out, refusal.thread)?;
     if refusal.stand == Stand::Ended {
-        return push_all(out, &[b" has ended"]);
+        return push_of_thread(out, refusal.thread, b" has ended");
     }
-    push_all(out, &[b" is at "])?;
+    push_of_thread(out, refusal.thread, b" is at ")?;
     push_stand(out, texts.program, refusal.stand)?;
     push_all(out, &[b", not at "])?;
     push_location(out, refusal.location)
@@ -44,18 +47,16 @@ fn push_ambiguous(
     texts: Confirming<'_>,
     refusal: StepRefusal,
 ) -> Result<(), AllocError> {
-    push_thread(out, refusal.thread)?;
-    push_all(out, &[b" is at the '?' of "])?;
+    push_of_thread(out, refusal.thread, b" is at the '?' of ")?;
     push_stand(out, texts.program, refusal.stand)?;
-    push_all(out, &[b", and both ways lead to the place of "])?;
+    let (before, after) = (
+        Words(b", and both ways lead to the place of "),
+        Words(b", which wants a column"),
+    );
     match next_line_of(texts.steps, refusal.thread, refusal.line as usize) {
-        Some(line) => {
-            push_all(out, &[b"line "])?;
-            push_number(out, line)?;
-        }
-        None => push_all(out, &[b"its next step"])?,
+        Some(line) => push_parts(out, &[before, Words(b"line "), Number(line), after]),
+        None => push_parts(out, &[before, Words(b"its next step"), after]),
     }
-    push_all(out, &[b", which wants a column"])
 }
 
 /// Adds by which step a thread was finished, and why.
@@ -86,19 +87,20 @@ fn push_no_contexts(
     refusal: StepRefusal,
 ) -> Result<(), AllocError> {
     let before = steps_before(texts.steps, refusal.thread, refusal.line as usize);
-    push_all(out, &[b"this step begins another context, and only "])?;
-    push_count(out, before.contexts, b"context")?;
-    match before.contexts {
-        0 => push_all(out, &[b" are allowed"]),
-        1 => {
-            push_all(out, &[b" is allowed; it begins at line"])?;
-            push_context_lines(out, texts.steps, refusal.line as usize)
-        }
-        _ => {
-            push_all(out, &[b" are allowed; they begin at lines"])?;
-            push_context_lines(out, texts.steps, refusal.line as usize)
-        }
-    }
+    let allowed: &[u8] = match before.contexts {
+        0 => b" are allowed",
+        1 => b" is allowed; it begins at line",
+        _ => b" are allowed; they begin at lines",
+    };
+    push_parts(
+        out,
+        &[
+            Words(b"this step begins another context, and only "),
+            Count(before.contexts, b"context"),
+            Words(allowed),
+        ],
+    )?;
+    push_context_lines(out, texts.steps, refusal.line as usize)
 }
 
 /// Adds why the machine does not grant the step.
@@ -109,30 +111,32 @@ fn push_refused(
     reply: Reply,
 ) -> Result<(), AllocError> {
     match reply {
-        Reply::Stopped => {
-            push_all(out, &[b"an assertion failed at line "])?;
-            push_number(out, (refusal.line as usize).saturating_sub(1))?;
-            push_all(out, &[b", and no thread makes a step after that"])
-        }
+        Reply::Stopped => push_parts(
+            out,
+            &[
+                Words(b"an assertion failed at line "),
+                Number((refusal.line as usize).saturating_sub(1)),
+                Words(b", and no thread makes a step after that"),
+            ],
+        ),
         Reply::NoContexts => push_no_contexts(out, texts, refusal),
-        Reply::Full => {
-            push_thread(out, refusal.thread)?;
-            push_all(
-                out,
-                &[b" has no room for one more call: a stack has at most "],
-            )?;
-            push_number(out, MAX_FRAMES)?;
-            push_all(out, &[b" frames"])
-        }
+        Reply::Full => push_parts(
+            out,
+            &[
+                Words(b"thread "),
+                Number(refusal.thread as usize),
+                Words(b" has no room for one more call: a stack has at most "),
+                Number(MAX_FRAMES),
+                Words(b" frames"),
+            ],
+        ),
         Reply::Blocked => {
-            push_thread(out, refusal.thread)?;
-            push_all(out, &[b" waits at "])?;
+            push_of_thread(out, refusal.thread, b" waits at ")?;
             push_stand(out, texts.program, refusal.stand)?;
             push_all(out, &[b": its assumption is false"])
         }
         Reply::Ended | Reply::Failed | Reply::Stepped => {
-            push_thread(out, refusal.thread)?;
-            push_all(out, &[b" does not make this step"])
+            push_of_thread(out, refusal.thread, b" does not make this step")
         }
     }
 }
@@ -153,24 +157,26 @@ fn push_differs(
         return push_all(out, &[b"a value is another one after this step"]);
     };
     match seen {
-        Some(bit) => {
-            push_name(out, value.name)?;
-            push_all(
-                out,
-                &[
-                    b" is ",
-                    digit_of(bit),
-                    b" after this step, not ",
-                    digit_of(value.bit),
-                ],
-            )
-        }
-        None => {
-            push_thread(out, refusal.thread)?;
-            push_all(out, &[b" sees no variable "])?;
-            push_quoted(out, value.name)?;
-            push_all(out, &[b" after this step"])
-        }
+        Some(bit) => push_parts(
+            out,
+            &[
+                Name(value.name),
+                Words(b" is "),
+                Words(digit_of(bit)),
+                Words(b" after this step, not "),
+                Words(digit_of(value.bit)),
+            ],
+        ),
+        None => push_parts(
+            out,
+            &[
+                Words(b"thread "),
+                Number(refusal.thread as usize),
+                Words(b" sees no variable "),
+                Quoted(value.name),
+                Words(b" after this step"),
+            ],
+        ),
     }
 }
 

@@ -1,13 +1,12 @@
 //! Explanations of the faults of reported steps.
 ghost use Rattle.std.specs.Prelude.{IfOk};
-ghost use Rattle.bp_explain.specs.Explained.{ExplainsLine, ExplainsSteps};
-ghost use Rattle.bp_explain.specs.Explanations.{IsPlain};
+ghost use Rattle.bp_explain.specs.Explained.{ExplainsSteps};
+ghost use Rattle.bp_advice.specs.Explanations.{ExplainsLine, IsPlain};
 
-use crate::explanations::{about_line, explain_too_long};
-use crate::other_texts::{ENDS_IN_CR_LF, ends_in_cr_lf};
 use crate::schedules::push_no_entry;
-use crate::sentences::{push_all, push_quoted};
 use crate::step_sentences::{Confirming, push_refusal};
+use bp_advice::Part::{Quoted, Words};
+use bp_advice::{ENDS_IN_CR_LF, about_line, ends_in_cr_lf, explain_too_long, push_all, push_parts};
 use bp_confirm::{ConfirmFault, StepRefusal, value_on_line};
 use bp_machine::Start;
 use bp_text::line_of;
@@ -58,8 +57,7 @@ fn explain_no_variable(
     let mut sentence = Vec::new(alloc);
     push_all(&mut sentence, &[b"the program has no variable"])?;
     if let Some(value) = value_on_line(steps, number, place) {
-        push_all(&mut sentence, &[b" "])?;
-        push_quoted(&mut sentence, value.name)?;
+        push_parts(&mut sentence, &[Words(b" "), Quoted(value.name)])?;
     }
     about_line(alloc, name, steps, number as usize, sentence.as_slice())
 }

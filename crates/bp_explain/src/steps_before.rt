@@ -1,7 +1,7 @@
 //! What the steps before and after a line are.
 
-use crate::numbers::number_at_front;
-use crate::sentences::{push_all, push_number};
+use bp_advice::Part::{Number, Words};
+use bp_advice::{number_at_front, push_all, push_parts};
 use bp_text::{Line, take_line};
 use std::alloc::AllocError;
 
@@ -68,8 +68,7 @@ pub(crate) fn push_context_lines(
             push_all(out, &[b", .."])?;
         } else {
             let between: &[u8] = if contexts == 0 { b" " } else { b", " };
-            push_all(out, &[between])?;
-            push_number(out, line)?;
+            push_parts(out, &[Words(between), Number(line)])?;
         }
         contexts += 1;
         last = thread;

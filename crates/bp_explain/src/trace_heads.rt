@@ -16,7 +16,7 @@ pub(crate) const ENTRY: &[u8] = b"entry ";
 pub(crate) const FIRST_ENTRY: usize = 2;
 
 /// What follows the word that begins an entry line.
-fn behind_word(text: &[u8]) -> Option<&[u8]>
+fn after_word(text: &[u8]) -> Option<&[u8]>
     ensures { MatchOption result
         ((rest : List ℕ) → text.now ≢ ENTRY.now ++ rest)
         (λ rest. text.now ≡ ENTRY.now ++ rest.now) }
@@ -25,7 +25,7 @@ fn behind_word(text: &[u8]) -> Option<&[u8]>
 }
 
 /// What follows the entry line that begins the text.
-fn behind_entry(text: &[u8]) -> Option<&[u8]>
+fn after_entry(text: &[u8]) -> Option<&[u8]>
     ensures entry { (name rest : List ℕ)
         → IsEntryName name
         → text.now ≡ entry_line name ++ rest
@@ -35,7 +35,7 @@ fn behind_entry(text: &[u8]) -> Option<&[u8]>
         → IsNone result }
     ensures shorter { IfSome result (λ r. length r.now < length text.now) }
 {
-    let mut rest = behind_word(text)?;
+    let mut rest = after_word(text)?;
     let line = take_line(&mut rest)?;
     if line.words.is_empty() || !line.is_ended {
         return None;
@@ -62,7 +62,7 @@ pub(crate) fn entries_of(trace: &[u8]) -> Entries<'_>
     let mut settings = trace;
     let _version = take_line(&mut settings);
     let mut count = 0usize;
-    while let Some(rest) = behind_entry(settings) {
+    while let Some(rest) = after_entry(settings) {
         settings = rest;
         count += 1;
     }

@@ -1,17 +1,16 @@
 //! Explanations of the faults of traces.
 ghost use Rattle.std.specs.Prelude.{IfOk};
-ghost use Rattle.bp_explain.specs.Explained.{ExplainsCall, ExplainsLine, ExplainsNoEnd, ExplainsSetup, ExplainsTrace};
-ghost use Rattle.bp_explain.specs.Explanations.{IsPlain};
+ghost use Rattle.bp_explain.specs.Explained.{ExplainsCall, ExplainsNoEnd, ExplainsSetup, ExplainsTrace};
+ghost use Rattle.bp_advice.specs.Explanations.{ExplainsLine, IsPlain};
 
 use crate::call_excerpts::excerpt_in_line;
 use crate::call_sentences::{
     push_finished, push_no_end, push_other_bit, push_other_end, push_other_reply,
 };
-use crate::declared::tree_of;
-use crate::explanations::{about_excerpt, about_line, explain_too_long};
 use crate::head_sentences::push_head;
 use crate::line_sentences::push_body_line;
 use crate::setup_sentences::{line_of_setup, push_setup};
+use bp_advice::{about_excerpt, about_line, explain_too_long, tree_of};
 use bp_machine::SetupFault;
 use bp_text::position_of;
 use bp_trace::limits::MAX_TRACE;

@@ -2,7 +2,7 @@ use Rattle.std.proofs.Common.{◌≡◌, ℕ, List, Result, Ok, Err, IfOk, subst
 use Rattle.bp_text.specs.Excerpts.{excerpt_of_place}
 use Rattle.bp_trace.specs.declared.replay_faults.ReplayFault.{ReplayFault}
 use Rattle.bp_explain.specs.Explained.{ExplainsCall, IsOnLine, ShowsLine}
-use Rattle.bp_explain.specs.Explanations.{line_head, IsExplanation}
+use Rattle.bp_advice.specs.Explanations.{line_head, IsExplanation}
 use Rattle.bp_explain.specs.TraceParts.{IsWrongByte}
 use Rattle.bp_explain.proofs.traces.explain_call.Goals as goal
 

@@ -1,0 +1,3 @@
+pub mod ExplainedPrograms
+pub mod Explanations
+pub mod Followers
