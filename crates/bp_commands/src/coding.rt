@@ -1,7 +1,10 @@
 //! The command `code`.
-ghost use Rattle.std.specs.Prelude.{IfOk};
+ghost use Rattle.std.specs.Prelude.{◌≡◌, IfOk};
+ghost use Rattle.bp_code.specs.Compiled.{flat_of};
 ghost use Rattle.bp_code.specs.Listing.{listing_text};
+ghost use Rattle.bp_code.specs.StandsFor.{StandsFor};
 ghost use Rattle.bp_view.specs.Listings.{IsSourcedListing};
+ghost use Rattle.bp_commands.specs.Listings.{IsListingText};
 
 use crate::commands::ProgramCommand;
 use bp_check::Checked;
@@ -12,24 +15,6 @@ use bp_view::{code_objects, sourced_listing};
 use std::alloc::{AllocError, Global};
 use std::io::Write;
 
-/// The listing of a program's code, with the source of each instruction.
-fn sourced(
-    alloc: Global,
-    text: &[u8],
-    checked: &Checked,
-    code: &Flat,
-) -> Result<Vec<u8>, AllocError>
-    ensures { let listing = listing_text code.now in
-        IfOk result (λ v. IsSourcedListing text.now checked.now listing v.items) }
-{
-    let mut listing = Vec::new(alloc);
-    // A vector takes all that is written, unless memory is refused.
-    if list(code, &mut listing).is_err() {
-        return Err(AllocError);
-    }
-    sourced_listing(alloc, text, checked, &listing)
-}
-
 /// How the code of a program is listed.
 #[derive(Clone, Copy, Debug, PartialEq, Eq)]
 pub enum ListingForm {
@@ -39,6 +24,51 @@ pub enum ListingForm {
     Sourced,
     /// A JSON object on each line, with the place and the statement of each instruction.
     Json,
+}
+
+/// The listing of a program's code.
+fn plain(alloc: Global, code: &Flat) -> Result<Vec<u8>, AllocError>
+    ensures { IfOk result (λ v. v.items ≡ listing_text code.now) }
+{
+    let mut listing = Vec::new(alloc);
+    // A vector takes all that is written, unless memory is refused.
+    match list(code, &mut listing) {
+        Ok(()) => Ok(listing),
+        Err(_) => Err(AllocError),
+    }
+}
+
+/// The same with the source of each instruction.
+fn sourced(
+    alloc: Global,
+    text: &[u8],
+    checked: &Checked,
+    code: &Flat,
+) -> Result<Vec<u8>, AllocError>
+    ensures { let listing = listing_text code.now in
+        IfOk result (λ v. IsSourcedListing text.now checked.now listing v.items) }
+{
+    let listing = plain(alloc, code)?;
+    sourced_listing(alloc, text, checked, &listing)
+}
+
+/// The listing of a program's code in this form.
+fn listing_in(
+    alloc: Global,
+    form: ListingForm,
+    text: &[u8],
+    checked: &Checked,
+    code: &Flat,
+) -> Result<Vec<u8>, AllocError>
+    requires stands { StandsFor code.now checked.now }
+    requires compiled { code.now ≡ flat_of checked.now }
+    ensures { IfOk result (λ v. IsListingText form text.now checked.now v.items) }
+{
+    match form {
+        ListingForm::Lines => plain(alloc, code),
+        ListingForm::Sourced => sourced(alloc, text, checked, code),
+        ListingForm::Json => code_objects(alloc, text, checked, code),
+    }
 }
 
 /// `code`: writes the listing of a program's code, with the source of each instruction or without.
@@ -59,12 +89,8 @@ impl ProgramCommand for Code {
     fn apply<W: Write>(&self, alloc: Global, text: &[u8], out: &mut W) -> Result<(), Fault> {
         let checked = lawful_program(alloc, text)?;
         let code = compile(alloc, &checked)?;
-        let form = self.form;
-        match form {
-            ListingForm::Lines => list(&code, out)?,
-            ListingForm::Sourced => put(out, &sourced(alloc, text, &checked, &code)?)?,
-            ListingForm::Json => put(out, &code_objects(alloc, text, &checked, &code)?)?,
-        }
+        let listing = listing_in(alloc, self.form, text, &checked, &code)?;
+        put(out, &listing)?;
         Ok(())
     }
 }

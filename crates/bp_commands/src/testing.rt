@@ -1,5 +1,8 @@
 //! The command `test`.
-ghost use Rattle.std.specs.Prelude.{map, IfOk};
+ghost use Rattle.std.specs.Prelude.{◌≡◌, map, IfOk};
+ghost use Rattle.bp_code.specs.StandsFor.{places_of};
+ghost use Rattle.bp_view.specs.Scenes.{AreStatements};
+ghost use Rattle.bp_view.specs.StatementLines.{positions_of};
 ghost use Rattle.bp_commands.specs.Tests.{name_of, AreListed};
 
 use crate::commands::ProgramCommand;
@@ -70,6 +73,44 @@ fn lines_of(
     }
 }
 
+/// What the summary of a test says of the program's text.
+#[derive(Drop)]
+struct Description {
+    /// The lines of the statements, where these are to be listed.
+    lines: Vec<Vec<u8>>,
+    /// Where the statement of each instruction begins.
+    positions: Vec<Option<Position>>,
+    /// The statement of each instruction.
+    statements: Vec<Vec<u8>>,
+}
+
+/// The statements of a program, and their lines where its text has a name by which they are listed.
+fn description_of(
+    alloc: Global,
+    json: bool,
+    listed: Option<&str>,
+    text: &[u8],
+    checked: &Checked,
+) -> Result<Description, AllocError>
+    ensures lines { let name = name_of listed.entry in
+        IfOk result (λ d.
+        AreListed json name text.now checked.now (map (λ line. line.items) d.lines.items)) }
+    ensures positions { IfOk result (λ d.
+        d.positions.items ≡ positions_of text.now checked.now) }
+    ensures statements { IfOk result (λ d.
+        let statements = map (λ words. words.items) d.statements.items in
+        AreStatements text.now (places_of checked.now.procedures) statements) }
+{
+    let lines = lines_of(alloc, json, listed, text, checked)?;
+    let positions = statement_positions(alloc, text, checked)?;
+    let statements = statement_texts(alloc, text, checked)?;
+    Ok(Description {
+        lines,
+        positions,
+        statements,
+    })
+}
+
 impl<R: Threads + Sync, P: Progress> ProgramCommand for Test<'_, R, P> {
     ghost use Rattle.std.specs.Thread.{IsSync};
     ghost use Rattle.bp_commands.specs.Tests.{name_of, tests};
@@ -83,9 +124,7 @@ impl<R: Threads + Sync, P: Progress> ProgramCommand for Test<'_, R, P> {
     fn apply<W: Write>(&self, alloc: Global, text: &[u8], out: &mut W) -> Result<Tested, Fault> {
         let (checked, code) = program_of(alloc, text)?;
         let setup = self.start.setup(alloc, &code, None)?;
-        let lines = lines_of(alloc, self.json, self.listed, text, &checked)?;
-        let positions = statement_positions(alloc, text, &checked)?;
-        let statements = statement_texts(alloc, text, &checked)?;
+        let described = description_of(alloc, self.json, self.listed, text, &checked)?;
         let options = self.options;
         let (runtime, progress) = (self.runtime, self.progress);
         let tested = test(runtime, alloc, &code, &setup, &options, progress, out)?;
@@ -96,11 +135,11 @@ impl<R: Threads + Sync, P: Progress> ProgramCommand for Test<'_, R, P> {
             found: tested.found,
             failed: tested.failed,
             waiting: tested.waiting,
-            positions,
-            statements,
+            positions: described.positions,
+            statements: described.statements,
             counts,
             notes,
-            lines,
+            lines: described.lines,
             reached: tested.tally.reached,
             json: self.json,
         })

@@ -10,25 +10,9 @@ returns-in_err-setup g c =
     rw (p.1, p.2) (setup_refused c.args.self.now.start.now c.args.self.now.options _ c.args.self.now.json c.args.text.now c.in_ok-checked.checked of.0 _
     c.in_err-setup.field-0.0 (c.in_err-setup.ensures.answer c.in_ok-checked.checked of.1))
 
-pub returns-in_err-lines : goal.returns-in_err-lines
-returns-in_err-lines g c =
-    let p = err_from_is_err_and c.from_residual-in_err-lines.result c.from_residual-in_err-lines.ensures.1 in
-    let of = c.in_ok-checked.ensures in
-    let setup = c.in_ok-setup.ensures.answer c.in_ok-checked.checked of.1 in
-    let out = g.W.Write.contents c.args.out.now in
-    rw (p.1, p.2) (lacks_memory c.args.self.now.start.now c.args.self.now.options _ c.args.self.now.json c.args.text.now c.in_ok-checked.checked of.0 _ setup.0 setup.1 out out out)
-
-pub returns-in_err-positions : goal.returns-in_err-positions
-returns-in_err-positions g c =
-    let p = err_from_is_err_and c.from_residual-in_err-positions.result c.from_residual-in_err-positions.ensures.1 in
-    let of = c.in_ok-checked.ensures in
-    let setup = c.in_ok-setup.ensures.answer c.in_ok-checked.checked of.1 in
-    let out = g.W.Write.contents c.args.out.now in
-    rw (p.1, p.2) (lacks_memory c.args.self.now.start.now c.args.self.now.options _ c.args.self.now.json c.args.text.now c.in_ok-checked.checked of.0 _ setup.0 setup.1 out out out)
-
-pub returns-in_err-statements : goal.returns-in_err-statements
-returns-in_err-statements g c =
-    let p = err_from_is_err_and c.from_residual-in_err-statements.result c.from_residual-in_err-statements.ensures.1 in
+pub returns-in_err-described : goal.returns-in_err-described
+returns-in_err-described g c =
+    let p = err_from_is_err_and c.from_residual-in_err-described.result c.from_residual-in_err-described.ensures.1 in
     let of = c.in_ok-checked.ensures in
     let setup = c.in_ok-setup.ensures.answer c.in_ok-checked.checked of.1 in
     let out = g.W.Write.contents c.args.out.now in
@@ -47,4 +31,4 @@ returns g c =
     let of = c.in_ok-checked.ensures in
     let setup = c.in_ok-setup.ensures.answer c.in_ok-checked.checked of.1 in
     done c.args.self.now.start.now c.args.self.now.options _ c.args.self.now.json c.args.text.now c.in_ok-checked.checked of.0 _ setup.0 setup.1 _ _
-    c.in_ok-tested.tested (c.in_ok-tested.ensures c.in_ok-checked.checked of.1) _ refl refl refl c.in_ok-positions.ensures c.in_ok-statements.ensures refl c.counts-counts.ensures (rw c.contexts.ensures at c.notes_of-notes.ensures) refl refl c.in_ok-lines.ensures
+    c.in_ok-tested.tested (c.in_ok-tested.ensures c.in_ok-checked.checked of.1) _ refl refl refl c.in_ok-described.ensures.positions c.in_ok-described.ensures.statements refl c.counts-counts.ensures (rw c.contexts.ensures at c.notes_of-notes.ensures) refl refl c.in_ok-described.ensures.lines
