@@ -1,6 +1,7 @@
 mod CommandShapes
 mod GivenArguments
 mod NoHelpEntered
+mod NoTaskKinds
 mod NumberGiven
 mod NumberTexts
 mod OptionsGiven

@@ -6,6 +6,7 @@ pub mod DriveWords
 pub mod ExplainWords
 pub mod Misuses
 pub mod Names
+pub mod NoTasks
 pub mod PlainUses
 pub mod RunWords
 pub mod ShowWords

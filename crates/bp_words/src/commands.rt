@@ -122,9 +122,9 @@ fn task_of<'a>(alloc: Global, matches: &ArgMatches<'a>) -> Result<Task<'a>, Allo
     }
 }
 
-/// Reads the words. The first is the program's name. The error also has the texts of help and
-/// version.
-pub fn read_words<'a>(alloc: Global, words: &'a [String]) -> Result<Task<'a>, Error>
+/// The task that the words ask for. The first word is the program's name. The error also has the
+/// texts of help and version.
+pub(crate) fn task_of_words<'a>(alloc: Global, words: &'a [String]) -> Result<Task<'a>, Error>
     ensures task { IfOk result
         (λ t. IsTaskOf (subcommand_of btrun_app (map string_bytes words.now)) t) }
     ensures refusal { FailsBy (words_fault (map string_bytes words.now)) result }
@@ -150,15 +150,11 @@ fn misuse_error(alloc: Global, misuse: Misuse) -> Result<Error, AllocError>
 }
 
 /// The error of a word that is no command.
-pub(crate) fn no_command(alloc: Global, message: &str) -> Result<Error, AllocError>
-    ensures { IfOk result (λ e. kind_of e ≡ ErrorKind.InvalidSubcommand) }
-{
+pub(crate) fn no_command(alloc: Global, message: &str) -> Result<Error, AllocError> {
     command(alloc)?.error(ErrorKind::InvalidSubcommand, message)
 }
 
 /// The error of words that are not UTF-8.
-pub fn not_text(alloc: Global) -> Result<Error, AllocError>
-    ensures { IfOk result (λ e. kind_of e ≡ ErrorKind.InvalidValue) }
-{
+pub(crate) fn not_text_error(alloc: Global) -> Result<Error, AllocError> {
     command(alloc)?.error(ErrorKind::InvalidValue, "a word is not UTF-8")
 }

@@ -1,6 +1,5 @@
 //! What is said of words that are refused: also how the command is used, and what was meant.
-ghost use Rattle.std.specs.Prelude.{◌≡◌, map, string_bytes, IfOk, IfSome};
-ghost use Rattle.clap.specs.Words.{kind_of};
+ghost use Rattle.std.specs.Prelude.{◌≡◌, map, string_bytes};
 ghost use Rattle.bp_words.specs.Usages.{asks_for_json};
 
 use crate::commands::no_command;
@@ -49,9 +48,7 @@ fn error_with_usage(
     words: &[String],
     kind: ErrorKind,
     message: &str,
-) -> Result<Option<Error>, AllocError>
-    ensures { IfOk result (λ o. IfSome o (λ e. kind_of e ≡ kind)) }
-{
+) -> Result<Option<Error>, AllocError> {
     let (Some(path), Some(name)) = (words.first(), words.get(1)) else {
         return Ok(None);
     };
@@ -69,17 +66,13 @@ fn same_with_usage(
     alloc: Global,
     words: &[String],
     error: &Error,
-) -> Result<Option<Error>, AllocError>
-    ensures { IfOk result (λ o. IfSome o (λ e. kind_of e ≡ kind_of error.now)) }
-{
+) -> Result<Option<Error>, AllocError> {
     let text = format!(in alloc; "{error}")?;
     error_with_usage(alloc, words, error.kind(), message_of(text.as_str()))
 }
 
 /// The error of an option whose value is a number below 0, where that is why the words are refused.
-fn error_of_number(alloc: Global, words: &[String]) -> Result<Option<Error>, AllocError>
-    ensures { IfOk result (λ o. IfSome o (λ e. kind_of e ≡ ErrorKind.UnknownArgument)) }
-{
+fn error_of_number(alloc: Global, words: &[String]) -> Result<Option<Error>, AllocError> {
     match of_number(alloc, words)? {
         Some(said) => { error_with_usage(alloc, words, ErrorKind::UnknownArgument, said.as_str()) }
         None => Ok(None),
@@ -87,9 +80,7 @@ fn error_of_number(alloc: Global, words: &[String]) -> Result<Option<Error>, All
 }
 
 /// The error of a file where a command is due, where that is why the words are refused.
-fn error_of_file(alloc: Global, words: &[String]) -> Result<Option<Error>, AllocError>
-    ensures { IfOk result (λ o. IfSome o (λ e. kind_of e ≡ ErrorKind.InvalidSubcommand)) }
-{
+fn error_of_file(alloc: Global, words: &[String]) -> Result<Option<Error>, AllocError> {
     match of_file(alloc, words)? {
         Some(said) => Ok(Some(no_command(alloc, said.as_str())?)),
         None => Ok(None),
@@ -101,9 +92,7 @@ fn error_that_says_more(
     alloc: Global,
     words: &[String],
     error: &Error,
-) -> Result<Option<Error>, AllocError>
-    ensures { IfOk result (λ o. IfSome o (λ e. kind_of e ≡ kind_of error.now)) }
-{
+) -> Result<Option<Error>, AllocError> {
     match error.kind() {
         ErrorKind::InvalidValue | ErrorKind::ValueValidation | ErrorKind::ArgumentConflict => {
             same_with_usage(alloc, words, error)
@@ -117,9 +106,7 @@ fn error_that_says_more(
 /// The error of words. That of a bad value, or of options that clash, also says how the command is
 /// used that the words name. That of a number below 0 says the range of its option, and that of a
 /// program's file in place of a command what was meant. Where memory is refused it stays as it is.
-pub fn with_usage(alloc: Global, words: &[String], error: Error) -> Error
-    ensures { kind_of result ≡ kind_of error }
-{
+pub fn with_usage(alloc: Global, words: &[String], error: Error) -> Error {
     match error_that_says_more(alloc, words, &error) {
         Ok(Some(other)) => other,
         _ => error,

@@ -1,59 +1,66 @@
--- How runs end whose words ask for no task: the exit status, and what is left on standard error
--- beside what `clap` prints there.
-use Rattle.std.specs.Prelude.{◌≡◌, ◌⊎◌, ℕ, Bool, true, false, List, Option, Result}
+-- How runs end whose words ask for no task: the exit status, and what is left on both streams.
+use Rattle.std.specs.Prelude.{◌≡◌, ◌⊎◌, ℕ, Bool, true, false, List, Option, Result, Ok, Err, string_bytes}
 use Rattle.std.specs.declared.io.ErrorKind.{ErrorKind as IoErrorKind}
 use Rattle.std.specs.declared.io.ErrorKind.TheVariants as io
 use Rattle.bp_text.specs.Writing.{Writes}
 use Rattle.bp_text.specs.declared.writing.WriteFault.{WriteFault}
+use Rattle.bp_text.specs.declared.writing.WriteFault.TheVariants as write
 use Rattle.bp_commands.specs.Ends.{HasFaultLine}
+use Rattle.bp_commands.specs.Jobs.{Streams}
+use Rattle.bp_commands.specs.declared.ends.RunEnd.{RunEnd}
 use Rattle.bp_messages.specs.declared.faults.Fault.TheVariants as fault
-use Rattle.clap.specs.declared.error.kind.ErrorKind.{ErrorKind}
-use Rattle.clap.specs.declared.error.kind.ErrorKind.TheVariants.{OutOfMemory, DisplayHelp, DisplayVersion}
+use Rattle.bp_words.specs.declared.no_tasks.NoTask.{NoTask}
+use Rattle.bp_words.specs.declared.no_tasks.NoTask.TheVariants.{Memory, Printed, Refused}
+use Rattle.bp_words.specs.declared.no_tasks.Refusal.{Refusal}
+use Rattle.bp_words.specs.NoTasks.{IsRefused}
 use Rattle.btrun.specs.Refusals.{refusal_object}
 
--- the status of help or the version, which standard output may refuse
-abbrev pub IsPrintedStatus : ℕ → Type 0
-IsPrintedStatus status = (status ≡ 0) ⊎ (status ≡ 3)
+-- what is said of words that are not read; for a text on them there may be no memory
+abbrev pub IsUnread : IoErrorKind → NoTask → Type 0
+IsUnread io.OutOfMemory none = none ≡ Memory
+IsUnread _ none = (none ≡ Memory) ⊎ IsRefused none
 
--- the status of words that ask for help or the version, or that are refused
-abbrev pub IsWordsStatus : ErrorKind → ℕ → Type 0
-IsWordsStatus OutOfMemory status = status ≡ 3
-IsWordsStatus DisplayHelp status = IsPrintedStatus status
-IsWordsStatus DisplayVersion status = IsPrintedStatus status
-IsWordsStatus _ status = status ≡ 2
+-- memory was refused, which a line says
+pub record IsLackOfMemory (old new : Option (List ℕ)) (end : RunEnd) : Type 0 where
+  pub status : end.status ≡ 3
+  pub line : HasFaultLine fault.Memory old new end.told
 
--- the status of words that are not read; for the text on bad words there may be no memory
-abbrev pub IsUnreadStatus : IoErrorKind → ℕ → Type 0
-IsUnreadStatus io.OutOfMemory status = status ≡ 3
-IsUnreadStatus _ status = (status ≡ 2) ⊎ (status ≡ 3)
+-- a text was written whole, or a part of it was refused
+abbrev whole : Result (Unit {0}) WriteFault
+whole = Ok tt
 
--- nothing, or that the help or the version could not be written
-abbrev pub IsPrintedLine
-    : Option (List ℕ) → Option (List ℕ) → Result (Unit {0}) WriteFault → Type 0
-IsPrintedLine old new told = (new ≡ old) ⊎ HasFaultLine fault.Write old new told
+abbrev in_part : Result (Unit {0}) WriteFault
+in_part = Err write.Write
 
--- what is left of refused words: for programs an object, and else nothing beside the text of `clap`
-abbrev pub IsRefusalText
-    : (json : Bool) → Option (List ℕ) → Option (List ℕ) → Result (Unit {0}) WriteFault → Type 0
-IsRefusalText false old new told = new ≡ old
-IsRefusalText true old new told =
-    (message : List ℕ) × Writes old new (refusal_object message) told
+-- the text was printed, and nothing else
+pub record IsPrintedWhole (text : List ℕ) (s : Streams) (end : RunEnd) : Type 0 where
+  pub printed : Writes s.output_before s.output_after text whole
+  pub status : end.status ≡ 0
+  pub silent : s.errors_after ≡ s.errors_before
 
--- our line on such words, with JSON or not, and whether it was written whole
-abbrev pub IsWordsLine
-    : (json : Bool)
-    → ErrorKind
-    → Option (List ℕ)
-    → Option (List ℕ)
-    → Result (Unit {0}) WriteFault
-    → Type 0
-IsWordsLine json OutOfMemory old new told = HasFaultLine fault.Memory old new told
-IsWordsLine json DisplayHelp old new told = IsPrintedLine old new told
-IsWordsLine json DisplayVersion old new told = IsPrintedLine old new told
-IsWordsLine json _ old new told = IsRefusalText json old new told
+-- the output refused a part of the text, which a line says
+pub record IsPrintedInPart (text : List ℕ) (s : Streams) (end : RunEnd) : Type 0 where
+  pub printed : Writes s.output_before s.output_after text in_part
+  pub status : end.status ≡ 3
+  pub line : HasFaultLine fault.Write s.errors_before s.errors_after end.told
 
--- our line on words that are not read, and whether it was written whole
-abbrev pub IsUnreadLine
-    : IoErrorKind → Option (List ℕ) → Option (List ℕ) → Result (Unit {0}) WriteFault → Type 0
-IsUnreadLine io.OutOfMemory old new told = HasFaultLine fault.Memory old new told
-IsUnreadLine _ old new told = (new ≡ old) ⊎ HasFaultLine fault.Memory old new told
+abbrev pub IsPrintedEnd : List ℕ → Streams → RunEnd → Type 0
+IsPrintedEnd text s end = IsPrintedWhole text s end ⊎ IsPrintedInPart text s end
+
+-- why words are refused: for programs an object, and else a text
+abbrev pub refusal_text : (json : Bool) → Refusal → List ℕ
+refusal_text true refusal = refusal_object (string_bytes refusal.message)
+refusal_text false refusal = string_bytes refusal.text
+
+-- why the words are refused was told, and nothing was printed
+pub record IsRefusalEnd (text : List ℕ) (s : Streams) (end : RunEnd) : Type 0 where
+  pub printed : s.output_after ≡ s.output_before
+  pub status : end.status ≡ 2
+  pub line : Writes s.errors_before s.errors_after text end.told
+
+-- the run of words that ask for no task ended
+abbrev pub IsEndWithout : (json : Bool) → NoTask → Streams → RunEnd → Type 0
+IsEndWithout json Memory s end =
+    (s.output_after ≡ s.output_before) × IsLackOfMemory s.errors_before s.errors_after end
+IsEndWithout json (Printed text) s end = IsPrintedEnd (string_bytes text) s end
+IsEndWithout json (Refused refusal) s end = IsRefusalEnd (refusal_text json refusal) s end

@@ -2,7 +2,6 @@
 //! a schedule, from standard input, and prints the trace to which the schedule drives the program.
 #![tactic(auto)]
 
-mod echoes;
 mod host_files;
 mod progress_lines;
 mod refusals;

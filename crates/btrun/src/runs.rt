@@ -1,12 +1,11 @@
 //! A run of the program, from its words to its exit status.
 
-use crate::echoes::error_on_lines;
 use crate::host_files::HostFiles;
 use crate::progress_lines::ProgressLine;
 use crate::tasks::{Io, do_task};
-use crate::usage::{refuse_memory, refuse_words, tell};
+use crate::usage::{end_without_task, refuse_memory, unread};
 use bp_text::put;
-use bp_words::{Task, asks_for_json, read_words};
+use bp_words::{NoTask, Task, asks_for_json, read_words};
 use std::env;
 use std::io::{self, BufWriter, IsTerminal};
 use std::sync::Wait;
@@ -103,17 +102,20 @@ fn run_words<T: Threads + Wait + Clock + Sync>(
 ) -> u8 {
     match read_words(rt.alloc(), words) {
         Ok(task) => do_on_host(rt, threads, words, &task),
-        Err(error) => {
-            let error = error_on_lines(rt.alloc(), words, error);
-            tell(rt, &error, asks_for_json(words), &mut rt.stderr()).status
-        }
+        Err(none) => end_on_host(rt, &none, asks_for_json(words)),
     }
+}
+
+/// Ends a run whose words ask for no task, and answers the exit status.
+fn end_on_host(rt: &HostRuntime, none: &NoTask, json: bool) -> u8 {
+    end_without_task(none, json, &mut rt.stdout(), &mut rt.stderr()).status
 }
 
 /// Runs the program and answers its exit status. Workers are started by `threads`.
 pub fn run<T: Threads + Wait + Clock + Sync>(rt: &HostRuntime, threads: &T) -> u8 {
     match words(rt) {
         Ok(words) => run_words(rt, threads, &words),
-        Err(error) => refuse_words(rt, &error, &mut rt.stderr()).status,
+        // No word is known then, so none asks for JSON.
+        Err(error) => end_on_host(rt, &unread(rt.alloc(), &error), false),
     }
 }

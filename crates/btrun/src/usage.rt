@@ -1,100 +1,83 @@
-//! A run whose words ask for help or the version, or for nothing that there is.
+//! A run whose words ask for no task: for help or the version, or for nothing that there is.
 ghost use Rattle.std.specs.IoError.{error_kind};
-ghost use Rattle.clap.specs.Words.{kind_of};
-ghost use Rattle.std.specs.Prelude.{◌≡◌, MatchResult};
-ghost use Rattle.bp_messages.specs.declared.faults.Fault.{Fault};
-ghost use Rattle.bp_commands.specs.Ends.{HasFaultLine};
-ghost use Rattle.btrun.specs.Statuses.{IsWordsStatus, IsWordsLine, IsUnreadStatus, IsUnreadLine};
+ghost use Rattle.bp_text.specs.Writing.{Writes};
+ghost use Rattle.bp_commands.specs.Jobs.{streams};
+ghost use Rattle.btrun.specs.Statuses.{refusal_text, IsEndWithout, IsLackOfMemory, IsPrintedEnd, IsUnread};
 
-use crate::echoes::Echo;
 use crate::refusals::put_refusal;
 use bp_commands::{Explained, RunEnd, end};
 use bp_messages::Fault;
-use bp_text::WriteFault;
-use bp_words::not_text;
-use clap::Error;
-use clap::error::ErrorKind;
-use std::io::{self, Eprint, Write};
+use bp_text::{WriteFault, put};
+use bp_words::{NoTask, Refusal, not_text};
+use std::alloc::Global;
+use std::io::{self, Write};
 
 /// The exit status of a fault in the use of the program.
 const USAGE_STATUS: u8 = 2;
 
-/// Ends a run by the help or the version that was printed, or was not.
-fn end_printed<E: Write>(printed: &io::Result<()>, errors: &mut E) -> RunEnd
-    ensures status { MatchResult printed.now (λ _. result.status ≡ 0) (λ _. result.status ≡ 3) }
-    ensures line { MatchResult printed.now
-        (λ _. E.contents errors.new ≡ E.contents errors.old)
-        (λ _. HasFaultLine Fault.Write
-        (E.contents errors.old) (E.contents errors.new) result.told) }
+/// What is said of words that were not read: memory was refused, or one is not UTF-8.
+pub fn unread(alloc: Global, error: &io::Error) -> NoTask
+    ensures { IsUnread (error_kind error.now) result }
 {
-    match printed {
-        Ok(()) => end(&Ok::<(), Fault>(()), errors),
-        Err(_) => end(&Err::<(), Fault>(Fault::Write), errors),
-    }
-}
-
-/// Ends a run whose words were refused on standard error, which may have taken the text or not.
-fn end_echoed(echoed: &io::Result<()>) -> RunEnd
-    ensures { result.status ≡ 2 }
-{
-    end_refused(match echoed {
-        Ok(()) => Ok(()),
-        Err(_) => Err(WriteFault::Write),
-    })
-}
-
-/// Ends a run whose words were refused, by what became of the text that says so.
-fn end_refused(told: Result<(), WriteFault>) -> RunEnd
-    ensures status { result.status ≡ 2 }
-    ensures told { result.told ≡ told }
-{
-    RunEnd {
-        status: USAGE_STATUS,
-        told,
-        explained: Explained {
-            lines: Ok(()),
-            told: Ok(()),
-        },
+    match error.kind() {
+        io::ErrorKind::OutOfMemory => NoTask::Memory,
+        _ => not_text(alloc),
     }
 }
 
 /// Ends a run for want of memory.
 pub fn refuse_memory<E: Write>(errors: &mut E) -> RunEnd
-    ensures status { result.status ≡ 3 }
-    ensures line { HasFaultLine Fault.Memory
-        (E.contents errors.old) (E.contents errors.new) result.told }
+    ensures { IsLackOfMemory (E.contents errors.old) (E.contents errors.new) result }
 {
     end(&Err::<(), Fault>(Fault::Memory), errors)
 }
 
-/// Prints the fault of the words on standard error, or the help or the version on standard output.
-/// With `json` the fault is an object in `errors`. So is our line, where memory was refused or the
-/// help was not printed.
-pub fn tell<E: Write>(rt: &HostRuntime, error: &Error, json: bool, errors: &mut E) -> RunEnd
-    ensures status { IsWordsStatus (kind_of error.now) result.status }
-    ensures line { IsWordsLine json (kind_of error.now)
-        (E.contents errors.old) (E.contents errors.new) result.told }
+/// Prints the help or the version.
+fn print_text<W: Write, E: Write>(text: &[u8], out: &mut W, errors: &mut E) -> RunEnd
+    ensures { let written = streams (W.contents out.old) (W.contents out.new)
+        (E.contents errors.old) (E.contents errors.new) in
+        IsPrintedEnd text.now written result }
 {
-    match error.kind() {
-        ErrorKind::OutOfMemory => refuse_memory(errors),
-        ErrorKind::DisplayHelp | ErrorKind::DisplayVersion => end_printed(&error.print(rt), errors),
-        _ if json => end_refused(put_refusal(rt.alloc(), error, errors)),
-        _ => end_echoed(&rt.eprint(&Echo { error })),
+    match put(out, text) {
+        Ok(()) => end(&Ok::<(), Fault>(()), errors),
+        Err(WriteFault::Write) => end(&Err::<(), Fault>(Fault::Write), errors),
     }
 }
 
-/// Refuses words that were not read: one is not UTF-8, or memory was refused.
-pub fn refuse_words<E: Write>(rt: &HostRuntime, error: &io::Error, errors: &mut E) -> RunEnd
-    ensures status { IsUnreadStatus (error_kind error.now) result.status }
-    ensures line { let kind = error_kind error.now in
-        IsUnreadLine kind (E.contents errors.old) (E.contents errors.new) result.told }
+/// Tells why words are refused, with `json` as an object.
+fn tell_refusal<E: Write>(refusal: &Refusal, json: bool, errors: &mut E) -> Result<(), WriteFault>
+    ensures { Writes (E.contents errors.old) (E.contents errors.new)
+        (refusal_text json refusal.now) result }
 {
-    if matches!(error.kind(), io::ErrorKind::OutOfMemory) {
-        return refuse_memory(errors);
+    if json {
+        put_refusal(refusal.message.as_bytes(), errors)
+    } else {
+        put(errors, refusal.text.as_bytes())
     }
-    match not_text(rt.alloc()) {
-        // No word is known then, so none asks for JSON.
-        Ok(error) => tell(rt, &error, false, errors),
-        Err(_) => refuse_memory(errors),
+}
+
+/// Ends a run whose words ask for no task: prints the help or the version, or tells why they are
+/// refused, with `json` as an object.
+pub fn end_without_task<W: Write, E: Write>(
+    none: &NoTask,
+    json: bool,
+    out: &mut W,
+    errors: &mut E,
+) -> RunEnd
+    ensures { let written = streams (W.contents out.old) (W.contents out.new)
+        (E.contents errors.old) (E.contents errors.new) in
+        IsEndWithout json none.now written result }
+{
+    match none {
+        NoTask::Memory => refuse_memory(errors),
+        NoTask::Printed(text) => print_text(text.as_bytes(), out, errors),
+        NoTask::Refused(refusal) => RunEnd {
+            status: USAGE_STATUS,
+            told: tell_refusal(refusal, json, errors),
+            explained: Explained {
+                lines: Ok(()),
+                told: Ok(()),
+            },
+        },
     }
 }

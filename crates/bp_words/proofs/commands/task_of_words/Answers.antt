@@ -4,7 +4,7 @@ use Rattle.bp_words.specs.Commands.{btrun_app, words_fault, IsOurs, IsTaskOf}
 use Rattle.bp_words.proofs.NoHelpEntered.{named_ours}
 use Rattle.bp_words.proofs.PlainWords.{plain_faulty, plain_asked}
 use Rattle.bp_words.proofs.WordsFaults.{cleared, named, refused, refused_for_memory, misused, fine_faulty, not_misused}
-use Rattle.bp_words.proofs.commands.read_words.Goals as goal
+use Rattle.bp_words.proofs.commands.task_of_words.Goals as goal
 
 pub returns-in_err-matches-clause-refusal : goal.returns-in_err-matches-clause-refusal
 returns-in_err-matches-clause-refusal c =
