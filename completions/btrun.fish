@@ -36,7 +36,7 @@ complete -c btrun -n __fish_use_subcommand -f -a test -d 'Test it by runs whose 
 complete -c btrun -n __fish_use_subcommand -f -a replay -d 'Replay a trace'
 complete -c btrun -n __fish_use_subcommand -f -a show -d 'Show a trace call by call'
 complete -c btrun -n __fish_use_subcommand -f -a migrate -d 'Print the trace of version 2'
-complete -c btrun -n __fish_use_subcommand -f -a shrink -d 'Make a failing trace smaller'
+complete -c btrun -n __fish_use_subcommand -f -a shrink -d 'Make the trace of a failure or deadlock smaller'
 complete -c btrun -n __fish_use_subcommand -f -a help -d 'Print help'
 
 set -l all check code drive confirm run test replay show migrate shrink

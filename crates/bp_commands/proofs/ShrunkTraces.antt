@@ -1,14 +1,17 @@
 -- What shrinking the history of a trace says of the command `shrink`.
-use Rattle.std.proofs.Common.{◌≡◌, ◌<◌, ◌^◌, ℕ, Some, None, refl, ap, sym, ◌∙◌, subst, arith}
+use Rattle.std.proofs.Common.{◌≡◌, ◌<◌, ◌⊎◌, ◌^◌, ℕ, true, List, Some, None, refl, ap, sym, ◌∙◌, subst, arith, inl, inr}
 use Rattle.bp_tree.specs.Ast.{Program}
 use Rattle.bp_code.specs.LawfulTexts.{IsLawfulText}
-use Rattle.bp_machine.specs.declared.reports.Outcome.TheVariants.{Clean}
+use Rattle.bp_machine.specs.declared.calls.Call.{Call}
 use Rattle.bp_machine.specs.Reports.{outcome_of, is_failure}
 use Rattle.bp_machine.proofs.GrantedSteps.{within as within_contexts}
 use Rattle.bp_machine.specs.Setups.{SetupOf}
+use Rattle.bp_test.specs.declared.history_ends.HistoryEnd.{HistoryEnd}
+use Rattle.bp_test.specs.declared.history_ends.HistoryEnd.TheVariants.{Failure, Deadlock, Other}
 use Rattle.bp_test.specs.declared.shrinking.Shrunk.{Shrunk}
-use Rattle.bp_test.specs.Failing.{FailsAt}
+use Rattle.bp_test.specs.HistoryEnds.{IsEnd}
 use Rattle.bp_test.specs.Shrinks.{budgeted, IsShrunk}
+use Rattle.bp_test.specs.Tests.{IsDeadlock}
 use Rattle.bp_trace.specs.declared.replaying.Replayed.{Replayed}
 use Rattle.bp_trace.specs.declared.versions.Version.TheVariants.{One}
 use Rattle.bp_trace.specs.Heads.{HasHead}
@@ -19,23 +22,36 @@ use Rattle.bp_messages.specs.declared.faults.Fault.{Fault}
 use Rattle.bp_messages.specs.declared.faults.Fault.TheVariants.{Memory, NoFailure}
 use Rattle.bp_commands.specs.Given.{Pair}
 use Rattle.bp_commands.specs.Traces.{IsOfTrace, IsTraceOf, IsTraceReport}
-use Rattle.bp_commands.specs.Shrinks.{IsShrunkText, HasNoFailure, LacksMemory}
+use Rattle.bp_commands.specs.Shrinks.{FailAlike, DeadlockAlike, IsEndRefusal, IsShrunkText, HasNoFailure, LacksMemory}
 
 -- the setup with other contexts and without a seed has a head
 head_of : (s : SetupOf) (k : ℕ) → HasHead s → k < 2 ^ 64 → HasHead (budgeted s k)
 head_of s k has few = record { names = has.names; contexts = few; calls = has.calls; seed = λ n e. absurd cc }
 
+-- histories of one end that is kept end alike
+alike : (t : Program) (s z : SetupOf) (h g : List Call) (end : HistoryEnd) → (end ≡ Other → ⊥) → IsEnd t s h end → IsEnd t z g end → FailAlike t s z h g ⊎ DeadlockAlike t s z h g
+alike t s z h g (Failure n) kept one two = inl (record { number = n; one = one; other = two })
+alike t s z h g (Deadlock waiting) kept one two = inr (record { waiting = waiting.items; one = one; other = two })
+alike t s z h g Other kept one two = absurd (kept refl)
+
 module _ (given : Pair) (t : Program) (of : IsLawfulText given.text t) (r : Replayed) (is : IsReplayed t given.input r) where
   pub read : IsTraceOf given.text given.input t r.setup r.history.items
   read = record { of = of; version = is.version; is = is.trace }
 
-  pub clean_refuses : (f : Fault) → outcome_of r.history.items ≡ Clean → f ≡ NoFailure → HasNoFailure given f
-  clean_refuses f clean f_is = record { program = t; setup = r.setup; history = r.history.items; legal = read; clean = clean; is = f_is }
+  pub end_refuses : (f : Fault) → IsEndRefusal t r.setup r.history.items f → HasNoFailure given f ⊎ LacksMemory given f
+  end_refuses NoFailure other = inl (record { program = t; setup = r.setup; history = r.history.items; legal = read; other = other; is = refl })
+  end_refuses Memory dead = inr (record { program = t; setup = r.setup; history = r.history.items; legal = read; ended = inr dead; is = refl })
+  end_refuses f none = absurd none
 
-  pub memory_refuses : (n : ℕ) → FailsAt t r.setup r.history.items n → LacksMemory given Memory
-  memory_refuses n fails = record { program = t; setup = r.setup; history = r.history.items; legal = read; failed = ap is_failure fails.failed; is = refl }
+  pub memory_refuses : (end : HistoryEnd) → (end ≡ Other → ⊥) → IsEnd t r.setup r.history.items end → LacksMemory given Memory
+  memory_refuses end kept ends = record { program = t; setup = r.setup; history = r.history.items; legal = read; ended = ended end kept ends; is = refl }
+    where
+      ended : (e : HistoryEnd) → (e ≡ Other → ⊥) → IsEnd t r.setup r.history.items e → (is_failure (outcome_of r.history.items) ≡ true) ⊎ IsDeadlock t r.setup r.history.items
+      ended (Failure n) any fails = inl (ap is_failure fails.failed)
+      ended (Deadlock waiting) any dead = inr dead.0
+      ended Other not other = absurd (not refl)
 
-  module _ (number : ℕ) (fails : FailsAt t r.setup r.history.items number) (g : Shrunk) (shrunk : IsShrunk t r.setup r.history.items (Some number) g) where
+  module _ (end : HistoryEnd) (kept : end ≡ Other → ⊥) (ends : IsEnd t r.setup r.history.items end) (g : Shrunk) (shrunk : IsShrunk t r.setup r.history.items end g) where
     few : g.report.contexts < 2 ^ 64
     few =
         let fewer = shrunk.contexts r.report.contexts is.report.contexts in
@@ -68,9 +84,7 @@ module _ (given : Pair) (t : Program) (of : IsLawfulText given.text t) (r : Repl
       same = subst (λ k. g.setup ≡ budgeted r.setup k) (sym contexts_are) shrunk.setup;
       used = rw contexts_are shrunk.report.contexts;
       steps = shrunk.steps;
-      number = number;
-      failed = fails;
-      fails = shrunk.fails;
+      alike = alike t r.setup g.setup r.history.items g.history.items end kept ends shrunk.ends;
       outcome = shrunk.outcome;
       calls = shrunk.calls;
       contexts = λ n least. let most = shrunk.contexts n least in omega (arith, most, contexts_are);

@@ -1,17 +1,42 @@
 //! The command `shrink`.
+ghost use Rattle.std.specs.Prelude.{◌≡◌, List, MatchResult};
+ghost use Rattle.bp_tree.specs.Ast.{Program};
+ghost use Rattle.bp_code.specs.StandsFor.{StandsFor};
+ghost use Rattle.bp_machine.specs.declared.calls.Call.{Call as Answered};
+ghost use Rattle.bp_machine.specs.Sessions.{Stands};
+ghost use Rattle.bp_test.specs.HistoryEnds.{EndsIn};
+ghost use Rattle.bp_commands.specs.Shrinks.{IsEndRefusal};
+
 use crate::commands::PairCommand;
 use crate::explanations::Beside;
 use bp_code::code_of;
-use bp_machine::Report;
+use bp_machine::{Report, Session};
 use bp_messages::Fault;
-use bp_test::{failed_instruction, shrink};
+use bp_test::{HistoryEnd, history_end, shrink};
 use bp_trace::limits::MAX_TRACE;
 use bp_trace::{Unwatched, replay_watched, write_trace};
 use std::alloc::Global;
 use std::io::Write;
 
-/// `shrink`: writes the trace of a history that fails where that of a trace does, by no more calls
-/// and no more contexts.
+/// The end that a history of a session is to keep: a failure or a deadlock.
+fn kept_end(alloc: Global, session: &Session) -> Result<HistoryEnd, Fault>
+    ensures { MatchResult result
+        (λ end. EndsIn session.now end × (end ≡ HistoryEnd.Other → ⊥))
+        (λ f.
+        (t : Program) (h : List Answered)
+        → StandsFor session.now.code t
+        → Stands t session.now h
+        → IsEndRefusal t session.now.setup h f) }
+{
+    let end = history_end(alloc, session)?;
+    if matches!(end, HistoryEnd::Other) {
+        return Err(Fault::NoFailure);
+    }
+    Ok(end)
+}
+
+/// `shrink`: writes the trace of a history that fails where that of a trace does, or ends in the
+/// same deadlock, by no more calls and no more contexts.
 #[derive(Clone, Copy)]
 pub struct Shrink;
 
@@ -42,18 +67,9 @@ impl PairCommand for Shrink {
         let code = code_of(alloc, text)?;
         let watched = replay_watched(alloc, &code, trace, Unwatched)?;
         let replayed = &watched.replayed;
-        let Some(number) = failed_instruction(&watched.session) else {
-            return Err(Fault::NoFailure);
-        };
+        let end = kept_end(alloc, &watched.session)?;
         let (history, report) = (replayed.history.as_slice(), replayed.report);
-        let shrunk = shrink(
-            alloc,
-            &code,
-            &replayed.setup,
-            history,
-            &report,
-            Some(number),
-        )?;
+        let shrunk = shrink(alloc, &code, &replayed.setup, history, &report, end)?;
         write_trace(&shrunk.setup, shrunk.history.as_slice(), out)?;
         Ok(report)
     }

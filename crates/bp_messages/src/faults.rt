@@ -44,8 +44,8 @@ pub enum Fault {
     /// No variable of the program has this one of the watched names, from 1.
     #[error("the program has no variable that is name {0} of --watch")]
     NoVariable(u64),
-    /// No assertion failed in the trace.
-    #[error("no assertion failed in the trace")]
+    /// The trace ends neither in a failed assertion nor in a deadlock.
+    #[error("the trace ends neither in a failed assertion nor in a deadlock")]
     NoFailure,
     /// A worker could not be started.
     #[error("a worker could not be started")]

@@ -1,5 +1,5 @@
 -- The granted calls of a legal history are one as well, within as many contexts as they use.
-use Rattle.std.proofs.Common.{◌≡◌, ◌≤◌, ℕ, Bool, true, false, cond, List, [], ◌∷◌, ◌++◌, length, Option, None, Some, IfSome, refl, ap, sym, ◌∙◌, subst, arith}
+use Rattle.std.proofs.Common.{◌≡◌, ◌≤◌, ℕ, Bool, true, false, cond, List, [], ◌∷◌, ◌++◌, length, refl, ap, sym, ◌∙◌, subst, arith}
 use Rattle.std.specs.Prelude.{map}
 use Rattle.bp_tree.specs.Ast.{Program}
 use Rattle.bp_machine.specs.declared.calls.Call.{Call}
@@ -7,14 +7,18 @@ use Rattle.bp_machine.specs.declared.calls.Reply.{Reply}
 use Rattle.bp_machine.specs.declared.calls.Reply.TheVariants.{Stopped, Ended, NoContexts, Full, Blocked, Failed, Stepped}
 use Rattle.bp_machine.specs.BoundedRuns.{IsBoundedRun, IsHistoryOfSteps, HasBoundedRun}
 use Rattle.bp_machine.specs.Contexts.{IsWithin}
+use Rattle.bp_machine.specs.Deadlocks.{IsDeadlocked}
 use Rattle.bp_machine.specs.Histories.{configuration_after, granted_threads, granted_calls, IsLegal}
 use Rattle.bp_machine.specs.Laws.{RunsAreHistories, HistoriesAreRuns}
 use Rattle.bp_machine.specs.Replies.{is_granted}
 use Rattle.bp_machine.specs.Reports.{outcome_or, outcome_of}
-use Rattle.bp_machine.specs.Setups.{SetupOf}
+use Rattle.bp_machine.specs.Setups.{SetupOf, threads}
 use Rattle.bp_machine.specs.Tops.{IsTop}
-use Rattle.bp_test.specs.Failing.{FailsAt}
+use Rattle.bp_test.specs.declared.history_ends.HistoryEnd.{HistoryEnd}
+use Rattle.bp_test.specs.declared.history_ends.HistoryEnd.TheVariants as ending
+use Rattle.bp_test.specs.HistoryEnds.{IsEnd}
 use Rattle.bp_test.specs.Shrinks.{budgeted}
+use Rattle.bp_test.specs.Waits.{AreWaiting}
 
 -- one more call
 pub granted_more : (xs : List Call) (x : Call) → granted_calls (xs ++ x ∷ []) ≡ granted_calls xs ++ cond (is_granted x.reply) (x ∷ []) []
@@ -90,14 +94,24 @@ module _ (t : Program) (s : SetupOf) (k : ℕ) (h : List Call) (each : RunsAreHi
     pub granted_legal : IsLegal t (budgeted s k) (granted_calls h)
     granted_legal = made.legal
 
-    pub granted_fails : (number : Option ℕ) → IfSome number (FailsAt t s h) → IfSome number (FailsAt t (budgeted s k) (granted_calls h))
-    granted_fails None fails = tt
-    granted_fails (Some n) fails = record {
+    pub granted_end : (end : HistoryEnd) → IsEnd t s h end → IsEnd t (budgeted s k) (granted_calls h) end
+    granted_end (ending.Failure n) fails = record {
       thread = fails.thread;
       failed = same_outcome h ∙ fails.failed;
       top = fails.top;
       stands = subst (λ c. IsTop t c fails.thread fails.top) (sym made.leads) fails.stands;
       is = fails.is;
+    }
+    granted_end (ending.Deadlock waiting) (dead, waits) = (
+      record {
+        clean = same_outcome h ∙ dead.clean;
+        deadlocked = subst (IsDeadlocked t) (sym made.leads) dead.deadlocked;
+      },
+      subst (λ c. AreWaiting t c (threads s) waiting.items) (sym made.leads) waits,
+    )
+    granted_end ending.Other other = record {
+      clean = same_outcome h ∙ other.clean;
+      lives = λ dead. other.lives (subst (IsDeadlocked t) made.leads dead);
     }
 
     pub granted_same : granted_threads (granted_calls h) ≡ granted_threads h

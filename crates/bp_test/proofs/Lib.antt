@@ -9,6 +9,7 @@ pub mod MarkLemmas
 pub mod Playing
 pub mod ReachedPlaces
 pub mod RunsOfTests
+pub mod SameWaits
 pub mod SearchStarts
 pub mod ShrunkHistories
 pub mod TallyLemmas

@@ -1,5 +1,5 @@
 -- What is said of a setup but for its seed holds without one.
-use Rattle.std.proofs.Common.{◌≡◌, ℕ, zero, suc, ◌+◌, cond, List, [], ◌∷◌, ◌++◌, Option, None, Some, IfSome, refl, ap, ◌∙◌}
+use Rattle.std.proofs.Common.{◌≡◌, ℕ, zero, suc, ◌+◌, cond, List, [], ◌∷◌, ◌++◌, refl, ap, ◌∙◌}
 use Rattle.bp_tree.specs.Ast.{Program}
 use Rattle.bp_code.specs.Flat.{Flat}
 use Rattle.bp_machine.specs.declared.calls.Call.{Call}
@@ -7,7 +7,9 @@ use Rattle.bp_machine.specs.declared.reports.Report.{Report}
 use Rattle.bp_machine.specs.Setups.{SetupOf, threads, FitsCode}
 use Rattle.bp_machine.specs.Histories.{is_finished, open_below, IsLegal, IsLegalAfter}
 use Rattle.bp_machine.specs.Reports.{IsReport}
-use Rattle.bp_test.specs.Failing.{FailsAt}
+use Rattle.bp_test.specs.declared.history_ends.HistoryEnd.{HistoryEnd}
+use Rattle.bp_test.specs.declared.history_ends.HistoryEnd.TheVariants.{Failure, Deadlock, Other}
+use Rattle.bp_test.specs.HistoryEnds.{IsEnd}
 use Rattle.bp_test.specs.Shrinks.{unseeded}
 
 pub fits_unseeded : (c : Flat) (s : SetupOf) → FitsCode c s → FitsCode c (unseeded s)
@@ -35,6 +37,7 @@ report_unseeded s h r is = record {
   contexts = is.contexts;
 }
 
-pub fails_unseeded : (t : Program) (s : SetupOf) (h : List Call) (number : Option ℕ) → IfSome number (FailsAt t s h) → IfSome number (FailsAt t (unseeded s) h)
-fails_unseeded t s h None fails = tt
-fails_unseeded t s h (Some n) fails = record { thread = fails.thread; failed = fails.failed; top = fails.top; stands = fails.stands; is = fails.is }
+pub end_unseeded : (t : Program) (s : SetupOf) (h : List Call) (end : HistoryEnd) → IsEnd t s h end → IsEnd t (unseeded s) h end
+end_unseeded t s h (Failure n) fails = record { thread = fails.thread; failed = fails.failed; top = fails.top; stands = fails.stands; is = fails.is }
+end_unseeded t s h (Deadlock waiting) (dead, waits) = (record { clean = dead.clean; deadlocked = dead.deadlocked }, waits)
+end_unseeded t s h Other other = record { clean = other.clean; lives = other.lives }

@@ -1,6 +1,7 @@
 pub mod Blocks
 pub mod Counts
 pub mod Failing
+pub mod HistoryEnds
 pub mod Reached
 pub mod Resting
 pub mod Shrinks

@@ -1,22 +1,22 @@
 //! The search for a smaller history.
 ghost use Rattle.std.specs.Prelude.{◌≡◌, true, None, IfOk};
 ghost use Rattle.bp_machine.specs.Setups.{FitsCode};
+ghost use Rattle.bp_test.specs.HistoryEnds.{EndsIn};
 ghost use Rattle.bp_test.specs.Shrinks.{IsNoMore, IsSearch, GoesOn};
 
 use crate::candidates::{Candidates, Next};
 use crate::changes::{Change, write_changed};
 use crate::driving::drive_again;
 use crate::erasing::without_loops;
-use crate::failing::failed_instruction;
+use crate::history_ends::{HistoryEnd, has_end};
 use bp_machine::{Call, Report, Session};
-use std::alloc::AllocError;
+use std::alloc::{AllocError, Global};
 
-/// A history, its report, and the number of the instruction whose assertion failed.
+/// A history, and its report.
 #[derive(Drop)]
 pub(crate) struct Driven {
     pub(crate) history: Vec<Call>,
     pub(crate) report: Report,
-    pub(crate) number: Option<u32>,
 }
 
 /// The search for a smaller history.
@@ -24,6 +24,8 @@ pub(crate) struct Driven {
 pub(crate) struct Search {
     /// A session, which is started anew for each candidate.
     pub(crate) session: Session,
+    /// How each history ends that is taken.
+    pub(crate) end: HistoryEnd,
     /// The smallest history so far.
     pub(crate) best: Driven,
     /// The candidate: calls to be driven.
@@ -39,12 +41,12 @@ fn ones(history: &[Call]) -> usize {
     history.iter().filter(|call| call.bit).count()
 }
 
-/// Whether the new history fails at the same place by no more calls and no more contexts, and by
-/// fewer of either or by fewer choice bits that are 1.
+/// Whether the new history has the same outcome by no more calls and no more contexts, and by fewer
+/// of either or by fewer choice bits that are 1.
 fn is_better(new: &Driven, old: &Driven) -> bool
-    ensures { result ≡ true → IsNoMore new.now old.now.report old.now.number }
+    ensures { result ≡ true → IsNoMore new.now old.now.report }
 {
-    if new.report.outcome != old.report.outcome || new.number != old.number {
+    if new.report.outcome != old.report.outcome {
         return false;
     }
     if new.report.calls > old.report.calls || new.report.contexts > old.report.contexts {
@@ -55,13 +57,32 @@ fn is_better(new: &Driven, old: &Driven) -> bool
         || ones(new.history.as_slice()) < ones(old.history.as_slice())
 }
 
-/// Drives the candidate, and takes the history to which that leads where it is better.
+/// Whether the new history, at which the session stands, is better than the old one and has this
+/// end.
+fn is_wanted(
+    alloc: Global,
+    session: &Session,
+    end: &HistoryEnd,
+    new: &Driven,
+    old: &Driven,
+) -> Result<bool, AllocError>
+    ensures no_more { IfOk result (λ is. is ≡ true → IsNoMore new.now old.now.report) }
+    ensures end { IfOk result (λ is. is ≡ true → EndsIn session.now end.now) }
+{
+    if !is_better(new, old) {
+        return Ok(false);
+    }
+    has_end(alloc, session, end)
+}
+
+/// Drives the candidate, and takes the history to which that leads where it is wanted.
 fn drive_candidate(search: Search) -> Result<Search, AllocError>
     requires { IsSearch search }
     ensures { IfOk result (GoesOn search) }
 {
     let Search {
         session,
+        end,
         best,
         lines,
         spare,
@@ -70,16 +91,12 @@ fn drive_candidate(search: Search) -> Result<Search, AllocError>
     let mut history = spare;
     let session = drive_again(session, &mut history, lines.as_slice())?;
     let report = session.report();
-    let number = failed_instruction(&session);
-    let new = Driven {
-        history,
-        report,
-        number,
-    };
-    let is_taken = is_better(&new, &best);
+    let new = Driven { history, report };
+    let is_taken = is_wanted(*lines.allocator(), &session, &end, &new, &best)?;
     let (best, other) = if is_taken { (new, best) } else { (best, new) };
     Ok(Search {
         session,
+        end,
         best,
         lines,
         spare: other.history,
@@ -112,6 +129,7 @@ fn change_best(search: Search, change: Change) -> Result<Search, AllocError>
 {
     let Search {
         session,
+        end,
         best,
         mut lines,
         spare,
@@ -120,6 +138,7 @@ fn change_best(search: Search, change: Change) -> Result<Search, AllocError>
     let session = write_candidate(session, best.history.as_slice(), change, &mut lines)?;
     Ok(Search {
         session,
+        end,
         best,
         lines,
         spare,

@@ -1,24 +1,25 @@
-//! Shrinking a history that fails.
-ghost use Rattle.std.specs.Prelude.{◌≡◌, ◌≤◌, None, IfOk, IfSome, map};
+//! Shrinking a history that fails or ends in a deadlock.
+ghost use Rattle.std.specs.Prelude.{◌≡◌, ◌≤◌, None, IfOk, map};
 ghost use Rattle.bp_tree.specs.Ast.{Program};
 ghost use Rattle.bp_code.specs.StandsFor.{StandsFor};
 ghost use Rattle.bp_machine.specs.Histories.{granted_calls, IsLegal};
 ghost use Rattle.bp_machine.specs.Reports.{IsReport};
 ghost use Rattle.bp_machine.specs.Setups.{setup_fault, FitsCode};
-ghost use Rattle.bp_test.specs.Failing.{FailsAt};
+ghost use Rattle.bp_test.specs.HistoryEnds.{IsEnd};
 ghost use Rattle.bp_test.specs.Shrinks.{budgeted, IsDriven, IsShrunk, IsShrunkOf};
 
+use crate::history_ends::HistoryEnd;
 use crate::searches::{Driven, Search, improve};
 use bp_code::Code;
 use bp_machine::{Call, Reply, Report, Session, Setup, open_lines, runs_are_histories};
 use std::alloc::{AllocError, Global};
 
-/// A history that fails, and is no larger than another one.
+/// A history that ends as another one does, and is no larger.
 #[derive(Drop)]
 pub struct Shrunk {
     /// Its setup: without a seed, and with as many contexts as its steps use.
     pub setup: Setup,
-    /// The calls. Each made a step, and the last one failed.
+    /// The calls. Each made a step.
     pub history: Vec<Call>,
     pub report: Report,
 }
@@ -88,22 +89,25 @@ fn budgeted(alloc: Global, code: &Code, setup: &Setup, contexts: u32) -> Result<
     }
 }
 
-/// The calls of a history that made a step, in the setup of the contexts that they use.
-fn used(alloc: Global, code: &Code, setup: &Setup, driven: &Driven) -> Result<Shrunk, AllocError>
-    requires { (t : Program) → StandsFor code.now t → IsDriven t setup.now driven.now }
+/// The calls of the best history that made a step, in the setup of the contexts that they use.
+fn used(alloc: Global, code: &Code, setup: &Setup, search: &Search) -> Result<Shrunk, AllocError>
+    requires { (t : Program)
+        → StandsFor code.now t
+        → IsDriven t setup.now search.now.end search.now.best }
     ensures { IfOk result (λ g.
         (t : Program)
         → StandsFor code.now t
-        → IsShrunkOf t setup.now driven.now g) }
+        → IsShrunkOf t setup.now search.now g) }
 {
     runs_are_histories();
-    let history = granted(alloc, driven.history.as_slice())?;
-    let setup = budgeted(alloc, code, setup, driven.report.contexts)?;
+    let best = &search.best;
+    let history = granted(alloc, best.history.as_slice())?;
+    let setup = budgeted(alloc, code, setup, best.report.contexts)?;
     let calls = history.as_slice();
     let report = Report {
         calls: calls.len() as u64,
         left_open: open_lines(&setup, calls),
-        ..driven.report
+        ..best.report
     };
     Ok(Shrunk {
         setup,
@@ -112,45 +116,45 @@ fn used(alloc: Global, code: &Code, setup: &Setup, driven: &Driven) -> Result<Sh
     })
 }
 
-/// A history that fails where this one does, by no more calls and no more contexts. Contexts are
-/// left out and joined, loops and other calls are left out, and choices are 0, as long as that
-/// makes it smaller and `limits` allows the work. The calls keep their bits, so the setup of what
-/// is answered has no seed, and as many contexts as are used. `number` is that of the instruction
-/// whose assertion failed, if it is known.
+/// A history that ends as this one does, by no more calls and no more contexts: the same assertion
+/// fails, or the same threads wait at the same assumptions. Contexts are left out and joined, loops
+/// and other calls are left out, and choices are 0, as long as that makes it smaller and `limits`
+/// allows the work. The calls keep their bits, so the setup of what is answered has no seed, and as
+/// many contexts as are used.
 pub fn shrink(
     alloc: Global,
     code: &Code,
     setup: &Setup,
     history: &[Call],
     report: &Report,
-    number: Option<u32>,
+    end: HistoryEnd,
 ) -> Result<Shrunk, AllocError>
     requires fits { FitsCode code.now setup.now }
     requires legal { (t : Program) → StandsFor code.now t → IsLegal t setup.now history.now }
     requires report { (t : Program)
         → StandsFor code.now t
         → IsReport setup.now history.now report.now }
-    requires fails { (t : Program)
+    requires ends { (t : Program)
         → StandsFor code.now t
-        → IfSome number (FailsAt t setup.now history.now) }
+        → IsEnd t setup.now history.now end }
     ensures { IfOk result (λ g.
         (t : Program)
         → StandsFor code.now t
-        → IsShrunk t setup.now history.now number g) }
+        → IsShrunk t setup.now history.now end g) }
 {
     let setup = setup.try_copy()?.with_seed(None);
     let search = Search {
         session: Session::new(alloc, code, &setup)?,
+        end,
         best: Driven {
             history: Vec::from_slice(alloc, history)?,
             report: *report,
-            number,
         },
         lines: Vec::new(alloc),
         spare: Vec::new(alloc),
         is_taken: false,
     };
-    let best = improve(search)?.best;
-    let shrunk = used(alloc, code, &setup, &best)?;
+    let search = improve(search)?;
+    let shrunk = used(alloc, code, &setup, &search)?;
     Ok(shrunk)
 }

@@ -45,15 +45,17 @@ pub const MIGRATE_NOTES: &str = "\
     Exit status:\n  0  done, and no assertion failed\n  1  an assertion failed\n  \
     2  an input was refused, or the words were\n  3  memory, a device or the output failed";
 
-pub const SHRINK_ABOUT: &str = "Print a smaller trace in which the same assertion fails";
+pub const SHRINK_ABOUT: &str = "Print a smaller trace with the same failure or deadlock";
 
 /// What `shrink --help` says after the arguments.
 pub const SHRINK_NOTES: &str = "\
-    The trace is one in which an assertion failed. Contexts, loops and other calls are left out,\n\
-    and what is left is driven again: the same assertion of the same thread fails in it, by no\n\
-    more calls and no more contexts. The first fault is one line on standard error.\n\n\
+    The trace is one that ends in a failed assertion or a deadlock. Contexts, loops and other\n\
+    calls are left out, and what is left is driven again: the same assertion of the same thread\n\
+    fails in it, or the same threads wait at the same assumptions, by no more calls and no more\n\
+    contexts. The first fault is one line on standard error.\n\n\
     Example:\n  btrun shrink race.bp race.trace\n\n\
-    Exit status:\n  1  an assertion failed, and the trace is printed\n  \
+    Exit status:\n  0  the trace of a deadlock is printed\n  \
+    1  an assertion failed, and the trace is printed\n  \
     2  an input was refused, or the words were\n  3  memory, a device or the output failed";
 
 /// A command of this name, a file and a trace.

@@ -1,19 +1,20 @@
-use Rattle.std.proofs.Common.{◌≡◌, IfSome, length, ap, sym, ◌∙◌, subst, arith}
+use Rattle.std.proofs.Common.{◌≡◌, length, ap, sym, ◌∙◌, subst, arith}
 use Rattle.bp_machine.specs.Contexts.{IsLeastWithin}
 use Rattle.bp_machine.specs.Histories.{granted_calls, granted_threads, open_lines, IsLegal}
 use Rattle.bp_machine.specs.Reports.{outcome_of}
 use Rattle.bp_machine.specs.Setups.{SetupOf}
-use Rattle.bp_test.specs.Failing.{FailsAt}
-use Rattle.bp_test.proofs.GrantedCalls.{fewer_calls, granted_again, same_outcome, granted_legal, granted_fails, granted_same}
+use Rattle.bp_test.specs.HistoryEnds.{IsEnd}
+use Rattle.bp_test.proofs.GrantedCalls.{fewer_calls, granted_again, same_outcome, granted_legal, granted_end, granted_same}
 use Rattle.bp_test.proofs.shrinking.used.Goals as goal
 
 pub returns : goal.returns
 returns c = λ t is.
     let s = c.args.setup.now in
-    let h = c.args.driven.now.history.items in
+    let best = c.args.search.now.best in
+    let h = best.history.items in
     let driven = c.requires t is in
-    let k = c.args.driven.now.report.contexts in
-    let number = c.args.driven.now.number in
+    let k = best.report.contexts in
+    let end = c.args.search.now.end in
     let each = c.runs_are_histories.ensures.each in
     let back = c.runs_are_histories.ensures.back in
     let within = driven.report.contexts.within in
@@ -32,7 +33,7 @@ returns c = λ t is.
       };
       steps = ap granted_calls items ∙ granted_again h ∙ sym items;
       outcome = ap outcome_of items ∙ same_outcome h;
-      fails = subst (λ g. IfSome number (FailsAt t own g)) (sym items) (subst (λ x. IfSome number (FailsAt t x (granted_calls h))) (sym setup) (granted_fails t s k h each back driven.legal within number driven.fails));
+      ends = subst (λ g. IsEnd t own g end) (sym items) (subst (λ x. IsEnd t x (granted_calls h) end) (sym setup) (granted_end t s k h each back driven.legal within end driven.ends));
       calls = let few = fewer_calls h in let sized = ap length items in omega (arith, few, sized);
       contexts = λ n whole. driven.report.contexts.least n whole.within;
     }
