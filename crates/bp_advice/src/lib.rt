@@ -1,5 +1,5 @@
 //! Explanations of faults of programs, for people: where in a text a fault is, the line, and what
-//! was expected there or what is wrong. Also the parts of which all explanations are made.
+//! was expected there or what is wrong. Explanations of other faults share its parts.
 #![tactic(auto)]
 
 mod advice;
