@@ -1,5 +1,4 @@
 //! Tests of `bp_machine`.
-mod examples;
 mod seeds;
 mod sessions;
 mod setups;

@@ -1,27 +1,11 @@
-//! Choice bits, and sessions with a seed.
+//! Sessions with a seed. Cases of `btrun run` show their choice bits.
 
-use bp_machine::{AskFault, Call, Choices, Outcome, Reply, Report, Session, Setup};
+use bp_machine::{AskFault, Call, Reply, Session, Setup};
 use std::alloc::Global;
 use std::test::Fail;
 use tests_common::{code_of, names};
 
 const SEED: u64 = 42;
-
-/// Whether the first choice bits of thread 0 are these digits.
-fn begins_with(digits: &[u8]) -> bool {
-    let mut choices = Choices::new(SEED, 0);
-    for digit in digits {
-        if choices.next() != (*digit == b'1') {
-            return false;
-        }
-    }
-    true
-}
-
-#[test]
-fn choice_bits(rt: HostRuntime) {
-    assert!(rt; begins_with(b"111011010100000000111010100001011001"));
-}
 
 /// A session of a loop of `main` within one context and ten calls, with the seed.
 fn session_of(alloc: Global) -> Result<Session, Fail> {
@@ -49,37 +33,6 @@ fn makes(session: &mut Session, bits: &[u8], letters: &[u8]) -> Result<bool, Ask
     Ok(bits.len() == letters.len())
 }
 
-/// The report of the loop that ends.
-const ENDED: Report = Report {
-    outcome: Outcome::Clean,
-    calls: 9,
-    left_open: 0,
-    contexts: 1,
-};
-
-/// Whether the loop ends by the bits of the seed.
-fn ends(session: &mut Session) -> Result<bool, AskFault> {
-    let made = makes(session, b"111011010", b"sssssssse")?;
-    Ok(made && session.report() == ENDED && session.ask(0) == Err(AskFault::Finished))
-}
-
-/// Whether a session ends so, or prepares its calls so.
-fn is_so(alloc: Global, prepared: bool) -> Result<bool, Fail> {
-    let mut session = session_of(alloc)?;
-    let is_right = if prepared {
-        prepares(&mut session)
-    } else {
-        ends(&mut session)
-    };
-    Ok(is_right?)
-}
-
-#[test]
-fn seeded_loop(rt: HostRuntime) -> Result<(), Fail> {
-    assert!(rt; is_so(rt.alloc(), false)?);
-    Ok(())
-}
-
 /// Whether calls of no thread, and with a bit that is handed in, are refused.
 fn wants_its_bits(session: &mut Session) -> bool {
     session.ask(1) == Err(AskFault::NoThread) && session.ask_with(0, true) == Err(AskFault::Seeded)
@@ -105,8 +58,14 @@ fn prepares(session: &mut Session) -> Result<bool, AskFault> {
     Ok(is_refused && is_made && makes(session, b"11011010", b"ssssssse")?)
 }
 
+/// Whether that is so of the session of the loop.
+fn is_so(alloc: Global) -> Result<bool, Fail> {
+    let mut session = session_of(alloc)?;
+    Ok(prepares(&mut session)?)
+}
+
 #[test]
 fn prepared_call(rt: HostRuntime) -> Result<(), Fail> {
-    assert!(rt; is_so(rt.alloc(), true)?);
+    assert!(rt; is_so(rt.alloc())?);
     Ok(())
 }
