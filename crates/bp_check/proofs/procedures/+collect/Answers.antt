@@ -1,3 +1,4 @@
+use Rattle.std.proofs.lemmas.Grind.{common_steps}
 use Rattle.std.proofs.Common.{arith, ap}
 use Rattle.bp_tree.specs.Blocks.{statement_of}
 use Rattle.bp_tree.specs.Depth.{statement_depth}
@@ -14,3 +15,9 @@ collect-collect_inside-requires t c =
 pub collect-loop-stmt-preserved : goal.collect-loop-stmt-preserved
 collect-loop-stmt-preserved t c =
     collect_more (all_labelled c.args.out.now.items) _ _ _ _ c.args.stmts.now c.loop-stmt.stmt-index c.loop-stmt-test.true c.stmt-item.is c.loop-stmt.invariant c.in_ok-push.ensures.items (rw c.form.ensures at c.in_ok-collect_inside.ensures)
+
+pub collect-returns : goal.collect-returns
+collect-returns t c = grind (arith, common_steps)
+
+pub collect_inside-returns-in_ok-collect-in-If : goal.collect_inside-returns-in_ok-collect-in-If
+collect_inside-returns-in_ok-collect-in-If t c = grind (arith, common_steps)

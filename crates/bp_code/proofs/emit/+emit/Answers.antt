@@ -1,3 +1,4 @@
+use Rattle.std.proofs.lemmas.Grind.{common_steps}
 use Rattle.std.proofs.Common.{◌≡◌, ◌+◌, ap, subst, arith, length, drop}
 use Rattle.bp_tree.specs.Blocks.{block_of, statement_of}
 use Rattle.bp_tree.specs.Depth.{depth}
@@ -78,3 +79,21 @@ emit_if-emit_block-requires-2 t c =
     let moved : start + 1 + block_size a ≡ length c.emit_block.new.out.items = omega arith in
     let placed = subst (λ n. AreSizesOf c.args.environment.now.layout n (block_sizes b)) moved (second_part _ _ (start + 1) a b c.requires.placed) in
     rw c.as_slice-3.ensures (omega arith, (omega arith, (c.requires.known.2, placed)))
+
+pub emit-new-requires : goal.emit-new-requires
+emit-new-requires t c = grind (arith, common_steps)
+
+pub emit_block-returns : goal.emit_block-returns
+emit_block-returns t c = grind (arith, common_steps)
+
+pub emit_if-emit_block-requires : goal.emit_if-emit_block-requires
+emit_if-emit_block-requires t c = grind (arith, common_steps)
+
+pub emit_if-returns : goal.emit_if-returns
+emit_if-returns t c = grind (arith, common_steps)
+
+pub emit_if-size_of_block-requires : goal.emit_if-size_of_block-requires
+emit_if-size_of_block-requires t c = grind (arith, common_steps)
+
+pub emit_while-returns : goal.emit_while-returns
+emit_while-returns t c = grind (arith, common_steps)

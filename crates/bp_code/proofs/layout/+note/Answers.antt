@@ -1,3 +1,4 @@
+use Rattle.std.proofs.lemmas.Grind.{common_steps}
 use Rattle.std.proofs.Common.{◌≡◌, ◌+◌, ◌-◌, ap, ◌∙◌, arith, length, [], ◌∷◌, ◌++◌, append_assoc, length-append, rules}
 use Rattle.std.proofs.lemmas.List.{set_at}
 use Rattle.std.proofs.lemmas.Result.{on_ok_weaker}
@@ -117,3 +118,12 @@ note_inside-returns-in_ok-note_block-in-If-clause-labels t c =
 
 pub note-returns-clause-labels : goal.note-returns-clause-labels
 note-returns-clause-labels t c = search rules
+
+pub note-index_mut-requires : goal.note-index_mut-requires
+note-index_mut-requires t c = grind (arith, common_steps)
+
+pub note-overflow_sub-len : goal.note-overflow_sub-len
+note-overflow_sub-len t c = grind (arith, common_steps)
+
+pub note_block-returns : goal.note_block-returns
+note_block-returns t c = grind (arith, common_steps)

@@ -1,3 +1,4 @@
+use Rattle.std.proofs.lemmas.Grind.{common_steps}
 use Rattle.std.proofs.Common.{ap, arith}
 use Rattle.bp_tree.specs.Blocks.{statement_of}
 use Rattle.bp_tree.specs.Depth.{statement_depth}
@@ -15,3 +16,9 @@ pub note_block-loop-stmt-preserved : goal.note_block-loop-stmt-preserved
 note_block-loop-stmt-preserved t c =
     let noted = rw (c.form.ensures, c.in_ok-push.ensures.items, c.at.ensures) at c.in_ok-note_inside.ensures in
     starts_more c.args.stmts.now c.loop-stmt.stmt-index c.stmt-item.result c.loop-stmt-test.true c.stmt-item.is c.loop-stmt.starts.items c.note_inside.new.starts.items _ noted c.loop-stmt.invariant
+
+pub note_block-returns : goal.note_block-returns
+note_block-returns t c = grind (arith, common_steps)
+
+pub note_inside-returns-in_ok-note_block-in-If : goal.note_inside-returns-in_ok-note_block-in-If
+note_inside-returns-in_ok-note_block-in-If t c = grind (arith, common_steps)

@@ -1,3 +1,4 @@
+use Rattle.std.proofs.lemmas.Grind.{common_steps}
 use Rattle.std.proofs.Common.{◌≢◌, ◌∙◌, sym, Some, arith, rules}
 use Rattle.std.proofs.lemmas.Bool.{false≢true}
 use Rattle.bp_trace.proofs.BodyLineAt.{no_piece_of_last, no_piece, has_piece}
@@ -24,3 +25,15 @@ returns-else-size-gt0 c =
           false≢true (sym w.if-has_byte.false ∙ has.1 ended)
       | else-size-gt0-via-else-size-gt0 w ↦ absurd (omega (arith, some, w.if-size-gt0.false))
     ])
+
+pub overflow_add-result : goal.overflow_add-result
+overflow_add-result c = grind (arith, common_steps)
+
+pub overflow_add-result-then-has_byte : goal.overflow_add-result-then-has_byte
+overflow_add-result-then-has_byte c = grind (arith, common_steps)
+
+pub returns-in_default : goal.returns-in_default
+returns-in_default c = grind (arith, common_steps)
+
+pub text_from-symbols-requires : goal.text_from-symbols-requires
+text_from-symbols-requires c = grind (arith, common_steps)

@@ -1,3 +1,4 @@
+use Rattle.std.proofs.lemmas.Grind.{common_steps}
 use Rattle.std.proofs.Common.{◌∙◌, sym, subst, arith, drop}
 use Rattle.std.proofs.lemmas.Result.{err_from_is_err_and}
 use Rattle.bp_code.specs.Programs.{IsOfProgram}
@@ -28,3 +29,9 @@ loop-at-preserved c =
       code = c.play_line.ensures.kept.0 ∙ c.loop-at.invariant.code;
       setup = c.play_line.ensures.kept.1 ∙ c.loop-at.invariant.setup;
     })
+
+pub overflow_add-at : goal.overflow_add-at
+overflow_add-at c = grind (arith, common_steps)
+
+pub returns-in_default : goal.returns-in_default
+returns-in_default c = grind (arith, common_steps)

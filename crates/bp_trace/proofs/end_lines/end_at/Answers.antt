@@ -1,3 +1,5 @@
+use Rattle.std.proofs.lemmas.Grind.{common_steps}
+use Rattle.std.proofs.Common.{arith}
 use Rattle.std.proofs.Common.{◌≡◌, ◌++◌, drop, codes}
 use Rattle.std.proofs.lemmas.Bool.Decides.{Decides-eqb}
 use Rattle.std.proofs.lemmas.Slice.Eq.{starts_is}
@@ -17,3 +19,18 @@ returns-in-Some-decimal_at c =
     let first = rw c.text_from.ensures at c.in-Some.ensures in
     let second = rw c.text_from-2.ensures at c.in-Some-decimal_at.ensures in
     has_end c.args.text.now word c.in-Some.calls first c.in-Some-decimal_at.left_open second
+
+pub overflow_add-calls : goal.overflow_add-calls
+overflow_add-calls c = grind (arith, common_steps)
+
+pub overflow_add-result : goal.overflow_add-result
+overflow_add-result c = grind (arith, common_steps)
+
+pub overflow_add-result-in-Some-decimal_at : goal.overflow_add-result-in-Some-decimal_at
+overflow_add-result-in-Some-decimal_at c = grind (arith, common_steps)
+
+pub returns-in_default : goal.returns-in_default
+returns-in_default c = grind (arith, common_steps)
+
+pub text_from-requires-2 : goal.text_from-requires-2
+text_from-requires-2 c = grind (arith, common_steps)

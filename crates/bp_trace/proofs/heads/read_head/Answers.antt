@@ -1,3 +1,4 @@
+use Rattle.std.proofs.lemmas.Grind.{common_steps}
 use Rattle.std.proofs.Common.{◌+◌, [], ◌∷◌, map, codes, arith}
 use Rattle.std.proofs.lemmas.List.{length-map}
 use Rattle.bp_machine.specs.Setups.{SetupOf, setup_of}
@@ -107,3 +108,6 @@ returns c =
       size = whole_size text v s rest whole;
       lines = omega (arith, many, c.len.ensures, line_total v s);
     }
+
+pub overflow_sub-result : goal.overflow_sub-result
+overflow_sub-result c = grind (arith, common_steps)

@@ -1,3 +1,5 @@
+use Rattle.std.proofs.lemmas.Grind.{common_steps}
+use Rattle.std.proofs.Common.{arith}
 use Rattle.std.proofs.Common.{◌∙◌, refl, sym, subst}
 use Rattle.std.proofs.lemmas.Result.{err_from_is_err_and}
 use Rattle.bp_code.specs.StandsFor.{StandsFor}
@@ -35,3 +37,6 @@ loop-call-preserved g c =
       code = c.judge.ensures.kept.0 ∙ before.code;
       setup = c.judge.ensures.kept.1 ∙ before.setup;
     }
+
+pub judge-requires : goal.judge-requires
+judge-requires c = grind (arith, common_steps)

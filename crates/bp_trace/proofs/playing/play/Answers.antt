@@ -1,3 +1,5 @@
+use Rattle.std.proofs.lemmas.Grind.{common_steps}
+use Rattle.std.proofs.Common.{arith}
 use Rattle.std.proofs.Common.{◌∙◌, sym, subst, refl}
 use Rattle.std.proofs.lemmas.Result.{err_from_is_err_and}
 use Rattle.bp_code.specs.StandsFor.{StandsFor}
@@ -57,3 +59,9 @@ loop-calls-preserved g c =
       code = c.judge_line.ensures.kept.0 ∙ before.code;
       setup = c.judge_line.ensures.kept.1 ∙ before.setup;
     }
+
+pub overflow_add-line : goal.overflow_add-line
+overflow_add-line c = grind (arith, common_steps)
+
+pub overflow_add-size : goal.overflow_add-size
+overflow_add-size c = grind (arith, common_steps)

@@ -1,3 +1,4 @@
+use Rattle.std.proofs.lemmas.Grind.{common_steps}
 use Rattle.std.proofs.Common.{◌≡◌, ◌∙◌, ◌+◌, None, refl, ap, sym, subst, arith, length}
 use Rattle.std.proofs.lemmas.Result.{err_from_is_err_and}
 use Rattle.bp_code.specs.StandsFor.{StandsFor}
@@ -86,3 +87,6 @@ returns g c = λ t is.
       stands = played.0;
       seen = c.in_ok-body.ensures.watched t is_open c.args.watcher (c.in_ok-begin.ensures t);
     }
+
+pub text_from-rest-requires : goal.text_from-rest-requires
+text_from-rest-requires c = grind (arith, common_steps)

@@ -1,3 +1,4 @@
+use Rattle.std.proofs.lemmas.Grind.{common_steps}
 use Rattle.std.proofs.Common.{◌∙◌, ap, sym, arith, ◌||◌, nat_le}
 use Rattle.std.specs.Prelude.{slice_get}
 use Rattle.bp_machine.specs.GuestThreads.{guests}
@@ -29,3 +30,6 @@ loop-thread-preserved c =
             w.count-is ∙ (rw w.if-not-is_finished.false at base);
       }
     ]
+
+pub overflow_add-count : goal.overflow_add-count
+overflow_add-count c = grind (arith, common_steps)
