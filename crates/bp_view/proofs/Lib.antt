@@ -14,6 +14,7 @@ pub mod FailedConditions
 pub mod FailedStatements
 pub mod FirstPieces
 pub mod FramesOfTops
+pub mod JoinedTexts
 pub mod LastReplies
 pub mod LastSteps
 pub mod ListedNames

@@ -1,5 +1,5 @@
 -- A thread that waits stands at an assumption.
-use Rattle.std.proofs.Common.{◌≡◌, ℕ, Bool, true, false, ◌&&◌, cond, List, [], ◌∷◌, Option, None, Some, refl, subst}
+use Rattle.std.proofs.Common.{◌≡◌, ℕ, Bool, true, false, ◌&&◌, cond, List, [], ◌∷◌, Option, None, Some, refl}
 use Rattle.bp_tree.specs.Ast.{Name, Block, Done, Then, Statement, Skips, GoesTo, Returns, Assigns, Branches, Loops, Asserts, Assumes, Prints, Calls, Decision, Procedure, Program}
 use Rattle.bp_code.specs.Configurations.{Configuration, Frame, is_call, procedure_named}
 use Rattle.bp_code.specs.Continuations.{from_label}

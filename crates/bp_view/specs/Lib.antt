@@ -23,7 +23,9 @@ pub mod Parts
 pub mod Places
 pub mod Programs
 pub mod ReplayedChanges
+pub mod Said
 pub mod Scenes
+pub mod ShownTraces
 pub mod Spans
 pub mod Standings
 pub mod StatementLines

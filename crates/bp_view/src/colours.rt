@@ -5,7 +5,7 @@ ghost use Rattle.bp_view.specs.Colours.{colour_of, opening, closing};
 use bp_machine::Reply;
 
 /// The colour of a line.
-#[derive(Clone, Copy, Debug, PartialEq, Eq)]
+#[derive(Clone, Copy)]
 pub(crate) enum Colour {
     Red,
     Yellow,

@@ -24,7 +24,7 @@ use crate::variables::push_variable;
 use bp_code::Store;
 use bp_machine::{Session, Top};
 use bp_text::Piece::{Bytes, Key, List, Number, Text};
-use bp_text::{Position, push_bytes, push_pieces};
+use bp_text::{Position, push_pieces};
 use bp_tree::{Decider, Name, Proc};
 use std::alloc::{AllocError, Global};
 
@@ -79,34 +79,34 @@ fn values_read(
     Ok(values)
 }
 
-/// Adds the line of these values, where there are any.
-fn push_values_line(view: &mut Vec<u8>, values: &[u8]) -> Result<(), AllocError>
-    ensures { OnOk result (view.new.items ≡ view.old.items ++ values_line values.now) }
+/// What begins the line of these values, where there are any.
+pub(crate) fn values_lead(values: &[u8]) -> &'static [u8]
+    ensures { result.now ++ values.now ≡ values_line values.now }
 {
-    if !values.is_empty() {
-        push_bytes(view, b"\nvalues")?;
-        push_bytes(view, values)?;
-    }
-    Ok(())
+    if values.is_empty() { b"" } else { b"\nvalues" }
 }
 
 /// Adds where a statement begins, its words, and the line of these values.
-pub(crate) fn push_condition_text(
+fn push_condition_text<'a>(
     view: &mut Vec<u8>,
-    scene: &Scene,
-    values: &[u8],
+    scene: &'a Scene,
+    values: &'a [u8],
 ) -> Result<(), AllocError>
-    ensures { let words = scene.now.excerpt.words.items in
-        let condition = condition_text scene.now.place.items words values.now in
+    ensures { let words = scene.entry.now.excerpt.words.items in
+        let condition = condition_text scene.entry.now.place.items words values.entry.now in
         OnOk result (view.new.items ≡ view.old.items ++ condition) }
 {
-    let (place, words) = (scene.place.as_slice(), scene.excerpt.words.as_slice());
     push_pieces(
         view,
-        &[Bytes(b" at "), Bytes(place), Bytes(b": "), Bytes(words)],
-    )?;
-    push_values_line(view, values)?;
-    Ok(())
+        &[
+            Bytes(b" at "),
+            Bytes(scene.place.as_slice()),
+            Bytes(b": "),
+            Bytes(scene.excerpt.words.as_slice()),
+            Bytes(values_lead(values)),
+            Bytes(values),
+        ],
+    )
 }
 
 /// Adds where a condition begins, its words and its values, as members of an object.

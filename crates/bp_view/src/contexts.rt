@@ -4,30 +4,32 @@ ghost use Rattle.bp_tree.specs.Ast.{Program};
 ghost use Rattle.bp_code.specs.StandsFor.{StandsFor};
 ghost use Rattle.bp_machine.specs.declared.calls.Call.{Call as Answered};
 ghost use Rattle.bp_machine.specs.Histories.{configuration_after};
-ghost use Rattle.bp_machine.specs.Setups.{SetupOf};
-ghost use Rattle.bp_trace.specs.Replays.{IsReplayRefusal};
-ghost use Rattle.bp_view.specs.ChangeFacts.{entry_of, owned};
+ghost use Rattle.bp_machine.specs.Setups.{FitsCode, SetupOf};
+ghost use Rattle.bp_trace.specs.Replays.{IsPlayable, IsReplayRefusal};
+ghost use Rattle.bp_text.specs.Pieces.{key_text};
+ghost use Rattle.bp_view.specs.ChangeFacts.{entries_text, entry_of, owned};
 ghost use Rattle.bp_view.specs.Changes.{changed};
-ghost use Rattle.bp_view.specs.ContextLines.{context_in, context_line, context_object, context_text, contexts_head, position_or_null, AreContextFacts, AreContextsOfTrace, IsContextLine};
+ghost use Rattle.bp_view.specs.ContextLines.{context_in, context_line, context_object, context_text, contexts_head, position_or_null, AreContextFacts, AreContextLines, AreContextsOfTrace, IsContextLine};
+ghost use Rattle.bp_view.specs.declared.options.ViewFormat.TheVariants.{Columns, Json};
 ghost use Rattle.bp_view.specs.Moments.{IsSettingOf};
 ghost use Rattle.bp_view.specs.Parts.{Adds, IsInParts};
+ghost use Rattle.bp_view.specs.Scenes.{AreScenes};
 ghost use Rattle.bp_view.specs.Spans.{AreSpans, IsSpan};
 
 use crate::call_facts::{Next, next_of};
 use crate::change_facts::{Change, add_differing};
-use crate::json_calls::push_changed_list;
-use crate::lines::{push_changed, push_note};
-use crate::options::{ViewFormat, ViewOptions};
-use crate::scenes::scenes_of;
-use crate::settings::{Setting, Widths, setting_of};
+use crate::lines::{push_changed, spaces_before};
+use crate::options::ViewFormat;
+use crate::pieces::{push_three, push_two};
+use crate::settings::{Setting, Widths};
+use crate::shown_traces::{ShownTrace, shown_trace_of};
 use crate::spans::{Span, spans_of};
 use bp_check::Checked;
 use bp_code::Code;
 use bp_machine::Report;
-use bp_text::Piece::{Bytes, Key, Left, Number, NumberRight};
-use bp_text::{Position, push_piece, push_pieces};
-use bp_trace::limits::MAX_TRACE;
-use bp_trace::{ReplayFault, replay};
+use bp_text::Piece::{Bytes, Key, Left, List, Number, NumberRight, Spaces};
+use bp_text::{Position, push_pieces};
+use bp_trace::ReplayFault;
 use std::alloc::{AllocError, Global};
 
 /// What is shown of a context.
@@ -55,13 +57,14 @@ fn context_facts<'a>(
     span: &Span,
     changes: &'a [Change<'a>],
 ) -> ContextFacts<'a>
-    ensures { (t : Program) (text : List ℕ) (s : SetupOf) (h : List Answered)
+    ensures facts { (t : Program) (text : List ℕ) (s : SetupOf) (h : List Answered)
         → IsSettingOf t text setting.now
         → (is : IsSpan t s h number span.now)
         → let first = configuration_after t s (take is.first h) in
         let last = configuration_after t s (take (suc is.last) h) in
         map entry_of changes.entry.now ≡ owned None (changed first.globals last.globals)
         → AreContextFacts t text s h number (context_in result) }
+    ensures changes { result.changes.now ≡ changes.entry.now }
 {
     ContextFacts {
         number,
@@ -74,18 +77,19 @@ fn context_facts<'a>(
     }
 }
 
-/// Adds a context for people. `note` is room for what it changed.
-fn push_context_line(
+/// Adds a context for people. `note` is what it changed.
+fn push_context_line<'a>(
     view: &mut Vec<u8>,
-    note: &mut Vec<u8>,
+    note: &'a [u8],
     widths: Widths,
-    facts: &ContextFacts<'_>,
+    facts: &ContextFacts<'a>,
 ) -> Result<(), AllocError>
-    ensures { OnOk result
-        (view.new.items ≡ view.old.items ++ context_line widths (context_in facts.now)) }
+    ensures { note.entry.now ≡ entries_text Columns (map entry_of facts.now.changes.now)
+        → let line = context_line widths (context_in facts.now) in
+        OnOk result (view.new.items ≡ view.old.items ++ line) }
 {
-    note.clear();
-    push_changed(note, ViewFormat::Columns, facts.changes)?;
+    let (from, to) = (facts.from.place, facts.to.place);
+    let room = widths.place.saturating_sub(to.len());
     push_pieces(
         view,
         &[
@@ -98,25 +102,32 @@ fn push_context_line(
             Bytes(b" to "),
             NumberRight(widths.number, facts.last),
             Bytes(b" from "),
+            Left(widths.place, from),
+            Bytes(b" to "),
+            Bytes(to),
+            Spaces(spaces_before(room, note)),
+            Bytes(note),
+            Bytes(b"\n"),
         ],
-    )?;
-    let (from, to) = (facts.from.place, facts.to.place);
-    push_pieces(view, &[Left(widths.place, from), Bytes(b" to "), Bytes(to)])?;
-    push_note(view, widths.place.saturating_sub(to.len()), note)?;
-    push_piece(view, Bytes(b"\n"))?;
-    Ok(())
+    )
 }
 
-/// Adds a place as an object of JSON, or null.
-fn push_position_or_null(view: &mut Vec<u8>, position: Option<Position>) -> Result<(), AllocError>
-    ensures { OnOk result (view.new.items ≡ view.old.items ++ position_or_null position) }
+/// Adds a place as a member of an object: an object of JSON, or null.
+fn push_position(
+    view: &mut Vec<u8>,
+    key: &'static [u8],
+    position: Option<Position>,
+) -> Result<(), AllocError>
+    ensures { let place = position_or_null position in
+        OnOk result (view.new.items ≡ view.old.items ++ key_text key.entry.now ++ place) }
 {
     let Some(position) = position else {
-        return push_piece(view, Bytes(b"null"));
+        return push_two(view, Key(key), Bytes(b"null"));
     };
     push_pieces(
         view,
         &[
+            Key(key),
             Bytes(b"{\"line\":"),
             Number(position.line as u64),
             Key(b"column"),
@@ -126,14 +137,15 @@ fn push_position_or_null(view: &mut Vec<u8>, position: Option<Position>) -> Resu
     )
 }
 
-/// Adds a context as an object of JSON. `note` is room for what it changed.
+/// Adds a context as an object of JSON. `note` is what it changed.
 fn push_context_object(
     view: &mut Vec<u8>,
-    note: &mut Vec<u8>,
+    note: &[u8],
     facts: &ContextFacts<'_>,
 ) -> Result<(), AllocError>
-    ensures { OnOk result
-        (view.new.items ≡ view.old.items ++ context_object (context_in facts.now)) }
+    ensures { note.now ≡ entries_text Json (map entry_of facts.now.changes.now)
+        → let object = context_object (context_in facts.now) in
+        OnOk result (view.new.items ≡ view.old.items ++ object) }
 {
     push_pieces(
         view,
@@ -147,27 +159,23 @@ fn push_context_object(
             Number(facts.first),
             Key(b"last"),
             Number(facts.last),
-            Key(b"from"),
         ],
     )?;
-    push_position_or_null(view, facts.from.position)?;
-    push_piece(view, Key(b"to"))?;
-    push_position_or_null(view, facts.to.position)?;
-    push_piece(view, Key(b"changes"))?;
-    push_changed_list(view, note, facts.changes)?;
-    push_piece(view, Bytes(b"}\n"))?;
-    Ok(())
+    push_position(view, b"from", facts.from.position)?;
+    push_position(view, b"to", facts.to.position)?;
+    push_three(view, Key(b"changes"), List(note), Bytes(b"}\n"))
 }
 
-/// Adds a context in the format of the view. `note` is room for what it changed.
+/// Adds a context in the format of the view. `note` is what it changed.
 fn push_context_in(
     view: &mut Vec<u8>,
-    note: &mut Vec<u8>,
+    note: &[u8],
     setting: &Setting<'_>,
     facts: &ContextFacts<'_>,
 ) -> Result<(), AllocError>
     ensures { let format = setting.now.options.format in
-        let context = context_text format setting.now.widths (context_in facts.now) in
+        note.now ≡ entries_text format (map entry_of facts.now.changes.now)
+        → let context = context_text format setting.now.widths (context_in facts.now) in
         OnOk result (view.new.items ≡ view.old.items ++ context) }
 {
     match setting.options.format {
@@ -195,9 +203,10 @@ fn push_context<'a>(
     changes.clear();
     let (before, after) = (span.before.globals, span.after.globals);
     add_differing(changes, None, setting.globals, 0, before, after)?;
+    note.clear();
+    push_changed(note, setting.options.format, changes)?;
     let facts = context_facts(setting, number, span, changes);
-    push_context_in(view, note, setting, &facts)?;
-    Ok(())
+    push_context_in(view, note, setting, &facts)
 }
 
 /// Adds a line for each context. `note` and `changes` are room for what one changed.
@@ -231,8 +240,9 @@ fn push_contexts_head(
     ensures { let head = contexts_head format calls contexts in
         OnOk result (view.new.items ≡ view.old.items ++ head) }
 {
-    if let ViewFormat::Json = format {
-        push_pieces(
+    match format {
+        ViewFormat::Columns => Ok(()),
+        ViewFormat::Json => push_pieces(
             view,
             &[
                 Bytes(b"{\"kind\":\"contexts\",\"version\":1"),
@@ -242,9 +252,8 @@ fn push_contexts_head(
                 Number(contexts),
                 Bytes(b"}\n"),
             ],
-        )?;
+        ),
     }
-    Ok(())
 }
 
 /// The lines of all contexts of a history, after their head.
@@ -265,11 +274,38 @@ fn contexts_text(
 {
     let format = setting.options.format;
     let mut view = Vec::new(alloc);
+    push_contexts_head(&mut view, format, setting.count(), spans.len() as u64)?;
     let mut note = Vec::new(alloc);
     let mut changes = Vec::new(alloc);
-    push_contexts_head(&mut view, format, setting.count(), spans.len() as u64)?;
     push_contexts(&mut view, &mut note, &mut changes, setting, spans)?;
     Ok(view)
+}
+
+/// A line for each context of a trace that was replayed.
+fn contexts_in(
+    alloc: Global,
+    checked: &Checked,
+    code: &Code,
+    shown: &ShownTrace,
+    format: ViewFormat,
+) -> Result<Vec<u8>, AllocError>
+    requires code { StandsFor code.now checked.now }
+    requires fits { FitsCode code.now shown.now.replayed.setup }
+    requires playable { (t : Program)
+        → StandsFor code.now t
+        → IsPlayable t shown.now.replayed.setup shown.now.replayed.history.items }
+    ensures { (text : List ℕ)
+        → AreScenes text checked.now shown.now.scenes.items
+        → let r = shown.now.replayed in
+        let lines = AreContextLines format checked.now text r.setup r.history.items in
+        IfOk result (λ v. lines v.items) }
+{
+    let history = shown.replayed.history.as_slice();
+    let Ok(spans) = spans_of(alloc, code, &shown.replayed.setup, history) else {
+        return Err(AllocError);
+    };
+    let setting = shown.setting(checked, format);
+    contexts_text(alloc, &setting, &spans)
 }
 
 /// A line for each context of a trace, and the report of the trace: the thread of the context, its
@@ -288,24 +324,7 @@ pub fn contexts_of(
         (λ p. AreContextsOfTrace format checked.now text.now trace.now p.0.items p.1)
         (IsReplayRefusal checked.now trace.now) }
 {
-    if trace.len() > MAX_TRACE {
-        return Err(ReplayFault::TooLong);
-    }
-    let scenes = scenes_of(alloc, text, checked)?;
-    let replayed = replay(alloc, code, trace)?;
-    let history = replayed.history.as_slice();
-    let Ok(spans) = spans_of(alloc, code, &replayed.setup, history) else {
-        return Err(ReplayFault::Memory);
-    };
-    let options = ViewOptions::all(format);
-    let setting = setting_of(
-        scenes.as_slice(),
-        checked,
-        &replayed.setup,
-        history,
-        options,
-        &[],
-    );
-    let lines = contexts_text(alloc, &setting, &spans)?;
-    Ok((lines, replayed.report))
+    let shown = shown_trace_of(alloc, text, checked, code, trace)?;
+    let lines = contexts_in(alloc, checked, code, &shown, format)?;
+    Ok((lines, shown.replayed.report))
 }

@@ -66,8 +66,7 @@ fn push_wait_of(
         return Ok(());
     }
     let condition = condition_of(alloc, setting, session, thread)?;
-    push_wait(view, setting.options.format, thread, &condition)?;
-    Ok(())
+    push_wait(view, setting.options.format, thread, &condition)
 }
 
 /// The threads that wait, in ascending order, where they are deadlocked, else nothing.

@@ -11,9 +11,11 @@ ghost use Rattle.bp_view.specs.Parts.{Adds};
 
 use crate::options::ViewFormat;
 use crate::outcomes::foot_of;
+use crate::pieces::push_two;
 use crate::settings::Setting;
 use crate::states::state_of;
 use bp_machine::{Report, Session};
+use bp_text::Piece::Bytes;
 use bp_text::push_bytes;
 use std::alloc::{AllocError, Global};
 
@@ -21,11 +23,10 @@ use std::alloc::{AllocError, Global};
 fn push_after_foot(view: &mut Vec<u8>, format: ViewFormat, state: &[u8]) -> Result<(), AllocError>
     ensures { OnOk result (view.new.items ≡ view.old.items ++ after_foot format state.now) }
 {
-    if matches!(format, ViewFormat::Columns) {
-        push_bytes(view, b"\n")?;
+    match format {
+        ViewFormat::Columns => push_two(view, Bytes(b"\n"), Bytes(state)),
+        ViewFormat::Json => push_bytes(view, state),
     }
-    push_bytes(view, state)?;
-    Ok(())
 }
 
 /// Adds the state of the session, where it is asked for. The session stands after the last call.

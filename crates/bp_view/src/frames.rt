@@ -16,7 +16,7 @@ ghost use Rattle.bp_view.specs.Moments.{IsSettingOf};
 ghost use Rattle.bp_view.specs.Parts.{Adds};
 ghost use Rattle.bp_view.specs.Places.{place_text};
 
-use crate::conditions::push_condition_text;
+use crate::conditions::values_lead;
 use crate::json_texts::{column_of, line_of};
 use crate::options::ViewFormat;
 use crate::scenes::Scene;
@@ -24,7 +24,7 @@ use crate::settings::Setting;
 use crate::variables::push_values;
 use bp_machine::{Session, Top};
 use bp_text::Piece::{Bytes, Key, List, NumberOrNull, OneLine, Text};
-use bp_text::{push_piece, push_pieces};
+use bp_text::push_pieces;
 use bp_tree::Proc;
 use std::alloc::AllocError;
 
@@ -36,22 +36,32 @@ fn lead(returned: usize) -> &'static [u8]
 }
 
 /// Adds a frame for people: its procedure, the scene of what it has next, and its values.
-fn push_frame_lines(
+fn push_frame_lines<'a>(
     view: &mut Vec<u8>,
     returned: usize,
-    proc: &Proc,
-    scene: &Scene,
-    values: &[u8],
+    proc: &'a Proc,
+    scene: &'a Scene,
+    values: &'a [u8],
 ) -> Result<(), AllocError>
-    ensures { let words = scene.now.excerpt.words.items in
-        let frame = frame_lines returned proc.now scene.now.place.items words values.now in
+    ensures { let words = scene.entry.now.excerpt.words.items in
+        let place = scene.entry.now.place.items in
+        let frame = frame_lines returned proc.entry.now place words values.entry.now in
         OnOk result (view.new.items ≡ view.old.items ++ frame) }
 {
-    let name = proc.name().text().as_bytes();
-    push_pieces(view, &[Bytes(lead(returned)), OneLine(name)])?;
-    push_condition_text(view, scene, values)?;
-    push_piece(view, Bytes(b"\n"))?;
-    Ok(())
+    push_pieces(
+        view,
+        &[
+            Bytes(lead(returned)),
+            OneLine(proc.name().text().as_bytes()),
+            Bytes(b" at "),
+            Bytes(scene.place.as_slice()),
+            Bytes(b": "),
+            Bytes(scene.excerpt.words.as_slice()),
+            Bytes(values_lead(values)),
+            Bytes(values),
+            Bytes(b"\n"),
+        ],
+    )
 }
 
 /// Adds a frame as an object of JSON, after a comma.
@@ -126,8 +136,7 @@ fn push_locals(
         proc.locals(),
         formals.len(),
         word,
-    )?;
-    Ok(())
+    )
 }
 
 /// Adds the frame at this top; `returned` is the number of frames above it. `note` is room for its
@@ -154,8 +163,7 @@ fn push_frame(
     let format = setting.options.format;
     note.clear();
     push_locals(note, format, proc, top.store.locals)?;
-    push_frame_in(view, format, returned, proc, scene, note)?;
-    Ok(())
+    push_frame_in(view, format, returned, proc, scene, note)
 }
 
 /// Adds the frame of a thread below `returned` others. `note` is room for its values.

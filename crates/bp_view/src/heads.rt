@@ -1,28 +1,32 @@
 //! The head of a view: the setup of the history.
-ghost use Rattle.std.specs.Prelude.{◌≡◌, ◌++◌, [], None, false, flat_map, slice_get, unwrap_or, OnOk, IfOk};
+ghost use Rattle.std.specs.Prelude.{◌≡◌, ◌++◌, [], None, codes, false, flat_map, slice_get, unwrap_or, OnOk, IfOk};
 ghost use Rattle.bp_code.specs.Values.{binding};
 ghost use Rattle.bp_view.specs.Changes.{variables_text};
 ghost use Rattle.bp_view.specs.Heads.{globals_line, head_lines, head_object, limit_members, number_line, seed_line, string_item, thread_line, thread_lines, view_head};
 
 use crate::options::ViewFormat;
+use crate::pieces::{push_three, push_two};
 use crate::variables::push_value;
 use bp_machine::Setup;
 use bp_text::Piece::{Bytes, Key, List, Number, NumberOrNull, Text};
 use bp_text::{push_bytes, push_pieces};
 use bp_tree::Name;
-use itoa::Buffer;
 use std::alloc::{AllocError, Global};
 
 /// Adds the line of a thread: its number and its entry procedure.
 fn push_thread(view: &mut Vec<u8>, thread: u32, entry: &[u8]) -> Result<(), AllocError>
     ensures { OnOk result (view.new.items ≡ view.old.items ++ thread_line thread entry.now) }
 {
-    let mut buffer = Buffer::new();
-    push_bytes(view, b"thread ")?;
-    push_bytes(view, buffer.format(thread).as_bytes())?;
-    push_bytes(view, b" begins in ")?;
-    push_bytes(view, entry)?;
-    push_bytes(view, b"\n")
+    push_pieces(
+        view,
+        &[
+            Bytes(b"thread "),
+            Number(u64::from(thread)),
+            Bytes(b" begins in "),
+            Bytes(entry),
+            Bytes(b"\n"),
+        ],
+    )
 }
 
 /// The name of a thread's entry procedure.
@@ -83,18 +87,26 @@ fn push_globals(view: &mut Vec<u8>, setup: &Setup, globals: &[Name]) -> Result<(
     }
     push_bytes(view, b"globals")?;
     push_values(view, ViewFormat::Columns, setup, globals)?;
-    push_bytes(view, b"\n")?;
-    Ok(())
+    push_bytes(view, b"\n")
 }
 
-/// Adds a line with a number after its words.
-fn push_number_line(view: &mut Vec<u8>, words: &[u8], number: u64) -> Result<(), AllocError>
-    ensures { OnOk result (view.new.items ≡ view.old.items ++ number_line words.now number) }
+/// Adds the lines of the limits.
+fn push_limit_lines(view: &mut Vec<u8>, setup: &Setup) -> Result<(), AllocError>
+    ensures { let contexts = number_line (codes "contexts at most ") setup.now.contexts in
+        let calls = number_line (codes "calls of a thread at most ") setup.now.calls in
+        OnOk result (view.new.items ≡ view.old.items ++ contexts ++ calls) }
 {
-    let mut buffer = Buffer::new();
-    push_bytes(view, words)?;
-    push_bytes(view, buffer.format(number).as_bytes())?;
-    push_bytes(view, b"\n")
+    push_pieces(
+        view,
+        &[
+            Bytes(b"contexts at most "),
+            Number(u64::from(setup.contexts())),
+            Bytes(b"\n"),
+            Bytes(b"calls of a thread at most "),
+            Number(u64::from(setup.calls())),
+            Bytes(b"\n"),
+        ],
+    )
 }
 
 /// Adds the line of the seed.
@@ -102,27 +114,22 @@ fn push_seed(view: &mut Vec<u8>, seed: Option<u64>) -> Result<(), AllocError>
     ensures { OnOk result (view.new.items ≡ view.old.items ++ seed_line seed) }
 {
     match seed {
-        Some(seed) => push_number_line(view, b"seed ", seed),
+        Some(seed) => push_three(view, Bytes(b"seed "), Number(seed), Bytes(b"\n")),
         None => push_bytes(view, b"seed none\n"),
     }
 }
 
-/// The lines of the setup: the entries, the globals, the limits and the seed, and an empty line.
-fn head_lines(alloc: Global, setup: &Setup, globals: &[Name]) -> Result<Vec<u8>, AllocError>
-    ensures { IfOk result (λ v. v.items ≡ head_lines globals.now setup.now) }
+/// Adds the lines of the setup: the entries, the globals, the limits and the seed, and an empty
+/// line.
+fn push_head_lines(head: &mut Vec<u8>, setup: &Setup, globals: &[Name]) -> Result<(), AllocError>
+    ensures { OnOk result
+        (head.new.items ≡ head.old.items ++ head_lines globals.now setup.now) }
 {
-    let mut head = Vec::new(alloc);
-    push_threads(&mut head, setup)?;
-    push_globals(&mut head, setup, globals)?;
-    push_number_line(&mut head, b"contexts at most ", u64::from(setup.contexts()))?;
-    push_number_line(
-        &mut head,
-        b"calls of a thread at most ",
-        u64::from(setup.calls()),
-    )?;
-    push_seed(&mut head, setup.seed())?;
-    push_bytes(&mut head, b"\n")?;
-    Ok(head)
+    push_threads(head, setup)?;
+    push_globals(head, setup, globals)?;
+    push_limit_lines(head, setup)?;
+    push_seed(head, setup.seed())?;
+    push_bytes(head, b"\n")
 }
 
 /// Adds a string as an item of a list.
@@ -132,15 +139,15 @@ pub(crate) fn push_item(items: &mut Vec<u8>, text: &[u8]) -> Result<(), AllocErr
     push_pieces(items, &[Bytes(b","), Text(text)])
 }
 
-/// The entries of the threads as items of a list.
-fn entry_items(alloc: Global, setup: &Setup) -> Result<Vec<u8>, AllocError>
-    ensures { IfOk result (λ v. v.items ≡ flat_map string_item setup.now.entries) }
+/// Adds the entries of the threads as items of a list.
+fn push_entries(items: &mut Vec<u8>, setup: &Setup) -> Result<(), AllocError>
+    ensures { let entries = flat_map string_item setup.now.entries in
+        OnOk result (items.new.items ≡ items.old.items ++ entries) }
 {
-    let mut items = Vec::new(alloc);
     for thread in 0..setup.threads() {
-        push_item(&mut items, entry_of(setup, thread))?;
+        push_item(items, entry_of(setup, thread))?;
     }
-    Ok(items)
+    Ok(())
 }
 
 /// Adds the limits of a setup, and its seed, and ends the object.
@@ -161,25 +168,24 @@ fn push_limits(head: &mut Vec<u8>, setup: &Setup) -> Result<(), AllocError>
     )
 }
 
-/// The object of the setup.
-fn head_object(alloc: Global, setup: &Setup, globals: &[Name]) -> Result<Vec<u8>, AllocError>
-    ensures { IfOk result (λ v. v.items ≡ head_object globals.now setup.now) }
+/// Adds the object of the setup. `note` is room for its lists.
+fn push_head_object(
+    head: &mut Vec<u8>,
+    note: &mut Vec<u8>,
+    setup: &Setup,
+    globals: &[Name],
+) -> Result<(), AllocError>
+    ensures { OnOk result
+        (head.new.items ≡ head.old.items ++ head_object globals.now setup.now) }
 {
-    let entries = entry_items(alloc, setup)?;
-    let mut values = Vec::new(alloc);
-    push_values(&mut values, ViewFormat::Json, setup, globals)?;
-    let mut head = Vec::new(alloc);
-    push_pieces(
-        &mut head,
-        &[
-            Bytes(b"{\"kind\":\"setup\",\"version\":2"),
-            Key(b"threads"),
-            List(&entries),
-        ],
-    )?;
-    push_pieces(&mut head, &[Key(b"globals"), List(&values)])?;
-    push_limits(&mut head, setup)?;
-    Ok(head)
+    let kind = b"{\"kind\":\"setup\",\"version\":2";
+    note.clear();
+    push_entries(note, setup)?;
+    push_three(head, Bytes(kind), Key(b"threads"), List(note))?;
+    note.clear();
+    push_values(note, ViewFormat::Json, setup, globals)?;
+    push_two(head, Key(b"globals"), List(note))?;
+    push_limits(head, setup)
 }
 
 /// The head of a view: the setup of its history.
@@ -191,8 +197,13 @@ pub(crate) fn head_of(
 ) -> Result<Vec<u8>, AllocError>
     ensures { IfOk result (λ v. v.items ≡ view_head format globals.now setup.now) }
 {
+    let mut head = Vec::new(alloc);
     match format {
-        ViewFormat::Columns => head_lines(alloc, setup, globals),
-        ViewFormat::Json => head_object(alloc, setup, globals),
+        ViewFormat::Columns => push_head_lines(&mut head, setup, globals)?,
+        ViewFormat::Json => {
+            let mut note = Vec::new(alloc);
+            push_head_object(&mut head, &mut note, setup, globals)?;
+        }
     }
+    Ok(head)
 }

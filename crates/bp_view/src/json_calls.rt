@@ -8,15 +8,15 @@ ghost use Rattle.bp_view.specs.JsonCalls.{bit_item, call_object, member_texts, p
 ghost use Rattle.bp_view.specs.declared.options.ViewFormat.TheVariants.{Json};
 
 use crate::call_facts::CallFacts;
-use crate::change_facts::Change;
 use crate::json_texts::{column_of, line_of, wide};
 use crate::lines::push_changed;
 use crate::options::ViewFormat;
+use crate::pieces::{push_four, push_three, push_two};
 use bp_machine::Reply;
 use bp_text::Piece::{
     Bit, BitOrNull, Bytes, Key, List, Number, NumberOrNull, Text, TextOrNull, Truth,
 };
-use bp_text::{push_piece, push_pieces};
+use bp_text::push_piece;
 use std::alloc::AllocError;
 
 /// What is said of a reply.
@@ -39,33 +39,47 @@ fn push_members(line: &mut Vec<u8>, facts: &CallFacts<'_>) -> Result<(), AllocEr
     ensures { let members = concat (member_texts (facts_in facts.now)) in
         OnOk result (line.new.items ≡ line.old.items ++ members) }
 {
-    push_all!(
-        line;
+    push_three(
+        line,
         Bytes(b"{\"kind\":\"call\""),
         Key(b"number"),
         Number(facts.number),
+    )?;
+    push_four(
+        line,
         Key(b"thread"),
         Number(u64::from(facts.call.thread)),
         Key(b"context"),
         NumberOrNull(wide(facts.context)),
+    )?;
+    push_four(
+        line,
         Key(b"switch"),
         Truth(facts.is_switch),
         Key(b"line"),
         NumberOrNull(line_of(facts.next.position)),
+    )?;
+    push_four(
+        line,
         Key(b"column"),
         NumberOrNull(column_of(facts.next.position)),
         Key(b"procedure"),
         TextOrNull(facts.next.procedure),
+    )?;
+    push_four(
+        line,
         Key(b"depth"),
         Number(facts.next.depth as u64),
         Key(b"statement"),
         TextOrNull(facts.next.words),
+    )?;
+    push_four(
+        line,
         Key(b"choice"),
         BitOrNull(facts.choice()),
         Key(b"reply"),
         Text(reply_name(facts.call.reply)),
-    );
-    Ok(())
+    )
 }
 
 /// Adds the bits as items of a list.
@@ -73,7 +87,7 @@ fn push_bit_items(items: &mut Vec<u8>, bits: &[bool]) -> Result<(), AllocError>
     ensures { OnOk result (items.new.items ≡ items.old.items ++ flat_map bit_item bits.now) }
 {
     for bit in bits {
-        push_pieces(items, &[Bytes(b","), Bit(*bit)])?;
+        push_two(items, Bytes(b","), Bit(*bit))?;
     }
     Ok(())
 }
@@ -97,20 +111,6 @@ fn push_printed(
     }
 }
 
-/// Adds the variables that a call changed, as a list. `note` is room for them.
-pub(crate) fn push_changed_list(
-    line: &mut Vec<u8>,
-    note: &mut Vec<u8>,
-    changes: &[Change<'_>],
-) -> Result<(), AllocError>
-    ensures { let changes = list_text (entries_text Json (map entry_of changes.now)) in
-        OnOk result (line.new.items ≡ line.old.items ++ changes) }
-{
-    note.clear();
-    push_changed(note, ViewFormat::Json, changes)?;
-    push_piece(line, List(note))
-}
-
 /// Adds the object of a call. `note` is room for its lists.
 pub(crate) fn push_object(
     line: &mut Vec<u8>,
@@ -121,10 +121,9 @@ pub(crate) fn push_object(
         (line.new.items ≡ line.old.items ++ call_object (facts_in facts.now)) }
 {
     push_members(line, facts)?;
-    push_piece(line, Key(b"changes"))?;
-    push_changed_list(line, note, facts.changes)?;
-    push_piece(line, Key(b"printed"))?;
+    note.clear();
+    push_changed(note, ViewFormat::Json, facts.changes)?;
+    push_three(line, Key(b"changes"), List(note), Key(b"printed"))?;
     push_printed(line, note, facts.printed)?;
-    push_piece(line, Bytes(b"}\n"))?;
-    Ok(())
+    push_piece(line, Bytes(b"}\n"))
 }

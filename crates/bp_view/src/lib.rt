@@ -1,13 +1,6 @@
 //! Views for people: what happened in a history, and where in a program's text.
 #![tactic(auto)]
 
-/// Adds these pieces, a call for each: a slice of them would take twice as long.
-macro_rules! push_all {
-    ($line:expr; $($piece:expr),* $(,)?) => {{
-        $( push_piece($line, $piece)?; )*
-    }};
-}
-
 mod assertions;
 mod call_facts;
 mod change_facts;
@@ -30,11 +23,13 @@ mod listings;
 mod moments;
 mod options;
 mod outcomes;
+mod pieces;
 mod played_again;
 mod programs;
 mod scenes;
 mod settings;
 mod shown;
+mod shown_traces;
 mod spans;
 mod standings;
 mod statements;

@@ -1,7 +1,7 @@
 //! The line of a call in columns, from its facts.
 ghost use Rattle.std.specs.Prelude.{◌≡◌, ◌++◌, flat_map, map, option_map, OnOk};
 ghost use Rattle.std.specs.List.{concat};
-ghost use Rattle.bp_text.specs.Columns.{at_right};
+ghost use Rattle.bp_text.specs.Columns.{at_right, spaces};
 ghost use Rattle.bp_text.specs.Pieces.{piece_text};
 ghost use Rattle.bp_view.specs.CallFacts.{facts_in, next_in};
 ghost use Rattle.bp_view.specs.ChangeFacts.{entries_text, entry_of};
@@ -11,6 +11,7 @@ use crate::call_facts::{CallFacts, Next};
 use crate::change_facts::Change;
 use crate::colours::Colour;
 use crate::options::ViewFormat;
+use crate::pieces::{push_four, push_three, push_two};
 use crate::settings::{MAX_INDENTS, Widths};
 use crate::variables::push_value;
 use bp_machine::Reply;
@@ -55,18 +56,20 @@ fn push_fields(line: &mut Vec<u8>, widths: Widths, facts: &CallFacts<'_>) -> Res
     ensures { let fields = concat (field_texts widths (facts_in facts.now)) in
         OnOk result (line.new.items ≡ line.old.items ++ fields) }
 {
-    push_all!(
-        line;
+    push_four(
+        line,
         Bytes(mark(facts.is_switch)),
         NumberRight(widths.number, facts.number),
         Bytes(b" "),
         NumberRight(widths.thread, u64::from(facts.call.thread)),
+    )?;
+    push_four(
+        line,
         Bytes(b" "),
         context_piece(widths.context, facts.context),
         Bytes(b" "),
         Left(widths.place, facts.next.place),
-    );
-    Ok(())
+    )
 }
 
 /// Adds the statement, moved to the right by the depth of the stack; no text where there is none.
@@ -74,11 +77,11 @@ fn push_statement(line: &mut Vec<u8>, next: Next<'_>) -> Result<(), AllocError>
     ensures { let next = next_in next.entry in
         OnOk result (line.new.items ≡ line.old.items ++ indented next.depth next.words) }
 {
-    if let Some(words) = next.words {
-        push_piece(line, Spaces(2 * next.depth.min(MAX_INDENTS)))?;
-        push_piece(line, Bytes(words))?;
-    }
-    Ok(())
+    let Some(words) = next.words else {
+        return Ok(());
+    };
+    let indent = 2 * next.depth.min(MAX_INDENTS);
+    push_two(line, Spaces(indent), Bytes(words))
 }
 
 /// A choice bit, where one is shown.
@@ -112,7 +115,7 @@ fn push_times(note: &mut Vec<u8>, calls: usize) -> Result<(), AllocError>
     ensures { OnOk result (note.new.items ≡ note.old.items ++ times_text calls) }
 {
     if calls > 1 {
-        push_all!(note; Bytes(b" "), Number(calls as u64), Bytes(b" times"));
+        return push_three(note, Bytes(b" "), Number(calls as u64), Bytes(b" times"));
     }
     Ok(())
 }
@@ -123,23 +126,17 @@ fn write_note(note: &mut Vec<u8>, facts: &CallFacts<'_>) -> Result<(), AllocErro
     ensures { OnOk result (note.new.items ≡ note_text (facts_in facts.now)) }
 {
     note.clear();
-    push_piece(note, Bytes(choice_words(facts.choice())))?;
-    push_piece(note, Bytes(reply_words(facts.call.reply)))?;
+    let (choice, reply) = (choice_words(facts.choice()), reply_words(facts.call.reply));
+    push_two(note, Bytes(choice), Bytes(reply))?;
     push_times(note, facts.calls)?;
-    push_changed(note, ViewFormat::Columns, facts.changes)?;
-    Ok(())
+    push_changed(note, ViewFormat::Columns, facts.changes)
 }
 
-/// Adds the note of a call after this many spaces; no space if the note is empty.
-pub(crate) fn push_note(line: &mut Vec<u8>, room: usize, note: &[u8]) -> Result<(), AllocError>
-    ensures { OnOk result (line.new.items ≡ line.old.items ++ after_room room note.now) }
+/// How many spaces come before a note that has this room before it; none before an empty note.
+pub(crate) fn spaces_before(room: usize, note: &[u8]) -> usize
+    ensures { spaces result ++ note.now ≡ after_room room note.now }
 {
-    if note.is_empty() {
-        return Ok(());
-    }
-    push_piece(line, Spaces(room))?;
-    push_piece(line, Bytes(note))?;
-    Ok(())
+    if note.is_empty() { 0 } else { room }
 }
 
 /// Adds the line of a call. It is in colour where that is wanted and the call is a failure or a
@@ -161,8 +158,7 @@ pub(crate) fn push_line(
     let start = line.len();
     push_statement(line, facts.next)?;
     let size = line.len().saturating_sub(start);
-    push_note(line, widths.words.saturating_sub(size), note)?;
-    push_piece(line, Bytes(colour.closing()))?;
-    push_piece(line, Bytes(b"\n"))?;
-    Ok(())
+    let room = spaces_before(widths.words.saturating_sub(size), note);
+    push_two(line, Spaces(room), Bytes(note))?;
+    push_two(line, Bytes(colour.closing()), Bytes(b"\n"))
 }

@@ -2,9 +2,11 @@
 ghost use Rattle.std.specs.Prelude.{◌≡◌, ◌++◌, IfOk, OnOk};
 ghost use Rattle.bp_view.specs.Listings.{is_heading, line_with, plain_line, scenes_after, sourced_line, IsSourcedListing};
 
+use crate::pieces::push_two;
 use crate::scenes::{Scene, scenes_of};
 use bp_check::Checked;
-use bp_text::{push_bytes, push_left, take_line};
+use bp_text::Piece::{Bytes, Left};
+use bp_text::{push_pieces, take_line};
 use std::alloc::{AllocError, Global};
 
 /// The width of the column of an instruction.
@@ -22,25 +24,28 @@ fn is_heading(words: &[u8]) -> bool
 }
 
 /// Adds the line of an instruction, and in columns after it its place and its statement.
-fn push_sourced(out: &mut Vec<u8>, words: &[u8], scene: &Scene) -> Result<(), AllocError>
-    ensures { OnOk result (out.new.items ≡ out.old.items ++ sourced_line words.now scene.now) }
+fn push_sourced<'a>(out: &mut Vec<u8>, words: &'a [u8], scene: &'a Scene) -> Result<(), AllocError>
+    ensures { let line = sourced_line words.entry.now scene.entry.now in
+        OnOk result (out.new.items ≡ out.old.items ++ line) }
 {
-    push_left(out, INSTRUCTION_WIDTH, words)?;
-    push_bytes(out, b" ; ")?;
-    push_left(out, PLACE_WIDTH, &scene.place)?;
-    push_bytes(out, b" ")?;
-    push_bytes(out, &scene.excerpt.words)?;
-    push_bytes(out, b"\n")?;
-    Ok(())
+    push_pieces(
+        out,
+        &[
+            Left(INSTRUCTION_WIDTH, words),
+            Bytes(b" ; "),
+            Left(PLACE_WIDTH, scene.place.as_slice()),
+            Bytes(b" "),
+            Bytes(scene.excerpt.words.as_slice()),
+            Bytes(b"\n"),
+        ],
+    )
 }
 
 /// Adds the line of a listing as it is.
 fn push_plain(out: &mut Vec<u8>, words: &[u8]) -> Result<(), AllocError>
     ensures { OnOk result (out.new.items ≡ out.old.items ++ plain_line words.now) }
 {
-    push_bytes(out, words)?;
-    push_bytes(out, b"\n")?;
-    Ok(())
+    push_two(out, Bytes(words), Bytes(b"\n"))
 }
 
 /// Adds the line of a listing, and the source of the first of these scenes where it is the line of

@@ -3,7 +3,7 @@ ghost use Rattle.std.specs.Prelude.{◌≡◌, None};
 ghost use Rattle.bp_view.specs.Options.{is_shown};
 
 /// How a view is written.
-#[derive(Clone, Copy, Debug, PartialEq, Eq)]
+#[derive(Clone, Copy)]
 pub enum ViewFormat {
     /// For people, in columns.
     Columns,
@@ -12,7 +12,7 @@ pub enum ViewFormat {
 }
 
 /// Which calls a view shows, and how.
-#[derive(Clone, Copy, Debug, PartialEq, Eq)]
+#[derive(Clone, Copy)]
 pub struct ViewOptions<'a> {
     /// Of this thread alone.
     pub thread: Option<u32>,

@@ -7,7 +7,7 @@ ghost use Rattle.bp_machine.specs.Reports.{outcome_of};
 ghost use Rattle.bp_machine.specs.Sessions.{Stands};
 ghost use Rattle.bp_view.specs.Moments.{IsSettingOf};
 ghost use Rattle.bp_view.specs.declared.options.ViewFormat.TheVariants.{Columns, Json};
-ghost use Rattle.bp_view.specs.Outcomes.{clean_in, counts_line, failure_in, failure_text, foot_text, IsFoot, IsOutcomeText};
+ghost use Rattle.bp_view.specs.Outcomes.{clean_in, failure_in, failure_text, foot_text, IsFoot, IsOutcomeText};
 
 use crate::conditions::{condition_of, push_thread_object};
 use crate::deadlocks::waits_of;
@@ -89,9 +89,16 @@ fn outcome_text(
     Ok(words)
 }
 
-/// Adds the counts of a report, after an empty line.
-fn push_counts(view: &mut Vec<u8>, report: Report) -> Result<(), AllocError>
-    ensures { OnOk result (view.new.items ≡ view.old.items ++ counts_line report) }
+/// Adds the counts of a report after an empty line, its outcome and the threads that wait, for
+/// people.
+fn push_foot_lines<'a>(
+    view: &mut Vec<u8>,
+    report: Report,
+    outcome: &'a [u8],
+    waits: &'a [u8],
+) -> Result<(), AllocError>
+    ensures { let foot = foot_text Columns report outcome.entry.now waits.entry.now in
+        OnOk result (view.new.items ≡ view.old.items ++ foot) }
 {
     push_pieces(
         view,
@@ -103,25 +110,11 @@ fn push_counts(view: &mut Vec<u8>, report: Report) -> Result<(), AllocError>
             Bytes(b", open threads "),
             Number(u64::from(report.left_open)),
             Bytes(b"\n"),
+            Bytes(outcome),
+            Bytes(waits),
+            Bytes(b"\n"),
         ],
     )
-}
-
-/// Adds the counts of a report, its outcome and the threads that wait, for people.
-fn push_foot_lines(
-    view: &mut Vec<u8>,
-    report: Report,
-    outcome: &[u8],
-    waits: &[u8],
-) -> Result<(), AllocError>
-    ensures { let foot = foot_text Columns report outcome.now waits.now in
-        OnOk result (view.new.items ≡ view.old.items ++ foot) }
-{
-    push_counts(view, report)?;
-    push_bytes(view, outcome)?;
-    push_bytes(view, waits)?;
-    push_bytes(view, b"\n")?;
-    Ok(())
 }
 
 /// Adds the object of a report, its outcome and the threads that wait.
@@ -191,6 +184,5 @@ pub(crate) fn foot_of(
     let deadlocked = session.is_deadlocked();
     let outcome = outcome_text(alloc, setting, session, deadlocked, report.outcome)?;
     let waits = waits_of(alloc, setting, session, deadlocked)?;
-    let foot = foot_in(alloc, setting.options.format, report, &outcome, &waits)?;
-    Ok(foot)
+    foot_in(alloc, setting.options.format, report, &outcome, &waits)
 }

@@ -1,11 +1,12 @@
 //! The object of a program in JSON: the names of its procedures and of their variables.
 ghost use Rattle.std.specs.Prelude.{◌≡◌, ◌++◌, flat_map, IfOk, OnOk};
-ghost use Rattle.bp_view.specs.Programs.{name_item, name_list, procedure_item, program_object};
+ghost use Rattle.bp_view.specs.Programs.{name_item, procedure_item, program_object};
 
 use crate::heads::push_item;
+use crate::pieces::{push_four, push_three, push_two};
 use bp_check::Checked;
 use bp_text::Piece::{Bytes, Key, List, Text};
-use bp_text::{push_piece, push_pieces};
+use bp_text::push_pieces;
 use bp_tree::{Name, Proc};
 use std::alloc::{AllocError, Global};
 
@@ -19,26 +20,23 @@ fn push_names(items: &mut Vec<u8>, names: &[Name]) -> Result<(), AllocError>
     Ok(())
 }
 
-/// Adds a list of names. `note` is room for them.
-fn push_name_list(line: &mut Vec<u8>, note: &mut Vec<u8>, names: &[Name]) -> Result<(), AllocError>
-    ensures { OnOk result (line.new.items ≡ line.old.items ++ name_list names.now) }
-{
-    note.clear();
-    push_names(note, names)?;
-    push_piece(line, List(note))
-}
-
 /// Adds the object of a procedure as an item of a list. `note` is room for its lists.
 fn push_procedure(items: &mut Vec<u8>, note: &mut Vec<u8>, proc: &Proc) -> Result<(), AllocError>
     ensures { OnOk result (items.new.items ≡ items.old.items ++ procedure_item proc.now) }
 {
     let name = proc.name().text().as_bytes();
-    push_pieces(items, &[Bytes(b",{\"name\":"), Text(name), Key(b"formals")])?;
-    push_name_list(items, note, proc.formals())?;
-    push_piece(items, Key(b"locals"))?;
-    push_name_list(items, note, proc.locals())?;
-    push_piece(items, Bytes(b"}"))?;
-    Ok(())
+    note.clear();
+    push_names(note, proc.formals())?;
+    push_four(
+        items,
+        Bytes(b",{\"name\":"),
+        Text(name),
+        Key(b"formals"),
+        List(note),
+    )?;
+    note.clear();
+    push_names(note, proc.locals())?;
+    push_three(items, Key(b"locals"), List(note), Bytes(b"}"))
 }
 
 /// Adds the objects of procedures as items of a list. `note` is room for their lists.
@@ -65,6 +63,8 @@ pub fn program_object(alloc: Global, checked: &Checked) -> Result<Vec<u8>, Alloc
     let mut note = Vec::new(alloc);
     let mut procedures = Vec::new(alloc);
     push_procedures(&mut procedures, &mut note, tree.procs())?;
+    note.clear();
+    push_names(&mut note, tree.globals())?;
     let mut object = Vec::new(alloc);
     push_pieces(
         &mut object,
@@ -75,7 +75,6 @@ pub fn program_object(alloc: Global, checked: &Checked) -> Result<Vec<u8>, Alloc
             Key(b"globals"),
         ],
     )?;
-    push_name_list(&mut object, &mut note, tree.globals())?;
-    push_piece(&mut object, Bytes(b"}\n"))?;
+    push_two(&mut object, List(&note), Bytes(b"}\n"))?;
     Ok(object)
 }

@@ -8,11 +8,12 @@ ghost use Rattle.bp_text.specs.Positions.{position_at};
 ghost use Rattle.bp_view.specs.Scenes.{AreScenes, IsScene};
 
 use crate::excerpts::{Excerpt, excerpt_of};
+use crate::pieces::push_three;
 use bp_check::Checked;
 use bp_code::statement_starts;
+use bp_text::Piece::{Bytes, Number};
 use bp_text::{FIRST, Position, part_from, position_from, push_bytes, push_on_one_line};
 use bp_tree::Proc;
-use itoa::Buffer;
 use std::alloc::{AllocError, Global};
 
 /// What is shown of an instruction: the place of its statement, as it is printed, and its text.
@@ -32,12 +33,9 @@ pub(crate) struct Scene {
 fn place_text(alloc: Global, position: Position) -> Result<Vec<u8>, AllocError>
     ensures { IfOk result (λ v. v.items ≡ position_text position) }
 {
+    let (line, column) = (position.line as u64, position.column as u64);
     let mut text = Vec::new(alloc);
-    let mut line = Buffer::new();
-    let mut column = Buffer::new();
-    push_bytes(&mut text, line.format(position.line).as_bytes())?;
-    push_bytes(&mut text, b":")?;
-    push_bytes(&mut text, column.format(position.column).as_bytes())?;
+    push_three(&mut text, Number(line), Bytes(b":"), Number(column))?;
     Ok(text)
 }
 
@@ -117,14 +115,16 @@ pub(crate) fn scenes_of(
     let mut position = FIRST;
     let mut procedure = 0;
     for start in starts.iter() {
-        if let Some(start) = *start {
+        let scene = if let Some(start) = *start {
             position = position_from(text, at, position, start as usize);
             at = start as usize;
-            scenes.push(statement_scene(alloc, text, start, position, procedure)?)?;
+            statement_scene(alloc, text, start, position, procedure)
         } else {
-            scenes.push(end_scene(alloc, name_of(procs, procedure), procedure)?)?;
+            let end = end_scene(alloc, name_of(procs, procedure), procedure);
             procedure = procedure.saturating_add(1);
-        }
+            end
+        };
+        scenes.push(scene?)?;
     }
     Ok(scenes)
 }

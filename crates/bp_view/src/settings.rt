@@ -17,7 +17,7 @@ use bp_tree::{Name, Proc};
 pub(crate) const MAX_INDENTS: usize = 8;
 
 /// How wide the columns are.
-#[derive(Clone, Copy, Debug, PartialEq, Eq)]
+#[derive(Clone, Copy)]
 pub(crate) struct Widths {
     pub(crate) number: usize,
     pub(crate) thread: usize,
@@ -26,8 +26,8 @@ pub(crate) struct Widths {
     pub(crate) words: usize,
 }
 
-/// The first calls, this many.
-fn calls_to(calls: &[Call], count: u64) -> &[Call]
+/// The first calls, this many, or all where there are fewer.
+pub(crate) fn calls_to(calls: &[Call], count: u64) -> &[Call]
     ensures { result.now ≡ take count calls.now }
 {
     let end = count.min(calls.len() as u64) as usize;

@@ -10,7 +10,7 @@ ghost use Rattle.bp_view.specs.Standings.{last_reply, standing, standing_after, 
 use bp_machine::{Call, Reply, Session};
 
 /// How a thread stands.
-#[derive(Clone, Copy, Debug, PartialEq, Eq)]
+#[derive(Clone, Copy)]
 pub(crate) enum Standing {
     /// It has ended.
     Finished,

@@ -1,30 +1,80 @@
 //! The statements of a program: a line each, their texts, and where they begin.
-ghost use Rattle.std.specs.Prelude.{◌≡◌, map, IfOk};
+ghost use Rattle.std.specs.Prelude.{◌≡◌, ◌++◌, map, IfOk, OnOk};
 ghost use Rattle.bp_code.specs.StandsFor.{places_of};
+ghost use Rattle.bp_view.specs.Said.{said_of, AreSaid};
 ghost use Rattle.bp_view.specs.Scenes.{AreStatements};
 ghost use Rattle.bp_view.specs.StatementLines.{line_of_scene, positions_of, AreStatementLines};
 
 use crate::scenes::{Scene, scenes_of};
+use crate::unreached::push_object;
 use bp_check::Checked;
-use bp_text::{Position, push_bytes};
+use bp_text::Piece::Bytes;
+use bp_text::{Position, push_bytes, push_pieces};
 use std::alloc::{AllocError, Global};
 
-/// The line of an instruction's statement: the file's name, the place and the statement's text. It
-/// is empty at the end of a procedure.
-fn line_of(alloc: Global, file: &str, scene: &Scene) -> Result<Vec<u8>, AllocError>
-    ensures { IfOk result (λ v. v.items ≡ line_of_scene file.now scene.now) }
+/// What is said of each statement.
+#[derive(Clone, Copy)]
+pub(crate) enum Said<'a> {
+    /// Its line, in the file of this name.
+    Line(&'a str),
+    /// Its object where no run reached it, in the file of this name.
+    Unreached(&'a str),
+    /// Its text.
+    Words,
+}
+
+/// Adds the line of an instruction's statement: the file's name, the place and the statement's
+/// text. The end of a procedure adds nothing.
+fn push_line<'a>(line: &mut Vec<u8>, file: &'a str, scene: &'a Scene) -> Result<(), AllocError>
+    ensures { let more = line_of_scene file.entry.now scene.entry.now in
+        OnOk result (line.new.items ≡ line.old.items ++ more) }
 {
-    let mut line = Vec::new(alloc);
     if scene.start.is_none() {
-        return Ok(line);
+        return Ok(());
     }
-    push_bytes(&mut line, file.as_bytes())?;
-    push_bytes(&mut line, b":")?;
-    push_bytes(&mut line, &scene.place)?;
-    push_bytes(&mut line, b" ")?;
-    push_bytes(&mut line, &scene.excerpt.words)?;
-    push_bytes(&mut line, b"\n")?;
-    Ok(line)
+    push_pieces(
+        line,
+        &[
+            Bytes(file.as_bytes()),
+            Bytes(b":"),
+            Bytes(scene.place.as_slice()),
+            Bytes(b" "),
+            Bytes(scene.excerpt.words.as_slice()),
+            Bytes(b"\n"),
+        ],
+    )
+}
+
+/// What is said of an instruction's statement.
+fn said_of(alloc: Global, said: Said<'_>, scene: &Scene) -> Result<Vec<u8>, AllocError>
+    ensures { IfOk result (λ v. v.items ≡ said_of said.entry scene.now) }
+{
+    let mut text = Vec::new(alloc);
+    match said {
+        Said::Line(file) => push_line(&mut text, file, scene)?,
+        Said::Unreached(file) => push_object(&mut text, file, scene)?,
+        Said::Words => push_bytes(&mut text, &scene.excerpt.words)?,
+    }
+    Ok(text)
+}
+
+/// For each instruction of the program of a text, in their order, what is said of its statement.
+pub(crate) fn all_said(
+    alloc: Global,
+    said: Said<'_>,
+    text: &[u8],
+    checked: &Checked,
+) -> Result<Vec<Vec<u8>>, AllocError>
+    ensures { IfOk result (λ v.
+        let texts = map (λ said. said.items) v.items in
+        AreSaid said.entry text.now checked.now texts) }
+{
+    let scenes = scenes_of(alloc, text, checked)?;
+    let mut texts = Vec::with_capacity(alloc, scenes.len())?;
+    for scene in scenes.iter() {
+        texts.push(said_of(alloc, said, scene)?)?;
+    }
+    Ok(texts)
 }
 
 /// For each instruction of the program of a text, in their order, the line of its statement:
@@ -39,12 +89,7 @@ pub fn statement_lines(
         let lines = map (λ line. line.items) v.items in
         AreStatementLines file.now text.now checked.now lines) }
 {
-    let scenes = scenes_of(alloc, text, checked)?;
-    let mut lines = Vec::with_capacity(alloc, scenes.len())?;
-    for scene in scenes.iter() {
-        lines.push(line_of(alloc, file, scene)?)?;
-    }
-    Ok(lines)
+    all_said(alloc, Said::Line(file), text, checked)
 }
 
 /// Where the statement of each instruction begins in the program of a text. The end of a procedure
@@ -64,15 +109,6 @@ pub fn statement_positions(
     Ok(positions)
 }
 
-/// The text of an instruction's statement.
-fn words_of(alloc: Global, scene: &Scene) -> Result<Vec<u8>, AllocError>
-    ensures { IfOk result (λ v. v.items ≡ scene.now.excerpt.words.items) }
-{
-    let mut words = Vec::new(alloc);
-    push_bytes(&mut words, &scene.excerpt.words)?;
-    Ok(words)
-}
-
 /// The text of each instruction's statement in the program of a text, on one line. At the end of a
 /// procedure it says that.
 pub fn statement_texts(
@@ -84,10 +120,5 @@ pub fn statement_texts(
         let texts = map (λ words. words.items) v.items in
         AreStatements text.now (places_of checked.now.procedures) texts) }
 {
-    let scenes = scenes_of(alloc, text, checked)?;
-    let mut texts = Vec::with_capacity(alloc, scenes.len())?;
-    for scene in scenes.iter() {
-        texts.push(words_of(alloc, scene)?)?;
-    }
-    Ok(texts)
+    all_said(alloc, Said::Words, text, checked)
 }

@@ -1,30 +1,31 @@
 //! The state after a history: the values of the globals, and how each thread stands.
-ghost use Rattle.std.specs.Prelude.{◌≡◌, ◌++◌, ◌<◌, ℕ, List, codes, take, IfOk, MatchResult, OnOk};
+ghost use Rattle.std.specs.Prelude.{◌≡◌, ◌++◌, ◌<◌, ℕ, List, codes, length, take, IfOk, MatchResult, OnOk};
 ghost use Rattle.bp_tree.specs.Ast.{Program};
 ghost use Rattle.bp_code.specs.Bits.{bits_of};
 ghost use Rattle.bp_code.specs.StandsFor.{valuation_of, StandsFor};
 ghost use Rattle.bp_machine.specs.Sessions.{Stands};
-ghost use Rattle.bp_machine.specs.Setups.{threads};
-ghost use Rattle.bp_trace.specs.Replays.{IsReplayRefusal};
+ghost use Rattle.bp_machine.specs.Setups.{threads, FitsCode};
+ghost use Rattle.bp_trace.specs.Replays.{IsPlayable, IsReplayRefusal};
 ghost use Rattle.bp_view.specs.Heads.{globals_line};
 ghost use Rattle.bp_view.specs.Moments.{IsSettingOf};
 ghost use Rattle.bp_view.specs.Parts.{Adds, IsInParts};
+ghost use Rattle.bp_view.specs.Scenes.{AreScenes};
 ghost use Rattle.bp_view.specs.States.{failed_line, failed_thread, state_in, state_lines, state_members, state_object, thread_state_in, thread_state_lines, thread_state_object, IsStateOfTrace, IsStateText, IsThreadText};
 
 use crate::frames::push_frames;
-use crate::options::{ViewFormat, ViewOptions};
+use crate::options::ViewFormat;
+use crate::pieces::push_four;
 use crate::played_again::session_after;
-use crate::scenes::scenes_of;
-use crate::settings::{Setting, setting_of};
+use crate::settings::{Setting, calls_to};
+use crate::shown_traces::{ShownTrace, shown_trace_of};
 use crate::standings::Standing;
 use crate::variables::push_values;
 use bp_check::Checked;
 use bp_code::Code;
 use bp_machine::{Call, Outcome, Report, Session};
 use bp_text::Piece::{Bytes, Key, List, Number, NumberOrNull, Text};
-use bp_text::{push_bytes, push_piece, push_pieces};
-use bp_trace::limits::MAX_TRACE;
-use bp_trace::{ReplayFault, replay};
+use bp_text::{push_bytes, push_pieces};
+use bp_trace::ReplayFault;
 use bp_tree::Name;
 use std::alloc::{AllocError, Global};
 
@@ -192,8 +193,7 @@ fn push_globals_line(view: &mut Vec<u8>, globals: &[Name], word: u128) -> Result
     }
     push_bytes(view, b"globals")?;
     push_values(view, ViewFormat::Columns, None, globals, 0, word)?;
-    push_bytes(view, b"\n")?;
-    Ok(())
+    push_bytes(view, b"\n")
 }
 
 /// Adds a state for people.
@@ -219,8 +219,7 @@ fn push_state_lines(
     )?;
     push_failed_line(view, head.outcome)?;
     push_globals_line(view, globals, head.globals)?;
-    push_bytes(view, threads)?;
-    Ok(())
+    push_bytes(view, threads)
 }
 
 /// The number of the thread whose assertion failed.
@@ -268,11 +267,13 @@ fn push_state_object(
     note.clear();
     push_values(note, ViewFormat::Json, None, globals, 0, head.globals)?;
     push_state_members(view, head)?;
-    push_piece(view, List(note))?;
-    push_piece(view, Key(b"threads"))?;
-    push_piece(view, List(threads))?;
-    push_piece(view, Bytes(b"}\n"))?;
-    Ok(())
+    push_four(
+        view,
+        List(note),
+        Key(b"threads"),
+        List(threads),
+        Bytes(b"}\n"),
+    )
 }
 
 /// The text of a state.
@@ -331,12 +332,34 @@ pub(crate) fn state_of(
     )
 }
 
-/// The first `number` calls of a history, or all where there are fewer.
-fn first_calls(history: &[Call], number: u64) -> &[Call]
-    ensures { result.now ≡ take number history.now }
+/// The state after the first `number` calls of a trace that was replayed, or after the last where
+/// there are fewer.
+fn state_after(
+    alloc: Global,
+    checked: &Checked,
+    code: &Code,
+    shown: &ShownTrace,
+    format: ViewFormat,
+    number: u64,
+) -> Result<Vec<u8>, AllocError>
+    requires code { StandsFor code.now checked.now }
+    requires fits { FitsCode code.now shown.now.replayed.setup }
+    requires playable { (t : Program)
+        → StandsFor code.now t
+        → IsPlayable t shown.now.replayed.setup shown.now.replayed.history.items }
+    ensures { (text : List ℕ)
+        → AreScenes text checked.now shown.now.scenes.items
+        → let r = shown.now.replayed in
+        let h = r.history.items in
+        let state = IsStateText format checked.now text r.setup (take number h) (length h) in
+        IfOk result (λ v. state v.items) }
 {
-    let count = number.min(history.len() as u64);
-    &history[..count as usize]
+    let calls = calls_to(shown.replayed.history.as_slice(), number);
+    let Ok(session) = session_after(alloc, code, &shown.replayed.setup, calls) else {
+        return Err(AllocError);
+    };
+    let setting = shown.setting(checked, format);
+    state_of(alloc, &setting, &session, calls, setting.count())
 }
 
 /// The state after the first `number` calls of a trace, or after the last where there are fewer,
@@ -357,25 +380,7 @@ pub fn state_at(
         (λ p. IsStateOfTrace format number checked.now text.now trace.now p.0.items p.1)
         (IsReplayRefusal checked.now trace.now) }
 {
-    if trace.len() > MAX_TRACE {
-        return Err(ReplayFault::TooLong);
-    }
-    let scenes = scenes_of(alloc, text, checked)?;
-    let replayed = replay(alloc, code, trace)?;
-    let history = replayed.history.as_slice();
-    let calls = first_calls(history, number);
-    let Ok(session) = session_after(alloc, code, &replayed.setup, calls) else {
-        return Err(ReplayFault::Memory);
-    };
-    let options = ViewOptions::all(format);
-    let setting = setting_of(
-        scenes.as_slice(),
-        checked,
-        &replayed.setup,
-        history,
-        options,
-        &[],
-    );
-    let state = state_of(alloc, &setting, &session, calls, setting.count())?;
-    Ok((state, replayed.report))
+    let shown = shown_trace_of(alloc, text, checked, code, trace)?;
+    let state = state_after(alloc, checked, code, &shown, format, number)?;
+    Ok((state, shown.replayed.report))
 }

@@ -1,25 +1,30 @@
 //! Objects in JSON that name the statements of a program that no run reached.
-ghost use Rattle.std.specs.Prelude.{◌≡◌, map, IfOk};
+ghost use Rattle.std.specs.Prelude.{◌≡◌, ◌++◌, map, IfOk, OnOk};
 ghost use Rattle.bp_view.specs.Unreached.{object_of_scene, AreUnreachedObjects};
 
 use crate::json_texts::{column_of, line_of};
-use crate::scenes::{Scene, scenes_of};
+use crate::scenes::Scene;
+use crate::statements::{Said, all_said};
 use bp_check::Checked;
 use bp_text::Piece::{Bytes, Key, NumberOrNull, Text};
 use bp_text::push_pieces;
 use std::alloc::{AllocError, Global};
 
-/// The object of an instruction's statement: the file's name, the place and the statement's text.
-/// It is empty at the end of a procedure.
-fn object_of<'a>(alloc: Global, file: &'a str, scene: &'a Scene) -> Result<Vec<u8>, AllocError>
-    ensures { IfOk result (λ v. v.items ≡ object_of_scene file.entry.now scene.entry.now) }
+/// Adds the object of an instruction's statement: the file's name, the place and the statement's
+/// text. The end of a procedure adds nothing.
+pub(crate) fn push_object<'a>(
+    line: &mut Vec<u8>,
+    file: &'a str,
+    scene: &'a Scene,
+) -> Result<(), AllocError>
+    ensures { let more = object_of_scene file.entry.now scene.entry.now in
+        OnOk result (line.new.items ≡ line.old.items ++ more) }
 {
-    let mut line = Vec::new(alloc);
     if scene.start.is_none() {
-        return Ok(line);
+        return Ok(());
     }
     push_pieces(
-        &mut line,
+        line,
         &[
             Bytes(b"{\"kind\":\"unreached\""),
             Key(b"file"),
@@ -32,8 +37,7 @@ fn object_of<'a>(alloc: Global, file: &'a str, scene: &'a Scene) -> Result<Vec<u
             Text(scene.excerpt.words.as_slice()),
             Bytes(b"}\n"),
         ],
-    )?;
-    Ok(line)
+    )
 }
 
 /// For each instruction of the program of a text, in their order, the object that names its
@@ -48,10 +52,5 @@ pub fn unreached_objects(
         let objects = map (λ line. line.items) v.items in
         AreUnreachedObjects file.now text.now checked.now objects) }
 {
-    let scenes = scenes_of(alloc, text, checked)?;
-    let mut objects = Vec::with_capacity(alloc, scenes.len())?;
-    for scene in scenes.iter() {
-        objects.push(object_of(alloc, file, scene)?)?;
-    }
-    Ok(objects)
+    all_said(alloc, Said::Unreached(file), text, checked)
 }

@@ -7,9 +7,10 @@ ghost use Rattle.bp_text.specs.Pieces.{piece_text};
 ghost use Rattle.bp_view.specs.Conditions.{named_value};
 
 use crate::options::ViewFormat;
+use crate::pieces::{push_four, push_three, push_two};
 use bp_code::{Store, bit_of, local_slot_of, slot_of};
+use bp_text::Piece;
 use bp_text::Piece::{Bit, Bytes, Key, OneLine, Text, TextOrNull};
-use bp_text::{Piece, push_piece};
 use bp_tree::{Name, Proc};
 use std::alloc::AllocError;
 
@@ -35,19 +36,14 @@ fn push_variable_words(
         OnOk result (line.new.items ≡ line.old.items ++ variable_words owner name.now value) }
 {
     let [owner, dot] = owner_pieces(owner);
-    push_piece(line, Bytes(b" "))?;
-    push_piece(line, owner)?;
-    push_piece(line, dot)?;
-    push_piece(line, OneLine(name))?;
-    push_piece(line, Bytes(b"="))?;
-    push_piece(line, Bit(value))?;
-    Ok(())
+    push_four(line, Bytes(b" "), owner, dot, OneLine(name))?;
+    push_two(line, Bytes(b"="), Bit(value))
 }
 
 /// The name of a local's procedure; none for a global.
 fn owner_name<'a>(owner: Option<&'a Proc>) -> Option<&'a [u8]>
-    ensures { let name = option_map (λ p. p.now.name.text) owner.entry in
-        option_map (λ s. s.now) result ≡ name }
+    ensures { let owner = option_map (λ p. p.now) owner.entry in
+        option_map (λ s. s.now) result ≡ option_map (λ p. p.name.text) owner }
 {
     match owner {
         Some(proc) => Some(proc.name().text().as_bytes()),
@@ -65,14 +61,14 @@ fn push_variable_object(
     ensures { let owner = option_map (λ p. p.now) owner.entry in
         OnOk result (line.new.items ≡ line.old.items ++ variable_object owner name.now value) }
 {
-    push_piece(line, Bytes(b",{\"procedure\":"))?;
-    push_piece(line, TextOrNull(owner_name(owner)))?;
-    push_piece(line, Key(b"name"))?;
-    push_piece(line, Text(name))?;
-    push_piece(line, Key(b"value"))?;
-    push_piece(line, Bit(value))?;
-    push_piece(line, Bytes(b"}"))?;
-    Ok(())
+    push_four(
+        line,
+        Bytes(b",{\"procedure\":"),
+        TextOrNull(owner_name(owner)),
+        Key(b"name"),
+        Text(name),
+    )?;
+    push_three(line, Key(b"value"), Bit(value), Bytes(b"}"))
 }
 
 /// Adds a variable and its value; the variable is a local of its owner, or a global.
@@ -128,11 +124,10 @@ pub(crate) fn push_variable(
         (line.new.items ≡ line.old.items ++ named_value format proc.now values name.now) }
 {
     if let Some(slot) = local_slot_of(proc, name) {
-        push_value(line, format, Some(proc), name, bit_of(store.locals, slot))?;
-        return Ok(());
+        return push_value(line, format, Some(proc), name, bit_of(store.locals, slot));
     }
     if let Some(slot) = slot_of(globals, name) {
-        push_value(line, format, None, name, bit_of(store.globals, slot))?;
+        return push_value(line, format, None, name, bit_of(store.globals, slot));
     }
     Ok(())
 }

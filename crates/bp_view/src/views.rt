@@ -15,16 +15,15 @@ use crate::ends::end_of;
 use crate::faults::ViewFault;
 use crate::heads::head_of;
 use crate::options::ViewOptions;
-use crate::scenes::{Scene, scenes_of};
 use crate::settings::setting_of;
+use crate::shown_traces::{ShownTrace, shown_trace_of};
 use crate::watches::{check_names, watched_names};
 use crate::writers::ViewWriter;
 use bp_check::Checked;
 use bp_code::Code;
 use bp_machine::{AskFault, Report, Session, Setup};
 use bp_text::put;
-use bp_trace::limits::MAX_TRACE;
-use bp_trace::{ReplayFault, Replayed, replay};
+use bp_trace::ReplayFault;
 use std::alloc::Global;
 use std::io::Write;
 
@@ -86,17 +85,16 @@ fn write_view<W: Write>(
     alloc: Global,
     checked: &Checked,
     code: &Code,
-    scenes: &[Scene],
-    replayed: &Replayed,
+    shown: &ShownTrace,
     options: ViewOptions<'_>,
     names: &[&[u8]],
     out: &mut W,
 ) -> Result<(), ViewFault>
     requires code { StandsFor code.now checked.now }
-    requires fits { FitsCode code.now replayed.now.setup }
+    requires fits { FitsCode code.now shown.now.replayed.setup }
     ensures { (text : List ℕ)
-        → let r = replayed.now in
-        AreScenes text checked.now scenes.now
+        → let r = shown.now.replayed in
+        AreScenes text checked.now shown.now.scenes.items
         → IsPlayable checked.now r.setup r.history.items
         → IsReport r.setup r.history.items r.report
         → map (λ n. n.now) names.now ≡ watched_names options.entry.watch
@@ -105,11 +103,12 @@ fn write_view<W: Write>(
         (λ _. IsWritten is_view (W.contents out.old) (W.contents out.new))
         (IsStopped is_view (W.contents out.old) (W.contents out.new)) }
 {
-    let history = replayed.history.as_slice();
-    let setting = setting_of(scenes, checked, &replayed.setup, history, options, names);
+    let setup = &shown.replayed.setup;
+    let history = shown.replayed.history.as_slice();
+    let setting = setting_of(&shown.scenes, checked, setup, history, options, names);
     let format = setting.options.format;
-    let head = head_of(alloc, format, &replayed.setup, setting.globals)?;
-    let session = Session::new(alloc, code, &replayed.setup)?;
+    let head = head_of(alloc, format, setup, setting.globals)?;
+    let session = Session::new(alloc, code, setup)?;
     let mut writer = ViewWriter {
         setting,
         session,
@@ -119,7 +118,7 @@ fn write_view<W: Write>(
         last: None,
         made: 0,
     };
-    write_parts(alloc, &mut writer, &head, replayed.report, out)
+    write_parts(alloc, &mut writer, &head, shown.replayed.report, out)
 }
 
 /// Writes a view of the history of a trace of a program, and answers its report. The view has the
@@ -146,20 +145,12 @@ pub fn view<W: Write>(
         (IsViewed checked.now text.now trace.now options old new)
         (IsViewRefusal checked.now text.now trace.now options old new) }
 {
-    if trace.len() > MAX_TRACE {
-        return Err(ViewFault::Replay(ReplayFault::TooLong));
-    }
-    let Ok(scenes) = scenes_of(alloc, text, checked) else {
-        return Err(ViewFault::Replay(ReplayFault::Memory));
-    };
+    let shown = shown_trace_of(alloc, text, checked, code, trace)?;
     let Ok(names) = watched_names(alloc, options.watch) else {
         return Err(ViewFault::Replay(ReplayFault::Memory));
     };
-    let replayed = replay(alloc, code, trace)?;
-    check_thread(options, &replayed.setup)?;
+    check_thread(options, &shown.replayed.setup)?;
     check_names(checked, &names)?;
-    write_view(
-        alloc, checked, code, &scenes, &replayed, options, &names, out,
-    )?;
-    Ok(replayed.report)
+    write_view(alloc, checked, code, &shown, options, &names, out)?;
+    Ok(shown.replayed.report)
 }

@@ -1,12 +1,11 @@
-use Rattle.std.proofs.Common.{[], ◌∷◌, codes}
-use Rattle.std.specs.List.{concat}
-use Rattle.bp_text.proofs.PiecesInTurn.{all_added}
-use Rattle.bp_view.specs.Conditions.{values_line}
+use Rattle.std.proofs.Common.{◌++◌, ap}
+use Rattle.bp_view.proofs.JoinedTexts.{condition_joined, when_ok}
 use Rattle.bp_view.proofs.conditions.push_condition_text.Goals as goal
 
 pub returns : goal.returns
 returns c =
     let scene = c.args.scene.now in
-    let statement = concat (codes " at " ∷ scene.place.items ∷ codes ": " ∷ scene.excerpt.words.items ∷ []) in
-    rw (c.in_ok-push_values_line.ensures, c.in_ok-push_pieces.ensures, c.as_slice-place.ensures.value, c.as_slice-words.ensures.value)
-    (all_added c.args.view.now.items (statement ∷ values_line c.args.values.now ∷ []))
+    let old = c.args.view.now.items in
+    let joined = condition_joined scene.place.items scene.excerpt.words.items c.values_lead.result.now c.args.values.now c.values_lead.ensures in
+    when_ok c.push_pieces.result c.push_pieces.ensures (λ added.
+    rw (added, c.as_slice.ensures.value, c.as_slice-2.ensures.value) (ap (λ x. old ++ x) joined))

@@ -2,8 +2,8 @@ use Rattle.std.proofs.Common.{refl, suc, take}
 use Rattle.bp_machine.specs.Histories.{configuration_after}
 use Rattle.bp_view.proofs.contexts.context_facts.Goals as goal
 
-pub returns : goal.returns
-returns c = λ t text s h set is changes.
+pub returns-clause-facts : goal.returns-clause-facts
+returns-clause-facts c = λ t text s h set is changes.
     let i = c.args.span.now.thread in
     record {
       number = refl;

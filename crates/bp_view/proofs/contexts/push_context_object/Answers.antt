@@ -1,19 +1,19 @@
 use Rattle.std.proofs.Common.{[], ◌∷◌, codes, decimal}
-use Rattle.std.specs.List.{concat}
-use Rattle.bp_text.proofs.PiecesInTurn.{all_added}
 use Rattle.bp_text.specs.Pieces.{key_text, list_text}
 use Rattle.bp_view.specs.ChangeFacts.{entries_text}
 use Rattle.bp_view.specs.ContextLines.{context_in, position_or_null}
 use Rattle.bp_view.specs.declared.options.ViewFormat.TheVariants.{Json}
+use Rattle.bp_view.proofs.JoinedTexts.{all_joined, when_ok}
 use Rattle.bp_view.proofs.contexts.push_context_object.Goals as goal
 
 pub returns : goal.returns
-returns c =
+returns c = λ noted.
     let f = context_in c.args.facts.now in
-    let numbers = concat (
+    let numbers =
     codes "{\"kind\":\"context\"" ∷ key_text (codes "context") ∷ decimal f.number ∷ key_text (codes "thread") ∷ decimal f.thread
-    ∷ key_text (codes "first") ∷ decimal f.first ∷ key_text (codes "last") ∷ decimal f.last ∷ key_text (codes "from") ∷ []) in
+    ∷ key_text (codes "first") ∷ decimal f.first ∷ key_text (codes "last") ∷ decimal f.last ∷ [] in
     let changes = key_text (codes "changes") ∷ list_text (entries_text Json f.changes) ∷ codes "}\n" ∷ [] in
     let ends = position_or_null f.from.position ∷ key_text (codes "to") ∷ position_or_null f.to.position ∷ changes in
-    rw (c.in_ok-push_piece-3.ensures, c.in_ok-push_changed_list.ensures, c.in_ok-push_piece-2.ensures, c.in_ok-push_position_or_null-2.ensures)
-    (rw (c.in_ok-push_piece.ensures, c.in_ok-push_position_or_null.ensures, c.in_ok-push_pieces.ensures, c.from.ensures) (all_added c.args.view.now.items (numbers ∷ ends)))
+    when_ok c.push_three.result c.push_three.ensures (λ added.
+    rw (added, noted, c.in_ok-push_position-2.ensures, c.in_ok-push_position.ensures, c.in_ok-push_pieces.ensures, c.from.ensures)
+    (all_joined c.args.view.now.items numbers (key_text (codes "from")) ends))

@@ -1,4 +1,5 @@
-use Rattle.std.proofs.Common.{◌≡◌, ◌∙◌, ◌++◌, true, false, List, [], ap, refl, subst, sym}
+use Rattle.std.proofs.Common.{◌≡◌, ◌∙◌, ◌++◌, true, false, [], ap, refl, subst, sym}
+use Rattle.std.proofs.lemmas.Result.{on_ok_weaker}
 use Rattle.std.proofs.lemmas.List.{append-nil}
 use Rattle.bp_machine.specs.Histories.{configuration_after}
 use Rattle.bp_machine.specs.Waiting.{waits}
@@ -25,8 +26,9 @@ returns c = λ t text h set is stands.
     let does : waits t now i ≡ true = sym (c.waits.ensures t h is stands) ∙ c.if-not-waits.false in
     let said = c.in_ok-condition.condition.items in
     let is_said = c.in_ok-condition.ensures t text h set is stands (at_assumption t now i does) in
-    record {
+    on_ok_weaker c.push_wait.result (λ added. record {
       more = wait_in format i said;
-      is = c.in_ok-push_wait.ensures ∙ ap (λ b. c.args.view.now.items ++ wait_in format i b) c.deref.ensures.value;
+      is = added ∙ ap (λ b. c.args.view.now.items ++ wait_in format i b) c.deref.ensures.value;
       more_are = subst (λ b. IsWait format t text now i b (wait_in format i said)) (sym does) (said, refl, is_said);
-    }
+    })
+    c.push_wait.ensures

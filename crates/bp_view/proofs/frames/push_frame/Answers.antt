@@ -1,4 +1,5 @@
 use Rattle.std.proofs.Common.{◌≡◌, ◌∙◌, ◌++◌, Some, ap, slice_get, sym}
+use Rattle.std.proofs.lemmas.Result.{on_ok_weaker}
 use Rattle.bp_code.specs.Bits.{bits_of}
 use Rattle.bp_code.specs.StandsFor.{valuation_of, variables}
 use Rattle.bp_view.specs.Changes.{variables_text}
@@ -47,8 +48,9 @@ returns c = λ t text now frames set is.
     let values = c.deref.ensures.value ∙ c.in_ok-push_locals.ensures ∙ ap (λ y. y ++ locals) c.clear.ensures.items in
     let place = place_is t text now frames x is scenes set.scenes scene here in
     let position = position_is t text now frames x is scenes set.scenes scene here in
-    record {
+    on_ok_weaker c.push_frame_in.result (λ added. record {
       more = frame_in format text n p scene.start scene.excerpt.words.items c.deref.result.now;
-      is = c.in_ok-push_frame_in.ensures text place position;
+      is = added;
       more_are = said t text now frames x is scenes set.scenes scene here format n p c.deref.result.now same values;
-    }
+    })
+    (c.push_frame_in.ensures text place position)

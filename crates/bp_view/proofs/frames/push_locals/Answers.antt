@@ -1,4 +1,5 @@
 use Rattle.std.proofs.Common.{◌∙◌, ◌++◌, ◌+◌, ℕ, List, Some, ap, sym, append_assoc, length}
+use Rattle.std.proofs.lemmas.Result.{on_ok_weaker}
 use Rattle.bp_tree.specs.Ast.{Name}
 use Rattle.bp_code.specs.Bits.{bits_of}
 use Rattle.bp_code.specs.Steps.{Bits}
@@ -17,8 +18,10 @@ returns c =
     let first = said p.formals bits in
     let first_is = ap (λ xs. said xs (later 0)) c.formals-formals.ensures ∙ ap (λ f. said p.formals f) (from_first bits) in
     let rest_is = ap (λ xs. said xs (later (length c.formals-formals.result.now))) c.locals.ensures ∙ ap (λ xs. said p.locals (later (length xs))) c.formals-formals.ensures in
-    c.in_ok-push_values-2.ensures
+    on_ok_weaker c.push_values-2.result (λ added.
+    added
     ∙ ap (λ x. x ++ said c.locals.result.now (later (length c.formals-formals.result.now))) (c.in_ok-push_values.ensures ∙ ap (λ x. old ++ x) first_is)
     ∙ ap (λ x. (old ++ first) ++ x) rest_is
     ∙ append_assoc old first (said p.locals (later (length p.formals)))
-    ∙ ap (λ x. old ++ x) (sym (values_append c.args.format (Some p) p.formals p.locals bits))
+    ∙ ap (λ x. old ++ x) (sym (values_append c.args.format (Some p) p.formals p.locals bits)))
+    c.push_values-2.ensures

@@ -1,4 +1,5 @@
 use Rattle.std.proofs.Common.{◌≡◌, ◌∙◌, ◌++◌, ◌<◌, ℕ, List, None, length, codes, ap, sym, append_assoc, arith}
+use Rattle.std.proofs.lemmas.Result.{on_ok_weaker}
 use Rattle.bp_code.specs.Values.{binding}
 use Rattle.bp_view.specs.declared.options.ViewFormat.TheVariants.{Columns}
 use Rattle.bp_view.specs.Changes.{variables_text}
@@ -15,7 +16,9 @@ returns c =
     let old = c.args.view.now.items in
     let values = variables_text Columns None (binding xs bits) in
     let some : 0 < length xs = grind arith in
-    c.in_ok-push_bytes-2.ensures
+    on_ok_weaker c.push_bytes-2.result (λ added.
+    added
     ∙ ap (λ y. y ++ codes "\n") (c.in_ok-push_values.ensures ∙ ap (λ y. y ++ values) c.in_ok-push_bytes.ensures)
     ∙ regrouped old (codes "globals") values (codes "\n")
-    ∙ ap (λ y. old ++ y) (sym (line_of_some xs bits some))
+    ∙ ap (λ y. old ++ y) (sym (line_of_some xs bits some)))
+    c.push_bytes-2.ensures

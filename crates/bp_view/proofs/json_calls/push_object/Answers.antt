@@ -6,18 +6,21 @@ use Rattle.bp_view.specs.CallFacts.{facts_in}
 use Rattle.bp_view.specs.ChangeFacts.{entries_text}
 use Rattle.bp_view.specs.declared.options.ViewFormat.TheVariants.{Json}
 use Rattle.bp_view.specs.JsonCalls.{member_texts, printed_text}
+use Rattle.bp_view.proofs.JoinedTexts.{when_ok}
 use Rattle.bp_view.proofs.json_calls.push_object.Goals as goal
 
 pub returns : goal.returns
 returns c =
     let f = facts_in c.args.facts.now in
     let lists = key_text (codes "changes") ∷ list_text (entries_text Json f.changes) ∷ key_text (codes "printed") ∷ printed_text f.printed ∷ codes "}\n" ∷ [] in
+    when_ok c.push_piece.result c.push_piece.ensures (λ added.
     rw (
-      c.in_ok-push_piece-3.ensures,
+      added,
       c.in_ok-push_printed.ensures,
-      c.in_ok-push_piece-2.ensures,
-      c.in_ok-push_changed_list.ensures,
-      c.in_ok-push_piece.ensures,
+      c.in_ok-push_three.ensures,
+      c.deref.ensures.value,
+      c.in_ok-push_changed.ensures,
+      c.clear.ensures.items,
       c.in_ok-push_members.ensures,
     )
-    (all_added c.args.line.now.items (concat (member_texts f) ∷ lists))
+    (all_added c.args.line.now.items (concat (member_texts f) ∷ lists)))

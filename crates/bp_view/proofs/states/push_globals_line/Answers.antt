@@ -1,4 +1,5 @@
 use Rattle.std.proofs.Common.{◌≡◌, ◌∙◌, ◌++◌, ◌<◌, ℕ, List, [], ◌∷◌, None, length, codes, ap, sym, refl, append_assoc, arith}
+use Rattle.std.proofs.lemmas.Result.{on_ok_weaker}
 use Rattle.bp_tree.specs.Ast.{Name}
 use Rattle.bp_code.specs.Bits.{bits_of}
 use Rattle.bp_code.specs.Steps.{Bits}
@@ -23,9 +24,11 @@ returns c =
     let old = c.args.view.now.items in
     let values = variables_text Columns None (valuation_of xs bits) in
     let some : 0 < length xs = grind arith in
-    c.in_ok-push_bytes-2.ensures
+    on_ok_weaker c.push_bytes-2.result (λ added.
+    added
     ∙ ap (λ y. y ++ codes "\n") (c.in_ok-push_values.ensures
     ∙ ap (λ f. c.push_bytes.new.line.items ++ variables_text Columns None (valuation_of xs f)) (from_first bits)
     ∙ ap (λ y. y ++ values) c.in_ok-push_bytes.ensures)
     ∙ regrouped old (codes "globals") values (codes "\n")
-    ∙ ap (λ y. old ++ y) (sym (line_of_some xs bits some))
+    ∙ ap (λ y. old ++ y) (sym (line_of_some xs bits some)))
+    c.push_bytes-2.ensures

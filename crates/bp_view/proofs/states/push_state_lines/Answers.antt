@@ -5,6 +5,7 @@ use Rattle.bp_code.specs.StandsFor.{valuation_of}
 use Rattle.bp_text.proofs.PiecesInTurn.{all_added}
 use Rattle.bp_view.specs.Heads.{globals_line}
 use Rattle.bp_view.specs.States.{failed_line}
+use Rattle.bp_view.proofs.JoinedTexts.{when_ok}
 use Rattle.bp_view.proofs.states.push_state_lines.Goals as goal
 
 pub returns : goal.returns
@@ -12,5 +13,6 @@ returns c =
     let head = c.args.head in
     let first = concat (codes "after call " ∷ decimal head.number ∷ codes " of " ∷ decimal head.count ∷ codes "\n" ∷ []) in
     let globals = globals_line (valuation_of c.args.globals.now (bits_of head.globals)) in
-    rw (c.in_ok-push_bytes.ensures, c.in_ok-push_globals_line.ensures, c.in_ok-push_failed_line.ensures, c.in_ok-push_pieces.ensures)
-    (all_added c.args.view.now.items (first ∷ failed_line head.outcome ∷ globals ∷ c.args.threads.now ∷ []))
+    when_ok c.push_bytes.result c.push_bytes.ensures (λ added.
+    rw (added, c.in_ok-push_globals_line.ensures, c.in_ok-push_failed_line.ensures, c.in_ok-push_pieces.ensures)
+    (all_added c.args.view.now.items (first ∷ failed_line head.outcome ∷ globals ∷ c.args.threads.now ∷ [])))

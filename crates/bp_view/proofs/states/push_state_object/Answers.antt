@@ -7,6 +7,7 @@ use Rattle.bp_view.specs.declared.options.ViewFormat.TheVariants.{Json}
 use Rattle.bp_view.specs.Changes.{variables_text}
 use Rattle.bp_view.specs.States.{state_members}
 use Rattle.bp_view.proofs.ChangedVariables.{from_first}
+use Rattle.bp_view.proofs.JoinedTexts.{when_ok}
 use Rattle.bp_view.proofs.states.push_state_object.Goals as goal
 
 pub returns : goal.returns
@@ -20,5 +21,6 @@ returns c =
     ∙ ap (λ x. x ++ variables_text Json None (valuation_of names (λ k. bits (0 + k)))) c.clear.ensures.items
     ∙ ap (λ f. variables_text Json None (valuation_of names f)) (from_first bits)
     in
-    rw (c.in_ok-push_piece-4.ensures, c.in_ok-push_piece-3.ensures, c.in_ok-push_piece-2.ensures, c.in_ok-push_piece.ensures, c.in_ok-push_state_members.ensures, note)
-    (all_added c.args.view.now.items (state_members head.number head.count head.outcome ∷ list_text values ∷ key_text (codes "threads") ∷ list_text c.args.threads.now ∷ codes "}\n" ∷ []))
+    when_ok c.push_four.result c.push_four.ensures (λ added.
+    rw (added, c.in_ok-push_state_members.ensures, note)
+    (all_added c.args.view.now.items (state_members head.number head.count head.outcome ∷ list_text values ∷ key_text (codes "threads") ∷ list_text c.args.threads.now ∷ codes "}\n" ∷ [])))

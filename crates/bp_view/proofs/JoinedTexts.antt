@@ -1,0 +1,66 @@
+-- Texts that are joined in one order are those that are joined in another.
+use Rattle.std.proofs.Common.{OnOk, Result, ◌≡◌, ◌∙◌, ◌++◌, ℕ, List, [], ◌∷◌, ap, codes, refl, sym, fold, append_assoc, append-nil}
+use Rattle.std.proofs.lemmas.Result.{on_ok_weaker}
+use Rattle.std.specs.List.{concat}
+use Rattle.bp_text.proofs.PiecesInTurn.{all_added}
+use Rattle.bp_view.specs.Conditions.{condition_text, values_line}
+
+-- what follows from a fact of a call that succeeded
+pub when_ok : {T E P Q : Type 0} (r : Result T E) → OnOk r P → (P → Q) → OnOk r Q
+when_ok r is more = on_ok_weaker r more is
+
+concat-last : (ts : List (List ℕ)) (t : List ℕ) → concat ts ++ t ≡ concat (ts ++ t ∷ [])
+concat-last [] t = simp append-nil
+concat-last (x ∷ ts) t = append_assoc x (concat ts) t ∙ ap (λ y. x ++ y) (concat-last ts t)
+
+-- one more text and others after some texts that are one
+pub all_joined : (old : List ℕ) (ts : List (List ℕ)) (t : List ℕ) (us : List (List ℕ)) → fold (λ a u. a ++ u) ((old ++ concat ts) ++ t) us ≡ old ++ concat (concat (ts ++ t ∷ []) ∷ us)
+all_joined old ts t us =
+    ap (λ x. fold (λ a u. a ++ u) x us) (append_assoc old (concat ts) t ∙ ap (λ y. old ++ y) (concat-last ts t))
+    ∙ all_added old (concat (ts ++ t ∷ []) ∷ us)
+
+concat-append : (ts us : List (List ℕ)) → concat (ts ++ us) ≡ concat ts ++ concat us
+concat-append [] us = refl
+concat-append (t ∷ ts) us = ap (λ x. t ++ x) (concat-append ts us) ∙ sym (append_assoc t (concat ts) (concat us))
+
+-- two times some texts that are one, and others
+pub two_joined : (ts us vs : List (List ℕ)) → concat (ts ++ us ++ vs) ≡ concat (concat ts ∷ concat us ∷ vs)
+two_joined ts us vs =
+    concat-append (ts ++ us) vs ∙ ap (λ x. x ++ concat vs) (concat-append ts us) ∙ append_assoc (concat ts) (concat us) (concat vs)
+
+-- two texts that are one
+pub pair_joined : (a b c : List ℕ) (us : List (List ℕ)) → a ++ b ≡ c → concat (a ∷ b ∷ us) ≡ concat (c ∷ us)
+pair_joined a b c us is = sym (append_assoc a b (concat us)) ∙ ap (λ x. x ++ concat us) is
+
+pub pair_added : (old a b c : List ℕ) → a ++ b ≡ c → old ++ a ++ b ≡ old ++ c
+pair_added old a b c is = append_assoc old a b ∙ ap (λ x. old ++ x) is
+
+-- some texts that are one, and others
+pub first_joined : (old : List ℕ) (ts us : List (List ℕ)) → fold (λ a u. a ++ u) (fold (λ a u. a ++ u) old ts) us ≡ old ++ concat (concat ts ∷ us)
+first_joined old ts us = ap (λ x. fold (λ a u. a ++ u) x us) (all_added old ts) ∙ all_added old (concat ts ∷ us)
+
+pub three_two_one : (old a b c d e f : List ℕ) → ((old ++ a ++ b ++ c) ++ d ++ e) ++ f ≡ old ++ concat (concat (a ∷ b ∷ c ∷ []) ∷ concat (d ∷ e ∷ []) ∷ f ∷ [])
+three_two_one old a b c d e f = simp (append_assoc, append-nil)
+
+condition_parts : (a b c d l v : List ℕ) → concat (a ∷ b ∷ c ∷ d ∷ l ∷ v ∷ []) ≡ concat (concat (a ∷ b ∷ c ∷ d ∷ []) ∷ (l ++ v) ∷ [])
+condition_parts a b c d l v = simp (append_assoc, append-nil)
+
+pub condition_joined : (place words lead values : List ℕ) → lead ++ values ≡ values_line values → concat (codes " at " ∷ place ∷ codes ": " ∷ words ∷ lead ∷ values ∷ []) ≡ condition_text place words values
+condition_joined place words lead values line =
+    condition_parts (codes " at ") place (codes ": ") words lead values
+    ∙ ap (λ x. concat (concat (codes " at " ∷ place ∷ codes ": " ∷ words ∷ []) ∷ x ∷ [])) line
+
+frame_parts : (a b c d e f g h z : List ℕ) → concat (a ∷ b ∷ c ∷ d ∷ e ∷ f ∷ g ∷ h ∷ z ∷ []) ≡ concat (concat (a ∷ b ∷ []) ∷ concat (c ∷ d ∷ e ∷ f ∷ g ∷ h ∷ []) ∷ z ∷ [])
+frame_parts a b c d e f g h z = simp (append_assoc, append-nil)
+
+pub frame_joined : (lead name place words line values : List ℕ) → line ++ values ≡ values_line values
+    → concat (lead ∷ name ∷ codes " at " ∷ place ∷ codes ": " ∷ words ∷ line ∷ values ∷ codes "\n" ∷ []) ≡ concat (concat (lead ∷ name ∷ []) ∷ condition_text place words values ∷ codes "\n" ∷ [])
+frame_joined lead name place words line values is =
+    frame_parts lead name (codes " at ") place (codes ": ") words line values (codes "\n")
+    ∙ ap (λ x. concat (concat (lead ∷ name ∷ []) ∷ x ∷ codes "\n" ∷ [])) (condition_joined place words line values is)
+
+pub foot_joined : (a b c d e f g o w z : List ℕ) → concat (a ∷ b ∷ c ∷ d ∷ e ∷ f ∷ g ∷ o ∷ w ∷ z ∷ []) ≡ concat (a ∷ b ∷ c ∷ d ∷ e ∷ f ∷ g ∷ []) ++ o ++ w ++ z
+foot_joined a b c d e f g o w z = simp (append_assoc, append-nil)
+
+pub limits_joined : (old a b c d e f : List ℕ) → old ++ concat (a ∷ b ∷ c ∷ d ∷ e ∷ f ∷ []) ≡ old ++ (a ++ b ++ c) ++ (d ++ e ++ f)
+limits_joined old a b c d e f = simp (append_assoc, append-nil)

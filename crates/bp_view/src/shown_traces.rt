@@ -1,0 +1,69 @@
+//! A trace that was replayed, with the scenes of its program.
+ghost use Rattle.std.specs.Prelude.{◌≡◌, ℕ, List, MatchResult};
+ghost use Rattle.bp_tree.specs.Ast.{Program};
+ghost use Rattle.bp_code.specs.StandsFor.{StandsFor};
+ghost use Rattle.bp_trace.specs.Replays.{IsReplayRefusal};
+ghost use Rattle.bp_view.specs.Moments.{IsSettingOf};
+ghost use Rattle.bp_view.specs.Scenes.{AreScenes};
+ghost use Rattle.bp_view.specs.ShownTraces.{IsShownTrace};
+ghost use Rattle.bp_view.specs.Widths.{extent_of, AreWidths};
+
+use crate::options::{ViewFormat, ViewOptions};
+use crate::scenes::{Scene, scenes_of};
+use crate::settings::{Setting, setting_of};
+use bp_check::Checked;
+use bp_code::Code;
+use bp_trace::limits::MAX_TRACE;
+use bp_trace::{ReplayFault, Replayed, replay};
+use std::alloc::Global;
+
+/// A trace that was replayed, and the scenes of its program.
+#[derive(Drop)]
+pub(crate) struct ShownTrace {
+    pub(crate) scenes: Vec<Scene>,
+    pub(crate) replayed: Replayed,
+}
+
+/// Replays a trace of the program of a text. A text that is no trace of the program is refused as
+/// `replay` refuses it.
+pub(crate) fn shown_trace_of(
+    alloc: Global,
+    text: &[u8],
+    checked: &Checked,
+    code: &Code,
+    trace: &[u8],
+) -> Result<ShownTrace, ReplayFault>
+    ensures { (t : Program)
+        → StandsFor code.now t
+        → MatchResult result
+        (IsShownTrace checked.now text.now t trace.now)
+        (IsReplayRefusal t trace.now) }
+{
+    if trace.len() > MAX_TRACE {
+        return Err(ReplayFault::TooLong);
+    }
+    let scenes = scenes_of(alloc, text, checked)?;
+    let replayed = replay(alloc, code, trace)?;
+    Ok(ShownTrace { scenes, replayed })
+}
+
+impl ShownTrace {
+    /// The setting of a view of all calls, without watched names.
+    pub(crate) fn setting<'a>(&'a self, checked: &'a Checked, format: ViewFormat) -> Setting<'a>
+        ensures known { (text : List ℕ)
+            → AreScenes text checked.now self.now.scenes.items
+            → IsSettingOf checked.now text result }
+        ensures widths { AreWidths self.now.replayed.setup (extent_of result) result.widths }
+        ensures history { result.history.now ≡ self.now.replayed.history.items }
+        ensures format { result.options.format ≡ format }
+    {
+        setting_of(
+            self.scenes.as_slice(),
+            checked,
+            &self.replayed.setup,
+            self.replayed.history.as_slice(),
+            ViewOptions::all(format),
+            &[],
+        )
+    }
+}
