@@ -8,6 +8,9 @@ pub mod SpotsOfInstructions
 pub mod StandsOfInstructions
 pub mod NextLocations
 pub mod ValuesSeen
+pub mod LastChanges
+pub mod HistoriesAgain
+pub mod FirstDifference
 pub mod BitsAtTops
 pub mod StepsFollowed
 pub mod OneConfirmed

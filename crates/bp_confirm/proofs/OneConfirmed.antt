@@ -62,7 +62,7 @@ module _ (text : List ℕ) (t : Program) (s : SetupOf) (lines : List StepLineOf)
   by_reason Ambiguous none = tt
   by_reason Finished none = none_whole none
   by_reason (Refused q) none = none_whole none
-  by_reason (Differs value seen) none = none_whole none
+  by_reason (Differs d) none = none_whole none
 
 pub refused_is_not_taken : RefusedIsNotTaken
 refused_is_not_taken text t s lines r refused = by_reason text t s lines r refused r.reason refused.none

@@ -1,5 +1,5 @@
 -- A step has at most one reason against it.
-use Rattle.std.proofs.Common.{◌≡◌, ◌≢◌, ◌∙◌, ℕ, zero, suc, Bool, true, List, [], ◌∷◌, ◌++◌, Option, None, Some, refl, ap, sym, subst}
+use Rattle.std.proofs.Common.{◌≡◌, ◌≢◌, ◌∙◌, ℕ, zero, suc, Bool, true, List, [], ◌∷◌, ◌++◌, length, Option, None, Some, refl, ap, sym, subst}
 use Rattle.std.proofs.lemmas.Bool.{false≢true}
 use Rattle.bp_tree.specs.Ast.{Block, Done, Then, Skips, GoesTo, Returns, Assigns, Branches, Loops, Asserts, Assumes, Prints, Calls, Choose, Decide, Program}
 use Rattle.bp_code.specs.Configurations.{Configuration}
@@ -13,14 +13,17 @@ use Rattle.bp_machine.specs.declared.calls.Reply.{Reply}
 use Rattle.bp_machine.specs.Answers.{stack_of}
 use Rattle.bp_machine.specs.Histories.{configuration_after, is_finished}
 use Rattle.bp_machine.specs.Setups.{SetupOf}
+use Rattle.bp_confirm.specs.declared.faults.Difference.{Difference}
 use Rattle.bp_confirm.specs.declared.faults.StepReason.{StepReason}
 use Rattle.bp_confirm.specs.declared.faults.StepReason.TheVariants.{Elsewhere, Ambiguous, Finished, Refused, Differs}
+use Rattle.bp_confirm.specs.Changes.{seen_by, seen_after, IsLastChange}
 use Rattle.bp_confirm.specs.Confirms.{GoesOnAt, IsAnswered, IsReason, IsUnclear, SeesOther, StandsThere}
 use Rattle.bp_confirm.specs.Inferred.{AreBothAt, AreBothWays, IsAmbiguous, IsAmbiguousOnStack, IsClear, IsClearOnStack, IsClearWay}
 use Rattle.bp_confirm.specs.Places.{Place}
 use Rattle.bp_confirm.specs.Steps.{StepOf, value_seen, IsFirstUnseen, next_place}
 use Rattle.bp_confirm.proofs.FullBlocks.{IsFull, full_place}
 use Rattle.bp_confirm.proofs.LocalRefusals.{not_granted, seen_same}
+use Rattle.bp_confirm.proofs.LastChanges.{one_change}
 use Rattle.bp_confirm.proofs.StartsInOrder.{starts_distinct}
 
 -- where the later steps tell which way a `?` went, it may not have gone either way
@@ -92,45 +95,51 @@ module _ (text : List ℕ) (t : Program) (is : IsLawfulText text t) (s : SetupOf
   over_or_answered : {X : Type 0} → is_finished s h x.thread ≡ true → (r : Reply) → IsAnswered t s h x r → X
   over_or_answered over r answered = absurd (false≢true (sym answered.allowed.unfinished ∙ ap (is_finished s h) answered.thread ∙ over))
 
-  over_or_seen : {X : Type 0} → is_finished s h x.thread ≡ true → (value : ℕ) (seen : Option Bool) → SeesOther t s h x value seen → X
-  over_or_seen over value seen sees = absurd (false≢true (sym sees.takes.allowed.unfinished ∙ ap (is_finished s h) sees.takes.thread ∙ over))
+  over_or_seen : {X : Type 0} → is_finished s h x.thread ≡ true → (d : Difference) → SeesOther t s h x d → X
+  over_or_seen over d sees = absurd (false≢true (sym sees.takes.allowed.unfinished ∙ ap (is_finished s h) sees.takes.thread ∙ over))
 
-  refused_or_seen : {X : Type 0} → (r : Reply) → IsAnswered t s h x r → (value : ℕ) (seen : Option Bool) → SeesOther t s h x value seen → X
-  refused_or_seen r answered value seen sees =
+  refused_or_seen : {X : Type 0} → (r : Reply) → IsAnswered t s h x r → (d : Difference) → SeesOther t s h x d → X
+  refused_or_seen r answered d sees =
       absurd (not_granted r sees.call.reply (ap Some (answered.each sees.call sees.takes.thread sees.takes.allowed)) sees.takes.granted answered.refused)
 
   one_reply : (r q : Reply) → IsAnswered t s h x r → IsAnswered t s h x q → r ≡ q
   one_reply r q one two = sym (one.each one.call one.thread one.allowed) ∙ two.each one.call one.thread one.allowed
 
-  one_seen : (m n : ℕ) (a b : Option Bool) → SeesOther t s h x m a → SeesOther t s h x n b → Differs m a ≡ Differs n b
-  one_seen m n a b p q =
+  one_seen : (d e : Difference) → SeesOther t s h x d → SeesOther t s h x e → Differs d ≡ Differs e
+  one_seen d e p q =
       let same = seen_same t s h x p.call q.call p.takes q.takes in
-      let both = one_unseen (configuration_after t s (h ++ p.call ∷ [])) (configuration_after t s (h ++ q.call ∷ [])) x.thread same x.values m n a b p.unseen q.unseen in
-      λ j. Differs (both.0 j) (both.1 j)
+      let one = p.differs.unseen in
+      let other = q.differs.unseen in
+      let both = one_unseen (configuration_after t s (h ++ p.call ∷ [])) (configuration_after t s (h ++ q.call ∷ [])) x.thread same x.values d.place e.place d.seen e.seen one other in
+      let value : one.value ≡ other.value = (let at = one.at in let there = other.at in let place = both.0 in cc) in
+      let name = one.value.0 in
+      let own = subst (λ v. IsLastChange (seen_after t s (h ++ q.call ∷ []) x.thread v.0) (length (h ++ q.call ∷ [])) e.changed) (sym value) q.differs.changed in
+      let changed = one_change (seen_by t s x.thread name) h p.call q.call (same name) d.changed e.changed p.differs.changed own in
+      λ j. Differs (record { place = both.0 j; seen = both.1 j; changed = changed j })
 
   pub one_reason : (a b : StepReason) → IsReason t s h x later a → IsReason t s h x later b → a ≡ b
   one_reason Elsewhere Elsewhere p q = refl
   one_reason Elsewhere Ambiguous p q = absurd (false≢true (sym p ∙ q.at))
   one_reason Elsewhere Finished p q = here_or_elsewhere q.0 p
   one_reason Elsewhere (Refused r) p q = here_or_elsewhere q.0 p
-  one_reason Elsewhere (Differs n b) p q = here_or_elsewhere q.0 p
+  one_reason Elsewhere (Differs e) p q = here_or_elsewhere q.0 p
   one_reason Ambiguous Elsewhere p q = absurd (false≢true (sym q ∙ p.at))
   one_reason Ambiguous Ambiguous p q = refl
   one_reason Ambiguous Finished p q = clear_or_not q.0 p
   one_reason Ambiguous (Refused r) p q = clear_or_not q.0 p
-  one_reason Ambiguous (Differs n b) p q = clear_or_not q.0 p
+  one_reason Ambiguous (Differs e) p q = clear_or_not q.0 p
   one_reason Finished Elsewhere p q = here_or_elsewhere p.0 q
   one_reason Finished Ambiguous p q = clear_or_not p.0 q
   one_reason Finished Finished p q = refl
   one_reason Finished (Refused r) p q = over_or_answered p.1 r q.1
-  one_reason Finished (Differs n b) p q = over_or_seen p.1 n b q.1
+  one_reason Finished (Differs e) p q = over_or_seen p.1 e q.1
   one_reason (Refused r) Elsewhere p q = here_or_elsewhere p.0 q
   one_reason (Refused r) Ambiguous p q = clear_or_not p.0 q
   one_reason (Refused r) Finished p q = over_or_answered q.1 r p.1
   one_reason (Refused r) (Refused k) p q = ap Refused (one_reply r k p.1 q.1)
-  one_reason (Refused r) (Differs n b) p q = refused_or_seen r p.1 n b q.1
-  one_reason (Differs m a) Elsewhere p q = here_or_elsewhere p.0 q
-  one_reason (Differs m a) Ambiguous p q = clear_or_not p.0 q
-  one_reason (Differs m a) Finished p q = over_or_seen q.1 m a p.1
-  one_reason (Differs m a) (Refused r) p q = refused_or_seen r q.1 m a p.1
-  one_reason (Differs m a) (Differs n b) p q = one_seen m n a b p.1 q.1
+  one_reason (Refused r) (Differs e) p q = refused_or_seen r p.1 e q.1
+  one_reason (Differs d) Elsewhere p q = here_or_elsewhere p.0 q
+  one_reason (Differs d) Ambiguous p q = clear_or_not p.0 q
+  one_reason (Differs d) Finished p q = over_or_seen q.1 d p.1
+  one_reason (Differs d) (Refused r) p q = refused_or_seen r q.1 d p.1
+  one_reason (Differs d) (Differs e) p q = one_seen d e p.1 q.1

@@ -95,7 +95,7 @@ module _ (text : List ℕ) (t : Program) (is : IsLawfulText text t) (s : SetupOf
           not_clear text t is (configuration_after t s refused.history) (step_of text refused.step).thread (steps_of text refused.later) r.number goes_on follows.clear why.ambiguous
       by_reason Finished why none = none (refused.history ++ a ∷ []) all_taken
       by_reason (Refused q) why none = none (refused.history ++ a ∷ []) all_taken
-      by_reason (Differs value seen) why none = none (refused.history ++ a ∷ []) all_taken
+      by_reason (Differs d) why none = none (refused.history ++ a ∷ []) all_taken
 
   -- nothing follows it and what comes before it
   never_followed : (ys zs : List StepOf) (g : List Call) → ys ++ zs ≡ steps_of text refused.later

@@ -111,4 +111,4 @@ own_lines_confirmed each text t s calls last lines r is run own refused = by_rea
     by_reason Ambiguous e none = let line = only_lines text t s lines r is refused e in no_line text t r.thread line.0 refused.later exact line.1
     by_reason Finished e none = none calls taken
     by_reason (Refused q) e none = none calls taken
-    by_reason (Differs value seen) e none = none calls taken
+    by_reason (Differs d) e none = none calls taken

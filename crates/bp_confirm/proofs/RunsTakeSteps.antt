@@ -56,7 +56,7 @@ module _ (text : List ℕ) (t : Program) (s : SetupOf) (lines : List StepLineOf)
   by_reason Ambiguous none = tt
   by_reason Finished none = none_runs t s each (steps_of text lines) none
   by_reason (Refused q) none = none_runs t s each (steps_of text lines) none
-  by_reason (Differs value seen) none = none_runs t s each (steps_of text lines) none
+  by_reason (Differs d) none = none_runs t s each (steps_of text lines) none
 
 pub refused_front_has_no_run : RunsAreHistories → RefusedFrontHasNoRun
 refused_front_has_no_run each text t s lines r refused = by_reason text t s (refused.before ++ refused.step ∷ []) each r.reason refused.none

@@ -18,6 +18,7 @@ use Rattle.bp_machine.specs.Histories.{configuration_after, is_finished, IsAllow
 use Rattle.bp_machine.specs.Replies.{is_granted}
 use Rattle.bp_machine.specs.Sessions.{IsAskRefusal}
 use Rattle.bp_machine.specs.Setups.{SetupOf, threads}
+use Rattle.bp_confirm.specs.declared.faults.Difference.{Difference}
 use Rattle.bp_confirm.specs.declared.faults.StepFault.{StepFault}
 use Rattle.bp_confirm.specs.declared.faults.StepFault.TheVariants as fault
 use Rattle.bp_confirm.specs.declared.faults.StepReason.{StepReason}
@@ -27,6 +28,7 @@ use Rattle.bp_confirm.specs.declared.step_lines.SeenValue.{SeenValue}
 use Rattle.bp_confirm.specs.StepLines.{StepLineOf, value_of, values_of, step_of, steps_of}
 use Rattle.bp_confirm.specs.Steps.{StepOf, value_seen, IsFirstUnseen, SeesValues, IsStepOf, TakeAfter, Takes}
 use Rattle.bp_confirm.specs.Inferred.{bit_of_stack, IsAmbiguousOnStack, IsClearOnStack, Follows, FollowAfter}
+use Rattle.bp_confirm.specs.Changes.{IsDifference}
 use Rattle.bp_confirm.specs.Confirms.{GoesOnAt, StandsAtPlace, StandsThere, IsStuck, IsReason, ForStuck, IsStepRefusal, IsNotConfirmed, IsConfirmed}
 use Rattle.bp_confirm.specs.StepRefusals.{IsRefusedHere, IsNotTaken, refusal_of}
 use Rattle.bp_confirm.specs.declared.spots.Spot.{Spot}
@@ -88,7 +90,7 @@ module _ (text : List ℕ) (t : Program) (s : SetupOf) (lines : List StepLineOf)
     for_all Ambiguous stuck = tt
     for_all Finished stuck = none_takes stuck
     for_all (Refused r) stuck = none_takes stuck
-    for_all (Differs value seen) stuck = none_takes stuck
+    for_all (Differs d) stuck = none_takes stuck
 
     step_refused : (r : StepRefusal) → IsRefusedHere text t s h (get_or lines n d) (steps_of text (drop (n + 1) lines)) (n + 1) r → IsStepRefusal text t s lines r
     step_refused r here = record {
@@ -194,11 +196,10 @@ module _ (text : List ℕ) (t : Program) (s : SetupOf) (h : List Call) (x : Step
           bare : IsStepOf t s h (record step { values = [] }) a
           bare = record { thread = thread; allowed = allowed; granted = granted; at = at; values = tt }
 
-          pub others_seen : (value : ℕ) (seen : Option Bool) → IsFirstUnseen (configuration_after t s (h ++ a ∷ [])) x.thread x.values value seen
-              → IsRefusedFor (Differs value seen)
-          others_seen value seen unseen =
-              refused_for (Differs value seen) (there, record { call = a; takes = bare; unseen = unseen })
-              (other_values t s h step a bare (unseen_not (configuration_after t s (h ++ a ∷ [])) x.thread x.values value seen unseen))
+          pub others_seen : (d : Difference) → IsDifference t s (h ++ a ∷ []) x.thread x.values d → IsRefusedFor (Differs d)
+          others_seen d differs =
+              refused_for (Differs d) (there, record { call = a; takes = bare; differs = differs })
+              (other_values t s h step a bare (unseen_not (configuration_after t s (h ++ a ∷ [])) x.thread x.values d.place d.seen differs.unseen))
 
 -- a call that is refused to a thread that is there, where the setup has no seed
 pub ask_refused : (t : Program) (s : SetupOf) (h : List Call) (i : ℕ) (bit : Bool) (f : AskFault) → i < threads s → s.seed ≡ None → IsAskRefusal t s h i (Some bit) f

@@ -11,14 +11,16 @@ use Rattle.bp_machine.specs.Tops.{IsTop}
 use Rattle.bp_machine.specs.Histories.{configuration_after, is_finished, IsAllowed, IsLegal}
 use Rattle.bp_machine.specs.Replies.{is_granted}
 use Rattle.bp_machine.specs.Setups.{SetupOf, threads}
+use Rattle.bp_confirm.specs.declared.faults.Difference.{Difference}
 use Rattle.bp_confirm.specs.declared.faults.StepFault.{StepFault}
 use Rattle.bp_confirm.specs.declared.faults.StepFault.TheVariants as fault
 use Rattle.bp_confirm.specs.declared.faults.StepReason.{StepReason}
 use Rattle.bp_confirm.specs.declared.faults.StepReason.TheVariants.{Elsewhere, Ambiguous, Finished, Refused, Differs}
 use Rattle.bp_confirm.specs.declared.faults.StepRefusal.{StepRefusal}
+use Rattle.bp_confirm.specs.Changes.{IsDifference}
 use Rattle.bp_confirm.specs.Places.{stands_at}
 use Rattle.bp_confirm.specs.Stands.{stand_of}
-use Rattle.bp_confirm.specs.Steps.{StepOf, IsFirstUnseen, IsStepOf, Takes}
+use Rattle.bp_confirm.specs.Steps.{StepOf, IsStepOf, Takes}
 use Rattle.bp_confirm.specs.StepLines.{StepLineOf, step_of, steps_of}
 use Rattle.bp_confirm.specs.Inferred.{IsAmbiguousOnStack, IsClearOnStack, FollowAfter}
 
@@ -62,12 +64,11 @@ module _ (t : Program) (s : SetupOf) (h : List Call) (x : StepOf) where
     pub each : (y : Call) → y.thread ≡ x.thread → IsAllowed t s h y → y.reply ≡ r
     pub refused : is_granted r ≡ false
 
-  -- a call takes it but for its values: this is the first, from 0, that the thread does not see
-  pub record SeesOther (value : ℕ) (seen : Option Bool) : Type 0 where
+  -- a call takes it but for its values: this is the first that the thread does not see after it
+  pub record SeesOther (d : Difference) : Type 0 where
     pub call : Call
     pub takes : IsStepOf t s h (record x { values = [] }) call
-    pub unseen :
-        IsFirstUnseen (configuration_after t s (h ++ call ∷ [])) x.thread x.values value seen
+    pub differs : IsDifference t s (h ++ call ∷ []) x.thread x.values d
 
   -- Why it is refused, before these later steps: the first of these.
   abbrev pub IsReason : List StepOf → StepReason → Type 0
@@ -75,7 +76,7 @@ module _ (t : Program) (s : SetupOf) (h : List Call) (x : StepOf) where
   IsReason later Ambiguous = IsUnclear later
   IsReason later Finished = StandsThere later × (is_finished s h x.thread ≡ true)
   IsReason later (Refused r) = StandsThere later × IsAnswered r
-  IsReason later (Differs value seen) = StandsThere later × SeesOther value seen
+  IsReason later (Differs d) = StandsThere later × SeesOther d
 
 -- the reason says that nothing takes a step; an ambiguous one asks for a column
 abbrev pub ForStuck : StepReason → Type 0 → Type 0

@@ -3,6 +3,7 @@ pub mod Places
 pub mod Spots
 pub mod Stands
 pub mod Steps
+pub mod Changes
 pub mod StepLines
 pub mod EffectBits
 pub mod Confirms

@@ -6,6 +6,18 @@ use bp_machine::Reply;
 use std::alloc::AllocError;
 use thiserror::Error;
 
+/// The first of the values of a line that its thread does not see after the step.
+#[derive(Clone, Copy, Debug, PartialEq, Eq)]
+pub struct Difference {
+    /// The place of the value on the line, from 0.
+    pub place: usize,
+    /// What the thread sees: the other value, or no variable of the name.
+    pub seen: Option<bool>,
+    /// The line of the last step that changed what the thread sees of the name; none if no step
+    /// changed it.
+    pub changed: Option<u32>,
+}
+
 /// Why a step is not taken: the first of these that applies.
 #[derive(Clone, Copy, Debug, PartialEq, Eq)]
 pub enum StepReason {
@@ -17,9 +29,8 @@ pub enum StepReason {
     Finished,
     /// The machine does not grant it, and gives this reply.
     Refused(Reply),
-    /// This is the first of its values, from 0, that its thread does not see after it. The thread
-    /// sees the other value, or no variable of the name.
-    Differs(usize, Option<bool>),
+    /// Its thread does not see one of its values after it.
+    Differs(Difference),
 }
 
 /// The first step that is not taken.

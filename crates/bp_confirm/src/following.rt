@@ -6,20 +6,23 @@ ghost use Rattle.bp_machine.specs.declared.calls.Call.{Call as Answered};
 ghost use Rattle.bp_machine.specs.Answers.{stack_of};
 ghost use Rattle.bp_machine.specs.Histories.{configuration_after, IsAllowed};
 ghost use Rattle.bp_machine.specs.Replies.{is_granted};
-ghost use Rattle.bp_machine.specs.Setups.{threads};
+ghost use Rattle.bp_machine.specs.Setups.{threads, FitsCode};
 ghost use Rattle.bp_machine.specs.Sessions.{Stands};
 ghost use Rattle.bp_machine.specs.Tops.{IsTop};
+ghost use Rattle.bp_trace.specs.Replays.{IsPlayable};
 ghost use Rattle.bp_confirm.specs.declared.faults.StepFault.{StepFault};
+ghost use Rattle.bp_confirm.specs.Changes.{IsDifference};
 ghost use Rattle.bp_confirm.specs.Confirms.{AreOfThreads, GoesOnAt, IsConfirmed, IsNotConfirmed};
 ghost use Rattle.bp_confirm.specs.Inferred.{bit_of_stack, IsAmbiguousOnStack, IsClearOnStack, Follows};
 ghost use Rattle.bp_confirm.specs.Places.{place_of, stands_at};
 ghost use Rattle.bp_confirm.specs.Spots.{spots_of};
 ghost use Rattle.bp_confirm.specs.StepLines.{next_locations, step_of, steps_of};
 ghost use Rattle.bp_confirm.specs.StepRefusals.{refusal_of, IsNotCalled, IsNotTaken, TellsNext};
-ghost use Rattle.bp_confirm.specs.Steps.{StepOf};
+ghost use Rattle.bp_confirm.specs.Steps.{StepOf, SeesValues};
 
+use crate::changes::{sight_after, sight_of};
 use crate::choices::inferred_bit;
-use crate::faults::{StepFault, StepReason, StepRefusal};
+use crate::faults::{Difference, StepFault, StepReason, StepRefusal};
 use crate::locations::Location;
 use crate::noted_steps::is_granted;
 use crate::spots::{Spot, is_there};
@@ -28,7 +31,7 @@ use crate::step_lines::StepLine;
 use crate::values::first_unseen;
 use bp_check::Checked;
 use bp_machine::{AskFault, Call, Session, Top};
-use std::alloc::Global;
+use std::alloc::{AllocError, Global};
 
 /// What the later steps tell of a step: the location of its thread before the thread's next step,
 /// and whether any step follows.
@@ -140,35 +143,74 @@ fn refusal_of(
     })
 }
 
-/// Takes the step of line `n`, where the later steps tell this.
+/// The first of the values of a line that its thread does not see after the call of its step, which
+/// follows a history.
+fn first_difference(
+    alloc: Global,
+    checked: &Checked,
+    spots: &[Spot],
+    session: &Session,
+    history: &[Call],
+    line: &StepLine,
+) -> Result<Option<Difference>, AllocError>
+    requires code { StandsFor session.now.code checked.now }
+    requires fits { FitsCode session.now.code session.now.setup }
+    requires playable { IsPlayable checked.now session.now.setup history.now }
+    requires short { length history.now + 1 < 2 ^ 32 }
+    ensures { (text : List ℕ) (call : Answered)
+        → spots.now ≡ spots_of text checked.now
+        → let after = history.now ++ call ∷ [] in
+        let i = line.now.thread in
+        Stands checked.now session.now after
+        → IfOk result (λ d. MatchOption d
+        (SeesValues (configuration_after checked.now session.now.setup after) i line.now.values)
+        (IsDifference checked.now session.now.setup after i line.now.values)) }
+{
+    let values = line.values.as_slice();
+    let Some((place, seen)) = first_unseen(checked, spots, session, line.thread, values) else {
+        return Ok(None);
+    };
+    let name = values[place].name;
+    let before = sight_of(alloc, checked, spots, session, history, line.thread, name)?;
+    let changed = sight_after(before, seen, history.len() as u32 + 1).changed;
+    Ok(Some(Difference {
+        place,
+        seen,
+        changed,
+    }))
+}
+
+/// Takes the step of the line after a history, where the later steps tell this.
 fn take_step(
+    alloc: Global,
     checked: &Checked,
     spots: &[Spot],
     session: &mut Session,
+    history: &[Call],
     line: &StepLine,
     next: Next,
-    n: u32,
 ) -> Result<Call, StepFault>
     requires code { StandsFor session.old.code checked.now }
+    requires fits { FitsCode session.old.code session.old.setup }
     requires thread { line.now.thread < threads session.old.setup }
     requires unseeded { session.old.setup.seed ≡ None }
-    ensures stands { (h : List Answered)
-        → Stands checked.now session.old h
-        → IfOk result (λ c. Stands checked.now session.new (h ++ c ∷ [])) }
-    ensures follows { (text : List ℕ) (h : List Answered) (later : List StepOf)
+    requires stands { Stands checked.now session.old history.now }
+    requires short { length history.now + 1 < 2 ^ 32 }
+    ensures stands { IfOk result (λ c. Stands checked.now session.new (history.now ++ c ∷ [])) }
+    ensures follows { (text : List ℕ) (later : List StepOf)
         → spots.now ≡ spots_of text checked.now
         → TellsNext text (step_of text line.now) later next
-        → Stands checked.now session.old h
         → IfOk result
-        (Follows checked.now session.old.setup h (step_of text line.now) later) }
-    ensures refused { (text : List ℕ) (h : List Answered) (later : List StepOf)
+        (Follows checked.now session.old.setup history.now (step_of text line.now) later) }
+    ensures refused { (text : List ℕ) (later : List StepOf)
         → spots.now ≡ spots_of text checked.now
         → TellsNext text (step_of text line.now) later next
-        → Stands checked.now session.old h
-        → IfErr result
-        (IsNotTaken text checked.now session.old.setup h line.now later n) }
+        → let n = length history.now + 1 in
+        IfErr result
+        (IsNotTaken text checked.now session.old.setup history.now line.now later n) }
     ensures kept { (session.new.code ≡ session.old.code) × (session.new.setup ≡ session.old.setup) }
 {
+    let n = history.len() as u32 + 1;
     let top = match top_at(session, spots, line.thread, line.location) {
         Ok(top) => top,
         Err(number) => return Err(refusal_of(spots, line, n, number, StepReason::Elsewhere)),
@@ -191,11 +233,11 @@ fn take_step(
     if !is_granted(call.reply) {
         return Err(refusal_of(spots, line, n, number, StepReason::Refused(call.reply)));
     }
-    let values = line.values.as_slice();
-    if let Some((value, seen)) = first_unseen(checked, spots, session, line.thread, values) {
-        return Err(refusal_of(spots, line, n, number, StepReason::Differs(value, seen)));
+    match first_difference(alloc, checked, spots, session, history, line) {
+        Ok(None) => Ok(call),
+        Ok(Some(found)) => Err(refusal_of(spots, line, n, number, StepReason::Differs(found))),
+        Err(_) => Err(StepFault::Memory),
     }
-    Ok(call)
 }
 
 /// Adds a call to a history.
@@ -219,6 +261,7 @@ pub(crate) fn take_steps(
     lines: &[StepLine],
 ) -> Result<Vec<Call>, StepFault>
     requires code { StandsFor session.old.code checked.now }
+    requires fits { FitsCode session.old.code session.old.setup }
     requires nexts { nexts.now ≡ next_locations lines.now }
     requires threads { AreOfThreads session.old.setup lines.now }
     requires unseeded { session.old.setup.seed ≡ None }
@@ -241,7 +284,8 @@ pub(crate) fn take_steps(
             location: nexts[n],
             follows: n + 1 < lines.len(),
         };
-        let call = take_step(checked, spots, session, &lines[n], next, n as u32 + 1)?;
+        let made = history.as_slice();
+        let call = take_step(alloc, checked, spots, session, made, &lines[n], next)?;
         keep(&mut history, call)?;
         n += 1;
     }

@@ -1,5 +1,5 @@
 //! The values that a thread sees.
-ghost use Rattle.std.specs.Prelude.{◌≡◌, ◌↔◌, IsTrue, Some, [], ℕ, List, MatchOption};
+ghost use Rattle.std.specs.Prelude.{◌≡◌, ◌↔◌, ◌<◌, IsTrue, Some, [], ℕ, List, length, IfSome, MatchOption};
 ghost use Rattle.bp_code.specs.Configurations.{Configuration};
 ghost use Rattle.bp_code.specs.StandsFor.{StandsFor};
 ghost use Rattle.bp_machine.specs.declared.calls.Call.{Call as Answered};
@@ -37,7 +37,7 @@ fn local_seen(checked: &Checked, spots: &[Spot], top: Option<Top>, name: &[u8]) 
 }
 
 /// The value of a variable as a thread sees it: a local hides a global of its name.
-fn value_seen(
+pub(crate) fn value_seen(
     checked: &Checked,
     spots: &[Spot],
     session: &Session,
@@ -76,7 +76,8 @@ pub(crate) fn first_unseen(
     thread: u32,
     values: &[SeenValue],
 ) -> Option<(usize, Option<bool>)>
-    ensures { (text : List ℕ) (h : List Answered)
+    ensures within { IfSome result (λ r. r.0 < length values.now) }
+    ensures first { (text : List ℕ) (h : List Answered)
         → StandsFor session.now.code checked.now
         → spots.now ≡ spots_of text checked.now
         → Stands checked.now session.now h

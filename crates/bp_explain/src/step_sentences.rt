@@ -5,7 +5,7 @@ use crate::stand_sentences::{push_location, push_stand};
 use crate::steps_before::{next_line_of, push_context_lines, steps_before};
 use bp_advice::Part::{Count, Name, Number, Quoted, Words};
 use bp_advice::{push_all, push_parts};
-use bp_confirm::{Stand, StepReason, StepRefusal, value_on_line};
+use bp_confirm::{Difference, Stand, StepReason, StepRefusal, value_on_line};
 use bp_machine::limits::MAX_FRAMES;
 use bp_machine::{Reply, Start};
 use std::alloc::AllocError;
@@ -145,18 +145,41 @@ fn digit_of(bit: bool) -> &'static [u8] {
     if bit { b"1" } else { b"0" }
 }
 
+/// Adds which step changed last what the thread of this line sees.
+fn push_last_change(out: &mut Vec<u8>, line: u32, found: Difference) -> Result<(), AllocError> {
+    let (here, earlier, never): (&[u8], &[u8], &[u8]) = match found.seen {
+        Some(_) => (
+            b"; this step changed it",
+            b" changed it last",
+            b"; no step changed it",
+        ),
+        None => (
+            b"; this step left its scope",
+            b" left its scope",
+            b"; no step entered its scope",
+        ),
+    };
+    match found.changed {
+        None => push_all(out, &[never]),
+        Some(step) if step == line => push_all(out, &[here]),
+        Some(step) => push_parts(
+            out,
+            &[Words(b"; step "), Number(step as usize), Words(earlier)],
+        ),
+    }
+}
+
 /// Adds which value the thread sees in place of one of its line.
 fn push_differs(
     out: &mut Vec<u8>,
     texts: Confirming<'_>,
     refusal: StepRefusal,
-    place: usize,
-    seen: Option<bool>,
+    found: Difference,
 ) -> Result<(), AllocError> {
-    let Some(value) = value_on_line(texts.steps, refusal.line, place) else {
+    let Some(value) = value_on_line(texts.steps, refusal.line, found.place) else {
         return push_all(out, &[b"a value is another one after this step"]);
     };
-    match seen {
+    match found.seen {
         Some(bit) => push_parts(
             out,
             &[
@@ -166,7 +189,7 @@ fn push_differs(
                 Words(b" after this step, not "),
                 Words(digit_of(value.bit)),
             ],
-        ),
+        )?,
         None => push_parts(
             out,
             &[
@@ -176,8 +199,9 @@ fn push_differs(
                 Quoted(value.name),
                 Words(b" after this step"),
             ],
-        ),
+        )?,
     }
+    push_last_change(out, refusal.line, found)
 }
 
 /// Adds why a step is not taken.
@@ -191,6 +215,6 @@ pub(crate) fn push_refusal(
         StepReason::Ambiguous => push_ambiguous(out, texts, refusal),
         StepReason::Finished => push_finished(out, texts, refusal),
         StepReason::Refused(reply) => push_refused(out, texts, refusal, reply),
-        StepReason::Differs(place, seen) => push_differs(out, texts, refusal, place, seen),
+        StepReason::Differs(found) => push_differs(out, texts, refusal, found),
     }
 }

@@ -102,14 +102,14 @@ step_number Elsewhere = 58
 step_number Ambiguous = 59
 step_number Finished = 60
 step_number (Refused r) = 61
-step_number (Differs value seen) = 62
+step_number (Differs d) = 62
 
 abbrev pub step_name : StepReason → List ℕ
 step_name Elsewhere = codes "Elsewhere"
 step_name Ambiguous = codes "Ambiguous"
 step_name Finished = codes "Finished"
 step_name (Refused r) = codes "Refused"
-step_name (Differs value seen) = codes "Differs"
+step_name (Differs d) = codes "Differs"
 
 abbrev pub steps_row : ConfirmFault → RowOf
 steps_row confirm.TooLong = long_row
@@ -184,8 +184,8 @@ seen_text (Some bit) = bit_text bit
 abbrev pub step_detail : ℕ → StepReason → List ℕ
 step_detail n (Refused r) =
     concat (codes " line " ∷ decimal n ∷ codes " reply " ∷ (letter_of r ∷ []) ∷ [])
-step_detail n (Differs value seen) =
-    concat (codes " line " ∷ decimal n ∷ codes " value " ∷ seen_text seen ∷ [])
+step_detail n (Differs d) =
+    concat (codes " line " ∷ decimal n ∷ codes " value " ∷ seen_text d.seen ∷ [])
 step_detail n reason = codes " line " ++ decimal n
 
 abbrev pub detail_text : Detail → List ℕ

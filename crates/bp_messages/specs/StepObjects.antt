@@ -44,8 +44,13 @@ reply_text reason = None
 
 -- the bit that the thread sees in place of a value
 abbrev pub seen_in : StepReason → Option Bool
-seen_in (Differs value seen) = seen
+seen_in (Differs d) = d.seen
 seen_in reason = None
+
+-- the line of the last step that changed what the thread sees of the variable of the value
+abbrev pub changed_in : StepReason → Option ℕ
+changed_in (Differs d) = d.changed
+changed_in reason = None
 
 -- the name and the bit of a value of a line
 abbrev pub name_of_value : Option (List ℕ × Bool) → Option (List ℕ)
@@ -56,7 +61,7 @@ bit_in value = option_map (λ v. v.1) value
 
 -- the value on line n of these steps that the reason is about, where it is about one
 abbrev pub IsValueFor : (steps : List ℕ) → (n : ℕ) → StepReason → Option (List ℕ × Bool) → Type 0
-IsValueFor steps n (Differs place seen) value = IsValueOnLine steps n place value
+IsValueFor steps n (Differs d) value = IsValueOnLine steps n d.place value
 IsValueFor steps n reason value = value ≡ None
 
 -- the value on a line of these steps that a fault names, where it names one
@@ -79,6 +84,7 @@ step_object r value =
     ∷ key_text (codes "variable") ∷ string_or_null (name_of_value value)
     ∷ key_text (codes "value") ∷ bit_or_null (bit_in value)
     ∷ key_text (codes "seen") ∷ bit_or_null (seen_in r.reason)
+    ∷ key_text (codes "changed") ∷ number_or_null (changed_in r.reason)
     ∷ codes "}" ∷ [])
 
 -- the step that a fault names

@@ -47,8 +47,8 @@ fn put_step<W: Write>(refusal: StepRefusal, out: &mut W) -> Result<(), WriteFaul
                 &[Bytes(b" line "), line, Bytes(b" reply "), Bytes(&letter)],
             )
         }
-        StepReason::Differs(_, seen) => {
-            let seen = Bytes(seen_text(seen));
+        StepReason::Differs(found) => {
+            let seen = Bytes(seen_text(found.seen));
             put_pieces(out, &[Bytes(b" line "), line, Bytes(b" value "), seen])
         }
         StepReason::Elsewhere | StepReason::Ambiguous | StepReason::Finished => {

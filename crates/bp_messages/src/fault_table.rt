@@ -170,7 +170,7 @@ fn step_number(reason: StepReason) -> u32
         StepReason::Ambiguous => 59,
         StepReason::Finished => 60,
         StepReason::Refused(_) => 61,
-        StepReason::Differs(_, _) => 62,
+        StepReason::Differs(_) => 62,
     }
 }
 
@@ -183,7 +183,7 @@ fn step_name(reason: StepReason) -> &'static [u8]
         StepReason::Ambiguous => b"Ambiguous",
         StepReason::Finished => b"Finished",
         StepReason::Refused(_) => b"Refused",
-        StepReason::Differs(_, _) => b"Differs",
+        StepReason::Differs(_) => b"Differs",
     }
 }
 

@@ -3,10 +3,10 @@ ghost use Rattle.std.specs.Prelude.{◌≡◌, option_map};
 ghost use Rattle.bp_text.specs.Pieces.{piece_text, string_or_null};
 ghost use Rattle.bp_text.specs.Writing.{Writes};
 ghost use Rattle.bp_confirm.specs.StepLines.{value_of};
-ghost use Rattle.bp_messages.specs.StepObjects.{bit_in, column_at, column_named, has_ended, line_at, line_named, name_of_value, reply_text, seen_in, step_object, step_of, step_text, IsValueIn};
+ghost use Rattle.bp_messages.specs.StepObjects.{bit_in, changed_in, column_at, column_named, has_ended, line_at, line_named, name_of_value, reply_text, seen_in, step_object, step_of, step_text, IsValueIn};
 
 use crate::fault_table::Detail;
-use bp_confirm::{Location, SeenValue, Stand, StepReason, StepRefusal, value_on_line};
+use bp_confirm::{Difference, Location, SeenValue, Stand, StepReason, StepRefusal, value_on_line};
 use bp_text::Piece::{BitOrNull, Bytes, Key, Letter, NumberOrNull, TextOrNull, Truth};
 use bp_text::{Piece, WriteFault, put, put_pieces};
 use std::io::Write;
@@ -73,7 +73,22 @@ fn seen_in(reason: StepReason) -> Option<bool>
     ensures { result ≡ seen_in reason }
 {
     match reason {
-        StepReason::Differs(_, seen) => seen,
+        StepReason::Differs(found) => found.seen,
+        _ => None,
+    }
+}
+
+/// The line of the last step that changed what the thread sees of the variable of the value.
+fn changed_in(reason: StepReason) -> Option<u64>
+    ensures { result ≡ changed_in reason }
+{
+    match reason {
+        StepReason::Differs(
+            Difference {
+                changed: Some(line),
+                ..
+            },
+        ) => Some(u64::from(line)),
         _ => None,
     }
 }
@@ -115,7 +130,7 @@ pub fn value_in<'a>(steps: &'a [u8], detail: Detail) -> Option<SeenValue<'a>>
 {
     match detail {
         Detail::Step(refusal) => match refusal.reason {
-            StepReason::Differs(place, _) => value_on_line(steps, refusal.line, place),
+            StepReason::Differs(found) => value_on_line(steps, refusal.line, found.place),
             _ => None,
         },
         _ => None,
@@ -158,6 +173,8 @@ fn put_refusal<W: Write>(
             BitOrNull(bit_in(value)),
             Key(b"seen"),
             BitOrNull(seen_in(reason)),
+            Key(b"changed"),
+            NumberOrNull(changed_in(reason)),
             Bytes(b"}"),
         ],
     )

@@ -1,27 +1,33 @@
-use Rattle.std.proofs.Common.{◌∙◌, ◌++◌, ◌∷◌, [], Some, refl, sym, subst}
-use Rattle.bp_code.specs.StandsFor.{StandsFor}
+use Rattle.std.proofs.Common.{◌∙◌, ◌+◌, ◌++◌, ◌∷◌, [], length, Some, refl, sym, subst}
 use Rattle.bp_machine.specs.Histories.{configuration_after}
 use Rattle.bp_confirm.specs.declared.faults.StepReason.TheVariants.{Elsewhere, Ambiguous, Finished, Refused, Differs}
+use Rattle.bp_confirm.specs.Changes.{IsDifference}
 use Rattle.bp_confirm.specs.Confirms.{GoesOnAt}
 use Rattle.bp_confirm.specs.Inferred.{Follows}
 use Rattle.bp_confirm.specs.StepLines.{StepLineOf, values_of, step_of}
 use Rattle.bp_confirm.specs.StepRefusals.{IsNotTaken, TellsNext, refusal_of}
-use Rattle.bp_confirm.specs.Steps.{IsFirstUnseen, SeesValues}
+use Rattle.bp_confirm.specs.Steps.{SeesValues}
 use Rattle.bp_confirm.proofs.StepsFollowed.{elsewhere, ambiguous, finished, answered, others_seen}
 use Rattle.bp_confirm.proofs.following.take_step.Goals as goal
 
 pub returns-in-Err-clause-refused : goal.returns-in-Err-clause-refused
-returns-in-Err-clause-refused c = λ text h later are tells stands.
+returns-in-Err-clause-refused c = λ text later are tells.
+    let h = c.args.history.now in
+    let stands = c.requires.stands in
+    let n = length h + 1 in
     let t = c.args.checked.now in
     let s = c.args.session.now.setup in
     let x : StepLineOf = record { thread = c.line.inside.thread; location = c.line.inside.location; values = values_of c.line.inside.values.items } in
     let top = c.in-Err.ensures text t h c.requires.code are stands in
     rw c.refusal_of.ensures
-    (subst (λ z. IsNotTaken text t s h z later c.args.n (refusal_of c.args.spots.now z c.args.n c.in-Err.number Elsewhere)) c.line.view_is
-    (elsewhere text t s h x later c.args.n c.in-Err.number top.1 c.args.spots.now are top.0))
+    (subst (λ z. IsNotTaken text t s h z later n (refusal_of c.args.spots.now z n c.in-Err.number Elsewhere)) c.line.view_is
+    (elsewhere text t s h x later n c.in-Err.number top.1 c.args.spots.now are top.0))
 
 pub returns-in_default-clause-refused : goal.returns-in_default-clause-refused
-returns-in_default-clause-refused c = λ text h later are tells stands.
+returns-in_default-clause-refused c = λ text later are tells.
+    let h = c.args.history.now in
+    let stands = c.requires.stands in
+    let n = length h + 1 in
     let t = c.args.checked.now in
     let s = c.args.session.now.setup in
     let x : StepLineOf = record { thread = c.line.inside.thread; location = c.line.inside.location; values = values_of c.line.inside.values.items } in
@@ -30,11 +36,14 @@ returns-in_default-clause-refused c = λ text h later are tells stands.
     let number : GoesOnAt t now c.line.inside.thread (Some c.in-Ok.top.number) = (c.in-Ok.top, top.1, refl) in
     let knows : TellsNext text (step_of text x) later c.args.next = subst (λ z. TellsNext text (step_of text z) later c.args.next) (sym c.line.view_is) tells in
     rw c.refusal_of-in_default.ensures
-    (subst (λ z. IsNotTaken text t s h z later c.args.n (refusal_of c.args.spots.now z c.args.n (Some c.in-Ok.top.number) Ambiguous)) c.line.view_is
-    (ambiguous text t s h x later c.args.n (Some c.in-Ok.top.number) number c.args.spots.now are top.0 (c.in_default.ensures text t h (step_of text x) later c.requires.code are knows top.1)))
+    (subst (λ z. IsNotTaken text t s h z later n (refusal_of c.args.spots.now z n (Some c.in-Ok.top.number) Ambiguous)) c.line.view_is
+    (ambiguous text t s h x later n (Some c.in-Ok.top.number) number c.args.spots.now are top.0 (c.in_default.ensures text t h (step_of text x) later c.requires.code are knows top.1)))
 
 pub returns-in-Err-Finished-clause-refused : goal.returns-in-Err-Finished-clause-refused
-returns-in-Err-Finished-clause-refused c = λ text h later are tells stands.
+returns-in-Err-Finished-clause-refused c = λ text later are tells.
+    let h = c.args.history.now in
+    let stands = c.requires.stands in
+    let n = length h + 1 in
     let t = c.args.checked.now in
     let s = c.args.session.now.setup in
     let x : StepLineOf = record { thread = c.line.inside.thread; location = c.line.inside.location; values = values_of c.line.inside.values.items } in
@@ -45,11 +54,14 @@ returns-in-Err-Finished-clause-refused c = λ text h later are tells stands.
     let bit = c.in-Some.ensures text t h (step_of text x) later c.requires.code are knows top.1 in
     let over = rw c.in-Err-Finished.field-0-is at (c.in-Err-Finished.ensures.refused t h c.requires.code stands) in
     rw c.refusal_of-in-Err-Finished.ensures
-    (subst (λ z. IsNotTaken text t s h z later c.args.n (refusal_of c.args.spots.now z c.args.n (Some c.in-Ok.top.number) Finished)) c.line.view_is
-    (finished text t s h x later c.args.n (Some c.in-Ok.top.number) number c.args.spots.now are top.0 bit.1 over))
+    (subst (λ z. IsNotTaken text t s h z later n (refusal_of c.args.spots.now z n (Some c.in-Ok.top.number) Finished)) c.line.view_is
+    (finished text t s h x later n (Some c.in-Ok.top.number) number c.args.spots.now are top.0 bit.1 over))
 
 pub returns-then-not-is_granted-clause-refused : goal.returns-then-not-is_granted-clause-refused
-returns-then-not-is_granted-clause-refused c = λ text h later are tells stands.
+returns-then-not-is_granted-clause-refused c = λ text later are tells.
+    let h = c.args.history.now in
+    let stands = c.requires.stands in
+    let n = length h + 1 in
     let t = c.args.checked.now in
     let s = c.args.session.now.setup in
     let x : StepLineOf = record { thread = c.line.inside.thread; location = c.line.inside.location; values = values_of c.line.inside.values.items } in
@@ -61,11 +73,14 @@ returns-then-not-is_granted-clause-refused c = λ text h later are tells stands.
     let called = c.in-Ok-call_of.ensures.called t h c.requires.code stands in
     let asked = c.in-Ok-call_of.ensures.asked in
     rw c.refusal_of-then-not-is_granted.ensures
-    (subst (λ z. IsNotTaken text t s h z later c.args.n (refusal_of c.args.spots.now z c.args.n (Some c.in-Ok.top.number) (Refused c.in-Ok-call_of.call.reply))) c.line.view_is
-    (answered text t s h x later c.args.n (Some c.in-Ok.top.number) number c.args.spots.now are top.0 bit.1 c.in-Ok-call_of.call asked.0 called.0 (asked.1 ∙ bit.0) (sym c.is_granted.ensures ∙ c.if-not-is_granted.true)))
+    (subst (λ z. IsNotTaken text t s h z later n (refusal_of c.args.spots.now z n (Some c.in-Ok.top.number) (Refused c.in-Ok-call_of.call.reply))) c.line.view_is
+    (answered text t s h x later n (Some c.in-Ok.top.number) number c.args.spots.now are top.0 bit.1 c.in-Ok-call_of.call asked.0 called.0 (asked.1 ∙ bit.0) (sym c.is_granted.ensures ∙ c.if-not-is_granted.true)))
 
-pub returns-in-Some-first_unseen-clause-refused : goal.returns-in-Some-first_unseen-clause-refused
-returns-in-Some-first_unseen-clause-refused c = λ text h later are tells stands.
+pub returns-in-Ok-Some-clause-refused : goal.returns-in-Ok-Some-clause-refused
+returns-in-Ok-Some-clause-refused c = λ text later are tells.
+    let h = c.args.history.now in
+    let stands = c.requires.stands in
+    let n = length h + 1 in
     let t = c.args.checked.now in
     let s = c.args.session.now.setup in
     let x : StepLineOf = record { thread = c.line.inside.thread; location = c.line.inside.location; values = values_of c.line.inside.values.items } in
@@ -78,16 +93,19 @@ returns-in-Some-first_unseen-clause-refused c = λ text h later are tells stands
     let asked = c.in-Ok-call_of.ensures.asked in
     let kept = c.call_of.ensures.kept in
     let after = h ++ c.in-Ok-call_of.call ∷ [] in
-    rw c.refusal_of-in-Some-first_unseen.ensures
-    (subst (λ z. IsNotTaken text t s h z later c.args.n (refusal_of c.args.spots.now z c.args.n (Some c.in-Ok.top.number) (Differs c.in-Some-first_unseen.value c.in-Some-first_unseen.seen))) c.line.view_is
-    (others_seen text t s h x later c.args.n (Some c.in-Ok.top.number) number c.args.spots.now are top.0 bit.1 c.in-Ok-call_of.call asked.0 called.0 (asked.1 ∙ bit.0) (sym c.is_granted.ensures ∙ c.if-not-is_granted.false)
-    c.in-Some-first_unseen.value c.in-Some-first_unseen.seen
-    (let unseen = c.in-Some-first_unseen.ensures text after (subst (λ k. StandsFor k t) (sym kept.0) c.requires.code) are called.1 in
-    let there = subst (λ z. IsFirstUnseen (configuration_after t z after) x.thread (values_of c.as_slice-values.result.now) c.in-Some-first_unseen.value c.in-Some-first_unseen.seen) kept.1 unseen in
-    subst (λ vs. IsFirstUnseen (configuration_after t s after) x.thread (values_of vs) c.in-Some-first_unseen.value c.in-Some-first_unseen.seen) c.as_slice-values.ensures.value there)))
+    let found = rw c.in-Ok-Some.field-0-is at (c.in-Ok-Some.ensures text c.in-Ok-call_of.call are called.1) in
+    let differs = subst (λ z. IsDifference t s after z.thread z.values c.in-Ok-Some.found) (sym c.line.view_is)
+    (subst (λ z. IsDifference t z after c.args.line.now.thread c.args.line.now.values c.in-Ok-Some.found) kept.1 found) in
+    rw c.refusal_of-in-Ok-Some.ensures
+    (subst (λ z. IsNotTaken text t s h z later n (refusal_of c.args.spots.now z n (Some c.in-Ok.top.number) (Differs c.in-Ok-Some.found))) c.line.view_is
+    (others_seen text t s h x later n (Some c.in-Ok.top.number) number c.args.spots.now are top.0 bit.1 c.in-Ok-call_of.call asked.0 called.0 (asked.1 ∙ bit.0) (sym c.is_granted.ensures ∙ c.if-not-is_granted.false)
+    c.in-Ok-Some.found differs))
 
-pub returns-clause-follows : goal.returns-clause-follows
-returns-clause-follows c = λ text h later are tells stands.
+pub returns-in-Ok-None-clause-follows : goal.returns-in-Ok-None-clause-follows
+returns-in-Ok-None-clause-follows c = λ text later are tells.
+    let h = c.args.history.now in
+    let stands = c.requires.stands in
+    let n = length h + 1 in
     let t = c.args.checked.now in
     let s = c.args.session.now.setup in
     let x : StepLineOf = record { thread = c.line.inside.thread; location = c.line.inside.location; values = values_of c.line.inside.values.items } in
@@ -99,9 +117,9 @@ returns-clause-follows c = λ text h later are tells stands.
     let asked = c.in-Ok-call_of.ensures.asked in
     let kept = c.call_of.ensures.kept in
     let after = h ++ c.in-Ok-call_of.call ∷ [] in
-    let sees = c.in_default-first_unseen.ensures text after (subst (λ k. StandsFor k t) (sym kept.0) c.requires.code) are called.1 in
-    let there = subst (λ z. SeesValues (configuration_after t z after) x.thread (values_of c.as_slice-values.result.now)) kept.1 sees in
-    let values = subst (λ vs. SeesValues (configuration_after t s after) x.thread (values_of vs)) c.as_slice-values.ensures.value there in
+    let found = rw c.in-Ok-None.field-0-is at (c.in-Ok-None.ensures text c.in-Ok-call_of.call are called.1) in
+    let values = subst (λ z. SeesValues (configuration_after t s after) z.thread z.values) (sym c.line.view_is)
+    (subst (λ z. SeesValues (configuration_after t z after) c.args.line.now.thread c.args.line.now.values) kept.1 found) in
     subst (λ z. Follows t s h (step_of text z) later c.in-Ok-call_of.call) c.line.view_is
     (record {
       takes = record { thread = asked.0; allowed = called.0; granted = sym c.is_granted.ensures ∙ c.if-not-is_granted.false; at = top.0; values = values };

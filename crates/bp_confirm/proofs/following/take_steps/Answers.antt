@@ -1,4 +1,4 @@
-use Rattle.std.proofs.Common.{◌∙◌, ◌+◌, length, drop, ap, sym, subst, arith}
+use Rattle.std.proofs.Common.{◌∙◌, ◌+◌, ◌++◌, ◌∷◌, [], length, drop, ap, sym, subst, arith, length-append}
 use Rattle.std.proofs.lemmas.Result.{err_from_is_err_and}
 use Rattle.bp_machine.specs.Histories.{IsLegal}
 use Rattle.bp_machine.specs.Sessions.{Stands}
@@ -22,7 +22,11 @@ returns-in_err-call-clause-refused c = λ text are.
     let later = steps_of text (drop (n + 1) lines) in
     let inv = c.loop-n.invariant in
     let is = c.index-lines-n.is in
-    let here = c.in_err-call.ensures.refused text c.loop-n.history.items later are (tells_next text lines c.args.nexts.now n x x _ c.requires.nexts c.loop-n-test.true is) inv.stands in
+    let h = c.loop-n.history.items in
+    let f = c.in_err-call.field-0.0 in
+    let there = c.in_err-call.ensures.refused text later are (tells_next text lines c.args.nexts.now n x x _ c.requires.nexts c.loop-n-test.true is) in
+    let here = subst (λ k. IsNotTaken text t c.loop-n.session.setup h x later (k + 1) f) inv.made
+    (subst (λ g. IsNotTaken text t c.loop-n.session.setup g x later (length g + 1) f) c.as_slice-made.ensures.value there) in
     let p = err_from_is_err_and c.from_residual.result c.from_residual.ensures.1 in
     rw (p.1, p.2)
     (not_confirmed text t s lines n x c.loop-n.history.items c.loop-n-test.true (subst (λ z. IsLegal t z c.loop-n.history.items) inv.setup inv.stands.state.legal) (inv.follow text are) c.in_err-call.field-0.0
@@ -38,13 +42,17 @@ loop-n-preserved c =
     let x = c.index-lines-n.result in
     let inv = c.loop-n.invariant in
     let is = c.index-lines-n.is in
-    let stands = c.in_ok-call.ensures.stands c.loop-n.history.items inv.stands in
+    let h = c.loop-n.history.items in
+    let a = c.in_ok-call.call in
+    let stands = subst (λ g. Stands t c.take_step.new.session (g ++ a ∷ [])) c.as_slice-made.ensures.value c.in_ok-call.ensures.stands in
     record {
       within = omega arith;
-      stands = subst (λ h. Stands t c.take_step.new.session h) (sym c.in_ok-keep.ensures.kept) stands;
+      made = ap length c.in_ok-keep.ensures.kept ∙ length-append h (a ∷ []) ∙ ap (λ k. k + 1) inv.made;
+      stands = subst (λ g. Stands t c.take_step.new.session g) (sym c.in_ok-keep.ensures.kept) stands;
       follow = λ text are.
           let later = steps_of text (drop (n + 1) lines) in
-          let next = c.in_ok-call.ensures.follows text c.loop-n.history.items later are (tells_next text lines c.args.nexts.now n x x _ c.requires.nexts c.loop-n-test.true is) inv.stands in
+          let made = c.in_ok-call.ensures.follows text later are (tells_next text lines c.args.nexts.now n x x _ c.requires.nexts c.loop-n-test.true is) in
+          let next = subst (λ g. Follows t c.loop-n.session.setup g (step_of text x) later a) c.as_slice-made.ensures.value made in
           follow_next text t s lines n x c.loop-n.history.items c.keep.new.history.items c.in_ok-call.call c.loop-n-test.true c.in_ok-keep.ensures.kept (inv.follow text are)
           (subst (λ z. Follows t s c.loop-n.history.items (step_of text z) later c.in_ok-call.call) is
           (subst (λ z. Follows t z c.loop-n.history.items (step_of text x) later c.in_ok-call.call) inv.setup next));

@@ -8,6 +8,7 @@ use Rattle.bp_confirm.proofs.following.take_steps.Given as goal
 abbrev pub invariant-loop-n : goal.invariant-loop-n
 invariant-loop-n l = record {
   within : l.n ≤ length l.lines;
+  made : length l.history.items ≡ l.n;
   stands : Stands l.checked l.session l.history.items;
   follow : (text : List ℕ)
       → l.spots ≡ spots_of text l.checked

@@ -3,8 +3,8 @@ use Rattle.bp_machine.specs.Histories.{configuration_after}
 use Rattle.bp_confirm.proofs.StepsFollowed.{unseen_at, sees_more}
 use Rattle.bp_confirm.proofs.values.first_unseen.Goals as goal
 
-pub returns-then-not-is_value : goal.returns-then-not-is_value
-returns-then-not-is_value c = λ text h code are stands.
+pub returns-then-not-is_value-clause-first : goal.returns-then-not-is_value-clause-first
+returns-then-not-is_value-clause-first c = λ text h code are stands.
     let now = configuration_after c.args.checked.now c.args.session.now.setup h in
     let seen = c.value_seen-seen.ensures text h code are stands in
     unseen_at now c.args.thread c.args.values.now c.loop-n.n _ c.value_seen-seen.result c.loop-n-test.true (c.loop-n.invariant text h code are stands) seen
