@@ -1,3 +1,4 @@
+use Rattle.std.proofs.lemmas.Grind.{common_steps}
 use Rattle.std.proofs.Common.{◌∙◌, ◌-◌, ◌<◌, length, ap, sym, refl, reverse, arith}
 use Rattle.std.proofs.Math.Seq.{drop-length}
 use Rattle.std.proofs.lemmas.List.{length-set}
@@ -27,3 +28,9 @@ loop-n-preserved c =
       each = λ i few. table_next lines n x within c.loop-n-test.true c.loop-n.next c.line.inside.thread c.line.inside.location (ap (λ z. z.thread) is) (ap (λ z. z.location) is) c.requires i inv.size (inv.each i few);
       done = done_next lines n x within c.loop-n-test.true c.loop-n.next c.line.inside.thread (ap (λ z. z.thread) is) c.requires inv.size inv.each c.loop-n.nexts.items c.push.new.self.items _ inv.done c.in_ok-push.ensures.items;
     }
+
+pub bounds-next-thread : goal.bounds-next-thread
+bounds-next-thread c = grind (arith, common_steps)
+
+pub bounds-next-thread-in-loop-n : goal.bounds-next-thread-in-loop-n
+bounds-next-thread-in-loop-n c = grind (arith, common_steps)

@@ -1,3 +1,4 @@
+use Rattle.std.proofs.lemmas.Grind.{common_steps}
 use Rattle.std.proofs.Common.{◌<◌, length, sym, ap, subst, ◌∙◌, arith, length-append, ◌∷◌}
 use Rattle.std.proofs.lemmas.Bool.{false≢true}
 use Rattle.bp_text.proofs.Lengths.{none_left}
@@ -26,3 +27,6 @@ pub returns-clause-entry : goal.returns-clause-entry
 returns-clause-entry c = λ name rest named e.
     let after = c.in_ok-rest.rest.now in
     c.take_line.ensures.rest ∙ rest_after after name rest named.line (entry_cut name rest after c.args.text.now e c.in_ok-rest.ensures)
+
+pub returns-in_err-line : goal.returns-in_err-line
+returns-in_err-line c = grind (arith, common_steps)
