@@ -1,3 +1,5 @@
+use Rattle.std.proofs.lemmas.Grind.{common_steps}
+use Rattle.std.proofs.Common.{arith}
 use denote.Param.Send.{sendable}
 use Rattle.std.proofs.Crossing.{crosses}
 use Rattle.bp_board.proofs.seats.Seat.TheSendSync.{the_send as seat_send}
@@ -7,3 +9,9 @@ use Rattle.bp_run.proofs.stages.start_workers.Goals as goal
 
 pub spawn_with-requires-send-F : goal.spawn_with-requires-send-F
 spawn_with-requires-send-F g c = λ κs lives. search (sendable, crosses, board_sync, signals_sync, seat_send) depth 40 fits 10000
+
+pub loop-seat-preserved : goal.loop-seat-preserved
+loop-seat-preserved c = grind (arith, common_steps)
+
+pub push_reserved-requires : goal.push_reserved-requires
+push_reserved-requires c = grind (arith, common_steps)
