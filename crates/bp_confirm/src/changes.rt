@@ -20,7 +20,7 @@ pub(crate) struct Sight {
     pub(crate) changed: Option<u32>,
 }
 
-/// What the thread sees after step `n`, where it saw the other before.
+/// What the thread sees after step `n`; `before` is what it saw after the steps before that one.
 pub(crate) fn sight_after(before: Sight, seen: Option<bool>, n: u32) -> Sight
     ensures changed { (sees : ℕ → Option Bool) (m : ℕ)
         → n ≡ m + 1
@@ -39,7 +39,7 @@ pub(crate) fn sight_after(before: Sight, seen: Option<bool>, n: u32) -> Sight
     }
 }
 
-/// What a thread sees of a variable after a history, by the calls of the history made again.
+/// What a thread sees of a variable after a history. It makes the calls of the history again.
 pub(crate) fn sight_of(
     alloc: Global,
     checked: &Checked,

@@ -143,8 +143,8 @@ fn refusal_of(
     })
 }
 
-/// The first of the values of a line that its thread does not see after the call of its step, which
-/// follows a history.
+/// The first of the values of a line that its thread does not see after the call of its step. The
+/// call follows the history.
 fn first_difference(
     alloc: Global,
     checked: &Checked,
@@ -180,7 +180,7 @@ fn first_difference(
     }))
 }
 
-/// Takes the step of the line after a history, where the later steps tell this.
+/// Takes the step of the line after the history, where the later steps tell this.
 fn take_step(
     alloc: Global,
     checked: &Checked,
