@@ -39,8 +39,12 @@ pair_added old a b c is = append_assoc old a b ∙ ap (λ x. old ++ x) is
 pub first_joined : (old : List ℕ) (ts us : List (List ℕ)) → fold (λ a u. a ++ u) (fold (λ a u. a ++ u) old ts) us ≡ old ++ concat (concat ts ∷ us)
 first_joined old ts us = ap (λ x. fold (λ a u. a ++ u) x us) (all_added old ts) ∙ all_added old (concat ts ∷ us)
 
-pub three_two_one : (old a b c d e f : List ℕ) → ((old ++ a ++ b ++ c) ++ d ++ e) ++ f ≡ old ++ concat (concat (a ∷ b ∷ c ∷ []) ∷ concat (d ∷ e ∷ []) ∷ f ∷ [])
-three_two_one old a b c d e f = simp (append_assoc, append-nil)
+-- three times some texts that are one
+pub setup_joined : (old : List ℕ) (ts us vs : List (List ℕ)) → fold (λ a u. a ++ u) old ts ++ concat (us ++ vs) ≡ old ++ concat (concat ts ∷ concat us ∷ concat vs ∷ [])
+setup_joined old ts us vs =
+    ap (λ x. x ++ concat (us ++ vs)) (all_added old ts)
+    ∙ append_assoc old (concat ts) (concat (us ++ vs))
+    ∙ ap (λ x. old ++ (concat ts ++ x)) (concat-append us vs ∙ ap (λ x. concat us ++ x) (sym (append-nil (concat vs))))
 
 condition_parts : (a b c d l v : List ℕ) → concat (a ∷ b ∷ c ∷ d ∷ l ∷ v ∷ []) ≡ concat (concat (a ∷ b ∷ c ∷ d ∷ []) ∷ (l ++ v) ∷ [])
 condition_parts a b c d l v = simp (append_assoc, append-nil)

@@ -2,10 +2,10 @@
 ghost use Rattle.std.specs.Prelude.{◌≡◌, ◌++◌, [], None, codes, false, flat_map, slice_get, unwrap_or, OnOk, IfOk};
 ghost use Rattle.bp_code.specs.Values.{binding};
 ghost use Rattle.bp_view.specs.Changes.{variables_text};
-ghost use Rattle.bp_view.specs.Heads.{globals_line, head_lines, head_object, limit_members, number_line, seed_line, string_item, thread_line, thread_lines, view_head};
+ghost use Rattle.bp_view.specs.Heads.{globals_line, head_lines, head_object, number_line, seed_line, string_item, thread_line, thread_lines, view_head};
 
 use crate::options::ViewFormat;
-use crate::pieces::{push_three, push_two};
+use crate::pieces::push_three;
 use crate::variables::push_value;
 use bp_machine::Setup;
 use bp_text::Piece::{Bytes, Key, List, Number, NumberOrNull, Text};
@@ -150,24 +150,6 @@ fn push_entries(items: &mut Vec<u8>, setup: &Setup) -> Result<(), AllocError>
     Ok(())
 }
 
-/// Adds the limits of a setup, and its seed, and ends the object.
-fn push_limits(head: &mut Vec<u8>, setup: &Setup) -> Result<(), AllocError>
-    ensures { OnOk result (head.new.items ≡ head.old.items ++ limit_members setup.now) }
-{
-    push_pieces(
-        head,
-        &[
-            Key(b"max_contexts"),
-            Number(u64::from(setup.contexts())),
-            Key(b"max_calls"),
-            Number(u64::from(setup.calls())),
-            Key(b"seed"),
-            NumberOrNull(setup.seed()),
-            Bytes(b"}\n"),
-        ],
-    )
-}
-
 /// Adds the object of the setup. `note` is room for its lists.
 fn push_head_object(
     head: &mut Vec<u8>,
@@ -184,8 +166,20 @@ fn push_head_object(
     push_three(head, Bytes(kind), Key(b"threads"), List(note))?;
     note.clear();
     push_values(note, ViewFormat::Json, setup, globals)?;
-    push_two(head, Key(b"globals"), List(note))?;
-    push_limits(head, setup)
+    push_pieces(
+        head,
+        &[
+            Key(b"globals"),
+            List(note),
+            Key(b"max_contexts"),
+            Number(u64::from(setup.contexts())),
+            Key(b"max_calls"),
+            Number(u64::from(setup.calls())),
+            Key(b"seed"),
+            NumberOrNull(setup.seed()),
+            Bytes(b"}\n"),
+        ],
+    )
 }
 
 /// The head of a view: the setup of its history.

@@ -45,17 +45,15 @@ fn push_line<'a>(line: &mut Vec<u8>, file: &'a str, scene: &'a Scene) -> Result<
     )
 }
 
-/// What is said of an instruction's statement.
-fn said_of(alloc: Global, said: Said<'_>, scene: &Scene) -> Result<Vec<u8>, AllocError>
-    ensures { IfOk result (λ v. v.items ≡ said_of said.entry scene.now) }
+/// Adds what is said of an instruction's statement.
+fn push_said(text: &mut Vec<u8>, said: Said<'_>, scene: &Scene) -> Result<(), AllocError>
+    ensures { OnOk result (text.new.items ≡ text.old.items ++ said_of said.entry scene.now) }
 {
-    let mut text = Vec::new(alloc);
     match said {
-        Said::Line(file) => push_line(&mut text, file, scene)?,
-        Said::Unreached(file) => push_object(&mut text, file, scene)?,
-        Said::Words => push_bytes(&mut text, &scene.excerpt.words)?,
+        Said::Line(file) => push_line(text, file, scene),
+        Said::Unreached(file) => push_object(text, file, scene),
+        Said::Words => push_bytes(text, &scene.excerpt.words),
     }
-    Ok(text)
 }
 
 /// For each instruction of the program of a text, in their order, what is said of its statement.
@@ -72,7 +70,9 @@ pub(crate) fn all_said(
     let scenes = scenes_of(alloc, text, checked)?;
     let mut texts = Vec::with_capacity(alloc, scenes.len())?;
     for scene in scenes.iter() {
-        texts.push(said_of(alloc, said, scene)?)?;
+        let mut words = Vec::new(alloc);
+        push_said(&mut words, said, scene)?;
+        texts.push(words)?;
     }
     Ok(texts)
 }

@@ -125,5 +125,5 @@ pub(crate) fn check_names(checked: &Checked, names: &[&[u8]]) -> Result<(), View
 pub(crate) fn is_named(names: &[&[u8]], name: &[u8]) -> bool
     ensures { result ≡ is_among names.now name.now }
 {
-    names.iter().any(|it| *it == name)
+    names.contains(&name)
 }
