@@ -2,11 +2,9 @@
 ghost use Rattle.std.specs.Prelude.{◌≡◌, [], ℕ, List, map, MatchResult};
 ghost use Rattle.bp_tree.specs.Ast.{Program};
 ghost use Rattle.bp_code.specs.StandsFor.{StandsFor};
-ghost use Rattle.bp_machine.specs.Reports.{IsReport};
 ghost use Rattle.bp_machine.specs.Setups.{threads, FitsCode};
-ghost use Rattle.bp_trace.specs.Replays.{IsPlayable};
-ghost use Rattle.bp_view.specs.Scenes.{AreScenes};
 ghost use Rattle.bp_view.specs.Heads.{view_head};
+ghost use Rattle.bp_view.specs.ShownTraces.{IsShownTrace};
 ghost use Rattle.bp_view.specs.Views.{IsThere, HasMade, IsMissing, IsView, IsViewRefusal, IsViewable, IsViewed};
 ghost use Rattle.bp_view.specs.Watches.{watched_names};
 ghost use Rattle.bp_view.specs.Writing.{IsStopped, IsWritten};
@@ -80,7 +78,8 @@ fn write_parts<W: Write>(
     Ok(())
 }
 
-/// Writes the view of a trace that was replayed. A session plays the history once more.
+/// Writes the view of a trace that was replayed, or refuses a thread that is not there, or else a
+/// watched name that no variable has. A session plays the history once more.
 fn write_view<W: Write>(
     alloc: Global,
     checked: &Checked,
@@ -92,17 +91,18 @@ fn write_view<W: Write>(
 ) -> Result<(), ViewFault>
     requires code { StandsFor code.now checked.now }
     requires fits { FitsCode code.now shown.now.replayed.setup }
-    ensures { (text : List ℕ)
-        → let r = shown.now.replayed in
-        AreScenes text checked.now shown.now.scenes.items
-        → IsPlayable checked.now r.setup r.history.items
-        → IsReport r.setup r.history.items r.report
+    ensures { (text trace : List ℕ)
+        → IsShownTrace checked.now text checked.now trace shown.now
         → map (λ n. n.now) names.now ≡ watched_names options.entry.watch
-        → let is_view = IsView checked.now text r.setup r.history.items r.report options.entry in
+        → let old = W.contents out.old in
+        let new = W.contents out.new in
+        let options = options.entry in
         MatchResult result
-        (λ _. IsWritten is_view (W.contents out.old) (W.contents out.new))
-        (IsStopped is_view (W.contents out.old) (W.contents out.new)) }
+        (λ _. IsViewed checked.now text trace options old new shown.now.replayed.report)
+        (IsViewRefusal checked.now text trace options old new) }
 {
+    check_thread(options, &shown.replayed.setup)?;
+    check_names(checked, names)?;
     let setup = &shown.replayed.setup;
     let history = shown.replayed.history.as_slice();
     let setting = setting_of(&shown.scenes, checked, setup, history, options, names);
@@ -149,8 +149,6 @@ pub fn view<W: Write>(
     let Ok(names) = watched_names(alloc, options.watch) else {
         return Err(ViewFault::Replay(ReplayFault::Memory));
     };
-    check_thread(options, &shown.replayed.setup)?;
-    check_names(checked, &names)?;
     write_view(alloc, checked, code, &shown, options, &names, out)?;
     Ok(shown.replayed.report)
 }
