@@ -1,5 +1,5 @@
 //! Playing a history again, whose calls are known to be legal.
-ghost use Rattle.std.specs.Prelude.{◌≡◌, IfErr, IfOk};
+ghost use Rattle.std.specs.Prelude.{◌≡◌, IfOk, MatchResult};
 ghost use Rattle.bp_tree.specs.Ast.{Program};
 ghost use Rattle.bp_code.specs.StandsFor.{StandsFor};
 ghost use Rattle.bp_machine.specs.Sessions.{Stands};
@@ -23,11 +23,8 @@ pub(crate) fn session_after(
         → IsPlayable t setup.now history.now }
     ensures stands { (t : Program)
         → StandsFor code.now t
-        → IfOk result (λ x. Stands t x history.now) }
+        → MatchResult result (λ x. Stands t x history.now) (λ f. f ≡ AskFault.Memory) }
     ensures kept { IfOk result (λ x. (x.code ≡ code.now) × (x.setup ≡ setup.now)) }
-    ensures refused { (t : Program)
-        → StandsFor code.now t
-        → IfErr result (λ f. f ≡ AskFault.Memory) }
 {
     let mut session = Session::new(alloc, code, setup)?;
     for call in history {

@@ -1,5 +1,5 @@
 //! The contexts of a history: where the steps of each begin and end.
-ghost use Rattle.std.specs.Prelude.{◌≡◌, ◌++◌, ◌∷◌, [], suc, List, length, IfErr, IfOk, OnOk};
+ghost use Rattle.std.specs.Prelude.{◌≡◌, ◌++◌, ◌∷◌, [], suc, List, length, MatchResult, OnOk};
 ghost use Rattle.bp_tree.specs.Ast.{Program};
 ghost use Rattle.bp_code.specs.StandsFor.{StandsFor};
 ghost use Rattle.bp_machine.specs.declared.calls.Call.{Call as Answered};
@@ -90,7 +90,9 @@ fn play_call(
         → StandsFor session.old.code t
         → Stands t session.old h
         → IsPlayable t session.old.setup (h ++ recorded.now ∷ [])
-        → OnOk result (Stands t session.new (h ++ recorded.now ∷ [])) }
+        → MatchResult result
+        (λ _. Stands t session.new (h ++ recorded.now ∷ []))
+        (λ f. f ≡ AskFault.Memory) }
     ensures spans { (t : Program) (h : List Answered)
         → StandsFor session.old.code t
         → Stands t session.old h
@@ -99,11 +101,6 @@ fn play_call(
         → AreSpans t session.old.setup h spans.old.items
         → let s = session.old.setup in
         OnOk result (AreSpans t s (h ++ recorded.now ∷ []) spans.new.items) }
-    ensures memory { (t : Program) (h : List Answered)
-        → StandsFor session.old.code t
-        → Stands t session.old h
-        → IsPlayable t session.old.setup (h ++ recorded.now ∷ [])
-        → IfErr result (λ f. f ≡ AskFault.Memory) }
     ensures kept { (session.new.code ≡ session.old.code) × (session.new.setup ≡ session.old.setup) }
 {
     let thread = recorded.thread;
@@ -133,12 +130,11 @@ pub(crate) fn spans_of(
     requires playable { (t : Program)
         → StandsFor code.now t
         → IsPlayable t setup.now history.now }
-    ensures spans { (t : Program)
+    ensures { (t : Program)
         → StandsFor code.now t
-        → IfOk result (λ v. AreSpans t setup.now history.now v.items) }
-    ensures refused { (t : Program)
-        → StandsFor code.now t
-        → IfErr result (λ f. f ≡ AskFault.Memory) }
+        → MatchResult result
+        (λ v. AreSpans t setup.now history.now v.items)
+        (λ f. f ≡ AskFault.Memory) }
 {
     let mut session = Session::new(alloc, code, setup)?;
     let mut spans = Vec::new(alloc);

@@ -1,5 +1,5 @@
 //! The lines of a view, each made by a session that plays the history once more.
-ghost use Rattle.std.specs.Prelude.{◌≡◌, ◌++◌, ◌∷◌, [], ℕ, List, OnOk, IfErr};
+ghost use Rattle.std.specs.Prelude.{◌≡◌, ◌++◌, ◌∷◌, [], ℕ, List, MatchResult, OnOk};
 ghost use Rattle.bp_tree.specs.Ast.{Program};
 ghost use Rattle.bp_machine.specs.declared.calls.Call.{Call as Answered};
 ghost use Rattle.bp_trace.specs.Replays.{IsPlayable};
@@ -38,7 +38,9 @@ impl ViewWriter<'_> {
         ensures made { (t : Program) (h : List Answered)
             → HasMade t h self.old
             → IsPlayable t self.old.session.setup (h ++ recorded.now ∷ [])
-            → OnOk result (HasMade t (h ++ recorded.now ∷ []) self.new) }
+            → MatchResult result
+            (λ _. HasMade t (h ++ recorded.now ∷ []) self.new)
+            (λ f. f ≡ AskFault.Memory) }
         ensures line { (t : Program) (text : List ℕ) (h : List Answered)
             → HasMade t h self.old
             → IsPlayable t self.old.session.setup (h ++ recorded.now ∷ [])
@@ -48,10 +50,6 @@ impl ViewWriter<'_> {
             let whole = x.history.now in
             let line = self.new.line.items in
             OnOk result (IsShownLine t text s x.options x.widths whole h recorded.now line) }
-        ensures memory { (t : Program) (h : List Answered)
-            → HasMade t h self.old
-            → IsPlayable t self.old.session.setup (h ++ recorded.now ∷ [])
-            → IfErr result (λ f. f ≡ AskFault.Memory) }
         ensures kept { (self.new.session.setup ≡ self.old.session.setup)
             × (self.new.setting ≡ self.old.setting) }
     {

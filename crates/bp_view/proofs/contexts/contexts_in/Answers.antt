@@ -18,7 +18,7 @@ returns c = λ text are.
     let setting = c.setting-setting.ensures in
     let h = r.history.items in
     let known = setting.known text are in
-    let spans = subst (λ g. AreSpans t r.setup g c.in-Ok.spans.items) c.as_slice-history.ensures.value (c.in-Ok.ensures.spans t c.requires.code) in
+    let spans = subst (λ g. AreSpans t r.setup g c.in-Ok.spans.items) c.as_slice-history.ensures.value (c.in-Ok.ensures t c.requires.code) in
     let spans_are = subst (AreSpans t r.setup h) (sym c.deref.ensures.value) spans in
     IfOk-weaker c.contexts_text.result _ _ (λ v lines.
     let own = all_contexts t text r.setup h x known setting.widths (ap length setting.history) c.deref.result.now spans_are v.items lines in

@@ -7,8 +7,8 @@ use Rattle.bp_trace.proofs.PlayableFronts.{own_is}
 use Rattle.bp_view.proofs.PlayedFronts.{asked_refused, playable_here}
 use Rattle.bp_view.proofs.played_again.session_after.Goals as goal
 
-pub returns-in_err-ask_as_recorded-clause-refused : goal.returns-in_err-ask_as_recorded-clause-refused
-returns-in_err-ask_as_recorded-clause-refused c = λ t is.
+pub returns-in_err-ask_as_recorded-clause-stands : goal.returns-in_err-ask_as_recorded-clause-stands
+returns-in_err-ask_as_recorded-clause-stands c = λ t is.
     let p = err_from_is_err_and c.from_residual-in_err-ask_as_recorded.result c.from_residual-in_err-ask_as_recorded.ensures.1 in
     let s = c.args.setup.now in
     let h = c.args.history.now in

@@ -56,8 +56,8 @@ returns-else-is_step-clause-spans c = λ t h is stands playable number are.
     let idle : is_granted x.reply ≡ false = ap (λ y. is_granted y.reply) (sym own) ∙ sym c.if-is_step.ensures in
     spans_idle t s h x c.args.spans.now.items are idle
 
-pub returns-in_err-call-clause-memory : goal.returns-in_err-call-clause-memory
-returns-in_err-call-clause-memory c = λ t h is stands playable.
+pub returns-in_err-call-clause-stands : goal.returns-in_err-call-clause-stands
+returns-in_err-call-clause-stands c = λ t h is stands playable.
     let p = err_from_is_err_and c.from_residual.result c.from_residual.ensures.1 in
     let s = c.args.session.now.setup in
     rw (p.1, p.2) (asked_refused t s h c.args.recorded.now playable c.in_err-call.field-0.0 (c.in_err-call.ensures.answer t h is stands))

@@ -39,8 +39,8 @@ loop-n-preserved c =
       setup = after.kept.1 ∙ before.setup;
     }
 
-pub returns-in_err-play_call-clause-refused : goal.returns-in_err-play_call-clause-refused
-returns-in_err-play_call-clause-refused c = λ t is.
+pub returns-in_err-play_call : goal.returns-in_err-play_call
+returns-in_err-play_call c = λ t is.
     let p = err_from_is_err_and c.from_residual-in_err-play_call.result c.from_residual-in_err-play_call.ensures.1 in
     let s = c.args.setup.now in
     let h = c.args.history.now in
@@ -48,10 +48,10 @@ returns-in_err-play_call-clause-refused c = λ t is.
     let before = c.loop-n.invariant in
     let inside : i < length h = c.loop-n-test.true in
     let code = subst (λ k. StandsFor k t) (sym before.code) is in
-    let why = c.in_err-play_call.ensures.memory t (take i h) code (before.stands t is) (rw before.setup (playable_here t s h (c.requires.playable t is) i _ inside)) in
+    let why = c.in_err-play_call.ensures.stands t (take i h) code (before.stands t is) (rw before.setup (playable_here t s h (c.requires.playable t is) i _ inside)) in
     rw (p.1, p.2) why
 
-pub returns-clause-spans : goal.returns-clause-spans
-returns-clause-spans c = λ t is.
+pub returns : goal.returns
+returns c = λ t is.
     let past : length c.args.history.now ≤ c.loop-n.n = omega (arith, c.loop-n-test.false) in
     subst (λ g. AreSpans t c.args.setup.now g c.loop-n.spans.items) (take_all c.loop-n.n c.args.history.now past) (c.loop-n.invariant.spans t is)

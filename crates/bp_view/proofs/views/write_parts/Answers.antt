@@ -22,7 +22,7 @@ returns-in-Err g c = λ t text can made same.
     let now = c.loop-recorded.writer in
     let has = c.loop-recorded.invariant t text can made same in
     let playable = playable_next t text w.session.setup w.setting w.session.code c.args.report can i now _ _ has _ c.loop-recorded-test.true in
-    let fault = c.memory_of.ensures (c.in-Err.ensures.memory t (take i w.setting.history.now) has.made playable) in
+    let fault = c.memory_of.ensures (c.in-Err.ensures.made t (take i w.setting.history.now) has.made playable) in
     rw fault (lines_begun t text w.session.setup w.setting w.session.code c.args.report can i now _ _ has)
 
 pub returns-in_err-put-2 : goal.returns-in_err-put-2

@@ -50,14 +50,14 @@ returns-clause-line c = λ t text h has playable known.
     subst (λ l. IsShownLine t text s setting.options setting.widths setting.history.now h x l) (sym line)
     (subst (λ z. IsShownLine t text s setting.options setting.widths setting.history.now h z shown.more) own shown.more_are)
 
-pub returns-in_err-next-clause-memory : goal.returns-in_err-next-clause-memory
-returns-in_err-next-clause-memory c = λ t h has playable.
+pub returns-in_err-next-clause-made : goal.returns-in_err-next-clause-made
+returns-in_err-next-clause-made c = λ t h has playable.
     let p = err_from_is_err_and c.from_residual.result c.from_residual.ensures.1 in
     let s = c.args.self.now.session.setup in
     rw (p.1, p.2) (print_refused t s h c.args.recorded.now playable _ c.in_err-next.field-0.0 (c.in_err-next.ensures t h has.code has.stands))
 
-pub returns-in_err-moment-clause-memory : goal.returns-in_err-moment-clause-memory
-returns-in_err-moment-clause-memory c = λ t h has playable.
+pub returns-in_err-moment-clause-made : goal.returns-in_err-moment-clause-made
+returns-in_err-moment-clause-made c = λ t h has playable.
     let p = err_from_is_err_and c.from_residual-in_err-moment.result c.from_residual-in_err-moment.ensures.1 in
     let s = c.args.self.now.session.setup in
     rw (p.1, p.2) (own_refused t s h c.args.recorded.now playable c.in_err-moment.field-0.0 (c.in_err-moment.ensures.answer t h has.code has.stands))
