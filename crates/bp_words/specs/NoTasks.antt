@@ -28,7 +28,7 @@ abbrev pub IsOfOne : Kinds → NoTask → Type 0
 IsOfOne [] none = ⊥
 IsOfOne (k ∷ ks) none = IsOfKind k none ⊎ IsOfOne ks none
 
--- A task is answered only where no kind of error comes. Else one of them came, or memory was refused.
+-- A task is answered only where no kind comes. Else one of them came, or memory was refused.
 abbrev pub EndsBy : {T : Type 0} → Kinds → Result T NoTask → Type 0
 EndsBy kinds r =
     MatchResult r (λ _. kinds ≡ []) (λ none. (none ≡ Memory) ⊎ IsOfOne kinds none)
