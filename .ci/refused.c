@@ -1,7 +1,7 @@
 /* Loaded before the C library by .ci/refusals. It refuses the growth or the read whose number the environment names,
-   counted from 1, and each write to standard output from that number on; or each growth behind the first write to
-   standard output; or it lets each read and write move one byte alone. To the file that REFUSED names it adds a byte for
-   each refusal. */
+   counted from 1, and each write to standard output from that number on, or that write alone; or each growth after the
+   first write to standard output; or it lets each read and write move one byte alone. To the file that REFUSED names it
+   adds a byte for each refusal. */
 #define _GNU_SOURCE
 #include <dlfcn.h>
 #include <errno.h>
@@ -13,7 +13,7 @@
 #include <unistd.h>
 
 static atomic_long grown, reads, writes;
-static long no_growth, no_read, no_write, none_behind, is_short;
+static long no_growth, no_read, no_write, no_one_write, none_behind, is_short;
 static atomic_int has_written;
 static char room[4096];
 static atomic_size_t used;
@@ -27,6 +27,7 @@ __attribute__((constructor)) static void begin(void) {
     no_growth = number("REFUSE_GROWTH");
     no_read = number("REFUSE_READ");
     no_write = number("REFUSE_WRITE");
+    no_one_write = number("REFUSE_ONE_WRITE");
     none_behind = number("REFUSE_BEHIND");
     is_short = number("SHORT_IO");
 }
@@ -104,7 +105,7 @@ ssize_t read(int file, void *bytes, size_t size) {
 }
 
 static ssize_t written(int file, const void *bytes, size_t size) {
-    if (file == STDOUT_FILENO && refused_from(&writes, no_write)) {
+    if (file == STDOUT_FILENO && (refused_from(&writes, no_write) || refused(&writes, no_one_write))) {
         errno = EIO;
         return -1;
     }
