@@ -11,8 +11,8 @@ use Rattle.bp_trace.specs.TraceText.{trace_text}
 use Rattle.bp_confirm.specs.declared.confirming.ConfirmFault.{ConfirmFault}
 use Rattle.bp_confirm.specs.declared.confirming.ConfirmFault.TheVariants.{TooLong, Line, NoThread, NoVariable, Step, Memory, Write}
 use Rattle.bp_confirm.specs.declared.context_bounds.ContextBound.{ContextBound}
+use Rattle.bp_confirm.specs.declared.histories.ConfirmReport.{ConfirmReport}
 use Rattle.bp_confirm.specs.ConfirmedTexts.{ConfirmsTo, IsConfirmRefusal, IsStepsRefusal}
-use Rattle.bp_commands.specs.declared.confirming.Confirmed.{Confirmed}
 use Rattle.bp_commands.specs.Commands.{IsDoneWith, IsRefusedWith}
 use Rattle.bp_commands.specs.Confirms.{confirms, IsConfirmRefused}
 use Rattle.bp_messages.specs.Faults.{fault_of_setup, fault_of_steps}
@@ -21,9 +21,9 @@ use Rattle.bp_commands.specs.Given.{Pair}
 module _ (start : StartOf) (bound : ContextBound) (given : Pair) (t : Program) (lawful : IsLawfulText given.text t) where
   -- the program takes this setup
   module _ (s : SetupOf) (setup : s ≡ setup_from start None t) (fine : setup_fault t (setup_from start None t) ≡ None) (old new : Option (List ℕ)) where
-    pub confirmed : (answer : Confirmed) → ConfirmsTo t s given.input given.text bound old new answer.report → IsDoneWith (confirms start bound) old new given answer
+    pub confirmed : (answer : ConfirmReport) → ConfirmsTo t s given.input given.text bound old new answer → IsDoneWith (confirms start bound) old new given answer
     confirmed answer found =
-        let is = subst (λ x. ConfirmsTo t x given.input given.text bound old new answer.report) setup found in
+        let is = subst (λ x. ConfirmsTo t x given.input given.text bound old new answer) setup found in
         record {
           text = trace_text is.setup is.history;
           reports = record {

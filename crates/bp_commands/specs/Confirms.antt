@@ -3,14 +3,14 @@ use Rattle.std.specs.Prelude.{if◌then◌else◌, ◌≡◌, ◌⊎◌, ◌++�
 use Rattle.bp_tree.specs.Ast.{Program}
 use Rattle.bp_code.specs.LawfulTexts.{IsLawfulText}
 use Rattle.bp_machine.specs.declared.calls.Call.{Call}
-use Rattle.bp_machine.specs.Reports.{IsReport}
 use Rattle.bp_machine.specs.Setups.{SetupOf, setup_fault}
 use Rattle.bp_machine.specs.Starts.{StartOf, setup_from}
 use Rattle.bp_trace.specs.TraceText.{trace_text}
 use Rattle.bp_confirm.specs.declared.confirming.ConfirmFault.{ConfirmFault}
 use Rattle.bp_confirm.specs.declared.context_bounds.ContextBound.{ContextBound}
+use Rattle.bp_confirm.specs.declared.histories.ConfirmReport.{ConfirmReport}
+use Rattle.bp_confirm.specs.ConfirmReports.{IsConfirmReport}
 use Rattle.bp_confirm.specs.ConfirmedTexts.{IsConfirmedText, IsStepsRefusal}
-use Rattle.bp_commands.specs.declared.confirming.Confirmed.{Confirmed}
 use Rattle.bp_messages.specs.declared.faults.Fault.{Fault}
 use Rattle.bp_commands.specs.Commands.{Command}
 use Rattle.bp_commands.specs.Drives.{IsSetupRefused}
@@ -25,11 +25,20 @@ not_failed_line =
     codes "the steps are a run of the program; "
     ++ codes "no assertion fails at the last one\n"
 
+-- what a user reads where the steps end in a deadlock
+abbrev pub deadlock_line : List ℕ
+deadlock_line = codes "the steps are a run of the program; they end in a deadlock\n"
+
 -- an answer has a line unless an assertion failed
-abbrev pub of_confirm : Ending Confirmed
+abbrev pub confirm_summary : ConfirmReport → List ℕ
+confirm_summary x =
+    if report_failed x.report then []
+    else if x.is_deadlocked then deadlock_line else not_failed_line
+
+abbrev pub of_confirm : Ending ConfirmReport
 of_confirm = record {
   failed = λ x. report_failed x.report;
-  summary = λ x. if report_failed x.report then [] else not_failed_line;
+  summary = confirm_summary;
 }
 
 -- Reported steps of the program of a text are confirmed from this start, within this bound of
@@ -47,10 +56,10 @@ module _ (start : StartOf) (bound : ContextBound) (given : Pair) where
         history
     pub is : written ≡ trace_text setup history
 
-  -- and this is its report
-  pub record IsStepsReport (written : List ℕ) (answer : Confirmed) : Type 0 where
+  -- and this is how it ends
+  pub record IsStepsReport (written : List ℕ) (answer : ConfirmReport) : Type 0 where
     pub trace : IsOfSteps written
-    pub reported : IsReport trace.setup trace.history answer.report
+    pub reported : IsConfirmReport trace.program trace.setup trace.history answer
 
   -- the program takes the setup, and no history is written that takes the steps
   pub record AreStepsRefused (f : Fault) : Type 0 where
@@ -66,7 +75,7 @@ module _ (start : StartOf) (bound : ContextBound) (given : Pair) where
   IsConfirmRefused f = HasNoCode given.text f ⊎ (IsSetupRefused start given f ⊎ AreStepsRefused f)
 
 -- it writes the trace of the history that takes the steps
-abbrev pub confirms : StartOf → ContextBound → Command Pair Confirmed
+abbrev pub confirms : StartOf → ContextBound → Command Pair ConfirmReport
 confirms start bound = record {
   Writes = IsOfSteps start bound;
   Reports = IsStepsReport start bound;

@@ -5,8 +5,8 @@ use crate::commands::PairCommand;
 use crate::ends::Ended;
 use crate::explanations::Beside;
 use crate::showing::program_of;
-use bp_confirm::{ContextBound, confirm};
-use bp_machine::{Report, Start};
+use bp_confirm::{ConfirmReport, ContextBound, confirm};
+use bp_machine::Start;
 use bp_messages::Fault;
 use bp_text::{WriteFault, put};
 use bp_trace::limits::MAX_SCHEDULE;
@@ -22,17 +22,14 @@ pub struct Confirm<'a> {
     pub bound: ContextBound,
 }
 
-/// The report of the history that takes reported steps.
-#[derive(Clone, Copy, Debug, Drop, PartialEq, Eq)]
-pub struct Confirmed {
-    pub report: Report,
-}
-
 /// What a user reads where the last step is no failed assertion.
 const NOT_FAILED: &[u8] = b"the steps are a run of the program; \
     no assertion fails at the last one\n";
 
-impl Ended for Confirmed {
+/// What a user reads where the steps end in a deadlock.
+const DEADLOCKED: &[u8] = b"the steps are a run of the program; they end in a deadlock\n";
+
+impl Ended for ConfirmReport {
     ghost ending = { of_confirm };
 
     fn has_failed(&self) -> bool {
@@ -43,6 +40,9 @@ impl Ended for Confirmed {
         if self.report.has_failed() {
             return Ok(());
         }
+        if self.is_deadlocked {
+            return put(errors, DEADLOCKED);
+        }
         put(errors, NOT_FAILED)
     }
 }
@@ -52,7 +52,7 @@ impl PairCommand for Confirm<'_> {
     ghost use Rattle.bp_trace.specs.declared.limits.TheConstants.{MAX_SCHEDULE};
     ghost use Rattle.bp_commands.specs.Confirms.{confirms};
 
-    type Answer = Confirmed;
+    type Answer = ConfirmReport;
 
     ghost command = { λ c. confirms c.start.now c.bound };
 
@@ -70,12 +70,12 @@ impl PairCommand for Confirm<'_> {
         text: &[u8],
         steps: &[u8],
         out: &mut W,
-    ) -> Result<Confirmed, Fault> {
+    ) -> Result<ConfirmReport, Fault> {
         let (checked, code) = program_of(alloc, text)?;
         let setup = self.start.setup(alloc, &code, None)?;
         let bound = self.bound;
         let report = confirm(alloc, text, &checked, &code, &setup, bound, steps, out)?;
-        Ok(Confirmed { report })
+        Ok(report)
     }
 
     fn beside(&self) -> Beside {

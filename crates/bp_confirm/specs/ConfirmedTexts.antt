@@ -3,8 +3,6 @@ use Rattle.std.specs.Prelude.{◌≡◌, ◌<◌, ◌≤◌, ℕ, List, Option, 
 use Rattle.bp_text.specs.Writing.{AppendsAll, AppendsPart}
 use Rattle.bp_tree.specs.Ast.{Program}
 use Rattle.bp_machine.specs.declared.calls.Call.{Call}
-use Rattle.bp_machine.specs.declared.reports.Report.{Report}
-use Rattle.bp_machine.specs.Reports.{IsReport}
 use Rattle.bp_machine.specs.Setups.{SetupOf}
 use Rattle.bp_trace.specs.declared.limits.TheConstants.{MAX_SCHEDULE}
 use Rattle.bp_trace.specs.TraceText.{trace_text}
@@ -12,6 +10,8 @@ use Rattle.bp_confirm.specs.declared.confirming.ConfirmFault.{ConfirmFault}
 use Rattle.bp_confirm.specs.declared.confirming.ConfirmFault.TheVariants as fault
 use Rattle.bp_confirm.specs.declared.context_bounds.ContextBound.{ContextBound}
 use Rattle.bp_confirm.specs.declared.faults.StepRefusal.{StepRefusal}
+use Rattle.bp_confirm.specs.declared.histories.ConfirmReport.{ConfirmReport}
+use Rattle.bp_confirm.specs.ConfirmReports.{IsConfirmReport}
 use Rattle.bp_confirm.specs.ContextBounds.{IsSetupFor}
 use Rattle.bp_confirm.specs.StepLines.{StepLineOf, steps_of}
 use Rattle.bp_confirm.specs.StepTexts.{HasLines, IsBadLine}
@@ -66,12 +66,12 @@ module _ (t : Program) (s : SetupOf) (steps : List ℕ) where
       pub refused : IsStepRefusal text t setup lines r
 
     -- the trace of the history that takes the steps was written, and it is reported
-    pub record ConfirmsTo (old new : Option (List ℕ)) (r : Report) : Type 0 where
+    pub record ConfirmsTo (old new : Option (List ℕ)) (r : ConfirmReport) : Type 0 where
       pub setup : SetupOf
       pub history : List Call
       pub confirmed : IsConfirmedText setup history
       pub written : AppendsAll old new (trace_text setup history)
-      pub report : IsReport setup history r
+      pub report : IsConfirmReport t setup history r
 
     -- the writer refused a part of the trace
     pub record IsCutShort (old new : Option (List ℕ)) : Type 0 where

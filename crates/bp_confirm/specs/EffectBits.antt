@@ -2,6 +2,15 @@
 use Rattle.std.specs.Prelude.{ℕ, Bool, true, false, not, ◌&&◌, ◌==◌, Option, None, Some}
 use Rattle.bp_code.specs.declared.effects.Effect.{Effect}
 use Rattle.bp_code.specs.declared.effects.Effect.TheVariants.{Continues, Fails, Blocks}
+use Rattle.bp_code.specs.Flat.{Instruction, If, While, Assert, Assume}
+
+-- a test decides what the instruction does
+abbrev pub has_test : Instruction → Bool
+has_test (If test m e) = true
+has_test (While test m e) = true
+has_test (Assert test m) = true
+has_test (Assume test m) = true
+has_test i = false
 
 -- the instructions of these numbers are at the place of the thread's next step, if it takes one
 abbrev pub NextNumbers : Type 0

@@ -15,6 +15,7 @@ pub mod LineValues
 pub mod LineReading
 pub mod DeclaredLines
 pub mod StrayLines
+pub mod ConfirmReports
 pub mod ConfirmedTexts
 pub mod ContextBounds
 pub mod Reading

@@ -13,7 +13,7 @@ use bp_machine::{Call, Session};
 use std::alloc::{AllocError, Global};
 
 /// What a thread sees of a variable after some steps.
-#[derive(Clone, Copy, Debug)]
+#[derive(Clone, Copy)]
 pub(crate) struct Sight {
     pub(crate) seen: Option<bool>,
     /// The last of the steps that changed it, from 1; none if no step did.

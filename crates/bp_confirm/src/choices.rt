@@ -2,14 +2,14 @@
 ghost use Rattle.std.specs.Prelude.{◌≡◌, ℕ, List, MatchOption, option_map};
 ghost use Rattle.bp_tree.specs.Ast.{Block, Procedure, Program};
 ghost use Rattle.bp_code.specs.StandsFor.{Does, places_of};
-ghost use Rattle.bp_confirm.specs.EffectBits.{bit_of_effects, splits};
+ghost use Rattle.bp_confirm.specs.EffectBits.{bit_of_effects, has_test, splits};
 ghost use Rattle.bp_confirm.specs.Inferred.{bit_of_block, IsAmbiguous, IsClear};
 ghost use Rattle.bp_confirm.specs.Places.{place_of};
 ghost use Rattle.bp_confirm.specs.Spots.{is_there, spots_of};
 
 use crate::locations::Location;
 use crate::spots::{Spot, is_there};
-use bp_code::{Effect, Instr, Store};
+use bp_code::{Effect, Instr, Kind, Store};
 
 /// The inferred bit of an instruction that has these effects with the bits 0 and 1.
 fn bit_of_effects(
@@ -49,6 +49,16 @@ fn splits(spots: &[Spot], next: Option<Location>, zero: Effect, one: Effect) -> 
     }
 }
 
+/// Whether a test decides what an instruction does.
+fn has_test(instr: &Instr) -> bool
+    ensures { result ≡ has_test instr.now }
+{
+    matches!(
+        instr.kind(),
+        Kind::If | Kind::While | Kind::Assert | Kind::Assume
+    )
+}
+
 /// The inferred bit of an instruction, where the next step of its thread is at this location and
 /// steps follow or not; none where the location does not tell which way a `?` went.
 pub(crate) fn inferred_bit(
@@ -66,6 +76,10 @@ pub(crate) fn inferred_bit(
         (IsAmbiguous t left place)
         (λ bit. (bit ≡ bit_of_block left place follow) × IsClear left place) }
 {
+    // The effects of other instructions are the same with both bits.
+    if !has_test(instr) {
+        return Some(false);
+    }
     let zero = instr.effect(store, false);
     let one = instr.effect(store, true);
     if splits(spots, next, zero, one) {

@@ -8,12 +8,12 @@ ghost use Rattle.bp_confirm.specs.StrayLines.{fault_of_stray};
 use crate::context_bounds::{ContextBound, setup_for};
 use crate::declared::{Stray, check_lines};
 use crate::faults::{StepFault, StepRefusal};
-use crate::histories::confirm_lines;
+use crate::histories::{ConfirmReport, confirm_lines};
 use crate::step_lines::StepLine;
 use crate::step_texts::{StepsFault, read_steps};
 use bp_check::Checked;
 use bp_code::Code;
-use bp_machine::{Report, Setup};
+use bp_machine::Setup;
 use bp_trace::limits::MAX_SCHEDULE;
 use bp_trace::write_trace;
 use std::alloc::Global;
@@ -96,7 +96,7 @@ pub fn confirm<W: Write>(
     bound: ContextBound,
     steps: &[u8],
     out: &mut W,
-) -> Result<Report, ConfirmFault>
+) -> Result<ConfirmReport, ConfirmFault>
     requires code { StandsFor code.now checked.now }
     requires fits { FitsCode code.now setup.now }
     requires unseeded { setup.now.seed ≡ None }

@@ -12,7 +12,7 @@ use bp_machine::Setup;
 use bp_tree::Proc;
 
 /// What a line names that is not declared.
-#[derive(Clone, Copy, Debug)]
+#[derive(Clone, Copy)]
 pub(crate) enum Stray {
     Thread(u32),
     /// The value of this place on the line, from 0.

@@ -4,7 +4,6 @@ use crate::locations::Location;
 use crate::stands::Stand;
 use bp_machine::Reply;
 use std::alloc::AllocError;
-use thiserror::Error;
 
 /// The first of the values of a line that its thread does not see after the step.
 #[derive(Clone, Copy, Debug, PartialEq, Eq)]
@@ -49,13 +48,11 @@ pub struct StepRefusal {
 }
 
 /// Why reported steps are not taken.
-#[derive(Clone, Copy, Debug, Error)]
+#[derive(Clone, Copy)]
 pub(crate) enum StepFault {
     /// A step is not taken.
-    #[error("line {} of the steps is not taken", .0.line)]
     Refusal(StepRefusal),
     /// There was not enough memory.
-    #[error("out of memory")]
     Memory,
 }
 

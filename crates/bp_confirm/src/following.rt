@@ -35,14 +35,14 @@ use std::alloc::{AllocError, Global};
 
 /// What the later steps tell of a step: the location of its thread before the thread's next step,
 /// and whether any step follows.
-#[derive(Clone, Copy, Debug)]
+#[derive(Clone, Copy)]
 pub(crate) struct Next {
     location: Option<Location>,
     follows: bool,
 }
 
 /// Why a thread is not called.
-#[derive(Clone, Copy, Debug)]
+#[derive(Clone, Copy)]
 pub(crate) enum NotCalled {
     /// It has made its last call.
     Finished,

@@ -1,8 +1,8 @@
 //! The history that takes the steps of lines.
 ghost use Rattle.std.specs.Prelude.{◌≡◌, ◌<◌, ◌^◌, None, length, MatchResult};
 ghost use Rattle.bp_code.specs.StandsFor.{StandsFor};
-ghost use Rattle.bp_machine.specs.Reports.{IsReport};
 ghost use Rattle.bp_machine.specs.Setups.{FitsCode};
+ghost use Rattle.bp_confirm.specs.ConfirmReports.{IsConfirmReport};
 ghost use Rattle.bp_confirm.specs.Confirms.{AreOfThreads, IsConfirmed, IsNotConfirmed};
 ghost use Rattle.bp_confirm.specs.StepLines.{steps_of};
 
@@ -16,12 +16,20 @@ use bp_code::Code;
 use bp_machine::{Call, Report, Session, Setup};
 use std::alloc::Global;
 
-/// The history that takes reported steps, and its report.
+/// How the history ends that takes reported steps.
+#[derive(Clone, Copy)]
+pub struct ConfirmReport {
+    pub report: Report,
+    /// Whether its threads are deadlocked: some did not end, and each of those waits.
+    pub is_deadlocked: bool,
+}
+
+/// The history that takes reported steps, and how it ends.
 #[derive(Drop)]
 pub(crate) struct Confirmed {
     /// A call for each step.
     pub(crate) history: Vec<Call>,
-    pub(crate) report: Report,
+    pub(crate) report: ConfirmReport,
 }
 
 /// Confirms the steps of these lines in the program of a text: the history that takes them, one
@@ -42,7 +50,7 @@ pub(crate) fn confirm_lines(
     requires short { length lines.now < 2 ^ 32 }
     ensures { MatchResult result
         (λ f. IsConfirmed checked.now setup.now (steps_of text.now lines.now) f.history.items
-        × IsReport setup.now f.history.items f.report)
+        × IsConfirmReport checked.now setup.now f.history.items f.report)
         (IsNotConfirmed text.now checked.now setup.now lines.now) }
 {
     setup.is_in_range();
@@ -57,6 +65,9 @@ pub(crate) fn confirm_lines(
         &mut session,
         lines,
     )?;
-    let report = session.report();
+    let report = ConfirmReport {
+        report: session.report(),
+        is_deadlocked: session.is_deadlocked(),
+    };
     Ok(Confirmed { history, report })
 }

@@ -26,6 +26,7 @@ mod values;
 pub use confirming::{ConfirmFault, confirm};
 pub use context_bounds::ContextBound;
 pub use faults::{Difference, StepReason, StepRefusal};
+pub use histories::ConfirmReport;
 pub use laws::{
     refused_steps_are_not_taken, steps_are_of_the_run, steps_have_one_answer,
     texts_are_read_in_one_way,

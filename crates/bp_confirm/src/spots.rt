@@ -9,7 +9,7 @@ use bp_text::{FIRST, Position, position_from};
 use std::alloc::{AllocError, Global};
 
 /// Where the statement of an instruction begins.
-#[derive(Clone, Copy, Debug)]
+#[derive(Clone, Copy)]
 pub(crate) struct Spot {
     /// None at the end of a procedure.
     pub(crate) position: Option<Position>,
