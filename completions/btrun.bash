@@ -31,7 +31,7 @@ _btrun_options() {
         confirm) echo "$common $start --json" ;;
         run) echo "$common $start --seed --turn --ring --spread" ;;
         test) echo "$common $start --seed --runs --jobs --deadlock --unreached --json" ;;
-        show) echo "$common --thread --last --from --to --watch --fold --state --at --contexts --steps --json" ;;
+        show) echo "$common --thread --last --from --to --watch --fold --state --brief --at --contexts --steps --json" ;;
     esac
 }
 

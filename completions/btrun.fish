@@ -75,6 +75,7 @@ complete -c btrun -n '__fish_seen_subcommand_from show' -x -l to -d 'Show no cal
 complete -c btrun -n '__fish_seen_subcommand_from show' -x -l watch -a '(__btrun_variables)' -d 'Show the calls alone that change these variables'
 complete -c btrun -n '__fish_seen_subcommand_from show' -l fold -d 'Show equal waits as one line'
 complete -c btrun -n '__fish_seen_subcommand_from show' -l state -d 'Show the state after the last call too'
+complete -c btrun -n '__fish_seen_subcommand_from show' -l brief -d 'Leave out the setup'
 complete -c btrun -n '__fish_seen_subcommand_from show' -x -l at -d 'Show the state after this call'
 complete -c btrun -n '__fish_seen_subcommand_from show' -l contexts -d 'Show a line for each context'
 complete -c btrun -n '__fish_seen_subcommand_from show' -l steps -d 'Show only the steps'

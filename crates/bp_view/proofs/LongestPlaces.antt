@@ -1,11 +1,14 @@
 -- The longest place of the scenes of a program.
-use Rattle.std.proofs.Common.{◌≡◌, ◌∙◌, ◌<◌, ℕ, zero, suc, List, [], ◌∷◌, take, length, get_or, map, max, ap, refl, arith}
+use Rattle.std.proofs.Common.{◌≡◌, ◌∙◌, ◌<◌, ◌≤◌, ◌++◌, ℕ, zero, suc, Bool, true, false, cond, List, [], ◌∷◌, codes, take, length, length-append, length-take, get_or, map, max, min, ap, refl, arith}
+use Rattle.std.specs.Prelude.{nat_lt}
+use Rattle.std.proofs.lemmas.Bool.Decides.{nat_tests}
 use Rattle.bp_tree.specs.Ast.{Procedure}
 use Rattle.bp_code.specs.StandsFor.{Place}
 use Rattle.bp_code.specs.Starts.{start_of_block}
 use Rattle.bp_view.specs.declared.scenes.Scene.{Scene}
 use Rattle.bp_view.specs.Places.{place_text}
 use Rattle.bp_view.specs.Scenes.{AreScenesAt, AreStatements}
+use Rattle.bp_view.specs.StatementColumns.{shortened}
 use Rattle.bp_view.specs.Widths.{longest}
 use Rattle.bp_code.proofs.ProceduresOfPlaces.{starts}
 
@@ -23,7 +26,19 @@ longest_more (suc n) (y ∷ scenes) x h =
 abbrev pub words_items : List Scene → List (List ℕ)
 words_items scenes = map (λ s. s.excerpt.words.items) scenes
 
-pub longest_words_more : (n : ℕ) (scenes : List Scene) (x : Scene) → n < length scenes → longest (words_items (take (suc n) scenes)) ≡ max (longest (words_items (take n scenes))) (length (get_or scenes n x).excerpt.words.items)
+-- a statement has at most MAX_STATEMENT bytes in its column
+pub shortened_length : (words : List ℕ) → length (shortened words) ≡ min (length words) 60
+shortened_length words = by_size (nat_lt 60 (length words)) refl
+  where
+    by_size : (b : Bool) → nat_lt 60 (length words) ≡ b → length (cond b (take 58 words ++ codes "..") words) ≡ min (length words) 60
+    by_size true long =
+        let more : 60 < length words = grind (arith, nat_tests, long) in
+        let size = length-append (take 58 words) (codes "..") in
+        let front : length (take 58 words) ≡ 58 = simp length-take (omega (arith, more)) in
+        omega (arith, more, size, front)
+    by_size false short = let most : length words ≤ 60 = grind (arith, nat_tests, short) in omega (arith, most)
+
+pub longest_words_more : (n : ℕ) (scenes : List Scene) (x : Scene) → n < length scenes → longest (map shortened (words_items (take (suc n) scenes))) ≡ max (longest (map shortened (words_items (take n scenes)))) (length (shortened (get_or scenes n x).excerpt.words.items))
 longest_words_more n [] x h = absurd (omega arith)
 longest_words_more zero (y ∷ scenes) x h = omega arith
 longest_words_more (suc n) (y ∷ scenes) x h =

@@ -11,7 +11,7 @@ use Rattle.bp_tree.specs.Ast.{Procedure}
 use Rattle.bp_code.specs.StandsFor.{Place}
 use Rattle.bp_code.specs.Starts.{start_of_block}
 use Rattle.bp_view.specs.Scenes.{AreStatements, IsStatementAt}
-use Rattle.bp_view.specs.Statements.{is_choice, is_ending, shortened, words_after, HasLexemes, IsAtEnd, IsStatement, Lexeme, Takes, ends, ending, more, none_left}
+use Rattle.bp_view.specs.Statements.{is_choice, is_ending, words_after, HasLexemes, IsAtEnd, IsStatement, Lexeme, Takes, ends, ending, more, none_left}
 
 -- where a lexeme of a cut is, and whether it is a byte that begins none
 abbrev place : cut.Lexeme → ℕ
@@ -135,7 +135,7 @@ one_list_of_lexemes text _ ms (more {rest = q} {l = l} {ls = ls} takes rest) has
 pub one_statement : (text a b : List ℕ) (p q : Bool) → IsStatement text a p → IsStatement text b q → (a ≡ b) × (p ≡ q)
 one_statement text a b p q x y =
     let same = one_list_of_lexemes text x.lexemes y.lexemes x.lexemes_are y.lexemes_are in (
-      x.words_are ∙ ap (λ ls. shortened (words_after false ls)) same ∙ sym y.words_are,
+      x.words_are ∙ ap (λ ls. words_after false ls) same ∙ sym y.words_are,
       x.reads_is ∙ ap (λ ls. list_any (λ l. is_choice l.bytes) ls) same ∙ sym y.reads_is,
     )
 

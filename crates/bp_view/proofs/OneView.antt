@@ -62,4 +62,4 @@ one_view t text s h r o v w x y =
     let widths = one_widths s (extent_of_y y.statements) x.widths y.widths widths_are y.widths_are in
     let lines_are = subst (λ z. AreLines t text s o z h (length h) x.lines) widths x.lines_are in
     let lines = one_lines t text s o y.widths h (length h) refl x.lines y.lines lines_are y.lines_are in
-    x.is ∙ ap₂ (λ a b. view_head o.format t.globals s ++ a ++ b) lines (one_end t text s h r o x.end y.end x.end_is y.end_is) ∙ sym y.is
+    x.is ∙ ap₂ (λ a b. view_head o t.globals s ++ a ++ b) lines (one_end t text s h r o x.end y.end x.end_is y.end_is) ∙ sym y.is

@@ -1,5 +1,5 @@
 -- The head of a view: the setup of its history.
-use Rattle.std.specs.Prelude.{ℕ, suc, List, [], ◌∷◌, ◌++◌, Option, None, Some, codes, decimal, flat_map}
+use Rattle.std.specs.Prelude.{if◌then◌else◌, ℕ, suc, List, [], ◌∷◌, ◌++◌, Option, None, Some, codes, decimal, flat_map}
 use Rattle.std.specs.List.{concat}
 use Rattle.bp_tree.specs.Ast.{Name}
 use Rattle.bp_code.specs.Values.{Valuation, binding}
@@ -8,6 +8,7 @@ use Rattle.bp_text.specs.JsonStrings.{string_text}
 use Rattle.bp_text.specs.Pieces.{key_text, list_text, number_or_null}
 use Rattle.bp_view.specs.declared.options.ViewFormat.{ViewFormat}
 use Rattle.bp_view.specs.declared.options.ViewFormat.TheVariants.{Columns, Json}
+use Rattle.bp_view.specs.declared.options.ViewOptions.{ViewOptions}
 use Rattle.bp_view.specs.Changes.{variables_text}
 
 -- the number of a thread, and the procedure in which it begins
@@ -69,7 +70,11 @@ head_object globals s =
     ∷ limit_members s
     ∷ [])
 
--- the head of a view of this format
-abbrev pub view_head : ViewFormat → List Name → SetupOf → List ℕ
-view_head Columns globals s = head_lines globals s
-view_head Json globals s = head_object globals s
+-- the setup in this format
+abbrev pub head_in : ViewFormat → List Name → SetupOf → List ℕ
+head_in Columns globals s = head_lines globals s
+head_in Json globals s = head_object globals s
+
+-- the head of a view: the setup, which a brief view leaves out
+abbrev pub view_head : ViewOptions → List Name → SetupOf → List ℕ
+view_head o globals s = if o.is_brief then [] else head_in o.format globals s

@@ -18,6 +18,7 @@ pub mod Listings
 pub mod Moments
 pub mod NameLists
 pub mod Options
+pub mod StatementColumns
 pub mod Outcomes
 pub mod Parts
 pub mod Places

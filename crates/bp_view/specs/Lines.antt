@@ -11,6 +11,7 @@ use Rattle.bp_view.specs.declared.settings.Widths.{Widths}
 use Rattle.bp_view.specs.CallFacts.{choice_of, ShownCall}
 use Rattle.bp_view.specs.ChangeFacts.{entries_text}
 use Rattle.bp_view.specs.Colours.{closing, colour_of, opening}
+use Rattle.bp_view.specs.StatementColumns.{shortened}
 
 -- what is said of a reply
 abbrev pub reply_words : Reply → List ℕ
@@ -40,10 +41,12 @@ field_texts w f =
     ∷ at_right w.context (context_text f.context) ∷ codes " "
     ∷ at_left w.place f.next.place ∷ []
 
--- words after two columns for each frame of a stack, for so many frames at most
+-- the words of a statement as its column has them, after two columns for each frame of a stack,
+-- for MAX_INDENTS frames at most
 abbrev pub indented : (depth : ℕ) → (words : Option (List ℕ)) → List ℕ
 indented depth None = []
-indented depth (Some words) = concat (spaces (2 * min depth MAX_INDENTS) ∷ words ∷ [])
+indented depth (Some words) =
+    concat (spaces (2 * min depth MAX_INDENTS) ∷ shortened words ∷ [])
 
 -- a choice bit, where one is shown
 abbrev pub choice_text : Option Bool → List ℕ

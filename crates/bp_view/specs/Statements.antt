@@ -1,11 +1,10 @@
 -- The text of a statement on one line, as a view shows it.
-use Rattle.std.specs.Prelude.{if◌then◌else◌, ◌≡◌, ◌||◌, ◌-◌, ℕ, nat_lt, Bool, true, false, List, [], ◌∷◌, ◌++◌, Option, Some, codes, bytes_eq, length, map, take}
+use Rattle.std.specs.Prelude.{if◌then◌else◌, ◌≡◌, ◌||◌, ℕ, Bool, true, false, List, [], ◌∷◌, ◌++◌, Option, Some, codes, bytes_eq, map}
 use Rattle.std.specs.List.{list_any}
 use Rattle.bp_syntax.specs.FirstLexemes.{TakesLexeme}
 use Rattle.bp_syntax.specs.declared.tokens.LexemeKind.{LexemeKind}
 use Rattle.bp_syntax.specs.declared.tokens.LexemeKind.TheVariants.{White, Comment}
 use Rattle.bp_text.specs.OneLine.{on_one_line}
-use Rattle.bp_view.specs.declared.excerpts.TheConstants.{MAX_EXCERPT}
 
 -- a lexeme: its kind, none for a byte that begins no lexeme, and its bytes
 pub record Lexeme : Type 0 where
@@ -60,13 +59,6 @@ words_after gap [] = []
 words_after gap (l ∷ ls) =
     word_after gap l.kind l.bytes ++ words_after (is_gap l.kind) ls
 
--- at most MAX_EXCERPT bytes: a longer text is cut, and ends with two dots
-abbrev pub shortened : List ℕ → List ℕ
-shortened words =
-    if nat_lt MAX_EXCERPT (length words)
-    then take (MAX_EXCERPT - 2) words ++ codes ".."
-    else words
-
 abbrev pub is_choice : List ℕ → Bool
 is_choice bytes = bytes_eq bytes (codes "?")
 
@@ -74,5 +66,5 @@ is_choice bytes = bytes_eq bytes (codes "?")
 pub record IsStatement (text words : List ℕ) (reads : Bool) : Type 0 where
   pub lexemes : List Lexeme
   pub lexemes_are : HasLexemes text lexemes
-  pub words_are : words ≡ shortened (words_after false lexemes)
+  pub words_are : words ≡ words_after false lexemes
   pub reads_is : reads ≡ list_any (λ l. is_choice l.bytes) lexemes

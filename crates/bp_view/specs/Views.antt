@@ -95,7 +95,7 @@ pub record IsView
       AreWidths s (extent (length h) places statements (length t.procedures)) widths
   pub lines : List ℕ
   pub end : List ℕ
-  pub is : view ≡ view_head o.format t.globals s ++ lines ++ end
+  pub is : view ≡ view_head o t.globals s ++ lines ++ end
   pub end_is : IsEnd o t text s h r end
   pub lines_are : AreLines t text s o widths h (length h) lines
 

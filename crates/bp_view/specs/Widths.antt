@@ -4,6 +4,7 @@ use Rattle.bp_machine.specs.Setups.{SetupOf, threads}
 use Rattle.bp_view.specs.declared.settings.Setting.{Setting}
 use Rattle.bp_view.specs.declared.settings.TheConstants.{MAX_INDENTS}
 use Rattle.bp_view.specs.declared.settings.Widths.{Widths}
+use Rattle.bp_view.specs.StatementColumns.{shortened}
 
 -- the length of the longest of these texts
 abbrev pub longest : List (List ℕ) → ℕ
@@ -28,14 +29,16 @@ extent calls places statements procedures =
     }
 
 -- The widths of a view: those of the greatest number of a call, of the number of threads, of the
--- limit of the contexts, and of the longest place. The notes begin after the longest statement,
--- where it is moved by two columns for each procedure, up to the most by which one is moved.
+-- limit of the contexts, and of the longest place. The notes begin after the longest statement as
+-- its column has it, where it is moved by two columns for each procedure, up to the most by which
+-- one is moved.
 pub record AreWidths (s : SetupOf) (e : Extent) (w : Widths) : Type 0 where
   pub number : w.number ≡ length (decimal e.calls)
   pub thread : w.thread ≡ length (decimal (threads s))
   pub context : w.context ≡ length (decimal s.contexts)
   pub place : w.place ≡ max 1 (longest e.places)
-  pub words : w.words ≡ longest e.statements + 2 * min e.procedures MAX_INDENTS
+  pub words :
+      w.words ≡ longest (map shortened e.statements) + 2 * min e.procedures MAX_INDENTS
 
 -- a device: the extent that the code reads from its setting
 abbrev pub extent_of : Setting → Extent

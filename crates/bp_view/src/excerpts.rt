@@ -2,17 +2,11 @@
 ghost use Rattle.std.specs.Prelude.{◌≡◌, ◌++◌, ◌∷◌, [], ◌≤◌, ◌<◌, length, IfOk, OnOk, MatchOption};
 ghost use Rattle.std.specs.Prelude.{bytes_eq, codes};
 ghost use Rattle.bp_text.specs.OneLine.{AddsOneLine, IsOneLine};
-ghost use Rattle.bp_view.specs.Statements.{is_choice, is_ending, is_gap, shortened, word_after, IsAtEnd, IsStatement, Takes};
+ghost use Rattle.bp_view.specs.Statements.{is_choice, is_ending, is_gap, word_after, IsAtEnd, IsStatement, Takes};
 
 use bp_syntax::{Lexeme, LexemeKind, take_lexeme};
 use bp_text::push_on_one_line;
 use std::alloc::{AllocError, Global};
-
-/// The most bytes of a statement that are shown.
-pub(crate) const MAX_EXCERPT: usize = 60;
-
-/// What ends an excerpt that was cut.
-const CUT: &[u8] = b"..";
 
 /// Whether these bytes end a statement's own text: `;` and two reserved words do.
 fn is_ending(bytes: &[u8]) -> bool
@@ -71,19 +65,6 @@ fn push_lexeme(words: &mut Vec<u8>, lexeme: Lexeme<'_>, had_gap: bool) -> Result
     Ok(())
 }
 
-/// Cuts the words where they are too many.
-fn cut(words: &mut Vec<u8>) -> Result<(), AllocError>
-    requires { IsOneLine words.old.items }
-    ensures is { OnOk result (words.new.items ≡ shortened words.old.items) }
-    ensures one_line { OnOk result (IsOneLine words.new.items) }
-{
-    if words.len() > MAX_EXCERPT {
-        words.truncate(MAX_EXCERPT - CUT.len());
-        push_on_one_line(words, CUT)?;
-    }
-    Ok(())
-}
-
 #[tactic(auto, using(bp_text::proofs::TextsOnOneLine::one_line_after))]
 /// The text of its first statement alone: up to `;`, `then` or `do`.
 pub(crate) fn excerpt_of(alloc: Global, text: &[u8]) -> Result<Excerpt, AllocError>
@@ -99,7 +80,6 @@ pub(crate) fn excerpt_of(alloc: Global, text: &[u8]) -> Result<Excerpt, AllocErr
         had_gap = is_gap(lexeme);
         reads_choice |= is_choice(lexeme.text);
     }
-    cut(&mut words)?;
     Ok(Excerpt {
         words,
         reads_choice,

@@ -4,7 +4,7 @@ ghost use Rattle.bp_code.specs.Values.{binding};
 ghost use Rattle.bp_view.specs.Changes.{variables_text};
 ghost use Rattle.bp_view.specs.Heads.{globals_line, head_lines, head_object, number_line, seed_line, string_item, thread_line, thread_lines, view_head};
 
-use crate::options::ViewFormat;
+use crate::options::{ViewFormat, ViewOptions};
 use crate::pieces::push_three;
 use crate::variables::push_value;
 use bp_machine::Setup;
@@ -182,17 +182,20 @@ fn push_head_object(
     )
 }
 
-/// The head of a view: the setup of its history.
+/// The head of a view: the setup of its history, unless the view is brief.
 pub(crate) fn head_of(
     alloc: Global,
-    format: ViewFormat,
+    options: ViewOptions<'_>,
     setup: &Setup,
     globals: &[Name],
 ) -> Result<Vec<u8>, AllocError>
-    ensures { IfOk result (λ v. v.items ≡ view_head format globals.now setup.now) }
+    ensures { IfOk result (λ v. v.items ≡ view_head options.entry globals.now setup.now) }
 {
     let mut head = Vec::new(alloc);
-    match format {
+    if options.is_brief {
+        return Ok(head);
+    }
+    match options.format {
         ViewFormat::Columns => push_head_lines(&mut head, setup, globals)?,
         ViewFormat::Json => {
             let mut note = Vec::new(alloc);

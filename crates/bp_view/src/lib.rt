@@ -32,6 +32,7 @@ mod shown;
 mod shown_traces;
 mod spans;
 mod standings;
+mod statement_columns;
 mod statements;
 mod states;
 mod unreached;

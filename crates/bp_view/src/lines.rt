@@ -13,6 +13,7 @@ use crate::colours::Colour;
 use crate::options::ViewFormat;
 use crate::pieces::{push_four, push_three, push_two};
 use crate::settings::{MAX_INDENTS, Widths};
+use crate::statement_columns::in_column;
 use crate::variables::push_value;
 use bp_machine::Reply;
 use bp_text::Piece::{Bytes, Left, Number, NumberRight, Right, Spaces};
@@ -81,7 +82,8 @@ fn push_statement(line: &mut Vec<u8>, next: Next<'_>) -> Result<(), AllocError>
         return Ok(());
     };
     let indent = 2 * next.depth.min(MAX_INDENTS);
-    push_two(line, Spaces(indent), Bytes(words))
+    let (words, end) = in_column(words);
+    push_three(line, Spaces(indent), Bytes(words), Bytes(end))
 }
 
 /// A choice bit, where one is shown.

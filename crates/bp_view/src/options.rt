@@ -31,6 +31,8 @@ pub struct ViewOptions<'a> {
     pub fold: bool,
     /// Whether the state after the last call follows the foot.
     pub has_state: bool,
+    /// Whether the setup is left out.
+    pub is_brief: bool,
     /// With the colours of a terminal.
     pub has_colour: bool,
     pub format: ViewFormat,
@@ -51,6 +53,7 @@ impl ViewOptions<'_> {
             watch: None,
             fold: false,
             has_state: false,
+            is_brief: false,
             has_colour: false,
             format,
         }

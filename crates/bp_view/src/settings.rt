@@ -2,10 +2,12 @@
 //! columns.
 ghost use Rattle.std.specs.Prelude.{◌≡◌, ◌<◌, ◌^◌, drop, length, map, max, take};
 ghost use Rattle.bp_view.specs.Options.{calls_at, is_shown};
+ghost use Rattle.bp_view.specs.StatementColumns.{shortened};
 ghost use Rattle.bp_view.specs.Widths.{extent, extent_of, longest, AreWidths};
 
 use crate::options::ViewOptions;
 use crate::scenes::Scene;
+use crate::statement_columns::MAX_STATEMENT;
 use crate::waits::calls_in_line;
 use bp_check::Checked;
 use bp_machine::{Call, Setup};
@@ -67,14 +69,15 @@ fn longest_place(scenes: &[Scene]) -> usize
     longest
 }
 
-/// The length of the longest statement that is printed.
+/// The length of the longest statement in its column.
 fn longest_words(scenes: &[Scene]) -> usize
-    ensures is { result ≡ longest (map (λ s. s.excerpt.words.items) scenes.now) }
+    ensures is { let statements = map (λ s. s.excerpt.words.items) scenes.now in
+        result ≡ longest (map shortened statements) }
     ensures fits { result < 2 ^ 63 }
 {
     let mut longest: usize = 0;
     for scene in scenes {
-        longest = longest.max(scene.excerpt.words.len());
+        longest = longest.max(scene.excerpt.words.len().min(MAX_STATEMENT));
     }
     longest
 }

@@ -406,7 +406,7 @@ replay_asked program file trace task plain even asks =
     replay_of file trace task (subst (λ c. IsTaskOf c task) (replay_named program file trace (is_word file plain) (is_word trace even)) asks)
 
 abbrev show_rows : Text → Text → List Row
-show_rows file trace = given (codes "FILE") file ∷ given (codes "TRACE") trace ∷ down (codes "explain") ∷ down (codes "no-explain") ∷ down (codes "fold") ∷ down (codes "state") ∷ down (codes "contexts") ∷ down (codes "steps") ∷ down (codes "json") ∷ []
+show_rows file trace = given (codes "FILE") file ∷ given (codes "TRACE") trace ∷ down (codes "explain") ∷ down (codes "no-explain") ∷ down (codes "fold") ∷ down (codes "state") ∷ down (codes "brief") ∷ down (codes "contexts") ∷ down (codes "steps") ∷ down (codes "json") ∷ []
 
 abbrev show_words : Text → Text → Text → List Text
 show_words program file trace = program ∷ codes "show" ∷ file ∷ trace ∷ []
@@ -438,7 +438,7 @@ show_of file trace (Confirm words) asks = absurd (differ (codes "show") (codes "
 show_of file trace (Run words) asks = absurd (run≢show (sym asks.0))
 show_of file trace (Test words) asks = absurd (differ (codes "show") (codes "test") refl asks.0)
 show_of file trace (Replay words) asks = absurd (replay≢show (sym asks.0))
-show_of file trace (Show words) (named, of) = (of.program, of.trace, of.thread, of.last, of.from, of.to, no_text words.watch of.watch, of.fold.1 refl, of.state.1 refl, of.at, of.contexts.1 refl, of.steps.1 refl, of.json.1 refl, unasked words.explain (of.explain.always.1 refl) (of.explain.never.1 refl))
+show_of file trace (Show words) (named, of) = (of.program, of.trace, of.thread, of.last, of.from, of.to, no_text words.watch of.watch, of.fold.1 refl, of.state.1 refl, of.brief.1 refl, of.at, of.contexts.1 refl, of.steps.1 refl, of.json.1 refl, unasked words.explain (of.explain.always.1 refl) (of.explain.never.1 refl))
 show_of file trace (Migrate words) asks = absurd (show≢migrate asks.0)
 show_of file trace (Shrink words) asks = absurd (differ (codes "show") (codes "shrink") refl asks.0)
 

@@ -174,6 +174,7 @@ show_app =
     ∷ option_rule (codes "watch")
     ∷ flag_rule (codes "fold")
     ∷ flag_rule (codes "state")
+    ∷ flag_rule (codes "brief")
     ∷ long_number_rule (codes "at")
     ∷ flag_rule (codes "contexts")
     ∷ flag_rule (codes "steps")

@@ -26,6 +26,7 @@ option_name option.To = codes "to"
 option_name option.Watch = codes "watch"
 option_name option.Fold = codes "fold"
 option_name option.State = codes "state"
+option_name option.Brief = codes "brief"
 option_name option.Json = codes "json"
 option_name option.Explain = codes "explain"
 option_name option.NoExplain = codes "no-explain"
@@ -44,7 +45,7 @@ is_in_words rows o =
 abbrev pub are_in_words : List Row → OptionName × OptionName → Bool
 are_in_words rows pair = is_in_words rows pair.0 && is_in_words rows pair.1
 
--- the options that choose calls, or what a line has
+-- the options that choose calls, or what stands with them
 abbrev pub on_calls : List OptionName
 on_calls =
     option.Thread
@@ -54,6 +55,7 @@ on_calls =
     ∷ option.Watch
     ∷ option.Fold
     ∷ option.State
+    ∷ option.Brief
     ∷ []
 
 abbrev pub pairs_of : OptionName → List OptionName → List (OptionName × OptionName)

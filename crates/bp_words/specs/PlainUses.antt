@@ -139,6 +139,7 @@ IsPlainShowOf file trace (task.Show words) =
     × (words.watch ≡ None)
     × (words.fold ≡ false)
     × (words.state ≡ false)
+    × (words.brief ≡ false)
     × (words.at ≡ None)
     × (words.contexts ≡ false)
     × (words.steps ≡ false)

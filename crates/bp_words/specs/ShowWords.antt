@@ -16,6 +16,7 @@ pub record IsShowOf (rows : List Row) (words : ShowWords) : Type 0 where
   pub watch : option_map (λ s. s.now) words.watch ≡ first_of (codes "watch") rows
   pub fold : IsFlagOf (one_of (codes "fold") rows) words.fold
   pub state : IsFlagOf (one_of (codes "state") rows) words.state
+  pub brief : IsFlagOf (one_of (codes "brief") rows) words.brief
   pub at : IsNumberIn 64 (one_of (codes "at") rows) words.at
   pub contexts : IsFlagOf (one_of (codes "contexts") rows) words.contexts
   pub steps : IsFlagOf (one_of (codes "steps") rows) words.steps

@@ -23,6 +23,7 @@ pub enum OptionName {
     Watch,
     Fold,
     State,
+    Brief,
     Json,
     Explain,
     NoExplain,
@@ -42,7 +43,7 @@ pub enum Misuse {
 }
 
 /// How many pairs of options are refused.
-const PAIRS: usize = 26;
+const PAIRS: usize = 29;
 
 /// The options that clash: beside the first of a pair, the second has no effect. Earlier pairs are
 /// reported first.
@@ -56,6 +57,7 @@ pub const CLASHES: [(OptionName, OptionName); PAIRS] = [
     (OptionName::At, OptionName::Watch),
     (OptionName::At, OptionName::Fold),
     (OptionName::At, OptionName::State),
+    (OptionName::At, OptionName::Brief),
     (OptionName::Contexts, OptionName::Steps),
     (OptionName::Contexts, OptionName::Thread),
     (OptionName::Contexts, OptionName::Last),
@@ -64,6 +66,7 @@ pub const CLASHES: [(OptionName, OptionName); PAIRS] = [
     (OptionName::Contexts, OptionName::Watch),
     (OptionName::Contexts, OptionName::Fold),
     (OptionName::Contexts, OptionName::State),
+    (OptionName::Contexts, OptionName::Brief),
     (OptionName::Steps, OptionName::Thread),
     (OptionName::Steps, OptionName::Last),
     (OptionName::Steps, OptionName::From),
@@ -71,6 +74,7 @@ pub const CLASHES: [(OptionName, OptionName); PAIRS] = [
     (OptionName::Steps, OptionName::Watch),
     (OptionName::Steps, OptionName::Fold),
     (OptionName::Steps, OptionName::State),
+    (OptionName::Steps, OptionName::Brief),
     (OptionName::Json, OptionName::Fold),
     (OptionName::Explain, OptionName::NoExplain),
 ];
@@ -90,6 +94,7 @@ fn option_name(option: OptionName) -> &'static str
         OptionName::Watch => "watch",
         OptionName::Fold => "fold",
         OptionName::State => "state",
+        OptionName::Brief => "brief",
         OptionName::Json => "json",
         OptionName::Explain => "explain",
         OptionName::NoExplain => "no-explain",

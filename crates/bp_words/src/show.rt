@@ -33,6 +33,8 @@ pub struct ShowWords<'a> {
     pub fold: bool,
     /// Whether `--state` was given: the state after the last call follows.
     pub state: bool,
+    /// Whether `--brief` was given: the setup is left out.
+    pub brief: bool,
     /// After how many calls the state is shown, in place of the calls.
     pub at: Option<u64>,
     /// Whether `--contexts` was given: the contexts are shown, in place of the calls.
@@ -103,6 +105,11 @@ pub fn show_command<'a>(alloc: Global) -> Result<Command<'a>, AllocError>
             help: "Show the state after the last call too",
         },
         Row {
+            name: "brief",
+            takes: Takes::Nothing,
+            help: "Leave out the setup",
+        },
+        Row {
             name: "at",
             takes: Takes::LongNumber,
             help: "Show the state after call N in place of the calls",
@@ -142,6 +149,7 @@ pub fn show_words<'a>(words: &ArgMatches<'a>) -> ShowWords<'a>
         watch: words.get_str("watch"),
         fold: is_given(words, "fold"),
         state: is_given(words, "state"),
+        brief: is_given(words, "brief"),
         at: given_long_number(words, "at"),
         contexts: is_given(words, "contexts"),
         steps: is_given(words, "steps"),

@@ -53,6 +53,7 @@ view_options words has_colour = record {
   watch = words.watch;
   fold = words.fold;
   has_state = words.state;
+  is_brief = words.brief;
   has_colour = has_colour;
   format = format_of words;
 }

@@ -219,6 +219,7 @@ fn view_options<'a>(words: &ShowWords<'a>, has_colour: bool) -> ViewOptions<'a>
         watch: words.watch,
         fold: words.fold,
         has_state: words.state,
+        is_brief: words.brief,
         has_colour,
         format: format_of(words),
     }

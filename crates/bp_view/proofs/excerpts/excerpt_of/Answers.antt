@@ -1,7 +1,7 @@
-use Rattle.std.proofs.Common.{◌∙◌, ap, sym, subst}
+use Rattle.std.proofs.Common.{sym, subst}
 use Rattle.std.specs.Prelude.{◌||◌}
 use Rattle.bp_text.proofs.TextsOnOneLine.{one_line_after}
-use Rattle.bp_view.specs.Statements.{Lexeme, is_choice, shortened}
+use Rattle.bp_view.specs.Statements.{Lexeme, is_choice}
 use Rattle.bp_view.proofs.WordsOfStatements.{ReadsTo, reads_all, reads_more}
 use Rattle.bp_view.proofs.excerpts.excerpt_of.Goals as goal
 
@@ -26,6 +26,6 @@ returns-clause-is c =
     record {
       lexemes = read.lexemes;
       lexemes_are = read.lexemes_are;
-      words_are = c.in_ok-cut.ensures.is ∙ ap shortened read.words_are;
+      words_are = read.words_are;
       reads_is = read.reads_is;
     }

@@ -1,6 +1,7 @@
-use Rattle.std.proofs.Common.{◌≡◌, ◌+◌, ◌<◌, take, length, ap, add-one, arith}
+use Rattle.std.proofs.Common.{◌≡◌, ◌+◌, ◌<◌, map, take, length, ap, add-one, arith}
+use Rattle.bp_view.specs.StatementColumns.{shortened}
 use Rattle.bp_view.specs.Widths.{longest}
-use Rattle.bp_view.proofs.LongestPlaces.{words_items, longest_words_more}
+use Rattle.bp_view.proofs.LongestPlaces.{words_items, longest_words_more, shortened_length}
 use Rattle.bp_view.proofs.settings.longest_words.Goals as goal
 
 pub loop-scene-preserved : goal.loop-scene-preserved
@@ -10,10 +11,12 @@ loop-scene-preserved c =
     let x = c.scene-item.result in
     let within : n < length scenes = omega arith in
     let more = longest_words_more n scenes x within in
-    let size = ap (λ y. length y.excerpt.words.items) c.scene-item.is in
-    let here : c.max-longest.result ≡ longest (words_items (take (n + 1) scenes)) =
-    rw (add-one n) (omega (arith, more, size, c.max-longest.ensures, c.len.ensures, c.loop-scene.invariant.is)) in
+    let words = c.scene-item.result.excerpt.words.items in
+    let size = ap (λ y. length (shortened y.excerpt.words.items)) c.scene-item.is in
+    let least = shortened_length words in
+    let here : c.max-longest.result ≡ longest (map shortened (words_items (take (n + 1) scenes))) =
+    rw (add-one n) (omega (arith, more, size, least, c.max-longest.ensures, c.min.ensures, c.len.ensures, c.loop-scene.invariant.is)) in
     record {
       is = here;
-      fits = omega (arith, c.max-longest.ensures, c.len.ensures, c.loop-scene.invariant.fits);
+      fits = omega (arith, c.max-longest.ensures, c.min.ensures, c.len.ensures, c.loop-scene.invariant.fits);
     }

@@ -1,10 +1,11 @@
-use Rattle.std.proofs.Common.{◌≡◌, ◌<◌, ◌^◌, take}
+use Rattle.std.proofs.Common.{◌≡◌, ◌<◌, ◌^◌, map, take}
+use Rattle.bp_view.specs.StatementColumns.{shortened}
 use Rattle.bp_view.specs.Widths.{longest}
 use Rattle.bp_view.proofs.LongestPlaces.{words_items}
 use Rattle.bp_view.proofs.settings.longest_words.Given as goal
 
 abbrev pub invariant-loop-scene : goal.invariant-loop-scene
 invariant-loop-scene l = record {
-  is : l.longest ≡ longest (words_items (take l.scene-index l.scenes));
+  is : l.longest ≡ longest (map shortened (words_items (take l.scene-index l.scenes)));
   fits : l.longest < 2 ^ 63;
 }

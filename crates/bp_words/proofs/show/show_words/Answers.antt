@@ -15,9 +15,10 @@ returns c = record {
   watch = c.get_str-3.ensures ∙ first_value-rows (found_of c.args.words.now) (codes "watch");
   fold = c.is_given.ensures;
   state = c.is_given-2.ensures;
+  brief = c.is_given-3.ensures;
   at = c.given_long_number-4.ensures;
-  contexts = c.is_given-3.ensures;
-  steps = c.is_given-4.ensures;
-  json = c.is_given-5.ensures;
+  contexts = c.is_given-4.ensures;
+  steps = c.is_given-5.ensures;
+  json = c.is_given-6.ensures;
   explain = c.explain_words.ensures;
 }
