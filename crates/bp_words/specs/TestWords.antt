@@ -1,12 +1,17 @@
 -- What the words after `test` ask for.
-use Rattle.std.specs.Prelude.{◌≡◌, List, codes, option_map}
+use Rattle.std.specs.Prelude.{◌≡◌, ◌+◌, ℕ, List, codes, length, min, option_map}
 use Rattle.clap.specs.Walk.{Row, first_of, one_of}
-use Rattle.bp_machine.specs.declared.limits.TheConstants.{DEFAULT_CONTEXTS, DEFAULT_CALLS}
+use Rattle.bp_machine.specs.declared.limits.TheConstants.{DEFAULT_CALLS, MAX_THREADS}
 use Rattle.bp_run.specs.declared.limits.TheConstants.{DEFAULT_SEED}
 use Rattle.bp_test.specs.declared.limits.TheConstants.{DEFAULT_JOBS, DEFAULT_RUNS}
 use Rattle.bp_words.specs.Values.{bits_in, entries_in, value_of, IsFlagOf, IsNumberOf}
 use Rattle.bp_words.specs.ExplainWords.{IsExplainOf}
 use Rattle.bp_words.specs.declared.test.TestWords.{TestWords}
+
+-- how many contexts a test of so many threads allows, where no other number is given; a setup has
+-- at most MAX_THREADS threads
+abbrev pub contexts_for : ℕ → ℕ
+contexts_for threads = min threads MAX_THREADS + 1
 
 -- the file and the options of `test` are those of its arguments
 pub record IsTestOf (rows : List Row) (words : TestWords) : Type 0 where
@@ -14,7 +19,8 @@ pub record IsTestOf (rows : List Row) (words : TestWords) : Type 0 where
   pub entries : words.start.entries ≡ entries_in rows
   pub init : words.start.init ≡ option_map bits_in (first_of (codes "init") rows)
   pub contexts :
-      IsNumberOf 32 DEFAULT_CONTEXTS (one_of (codes "contexts") rows) words.start.contexts
+      IsNumberOf 32 (contexts_for (length words.start.entries)) (one_of (codes "contexts") rows)
+      words.start.contexts
   pub calls : IsNumberOf 32 DEFAULT_CALLS (one_of (codes "calls") rows) words.start.calls
   pub seed : IsNumberOf 64 DEFAULT_SEED (one_of (codes "seed") rows) words.seed
   pub runs : IsNumberOf 64 DEFAULT_RUNS (one_of (codes "runs") rows) words.runs

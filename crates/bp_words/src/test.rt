@@ -1,16 +1,16 @@
 //! The words of `test`.
-ghost use Rattle.std.specs.Prelude.{◌≡◌, false, IfOk};
+ghost use Rattle.std.specs.Prelude.{◌≡◌, false, length, IfOk};
 ghost use Rattle.clap.specs.Words.{app_of, found_of, rows_of};
 ghost use Rattle.clap.specs.declared.builder.command.Command.TheViews.{out-Command};
 ghost use Rattle.bp_words.specs.Commands.{test_app};
-ghost use Rattle.bp_words.specs.TestWords.{IsTestOf};
+ghost use Rattle.bp_words.specs.TestWords.{contexts_for, IsTestOf};
 
 use crate::arguments::{Row, Takes, with_rows};
 use crate::explain::{ExplainWords, explain_words};
 use crate::files::file_command;
 use crate::values::{entries, init, is_given, long_number, number};
 use bp_machine::Start;
-use bp_machine::limits::{DEFAULT_CALLS, DEFAULT_CONTEXTS};
+use bp_machine::limits::{DEFAULT_CALLS, MAX_THREADS};
 use bp_run::limits::DEFAULT_SEED;
 use bp_test::limits::{DEFAULT_JOBS, DEFAULT_RUNS};
 use clap::{ArgMatches, Command};
@@ -75,7 +75,7 @@ pub fn test_command<'a>(alloc: Global) -> Result<Command<'a>, AllocError>
         Row {
             name: "contexts",
             takes: Takes::Number,
-            help: "Allow N contexts [default: 2]",
+            help: "Allow N contexts [default: one more than there are threads]",
         },
         Row {
             name: "calls",
@@ -117,18 +117,29 @@ pub fn test_command<'a>(alloc: Global) -> Result<Command<'a>, AllocError>
     with_rows(alloc, command, &rows)
 }
 
+/// How many contexts a test of these threads allows, where no other number is given: one more than
+/// there are threads, so that each may begin and one may go on.
+fn default_contexts(entries: &[String]) -> u32
+    ensures { result ≡ contexts_for (length entries.now) }
+{
+    // More threads than that are refused.
+    entries.len().min(MAX_THREADS) as u32 + 1
+}
+
 /// What the words after `test` ask for.
 pub fn test_words<'a>(alloc: Global, words: &ArgMatches<'a>) -> Result<TestWords<'a>, AllocError>
     ensures { IfOk result (IsTestOf (rows_of (found_of words.now))) }
 {
+    let entries = entries(alloc, words)?;
+    let contexts = default_contexts(entries.as_slice());
     // FILE is required, so it is there.
     Ok(TestWords {
         program: words.get_str("FILE").unwrap_or(""),
         explain: explain_words(words),
         start: Start {
-            entries: entries(alloc, words)?,
+            entries,
             init: init(alloc, words)?,
-            contexts: number(words, "contexts", DEFAULT_CONTEXTS),
+            contexts: number(words, "contexts", contexts),
             calls: number(words, "calls", DEFAULT_CALLS),
         },
         seed: long_number(words, "seed", DEFAULT_SEED),
