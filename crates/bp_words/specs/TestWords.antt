@@ -8,8 +8,7 @@ use Rattle.bp_words.specs.Values.{bits_in, entries_in, value_of, IsFlagOf, IsNum
 use Rattle.bp_words.specs.ExplainWords.{IsExplainOf}
 use Rattle.bp_words.specs.declared.test.TestWords.{TestWords}
 
--- how many contexts a test of so many threads allows, where no other number is given; a setup has
--- at most MAX_THREADS threads
+-- how many contexts a test of this many threads allows by default; a setup has at most MAX_THREADS
 abbrev pub contexts_for : ℕ → ℕ
 contexts_for threads = min threads MAX_THREADS + 1
 
