@@ -1,5 +1,5 @@
 -- What plain words ask for: they have no fault, and name the command and its files.
-use Rattle.std.proofs.Common.{arith, get_or, refl, sym, subst, ap, ap₂, codes, not, rules, inl, inr, Bool, true, false, List, Option, Some, None, [], ◌∷◌, ◌≡◌, ◌==◌, ◌∙◌}
+use Rattle.std.proofs.Common.{arith, get_or, length, refl, sym, subst, ap, ap₂, codes, not, rules, inl, inr, Bool, true, false, List, Option, Some, None, [], ◌∷◌, ◌≡◌, ◌==◌, ◌∙◌}
 use Rattle.std.specs.Prelude.{is_some, option_map}
 use Rattle.std.specs.Borrow.{Bor}
 use Rattle.std.specs.Str.{bytes_eq}
@@ -18,6 +18,7 @@ use Rattle.bp_run.specs.Options.{OptionsOf, default_options, options_of}
 use Rattle.bp_run.specs.declared.limits.TheConstants.{DEFAULT_TURN, DEFAULT_SEED, DEFAULT_RING}
 use Rattle.std.proofs.lemmas.Slice.Eq.{bytes_eq-Decides}
 use Rattle.bp_words.specs.Commands.{btrun_app, words_fault, IsTaskOf}
+use Rattle.bp_words.specs.TestWords.{contexts_for}
 use Rattle.bp_words.specs.ExplainWords.{on_terminals}
 use Rattle.bp_words.specs.declared.explain.ExplainWords.{ExplainWords}
 use Rattle.bp_words.specs.PlainUses.{PlainUse, bundle, check, code, confirm, drive, run, test, replay, show, migrate, shrink, is_plain, words_of, HasPlainFiles, IsAskedBy, IsCheckOf, IsCodeOf, IsMigrateOf, IsPlainConfirmOf, IsPlainDriveOf, IsPlainRunOf, IsPlainShowOf, IsPlainTestOf, IsReplayOf, IsShrinkOf}
@@ -362,7 +363,7 @@ test_of file (Code words) asks = absurd (differ (codes "test") (codes "code") re
 test_of file (Drive words) asks = absurd (differ (codes "test") (codes "drive") refl asks.0)
 test_of file (Confirm words) asks = absurd (differ (codes "test") (codes "confirm") refl asks.0)
 test_of file (Run words) asks = absurd (differ (codes "test") (codes "run") refl asks.0)
-test_of file (Test words) (named, of) = (of.program, unasked words.explain (of.explain.always.1 refl) (of.explain.never.1 refl), start_is words.start of.entries of.init of.contexts of.calls, of.seed, of.runs, of.jobs, of.deadlock.1 refl, of.unreached.1 refl, of.json.1 refl)
+test_of file (Test words) (named, of) = (of.program, unasked words.explain (of.explain.always.1 refl) (of.explain.never.1 refl), start_is words.start of.entries of.init (of.contexts ∙ ap (λ es. contexts_for (length es)) of.entries) of.calls, of.seed, of.runs, of.jobs, of.deadlock.1 refl, of.unreached.1 refl, of.json.1 refl)
 test_of file (Replay words) asks = absurd (differ (codes "test") (codes "replay") refl asks.0)
 test_of file (Show words) asks = absurd (differ (codes "test") (codes "show") refl asks.0)
 test_of file (Migrate words) asks = absurd (differ (codes "test") (codes "migrate") refl asks.0)
