@@ -1,14 +1,11 @@
-//! Tests of what no command shows of texts: trees, codes, and watchers of a replay. They stand
-//! here, and not in those crates, since a crate with tests is proved once more with them.
+//! Tests of what no command shows of texts: copies of trees and of codes, a refused tree, and
+//! watchers of a replay. They stand here, and not in those crates, since a crate with tests is
+//! proved once more with them.
 #![tactic(auto)]
 
 #[cfg(test)]
 mod check;
 #[cfg(test)]
-mod code;
-#[cfg(test)]
-mod syntax;
-#[cfg(test)]
-mod tree;
+mod copies;
 #[cfg(test)]
 mod watching;
