@@ -3,17 +3,17 @@ ghost use Rattle.std.specs.Prelude.{◌≡◌, true, is_some, IfOk};
 ghost use Rattle.bp_machine.specs.Setups.{threads, FitsCode};
 ghost use Rattle.bp_board.specs.Kits.{IsNamed};
 
-use crate::fills::{AtBoard, AtDesk, AtSession, RING, Turn, Way};
-use crate::spent::Spent;
-use bp_board::{Board, Calls, Desk, Kit};
+use crate::cases::{Case, RING, unexpected};
+use bp_board::limits::MAX_TURN;
+use bp_board::{Board, Calls, Desk, Kit, Seat, Tap};
 use bp_code::{Code, code_of};
-use bp_machine::{Session, Setup};
+use bp_machine::{Reply, Session, Setup};
 use std::alloc::Global;
 use std::io;
 use std::marker::Brand;
 use std::sync::Wait;
 use std::sync::ledger::Ledger;
-use std::time::Clock;
+use std::time::{Clock, Instant};
 
 /// A thread that steps as often as it is asked.
 const PROGRAM: &[u8] = b"main() begin while (1) do skip; od end";
@@ -22,142 +22,161 @@ const PROGRAM: &[u8] = b"main() begin while (1) do skip; od end";
 const CALLS: u32 = 100_000;
 
 /// How often a round fills the ring.
-pub const FILLS: u32 = CALLS / RING;
-
-/// What is asked, and how.
-#[derive(Clone, Copy)]
-pub enum Case {
-    Session,
-    Desk(Way),
-    Board(Turn),
-}
-
-/// The fault of something that cannot be.
-fn unexpected() -> io::Error {
-    io::Error::from(io::ErrorKind::InvalidData)
-}
-
-/// The code of the program.
-pub fn code(alloc: Global) -> io::Result<Code> {
-    match code_of(alloc, PROGRAM) {
-        Ok(code) => Ok(code),
-        Err(_) => Err(unexpected()),
-    }
-}
+const FILLS: u32 = CALLS / RING;
 
 /// The setup of the thread.
-pub fn setup(alloc: Global, code: &Code) -> io::Result<Setup>
+fn setup(alloc: Global, code: &Code) -> io::Result<Setup>
     ensures { IfOk result (λ s. FitsCode code.now s × (is_some s.seed ≡ true)) }
 {
-    let mut entries = Vec::new(alloc);
-    entries.push(String::from_str(alloc, "main")?)?;
+    let entries = vec![in alloc; String::from_str(alloc, "main")?]?;
     match Setup::new(alloc, code, &entries, &[], 1_000, CALLS, Some(42)) {
         Ok(setup) => Ok(setup),
         Err(_) => Err(unexpected()),
     }
 }
 
-fn session_round<R: Clock>(
-    rt: &R,
-    alloc: Global,
-    code: &Code,
-    setup: &Setup,
-    spent: &mut Spent,
-) -> io::Result<()>
-    requires fits { FitsCode code.now setup.now }
-{
-    let session = Session::new(alloc, code, setup)?;
-    spent.count(rt, &mut AtSession { session }, FILLS)
-}
-
-fn desk_round<C: Calls, O: Ledger, R: Clock>(
-    rt: &R,
-    alloc: Global,
-    kit: Kit,
-    code: &Code,
-    setup: &Setup,
-    way: Way,
-    spent: &mut Spent,
-) -> io::Result<()>
-    requires named { IsNamed kit C.name C.parts O.name O.parts C.ring }
-    requires code { code.now ≡ C.code }
-    requires setup { setup.now ≡ C.setup }
-    requires threads { kit.threads ≡ threads setup.now }
-    requires fits { FitsCode code.now setup.now }
-    requires seeded { is_some setup.now.seed ≡ true }
-{
-    let (desk, mut seats, tap) = Desk::<C, O>::open(alloc, kit, code, setup)?;
-    let Some(seat) = seats.pop() else {
-        return Err(unexpected());
-    };
-    let mut at = AtDesk {
-        desk,
-        seat,
-        tap,
-        way,
-    };
-    spent.count(rt, &mut at, FILLS)
-}
-
-fn board_round<C: Calls, O: Ledger, R: Wait + Clock>(
-    rt: &R,
-    alloc: Global,
-    kit: Kit,
-    code: &Code,
-    setup: &Setup,
-    turn: Turn,
-    spent: &mut Spent,
-) -> io::Result<()>
-    requires named { IsNamed kit C.name C.parts O.name O.parts C.ring }
-    requires code { code.now ≡ C.code }
-    requires setup { setup.now ≡ C.setup }
-    requires threads { kit.threads ≡ threads setup.now }
-    requires fits { FitsCode code.now setup.now }
-    requires seeded { is_some setup.now.seed ≡ true }
-{
-    let (board, mut seats, tap) = Board::<C, O>::open(alloc, kit, code, setup)?;
-    let Some(seat) = seats.pop() else {
-        return Err(unexpected());
-    };
-    let mut at = AtBoard {
-        rt,
-        board,
-        seat,
-        tap,
-        turn,
-    };
-    spent.count(rt, &mut at, FILLS)
-}
-
-/// A kit for the threads of the setup.
-fn kit(alloc: Global, setup: &Setup) -> io::Result<Kit>
-    ensures { IfOk result (λ k. k.threads ≡ threads setup.now) }
-{
-    setup.is_in_range();
-    Ok(Kit::new(alloc, setup.threads(), RING)?)
-}
-
-/// A round of this case.
-pub fn round<R: Wait + Clock>(
-    rt: &R,
-    alloc: Global,
-    code: &Code,
-    setup: &Setup,
-    case: Case,
-    spent: &mut Spent,
-) -> io::Result<()>
-    requires fits { FitsCode code.now setup.now }
-    requires seeded { is_some setup.now.seed ≡ true }
-{
-    match case {
-        Case::Session => session_round(rt, alloc, code, setup, spent),
-        Case::Desk(way) => {
-            let kit = kit(alloc, setup)?;
-            desk_round::<Brand, Brand, R>(rt, alloc, kit, code, setup, way, spent)
-        }
-        Case::Board(turn) => {
-            let kit = kit(alloc, setup)?;
-            board_round::<Brand, Brand, R>(rt, alloc, kit, code, setup, turn, spent)
+/// Fills no ring: whether each ask of a session was a step.
+fn fills_session(session: &mut Session) -> bool {
+    for _ in 0..RING {
+        match session.ask(0) {
+            Ok(call) if call.reply == Reply::Stepped => {}
+            _ => return false,
         }
     }
+    true
+}
+
+/// Fills the ring by single calls: whether each was a step.
+fn fills_desk<C: Calls, O: Ledger>(desk: &mut Desk<C, O>, seat: &mut Seat<C, O>) -> bool {
+    for _ in 0..RING {
+        if desk.ask(seat) != Ok(Reply::Stepped) {
+            return false;
+        }
+    }
+    true
+}
+
+/// Fills the ring by turns of the most calls: whether the last call of each was a step.
+fn fills_board<C: Calls, O: Ledger, R: Wait>(
+    rt: &R,
+    board: &Board<C, O>,
+    seat: &mut Seat<C, O>,
+) -> bool {
+    for _ in 0..RING / MAX_TURN {
+        if board.turn(rt, seat, MAX_TURN) != Ok(Reply::Stepped) {
+            return false;
+        }
+    }
+    true
+}
+
+fn ask_session<R: Clock>(rt: &R, session: &mut Session, case: &mut Case) -> io::Result<()> {
+    for _ in 0..FILLS {
+        let start = Instant::now(rt)?;
+        let are_steps = fills_session(session);
+        case.asked(rt, start, are_steps)?;
+    }
+    Ok(())
+}
+
+fn ask_desk<C: Calls, O: Ledger, R: Clock>(
+    rt: &R,
+    desk: &mut Desk<C, O>,
+    seat: &mut Seat<C, O>,
+    tap: &mut Tap<C>,
+    case: &mut Case,
+) -> io::Result<()> {
+    for _ in 0..FILLS {
+        let start = Instant::now(rt)?;
+        let are_steps = fills_desk(desk, seat);
+        let full = case.asked(rt, start, are_steps)?;
+        case.took(rt, full, tap)?;
+    }
+    Ok(())
+}
+
+fn ask_board<C: Calls, O: Ledger, R: Wait + Clock>(
+    rt: &R,
+    board: &Board<C, O>,
+    seat: &mut Seat<C, O>,
+    tap: &mut Tap<C>,
+    case: &mut Case,
+) -> io::Result<()> {
+    for _ in 0..FILLS {
+        let start = Instant::now(rt)?;
+        let are_steps = fills_board(rt, board, seat);
+        let full = case.asked(rt, start, are_steps)?;
+        case.took(rt, full, tap)?;
+    }
+    Ok(())
+}
+
+/// A round at a desk of this kit, or at a board.
+fn round_at<C: Calls, O: Ledger, R: Wait + Clock>(
+    rt: &R,
+    alloc: Global,
+    kit: Kit,
+    code: &Code,
+    setup: &Setup,
+    is_board: bool,
+    case: &mut Case,
+) -> io::Result<()>
+    requires named { IsNamed kit C.name C.parts O.name O.parts C.ring }
+    requires code { code.now ≡ C.code }
+    requires setup { setup.now ≡ C.setup }
+    requires threads { kit.threads ≡ threads setup.now }
+    requires fits { FitsCode code.now setup.now }
+    requires seeded { is_some setup.now.seed ≡ true }
+{
+    if is_board {
+        let (board, mut seats, mut tap) = Board::<C, O>::open(alloc, kit, code, setup)?;
+        return match seats.get_mut(0) {
+            Some(seat) => ask_board(rt, &board, seat, &mut tap, case),
+            None => Err(unexpected()),
+        };
+    }
+    let (mut desk, mut seats, mut tap) = Desk::<C, O>::open(alloc, kit, code, setup)?;
+    match seats.get_mut(0) {
+        Some(seat) => ask_desk(rt, &mut desk, seat, &mut tap, case),
+        None => Err(unexpected()),
+    }
+}
+
+/// A round at a desk or a board.
+fn round<R: Wait + Clock>(
+    rt: &R,
+    alloc: Global,
+    code: &Code,
+    setup: &Setup,
+    is_board: bool,
+    case: &mut Case,
+) -> io::Result<()>
+    requires fits { FitsCode code.now setup.now }
+    requires seeded { is_some setup.now.seed ≡ true }
+{
+    setup.is_in_range();
+    let kit = Kit::new(alloc, setup.threads(), RING)?;
+    round_at::<Brand, Brand, R>(rt, alloc, kit, code, setup, is_board, case)
+}
+
+/// Makes this many rounds of all cases. Each round has all cases, so that a busy moment of the
+/// machine spoils a round of each, and not all rounds of one.
+pub fn measure<R: Wait + Clock>(
+    rt: &R,
+    alloc: Global,
+    rounds: u32,
+    session: &mut Case,
+    desk: &mut Case,
+    board: &mut Case,
+) -> io::Result<()> {
+    let Ok(code) = code_of(alloc, PROGRAM) else {
+        return Err(unexpected());
+    };
+    let setup = setup(alloc, &code)?;
+    for _ in 0..rounds {
+        ask_session(rt, &mut Session::new(alloc, &code, &setup)?, session)?;
+        round(rt, alloc, &code, &setup, false, desk)?;
+        round(rt, alloc, &code, &setup, true, board)?;
+    }
+    Ok(())
 }
