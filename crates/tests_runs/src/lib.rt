@@ -1,13 +1,10 @@
-//! Tests of the machine and of what runs it: sessions, boards, workers and drawn schedules.
+//! Tests of what no command shows of the machine and of what runs it: sessions and desks by hand,
+//! gathering, and gates.
 #![tactic(auto)]
 
 #[cfg(test)]
 mod board;
 #[cfg(test)]
-mod devices;
-#[cfg(test)]
-mod machine;
-#[cfg(test)]
 mod run;
 #[cfg(test)]
-mod testing;
+mod sessions;

@@ -4,7 +4,7 @@ ghost use Rattle.std.specs.Prelude.{◌≡◌, true, is_some};
 ghost use Rattle.bp_machine.specs.Setups.{threads, FitsCode};
 ghost use Rattle.bp_board.specs.Kits.{IsNamed};
 
-use super::{Example, LOOP, kit_of, setup_of};
+use super::{LOOP, kit_of, setup_of};
 use bp_board::{Board, Calls, Kit, gather};
 use bp_code::Code;
 use bp_machine::Setup;
@@ -12,7 +12,7 @@ use std::alloc::Global;
 use std::marker::Brand;
 use std::sync::ledger::Ledger;
 use std::test::Fail;
-use tests_common::{code_of, mains};
+use tests_common::code_of;
 
 /// What is done with the seats ahead of gathering.
 #[derive(Clone, Copy)]
@@ -48,19 +48,10 @@ fn is_gathered_with<C: Calls, O: Ledger>(
 
 /// Whether a board of two threads of the loop is gathered with this code and setup.
 fn is_gathered(alloc: Global, code: &Code, setup: &Setup, seats: Seats) -> Result<bool, Fail> {
-    let own_code = code_of(alloc, LOOP.text)?;
-    let own = setup_of(alloc, &own_code, TWO)?;
+    let own_code = code_of(alloc, LOOP)?;
+    let own = setup_of(alloc, &own_code, 2, 1, 10)?;
     let kit = kit_of(alloc, &own, 8)?;
     is_gathered_with::<Brand, Brand>(alloc, kit, &own_code, &own, (code, setup, seats))
-}
-
-const TWO: Example = Example { threads: 2, ..LOOP };
-
-/// A setup of this many threads of the loop within this many contexts.
-fn setup_within(alloc: Global, threads: u32, contexts: u32) -> Result<Setup, Fail> {
-    let code = code_of(alloc, LOOP.text)?;
-    let entries = mains(alloc, threads)?;
-    Ok(Setup::new(alloc, &code, &entries, &[], contexts, LOOP.calls, Some(42))?)
 }
 
 /// Whether the board is gathered with a code of this text, and a setup of these numbers of threads
@@ -72,7 +63,7 @@ fn gathers(
     seats: Seats,
 ) -> Result<bool, Fail> {
     let code = code_of(alloc, text)?;
-    let setup = setup_within(alloc, threads, contexts)?;
+    let setup = setup_of(alloc, &code, threads, contexts, 10)?;
     is_gathered(alloc, &code, &setup, seats)
 }
 
@@ -80,12 +71,12 @@ fn gathers(
 fn wants_its_own_code_setup_and_seats(rt: HostRuntime) -> Result<(), Fail> {
     let other: &[u8] = b"main() begin skip; end";
     for (text, numbers, seats, is_right) in [
-        (LOOP.text, (2, 1), Seats::All, true),
-        (LOOP.text, (2, 1), Seats::Turned, true),
-        (LOOP.text, (2, 1), Seats::OneShort, false),
+        (LOOP, (2, 1), Seats::All, true),
+        (LOOP, (2, 1), Seats::Turned, true),
+        (LOOP, (2, 1), Seats::OneShort, false),
         (other, (2, 1), Seats::All, false),
-        (LOOP.text, (2, 2), Seats::All, false),
-        (LOOP.text, (1, 1), Seats::All, false),
+        (LOOP, (2, 2), Seats::All, false),
+        (LOOP, (1, 1), Seats::All, false),
     ] {
         assert!(rt; gathers(rt.alloc(), text, numbers, seats)? == is_right);
     }

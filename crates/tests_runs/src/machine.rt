@@ -1,4 +1,0 @@
-//! Tests of `bp_machine`.
-mod seeds;
-mod sessions;
-mod setups;
