@@ -1,9 +1,8 @@
 //! What `read` answers for each text, as two bytes.
 
-use crate::counters::Counter;
-use crate::tokens::TOKENS;
+use crate::pieces::{Pieces, put_text};
 use bp_syntax::read;
-use std::alloc::{AllocError, Global};
+use std::alloc::Global;
 use std::io;
 use std::io::{BufWriter, Write};
 
@@ -15,75 +14,47 @@ fn digit(number: u32) -> u8 {
 /// The number of the fault of a text as a digit, 0 where it is read, and the place as a byte from
 /// `0`, or `-`.
 fn answer(alloc: Global, text: &[u8]) -> [u8; 2] {
-    let (number, place) = match read(alloc, text) {
-        Ok(_) => (0, None),
-        Err(fault) => (fault.number(), fault.place()),
-    };
-    let place = match place {
-        Some(at) => digit(at),
-        None => b'-',
-    };
-    [digit(number), place]
-}
-
-/// Puts the bytes that have these numbers.
-fn put_bytes(text: &mut Vec<u8>, digits: &[usize]) -> Result<(), AllocError> {
-    for digit in digits {
-        text.push(u8::try_from(*digit).unwrap_or(0))?;
+    match read(alloc, text) {
+        Ok(_) => [b'0', b'-'],
+        Err(fault) => match fault.place() {
+            Some(at) => [digit(fault.number()), digit(at)],
+            None => [digit(fault.number()), b'-'],
+        },
     }
-    Ok(())
 }
 
-/// Puts the tokens that have these numbers, with a space between.
-fn put_tokens(text: &mut Vec<u8>, digits: &[usize]) -> Result<(), AllocError> {
-    for (index, digit) in digits.iter().enumerate() {
-        if index > 0 {
-            text.push(b' ')?;
-        }
-        text.extend_from_slice(TOKENS.get(*digit).unwrap_or(&"").as_bytes())?;
-    }
-    Ok(())
-}
-
-/// Prints the answers for all texts of this many pieces, which are bytes or tokens.
+/// Prints the answers for all texts of this many pieces, on a line.
 fn print_length<W: Write>(
     alloc: Global,
-    is_of_bytes: bool,
-    length: usize,
+    pieces: Pieces,
+    length: u32,
     out: &mut W,
 ) -> io::Result<()> {
-    let base = if is_of_bytes { 256 } else { TOKENS.len() };
-    let mut counter = Counter::new(base, length);
     let mut text = Vec::new(alloc);
-    for _ in 0..counter.count() {
-        text.clear();
-        if is_of_bytes {
-            put_bytes(&mut text, counter.digits())?;
-        } else {
-            put_tokens(&mut text, counter.digits())?;
-        }
+    for number in 0..pieces.texts(length) {
+        put_text(&mut text, pieces, length, number)?;
         out.write_all(&answer(alloc, &text))?;
-        counter.advance();
+    }
+    out.write_all(b"\n")
+}
+
+/// Prints the answers for the texts of up to this many pieces, each length from one on a line.
+fn print_lengths<W: Write>(
+    alloc: Global,
+    pieces: Pieces,
+    most: u32,
+    out: &mut W,
+) -> io::Result<()> {
+    for length in 1..=most {
+        print_length(alloc, pieces, length, out)?;
     }
     Ok(())
 }
 
-/// Prints the answers for the texts of up to this many bytes, and then of up to this many tokens,
-/// each length from one on a line.
-pub fn print<W: Write + Drop>(
-    output: W,
-    alloc: Global,
-    bytes: usize,
-    tokens: usize,
-) -> io::Result<()> {
+/// Prints the answers for the texts of up to this many bytes, and then of up to this many tokens.
+pub fn print<W: Write + Drop>(output: W, alloc: Global, bytes: u32, tokens: u32) -> io::Result<()> {
     let mut out = BufWriter::new(alloc, output)?;
-    for length in 1..=bytes {
-        print_length(alloc, true, length, &mut out)?;
-        out.write_all(b"\n")?;
-    }
-    for length in 1..=tokens {
-        print_length(alloc, false, length, &mut out)?;
-        out.write_all(b"\n")?;
-    }
+    print_lengths(alloc, Pieces::Bytes, bytes, &mut out)?;
+    print_lengths(alloc, Pieces::Tokens, tokens, &mut out)?;
     out.flush()
 }

@@ -5,8 +5,7 @@
 #![tactic(auto)]
 
 mod answers;
-mod counters;
-mod tokens;
+mod pieces;
 
 use std::{env, io};
 
