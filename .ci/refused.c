@@ -1,7 +1,8 @@
-/* Loaded before the C library by .ci/refusals. It refuses the growth or the read whose number the environment names,
-   counted from 1, and each write to standard output from that number on, or that write alone; or each growth after the
-   first write to standard output; or it lets each read and write move one byte alone. To the file that REFUSED names it
-   adds a byte for each refusal. */
+/* Loaded before the C library by .ci/refusals and .ci/growths. It refuses the growth or the read whose number the
+   environment names, counted from 1, and each write to standard output from that number on, or that write alone; or each
+   growth after the first line of standard output; or it lets each read and write move one byte alone. Growths are
+   counted while the number of these lines is odd, if the environment says so. To the file that REFUSED names it adds a
+   byte for each refusal. */
 #define _GNU_SOURCE
 #include <dlfcn.h>
 #include <errno.h>
@@ -13,8 +14,8 @@
 #include <unistd.h>
 
 static atomic_long grown, reads, writes;
-static long no_growth, no_read, no_write, no_one_write, none_behind, is_short;
-static atomic_int has_written;
+static long no_growth, no_read, no_write, no_one_write, none_behind, between_lines, is_short;
+static atomic_long lines;
 static char room[4096];
 static atomic_size_t used;
 
@@ -29,6 +30,7 @@ __attribute__((constructor)) static void begin(void) {
     no_write = number("REFUSE_WRITE");
     no_one_write = number("REFUSE_ONE_WRITE");
     none_behind = number("REFUSE_BEHIND");
+    between_lines = number("REFUSE_BETWEEN");
     is_short = number("SHORT_IO");
 }
 
@@ -47,7 +49,10 @@ static int refused(atomic_long *count, long which) {
 }
 
 static int refused_growth(void) {
-    return (none_behind && atomic_load(&has_written) && told()) || refused(&grown, no_growth);
+    long written = atomic_load(&lines);
+    if (between_lines && written % 2 == 0)
+        return 0;
+    return (none_behind && written && told()) || refused(&grown, no_growth);
 }
 
 static int refused_from(atomic_long *count, long which) {
@@ -110,8 +115,9 @@ static ssize_t written(int file, const void *bytes, size_t size) {
         return -1;
     }
     ssize_t count = syscall(SYS_write, file, bytes, is_short && size ? 1 : size);
-    if (file == STDOUT_FILENO)
-        atomic_store(&has_written, 1);
+    for (ssize_t at = 0; file == STDOUT_FILENO && at < count; at++)
+        if (((const char *)bytes)[at] == '\n')
+            atomic_fetch_add(&lines, 1);
     return count;
 }
 

@@ -1,23 +1,24 @@
 //! Desks and boards: what was asked before a refusal stands, and the thread continues after it.
-ghost use Rattle.std.specs.Prelude.{◌≡◌, true, is_some};
+ghost use Rattle.std.specs.Prelude.{◌≡◌, true, is_some, IfOk};
 ghost use Rattle.bp_machine.specs.Setups.{threads, FitsCode};
 ghost use Rattle.bp_board.specs.Kits.{IsNamed};
 
-use super::ready::{calls, code, kit, setup, tell, wants};
-use bp_board::{Board, Calls, Desk, Kit, Seat, Tap};
+use super::ready::{begin, calls, setup, tell, wants};
+use bp_board::{Board, Calls, Desk, Kit, Seat, Tap, gather};
 use bp_code::Code;
-use bp_machine::{AskFault, Call, Setup};
+use bp_machine::{AskFault, Session, Setup};
 use bp_run::{Open, Signals, Unfinished, work};
-use std::alloc::Global;
+use std::alloc::{AllocError, Global};
 use std::marker::Brand;
+use std::rt::Runtime;
 use std::sync::Wait;
 use std::sync::ledger::Ledger;
 use std::test::Fail;
-use std::time::Clock;
+use tests_common::code_of;
 
-/// How a thread makes its calls.
-#[derive(Clone, Copy)]
-enum Way {
+/// How the calls of a thread are made.
+#[derive(Clone, Copy, PartialEq, Eq)]
+pub(super) enum Way {
     /// Single calls at a desk.
     Asks,
     /// Turns of three calls at a desk.
@@ -26,46 +27,29 @@ enum Way {
     BoardTurns,
     /// The work of a worker at a board.
     Work,
-}
-
-fn makes_a_kit(alloc: Global) -> Result<bool, Fail> {
-    match Kit::new(alloc, 3, 64) {
-        Ok(_) => Ok(false),
-        Err(_) => {
-            Kit::new(alloc, 3, 64)?;
-            Ok(true)
-        }
-    }
+    /// The same where no memory is left.
+    Starved,
+    /// None: a board is gathered after a turn.
+    Gathered,
 }
 
 #[test]
 fn make_a_kit(rt: HostRuntime) -> Result<(), Fail> {
-    tell(&rt, makes_a_kit(rt.alloc())?)
+    begin(&rt)?;
+    let is_refused = Kit::new(rt.alloc(), 3, 64).is_err();
+    tell(&rt, is_refused)?;
+    wants(!is_refused || Kit::new(rt.alloc(), 3, 64).is_ok())
 }
 
-/// Takes the calls that a tap gives.
-fn take<C: Calls>(tap: &mut Tap<C>, made: &mut [Option<Call>]) {
-    for place in made.iter_mut() {
-        *place = tap.next();
+/// Whether a tap gives the first calls of thread 0 of a session, and nothing more.
+fn gives_calls_of<C: Calls>(tap: &mut Tap<C>, session: &mut Session) -> bool {
+    for _ in 0..20 {
+        let call = session.ask(0).ok();
+        if call.is_none() || tap.next() != call {
+            return false;
+        }
     }
-}
-
-/// What is made of an answer: whether it was refused, where it was refused memory or is right.
-fn was_refused<T: Drop>(answer: Result<T, AskFault>) -> Result<bool, Fail> {
-    match answer {
-        Ok(_) => Ok(false),
-        Err(AskFault::Memory) => Ok(true),
-        Err(_) => Err(Fail::from("another refusal")),
-    }
-}
-
-/// Whether a worker was stopped, where it was refused memory or has done its work.
-fn was_stopped(done: Result<(), Unfinished>) -> Result<bool, Fail> {
-    match done {
-        Ok(()) => Ok(false),
-        Err(Unfinished::Memory) => Ok(true),
-        Err(_) => Err(Fail::from("another stop")),
-    }
+    tap.next().is_none()
 }
 
 /// Makes the calls of a seat at a desk: whether one was refused.
@@ -73,108 +57,89 @@ fn play_at_desk<C: Calls, O: Ledger>(
     desk: &mut Desk<C, O>,
     seat: &mut Seat<C, O>,
     way: Way,
-) -> Result<bool, Fail> {
-    let mut refused = false;
+) -> bool {
+    let mut was_refused = false;
     for _ in 0..22 {
-        if seat.is_open() {
-            let before = seat.calls();
-            let answer = match way {
-                Way::Asks => desk.ask(seat),
-                _ => desk.turn(seat, 3),
-            };
-            let is_refused = was_refused(answer)?;
-            wants(is_refused || before < seat.calls())?;
-            refused = refused || is_refused;
-        }
+        let answer = match way {
+            Way::Asks => desk.ask(seat),
+            _ => desk.turn(seat, 3),
+        };
+        was_refused = was_refused || answer == Err(AskFault::Memory);
     }
-    Ok(refused)
+    was_refused
 }
 
-/// Makes the calls of the first seat at a desk: whether one was refused.
-fn calls_at_desk<C: Calls, O: Ledger>(
-    desk: &mut Desk<C, O>,
-    seats: &mut [Seat<C, O>],
-    tap: &mut Tap<C>,
-    way: Way,
-    made: &mut [Option<Call>],
-) -> Result<bool, Fail> {
-    let Some(seat) = seats.get_mut(0) else {
-        return Err(Fail::from("no seat"));
-    };
-    let refused = play_at_desk(desk, seat, way)?;
-    take(tap, made);
-    Ok(refused)
-}
-
-/// Makes the calls of thread 0 at a desk of this kit: whether one was refused, or the desk.
-fn desk_calls<C: Calls, O: Ledger>(
-    alloc: Global,
-    kit: Kit,
-    code: &Code,
-    setup: &Setup,
-    way: Way,
-    made: &mut [Option<Call>],
-) -> Result<bool, Fail>
-    requires named { IsNamed kit C.name C.parts O.name O.parts C.ring }
-    requires code { code.now ≡ C.code }
-    requires setup { setup.now ≡ C.setup }
-    requires threads { kit.threads ≡ threads setup.now }
-    requires fits { FitsCode code.now setup.now }
-    requires seeded { is_some setup.now.seed ≡ true }
-{
-    let Ok((mut desk, mut seats, mut tap)) = Desk::<C, O>::open(alloc, kit, code, setup) else {
-        return Ok(true);
-    };
-    calls_at_desk(&mut desk, seats.as_mut_slice(), &mut tap, way, made)
-}
-
-/// Makes the calls of a seat at a board: whether one was refused.
-fn play_at_board<C: Calls, O: Ledger, R: Wait + Clock>(
+/// Makes a turn or does the work of a seat at a board: whether it was refused memory.
+fn is_refused<C: Calls, O: Ledger, R: Wait + Runtime>(
     rt: &R,
     board: &Board<C, O>,
     seat: &mut Seat<C, O>,
     way: Way,
-) -> Result<bool, Fail> {
-    let mut refused = false;
-    for _ in 0..22 {
-        if seat.is_open() {
-            let answer = match way {
-                Way::Work => was_stopped(work(rt, board, seat, 3, &Open, &Signals::new()))?,
-                _ => was_refused(board.turn(rt, seat, 3))?,
-            };
-            refused = refused || answer;
-        }
+) -> bool {
+    match way {
+        Way::BoardTurns => board.turn(rt, seat, 3) == Err(AskFault::Memory),
+        _ => work(rt, board, seat, 3, &Open, &Signals::new()) == Err(Unfinished::Memory),
     }
-    Ok(refused)
 }
 
-/// Makes the calls of the first seat at a board: whether one was refused.
-fn calls_at_board<C: Calls, O: Ledger, R: Wait + Clock>(
+/// Makes the calls of a seat at a board, once more where that is refused. The tap gives all of
+/// them; where no memory is left the seat is open.
+fn plays<C: Calls, O: Ledger, R: Wait + Runtime>(
     rt: &R,
     board: &Board<C, O>,
-    seats: &mut [Seat<C, O>],
+    seat: &mut Seat<C, O>,
     tap: &mut Tap<C>,
     way: Way,
-    made: &mut [Option<Call>],
-) -> Result<bool, Fail> {
-    let Some(seat) = seats.get_mut(0) else {
-        return Err(Fail::from("no seat"));
-    };
-    let refused = play_at_board(rt, board, seat, way)?;
-    take(tap, made);
-    Ok(refused)
+    session: &mut Session,
+) -> Result<(), Fail> {
+    begin(rt)?;
+    let mut was_refused = false;
+    for _ in 0..22 {
+        was_refused = is_refused(rt, board, seat, way) || was_refused;
+    }
+    tell(rt, was_refused)?;
+    if way == Way::Starved {
+        return wants(seat.is_open() == was_refused);
+    }
+    wants(gives_calls_of(tap, session))
 }
 
-/// Makes the calls of thread 0 at a board of this kit: whether one was refused, or the board.
-fn board_calls<C: Calls, O: Ledger, R: Wait + Clock>(
+/// Makes a turn of two calls of thread 1 of two, takes one of them, gathers the board, and takes
+/// the other one.
+fn gathers<C: Calls, O: Ledger, R: Wait + Runtime>(
+    rt: &R,
+    board: Board<C, O>,
+    mut seats: Vec<Seat<C, O>>,
+    mut tap: Tap<C>,
+    code: &Code,
+    setup: &Setup,
+) -> Result<(), Fail> {
+    let Some(seat) = seats.get_mut(1) else {
+        return Err(Fail::from("no seat"));
+    };
+    board.turn(rt, seat, 2)?;
+    begin(rt)?;
+    wants(seat.thread() == 1 && seat.calls() == 2 && seat.is_open())?;
+    let first = tap.next();
+    let Ok(mut gathered) = gather(board, seats, tap, code, setup) else {
+        return Err(Fail::from("another board"));
+    };
+    let taken = (first, gathered.tap.next(), gathered.tap.next());
+    wants(gathered.report.calls == 2 && gathered.report.left_open == 2)?;
+    wants(matches!(taken, (Some(first), Some(_), None) if first.thread == 1))
+}
+
+/// Makes the calls of thread 0 at a board of this kit, which have to be those of the session, or
+/// gathers the board.
+fn at_a_board<C: Calls, O: Ledger, R: Wait + Runtime>(
     rt: &R,
     alloc: Global,
     kit: Kit,
     code: &Code,
     setup: &Setup,
     way: Way,
-    made: &mut [Option<Call>],
-) -> Result<bool, Fail>
+    session: &mut Session,
+) -> Result<(), Fail>
     requires named { IsNamed kit C.name C.parts O.name O.parts C.ring }
     requires code { code.now ≡ C.code }
     requires setup { setup.now ≡ C.setup }
@@ -182,98 +147,85 @@ fn board_calls<C: Calls, O: Ledger, R: Wait + Clock>(
     requires fits { FitsCode code.now setup.now }
     requires seeded { is_some setup.now.seed ≡ true }
 {
-    let Ok((board, mut seats, mut tap)) = Board::<C, O>::open(alloc, kit, code, setup) else {
-        return Ok(true);
-    };
-    calls_at_board(rt, &board, seats.as_mut_slice(), &mut tap, way, made)
+    let (board, mut seats, mut tap) = Board::<C, O>::open(alloc, kit, code, setup)?;
+    if way == Way::Gathered {
+        return gathers(rt, board, seats, tap, code, setup);
+    }
+    match seats.get_mut(0) {
+        Some(seat) => plays(rt, &board, seat, &mut tap, way, session),
+        None => Err(Fail::from("no seat")),
+    }
 }
 
-/// Makes the calls of thread 0 at a desk or a board that is made for it.
-fn make_calls<R: Wait + Clock>(
+/// Makes the calls of thread 0 at a desk of this kit, which have to be those of the session. The
+/// desk itself may be refused.
+fn at_a_desk<C: Calls, O: Ledger, R: Runtime>(
     rt: &R,
     alloc: Global,
+    kit: Kit,
     code: &Code,
     setup: &Setup,
     way: Way,
-    made: &mut [Option<Call>],
-) -> Result<bool, Fail>
+    session: &mut Session,
+) -> Result<(), Fail>
+    requires named { IsNamed kit C.name C.parts O.name O.parts C.ring }
+    requires code { code.now ≡ C.code }
+    requires setup { setup.now ≡ C.setup }
+    requires threads { kit.threads ≡ threads setup.now }
     requires fits { FitsCode code.now setup.now }
     requires seeded { is_some setup.now.seed ≡ true }
 {
-    let kit = kit(alloc, setup, 64)?;
+    begin(rt)?;
+    let Ok((mut desk, mut seats, mut tap)) = Desk::<C, O>::open(alloc, kit, code, setup) else {
+        return Ok(tell(rt, true)?);
+    };
+    let Some(seat) = seats.get_mut(0) else {
+        return Err(Fail::from("no seat"));
+    };
+    let was_refused = play_at_desk(&mut desk, seat, way);
+    tell(rt, was_refused)?;
+    wants(gives_calls_of(&mut tap, session))
+}
+
+/// A kit for the threads of the setup.
+fn kit(alloc: Global, setup: &Setup) -> Result<Kit, AllocError>
+    ensures { IfOk result (λ k. k.threads ≡ threads setup.now) }
+{
+    setup.is_in_range();
+    Kit::new(alloc, setup.threads(), 64)
+}
+
+/// The same at a desk or a board of the program that calls itself.
+pub(super) fn makes_calls<R: Wait + Runtime>(rt: &R, alloc: Global, way: Way) -> Result<(), Fail> {
+    let code = code_of(alloc, calls())?;
+    let threads = if way == Way::Gathered { 2 } else { 1 };
+    let setup = setup(alloc, &code, threads, Some(42))?;
+    let mut session = Session::new(alloc, &code, &setup)?;
+    let kit = kit(alloc, &setup)?;
     match way {
         Way::Asks | Way::DeskTurns => {
-            desk_calls::<Brand, Brand>(alloc, kit, code, setup, way, made)
+            at_a_desk::<Brand, Brand, R>(rt, alloc, kit, &code, &setup, way, &mut session)
         }
-        Way::BoardTurns | Way::Work => {
-            board_calls::<Brand, Brand, R>(rt, alloc, kit, code, setup, way, made)
-        }
+        _ => at_a_board::<Brand, Brand, R>(rt, alloc, kit, &code, &setup, way, &mut session),
     }
-}
-
-/// Makes the calls, and once more at another desk or board where the first one was refused:
-/// whether something was refused.
-fn make_some_calls<R: Wait + Clock>(
-    rt: &R,
-    alloc: Global,
-    code: &Code,
-    setup: &Setup,
-    way: Way,
-    made: &mut [Option<Call>],
-) -> Result<bool, Fail>
-    requires fits { FitsCode code.now setup.now }
-    requires seeded { is_some setup.now.seed ≡ true }
-{
-    let was_refused = make_calls(rt, alloc, code, setup, way, made)?;
-    if let Some(None) = made.first() {
-        make_calls(rt, alloc, code, setup, way, made)?;
-    }
-    Ok(was_refused)
-}
-
-/// Whether something was refused, and the calls are those without a refusal.
-fn are_alike<R: Wait + Clock>(
-    rt: &R,
-    alloc: Global,
-    code: &Code,
-    setup: &Setup,
-    way: Way,
-) -> Result<bool, Fail>
-    requires fits { FitsCode code.now setup.now }
-    requires seeded { is_some setup.now.seed ≡ true }
-{
-    let mut first = [None; 20];
-    let mut second = [None; 20];
-    let one = make_some_calls(rt, alloc, code, setup, way, &mut first)?;
-    let two = make_some_calls(rt, alloc, code, setup, way, &mut second)?;
-    wants(first == second && first[0].is_some())?;
-    Ok(one || two)
-}
-
-/// Whether something was refused, and the calls of the program that calls itself are those without
-/// a refusal.
-fn calls_alike<R: Wait + Clock>(rt: &R, alloc: Global, way: Way) -> Result<bool, Fail> {
-    let code = code(alloc, calls())?;
-    let setup = setup(alloc, &code, 1, Some(42))?;
-    are_alike(rt, alloc, &code, &setup, way)
 }
 
 #[test]
 fn ask_at_a_desk(rt: HostRuntime) -> Result<(), Fail> {
-    tell(&rt, calls_alike(&rt, rt.alloc(), Way::Asks)?)
+    makes_calls(&rt, rt.alloc(), Way::Asks)
 }
 
 #[test]
 fn turn_at_a_desk(rt: HostRuntime) -> Result<(), Fail> {
-    tell(&rt, calls_alike(&rt, rt.alloc(), Way::DeskTurns)?)
+    makes_calls(&rt, rt.alloc(), Way::DeskTurns)
 }
 
 #[test]
 fn turn_at_a_board(rt: HostRuntime) -> Result<(), Fail> {
-    tell(&rt, calls_alike(&rt, rt.alloc(), Way::BoardTurns)?)
+    makes_calls(&rt, rt.alloc(), Way::BoardTurns)
 }
 
 #[test]
 fn work_at_a_board(rt: HostRuntime) -> Result<(), Fail> {
-    tell(&rt, calls_alike(&rt, rt.alloc(), Way::Work)?)
+    makes_calls(&rt, rt.alloc(), Way::Work)
 }

@@ -1,10 +1,10 @@
 //! A run in which one worker alone takes frames, after the others were started. Where it is refused
 //! one, the others end, and its line stays open after the calls that it made.
-use super::ready::{output, tell, wants};
-use super::runs::is_replayed;
-use bp_machine::{Outcome, Reply, Report, Start};
-use bp_run::{Gate, RunFault, RunOptions, RunReport, run};
+use super::ready::{begin, tell, wants};
+use bp_machine::{Outcome, Reply, Start};
+use bp_run::{Gate, RunFault, RunOptions, RunReport, WorkerCount, run};
 use std::alloc::{AllocError, Global};
+use std::rt::Runtime;
 use std::sync::Wait;
 use std::sync::atomic::{AtomicU64, Ordering};
 use std::test::Fail;
@@ -50,6 +50,15 @@ impl Held {
         }
         false
     }
+
+    /// How many turns of `b` were answered, none if it came too early.
+    fn answered(&self) -> Option<u64> {
+        if self.missed.load(Ordering::SeqCst) == 0 {
+            Some(self.answered.load(Ordering::SeqCst))
+        } else {
+            None
+        }
+    }
 }
 
 impl Gate for Held {
@@ -69,19 +78,11 @@ impl Gate for Held {
     }
 }
 
-/// The entries of the three threads.
-fn entries(alloc: Global) -> Result<Vec<String>, AllocError> {
-    match names(alloc, &["a", "b", "a"]) {
-        Ok(entries) => Ok(entries),
-        Err(_) => names(alloc, &["a", "b", "a"]),
-    }
-}
-
 /// Ten calls of each thread, by turns of one.
 fn options(alloc: Global) -> Result<RunOptions, AllocError> {
     Ok(RunOptions {
         start: Start {
-            entries: entries(alloc)?,
+            entries: names(alloc, &["a", "b", "a"])?,
             init: None,
             contexts: 1000,
             calls: 10,
@@ -92,75 +93,47 @@ fn options(alloc: Global) -> Result<RunOptions, AllocError> {
     })
 }
 
-/// How many calls of the thread of `b` a trace has.
-fn calls_of_caller(trace: &[u8]) -> u64 {
-    let mut count: u64 = 0;
-    for line in trace.split(|byte| *byte == b'\n') {
-        if line.len() == 5 && line.starts_with(b"1 ") {
-            count = count.saturating_add(1);
-        }
-    }
-    count
+/// Whether a run is as it should be where so many turns of `b`, of one call each, were answered: it
+/// made all its calls, or its line is open after those that it made. Its worker counted the same.
+fn is_right(done: &RunReport, own: u64) -> bool {
+    let count = WorkerCount {
+        thread: CALLER,
+        calls: own,
+        is_open: own < 10,
+    };
+    matches!(done.workers.get(CALLER as usize), Some(counted) if *counted == count)
+        && done.counts_agree
+        && done.report.outcome == Outcome::Clean
+        && done.report.calls == OTHERS.saturating_add(own)
+        && done.report.left_open == u32::from(count.is_open)
 }
 
-/// Whether a run is as it should be: `b` made all its calls, or its line is open after those that
-/// it made. Each turn of one call was answered.
-fn is_right(gate: &Held, trace: &[u8], report: Report) -> bool {
-    let own = calls_of_caller(trace);
-    report.outcome == Outcome::Clean
-        && report.calls == OTHERS.saturating_add(own)
-        && report.left_open == u32::from(own < 10)
-        && gate.answered.load(Ordering::SeqCst) == own
-        && gate.missed.load(Ordering::SeqCst) == 0
-}
-
-/// Whether the worker of `b` counted what the others did not make, and left its line open where it
-/// is.
-fn is_counted(done: &RunReport) -> bool {
-    match done.workers.get(CALLER as usize) {
-        Some(worker) => {
-            done.counts_agree
-                && worker.thread == CALLER
-                && worker.calls.saturating_add(OTHERS) == done.report.calls
-                && worker.is_open == (done.report.left_open == 1)
-        }
-        None => false,
-    }
-}
-
-/// Whether the worker of `b` was refused memory in a run that came to this. The run itself may be,
-/// and has then written nothing.
-fn has_refused_caller(
-    alloc: Global,
-    gate: &Held,
-    trace: &[u8],
-    done: &Result<RunReport, RunFault>,
-) -> Result<bool, Fail> {
-    match done {
-        Ok(done) => {
-            wants(is_right(gate, trace, done.report) && is_counted(done))?;
-            wants(is_replayed(alloc, PROGRAM, trace, done.report)?)?;
-            Ok(done.report.left_open == 1)
-        }
-        Err(fault) => {
-            wants(matches!(fault.number(), 7 | 53) && trace.is_empty())?;
-            Ok(false)
-        }
-    }
+/// Looks at what a run came to, where the line that tells of a refused worker was written: the run
+/// itself may be refused, and has then written nothing.
+fn looks(gate: &Held, trace: &[u8], done: &Result<RunReport, RunFault>) -> Result<(), Fail> {
+    wants(match done {
+        Ok(done) => matches!(gate.answered(), Some(own) if is_right(done, own)),
+        Err(fault) => matches!(fault.number(), 7 | 53) && trace.is_empty(),
+    })
 }
 
 /// Whether the worker of `b` was refused memory.
-fn is_caller_refused<R: Threads + Wait + Clock + Sync>(
-    rt: &R,
-    alloc: Global,
-) -> Result<bool, Fail> {
+fn is_caller_refused(done: &Result<RunReport, RunFault>) -> bool {
+    matches!(done, Ok(done) if done.report.left_open == 1)
+}
+
+/// Runs the program, and looks at what it came to.
+fn runs<R: Threads + Wait + Runtime + Sync>(rt: &R, alloc: Global) -> Result<(), Fail> {
     let options = options(alloc)?;
-    let (gate, mut out) = (Held::new(), output(alloc)?);
+    let mut out = Vec::with_capacity(alloc, 4096)?;
+    let gate = Held::new();
+    begin(rt)?;
     let done = run(rt, alloc, PROGRAM, &options, &gate, &mut out);
-    has_refused_caller(alloc, &gate, &out, &done)
+    tell(rt, is_caller_refused(&done))?;
+    looks(&gate, &out, &done)
 }
 
 #[test]
 fn run_with_a_refused_worker(rt: HostRuntime) -> Result<(), Fail> {
-    tell(&rt, is_caller_refused(&rt, rt.alloc())?)
+    runs(&rt, rt.alloc())
 }

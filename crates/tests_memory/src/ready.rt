@@ -1,14 +1,14 @@
-//! What the calls need, made once more where a growth of it is refused.
-ghost use Rattle.std.specs.Prelude.{◌≡◌, true, is_some, IfOk};
-ghost use Rattle.bp_machine.specs.Setups.{threads, FitsCode};
+//! What the calls need, and the lines that the script reads.
+ghost use Rattle.std.specs.Prelude.{◌≡◌, IfOk};
+ghost use Rattle.bp_machine.specs.Setups.{FitsCode};
 
-use bp_board::Kit;
-use bp_board::limits::MAX_RING;
 use bp_code::Code;
 use bp_machine::Setup;
-use std::alloc::{AllocError, Global};
+use std::alloc::Global;
+use std::io;
+use std::rt::Runtime;
 use std::test::Fail;
-use tests_common::{code_of, mains};
+use tests_common::mains;
 
 /// Two globals and two procedures, one of which calls the other by a choice.
 const PROGRAM: &[u8] = b"decl x, y; \
@@ -29,22 +29,6 @@ pub(super) fn calls() -> &'static [u8] {
     CALLS
 }
 
-/// The code of a program with two globals.
-pub(super) fn code(alloc: Global, text: &[u8]) -> Result<Code, Fail> {
-    match bp_code::code_of(alloc, text) {
-        Ok(code) => Ok(code),
-        Err(_) => code_of(alloc, text),
-    }
-}
-
-/// The entries of this many threads.
-pub(super) fn entries(alloc: Global, count: u32) -> Result<Vec<String>, AllocError> {
-    match mains(alloc, count) {
-        Ok(entries) => Ok(entries),
-        Err(_) => mains(alloc, count),
-    }
-}
-
 /// The setup of this many threads with 20 calls each, with the seed 42 or without one.
 pub(super) fn setup(
     alloc: Global,
@@ -54,46 +38,19 @@ pub(super) fn setup(
 ) -> Result<Setup, Fail>
     ensures { IfOk result (λ s. FitsCode code.now s × (s.seed ≡ seed)) }
 {
-    let entries = entries(alloc, threads)?;
-    match Setup::new(alloc, code, &entries, &[false, false], 1000, 20, seed) {
-        Ok(setup) => Ok(setup),
-        Err(_) => {
-            let again = Setup::new(alloc, code, &entries, &[false, false], 1000, 20, seed);
-            Ok(again?)
-        }
-    }
+    let entries = mains(alloc, threads)?;
+    Ok(Setup::new(alloc, code, &entries, &[false, false], 1000, 20, seed)?)
 }
 
-/// A kit for the threads of the setup, with a ring of this many calls.
-pub(super) fn kit(alloc: Global, setup: &Setup, ring: u32) -> Result<Kit, Fail>
-    ensures { IfOk result (λ k. k.threads ≡ threads setup.now) }
-{
-    setup.is_in_range();
-    if ring == 0 || ring > MAX_RING {
-        return Err(Fail::from("no ring"));
-    }
-    match Kit::new(alloc, setup.threads(), ring) {
-        Ok(kit) => Ok(kit),
-        Err(_) => Ok(Kit::new(alloc, setup.threads(), ring)?),
-    }
+/// Prints the line after which growths are refused.
+pub(super) fn begin<R: Runtime>(rt: &R) -> io::Result<()> {
+    println!(rt; "ready")
 }
 
-/// An empty output with room for what the tests write.
-pub(super) fn output(alloc: Global) -> Result<Vec<u8>, AllocError> {
-    let mut bytes = match vec![in alloc; 0; 4096] {
-        Ok(bytes) => bytes,
-        Err(_) => vec![in alloc; 0; 4096]?,
-    };
-    bytes.clear();
-    Ok(bytes)
-}
-
-/// Prints a line where the call was refused once, so that the script knows it.
-pub(super) fn tell(rt: &HostRuntime, was_refused: bool) -> Result<(), Fail> {
-    if was_refused {
-        println!(rt; "refused")?;
-    }
-    Ok(())
+/// Prints the line after which no growth is refused: whether the call was refused once.
+pub(super) fn tell<R: Runtime>(rt: &R, was_refused: bool) -> io::Result<()> {
+    let told = if was_refused { "refused" } else { "done" };
+    println!(rt; "{told}")
 }
 
 /// A failure unless the answer is right.

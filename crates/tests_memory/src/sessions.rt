@@ -1,11 +1,12 @@
 //! Sessions and their calls: after a refusal a session makes the calls that it makes without one.
 ghost use Rattle.bp_machine.specs.Setups.{FitsCode};
 
-use super::ready::{calls, code, program, setup, tell, wants};
+use super::ready::{begin, calls, program, setup, tell, wants};
 use bp_code::Code;
 use bp_machine::{AskFault, Call, Session, Setup};
 use std::alloc::Global;
 use std::test::Fail;
+use tests_common::code_of;
 
 /// How a call is made.
 #[derive(Clone, Copy, PartialEq, Eq)]
@@ -15,37 +16,32 @@ enum Way {
     Prepare,
 }
 
-/// Whether a session of three threads is as it is made.
-fn is_new(session: &Session, setup: &Setup) -> bool {
-    session.open_lines() == 3 && *session.setup() == *setup
-}
-
-/// Whether the first session was refused. The one that is made is new.
-fn is_refused_once(alloc: Global, code: &Code, setup: &Setup) -> Result<bool, Fail>
+/// Makes a session, once more where it is refused. It is new.
+fn makes_a_session(rt: &HostRuntime, code: &Code, setup: &Setup) -> Result<(), Fail>
     requires fits { FitsCode code.now setup.now }
 {
-    match Session::new(alloc, code, setup) {
-        Ok(session) => {
-            wants(is_new(&session, setup))?;
-            Ok(false)
-        }
-        Err(_) => {
-            let session = Session::new(alloc, code, setup)?;
-            wants(is_new(&session, setup))?;
-            Ok(true)
-        }
-    }
-}
-
-fn makes_a_session(alloc: Global) -> Result<bool, Fail> {
-    let code = code(alloc, program())?;
-    let setup = setup(alloc, &code, 3, None)?;
-    is_refused_once(alloc, &code, &setup)
+    begin(rt)?;
+    let made = Session::new(rt.alloc(), code, setup);
+    tell(rt, made.is_err())?;
+    let session = match made {
+        Ok(session) => session,
+        Err(_) => Session::new(rt.alloc(), code, setup)?,
+    };
+    wants(session.open_lines() == 3 && *session.setup() == *setup)
 }
 
 #[test]
 fn make_a_session(rt: HostRuntime) -> Result<(), Fail> {
-    tell(&rt, makes_a_session(rt.alloc())?)
+    let code = code_of(rt.alloc(), program())?;
+    let setup = setup(rt.alloc(), &code, 3, None)?;
+    makes_a_session(&rt, &code, &setup)
+}
+
+/// A session of one thread of a program.
+fn session_of(alloc: Global, text: &[u8], seed: Option<u64>) -> Result<Session, Fail> {
+    let code = code_of(alloc, text)?;
+    let setup = setup(alloc, &code, 1, seed)?;
+    Ok(Session::new(alloc, &code, &setup)?)
 }
 
 /// The next call of thread 0.
@@ -61,109 +57,86 @@ fn call(session: &mut Session, way: Way) -> Result<Call, AskFault> {
     }
 }
 
-/// The next call, made once more where it is refused memory, which leaves the report as it was;
-/// none if the thread has made its last one.
-fn again(session: &mut Session, way: Way) -> Result<(Option<Call>, bool), Fail> {
-    let before = session.report();
-    match call(session, way) {
-        Err(AskFault::Memory) => {
-            wants(session.report() == before)?;
-            Ok((Some(call(session, way)?), true))
-        }
-        Err(AskFault::Finished) => Ok((None, false)),
-        done => Ok((Some(done?), false)),
-    }
-}
-
-/// Makes the first 20 calls of a session, or those up to its last one: whether one was refused.
-fn make_calls(
-    alloc: Global,
-    code: &Code,
-    setup: &Setup,
-    way: Way,
-    made: &mut [Option<Call>],
-) -> Result<bool, Fail>
-    requires fits { FitsCode code.now setup.now }
-{
-    let mut session = match Session::new(alloc, code, setup) {
-        Ok(session) => session,
-        Err(_) => Session::new(alloc, code, setup)?,
-    };
+/// Makes calls of thread 0, once more where one is refused memory: whether one was. That has to
+/// leave the report as it was.
+fn make_calls(session: &mut Session, way: Way, made: &mut [Option<Call>]) -> Result<bool, Fail> {
     let mut was_refused = false;
     for place in made.iter_mut() {
-        let (call, is_again) = again(&mut session, way)?;
-        *place = call;
-        was_refused = was_refused || is_again;
+        let before = session.report();
+        let mut answer = call(session, way);
+        if answer == Err(AskFault::Memory) {
+            wants(session.report() == before)?;
+            was_refused = true;
+            answer = call(session, way);
+        }
+        *place = answer.ok();
     }
     Ok(was_refused)
 }
 
-/// Whether a call was refused, and the calls are those without a refusal.
-fn are_alike(alloc: Global, code: &Code, setup: &Setup, way: Way) -> Result<bool, Fail>
-    requires fits { FitsCode code.now setup.now }
-{
+/// Makes the 20 calls of a session, and those of another one with refusals. They have to be the
+/// same.
+fn are_alike(
+    rt: &HostRuntime,
+    one: &mut Session,
+    other: &mut Session,
+    way: Way,
+) -> Result<(), Fail> {
     let mut first = [None; 20];
     let mut second = [None; 20];
-    let was_refused = make_calls(alloc, code, setup, way, &mut first)?;
-    let is_late = make_calls(alloc, code, setup, way, &mut second)?;
-    wants(first == second && first[0].is_some())?;
-    Ok(was_refused || is_late)
+    make_calls(one, way, &mut first)?;
+    begin(rt)?;
+    let was_refused = make_calls(other, way, &mut second)?;
+    tell(rt, was_refused)?;
+    wants(first == second && first[19].is_some())
 }
 
-/// The same of the calls of the program that calls itself.
-fn calls_alike(alloc: Global, way: Way) -> Result<bool, Fail> {
-    let code = code(alloc, calls())?;
+/// The same of the program that calls itself.
+fn calls_alike(rt: &HostRuntime, way: Way) -> Result<(), Fail> {
     let seed = if way == Way::AskWith { None } else { Some(42) };
-    let setup = setup(alloc, &code, 1, seed)?;
-    are_alike(alloc, &code, &setup, way)
+    let mut one = session_of(rt.alloc(), calls(), seed)?;
+    let mut other = session_of(rt.alloc(), calls(), seed)?;
+    are_alike(rt, &mut one, &mut other, way)
 }
 
 #[test]
 fn ask(rt: HostRuntime) -> Result<(), Fail> {
-    tell(&rt, calls_alike(rt.alloc(), Way::Ask)?)
+    calls_alike(&rt, Way::Ask)
 }
 
 #[test]
 fn ask_with(rt: HostRuntime) -> Result<(), Fail> {
-    tell(&rt, calls_alike(rt.alloc(), Way::AskWith)?)
+    calls_alike(&rt, Way::AskWith)
 }
 
 #[test]
 fn prepare(rt: HostRuntime) -> Result<(), Fail> {
-    tell(&rt, calls_alike(rt.alloc(), Way::Prepare)?)
+    calls_alike(&rt, Way::Prepare)
 }
 
-/// Whether what the thread prints next was refused once, and is two zeros.
-fn prints_next(session: &Session) -> Result<bool, Fail> {
-    let (printed, was_refused) = match session.next_print(0) {
-        Err(AskFault::Memory) => (session.next_print(0)?, true),
-        done => (done?, false),
-    };
-    wants(match printed {
-        Some(values) => values.as_slice() == [false, false].as_slice(),
-        None => false,
-    })?;
-    Ok(was_refused)
-}
-
-/// A session of one thread without a seed.
-fn session_of(alloc: Global) -> Result<Session, Fail> {
-    let code = code(alloc, program())?;
-    let setup = setup(alloc, &code, 1, None)?;
-    match Session::new(alloc, &code, &setup) {
-        Ok(session) => Ok(session),
-        Err(_) => Ok(Session::new(alloc, &code, &setup)?),
+/// Whether two zeros are printed.
+fn are_two_zeros(printed: &Result<Option<Vec<bool>>, AskFault>) -> bool {
+    match printed {
+        Ok(Some(values)) => values.as_slice() == [false, false].as_slice(),
+        _ => false,
     }
 }
 
-/// The same at the print after the loop.
-fn prints_after_the_loop(alloc: Global) -> Result<bool, Fail> {
-    let mut session = session_of(alloc)?;
-    session.ask_with(0, false)?;
-    prints_next(&session)
+/// Asks what the thread prints next, once more where that is refused. It is two zeros.
+fn prints_next(rt: &HostRuntime, session: &Session) -> Result<(), Fail> {
+    begin(rt)?;
+    let printed = session.next_print(0);
+    let was_refused = matches!(printed, Err(AskFault::Memory));
+    tell(rt, was_refused)?;
+    if was_refused {
+        return wants(are_two_zeros(&session.next_print(0)));
+    }
+    wants(are_two_zeros(&printed))
 }
 
 #[test]
 fn next_print(rt: HostRuntime) -> Result<(), Fail> {
-    tell(&rt, prints_after_the_loop(rt.alloc())?)
+    let mut session = session_of(rt.alloc(), program(), None)?;
+    session.ask_with(0, false)?;
+    prints_next(&rt, &session)
 }
