@@ -5,8 +5,8 @@ Usage: bench/counting.py [PROGRAM]
 
 PROGRAM is the built program, crates/btrun/out/btrun if left out. 64 threads make 200 and then 1,100 calls each, in turns
 of 100; a call takes the difference of the two totals, divided by the calls between them, so what starting costs is left
-out. The yardsticks are the programs of bench/plain, and for `show` a replay. An aim is the most that the ratio may be.
-The row of `test` is that of bench/drawing.py.
+out. The yardsticks are the programs of bench/plain; for `show` a replay, and for `confirm` a drive of the same calls.
+An aim is the most that the ratio may be. The row of `test` is that of bench/drawing.py.
 """
 import os
 import re
@@ -60,6 +60,8 @@ def save_inputs(program):
         driving.write("r%d.txt" % size, schedule(size, replaying.LAST_CALLS))
         drive = [program, "drive", "r.bp", "r%d.txt" % size, *WORDS]
         replaying.save("one%d.trace" % size, drive)
+        replaying.save("d%d.trace" % size, [program, "drive", "d.bp", "d%d.txt" % size, *WORDS])
+        replaying.save("d%d.steps" % size, [program, "show", "d.bp", "d%d.trace" % size, "--steps"])
         replaying.save("two%d.trace" % size, [program, "migrate", "r.bp", "one%d.trace" % size])
 
 
@@ -75,6 +77,8 @@ def main():
         numbers = [str(THREADS), "1000", "100000"]
         drive = each(lambda size: [program, "drive", "d.bp", "d%d.txt" % size, *WORDS])
         rows = [("drive", drive, each(lambda size: ["./plain_drive", "d%d.txt" % size, *numbers]), "1.00")]
+        confirm = each(lambda size: [program, "confirm", "d.bp", "d%d.steps" % size, *WORDS])
+        rows.append(("confirm", confirm, drive, "1.50"))
         replays = []
         for version, name in ((1, "one"), (2, "two")):
             replay = each(lambda size: [program, "replay", "r.bp", "%s%d.trace" % (name, size)])
