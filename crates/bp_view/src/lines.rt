@@ -83,7 +83,11 @@ fn push_statement(line: &mut Vec<u8>, next: Next<'_>) -> Result<(), AllocError>
     };
     let indent = 2 * next.depth.min(MAX_INDENTS);
     let (words, end) = in_column(words);
-    push_three(line, Spaces(indent), Bytes(words), Bytes(end))
+    push_two(line, Spaces(indent), Bytes(words))?;
+    if end.is_empty() {
+        return Ok(());
+    }
+    push_piece(line, Bytes(end))
 }
 
 /// A choice bit, where one is shown.
