@@ -5,6 +5,7 @@ ghost use Rattle.bp_machine.specs.Setups.{FitsCode};
 ghost use Rattle.bp_confirm.specs.ConfirmedTexts.{AreTold, ConfirmsTo, IsConfirmRefusal, IsUntold};
 ghost use Rattle.bp_confirm.specs.StrayLines.{fault_of_stray};
 
+use crate::confirmed_traces::write_confirmed;
 use crate::context_bounds::{ContextBound, setup_for};
 use crate::declared::{Stray, check_lines};
 use crate::faults::{StepFault, StepRefusal};
@@ -15,7 +16,6 @@ use bp_check::Checked;
 use bp_code::Code;
 use bp_machine::Setup;
 use bp_trace::limits::MAX_SCHEDULE;
-use bp_trace::write_trace;
 use std::alloc::Global;
 use std::io::Write;
 use thiserror::Error;
@@ -129,7 +129,8 @@ pub fn confirm<W: Write>(
         Err(StepFault::Refusal(refusal)) => return Err(ConfirmFault::Step(refusal)),
         Err(StepFault::Memory) => return Err(ConfirmFault::Memory),
     };
-    match write_trace(&setup, confirmed.history.as_slice(), out) {
+    let left_open = confirmed.report.report.left_open;
+    match write_confirmed(&setup, confirmed.history.as_slice(), left_open, out) {
         Ok(()) => Ok(confirmed.report),
         Err(_) => Err(ConfirmFault::Write),
     }

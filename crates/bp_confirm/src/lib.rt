@@ -4,6 +4,7 @@
 
 mod changes;
 mod choices;
+mod confirmed_traces;
 mod confirming;
 mod context_bounds;
 mod declared;
