@@ -7,12 +7,14 @@ PROGRAM and ASKING are the built programs, crates/btrun/out/btrun and crates/ask
 is run with few rounds, 5 if RUNS is left out: what it measures, and how, its own page says. Processor seconds, but for
 'by the clock'. The ratio is that of the program to its yardstick: a plain program, a replay for 'show', a session for
 a desk, and a desk for a board. An aim is the most that the ratio may be. The machine should have nothing else to do.
+Then follows the table of bench/counting.py: instructions a call, which do not depend on the machine.
 """
 import datetime
 import os
 import sys
 
 import asking
+import counting
 import driving
 import replaying
 import running
@@ -82,6 +84,8 @@ def main():
     print_runs(program, runs)
     os.chdir(TOP)
     print_asks(asker, runs)
+    print()
+    counting.print_counts(program)
 
 
 if __name__ == "__main__":

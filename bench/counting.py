@@ -65,8 +65,8 @@ def save_inputs(program):
         replaying.save("two%d.trace" % size, [program, "migrate", "r.bp", "one%d.trace" % size])
 
 
-def main():
-    program = os.path.abspath(sys.argv[1] if len(sys.argv) > 1 else os.path.join(TOP, "crates/btrun/out/btrun"))
+def print_counts(program):
+    """The table of this program."""
     with tempfile.TemporaryDirectory() as folder:
         os.chdir(folder)
         save_inputs(program)
@@ -93,6 +93,10 @@ def main():
     print("%-22s %9s %9s %6s %6s" % ("instructions a call", "btrun", "yardstick", "ratio", "aim"))
     for work, own, yardstick, aim in rows:
         print("%-22s %9.0f %9.0f %6.2f %6s" % (work, own, yardstick, own / yardstick, aim))
+
+
+def main():
+    print_counts(os.path.abspath(sys.argv[1] if len(sys.argv) > 1 else os.path.join(TOP, "crates/btrun/out/btrun")))
 
 
 if __name__ == "__main__":
