@@ -1,8 +1,9 @@
 //! A run in which one worker alone takes frames, after the others were started. Where it is refused
 //! one, the others end, and its line stays open after the calls that it made.
 use super::ready::{begin, tell, wants};
-use bp_machine::{Outcome, Reply, Start};
+use bp_machine::{Outcome, Reply, Report, Start};
 use bp_run::{Gate, RunFault, RunOptions, RunReport, WorkerCount, run};
+use bp_trace::replay;
 use std::alloc::{AllocError, Global};
 use std::rt::Runtime;
 use std::sync::Wait;
@@ -11,7 +12,7 @@ use std::test::Fail;
 use std::thread;
 use std::thread::Threads;
 use std::time::Clock;
-use tests_common::names;
+use tests_common::{code_of, names};
 
 /// The threads of `a` make four calls each; that of `b` takes a frame with each of its ten.
 const PROGRAM: &[u8] = b"decl x; a() begin x := 1; x := 0; end b() begin b(); end";
@@ -108,13 +109,40 @@ fn is_right(done: &RunReport, own: u64) -> bool {
         && done.report.left_open == u32::from(count.is_open)
 }
 
+/// How many calls of the thread of `b` a trace has.
+fn calls_of_caller(trace: &[u8]) -> u64 {
+    let mut count: u64 = 0;
+    for line in trace.split(|byte| *byte == b'\n') {
+        if line.len() == 5 && line.starts_with(b"1 ") {
+            count = count.saturating_add(1);
+        }
+    }
+    count
+}
+
+/// Whether the trace is one of the program, with this report.
+fn is_replayed(alloc: Global, trace: &[u8], report: Report) -> Result<bool, Fail> {
+    let code = code_of(alloc, PROGRAM)?;
+    let replayed = replay(alloc, &code, trace)?;
+    Ok(replayed.report == report)
+}
+
 /// Looks at what a run came to, where the line that tells of a refused worker was written: the run
 /// itself may be refused, and has then written nothing.
-fn looks(gate: &Held, trace: &[u8], done: &Result<RunReport, RunFault>) -> Result<(), Fail> {
-    wants(match done {
-        Ok(done) => matches!(gate.answered(), Some(own) if is_right(done, own)),
-        Err(fault) => matches!(fault.number(), 7 | 53) && trace.is_empty(),
-    })
+fn looks(
+    alloc: Global,
+    gate: &Held,
+    trace: &[u8],
+    done: &Result<RunReport, RunFault>,
+) -> Result<(), Fail> {
+    match done {
+        Ok(done) => {
+            let own = calls_of_caller(trace);
+            wants(gate.answered() == Some(own) && is_right(done, own))?;
+            wants(is_replayed(alloc, trace, done.report)?)
+        }
+        Err(fault) => wants(matches!(fault.number(), 7 | 53) && trace.is_empty()),
+    }
 }
 
 /// Whether the worker of `b` was refused memory.
@@ -130,7 +158,7 @@ fn runs<R: Threads + Wait + Runtime + Sync>(rt: &R, alloc: Global) -> Result<(),
     begin(rt)?;
     let done = run(rt, alloc, PROGRAM, &options, &gate, &mut out);
     tell(rt, is_caller_refused(&done))?;
-    looks(&gate, &out, &done)
+    looks(alloc, &gate, &out, &done)
 }
 
 #[test]
