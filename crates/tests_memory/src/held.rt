@@ -94,8 +94,8 @@ fn options(alloc: Global) -> Result<RunOptions, AllocError> {
     })
 }
 
-/// Whether a run is as it should be where so many turns of `b`, of one call each, were answered: it
-/// made all its calls, or its line is open after those that it made. Its worker counted the same.
+/// Whether a run is right after this many answered turns of `b`, each of one call. It made all its
+/// calls, or its line is open after those that it made. Its worker counted the same.
 fn is_right(done: &RunReport, own: u64) -> bool {
     let count = WorkerCount {
         thread: CALLER,

@@ -42,12 +42,12 @@ pub(super) fn setup(
     Ok(Setup::new(alloc, code, &entries, &[false, false], 1000, 20, seed)?)
 }
 
-/// Prints the line after which growths are refused.
+/// Prints a line. Growths are refused after it.
 pub(super) fn begin<R: Runtime>(rt: &R) -> io::Result<()> {
     println!(rt; "ready")
 }
 
-/// Prints the line after which no growth is refused: whether the call was refused once.
+/// Prints whether the call was refused. No growth is refused after that line.
 pub(super) fn tell<R: Runtime>(rt: &R, was_refused: bool) -> io::Result<()> {
     let told = if was_refused { "refused" } else { "done" };
     println!(rt; "{told}")

@@ -20,7 +20,7 @@ enum Ask {
     Prepared,
 }
 
-/// How a call of which thread is asked for, and the answer.
+/// How a call is asked for, its thread, and the answer.
 type Row = (Ask, u32, Result<Call, AskFault>);
 
 /// A step of thread 0 with the bit 1.
@@ -92,7 +92,7 @@ fn answers(session: &mut Session, rows: &[Row]) -> bool {
     matches!(session.next_print(1), Err(AskFault::NoThread))
 }
 
-/// Whether a session of the loop, with so many calls and this seed, answers so.
+/// Whether a session of the loop answers so, within this many calls and with this seed.
 fn is_so(alloc: Global, calls: u32, seed: Option<u64>, rows: &[Row]) -> Result<bool, Fail> {
     let code = code_of(alloc, LOOP)?;
     let entries = mains(alloc, 1)?;

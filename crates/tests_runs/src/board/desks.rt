@@ -134,7 +134,7 @@ fn is_seen_at<C: Calls, O: Ledger>(
     }
 }
 
-/// The same at a desk of one thread of the loop, with so many calls and this ring.
+/// The same at a desk of one thread, which runs the loop within this many calls.
 fn plays(alloc: Global, calls: u32, ring: u32, acts: &[Act]) -> Result<bool, Fail> {
     let code = code_of(alloc, LOOP)?;
     let setup = setup_of(alloc, &code, 1, 1, calls)?;
