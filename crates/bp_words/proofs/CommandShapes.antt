@@ -22,3 +22,6 @@ with_command old new sub app below is has adds =
 pub if_ok : {X E : Type 0} (r : Result X E) (P Q : X → Type 0) → ((x : X) → P x → Q x) → IfOk r P → IfOk r Q
 if_ok (Ok x) P Q moves known = moves x known
 if_ok (Err e) P Q moves known = tt
+
+pub of_same_shape : (app other : App) → app ≡ other → (c : Command) → HasShape app c → HasShape other c
+of_same_shape app other same c is = (is.0 ∙ same, is.1)

@@ -14,7 +14,7 @@ use Rattle.bp_words.specs.declared.arguments.Takes.TheVariants as takes
 use Rattle.bp_words.specs.declared.names.Named.{Named}
 use Rattle.bp_words.specs.declared.names.Named.TheVariants as name
 use Rattle.bp_words.specs.declared.names.TheConstants.{NAMED}
-use Rattle.bp_words.specs.Names.{IsNamed}
+use Rattle.bp_words.specs.Names.{command_name, IsNamed}
 use Rattle.bp_words.specs.Misuses.{misuse_fault}
 use Rattle.bp_words.specs.CheckWords.{IsCheckWordsOf}
 use Rattle.bp_words.specs.CodeWords.{IsCodeWordsOf}
@@ -74,74 +74,60 @@ rule_taking (takes.Text value) = option_rule
 abbrev pub row_rule : TableRow → Rule
 row_rule row = rule_taking row.takes row.name.now
 
--- a command of this name, a file, and the flags on explanations
-abbrev pub file_app : Text → App
-file_app name =
-    with_rules (new_app name) (
+-- what each command on a file takes first: `FILE [--explain] [--no-explain]`
+abbrev pub file_rules : List Rule
+file_rules =
     required_rule (codes "FILE")
     ∷ flag_rule (codes "explain")
     ∷ flag_rule (codes "no-explain")
-    ∷ [])
+    ∷ []
 
--- `check FILE [--json] [--explain] [--no-explain]`
-abbrev pub check_app : App
-check_app = with_rules (file_app (codes "check")) (flag_rule (codes "json") ∷ [])
+-- `[--json]`
+abbrev pub check_rules : List Rule
+check_rules = flag_rule (codes "json") ∷ []
 
--- `code FILE [--source] [--json] [--explain] [--no-explain]`
-abbrev pub code_app : App
-code_app =
-    with_rules (file_app (codes "code")) (
+-- `[--source] [--json]`
+abbrev pub code_rules : List Rule
+code_rules =
     flag_rule (codes "source")
     ∷ flag_rule (codes "json")
-    ∷ [])
+    ∷ []
 
--- `drive FILE SCHEDULE [ENTRY].. [--contexts N] [--calls N] [--init BITS] [--explain]
--- [--no-explain]`
-abbrev pub drive_app : App
-drive_app =
-    with_rules (file_app (codes "drive")) (
+-- `SCHEDULE [ENTRY].. [--contexts N] [--calls N] [--init BITS]`
+abbrev pub drive_rules : List Rule
+drive_rules =
     required_rule (codes "SCHEDULE")
     ∷ values_rule (codes "ENTRY")
     ∷ number_rule (codes "contexts")
     ∷ number_rule (codes "calls")
     ∷ option_rule (codes "init")
-    ∷ [])
+    ∷ []
 
--- `confirm FILE STEPS [ENTRY].. [--contexts N] [--calls N] [--init BITS] [--json] [--explain]
--- [--no-explain]`
-abbrev pub confirm_app : App
-confirm_app =
-    with_rules (file_app (codes "confirm")) (
+-- `STEPS [ENTRY].. [--contexts N] [--calls N] [--init BITS] [--json]`
+abbrev pub confirm_rules : List Rule
+confirm_rules =
     required_rule (codes "STEPS")
     ∷ values_rule (codes "ENTRY")
     ∷ number_rule (codes "contexts")
     ∷ number_rule (codes "calls")
     ∷ option_rule (codes "init")
     ∷ flag_rule (codes "json")
-    ∷ [])
+    ∷ []
 
--- `run FILE [ENTRY].. [--seed N] [--contexts N] [--calls N] [--init BITS] [--turn N] [--ring N]
--- [--spread] [--explain] [--no-explain]`
-abbrev pub run_app : App
-run_app =
-    with_rules (
-    with_rules (file_app (codes "run")) (
+-- `[ENTRY].. [--seed N] [--contexts N] [--calls N] [--init BITS]`
+abbrev pub run_rules : List Rule
+run_rules =
     values_rule (codes "ENTRY")
     ∷ long_number_rule (codes "seed")
     ∷ number_rule (codes "contexts")
     ∷ number_rule (codes "calls")
     ∷ option_rule (codes "init")
-    ∷ [])) (
-    number_rule (codes "turn")
-    ∷ number_rule (codes "ring")
-    ∷ flag_rule (codes "spread")
-    ∷ [])
+    ∷ []
 
--- `test FILE [ENTRY].. [--seed N] [--contexts N] [--calls N] [--init BITS] [--runs N] [--jobs N]
--- [--deadlock] [--unreached] [--json] [--explain] [--no-explain]`
-abbrev pub test_app : App
-test_app =
-    with_rules (file_app (codes "test")) (
+-- `[ENTRY].. [--seed N] [--contexts N] [--calls N] [--init BITS] [--runs N] [--jobs N]
+-- [--deadlock] [--unreached] [--json]`
+abbrev pub test_rules : List Rule
+test_rules =
     values_rule (codes "ENTRY")
     ∷ long_number_rule (codes "seed")
     ∷ number_rule (codes "contexts")
@@ -152,22 +138,18 @@ test_app =
     ∷ flag_rule (codes "deadlock")
     ∷ flag_rule (codes "unreached")
     ∷ flag_rule (codes "json")
-    ∷ [])
+    ∷ []
 
--- a command of this name, a file and a trace
-abbrev pub trace_app : Text → App
-trace_app name = with_rules (file_app name) (required_rule (codes "TRACE") ∷ [])
+-- `TRACE`
+abbrev pub trace_rules : List Rule
+trace_rules = required_rule (codes "TRACE") ∷ []
 
--- `replay FILE TRACE [--explain] [--no-explain]`
-abbrev pub replay_app : App
-replay_app = trace_app (codes "replay")
-
--- `show FILE TRACE [--thread N] [--last N] [--from N] [--to N] [--watch NAMES] [--fold] [--state]
--- [--at N] [--contexts] [--steps] [--json] [--explain] [--no-explain]`
-abbrev pub show_app : App
-show_app =
-    with_rules (trace_app (codes "show")) (
-    number_rule (codes "thread")
+-- `TRACE [--thread N] [--last N] [--from N] [--to N] [--watch NAMES] [--fold] [--state] [--brief]
+-- [--at N] [--contexts] [--steps] [--json]`
+abbrev pub show_rules : List Rule
+show_rules =
+    required_rule (codes "TRACE")
+    ∷ number_rule (codes "thread")
     ∷ long_number_rule (codes "last")
     ∷ long_number_rule (codes "from")
     ∷ long_number_rule (codes "to")
@@ -179,15 +161,40 @@ show_app =
     ∷ flag_rule (codes "contexts")
     ∷ flag_rule (codes "steps")
     ∷ flag_rule (codes "json")
-    ∷ [])
+    ∷ []
 
--- `migrate FILE TRACE [--explain] [--no-explain]`
-abbrev pub migrate_app : App
-migrate_app = trace_app (codes "migrate")
+-- what each command takes after that
+abbrev pub command_rules : Named → List Rule
+command_rules name.Check = check_rules
+command_rules name.Code = code_rules
+command_rules name.Drive = drive_rules
+command_rules name.Confirm = confirm_rules
+command_rules name.Run = run_rules
+command_rules name.Test = test_rules
+command_rules name.Replay = trace_rules
+command_rules name.Show = show_rules
+command_rules name.Migrate = trace_rules
+command_rules name.Shrink = trace_rules
 
--- `shrink FILE TRACE [--explain] [--no-explain]`
-abbrev pub shrink_app : App
-shrink_app = trace_app (codes "shrink")
+-- what it takes under the heading 'Advanced'; `run`: `[--turn N] [--ring N] [--spread]`
+abbrev pub advanced_rules : Named → List Rule
+advanced_rules name.Run =
+    number_rule (codes "turn")
+    ∷ number_rule (codes "ring")
+    ∷ flag_rule (codes "spread")
+    ∷ []
+advanced_rules command = []
+
+-- a command of this name with its file
+abbrev pub file_app : Text → App
+file_app name = with_rules (new_app name) file_rules
+
+-- the command of each name
+abbrev pub command_app : Named → App
+command_app command =
+    with_rules (
+    with_rules (file_app (command_name command)) (command_rules command)) (
+    advanced_rules command)
 
 -- the program without a command
 abbrev pub program_app : App
@@ -197,19 +204,6 @@ program_app = on_top (λ s. record s { has_version = true }) (new_app (codes "bt
 abbrev pub with_commands : App → List App → App
 with_commands a [] = a
 with_commands a (c ∷ cs) = with_commands (with_subcommand a c.top) cs
-
--- the command of each name
-abbrev pub command_app : Named → App
-command_app name.Check = check_app
-command_app name.Code = code_app
-command_app name.Drive = drive_app
-command_app name.Confirm = confirm_app
-command_app name.Run = run_app
-command_app name.Test = test_app
-command_app name.Replay = replay_app
-command_app name.Show = show_app
-command_app name.Migrate = migrate_app
-command_app name.Shrink = shrink_app
 
 -- all commands
 abbrev pub btrun_app : App

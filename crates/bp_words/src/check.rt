@@ -1,16 +1,11 @@
 //! The words of `check`.
-ghost use Rattle.std.specs.Prelude.{◌≡◌, false, IfOk};
-ghost use Rattle.clap.specs.Words.{app_of, found_of, rows_of};
-ghost use Rattle.clap.specs.declared.builder.command.Command.TheViews.{out-Command};
-ghost use Rattle.bp_words.specs.Commands.{check_app};
+ghost use Rattle.clap.specs.Words.{found_of, rows_of};
 ghost use Rattle.bp_words.specs.CheckWords.{IsCheckWordsOf};
 
-use crate::arguments::{Row, Takes, with_rows};
+use crate::arguments::{Row, Takes};
 use crate::explain::{ExplainWords, explain_words};
-use crate::files::file_command;
 use crate::values::is_given;
-use clap::{ArgMatches, Command};
-use std::alloc::{AllocError, Global};
+use clap::ArgMatches;
 
 /// A program that is checked.
 #[derive(Drop)]
@@ -23,28 +18,22 @@ pub struct CheckWords<'a> {
     pub explain: ExplainWords,
 }
 
-const ABOUT: &str = "Check a program and print 'ok' and its numbers of procedures and globals";
+/// What help says of the command first.
+pub const ABOUT: &str = "Check a program and print 'ok' and its numbers of procedures and globals";
 
 /// What `check --help` says after the arguments.
-const NOTES: &str = "\
+pub const NOTES: &str = "\
     The first fault is one line on standard error, with the offset of its byte. With --json the\n\
     names of procedures and variables are printed, and a fault is an object too.\n\n\
     Example:\n  btrun check lock.bp\n\nExit status:\n  0  the program is lawful\n  \
     2  it is refused, or the words were\n  3  memory, a device or the output failed";
 
-/// The arguments, options and help of the command.
-pub fn check_command<'a>(alloc: Global) -> Result<Command<'a>, AllocError>
-    ensures { IfOk result
-        (λ c. (app_of c ≡ check_app) × ((out-Command c).has_globals ≡ false)) }
-{
-    let rows = [Row {
-        name: "json",
-        takes: Takes::Nothing,
-        help: "Print one JSON object, for programs",
-    }];
-    let command = file_command(alloc, "check", ABOUT, NOTES)?;
-    with_rows(alloc, command, &rows)
-}
+/// The arguments of the command after its file.
+pub static ROWS: [Row<'static>; 1] = [Row {
+    name: "json",
+    takes: Takes::Nothing,
+    help: "Print one JSON object, for programs",
+}];
 
 /// What the words after `check` ask for.
 pub fn check_words<'a>(words: &ArgMatches<'a>) -> CheckWords<'a>

@@ -1,16 +1,11 @@
 //! The words of `code`.
-ghost use Rattle.std.specs.Prelude.{◌≡◌, false, IfOk};
-ghost use Rattle.clap.specs.Words.{app_of, found_of, rows_of};
-ghost use Rattle.clap.specs.declared.builder.command.Command.TheViews.{out-Command};
-ghost use Rattle.bp_words.specs.Commands.{code_app};
+ghost use Rattle.clap.specs.Words.{found_of, rows_of};
 ghost use Rattle.bp_words.specs.CodeWords.{IsCodeWordsOf};
 
-use crate::arguments::{Row, Takes, with_rows};
+use crate::arguments::{Row, Takes};
 use crate::explain::{ExplainWords, explain_words};
-use crate::files::file_command;
 use crate::values::is_given;
-use clap::{ArgMatches, Command};
-use std::alloc::{AllocError, Global};
+use clap::ArgMatches;
 
 /// A program whose code is listed.
 #[derive(Drop)]
@@ -25,10 +20,11 @@ pub struct CodeWords<'a> {
     pub explain: ExplainWords,
 }
 
-const ABOUT: &str = "Print the listing of a program's code";
+/// What help says of the command first.
+pub const ABOUT: &str = "Print the listing of a program's code";
 
 /// What `code --help` says after the arguments.
-const NOTES: &str = "\
+pub const NOTES: &str = "\
     A procedure has a line 'proc NAME FORMALS LOCALS', and after it a line for each instruction,\n\
     with its number and those of its successors. With --json each line is a JSON object, and\n\
     so is a fault. The first fault is one line on standard error, with the offset of its byte.\n\n\
@@ -36,26 +32,19 @@ const NOTES: &str = "\
     Exit status:\n  0  the listing is printed\n  2  the program is refused, or the words were\n  \
     3  memory, a device or the output failed";
 
-/// The arguments, options and help of the command.
-pub fn code_command<'a>(alloc: Global) -> Result<Command<'a>, AllocError>
-    ensures { IfOk result
-        (λ c. (app_of c ≡ code_app) × ((out-Command c).has_globals ≡ false)) }
-{
-    let rows = [
-        Row {
-            name: "source",
-            takes: Takes::Nothing,
-            help: "Print the line, column and statement of each instruction after it",
-        },
-        Row {
-            name: "json",
-            takes: Takes::Nothing,
-            help: "Print JSON objects, for programs: each instruction with its statement",
-        },
-    ];
-    let command = file_command(alloc, "code", ABOUT, NOTES)?;
-    with_rows(alloc, command, &rows)
-}
+/// The arguments of the command after its file.
+pub static ROWS: [Row<'static>; 2] = [
+    Row {
+        name: "source",
+        takes: Takes::Nothing,
+        help: "Print the line, column and statement of each instruction after it",
+    },
+    Row {
+        name: "json",
+        takes: Takes::Nothing,
+        help: "Print JSON objects, for programs: each instruction with its statement",
+    },
+];
 
 /// What the words after `code` ask for.
 pub fn code_words<'a>(words: &ArgMatches<'a>) -> CodeWords<'a>

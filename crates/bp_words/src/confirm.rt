@@ -1,17 +1,15 @@
 //! The words of `confirm`.
-ghost use Rattle.std.specs.Prelude.{◌≡◌, false, IfOk};
-ghost use Rattle.clap.specs.Words.{app_of, found_of, rows_of};
-ghost use Rattle.clap.specs.declared.builder.command.Command.TheViews.{out-Command};
-ghost use Rattle.bp_words.specs.Commands.{confirm_app};
+ghost use Rattle.std.specs.Prelude.{IfOk};
+ghost use Rattle.clap.specs.Words.{found_of, rows_of};
 ghost use Rattle.bp_words.specs.ConfirmWords.{IsConfirmOf};
 
-use crate::arguments::{Row, Takes, with_rows};
+use crate::arguments::{Row, Takes};
 use crate::explain::{ExplainWords, explain_words};
-use crate::files::file_command;
+use crate::rows::{CALLS, ENTRY, INIT};
 use crate::values::{entries, given_number, init, is_given, number};
 use bp_machine::Start;
 use bp_machine::limits::{DEFAULT_CALLS, DEFAULT_CONTEXTS};
-use clap::{ArgMatches, Command};
+use clap::ArgMatches;
 use std::alloc::{AllocError, Global};
 
 /// A program and reported steps, and what they start from.
@@ -30,10 +28,12 @@ pub struct ConfirmWords<'a> {
     pub start: Start,
 }
 
-const ABOUT: &str = "Confirm the steps that a model checker reports and print the trace of the run";
+/// What help says of the command first.
+pub const ABOUT: &str =
+    "Confirm the steps that a model checker reports and print the trace of the run";
 
 /// What `confirm --help` says after the arguments.
-const NOTES: &str = "\
+pub const NOTES: &str = "\
     A line of the steps is 'THREAD PLACE', and then any number of ' NAME=BIT'. The place is where\n\
     the thread stands before the step: 'LINE', 'LINE:COLUMN', or '-' for a procedure's end. The\n\
     values are those that the thread sees after the step. Choice bits are left out.\n\
@@ -43,46 +43,27 @@ const NOTES: &str = "\
     1  an assertion failed at the last step\n  \
     2  an input was refused, or the words were\n  3  memory, a device or the output failed";
 
-/// The arguments, options and help of the command.
-pub fn confirm_command<'a>(alloc: Global) -> Result<Command<'a>, AllocError>
-    ensures { IfOk result
-        (λ c. (app_of c ≡ confirm_app) × ((out-Command c).has_globals ≡ false)) }
-{
-    let rows = [
-        Row {
-            name: "STEPS",
-            takes: Takes::One,
-            help: "The file of the steps",
-        },
-        Row {
-            name: "ENTRY",
-            takes: Takes::Any,
-            help: "The entry procedure of each thread, in order [default: main]",
-        },
-        Row {
-            name: "contexts",
-            takes: Takes::Number,
-            help: "Allow N contexts [default: as many as the steps use]",
-        },
-        Row {
-            name: "calls",
-            takes: Takes::Number,
-            help: "Allow each thread N calls [default: 1000]",
-        },
-        Row {
-            name: "init",
-            takes: Takes::Text("BITS"),
-            help: "Set the initial bits of the globals, each 0 or 1 [default: all 0]",
-        },
-        Row {
-            name: "json",
-            takes: Takes::Nothing,
-            help: "Print a fault as one JSON object, for programs",
-        },
-    ];
-    let command = file_command(alloc, "confirm", ABOUT, NOTES)?;
-    with_rows(alloc, command, &rows)
-}
+/// The arguments of the command after its file.
+pub static ROWS: [Row<'static>; 6] = [
+    Row {
+        name: "STEPS",
+        takes: Takes::One,
+        help: "The file of the steps",
+    },
+    ENTRY,
+    Row {
+        name: "contexts",
+        takes: Takes::Number,
+        help: "Allow N contexts [default: as many as the steps use]",
+    },
+    CALLS,
+    INIT,
+    Row {
+        name: "json",
+        takes: Takes::Nothing,
+        help: "Print a fault as one JSON object, for programs",
+    },
+];
 
 /// What the words after `confirm` ask for.
 pub fn confirm_words<'a>(

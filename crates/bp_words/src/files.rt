@@ -4,7 +4,8 @@ ghost use Rattle.clap.specs.Words.{app_of};
 ghost use Rattle.clap.specs.declared.builder.command.Command.TheViews.{out-Command};
 ghost use Rattle.bp_words.specs.Commands.{file_app};
 
-use crate::arguments::{Row, Takes, with_rows};
+use crate::arguments::with_rows;
+use crate::rows::FILE_ROWS;
 use clap::Command;
 use std::alloc::{AllocError, Global};
 
@@ -18,23 +19,6 @@ pub fn file_command<'a>(
     ensures { IfOk result
         (λ c. (app_of c ≡ file_app name.now) × ((out-Command c).has_globals ≡ false)) }
 {
-    let rows = [
-        Row {
-            name: "FILE",
-            takes: Takes::One,
-            help: "The file of the program",
-        },
-        Row {
-            name: "explain",
-            takes: Takes::Nothing,
-            help: "Explain a fault on further lines: its place, and what was expected",
-        },
-        Row {
-            name: "no-explain",
-            takes: Takes::Nothing,
-            help: "Explain no fault [default: explain faults only on a terminal]",
-        },
-    ];
     let command = Command::new(alloc, name).about(about).after_help(notes);
-    with_rows(alloc, command, &rows)
+    with_rows(alloc, command, &FILE_ROWS)
 }

@@ -1,24 +1,7 @@
 //! The commands by their names.
-ghost use Rattle.std.specs.Prelude.{◌≡◌, false, IfOk, MatchOption};
-ghost use Rattle.clap.specs.Words.{app_of};
-ghost use Rattle.clap.specs.declared.builder.command.Command.TheViews.{out-Command};
-ghost use Rattle.bp_words.specs.Commands.{command_app};
+ghost use Rattle.std.specs.Prelude.{◌≡◌, MatchOption};
 ghost use Rattle.bp_words.specs.Names.{command_name};
 ghost use Rattle.bp_words.specs.declared.names.Named.{Named as Either};
-
-use crate::check::check_command;
-use crate::code::code_command;
-use crate::confirm::confirm_command;
-use crate::drive::drive_command;
-use crate::run::run_command;
-use crate::show::show_command;
-use crate::test::test_command;
-use crate::trace::{
-    MIGRATE_ABOUT, MIGRATE_NOTES, REPLAY_ABOUT, REPLAY_NOTES, SHRINK_ABOUT, SHRINK_NOTES,
-    trace_command,
-};
-use clap::Command;
-use std::alloc::{AllocError, Global};
 
 /// A command that has a name.
 #[derive(Clone, Copy)]
@@ -53,7 +36,7 @@ pub const NAMED: [Named; COMMANDS] = [
 ];
 
 /// The name of a command.
-fn name_of(command: Named) -> &'static str
+pub fn name_of<'a>(command: Named) -> &'a str
     ensures { result.now ≡ command_name command }
 {
     match command {
@@ -83,23 +66,4 @@ pub fn command_named(name: &str) -> Option<Named>
         }
     }
     None
-}
-
-/// The arguments, options and help of a command.
-pub fn with_help<'a>(alloc: Global, command: Named) -> Result<Command<'a>, AllocError>
-    ensures { let app = command_app command in
-        IfOk result (λ c. (app_of c ≡ app) × ((out-Command c).has_globals ≡ false)) }
-{
-    match command {
-        Named::Check => check_command(alloc),
-        Named::Code => code_command(alloc),
-        Named::Drive => drive_command(alloc),
-        Named::Confirm => confirm_command(alloc),
-        Named::Run => run_command(alloc),
-        Named::Test => test_command(alloc),
-        Named::Replay => trace_command(alloc, "replay", REPLAY_ABOUT, REPLAY_NOTES),
-        Named::Show => show_command(alloc),
-        Named::Migrate => trace_command(alloc, "migrate", MIGRATE_ABOUT, MIGRATE_NOTES),
-        Named::Shrink => trace_command(alloc, "shrink", SHRINK_ABOUT, SHRINK_NOTES),
-    }
 }

@@ -1,19 +1,17 @@
 //! The words of `run`.
-ghost use Rattle.std.specs.Prelude.{◌≡◌, false, IfOk};
-ghost use Rattle.clap.specs.Words.{app_of, found_of, rows_of};
-ghost use Rattle.clap.specs.declared.builder.command.Command.TheViews.{out-Command};
-ghost use Rattle.bp_words.specs.Commands.{run_app};
+ghost use Rattle.std.specs.Prelude.{IfOk};
+ghost use Rattle.clap.specs.Words.{found_of, rows_of};
 ghost use Rattle.bp_words.specs.RunWords.{IsRunOf};
 
-use crate::arguments::{Row, Takes, with_rows};
+use crate::arguments::{Row, Takes};
 use crate::explain::{ExplainWords, explain_words};
-use crate::files::file_command;
+use crate::rows::{CALLS, CONTEXTS, ENTRY, INIT};
 use crate::values::{entries, init, is_given, long_number, number};
 use bp_machine::Start;
 use bp_machine::limits::{DEFAULT_CALLS, DEFAULT_CONTEXTS};
 use bp_run::RunOptions;
 use bp_run::limits::{DEFAULT_RING, DEFAULT_SEED, DEFAULT_TURN};
-use clap::{ArgMatches, Command};
+use clap::ArgMatches;
 use std::alloc::{AllocError, Global};
 
 /// A program, and what its run starts from beside it.
@@ -29,10 +27,12 @@ pub struct RunWords<'a> {
     pub options: RunOptions,
 }
 
-const ABOUT: &str = "Run a program by one worker for each thread and print the trace of the run";
+/// What help says of the command first.
+pub const ABOUT: &str =
+    "Run a program by one worker for each thread and print the trace of the run";
 
 /// What `run --help` says after the arguments.
-const NOTES: &str = "\
+pub const NOTES: &str = "\
     The machine's scheduler decides who takes the next turn, so two runs may differ. Each\n\
     trace is one of a run of the program, and 'btrun replay' takes it. It is printed while the\n\
     run goes on. The first fault is one line on standard error.\n\n\
@@ -41,59 +41,37 @@ const NOTES: &str = "\
     2  the program was refused, or the words were\n  \
     3  memory, a device, a thread or the output failed";
 
-/// The arguments, options and help of the command.
-pub fn run_command<'a>(alloc: Global) -> Result<Command<'a>, AllocError>
-    ensures { IfOk result
-        (λ c. (app_of c ≡ run_app) × ((out-Command c).has_globals ≡ false)) }
-{
-    let rows = [
-        Row {
-            name: "ENTRY",
-            takes: Takes::Any,
-            help: "The entry procedure of each thread, in order [default: main]",
-        },
-        Row {
-            name: "seed",
-            takes: Takes::LongNumber,
-            help: "Draw the choice bits by this seed [default: 42]",
-        },
-        Row {
-            name: "contexts",
-            takes: Takes::Number,
-            help: "Allow N contexts [default: 2]",
-        },
-        Row {
-            name: "calls",
-            takes: Takes::Number,
-            help: "Allow each thread N calls [default: 1000]",
-        },
-        Row {
-            name: "init",
-            takes: Takes::Text("BITS"),
-            help: "Set the initial bits of the globals, each 0 or 1 [default: all 0]",
-        },
-    ];
-    let advanced = [
-        Row {
-            name: "turn",
-            takes: Takes::Number,
-            help: "Let a worker make N calls in a turn, 1 to 64 [default: 1]",
-        },
-        Row {
-            name: "ring",
-            takes: Takes::Number,
-            help: "Let N calls wait to be printed, 1 to 65536 [default: 1024]",
-        },
-        Row {
-            name: "spread",
-            takes: Takes::Nothing,
-            help: "Start the workers together, and draw who takes each turn",
-        },
-    ];
-    let command = file_command(alloc, "run", ABOUT, NOTES)?;
-    let command = with_rows(alloc, command, &rows)?;
-    with_rows(alloc, command.next_help_heading("Advanced"), &advanced)
-}
+/// The arguments of the command after its file.
+pub static ROWS: [Row<'static>; 5] = [
+    ENTRY,
+    Row {
+        name: "seed",
+        takes: Takes::LongNumber,
+        help: "Draw the choice bits by this seed [default: 42]",
+    },
+    CONTEXTS,
+    CALLS,
+    INIT,
+];
+
+/// The options under the heading 'Advanced'.
+pub static ADVANCED: [Row<'static>; 3] = [
+    Row {
+        name: "turn",
+        takes: Takes::Number,
+        help: "Let a worker make N calls in a turn, 1 to 64 [default: 1]",
+    },
+    Row {
+        name: "ring",
+        takes: Takes::Number,
+        help: "Let N calls wait to be printed, 1 to 65536 [default: 1024]",
+    },
+    Row {
+        name: "spread",
+        takes: Takes::Nothing,
+        help: "Start the workers together, and draw who takes each turn",
+    },
+];
 
 /// What the words after `run` ask for.
 pub fn run_words<'a>(alloc: Global, words: &ArgMatches<'a>) -> Result<RunWords<'a>, AllocError>

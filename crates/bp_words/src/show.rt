@@ -1,16 +1,12 @@
 //! The words of `show`.
-ghost use Rattle.std.specs.Prelude.{◌≡◌, false, IfOk};
-ghost use Rattle.clap.specs.Words.{app_of, found_of, rows_of};
-ghost use Rattle.clap.specs.declared.builder.command.Command.TheViews.{out-Command};
-ghost use Rattle.bp_words.specs.Commands.{show_app};
+ghost use Rattle.clap.specs.Words.{found_of, rows_of};
 ghost use Rattle.bp_words.specs.ShowWords.{IsShowOf};
 
-use crate::arguments::{Row, Takes, with_rows};
+use crate::arguments::{Row, Takes};
 use crate::explain::{ExplainWords, explain_words};
-use crate::trace::trace_command;
+use crate::rows::TRACE;
 use crate::values::{given_long_number, given_number, is_given};
-use clap::{ArgMatches, Command};
-use std::alloc::{AllocError, Global};
+use clap::ArgMatches;
 
 /// A program, a trace of it, and which of its calls are shown.
 #[derive(Drop)]
@@ -48,10 +44,11 @@ pub struct ShowWords<'a> {
     pub explain: ExplainWords,
 }
 
-const ABOUT: &str = "Replay a trace and show what happened, call by call";
+/// What help says of the command first.
+pub const ABOUT: &str = "Replay a trace and show what happened, call by call";
 
 /// What `show --help` says after the arguments.
-const NOTES: &str = "\
+pub const NOTES: &str = "\
     The setup comes first. Then each call has a line: its number, the thread, the context that\n\
     its step is in, the line and column of the statement, the statement, the choice bit where\n\
     one was read, the reply where it is no step, and the variables that the step changed. A\n\
@@ -63,76 +60,70 @@ const NOTES: &str = "\
     Exit status:\n  0  done, and no assertion failed\n  1  an assertion failed\n  \
     2  an input was refused, or the words were\n  3  memory, a device or the output failed";
 
-/// The arguments, options and help of the command.
-pub fn show_command<'a>(alloc: Global) -> Result<Command<'a>, AllocError>
-    ensures { IfOk result
-        (λ c. (app_of c ≡ show_app) × ((out-Command c).has_globals ≡ false)) }
-{
-    let rows = [
-        Row {
-            name: "thread",
-            takes: Takes::Number,
-            help: "Show only the calls of thread N",
-        },
-        Row {
-            name: "last",
-            takes: Takes::LongNumber,
-            help: "Show only the last N calls",
-        },
-        Row {
-            name: "from",
-            takes: Takes::LongNumber,
-            help: "Show no call before call N",
-        },
-        Row {
-            name: "to",
-            takes: Takes::LongNumber,
-            help: "Show no call after call N",
-        },
-        Row {
-            name: "watch",
-            takes: Takes::Text("NAMES"),
-            help: "Show only the calls that change one of these variables, as x,y",
-        },
-        Row {
-            name: "fold",
-            takes: Takes::Nothing,
-            help: "Show more than three equal waits of a thread as one line",
-        },
-        Row {
-            name: "state",
-            takes: Takes::Nothing,
-            help: "Show the state after the last call too",
-        },
-        Row {
-            name: "brief",
-            takes: Takes::Nothing,
-            help: "Leave out the setup",
-        },
-        Row {
-            name: "at",
-            takes: Takes::LongNumber,
-            help: "Show the state after call N in place of the calls",
-        },
-        Row {
-            name: "contexts",
-            takes: Takes::Nothing,
-            help: "Show one line for each context in place of the calls",
-        },
-        Row {
-            name: "steps",
-            takes: Takes::Nothing,
-            help: "Show only the steps, as 'confirm' takes them, in place of the calls",
-        },
-        Row {
-            name: "json",
-            takes: Takes::Nothing,
-            help: "Print one JSON object a line, for programs",
-        },
-    ];
-    let command = trace_command(alloc, "show", ABOUT, NOTES)?;
-    with_rows(alloc, command, &rows)
-}
+/// The arguments of the command after its file.
+pub static ROWS: [Row<'static>; 13] = [
+    TRACE,
+    Row {
+        name: "thread",
+        takes: Takes::Number,
+        help: "Show only the calls of thread N",
+    },
+    Row {
+        name: "last",
+        takes: Takes::LongNumber,
+        help: "Show only the last N calls",
+    },
+    Row {
+        name: "from",
+        takes: Takes::LongNumber,
+        help: "Show no call before call N",
+    },
+    Row {
+        name: "to",
+        takes: Takes::LongNumber,
+        help: "Show no call after call N",
+    },
+    Row {
+        name: "watch",
+        takes: Takes::Text("NAMES"),
+        help: "Show only the calls that change one of these variables, as x,y",
+    },
+    Row {
+        name: "fold",
+        takes: Takes::Nothing,
+        help: "Show more than three equal waits of a thread as one line",
+    },
+    Row {
+        name: "state",
+        takes: Takes::Nothing,
+        help: "Show the state after the last call too",
+    },
+    Row {
+        name: "brief",
+        takes: Takes::Nothing,
+        help: "Leave out the setup",
+    },
+    Row {
+        name: "at",
+        takes: Takes::LongNumber,
+        help: "Show the state after call N in place of the calls",
+    },
+    Row {
+        name: "contexts",
+        takes: Takes::Nothing,
+        help: "Show one line for each context in place of the calls",
+    },
+    Row {
+        name: "steps",
+        takes: Takes::Nothing,
+        help: "Show only the steps, as 'confirm' takes them, in place of the calls",
+    },
+    Row {
+        name: "json",
+        takes: Takes::Nothing,
+        help: "Print one JSON object a line, for programs",
+    },
+];
 
 /// What the words after `show` ask for.
 pub fn show_words<'a>(words: &ArgMatches<'a>) -> ShowWords<'a>

@@ -1,19 +1,17 @@
 //! The words of `test`.
 ghost use Rattle.std.specs.Prelude.{◌≡◌, false, length, IfOk};
-ghost use Rattle.clap.specs.Words.{app_of, found_of, rows_of};
-ghost use Rattle.clap.specs.declared.builder.command.Command.TheViews.{out-Command};
-ghost use Rattle.bp_words.specs.Commands.{test_app};
+ghost use Rattle.clap.specs.Words.{found_of, rows_of};
 ghost use Rattle.bp_words.specs.TestWords.{contexts_for, IsTestOf};
 
-use crate::arguments::{Row, Takes, with_rows};
+use crate::arguments::{Row, Takes};
 use crate::explain::{ExplainWords, explain_words};
-use crate::files::file_command;
+use crate::rows::{CALLS, ENTRY, INIT};
 use crate::values::{entries, init, is_given, long_number, number};
 use bp_machine::Start;
 use bp_machine::limits::{DEFAULT_CALLS, MAX_THREADS};
 use bp_run::limits::DEFAULT_SEED;
 use bp_test::limits::{DEFAULT_JOBS, DEFAULT_RUNS};
-use clap::{ArgMatches, Command};
+use clap::ArgMatches;
 use std::alloc::{AllocError, Global};
 
 /// A program, and by how many runs it is tested.
@@ -39,10 +37,12 @@ pub struct TestWords<'a> {
     pub json: bool,
 }
 
-const ABOUT: &str = "Test a program by runs with drawn schedules and print the first that fails";
+/// What help says of the command first.
+pub const ABOUT: &str =
+    "Test a program by runs with drawn schedules and print the first that fails";
 
 /// What `test --help` says after the arguments.
-const NOTES: &str = "\
+pub const NOTES: &str = "\
     Each run switches between the threads at places that are drawn by its seed, within the\n\
     contexts that are allowed. The seed of run r, from 0, is r more than that of the first. A run\n\
     ends where an assertion failed, or where no thread can go on. The trace of the first run in\n\
@@ -56,75 +56,47 @@ const NOTES: &str = "\
     2  the program was refused, or the words were\n  \
     3  memory, a device or the output failed";
 
-/// The arguments, options and help of the command.
-pub fn test_command<'a>(alloc: Global) -> Result<Command<'a>, AllocError>
-    ensures { IfOk result
-        (λ c. (app_of c ≡ test_app) × ((out-Command c).has_globals ≡ false)) }
-{
-    let rows = [
-        Row {
-            name: "ENTRY",
-            takes: Takes::Any,
-            help: "The entry procedure of each thread, in order [default: main]",
-        },
-        Row {
-            name: "seed",
-            takes: Takes::LongNumber,
-            help: "Begin with the run of this seed [default: 42]",
-        },
-        Row {
-            name: "contexts",
-            takes: Takes::Number,
-            help: "Allow N contexts [default: one more than there are threads]",
-        },
-        Row {
-            name: "calls",
-            takes: Takes::Number,
-            help: "Allow each thread N calls [default: 1000]",
-        },
-        Row {
-            name: "init",
-            takes: Takes::Text("BITS"),
-            help: "Set the initial bits of the globals, each 0 or 1 [default: all 0]",
-        },
-        Row {
-            name: "runs",
-            takes: Takes::LongNumber,
-            help: "Make at most N runs [default: 10000]",
-        },
-        Row {
-            name: "jobs",
-            takes: Takes::Number,
-            help: "Make N blocks of runs side by side, at most 64 [default: 1]",
-        },
-        Row {
-            name: "deadlock",
-            takes: Takes::Nothing,
-            help: "Also stop at a run in which all threads that have not ended wait",
-        },
-        Row {
-            name: "unreached",
-            takes: Takes::Nothing,
-            help: "List the statements that no run reached, on standard error",
-        },
-        Row {
-            name: "json",
-            takes: Takes::Nothing,
-            help: "Write the summary as JSON objects, for programs",
-        },
-    ];
-    let command = file_command(alloc, "test", ABOUT, NOTES)?;
-    with_rows(alloc, command, &rows)
-}
-
-/// How many contexts a test of these threads allows, where no other number is given: one more than
-/// there are threads, so that each may begin and one may go on.
-fn default_contexts(entries: &[String]) -> u32
-    ensures { result ≡ contexts_for (length entries.now) }
-{
-    // More threads than that are refused.
-    entries.len().min(MAX_THREADS) as u32 + 1
-}
+/// The arguments of the command after its file.
+pub static ROWS: [Row<'static>; 10] = [
+    ENTRY,
+    Row {
+        name: "seed",
+        takes: Takes::LongNumber,
+        help: "Begin with the run of this seed [default: 42]",
+    },
+    Row {
+        name: "contexts",
+        takes: Takes::Number,
+        help: "Allow N contexts [default: one more than there are threads]",
+    },
+    CALLS,
+    INIT,
+    Row {
+        name: "runs",
+        takes: Takes::LongNumber,
+        help: "Make at most N runs [default: 10000]",
+    },
+    Row {
+        name: "jobs",
+        takes: Takes::Number,
+        help: "Make N blocks of runs side by side, at most 64 [default: 1]",
+    },
+    Row {
+        name: "deadlock",
+        takes: Takes::Nothing,
+        help: "Also stop at a run in which all threads that have not ended wait",
+    },
+    Row {
+        name: "unreached",
+        takes: Takes::Nothing,
+        help: "List the statements that no run reached, on standard error",
+    },
+    Row {
+        name: "json",
+        takes: Takes::Nothing,
+        help: "Write the summary as JSON objects, for programs",
+    },
+];
 
 /// What the words after `test` ask for.
 pub fn test_words<'a>(alloc: Global, words: &ArgMatches<'a>) -> Result<TestWords<'a>, AllocError>

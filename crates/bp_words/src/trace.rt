@@ -1,15 +1,11 @@
 //! The words of `replay`, `migrate` and `shrink`.
-ghost use Rattle.std.specs.Prelude.{◌≡◌, false, IfOk};
-ghost use Rattle.clap.specs.Words.{app_of, found_of, rows_of};
-ghost use Rattle.clap.specs.declared.builder.command.Command.TheViews.{out-Command};
-ghost use Rattle.bp_words.specs.Commands.{trace_app};
+ghost use Rattle.clap.specs.Words.{found_of, rows_of};
 ghost use Rattle.bp_words.specs.TraceWords.{IsTraceWordsOf};
 
-use crate::arguments::{Row, Takes, with_rows};
+use crate::arguments::Row;
 use crate::explain::{ExplainWords, explain_words};
-use crate::files::file_command;
-use clap::{ArgMatches, Command};
-use std::alloc::{AllocError, Global};
+use crate::rows::TRACE;
+use clap::ArgMatches;
 
 /// A program and a trace of it.
 #[derive(Drop)]
@@ -58,24 +54,8 @@ pub const SHRINK_NOTES: &str = "\
     1  an assertion failed, and the trace is printed\n  \
     2  an input was refused, or the words were\n  3  memory, a device or the output failed";
 
-/// A command of this name, a file and a trace.
-pub fn trace_command<'a>(
-    alloc: Global,
-    name: &'a str,
-    about: &'a str,
-    notes: &'a str,
-) -> Result<Command<'a>, AllocError>
-    ensures { IfOk result
-        (λ c. (app_of c ≡ trace_app name.now) × ((out-Command c).has_globals ≡ false)) }
-{
-    let rows = [Row {
-        name: "TRACE",
-        takes: Takes::One,
-        help: "The file of the trace",
-    }];
-    let command = file_command(alloc, name, about, notes)?;
-    with_rows(alloc, command, &rows)
-}
+/// The arguments of the command after its file.
+pub static ROWS: [Row<'static>; 1] = [TRACE];
 
 /// What the words after `replay`, `migrate` or `shrink` ask for.
 pub fn trace_words<'a>(words: &ArgMatches<'a>) -> TraceWords<'a>

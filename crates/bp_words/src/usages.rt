@@ -4,7 +4,8 @@ ghost use Rattle.bp_words.specs.Usages.{asks_for_json};
 
 use crate::commands::no_command;
 use crate::meant::{of_file, of_number};
-use crate::names::{command_named, with_help};
+use crate::names::command_named;
+use crate::table::with_help;
 use clap::Error;
 use clap::error::ErrorKind;
 use std::alloc::{AllocError, Global};
