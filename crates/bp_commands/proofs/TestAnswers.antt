@@ -22,14 +22,14 @@ use Rattle.bp_test.specs.declared.waiting.Waiting.{Waiting}
 use Rattle.bp_test.specs.Counts.{AreCounts}
 use Rattle.bp_test.specs.Tallies.{MadeRun, made as made_of, HasReached, IsCounted}
 use Rattle.bp_test.specs.Tests.{setup_of_run, IsFound, IsTest, IsTestRefusal, IsWrittenRun}
-use Rattle.bp_view.specs.Scenes.{AreStatements}
-use Rattle.bp_view.specs.StatementLines.{positions_of}
 use Rattle.bp_commands.specs.Commands.{IsDoneWith, IsRefusedWith}
 use Rattle.bp_messages.specs.Faults.{fault_of_setup, fault_of_test}
 use Rattle.bp_messages.specs.declared.faults.Fault.TheVariants.{Memory}
 use Rattle.bp_messages.specs.declared.tested.Tested.{Tested}
 use Rattle.bp_messages.specs.Notes.{notes_of}
 use Rattle.bp_commands.specs.Tests.{tests, AreListed, IsTestable}
+use Rattle.bp_source.specs.Scenes.{AreStatements}
+use Rattle.bp_source.specs.StatementLines.{positions_of}
 
 module _ (start : StartOf) (x : TestOptions) (listed : Option (List ℕ)) (json : Bool) (text : List ℕ) (t : Program) (lawful : IsLawfulText text t) where
   -- the program takes this setup

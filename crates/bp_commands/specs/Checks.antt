@@ -4,10 +4,10 @@ use Rattle.std.specs.List.{concat}
 use Rattle.bp_tree.specs.Ast.{Program}
 use Rattle.bp_code.specs.LawfulTexts.{IsLawfulText, IsProgramRefusal}
 use Rattle.bp_code.specs.declared.texts.ProgramFault.{ProgramFault}
-use Rattle.bp_view.specs.Programs.{program_object}
 use Rattle.bp_messages.specs.declared.faults.Fault.{Fault}
 use Rattle.bp_messages.specs.Faults.{fault_of_program}
 use Rattle.bp_commands.specs.Commands.{Command}
+use Rattle.bp_source.specs.Programs.{program_object}
 
 -- `ok`, the number of procedures, and the number of globals
 abbrev pub check_line : Program → List ℕ

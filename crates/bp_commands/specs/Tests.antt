@@ -14,9 +14,6 @@ use Rattle.bp_test.specs.declared.testing.Found.TheVariants.{Nothing, Failed, De
 use Rattle.bp_test.specs.Counts.{AreCounts}
 use Rattle.bp_test.specs.Tallies.{MadeRun, HasReached}
 use Rattle.bp_test.specs.Tests.{IsFound, IsSought, IsWrittenRun}
-use Rattle.bp_view.specs.Scenes.{AreStatements}
-use Rattle.bp_view.specs.StatementLines.{positions_of, AreStatementLines}
-use Rattle.bp_view.specs.Unreached.{AreUnreachedObjects}
 use Rattle.bp_messages.specs.declared.faults.Fault.{Fault}
 use Rattle.bp_messages.specs.declared.faults.Fault.TheVariants.{Memory}
 use Rattle.bp_messages.specs.declared.tested.Tested.{Tested}
@@ -27,6 +24,9 @@ use Rattle.bp_commands.specs.Listings.{HasNoCode}
 use Rattle.bp_messages.specs.Notes.{notes_of}
 use Rattle.bp_messages.specs.Summaries.{summary_text}
 use Rattle.bp_messages.specs.SummaryObjects.{summary_objects}
+use Rattle.bp_source.specs.Scenes.{AreStatements}
+use Rattle.bp_source.specs.StatementLines.{positions_of, AreStatementLines}
+use Rattle.bp_source.specs.Unreached.{AreUnreachedObjects}
 
 -- a test found what it looks for
 abbrev pub has_found : Found → Bool

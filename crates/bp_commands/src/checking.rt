@@ -6,9 +6,9 @@ use crate::commands::ProgramCommand;
 use bp_check::Checked;
 use bp_code::lawful_program;
 use bp_messages::Fault;
+use bp_source::program_object;
 use bp_text::Piece::{Bytes, Number};
 use bp_text::{WriteFault, put, put_pieces};
-use bp_view::program_object;
 use std::alloc::Global;
 use std::io::Write;
 

@@ -3,15 +3,15 @@ ghost use Rattle.std.specs.Prelude.{◌≡◌, IfOk};
 ghost use Rattle.bp_code.specs.Compiled.{flat_of};
 ghost use Rattle.bp_code.specs.Listing.{listing_text};
 ghost use Rattle.bp_code.specs.StandsFor.{StandsFor};
-ghost use Rattle.bp_view.specs.Listings.{IsSourcedListing};
 ghost use Rattle.bp_commands.specs.Listings.{IsListingText};
+ghost use Rattle.bp_source.specs.Listings.{IsSourcedListing};
 
 use crate::commands::ProgramCommand;
 use bp_check::Checked;
 use bp_code::{Code as Flat, compile, lawful_program, list};
 use bp_messages::Fault;
+use bp_source::{code_objects, sourced_listing};
 use bp_text::put;
-use bp_view::{code_objects, sourced_listing};
 use std::alloc::{AllocError, Global};
 use std::io::Write;
 

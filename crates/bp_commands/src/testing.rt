@@ -1,9 +1,9 @@
 //! The command `test`.
 ghost use Rattle.std.specs.Prelude.{◌≡◌, map, IfOk};
 ghost use Rattle.bp_code.specs.StandsFor.{places_of};
-ghost use Rattle.bp_view.specs.Scenes.{AreStatements};
-ghost use Rattle.bp_view.specs.StatementLines.{positions_of};
 ghost use Rattle.bp_commands.specs.Tests.{name_of, AreListed};
+ghost use Rattle.bp_source.specs.Scenes.{AreStatements};
+ghost use Rattle.bp_source.specs.StatementLines.{positions_of};
 
 use crate::commands::ProgramCommand;
 use crate::ends::Ended;
@@ -11,9 +11,9 @@ use crate::showing::program_of;
 use bp_check::Checked;
 use bp_machine::Start;
 use bp_messages::{Fault, Notes, Tested, notes_of, put_summary, put_summary_objects};
+use bp_source::{statement_lines, statement_positions, statement_texts, unreached_objects};
 use bp_test::{Counts, Found, Progress, TestOptions, Waiting, test};
 use bp_text::{Position, WriteFault};
-use bp_view::{statement_lines, statement_positions, statement_texts, unreached_objects};
 use std::alloc::{AllocError, Global};
 use std::io::Write;
 use std::thread::Threads;

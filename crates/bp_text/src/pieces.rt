@@ -181,3 +181,44 @@ pub fn push_pieces(line: &mut Vec<u8>, pieces: &[Piece<'_>]) -> Result<(), Alloc
     }
     Ok(())
 }
+
+/// Adds two pieces.
+#[inline(always)]
+pub fn push_two(line: &mut Vec<u8>, first: Piece<'_>, second: Piece<'_>) -> Result<(), AllocError>
+    ensures { let old = line.old.items in
+        OnOk result (line.new.items ≡ old ++ piece_text first.entry ++ piece_text second.entry) }
+{
+    push_piece(line, first)?;
+    push_piece(line, second)
+}
+
+/// Adds three pieces.
+#[inline(always)]
+pub fn push_three(
+    line: &mut Vec<u8>,
+    first: Piece<'_>,
+    second: Piece<'_>,
+    third: Piece<'_>,
+) -> Result<(), AllocError>
+    ensures { let two = line.old.items ++ piece_text first.entry ++ piece_text second.entry in
+        OnOk result (line.new.items ≡ two ++ piece_text third.entry) }
+{
+    push_two(line, first, second)?;
+    push_piece(line, third)
+}
+
+/// Adds four pieces.
+#[inline(always)]
+pub fn push_four(
+    line: &mut Vec<u8>,
+    first: Piece<'_>,
+    second: Piece<'_>,
+    third: Piece<'_>,
+    fourth: Piece<'_>,
+) -> Result<(), AllocError>
+    ensures { let two = line.old.items ++ piece_text first.entry ++ piece_text second.entry in
+        OnOk result (line.new.items ≡ two ++ piece_text third.entry ++ piece_text fourth.entry) }
+{
+    push_two(line, first, second)?;
+    push_two(line, third, fourth)
+}

@@ -4,6 +4,7 @@ use Rattle.bp_tree.specs.Ast.{Program}
 use Rattle.bp_code.specs.StandsFor.{places_of}
 use Rattle.bp_machine.specs.declared.calls.Call.{Call}
 use Rattle.bp_machine.specs.Setups.{SetupOf}
+use Rattle.bp_source.proofs.WordsOfScenes.{words_are, words_items}
 use Rattle.bp_view.specs.declared.settings.Setting.{Setting}
 use Rattle.bp_view.specs.declared.spans.Span.{Span}
 use Rattle.bp_view.specs.ContextLines.{contexts_head, AreContextLines, IsContextLine}
@@ -11,7 +12,7 @@ use Rattle.bp_view.specs.Moments.{IsSettingOf}
 use Rattle.bp_view.specs.Parts.{Adds, IsInParts}
 use Rattle.bp_view.specs.Spans.{AreSpans}
 use Rattle.bp_view.specs.Widths.{extent_of, AreWidths}
-use Rattle.bp_view.proofs.LongestPlaces.{places_are, words_are, words_items}
+use Rattle.bp_view.proofs.LongestPlaces.{places_are}
 
 module _ (t : Program) (text : List ℕ) (s : SetupOf) (h : List Call) (setting : Setting) where
   abbrev Lines : ℕ → List ℕ → Type 0

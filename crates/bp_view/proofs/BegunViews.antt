@@ -11,6 +11,7 @@ use Rattle.bp_machine.specs.Setups.{SetupOf}
 use Rattle.bp_trace.specs.Replays.{IsPlayable}
 use Rattle.bp_trace.proofs.PlayableFronts.{front}
 use Rattle.bp_text.specs.Writing.{AppendsAll, AppendsPart}
+use Rattle.bp_source.proofs.WordsOfScenes.{words_are, words_items}
 use Rattle.bp_view.specs.declared.options.ViewOptions.{ViewOptions}
 use Rattle.bp_view.specs.declared.settings.Setting.{Setting}
 use Rattle.bp_view.specs.declared.writers.ViewWriter.{ViewWriter}
@@ -20,7 +21,7 @@ use Rattle.bp_view.specs.Moments.{IsSettingOf}
 use Rattle.bp_view.specs.Parts.{IsInParts}
 use Rattle.bp_view.specs.Views.{HasMade, IsShownLine, IsView, IsViewable}
 use Rattle.bp_view.specs.Writing.{IsBegun, IsCutShort, IsWritten}
-use Rattle.bp_view.proofs.LongestPlaces.{places_are, words_are, words_items}
+use Rattle.bp_view.proofs.LongestPlaces.{places_are}
 use Rattle.bp_view.proofs.WholeStates.{some_end}
 use Rattle.bp_view.proofs.WholeViews.{each_line}
 use Rattle.bp_view.proofs.WrittenParts as parts

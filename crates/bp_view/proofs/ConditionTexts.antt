@@ -8,16 +8,16 @@ use Rattle.bp_code.specs.StandsFor.{place}
 use Rattle.bp_code.specs.Starts.{start_of_block}
 use Rattle.bp_machine.specs.declared.tops.Top.{Top}
 use Rattle.bp_machine.specs.Tops.{IsTop}
-use Rattle.bp_view.specs.Assertions.{next_decision, variables_read}
-use Rattle.bp_view.specs.declared.scenes.Scene.{Scene}
+use Rattle.bp_source.specs.Assertions.{next_decision, variables_read}
+use Rattle.bp_source.specs.declared.scenes.Scene.{Scene}
+use Rattle.bp_source.specs.Places.{place_text, position_text}
+use Rattle.bp_source.specs.Scenes.{AreScenes, IsScene, IsStatementAt}
+use Rattle.bp_source.specs.Statements.{IsStatement}
+use Rattle.bp_source.proofs.OneStatement.{one_statement}
 use Rattle.bp_view.specs.declared.options.ViewFormat.{ViewFormat}
 use Rattle.bp_text.specs.declared.positions.Position.{Position}
 use Rattle.bp_text.specs.Positions.{position_at}
 use Rattle.bp_view.specs.Conditions.{condition_in, named_values, IsAtCondition, IsConditionText}
-use Rattle.bp_view.specs.Places.{place_text, position_text}
-use Rattle.bp_view.specs.Scenes.{AreScenes, IsScene, IsStatementAt}
-use Rattle.bp_view.specs.Statements.{IsStatement}
-use Rattle.bp_view.proofs.OneStatement.{one_statement}
 use Rattle.bp_view.proofs.PlacesOfTops.{scene_of_top}
 
 -- a thread stands at one condition

@@ -8,11 +8,11 @@ use Rattle.bp_machine.specs.Histories.{configuration_after}
 use Rattle.bp_machine.specs.Reports.{IsRealFailure}
 use Rattle.bp_machine.specs.Setups.{SetupOf}
 use Rattle.bp_text.specs.Positions.{position_at}
+use Rattle.bp_source.specs.Assertions.{next_decision, variables_read}
+use Rattle.bp_source.specs.Statements.{IsStatement}
 use Rattle.bp_view.specs.declared.options.ViewFormat.{ViewFormat}
-use Rattle.bp_view.specs.Assertions.{next_decision, variables_read}
 use Rattle.bp_view.specs.Conditions.{condition_in, named_values, IsAtCondition, IsConditionText}
 use Rattle.bp_view.specs.Outcomes.{IsAssertionText}
-use Rattle.bp_view.specs.Statements.{IsStatement}
 use Rattle.bp_view.proofs.ConditionTexts.{one_decision, one_frame, one_place}
 use Rattle.bp_view.proofs.FailedStatements.{globals_stay, stack_stays}
 

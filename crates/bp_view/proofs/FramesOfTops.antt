@@ -10,13 +10,13 @@ use Rattle.bp_code.specs.Starts.{start_of_block}
 use Rattle.bp_machine.specs.declared.tops.Top.{Top}
 use Rattle.bp_machine.specs.Tops.{IsTopOf}
 use Rattle.bp_text.specs.Positions.{position_at}
+use Rattle.bp_source.specs.declared.scenes.Scene.{Scene}
+use Rattle.bp_source.specs.Places.{place_text}
+use Rattle.bp_source.specs.Scenes.{AreScenes, IsStatementAt}
+use Rattle.bp_source.proofs.SceneLists.{SceneAt, scene_at}
 use Rattle.bp_view.specs.declared.options.ViewFormat.{ViewFormat}
-use Rattle.bp_view.specs.declared.scenes.Scene.{Scene}
 use Rattle.bp_view.specs.Changes.{variables_text}
 use Rattle.bp_view.specs.Frames.{frame_in, IsFrameText}
-use Rattle.bp_view.specs.Places.{place_text}
-use Rattle.bp_view.specs.Scenes.{AreScenes, IsStatementAt}
-use Rattle.bp_view.proofs.SceneLists.{SceneAt, scene_at}
 
 -- what is left of a stack begins with the frame that is there
 pub from_here : (stack : List Frame) (n : ℕ) (f : Frame) → slice_get stack n ≡ Some f → drop n stack ≡ f ∷ drop (suc n) stack

@@ -1,13 +1,8 @@
 -- Texts that are joined in one order are those that are joined in another.
-use Rattle.std.proofs.Common.{OnOk, Result, ◌≡◌, ◌∙◌, ◌++◌, ℕ, List, [], ◌∷◌, ap, codes, refl, sym, fold, append_assoc, append-nil}
-use Rattle.std.proofs.lemmas.Result.{on_ok_weaker}
+use Rattle.std.proofs.Common.{◌≡◌, ◌∙◌, ◌++◌, ℕ, List, [], ◌∷◌, ap, codes, refl, sym, fold, append_assoc, append-nil}
 use Rattle.std.specs.List.{concat}
 use Rattle.bp_text.proofs.PiecesInTurn.{all_added}
 use Rattle.bp_view.specs.Conditions.{condition_text, values_line}
-
--- what follows from a fact of a call that succeeded
-pub when_ok : {T E P Q : Type 0} (r : Result T E) → OnOk r P → (P → Q) → OnOk r Q
-when_ok r is more = on_ok_weaker r more is
 
 concat-last : (ts : List (List ℕ)) (t : List ℕ) → concat ts ++ t ≡ concat (ts ++ t ∷ [])
 concat-last [] t = simp append-nil
@@ -34,10 +29,6 @@ pair_joined a b c us is = sym (append_assoc a b (concat us)) ∙ ap (λ x. x ++ 
 
 pub pair_added : (old a b c : List ℕ) → a ++ b ≡ c → old ++ a ++ b ≡ old ++ c
 pair_added old a b c is = append_assoc old a b ∙ ap (λ x. old ++ x) is
-
--- some texts that are one, and others
-pub first_joined : (old : List ℕ) (ts us : List (List ℕ)) → fold (λ a u. a ++ u) (fold (λ a u. a ++ u) old ts) us ≡ old ++ concat (concat ts ∷ us)
-first_joined old ts us = ap (λ x. fold (λ a u. a ++ u) x us) (all_added old ts) ∙ all_added old (concat ts ∷ us)
 
 -- three times some texts that are one
 pub setup_joined : (old : List ℕ) (ts us vs : List (List ℕ)) → fold (λ a u. a ++ u) old ts ++ concat (us ++ vs) ≡ old ++ concat (concat ts ∷ concat us ∷ concat vs ∷ [])

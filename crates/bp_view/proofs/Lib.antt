@@ -5,10 +5,8 @@ pub mod ChangedEntries
 pub mod ChangedVariables
 pub mod ChangesOfFrames
 pub mod ChangesReplay
-pub mod CodeObjects
 pub mod ConditionTexts
 pub mod DecidedDeadlocks
-pub mod DecidersOfPlaces
 pub mod EqualWaits
 pub mod FailedConditions
 pub mod FailedStatements
@@ -24,17 +22,14 @@ pub mod OneCall
 pub mod OneContext
 pub mod OneFoot
 pub mod OneState
-pub mod OneStatement
 pub mod OneView
 pub mod PartsOfHeads
 pub mod PartsOfTexts
 pub mod PlacedStacks
 pub mod PlacesOfTops
 pub mod PlayedFronts
-pub mod PositionsOfScenes
 pub mod PrintedValues
 pub mod RecordedCalls
-pub mod SceneLists
 pub mod ShownLines
 pub mod SpansOfHistories
 pub mod StepsInContexts
@@ -43,5 +38,4 @@ pub mod WaitingConditions
 pub mod WatchedVariables
 pub mod WholeStates
 pub mod WholeViews
-pub mod WordsOfStatements
 pub mod WrittenParts

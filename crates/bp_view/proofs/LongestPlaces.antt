@@ -5,9 +5,10 @@ use Rattle.std.proofs.lemmas.Bool.Decides.{nat_tests}
 use Rattle.bp_tree.specs.Ast.{Procedure}
 use Rattle.bp_code.specs.StandsFor.{Place}
 use Rattle.bp_code.specs.Starts.{start_of_block}
-use Rattle.bp_view.specs.declared.scenes.Scene.{Scene}
-use Rattle.bp_view.specs.Places.{place_text}
-use Rattle.bp_view.specs.Scenes.{AreScenesAt, AreStatements}
+use Rattle.bp_source.specs.declared.scenes.Scene.{Scene}
+use Rattle.bp_source.specs.Places.{place_text}
+use Rattle.bp_source.specs.Scenes.{AreScenesAt}
+use Rattle.bp_source.proofs.WordsOfScenes.{words_items}
 use Rattle.bp_view.specs.StatementColumns.{shortened}
 use Rattle.bp_view.specs.Widths.{longest}
 use Rattle.bp_code.proofs.ProceduresOfPlaces.{starts}
@@ -22,9 +23,6 @@ longest_more (suc n) (y ∷ scenes) x h =
     let within : n < length scenes = omega arith in
     let here = longest_more n scenes x within in
     omega (arith, here)
-
-abbrev pub words_items : List Scene → List (List ℕ)
-words_items scenes = map (λ s. s.excerpt.words.items) scenes
 
 -- a statement has at most MAX_STATEMENT bytes in its column
 pub shortened_length : (words : List ℕ) → length (shortened words) ≡ min (length words) 60
@@ -45,13 +43,6 @@ longest_words_more (suc n) (y ∷ scenes) x h =
     let within : n < length scenes = omega arith in
     let here = longest_words_more n scenes x within in
     omega (arith, here)
-
--- the words of the scenes are those of the statements
-pub words_are : (text : List ℕ) (ps : List Procedure) (xs : List Place) (scenes : List Scene) → AreScenesAt text ps xs scenes → AreStatements text xs (words_items scenes)
-words_are text ps [] [] are = tt
-words_are text ps [] (x ∷ scenes) are = elim are [ ]
-words_are text ps (s ∷ xs) [] are = elim are [ ]
-words_are text ps (s ∷ xs) (x ∷ scenes) are = ((x.excerpt.reads_choice, are.0.statement), words_are text ps xs scenes are.1)
 
 -- the places of the scenes are those of the statements
 pub places_are : (text : List ℕ) (ps : List Procedure) (xs : List Place) (scenes : List Scene) → AreScenesAt text ps xs scenes → place_items scenes ≡ map (place_text text) (starts xs)

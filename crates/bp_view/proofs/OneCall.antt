@@ -9,10 +9,10 @@ use Rattle.bp_machine.specs.Answers.{stack_of}
 use Rattle.bp_machine.specs.Histories.{configuration_after, granted_threads}
 use Rattle.bp_machine.specs.Setups.{SetupOf}
 use Rattle.bp_machine.proofs.ContextCounts.{least_opened}
+use Rattle.bp_source.proofs.OneStatement.{one_statement_at}
 use Rattle.bp_view.specs.declared.options.ViewOptions.{ViewOptions}
 use Rattle.bp_view.specs.CallFacts.{AreCallFacts, IsNextOf, Next, ShownCall}
 use Rattle.bp_view.specs.Moments.{IsContext}
-use Rattle.bp_view.proofs.OneStatement.{one_statement_at}
 
 pub one_next : (text : List ℕ) (stack : List Frame) (m n : Next) → IsNextOf text stack m → IsNextOf text stack n → m ≡ n
 one_next text [] m n x y = x ∙ sym y

@@ -8,6 +8,8 @@ use Rattle.bp_machine.specs.Answers.{stack_of}
 use Rattle.bp_machine.specs.Histories.{configuration_after, granted_threads}
 use Rattle.bp_machine.specs.Setups.{SetupOf}
 use Rattle.bp_machine.proofs.ContextCounts.{least_opened}
+use Rattle.bp_source.specs.Places.{place_text}
+use Rattle.bp_source.proofs.OneStatement.{one_list_of_statements}
 use Rattle.bp_view.specs.declared.options.ViewFormat.{ViewFormat}
 use Rattle.bp_view.specs.declared.settings.Widths.{Widths}
 use Rattle.bp_view.specs.CallFacts.{IsNextOf}
@@ -15,10 +17,8 @@ use Rattle.bp_view.specs.ChangeFacts.{owned}
 use Rattle.bp_view.specs.Changes.{changed}
 use Rattle.bp_view.specs.ContextLines.{context_text, contexts_head, AreContextFacts, AreContextLines, IsContextLine, IsContextOf, ShownContext}
 use Rattle.bp_view.specs.Parts.{IsInParts}
-use Rattle.bp_view.specs.Places.{place_text}
 use Rattle.bp_view.specs.Widths.{extent, AreWidths}
 use Rattle.bp_view.proofs.OneCall.{one_next}
-use Rattle.bp_view.proofs.OneStatement.{one_list_of_statements}
 use Rattle.bp_view.proofs.OneView.{one_widths}
 use Rattle.bp_view.proofs.PartsOfTexts.{one_of_parts}
 

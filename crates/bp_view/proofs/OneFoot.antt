@@ -14,15 +14,15 @@ use Rattle.bp_machine.specs.Reports.{IsRealFailure}
 use Rattle.bp_machine.specs.Setups.{SetupOf, threads}
 use Rattle.bp_machine.specs.Waiting.{waits}
 use Rattle.bp_text.specs.Positions.{position_at}
+use Rattle.bp_source.specs.Assertions.{next_decision, variables_read}
+use Rattle.bp_source.specs.Statements.{IsStatement}
+use Rattle.bp_source.proofs.OneStatement.{one_statement}
 use Rattle.bp_view.specs.declared.options.ViewFormat.{ViewFormat}
-use Rattle.bp_view.specs.Assertions.{next_decision, variables_read}
 use Rattle.bp_view.specs.Conditions.{condition_in, named_values}
 use Rattle.bp_view.specs.Deadlocks.{wait_in, AreWaits, IsWait}
 use Rattle.bp_view.specs.Outcomes.{failure_in, foot_text, IsAssertionText, IsFoot, IsOutcomeText}
-use Rattle.bp_view.specs.Statements.{IsStatement}
 use Rattle.bp_view.proofs.ConditionTexts.{one_condition}
 use Rattle.bp_view.proofs.FailedStatements.{globals_stay, stack_stays}
-use Rattle.bp_view.proofs.OneStatement.{one_statement}
 use Rattle.bp_view.proofs.PartsOfTexts.{one_of_parts}
 
 one_answer : (P : Type 0) (a b : Bool) → IsTrue a ↔ P → IsTrue b ↔ P → a ≡ b

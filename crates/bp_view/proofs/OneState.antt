@@ -8,12 +8,12 @@ use Rattle.bp_machine.specs.Answers.{stack_of}
 use Rattle.bp_machine.specs.Histories.{configuration_after}
 use Rattle.bp_machine.specs.Reports.{outcome_of}
 use Rattle.bp_machine.specs.Setups.{SetupOf, threads}
+use Rattle.bp_source.proofs.OneStatement.{one_statement_at}
 use Rattle.bp_view.specs.declared.options.ViewFormat.{ViewFormat}
 use Rattle.bp_view.specs.Changes.{variables_text}
 use Rattle.bp_view.specs.Frames.{frame_in, IsFrameText, IsStackText}
 use Rattle.bp_view.specs.Standings.{standing}
 use Rattle.bp_view.specs.States.{state_in, thread_state_in, IsStateText, IsThreadText}
-use Rattle.bp_view.proofs.OneStatement.{one_statement_at}
 use Rattle.bp_view.proofs.PartsOfTexts.{item_at, one_of_parts}
 
 module _ (format : ViewFormat) (text : List ℕ) where

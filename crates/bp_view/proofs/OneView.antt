@@ -6,17 +6,17 @@ use Rattle.bp_code.specs.Starts.{starts_of}
 use Rattle.bp_machine.specs.declared.calls.Call.{Call}
 use Rattle.bp_machine.specs.declared.reports.Report.{Report}
 use Rattle.bp_machine.specs.Setups.{SetupOf}
+use Rattle.bp_source.specs.Places.{place_text}
+use Rattle.bp_source.proofs.OneStatement.{one_list_of_statements}
 use Rattle.bp_view.specs.declared.options.ViewOptions.{ViewOptions}
 use Rattle.bp_view.specs.declared.settings.Widths.{Widths}
 use Rattle.bp_view.specs.Ends.{after_foot, IsEnd, IsStateIf}
 use Rattle.bp_view.specs.Heads.{view_head}
-use Rattle.bp_view.specs.Places.{place_text}
 use Rattle.bp_view.specs.Views.{has_line, line_in, AreLines, IsShownLine, IsView, IsViewLineIf}
 use Rattle.bp_view.specs.Widths.{extent, AreWidths, Extent}
 use Rattle.bp_view.proofs.OneCall.{one_call}
 use Rattle.bp_view.proofs.OneFoot.{one_foot}
 use Rattle.bp_view.proofs.OneState.{one_state}
-use Rattle.bp_view.proofs.OneStatement.{one_list_of_statements}
 use Rattle.bp_view.proofs.PartsOfTexts.{item_at, one_of_parts}
 
 pub one_widths : (s : SetupOf) (e : Extent) (a b : Widths) → AreWidths s e a → AreWidths s e b → a ≡ b

@@ -8,16 +8,11 @@ use Rattle.bp_code.specs.StandsFor.{place, places_of}
 use Rattle.bp_machine.specs.declared.tops.Top.{Top}
 use Rattle.bp_machine.specs.Answers.{stack_of}
 use Rattle.bp_machine.specs.Tops.{IsTop}
-use Rattle.bp_view.specs.declared.scenes.Scene.{Scene}
-use Rattle.bp_view.specs.CallFacts.{name_at, IsNextAt, IsNextOf, Next}
-use Rattle.bp_view.specs.Scenes.{AreScenes, IsScene}
-use Rattle.bp_view.proofs.SceneLists.{SceneAt, scene_at}
-
--- what is got is the n-th
-pub got_item : {X : Type 0} (o : Option (Bor X)) (xs : List X) (n : ℕ) → is_some o ≡ nat_lt n (length xs) → IfSome o (λ x. x.now ≡ get_or xs n x.now)
-    → option_map (λ x. x.now) o ≡ slice_get xs n
-got_item None xs n e h = let past : length xs ≤ n = grind arith in sym (slice_get_past xs n past)
-got_item (Some x) xs n e h = let within : n < length xs = grind arith in ap Some h ∙ sym (slice_get-get_or xs n x.now within)
+use Rattle.bp_source.specs.declared.scenes.Scene.{Scene}
+use Rattle.bp_source.specs.Procedures.{name_at}
+use Rattle.bp_source.specs.Scenes.{AreScenes, IsScene}
+use Rattle.bp_source.proofs.SceneLists.{SceneAt, scene_at}
+use Rattle.bp_view.specs.CallFacts.{IsNextAt, IsNextOf, Next}
 
 -- what a scene shows of what comes next at this top
 abbrev pub next_at : List Procedure → Scene → Top → Next

@@ -8,11 +8,11 @@ use Rattle.bp_machine.specs.Reports.{outcome_of, IsReport}
 use Rattle.bp_machine.specs.Setups.{SetupOf}
 use Rattle.bp_trace.specs.declared.replaying.Replayed.{Replayed}
 use Rattle.bp_trace.specs.Replays.{IsPlayable}
+use Rattle.bp_source.specs.declared.scenes.Scene.{Scene}
+use Rattle.bp_source.specs.Scenes.{AreScenes}
 use Rattle.bp_view.specs.declared.faults.ViewFault.{ViewFault}
 use Rattle.bp_view.specs.declared.options.ViewOptions.{ViewOptions}
-use Rattle.bp_view.specs.declared.scenes.Scene.{Scene}
 use Rattle.bp_view.specs.declared.settings.Setting.{Setting}
-use Rattle.bp_view.specs.Scenes.{AreScenes}
 use Rattle.bp_view.specs.Views.{IsView, IsViewable}
 use Rattle.bp_view.specs.Watches.{watched_names}
 use Rattle.bp_view.specs.Widths.{extent_of, AreWidths}

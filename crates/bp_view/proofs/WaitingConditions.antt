@@ -9,7 +9,7 @@ use Rattle.bp_code.specs.Values.{Valuation, decision_value, expression_values}
 use Rattle.bp_machine.specs.declared.calls.Reply.TheVariants.{Full}
 use Rattle.bp_machine.specs.Answers.{is_full, reply_on_stack, reply_to_effect, stack_of}
 use Rattle.bp_machine.specs.Waiting.{finds_zero, is_blocked, waits}
-use Rattle.bp_view.specs.Assertions.{next_decision}
+use Rattle.bp_source.specs.Assertions.{next_decision}
 use Rattle.bp_view.specs.Conditions.{IsAtCondition}
 
 abbrev blocks : StatementEffect → Bool

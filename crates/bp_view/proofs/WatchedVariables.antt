@@ -7,7 +7,6 @@ use Rattle.bp_code.specs.Steps.{Bits}
 use Rattle.bp_code.specs.StandsFor.{valuation_of}
 use Rattle.bp_code.specs.Values.{Valuation}
 use Rattle.bp_view.specs.Changes.{changed}
-use Rattle.bp_view.specs.Watches.{is_among, is_named}
 
 first_then : (name : List ℕ) (p q : Bool) (m n k l rest : Valuation) → changed m n ≡ changed k l ++ rest
     → changed ((name, p) ∷ m) ((name, q) ∷ n) ≡ changed ((name, p) ∷ k) ((name, q) ∷ l) ++ rest
@@ -15,11 +14,6 @@ first_then name true true m n k l rest is = is
 first_then name false false m n k l rest is = is
 first_then name true false m n k l rest is = ap (λ v. (name, false) ∷ v) is
 first_then name false true m n k l rest is = ap (λ v. (name, true) ∷ v) is
-
--- the names behind references
-pub among_named : (ns : List (Bor (List ℕ))) (x : List ℕ) → is_among ns x ≡ is_named (map (λ n. n.now) ns) x
-among_named [] x = refl
-among_named (n ∷ ns) x = ap (λ b. bytes_eq n.now x || b) (among_named ns x)
 
 -- the variables of two lists that differ
 pub both_changed : (xs ys : List Name) (a b : Bits)

@@ -12,18 +12,18 @@ use Rattle.bp_machine.specs.Answers.{stack_of}
 use Rattle.bp_machine.specs.Histories.{configuration_after, IsLegal}
 use Rattle.bp_machine.specs.Reports.{outcome_of}
 use Rattle.bp_machine.specs.Setups.{SetupOf, threads}
+use Rattle.bp_source.specs.declared.scenes.Scene.{Scene}
+use Rattle.bp_source.specs.Scenes.{AreScenes}
+use Rattle.bp_source.proofs.SceneLists.{scene_at}
 use Rattle.bp_view.specs.declared.options.ViewFormat.{ViewFormat}
 use Rattle.bp_view.specs.declared.options.ViewOptions.{ViewOptions}
-use Rattle.bp_view.specs.declared.scenes.Scene.{Scene}
 use Rattle.bp_view.specs.Changes.{variables_text}
 use Rattle.bp_view.specs.Ends.{after_foot, IsEnd, IsStateIf}
 use Rattle.bp_view.specs.Frames.{frame_in, IsFrameText, IsStackText}
-use Rattle.bp_view.specs.Scenes.{AreScenes}
 use Rattle.bp_view.specs.Standings.{standing}
 use Rattle.bp_view.specs.States.{state_in, thread_state_in, IsStateText, IsThreadText}
 use Rattle.bp_view.proofs.PartsOfTexts.{part_of_each, some_parts}
 use Rattle.bp_view.proofs.PlacedStacks.{stack_placed, ArePlaced, IsPlaced}
-use Rattle.bp_view.proofs.SceneLists.{scene_at}
 use Rattle.bp_view.proofs.WholeViews.{some_foot}
 
 -- each frame of a placed stack is placed

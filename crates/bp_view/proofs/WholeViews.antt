@@ -20,25 +20,25 @@ use Rattle.bp_machine.specs.Waiting.{waits}
 use Rattle.bp_machine.proofs.ContextCounts.{opened, opened_least}
 use Rattle.bp_machine.proofs.RealFailures.{real}
 use Rattle.bp_text.specs.Positions.{position_at}
+use Rattle.bp_source.specs.declared.scenes.Scene.{Scene}
+use Rattle.bp_source.specs.Assertions.{variables_read}
+use Rattle.bp_source.specs.Scenes.{AreScenes, IsStatementAt}
+use Rattle.bp_source.specs.Places.{place_text}
+use Rattle.bp_source.specs.Statements.{IsStatement}
+use Rattle.bp_source.proofs.SceneLists.{scene_at, SceneAt}
 use Rattle.bp_view.specs.declared.options.ViewFormat.{ViewFormat}
 use Rattle.bp_view.specs.declared.options.ViewOptions.{ViewOptions}
-use Rattle.bp_view.specs.declared.scenes.Scene.{Scene}
 use Rattle.bp_view.specs.declared.settings.Widths.{Widths}
-use Rattle.bp_view.specs.Assertions.{variables_read}
 use Rattle.bp_view.specs.CallFacts.{changes_by, nothing_next, printed_in, AreCallFacts, ShownCall, IsNextOf, Next}
 use Rattle.bp_view.specs.Moments.{is_switch, IsContext}
-use Rattle.bp_view.specs.Scenes.{AreScenes, IsStatementAt}
 use Rattle.bp_view.specs.Conditions.{condition_in, named_values, IsAtCondition, IsConditionText}
 use Rattle.bp_view.specs.Deadlocks.{wait_in, AreWaits, IsWait}
 use Rattle.bp_view.specs.Outcomes.{clean_in, failure_in, foot_text, IsAssertionText, IsFoot, IsOutcomeText}
-use Rattle.bp_view.specs.Places.{place_text}
-use Rattle.bp_view.specs.Statements.{IsStatement}
 use Rattle.bp_view.specs.Options.{calls_of}
 use Rattle.bp_view.specs.Views.{has_line, line_in, IsShownLine, IsViewLine, IsViewLineIf}
 use Rattle.bp_view.proofs.PartsOfTexts.{part_of_each, some_parts}
 use Rattle.bp_view.proofs.DecidedDeadlocks.{decided}
 use Rattle.bp_view.proofs.PlacedStacks.{stack_placed, ArePlaced, IsPlaced}
-use Rattle.bp_view.proofs.SceneLists.{scene_at, SceneAt}
 use Rattle.bp_view.proofs.WaitingConditions.{at_assumption}
 
 module _ (c : Flat) (t : Program) (code : StandsFor c t) (text : List ℕ) (scenes : List Scene) (are : AreScenes text t scenes) (s : SetupOf) where

@@ -14,6 +14,8 @@ use Rattle.bp_machine.specs.Setups.{SetupOf}
 use Rattle.bp_text.specs.declared.positions.Position.{Position}
 use Rattle.bp_text.specs.OneLine.{IsOneLine}
 use Rattle.bp_text.specs.Positions.{position_at}
+use Rattle.bp_source.specs.Places.{place_text}
+use Rattle.bp_source.specs.Scenes.{IsStatementAt}
 use Rattle.bp_view.specs.declared.call_facts.CallFacts.{CallFacts}
 use Rattle.bp_view.specs.declared.call_facts.Next.{Next as NextFacts}
 use Rattle.bp_view.specs.declared.options.ViewFormat.{ViewFormat}
@@ -22,8 +24,6 @@ use Rattle.bp_view.specs.declared.options.ViewOptions.{ViewOptions}
 use Rattle.bp_view.specs.ChangeFacts.{changes_between, entry_of, Entry}
 use Rattle.bp_view.specs.Options.{calls_of}
 use Rattle.bp_view.specs.Moments.{is_switch, IsContext}
-use Rattle.bp_view.specs.Places.{place_text}
-use Rattle.bp_view.specs.Scenes.{IsStatementAt}
 
 -- What a thread has next: where its statement begins, as it is printed and as a line and a column;
 -- in which procedure; how many frames the stack has; the words of the statement, and whether it
@@ -85,10 +85,6 @@ facts_in x =
       changes = map entry_of x.changes.now;
       printed = option_map (λ v. v.now) x.printed;
     }
-
--- a device: the name of the procedure with this number
-abbrev pub name_at : List Procedure → ℕ → Option (List ℕ)
-name_at ps n = option_map (λ p. p.name.text) (slice_get ps n)
 
 -- a statement that comes next was tried: it made a step, or its assumption was 0
 abbrev pub is_tried : Reply → Bool

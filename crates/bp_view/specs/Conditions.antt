@@ -8,16 +8,16 @@ use Rattle.bp_code.specs.Moves.{frame_store}
 use Rattle.bp_code.specs.Starts.{start_of_block}
 use Rattle.bp_code.specs.Values.{Valuation, lookup}
 use Rattle.bp_machine.specs.Answers.{stack_of}
+use Rattle.bp_source.specs.Assertions.{next_decision, variables_read}
+use Rattle.bp_source.specs.Places.{position_text}
+use Rattle.bp_source.specs.Statements.{IsStatement}
 use Rattle.bp_view.specs.declared.options.ViewFormat.{ViewFormat}
 use Rattle.bp_view.specs.declared.options.ViewFormat.TheVariants.{Columns, Json}
-use Rattle.bp_view.specs.Assertions.{next_decision, variables_read}
 use Rattle.bp_view.specs.Changes.{variable_text}
 use Rattle.bp_text.specs.declared.positions.Position.{Position}
 use Rattle.bp_text.specs.JsonStrings.{string_text}
 use Rattle.bp_text.specs.Pieces.{key_text, list_text}
 use Rattle.bp_text.specs.Positions.{position_at}
-use Rattle.bp_view.specs.Places.{position_text}
-use Rattle.bp_view.specs.Statements.{IsStatement}
 
 module _ (format : ViewFormat) where
   -- the local of this name, else the global of this name, with its value; nothing where neither is

@@ -16,6 +16,8 @@ use Rattle.bp_text.specs.Columns.{at_left, at_right}
 use Rattle.bp_text.specs.Pieces.{key_text, list_text}
 use Rattle.bp_trace.specs.declared.replaying.Replayed.{Replayed}
 use Rattle.bp_trace.specs.Replayed.{IsReplayed}
+use Rattle.bp_source.specs.Scenes.{AreStatements}
+use Rattle.bp_source.specs.Places.{place_text}
 use Rattle.bp_view.specs.declared.contexts.ContextFacts.{ContextFacts}
 use Rattle.bp_view.specs.declared.options.ViewFormat.{ViewFormat}
 use Rattle.bp_view.specs.declared.options.ViewFormat.TheVariants.{Columns, Json}
@@ -25,9 +27,7 @@ use Rattle.bp_view.specs.ChangeFacts.{entries_text, entry_of, owned, Entry}
 use Rattle.bp_view.specs.Changes.{changed}
 use Rattle.bp_view.specs.Lines.{after_room}
 use Rattle.bp_view.specs.Moments.{IsContext}
-use Rattle.bp_view.specs.Scenes.{AreStatements}
 use Rattle.bp_view.specs.Parts.{IsInParts}
-use Rattle.bp_view.specs.Places.{place_text}
 use Rattle.bp_view.specs.Widths.{extent, AreWidths}
 
 -- the call x, after k others, made a step in context n

@@ -9,14 +9,14 @@ use Rattle.bp_text.specs.JsonStrings.{string_text}
 use Rattle.bp_text.specs.OneLine.{on_one_line}
 use Rattle.bp_text.specs.Pieces.{key_text, list_text, number_or_null}
 use Rattle.bp_text.specs.Positions.{position_at}
+use Rattle.bp_source.specs.JsonPlaces.{column_of, line_of}
+use Rattle.bp_source.specs.Places.{place_text}
+use Rattle.bp_source.specs.Scenes.{IsStatementAt}
 use Rattle.bp_view.specs.declared.options.ViewFormat.{ViewFormat}
 use Rattle.bp_view.specs.declared.options.ViewFormat.TheVariants.{Columns, Json}
 use Rattle.bp_view.specs.Changes.{variables_text}
-use Rattle.bp_view.specs.JsonTexts.{column_of, line_of}
 use Rattle.bp_view.specs.Conditions.{condition_text}
 use Rattle.bp_view.specs.Parts.{IsInParts}
-use Rattle.bp_view.specs.Places.{place_text}
-use Rattle.bp_view.specs.Scenes.{IsStatementAt}
 
 -- frame 0 is at the top; the others go on after returns
 abbrev pub lead : ℕ → List ℕ

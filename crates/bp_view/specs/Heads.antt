@@ -4,8 +4,8 @@ use Rattle.std.specs.List.{concat}
 use Rattle.bp_tree.specs.Ast.{Name}
 use Rattle.bp_code.specs.Values.{Valuation, binding}
 use Rattle.bp_machine.specs.Setups.{SetupOf}
-use Rattle.bp_text.specs.JsonStrings.{string_text}
 use Rattle.bp_text.specs.Pieces.{key_text, list_text, number_or_null}
+use Rattle.bp_source.specs.Programs.{string_item}
 use Rattle.bp_view.specs.declared.options.ViewFormat.{ViewFormat}
 use Rattle.bp_view.specs.declared.options.ViewFormat.TheVariants.{Columns, Json}
 use Rattle.bp_view.specs.declared.options.ViewOptions.{ViewOptions}
@@ -43,10 +43,6 @@ head_lines globals s =
     ++ number_line (codes "calls of a thread at most ") s.calls
     ++ seed_line s.seed
     ++ codes "\n"
-
--- a string of a list
-abbrev pub string_item : List ℕ → List ℕ
-string_item text = concat (codes "," ∷ string_text text ∷ [])
 
 -- the limits of a setup and its seed, and the end of its object
 abbrev pub limit_members : SetupOf → List ℕ

@@ -5,10 +5,10 @@ use Rattle.bp_machine.specs.declared.calls.Reply.{Reply}
 use Rattle.bp_machine.specs.declared.calls.Reply.TheVariants.{Stopped, Ended, NoContexts, Full, Blocked, Failed, Stepped}
 use Rattle.bp_text.specs.JsonStrings.{string_text}
 use Rattle.bp_text.specs.Pieces.{bit_or_null, bit_text, key_text, list_text, number_or_null, string_or_null, truth_text}
+use Rattle.bp_source.specs.JsonPlaces.{column_of, line_of}
 use Rattle.bp_view.specs.declared.options.ViewFormat.TheVariants.{Json}
 use Rattle.bp_view.specs.CallFacts.{choice_of, ShownCall}
 use Rattle.bp_view.specs.ChangeFacts.{entries_text}
-use Rattle.bp_view.specs.JsonTexts.{column_of, line_of}
 
 -- what is said of a reply
 abbrev pub reply_name : Reply → List ℕ

@@ -11,10 +11,10 @@ use Rattle.bp_machine.specs.Histories.{configuration_after, granted_threads}
 use Rattle.bp_machine.specs.Replies.{is_granted}
 use Rattle.bp_machine.specs.Setups.{SetupOf}
 use Rattle.bp_machine.specs.Tops.{IsTop}
+use Rattle.bp_source.specs.Scenes.{AreScenes}
 use Rattle.bp_view.specs.declared.moments.Moment.{Moment}
 use Rattle.bp_view.specs.declared.settings.Setting.{Setting}
 use Rattle.bp_view.specs.Changes.{IsNext}
-use Rattle.bp_view.specs.Scenes.{AreScenes}
 use Rattle.bp_view.specs.Watches.{watched_names}
 
 -- the step is one of another thread than the last

@@ -11,14 +11,14 @@ use Rattle.bp_machine.specs.Deadlocks.{IsDeadlocked}
 use Rattle.bp_machine.specs.Histories.{configuration_after}
 use Rattle.bp_machine.specs.Reports.{IsRealFailure}
 use Rattle.bp_machine.specs.Setups.{SetupOf, threads}
+use Rattle.bp_source.specs.Assertions.{variables_read}
+use Rattle.bp_source.specs.Statements.{IsStatement}
 use Rattle.bp_view.specs.declared.options.ViewFormat.{ViewFormat}
 use Rattle.bp_view.specs.declared.options.ViewFormat.TheVariants.{Columns, Json}
-use Rattle.bp_view.specs.Assertions.{variables_read}
 use Rattle.bp_view.specs.Conditions.{condition_in, named_values, thread_object}
 use Rattle.bp_view.specs.Deadlocks.{AreWaits}
 use Rattle.bp_text.specs.Pieces.{key_text, list_text}
 use Rattle.bp_text.specs.Positions.{position_at}
-use Rattle.bp_view.specs.Statements.{IsStatement}
 
 -- the calls of a history, the contexts of its steps, and the threads that may continue
 abbrev pub counts_line : Report → List ℕ

@@ -3,8 +3,8 @@ use Rattle.std.specs.Prelude.{◌≤◌, ℕ, List, length}
 use Rattle.bp_tree.specs.Ast.{Program}
 use Rattle.bp_trace.specs.declared.limits.TheConstants.{MAX_TRACE}
 use Rattle.bp_trace.specs.Replayed.{IsReplayed}
+use Rattle.bp_source.specs.Scenes.{AreScenes}
 use Rattle.bp_view.specs.declared.shown_traces.ShownTrace.{ShownTrace}
-use Rattle.bp_view.specs.Scenes.{AreScenes}
 
 -- the scenes are those of the program p, and the text of the trace is one of t
 pub record IsShownTrace

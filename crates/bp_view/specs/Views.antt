@@ -14,6 +14,8 @@ use Rattle.bp_machine.specs.Setups.{SetupOf, threads}
 use Rattle.bp_trace.specs.declared.replaying.Replayed.{Replayed}
 use Rattle.bp_trace.specs.Replayed.{IsReplayed}
 use Rattle.bp_trace.specs.Replays.{IsPlayable, IsReplayRefusal}
+use Rattle.bp_source.specs.Places.{place_text}
+use Rattle.bp_source.specs.Scenes.{AreStatements}
 use Rattle.bp_view.specs.declared.faults.ViewFault.{ViewFault}
 use Rattle.bp_view.specs.declared.faults.ViewFault.TheVariants.{NoThread, NoVariable, Replay}
 use Rattle.bp_view.specs.declared.settings.Setting.{Setting}
@@ -31,8 +33,6 @@ use Rattle.bp_view.specs.Lines.{column_line}
 use Rattle.bp_view.specs.Moments.{IsSettingOf}
 use Rattle.bp_view.specs.Options.{calls_of, is_shown}
 use Rattle.bp_view.specs.Parts.{IsInParts}
-use Rattle.bp_view.specs.Places.{place_text}
-use Rattle.bp_view.specs.Scenes.{AreStatements}
 use Rattle.bp_view.specs.Watches.{watched_names, AreDeclared, IsUndeclared}
 use Rattle.bp_view.specs.Widths.{extent, extent_of, AreWidths}
 use Rattle.bp_view.specs.Writing.{IsStopped, IsWritten}

@@ -1,5 +1,5 @@
 -- The names of the watched variables.
-use Rattle.std.specs.Prelude.{◌≡◌, ◌==◌, ◌-◌, ◌&&◌, ◌||◌, if◌then◌else◌, ℕ, suc, Bool, true, false, not, List, [], ◌∷◌, Option, None, Some, is_some, bytes_eq, length, map, slice_get, take, drop}
+use Rattle.std.specs.Prelude.{◌≡◌, ◌==◌, ◌-◌, ◌&&◌, ◌||◌, if◌then◌else◌, ℕ, suc, Bool, true, false, not, List, [], ◌∷◌, Option, None, Some, is_some, length, map, slice_get, take, drop}
 use Rattle.std.specs.Borrow.{Bor}
 use Rattle.std.specs.List.{list_all, list_any, onto_first, prefix_len, suffix_len}
 use Rattle.bp_tree.specs.Ast.{Procedure, Program}
@@ -63,12 +63,3 @@ pub record IsUndeclared (t : Program) (names : List (List ℕ)) (n : ℕ) : Type
 -- A device: that is why a view is refused.
 abbrev pub IsNameFault : Program → List (List ℕ) → ViewFault → Type 0
 IsNameFault t names f = (n : ℕ) × (f ≡ NoVariable n) × IsUndeclared t names n
-
--- A device: this is one of the names.
-abbrev pub is_among : List (Bor (List ℕ)) → List ℕ → Bool
-is_among names x = list_any (λ n. bytes_eq n.now x) names
-
-module _ (names : List (List ℕ)) where
-  -- this is one of the names
-  abbrev pub is_named : List ℕ → Bool
-  is_named x = list_any (λ n. bytes_eq n x) names

@@ -7,7 +7,7 @@ ghost use Rattle.bp_machine.specs.Answers.{stack_of};
 ghost use Rattle.bp_machine.specs.Histories.{configuration_after};
 ghost use Rattle.bp_machine.specs.Setups.{SetupOf};
 ghost use Rattle.bp_machine.specs.Tops.{IsTop};
-ghost use Rattle.bp_view.specs.CallFacts.{changes_by, choice_of, facts_in, is_tried, name_at, next_in, printed_in, AreCallFacts, IsNextOf};
+ghost use Rattle.bp_view.specs.CallFacts.{changes_by, choice_of, facts_in, is_tried, next_in, printed_in, AreCallFacts, IsNextOf};
 ghost use Rattle.bp_view.specs.ChangeFacts.{entry_of};
 ghost use Rattle.bp_view.specs.Moments.{IsMomentOf, IsSettingOf};
 ghost use Rattle.bp_view.specs.Options.{calls_of};
@@ -16,6 +16,7 @@ use crate::change_facts::Change;
 use crate::moments::Moment;
 use crate::settings::Setting;
 use bp_machine::{Call, Reply, Top};
+use bp_source::name_at;
 use bp_text::Position;
 use bp_tree::Proc;
 
@@ -63,16 +64,6 @@ const NOTHING: Next<'static> = Next {
     words: None,
     reads_choice: false,
 };
-
-/// The name of the procedure with this number.
-pub(crate) fn name_at(procs: &[Proc], number: usize) -> Option<&[u8]>
-    ensures { option_map (λ s. s.now) result ≡ name_at procs.now number }
-{
-    match procs.get(number) {
-        Some(proc) => Some(proc.name().text().as_bytes()),
-        None => None,
-    }
-}
 
 /// What a thread has next, where this is the top of its stack.
 pub(crate) fn next_of<'a>(setting: &Setting<'a>, top: Option<Top>) -> Next<'a>

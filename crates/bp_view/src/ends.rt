@@ -11,12 +11,11 @@ ghost use Rattle.bp_view.specs.Parts.{Adds};
 
 use crate::options::ViewFormat;
 use crate::outcomes::foot_of;
-use crate::pieces::push_two;
 use crate::settings::Setting;
 use crate::states::state_of;
 use bp_machine::{Report, Session};
 use bp_text::Piece::Bytes;
-use bp_text::push_bytes;
+use bp_text::{push_bytes, push_two};
 use std::alloc::{AllocError, Global};
 
 /// Adds a state after a foot.

@@ -1,15 +1,16 @@
 //! The head of a view: the setup of the history.
 ghost use Rattle.std.specs.Prelude.{◌≡◌, ◌++◌, [], None, codes, false, flat_map, slice_get, unwrap_or, OnOk, IfOk};
 ghost use Rattle.bp_code.specs.Values.{binding};
+ghost use Rattle.bp_source.specs.Programs.{string_item};
 ghost use Rattle.bp_view.specs.Changes.{variables_text};
-ghost use Rattle.bp_view.specs.Heads.{globals_line, head_lines, head_object, number_line, seed_line, string_item, thread_line, thread_lines, view_head};
+ghost use Rattle.bp_view.specs.Heads.{globals_line, head_lines, head_object, number_line, seed_line, thread_line, thread_lines, view_head};
 
 use crate::options::{ViewFormat, ViewOptions};
-use crate::pieces::push_three;
 use crate::variables::push_value;
 use bp_machine::Setup;
+use bp_source::push_item;
 use bp_text::Piece::{Bytes, Key, List, Number, NumberOrNull, Text};
-use bp_text::{push_bytes, push_pieces};
+use bp_text::{push_bytes, push_pieces, push_three};
 use bp_tree::Name;
 use std::alloc::{AllocError, Global};
 
@@ -130,13 +131,6 @@ fn push_head_lines(head: &mut Vec<u8>, setup: &Setup, globals: &[Name]) -> Resul
     push_limit_lines(head, setup)?;
     push_seed(head, setup.seed())?;
     push_bytes(head, b"\n")
-}
-
-/// Adds a string as an item of a list.
-pub(crate) fn push_item(items: &mut Vec<u8>, text: &[u8]) -> Result<(), AllocError>
-    ensures { OnOk result (items.new.items ≡ items.old.items ++ string_item text.now) }
-{
-    push_pieces(items, &[Bytes(b","), Text(text)])
 }
 
 /// Adds the entries of the threads as items of a list.

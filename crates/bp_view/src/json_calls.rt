@@ -8,15 +8,14 @@ ghost use Rattle.bp_view.specs.JsonCalls.{bit_item, call_object, member_texts, p
 ghost use Rattle.bp_view.specs.declared.options.ViewFormat.TheVariants.{Json};
 
 use crate::call_facts::CallFacts;
-use crate::json_texts::{column_of, line_of, wide};
 use crate::lines::push_changed;
 use crate::options::ViewFormat;
-use crate::pieces::{push_four, push_three, push_two};
 use bp_machine::Reply;
+use bp_source::{column_of, line_of, wide};
 use bp_text::Piece::{
     Bit, BitOrNull, Bytes, Key, List, Number, NumberOrNull, Text, TextOrNull, Truth,
 };
-use bp_text::push_piece;
+use bp_text::{push_four, push_piece, push_three, push_two};
 use std::alloc::AllocError;
 
 /// What is said of a reply.

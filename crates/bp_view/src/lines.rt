@@ -11,13 +11,12 @@ use crate::call_facts::{CallFacts, Next};
 use crate::change_facts::Change;
 use crate::colours::Colour;
 use crate::options::ViewFormat;
-use crate::pieces::{push_four, push_three, push_two};
 use crate::settings::{MAX_INDENTS, Widths};
 use crate::statement_columns::in_column;
 use crate::variables::push_value;
 use bp_machine::Reply;
 use bp_text::Piece::{Bytes, Left, Number, NumberRight, Right, Spaces};
-use bp_text::{Piece, push_piece};
+use bp_text::{Piece, push_four, push_piece, push_three, push_two};
 use std::alloc::AllocError;
 
 /// What is said of a reply.

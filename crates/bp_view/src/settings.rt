@@ -6,11 +6,11 @@ ghost use Rattle.bp_view.specs.StatementColumns.{shortened};
 ghost use Rattle.bp_view.specs.Widths.{extent, extent_of, longest, AreWidths};
 
 use crate::options::ViewOptions;
-use crate::scenes::Scene;
 use crate::statement_columns::MAX_STATEMENT;
 use crate::waits::calls_in_line;
 use bp_check::Checked;
 use bp_machine::{Call, Setup};
+use bp_source::Scene;
 use bp_text::digits;
 use bp_tree::{Name, Proc};
 

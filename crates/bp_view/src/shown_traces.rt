@@ -3,16 +3,16 @@ ghost use Rattle.std.specs.Prelude.{◌≡◌, ℕ, List, MatchResult};
 ghost use Rattle.bp_tree.specs.Ast.{Program};
 ghost use Rattle.bp_code.specs.StandsFor.{StandsFor};
 ghost use Rattle.bp_trace.specs.Replays.{IsReplayRefusal};
+ghost use Rattle.bp_source.specs.Scenes.{AreScenes};
 ghost use Rattle.bp_view.specs.Moments.{IsSettingOf};
-ghost use Rattle.bp_view.specs.Scenes.{AreScenes};
 ghost use Rattle.bp_view.specs.ShownTraces.{IsShownTrace};
 ghost use Rattle.bp_view.specs.Widths.{extent_of, AreWidths};
 
 use crate::options::{ViewFormat, ViewOptions};
-use crate::scenes::{Scene, scenes_of};
 use crate::settings::{Setting, setting_of};
 use bp_check::Checked;
 use bp_code::Code;
+use bp_source::{Scene, scenes_of};
 use bp_trace::limits::MAX_TRACE;
 use bp_trace::{ReplayFault, Replayed, replay};
 use std::alloc::Global;

@@ -1,7 +1,7 @@
 //! The names of the watched variables.
 ghost use Rattle.std.specs.Prelude.{◌≡◌, ◌==◌, ◌-◌, false, length, map, IfOk, MatchResult};
 ghost use Rattle.std.specs.List.{prefix_len, suffix_len};
-ghost use Rattle.bp_view.specs.Watches.{declares, has_local, is_among, is_braced_after, piece_size, pieces, trimmed, watched_names, AreDeclared, IsNameFault};
+ghost use Rattle.bp_view.specs.Watches.{declares, has_local, is_braced_after, piece_size, pieces, trimmed, watched_names, AreDeclared, IsNameFault};
 
 use crate::faults::ViewFault;
 use bp_check::Checked;
@@ -119,11 +119,4 @@ pub(crate) fn check_names(checked: &Checked, names: &[&[u8]]) -> Result<(), View
         }
     }
     Ok(())
-}
-
-/// Whether this is one of the names.
-pub(crate) fn is_named(names: &[&[u8]], name: &[u8]) -> bool
-    ensures { result ≡ is_among names.now name.now }
-{
-    names.contains(&name)
 }

@@ -1,7 +1,8 @@
 use Rattle.std.proofs.Common.{◌≡◌, [], Some, refl, slice_get, subst, sym}
 use Rattle.bp_machine.specs.Answers.{stack_of}
+use Rattle.bp_source.proofs.GotItems.{got_item}
 use Rattle.bp_view.specs.CallFacts.{nothing_next, IsNextOf}
-use Rattle.bp_view.proofs.PlacesOfTops.{got_item, next_of_top, scene_of_top}
+use Rattle.bp_view.proofs.PlacesOfTops.{next_of_top, scene_of_top}
 use Rattle.bp_view.proofs.call_facts.next_of.Goals as goal
 
 pub returns-in_default : goal.returns-in_default

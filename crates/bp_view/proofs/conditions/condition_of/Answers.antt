@@ -3,10 +3,11 @@ use Rattle.bp_tree.specs.Views.{decision_of}
 use Rattle.bp_code.specs.StandsFor.{place}
 use Rattle.bp_machine.specs.Histories.{configuration_after}
 use Rattle.bp_machine.specs.Tops.{IsTop}
-use Rattle.bp_view.specs.Assertions.{next_decision}
+use Rattle.bp_source.specs.Assertions.{next_decision}
+use Rattle.bp_source.proofs.GotItems.{got_item}
 use Rattle.bp_view.specs.Conditions.{condition_in}
 use Rattle.bp_view.proofs.ConditionTexts.{condition_said, decision_is, place_is, position_is}
-use Rattle.bp_view.proofs.PlacesOfTops.{got_item, scene_of_top}
+use Rattle.bp_view.proofs.PlacesOfTops.{scene_of_top}
 use Rattle.bp_view.proofs.conditions.condition_of.Goals as goal
 
 pub returns-in_default : goal.returns-in_default

@@ -2,7 +2,7 @@ use Rattle.std.proofs.Common.{◌≡◌, ◌∙◌, ◌++◌, ap, ap₂, map, sy
 use Rattle.bp_tree.specs.Views.{decision_of}
 use Rattle.bp_code.specs.Bits.{store_of}
 use Rattle.bp_code.specs.StandsFor.{named_store, place}
-use Rattle.bp_view.specs.Assertions.{variables_read}
+use Rattle.bp_source.specs.Assertions.{variables_read}
 use Rattle.bp_view.specs.Conditions.{named_values}
 use Rattle.bp_view.proofs.conditions.values_read.Goals as goal
 

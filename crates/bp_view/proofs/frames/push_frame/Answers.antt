@@ -2,10 +2,10 @@ use Rattle.std.proofs.Common.{◌≡◌, ◌∙◌, ◌++◌, Some, ap, slice_ge
 use Rattle.std.proofs.lemmas.Result.{on_ok_weaker}
 use Rattle.bp_code.specs.Bits.{bits_of}
 use Rattle.bp_code.specs.StandsFor.{valuation_of, variables}
+use Rattle.bp_source.proofs.GotItems.{got_item}
 use Rattle.bp_view.specs.Changes.{variables_text}
 use Rattle.bp_view.specs.Frames.{frame_in}
 use Rattle.bp_view.proofs.FramesOfTops.{place_is, position_is, procedure_is, said, scene_there}
-use Rattle.bp_view.proofs.PlacesOfTops.{got_item}
 use Rattle.bp_view.proofs.frames.push_frame.Goals as goal
 
 pub returns-in_default : goal.returns-in_default

@@ -1,5 +1,5 @@
 use Rattle.std.proofs.Common.{◌∙◌, ◌++◌, ◌<◌, length, take, flat_map, ap, sym, add-one, append_assoc, arith}
-use Rattle.bp_view.specs.Heads.{string_item}
+use Rattle.bp_source.specs.Programs.{string_item}
 use Rattle.bp_view.proofs.PartsOfHeads.{item_more}
 use Rattle.bp_view.proofs.heads.push_entries.Goals as goal
 

@@ -1,7 +1,8 @@
 use Rattle.std.proofs.Common.{◌≡◌, ◌+◌, ◌<◌, map, take, length, ap, add-one, arith}
+use Rattle.bp_source.proofs.WordsOfScenes.{words_items}
 use Rattle.bp_view.specs.StatementColumns.{shortened}
 use Rattle.bp_view.specs.Widths.{longest}
-use Rattle.bp_view.proofs.LongestPlaces.{words_items, longest_words_more, shortened_length}
+use Rattle.bp_view.proofs.LongestPlaces.{longest_words_more, shortened_length}
 use Rattle.bp_view.proofs.settings.longest_words.Goals as goal
 
 pub loop-scene-preserved : goal.loop-scene-preserved

@@ -1,7 +1,7 @@
 use Rattle.std.proofs.Common.{◌≡◌, ◌<◌, ◌^◌, map, take}
+use Rattle.bp_source.proofs.WordsOfScenes.{words_items}
 use Rattle.bp_view.specs.StatementColumns.{shortened}
 use Rattle.bp_view.specs.Widths.{longest}
-use Rattle.bp_view.proofs.LongestPlaces.{words_items}
 use Rattle.bp_view.proofs.settings.longest_words.Given as goal
 
 abbrev pub invariant-loop-scene : goal.invariant-loop-scene

@@ -1,6 +1,6 @@
 use Rattle.std.proofs.Common.{◌∙◌, ap, map, subst, sym}
+use Rattle.bp_source.specs.Scenes.{AreScenes}
 use Rattle.bp_view.specs.declared.options.ViewOptions.{ViewOptions}
-use Rattle.bp_view.specs.Scenes.{AreScenes}
 use Rattle.bp_view.specs.Watches.{watched_names}
 use Rattle.bp_view.proofs.shown_traces.ShownTrace.setting.Goals as goal
 

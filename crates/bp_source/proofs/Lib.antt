@@ -1,0 +1,9 @@
+pub mod AmongNames
+pub mod CodeObjects
+pub mod DecidersOfPlaces
+pub mod GotItems
+pub mod OneStatement
+pub mod PositionsOfScenes
+pub mod SceneLists
+pub mod WordsOfScenes
+pub mod WordsOfStatements

@@ -1,0 +1,156 @@
+-- A text begins with one lexeme, so a statement has one list of lexemes.
+use Rattle.std.proofs.Common.{◌≡◌, ◌∙◌, ◌==◌, ◌+◌, ◌⊎◌, ⊎_elim, inl, inr, ℕ, Bool, true, false, cond, List, [], ◌∷◌, Option, None, Some, length, take, drop, ap, ap₂, sym, refl, subst, arith, length-take}
+use Rattle.std.proofs.lemmas.Bool.{false≢true}
+use Rattle.bp_syntax.specs.Cut as cut
+use Rattle.bp_syntax.specs.Cut.{Fit, Brace, Bad, IsCut, fit, open_brace, bad_byte}
+use Rattle.bp_syntax.specs.FirstLexemes.{lexeme_of, TakesLexeme}
+use Rattle.bp_syntax.specs.declared.tokens.LexemeKind.{LexemeKind}
+use Rattle.bp_syntax.proofs.OneCut.{has_cut, one_cut}
+use Rattle.std.specs.List.{list_any}
+use Rattle.bp_tree.specs.Ast.{Procedure}
+use Rattle.bp_code.specs.StandsFor.{Place}
+use Rattle.bp_code.specs.Starts.{start_of_block}
+use Rattle.bp_source.specs.Scenes.{AreStatements, IsStatementAt}
+use Rattle.bp_source.specs.Statements.{is_choice, is_ending, words_after, HasLexemes, IsAtEnd, IsStatement, Lexeme, Takes, ends, ending, more, none_left}
+
+-- where a lexeme of a cut is, and whether it is a byte that begins none
+abbrev place : cut.Lexeme → ℕ
+place (Fit kind at bytes) = at
+place (Brace at) = at
+place (Bad at) = at
+
+abbrev is_byte : cut.Lexeme → Bool
+is_byte (Fit kind at bytes) = false
+is_byte (Brace at) = true
+is_byte (Bad at) = true
+
+place_of_first : (at : ℕ) (text : List ℕ) (x : cut.Lexeme) (xs : List cut.Lexeme) → IsCut at text (x ∷ xs) → place x ≡ at
+place_of_first _ _ _ _ (fit l c) = refl
+place_of_first _ _ _ _ (open_brace none is c) = refl
+place_of_first _ _ _ _ (bad_byte none never c) = refl
+
+-- two texts with one cut are both empty, or are at one place
+one_place : (a b : ℕ) (s r : List ℕ) (xs : List cut.Lexeme) → IsCut a s xs → IsCut b r xs → (length r ≡ 0) ⊎ (a ≡ b)
+one_place a b s r [] first second = inl (none_left_of b r second)
+  where
+    none_left_of : (at : ℕ) (text : List ℕ) → IsCut at text [] → length text ≡ 0
+    none_left_of _ _ cut.ends = refl
+one_place a b s r (x ∷ xs) first second = inr (sym (place_of_first a s x xs first) ∙ place_of_first b r x xs second)
+
+-- what comes after such a byte
+record AfterByte (at : ℕ) (text : List ℕ) (xs : List cut.Lexeme) : Type 0 where
+  rest : List ℕ
+  cut : IsCut (at + 1) rest xs
+  size : length text ≡ length rest + 1
+
+after_byte : (at : ℕ) (text : List ℕ) (x : cut.Lexeme) (xs : List cut.Lexeme) → IsCut at text (x ∷ xs) → is_byte x ≡ true → AfterByte at text xs
+after_byte _ _ _ _ (fit l c) byte = absurd (false≢true byte)
+after_byte _ _ _ _ (open_brace {text = text} none is c) byte = record { rest = text; cut = c; size = omega arith }
+after_byte _ _ _ _ (bad_byte {text = text} none never c) byte = record { rest = text; cut = c; size = omega arith }
+
+byte_lexeme : (bytes : List ℕ) → is_byte (lexeme_of None 0 bytes) ≡ true
+byte_lexeme [] = refl
+byte_lexeme (b ∷ bs) = elim (b == 123) as (λ x. is_byte (cond x (Brace 0) (Bad 0)) ≡ true) [ true ↦ refl | false ↦ refl ]
+
+byte_size : (text bytes rest : List ℕ) (is : TakesLexeme text None bytes rest) → is.size ≡ 1
+byte_size text bytes rest is =
+    let size = is.size in
+    let some = is.some in
+    let within = is.within in
+    let left = has_cut (0 + size) rest in
+    let after = after_byte 0 text (lexeme_of None 0 bytes) left.0 (is.cut 0 left.0 left.1) (byte_lexeme bytes) in
+    let long = after.size in
+    ⊎_elim (λ none. let n = none in omega arith) (λ same. let s = same in omega arith) (one_place (0 + size) (0 + 1) rest after.rest left.0 left.1 after.cut)
+
+-- two lexemes that begin one text are one
+record OneLexeme (k j : Option LexemeKind) (b c r q : List ℕ) : Type 0 where
+  kind : k ≡ j
+  bytes : b ≡ c
+  rest : r ≡ q
+
+module _ (text : List ℕ) where
+  first_lexeme : (k j : Option LexemeKind) (b c r q : List ℕ) → TakesLexeme text k b r → TakesLexeme text j c q → lexeme_of k 0 b ≡ lexeme_of j 0 c
+  first_lexeme k j b c r q x y =
+      let left = has_cut (0 + x.size) r in
+      let other = has_cut (0 + y.size) q in
+      let same = one_cut 0 text (lexeme_of k 0 b ∷ left.0) (lexeme_of j 0 c ∷ other.0) (x.cut 0 left.0 left.1) (y.cut 0 other.0 other.1) in
+      cc
+
+  by_size : (k j : Option LexemeKind) (b c r q : List ℕ) (x : TakesLexeme text k b r) (y : TakesLexeme text j c q) → k ≡ j → x.size ≡ y.size
+      → OneLexeme k j b c r q
+  by_size k j b c r q x y kind size = record {
+    kind = kind;
+    bytes = x.front ∙ ap (λ n. take n text) size ∙ sym y.front;
+    rest = x.back ∙ ap (λ n. drop n text) size ∙ sym y.back;
+  }
+
+  one_lexeme : (k j : Option LexemeKind) (b c r q : List ℕ) → TakesLexeme text k b r → TakesLexeme text j c q → OneLexeme k j b c r q
+  one_lexeme (Some k) (Some j) b c r q x y =
+      let same : Fit k 0 b ≡ Fit j 0 c = first_lexeme (Some k) (Some j) b c r q x y in
+      let kind : k ≡ j = cc in
+      let bytes : b ≡ c = cc in
+      let one = x.within in
+      let other = y.within in
+      let size : x.size ≡ y.size = omega (arith, ap length x.front, ap length y.front, ap length bytes, length-take {A = ℕ}) in
+      by_size (Some k) (Some j) b c r q x y (ap Some kind) size
+  one_lexeme (Some k) None b c r q x y = absurd (false≢true (ap is_byte (first_lexeme (Some k) None b c r q x y) ∙ byte_lexeme c))
+  one_lexeme None (Some j) b c r q x y = absurd (false≢true (ap is_byte (first_lexeme (Some j) None c b q r y x) ∙ byte_lexeme b))
+  one_lexeme None None b c r q x y = by_size None None b c r q x y refl (byte_size text b r x ∙ sym (byte_size text c q y))
+
+-- no lexeme of a statement is at its end
+not_at_end : (text rest bytes : List ℕ) (kind : Option LexemeKind) → IsAtEnd text → Takes text kind bytes rest → ⊥
+not_at_end _ rest bytes kind none_left takes = let some = takes.takes.some in let within = takes.takes.within in omega arith
+not_at_end text rest bytes kind (ending {rest = q} {bytes = c} {kind = j} other is) takes =
+    let same = one_lexeme text kind j bytes c rest q takes.takes other in
+    false≢true (sym takes.goes_on ∙ ap is_ending same.bytes ∙ is)
+
+-- the lexemes after the first
+pub record NextLexemes (rest : List ℕ) (kind : Option LexemeKind) (bytes : List ℕ) (ls : List Lexeme) : Type 0 where
+  pub left : List Lexeme
+  pub is : ls ≡ record { kind = kind; bytes = bytes } ∷ left
+  pub has : HasLexemes rest left
+
+pub next_lexemes : (text rest bytes : List ℕ) (kind : Option LexemeKind) (ls : List Lexeme) → HasLexemes text ls → Takes text kind bytes rest
+    → NextLexemes rest kind bytes ls
+next_lexemes text rest bytes kind _ (ends at) takes = absurd (not_at_end text rest bytes kind at takes)
+next_lexemes text rest bytes kind _ (more {rest = q} {l = l} {ls = ls} other has) takes =
+    let same = one_lexeme text l.kind kind l.bytes bytes q rest other.takes takes.takes in
+    record {
+      left = ls;
+      is = λ i. record { kind = same.kind i; bytes = same.bytes i } ∷ ls;
+      has = subst (λ x. HasLexemes x ls) same.rest has;
+    }
+
+pub no_lexemes : (text : List ℕ) (ls : List Lexeme) → HasLexemes text ls → IsAtEnd text → ls ≡ []
+no_lexemes text _ (ends at) end = refl
+no_lexemes text _ (more {rest = q} {l = l} takes has) end = absurd (not_at_end text q l.bytes l.kind end takes)
+
+pub one_list_of_lexemes : (text : List ℕ) (ls ms : List Lexeme) → HasLexemes text ls → HasLexemes text ms → ls ≡ ms
+one_list_of_lexemes text _ ms (ends at) has = sym (no_lexemes text ms has at)
+one_list_of_lexemes text _ ms (more {rest = q} {l = l} {ls = ls} takes rest) has =
+    let next = next_lexemes text q l.bytes l.kind ms has takes in
+    ap (λ xs. l ∷ xs) (one_list_of_lexemes q ls next.left rest next.has) ∙ sym next.is
+
+-- so a statement has one text, and reads a choice bit or not
+pub one_statement : (text a b : List ℕ) (p q : Bool) → IsStatement text a p → IsStatement text b q → (a ≡ b) × (p ≡ q)
+one_statement text a b p q x y =
+    let same = one_list_of_lexemes text x.lexemes y.lexemes x.lexemes_are y.lexemes_are in (
+      x.words_are ∙ ap (λ ls. words_after false ls) same ∙ sym y.words_are,
+      x.reads_is ∙ ap (λ ls. list_any (λ l. is_choice l.bytes) ls) same ∙ sym y.reads_is,
+    )
+
+pub one_statement_at : (text : List ℕ) (r : Procedure) (start : Option ℕ) (a b : List ℕ) (p q : Bool) → IsStatementAt text r start a p
+    → IsStatementAt text r start b q
+    → (a ≡ b) × (p ≡ q)
+one_statement_at text r None a b p q x y = (x.words_are ∙ sym y.words_are, x.reads_none ∙ sym y.reads_none)
+one_statement_at text r (Some at) a b p q x y = one_statement (drop at text) a b p q x y
+
+-- the words of the statements of places are one list
+pub one_list_of_statements : (text : List ℕ) (xs : List Place) (a b : List (List ℕ)) → AreStatements text xs a → AreStatements text xs b → a ≡ b
+one_list_of_statements text [] [] [] x y = refl
+one_list_of_statements text [] [] (w ∷ b) x y = elim y [ ]
+one_list_of_statements text [] (v ∷ a) b x y = elim x [ ]
+one_list_of_statements text (z ∷ xs) [] b x y = elim x [ ]
+one_list_of_statements text (z ∷ xs) (v ∷ a) [] x y = elim y [ ]
+one_list_of_statements text (z ∷ xs) (v ∷ a) (w ∷ b) ((p, x), xs_are) ((q, y), ys_are) =
+    ap₂ (λ u us. u ∷ us) (one_statement_at text z.procedure (start_of_block z.left) v w p q x y).0 (one_list_of_statements text xs a b xs_are ys_are)

@@ -1,0 +1,13 @@
+pub mod Assertions
+pub mod JsonListings
+pub mod JsonPlaces
+pub mod Listings
+pub mod Names
+pub mod Places
+pub mod Procedures
+pub mod Programs
+pub mod Said
+pub mod Scenes
+pub mod StatementLines
+pub mod Statements
+pub mod Unreached

@@ -1,0 +1,87 @@
+//! The text of a statement on one line.
+ghost use Rattle.std.specs.Prelude.{◌≡◌, ◌++◌, ◌∷◌, [], ◌≤◌, ◌<◌, length, IfOk, OnOk, MatchOption};
+ghost use Rattle.std.specs.Prelude.{bytes_eq, codes};
+ghost use Rattle.bp_text.specs.OneLine.{AddsOneLine, IsOneLine};
+ghost use Rattle.bp_source.specs.Statements.{is_choice, is_ending, is_gap, word_after, IsAtEnd, IsStatement, Takes};
+
+use bp_syntax::{Lexeme, LexemeKind, take_lexeme};
+use bp_text::push_on_one_line;
+use std::alloc::{AllocError, Global};
+
+/// Whether these bytes end a statement's own text: `;` and two reserved words do.
+fn is_ending(bytes: &[u8]) -> bool
+    ensures { result ≡ is_ending bytes.now }
+{
+    matches!(bytes, b";" | b"then" | b"do")
+}
+
+/// Whether an excerpt leaves the lexeme out: white and comments.
+fn is_gap(lexeme: Lexeme<'_>) -> bool
+    ensures { result ≡ is_gap lexeme.entry.kind }
+{
+    matches!(lexeme.kind, Some(LexemeKind::White | LexemeKind::Comment))
+}
+
+/// Whether these bytes are the sign of a choice.
+fn is_choice(bytes: &[u8]) -> bool
+    ensures { result ≡ is_choice bytes.now }
+{
+    matches!(bytes, b"?")
+}
+
+/// Takes the next lexeme of a statement's own text from the text, where one is left.
+fn take_own_lexeme<'a>(text: &mut &'a [u8]) -> Option<Lexeme<'a>>
+    ensures lexeme { MatchOption result
+        (IsAtEnd text.old.now)
+        (λ p. Takes text.old.now p.kind p.text.now text.new.now) }
+    ensures shorter { MatchOption result Unit (λ _. length text.new.now < length text.old.now) }
+{
+    let Some(lexeme) = take_lexeme(text) else {
+        return None;
+    };
+    if is_ending(lexeme.text) {
+        return None;
+    }
+    Some(lexeme)
+}
+
+/// A statement's own text: one line, and whether it decides by a choice bit.
+#[derive(Drop)]
+pub struct Excerpt {
+    pub words: Vec<u8>,
+    pub reads_choice: bool,
+}
+
+/// Adds a lexeme, after a space where there was a gap; a gap adds nothing.
+fn push_lexeme(words: &mut Vec<u8>, lexeme: Lexeme<'_>, had_gap: bool) -> Result<(), AllocError>
+    ensures is { let word = word_after had_gap lexeme.entry.kind lexeme.entry.text.now in
+        OnOk result (words.new.items ≡ words.old.items ++ word) }
+    ensures one_line { OnOk result (AddsOneLine words.old.items words.new.items) }
+{
+    if !is_gap(lexeme) {
+        push_on_one_line(words, if had_gap { b" " } else { b"" })?;
+        push_on_one_line(words, lexeme.text)?;
+    }
+    Ok(())
+}
+
+#[tactic(auto, using(bp_text::proofs::TextsOnOneLine::one_line_after))]
+/// The text of its first statement alone: up to `;`, `then` or `do`.
+pub(crate) fn excerpt_of(alloc: Global, text: &[u8]) -> Result<Excerpt, AllocError>
+    ensures is { IfOk result (λ e. IsStatement text.now e.words.items e.reads_choice) }
+    ensures one_line { IfOk result (λ e. IsOneLine e.words.items) }
+{
+    let mut words = Vec::new(alloc);
+    let mut reads_choice = false;
+    let mut had_gap = false;
+    let mut rest = text;
+    while let Some(lexeme) = take_own_lexeme(&mut rest) {
+        push_lexeme(&mut words, lexeme, had_gap)?;
+        had_gap = is_gap(lexeme);
+        reads_choice |= is_choice(lexeme.text);
+    }
+    Ok(Excerpt {
+        words,
+        reads_choice,
+    })
+}

@@ -1,6 +1,0 @@
-use Rattle.std.proofs.Common.{◌≡◌, ◌++◌, flat_map, take}
-use Rattle.bp_view.specs.Programs.{procedure_item}
-use Rattle.bp_view.proofs.programs.push_procedures.Given as goal
-
-abbrev pub invariant-loop-proc : goal.invariant-loop-proc
-invariant-loop-proc l = l.items.items ≡ l.initial.items.items ++ flat_map procedure_item (take l.proc-index l.procs)

@@ -1,7 +1,0 @@
-use Rattle.std.proofs.Common.{◌≡◌, map, take}
-use Rattle.bp_view.specs.Said.{said_of}
-use Rattle.bp_view.proofs.statements.all_said.Given as goal
-
-abbrev pub invariant-loop-scene : goal.invariant-loop-scene
-invariant-loop-scene l =
-    map (λ text. text.items) l.texts.items ≡ map (said_of l.said) (take l.scene-index l.scene-items)
