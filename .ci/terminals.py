@@ -1,9 +1,10 @@
 """Runs the built program on a terminal and off it, and looks at colours, progress and explanations. It is a part of
 .ci/cases.
 
-The terminal is a pseudoterminal. A failure is red and a switch is
-yellow there, unless NO_COLOR is set to a text; elsewhere nothing has a colour. A line of progress is shown and cleared
-there, unless NO_PROGRESS is set to a text; elsewhere there is none. A fault is explained there, unless --no-explain is
+The terminal is a pseudoterminal. A failure is red and a switch is yellow there, unless NO_COLOR is set to a text;
+elsewhere nothing has a colour. Lines of calls have at most as many columns there as COLUMNS says, from 40 on; elsewhere
+they have as many as they need. A line of progress is shown and cleared there, unless NO_PROGRESS is set to a text;
+elsewhere there is none. A fault is explained there, unless --no-explain is
 given; elsewhere it is only with --explain, or if BTRUN_EXPLAIN is set to a text.
 """
 import os
@@ -27,6 +28,10 @@ CLEAN = "main() begin skip; end\n"
 EMPTY = "main() begin end\n"
 
 # A test of 10,000 runs has two blocks, and each of them ends with a line of progress.
+# A statement of more than 60 bytes, and a note of more than 30.
+WIDE = "decl left_of_the_bridge, right_of_the_bridge;\nmain() begin left_of_the_bridge, right_of_the_bridge := 1, !right_of_the_bridge; end\n"
+WIDE_TRACE = "btrace 1\nentry main\ninit 00\ncontexts 2\ncalls 9\nseed none\n0 0 s\nend 1 1\n"
+
 CLEARED = r"\r\x1b\[K"
 PROGRESS = re.compile(
     CLEARED + r"5000 of 10000 runs, \d+ a second, \d+ s left"
@@ -65,7 +70,7 @@ def shown(words, env):
 def painted(text, colour):
     """The text with this colour on the line of the second call."""
     lines = text.split("\n")
-    at = next(n for n, line in enumerate(lines) if line.startswith(">2 "))
+    at = next(n for n, line in enumerate(lines) if line.startswith(">   2 "))
     lines[at] = colour + lines[at] + PLAIN
     return "\n".join(lines)
 
@@ -114,15 +119,41 @@ def test_waiting(report, program):
     report.tell("waiting off a terminal", "" if told == fault else "said %r" % told)
 
 
+def wide_line(room):
+    """The only call of the wide program, whose statement has this much room."""
+    statement = "left_of_the_bridge, right_of_the_bridge := 1, !right_of_the_bridge"
+    note = " left_of_the_bridge=1 right_of_the_bridge=1"
+    return "    1      0       1 2:14   " + statement[: room - 2] + ".." + note
+
+
+def test_columns(report, words, bare):
+    """Looks at how wide the line of a call is."""
+    def call(text):
+        return next(line for line in text.split("\n") if line.startswith("    1 "))
+
+    for told, text, wanted in (
+        ("on a terminal", shown_on_terminal(words, bare), wide_line(60)),
+        ("of 200 columns", shown_on_terminal(words, {**bare, "COLUMNS": "200"}), wide_line(60)),
+        ("of 100 columns", shown_on_terminal(words, {**bare, "COLUMNS": "100"}), wide_line(50)[:98] + ".."),
+        ("of 80 columns", shown_on_terminal(words, {**bare, "COLUMNS": "80"}), wide_line(30)[:78] + ".."),
+        ("of 40 columns", shown_on_terminal(words, {**bare, "COLUMNS": "40"}), wide_line(12)[:38] + ".."),
+        ("of too few columns", shown_on_terminal(words, {**bare, "COLUMNS": "39"}), wide_line(60)),
+        ("of a text", shown_on_terminal(words, {**bare, "COLUMNS": "8x"}), wide_line(60)),
+        ("off a terminal of 80 columns", shown(words, {**bare, "COLUMNS": "80"}), wide_line(60)),
+    ):
+        report.tell("width " + told, "" if call(text) == wanted else "printed %r" % text)
+
+
 def test_terminals(report, program):
     """Looks at what the program prints on a terminal and off it."""
-    bare = {name: value for name, value in os.environ.items() if name not in ("NO_COLOR", "NO_PROGRESS")}
+    bare = {name: value for name, value in os.environ.items() if name not in ("COLUMNS", "NO_COLOR", "NO_PROGRESS")}
     with tempfile.TemporaryDirectory() as room:
-        for name, text in (("p.bp", PROGRAM), ("clean.bp", CLEAN), ("empty.bp", EMPTY), ("failed", TRACE), ("clean", OTHER)):
+        for name, text in (("p.bp", PROGRAM), ("clean.bp", CLEAN), ("empty.bp", EMPTY), ("failed", TRACE), ("clean", OTHER), ("wide.bp", WIDE), ("wide", WIDE_TRACE)):
             (Path(room) / name).write_text(text)
         test_progress(report, [program, "test", Path(room) / "clean.bp"], bare)
         test_explanations(report, [program, "check", Path(room) / "empty.bp"])
         test_waiting(report, program)
+        test_columns(report, [program, "show", Path(room) / "wide.bp", Path(room) / "wide"], bare)
         for trace, colour in (("failed", RED), ("clean", YELLOW)):
             words = [program, "show", Path(room) / "p.bp", Path(room) / trace]
             plain = shown(words, bare)

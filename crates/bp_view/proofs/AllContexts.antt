@@ -1,5 +1,5 @@
 -- The lines of all spans of a history are those of its contexts.
-use Rattle.std.proofs.Common.{◌≡◌, ◌∙◌, ◌++◌, ℕ, suc, List, length, ap}
+use Rattle.std.proofs.Common.{◌≡◌, ◌∙◌, ◌++◌, ℕ, suc, List, None, length, ap}
 use Rattle.bp_tree.specs.Ast.{Program}
 use Rattle.bp_code.specs.StandsFor.{places_of}
 use Rattle.bp_machine.specs.declared.calls.Call.{Call}
@@ -18,17 +18,17 @@ module _ (t : Program) (text : List ℕ) (s : SetupOf) (h : List Call) (setting 
   abbrev Lines : ℕ → List ℕ → Type 0
   Lines n said = IsInParts (λ k part. IsContextLine setting.options.format t text s h setting.widths (suc k) part) n said
 
-  pub all_contexts : IsSettingOf t text setting → AreWidths s (extent_of setting) setting.widths → length setting.history.now ≡ length h
+  pub all_contexts : IsSettingOf t text setting → AreWidths s (extent_of setting) setting.widths → setting.options.columns ≡ None → length setting.history.now ≡ length h
       → (spans : List Span) → AreSpans t s h spans → (said : List ℕ)
       → Adds (Lines (length spans)) (contexts_head setting.options.format (length setting.history.now) (length spans)) said
       → AreContextLines setting.options.format t text s h said
-  all_contexts known widths count spans are said lines = record {
+  all_contexts known widths columns count spans are said lines = record {
     count = length spans;
     count_is = are.count.used;
     widths = setting.widths;
     statements = words_items setting.scenes.now;
     statements_are = words_are text t.procedures (places_of t.procedures) setting.scenes.now known.scenes;
-    widths_are = rw (places_are text t.procedures (places_of t.procedures) setting.scenes.now known.scenes, count, known.procedures) at widths;
+    widths_are = rw (places_are text t.procedures (places_of t.procedures) setting.scenes.now known.scenes, count, known.procedures, columns) at widths;
     lines = lines.more;
     lines_are = lines.more_are;
     is = lines.is ∙ ap (λ n. contexts_head setting.options.format n (length spans) ++ lines.more) count;

@@ -35,7 +35,7 @@ module _ (t : Program) (text : List ℕ) (s : SetupOf) (x : Setting) where
   h = x.history.now
 
   abbrev head : List ℕ
-  head = view_head o x.globals.now s
+  head = view_head o x.globals.now s x.widths
 
   abbrev IsLine : ℕ → List ℕ → Type 0
   IsLine k line = (call : Call) → slice_get h k ≡ Some call → IsShownLine t text s o x.widths h (take k h) call line
@@ -70,7 +70,7 @@ module _ (t : Program) (text : List ℕ) (s : SetupOf) (x : Setting) where
       widths_are = rw (places_are text t.procedures (places_of t.procedures) x.scenes.now can.known.scenes, can.known.procedures) at can.widths;
       lines = lines;
       end = end;
-      is = ap (λ g. view_head o g s ++ lines ++ end) can.known.globals;
+      is = ap (λ g. view_head o g s x.widths ++ lines ++ end) can.known.globals;
       end_is = end_is;
       lines_are = lines_are;
     }

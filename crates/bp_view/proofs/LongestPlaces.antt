@@ -1,5 +1,5 @@
 -- The longest place of the scenes of a program.
-use Rattle.std.proofs.Common.{◌≡◌, ◌∙◌, ◌<◌, ◌≤◌, ◌++◌, ℕ, zero, suc, Bool, true, false, cond, List, [], ◌∷◌, codes, take, length, length-append, length-take, get_or, map, max, min, ap, refl, arith}
+use Rattle.std.proofs.Common.{◌≡◌, ◌∙◌, ◌<◌, ◌≤◌, ◌++◌, ◌-◌, ℕ, zero, suc, Bool, true, false, cond, List, [], ◌∷◌, codes, take, length, length-append, length-take, get_or, map, max, min, ap, refl, arith}
 use Rattle.std.specs.Prelude.{nat_lt}
 use Rattle.std.proofs.lemmas.Bool.Decides.{nat_tests}
 use Rattle.bp_tree.specs.Ast.{Procedure}
@@ -24,24 +24,25 @@ longest_more (suc n) (y ∷ scenes) x h =
     let here = longest_more n scenes x within in
     omega (arith, here)
 
--- a statement has at most MAX_STATEMENT bytes in its column
-pub shortened_length : (words : List ℕ) → length (shortened words) ≡ min (length words) 60
-shortened_length words = by_size (nat_lt 60 (length words)) refl
+-- a statement has at most so many bytes in its column
+pub shortened_length : (room : ℕ) (words : List ℕ) → 2 ≤ room → length (shortened room words) ≡ min (length words) room
+shortened_length room words least = by_size (nat_lt room (length words)) refl
   where
-    by_size : (b : Bool) → nat_lt 60 (length words) ≡ b → length (cond b (take 58 words ++ codes "..") words) ≡ min (length words) 60
+    by_size : (b : Bool) → nat_lt room (length words) ≡ b → length (cond b (take (room - 2) words ++ codes "..") words) ≡ min (length words) room
     by_size true long =
-        let more : 60 < length words = grind (arith, nat_tests, long) in
-        let size = length-append (take 58 words) (codes "..") in
-        let front : length (take 58 words) ≡ 58 = simp length-take (omega (arith, more)) in
-        omega (arith, more, size, front)
-    by_size false short = let most : length words ≤ 60 = grind (arith, nat_tests, short) in omega (arith, most)
+        let more : room < length words = grind (arith, nat_tests, long) in
+        let size = length-append (take (room - 2) words) (codes "..") in
+        let front : length (take (room - 2) words) ≡ room - 2 = simp length-take (omega (arith, more)) in
+        omega (arith, more, size, front, least)
+    by_size false short = let most : length words ≤ room = grind (arith, nat_tests, short) in omega (arith, most)
 
-pub longest_words_more : (n : ℕ) (scenes : List Scene) (x : Scene) → n < length scenes → longest (map shortened (words_items (take (suc n) scenes))) ≡ max (longest (map shortened (words_items (take n scenes)))) (length (shortened (get_or scenes n x).excerpt.words.items))
-longest_words_more n [] x h = absurd (omega arith)
-longest_words_more zero (y ∷ scenes) x h = omega arith
-longest_words_more (suc n) (y ∷ scenes) x h =
+pub longest_words_more : (room n : ℕ) (scenes : List Scene) (x : Scene) → n < length scenes
+    → longest (map (shortened room) (words_items (take (suc n) scenes))) ≡ max (longest (map (shortened room) (words_items (take n scenes)))) (length (shortened room (get_or scenes n x).excerpt.words.items))
+longest_words_more room n [] x h = absurd (omega arith)
+longest_words_more room zero (y ∷ scenes) x h = omega arith
+longest_words_more room (suc n) (y ∷ scenes) x h =
     let within : n < length scenes = omega arith in
-    let here = longest_words_more n scenes x within in
+    let here = longest_words_more room n scenes x within in
     omega (arith, here)
 
 -- the places of the scenes are those of the statements

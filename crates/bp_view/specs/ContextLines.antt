@@ -157,7 +157,7 @@ module _ (format : ViewFormat) (t : Program) (text : List ℕ) (s : SetupOf) (h 
     pub statements_are : AreStatements text (places_of t.procedures) statements
     pub widths_are :
         let places = map (place_text text) (starts_of t) in
-        AreWidths s (extent (length h) places statements (length t.procedures)) widths
+        AreWidths s (extent (length h) places statements (length t.procedures) None) widths
     pub lines : List ℕ
     pub lines_are : IsInParts (λ k line. IsContextLine widths (suc k) line) count lines
     pub is : said ≡ contexts_head format (length h) count ++ lines

@@ -9,7 +9,9 @@ use Rattle.bp_source.specs.Programs.{string_item}
 use Rattle.bp_view.specs.declared.options.ViewFormat.{ViewFormat}
 use Rattle.bp_view.specs.declared.options.ViewFormat.TheVariants.{Columns, Json}
 use Rattle.bp_view.specs.declared.options.ViewOptions.{ViewOptions}
+use Rattle.bp_view.specs.declared.settings.Widths.{Widths}
 use Rattle.bp_view.specs.Changes.{variables_text}
+use Rattle.bp_view.specs.Headings.{headings_in}
 
 -- the number of a thread, and the procedure in which it begins
 abbrev pub thread_line : ℕ → List ℕ → List ℕ
@@ -71,6 +73,10 @@ abbrev pub head_in : ViewFormat → List Name → SetupOf → List ℕ
 head_in Columns globals s = head_lines globals s
 head_in Json globals s = head_object globals s
 
--- the head of a view: the setup, which a brief view leaves out
-abbrev pub view_head : ViewOptions → List Name → SetupOf → List ℕ
-view_head o globals s = if o.is_brief then [] else head_in o.format globals s
+-- the setup, which a brief view leaves out
+abbrev pub setup_head : ViewOptions → List Name → SetupOf → List ℕ
+setup_head o globals s = if o.is_brief then [] else head_in o.format globals s
+
+-- the head of a view: the setup, and the headings over columns of these widths
+abbrev pub view_head : ViewOptions → List Name → SetupOf → Widths → List ℕ
+view_head o globals s w = setup_head o globals s ++ headings_in o.format w

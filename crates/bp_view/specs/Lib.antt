@@ -7,6 +7,7 @@ pub mod ContextLines
 pub mod Deadlocks
 pub mod Ends
 pub mod Frames
+pub mod Headings
 pub mod Heads
 pub mod JsonCalls
 pub mod Laws

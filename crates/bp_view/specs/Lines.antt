@@ -11,7 +11,7 @@ use Rattle.bp_view.specs.declared.settings.Widths.{Widths}
 use Rattle.bp_view.specs.CallFacts.{choice_of, ShownCall}
 use Rattle.bp_view.specs.ChangeFacts.{entries_text}
 use Rattle.bp_view.specs.Colours.{closing, colour_of, opening}
-use Rattle.bp_view.specs.StatementColumns.{shortened}
+use Rattle.bp_view.specs.StatementColumns.{shortened, within}
 
 -- what is said of a reply
 abbrev pub reply_words : Reply → List ℕ
@@ -41,12 +41,12 @@ field_texts w f =
     ∷ at_right w.context (context_text f.context) ∷ codes " "
     ∷ at_left w.place f.next.place ∷ []
 
--- the words of a statement as its column has them, after two columns for each frame of a stack,
--- for MAX_INDENTS frames at most
-abbrev pub indented : (depth : ℕ) → (words : Option (List ℕ)) → List ℕ
-indented depth None = []
-indented depth (Some words) =
-    concat (spaces (2 * min depth MAX_INDENTS) ∷ shortened words ∷ [])
+-- the words of a statement as its column of so much room has them, after two columns for each frame
+-- of a stack, for MAX_INDENTS frames at most
+abbrev pub indented : (room depth : ℕ) → (words : Option (List ℕ)) → List ℕ
+indented room depth None = []
+indented room depth (Some words) =
+    concat (spaces (2 * min depth MAX_INDENTS) ∷ shortened room words ∷ [])
 
 -- a choice bit, where one is shown
 abbrev pub choice_text : Option Bool → List ℕ
@@ -73,15 +73,22 @@ abbrev pub after_room : ℕ → List ℕ → List ℕ
 after_room room [] = []
 after_room room (b ∷ bs) = concat (spaces room ∷ (b ∷ bs) ∷ [])
 
--- a line, in a colour: the fields, the statement, and after its column the note
-abbrev pub line_text : Widths → Colour → ShownCall → List ℕ
-line_text w colour f =
-    let statement = indented f.next.depth f.next.words in
+-- the fields, the statement, and after its column the note
+abbrev pub call_text : Widths → ShownCall → List ℕ
+call_text w f =
+    let statement = indented w.statement f.next.depth f.next.words in
     concat (
-    opening colour
-    ∷ concat (field_texts w f)
+    concat (field_texts w f)
     ∷ statement
     ∷ after_room (w.words - length statement) (note_text f)
+    ∷ [])
+
+-- a line of at most so many columns, in a colour
+abbrev pub line_text : Widths → Colour → ShownCall → List ℕ
+line_text w colour f =
+    concat (
+    opening colour
+    ∷ within w.line (call_text w f)
     ∷ closing colour
     ∷ codes "\n" ∷ [])
 

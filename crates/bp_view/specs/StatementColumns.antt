@@ -1,10 +1,19 @@
--- A statement in the column of a view.
-use Rattle.std.specs.Prelude.{if◌then◌else◌, ◌++◌, ◌-◌, ℕ, List, codes, length, nat_lt, take}
-use Rattle.bp_view.specs.declared.statement_columns.TheConstants.{MAX_STATEMENT}
+-- How many columns a line and a statement in it have.
+use Rattle.std.specs.Prelude.{if◌then◌else◌, ◌++◌, ◌-◌, ℕ, List, Option, None, Some, codes, length, max, min, nat_lt, take}
+use Rattle.bp_view.specs.declared.statement_columns.TheConstants.{LEAST_STATEMENT, MAX_STATEMENT, OTHER_COLUMNS}
 
--- at most MAX_STATEMENT bytes: a longer text is cut, and ends with two dots
-abbrev pub shortened : List ℕ → List ℕ
-shortened words =
-    if nat_lt MAX_STATEMENT (length words)
-    then take (MAX_STATEMENT - 2) words ++ codes ".."
-    else words
+-- the most bytes of a statement: where a line has so many columns, those that the other fields and
+-- a note leave, from LEAST_STATEMENT to MAX_STATEMENT
+abbrev pub statement_room : Option ℕ → ℕ
+statement_room None = MAX_STATEMENT
+statement_room (Some columns) = max LEAST_STATEMENT (min MAX_STATEMENT (columns - OTHER_COLUMNS))
+
+-- at most so many bytes: a longer text is cut, and ends with two dots
+abbrev pub shortened : (room : ℕ) → List ℕ → List ℕ
+shortened room words =
+    if nat_lt room (length words) then take (room - 2) words ++ codes ".." else words
+
+-- a line of at most so many columns
+abbrev pub within : Option ℕ → List ℕ → List ℕ
+within None line = line
+within (Some columns) line = shortened columns line

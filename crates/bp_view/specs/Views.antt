@@ -27,6 +27,7 @@ use Rattle.bp_view.specs.declared.options.ViewOptions.{ViewOptions}
 use Rattle.bp_view.specs.CallFacts.{changes_by, AreCallFacts, ShownCall}
 use Rattle.bp_view.specs.ChangeFacts.{is_seen}
 use Rattle.bp_view.specs.Ends.{IsEnd}
+use Rattle.bp_view.specs.Headings.{under_headings}
 use Rattle.bp_view.specs.Heads.{view_head}
 use Rattle.bp_view.specs.JsonCalls.{call_object}
 use Rattle.bp_view.specs.Lines.{column_line}
@@ -44,7 +45,7 @@ IsThere (Some i) n = i < n
 
 -- what a line of this format shows of a call
 abbrev pub line_in : ViewFormat → (has_colour : Bool) → Widths → ShownCall → List ℕ
-line_in Columns has_colour w f = column_line has_colour w f
+line_in Columns has_colour w f = column_line has_colour (under_headings w) f
 line_in Json has_colour w f = call_object f
 
 -- Of a program and its text, in a setup; the columns have these widths, and this is the whole
@@ -92,10 +93,11 @@ pub record IsView
   pub statements_are : AreStatements text (places_of t.procedures) statements
   pub widths_are :
       let places = map (place_text text) (starts_of t) in
-      AreWidths s (extent (length h) places statements (length t.procedures)) widths
+      let e = extent (length h) places statements (length t.procedures) o.columns in
+      AreWidths s e widths
   pub lines : List ℕ
   pub end : List ℕ
-  pub is : view ≡ view_head o t.globals s ++ lines ++ end
+  pub is : view ≡ view_head o t.globals s widths ++ lines ++ end
   pub end_is : IsEnd o t text s h r end
   pub lines_are : AreLines t text s o widths h (length h) lines
 

@@ -3,9 +3,11 @@ ghost use Rattle.std.specs.Prelude.{◌≡◌, ◌++◌, [], None, codes, false,
 ghost use Rattle.bp_code.specs.Values.{binding};
 ghost use Rattle.bp_source.specs.Programs.{string_item};
 ghost use Rattle.bp_view.specs.Changes.{variables_text};
-ghost use Rattle.bp_view.specs.Heads.{globals_line, head_lines, head_object, number_line, seed_line, thread_line, thread_lines, view_head};
+ghost use Rattle.bp_view.specs.Heads.{globals_line, head_lines, head_object, number_line, seed_line, thread_line, thread_lines, setup_head, view_head};
 
+use crate::headings::push_headings;
 use crate::options::{ViewFormat, ViewOptions};
+use crate::settings::Setting;
 use crate::variables::push_value;
 use bp_machine::Setup;
 use bp_source::push_item;
@@ -176,14 +178,14 @@ fn push_head_object(
     )
 }
 
-/// The head of a view: the setup of its history, unless the view is brief.
-pub(crate) fn head_of(
+/// The setup of a history, unless the view is brief.
+fn setup_head(
     alloc: Global,
     options: ViewOptions<'_>,
     setup: &Setup,
     globals: &[Name],
 ) -> Result<Vec<u8>, AllocError>
-    ensures { IfOk result (λ v. v.items ≡ view_head options.entry globals.now setup.now) }
+    ensures { IfOk result (λ v. v.items ≡ setup_head options.entry globals.now setup.now) }
 {
     let mut head = Vec::new(alloc);
     if options.is_brief {
@@ -196,5 +198,21 @@ pub(crate) fn head_of(
             push_head_object(&mut head, &mut note, setup, globals)?;
         }
     }
+    Ok(head)
+}
+
+/// The head of a view: the setup of its history, and the headings over its columns.
+pub(crate) fn head_of(
+    alloc: Global,
+    setting: &Setting<'_>,
+    setup: &Setup,
+) -> Result<Vec<u8>, AllocError>
+    ensures { let x = setting.now in
+        let head = view_head x.options x.globals.now setup.now x.widths in
+        IfOk result (λ v. v.items ≡ head) }
+{
+    let options = setting.options;
+    let mut head = setup_head(alloc, options, setup, setting.globals)?;
+    push_headings(&mut head, options.format, setting.widths)?;
     Ok(head)
 }

@@ -10,6 +10,7 @@ mod deadlocks;
 mod ends;
 mod faults;
 mod frames;
+mod headings;
 mod heads;
 mod json_calls;
 mod laws;

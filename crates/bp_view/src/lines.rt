@@ -5,14 +5,14 @@ ghost use Rattle.bp_text.specs.Columns.{at_right, spaces};
 ghost use Rattle.bp_text.specs.Pieces.{piece_text};
 ghost use Rattle.bp_view.specs.CallFacts.{facts_in, next_in};
 ghost use Rattle.bp_view.specs.ChangeFacts.{entries_text, entry_of};
-ghost use Rattle.bp_view.specs.Lines.{after_room, choice_text, column_line, context_text, field_texts, indented, mark_text, note_text, reply_words, times_text};
+ghost use Rattle.bp_view.specs.Lines.{after_room, call_text, choice_text, column_line, context_text, field_texts, indented, mark_text, note_text, reply_words, times_text};
 
 use crate::call_facts::{CallFacts, Next};
 use crate::change_facts::Change;
 use crate::colours::Colour;
 use crate::options::ViewFormat;
 use crate::settings::{MAX_INDENTS, Widths};
-use crate::statement_columns::in_column;
+use crate::statement_columns::{cut_after, in_column};
 use crate::variables::push_value;
 use bp_machine::Reply;
 use bp_text::Piece::{Bytes, Left, Number, NumberRight, Right, Spaces};
@@ -73,15 +73,15 @@ fn push_fields(line: &mut Vec<u8>, widths: Widths, facts: &CallFacts<'_>) -> Res
 }
 
 /// Adds the statement, moved to the right by the depth of the stack; no text where there is none.
-fn push_statement(line: &mut Vec<u8>, next: Next<'_>) -> Result<(), AllocError>
+fn push_statement(line: &mut Vec<u8>, room: usize, next: Next<'_>) -> Result<(), AllocError>
     ensures { let next = next_in next.entry in
-        OnOk result (line.new.items ≡ line.old.items ++ indented next.depth next.words) }
+        OnOk result (line.new.items ≡ line.old.items ++ indented room next.depth next.words) }
 {
     let Some(words) = next.words else {
         return Ok(());
     };
     let indent = 2 * next.depth.min(MAX_INDENTS);
-    let (words, end) = in_column(words);
+    let (words, end) = in_column(room, words);
     push_two(line, Spaces(indent), Bytes(words))?;
     if end.is_empty() {
         return Ok(());
@@ -144,6 +144,25 @@ pub(crate) fn spaces_before(room: usize, note: &[u8]) -> usize
     if note.is_empty() { 0 } else { room }
 }
 
+/// Adds the fields of a call, its statement, and after that one's column this note.
+fn push_call(
+    line: &mut Vec<u8>,
+    note: &[u8],
+    widths: Widths,
+    facts: &CallFacts<'_>,
+) -> Result<(), AllocError>
+    ensures { let f = facts_in facts.now in
+        note.now ≡ note_text f
+        → OnOk result (line.new.items ≡ line.old.items ++ call_text widths f) }
+{
+    push_fields(line, widths, facts)?;
+    let start = line.len();
+    push_statement(line, widths.statement, facts.next)?;
+    let size = line.len().saturating_sub(start);
+    let room = spaces_before(widths.words.saturating_sub(size), note);
+    push_two(line, Spaces(room), Bytes(note))
+}
+
 /// Adds the line of a call. It is in colour where that is wanted and the call is a failure or a
 /// switch. `note` is room for the call's note.
 pub(crate) fn push_line(
@@ -159,11 +178,8 @@ pub(crate) fn push_line(
     let colour = Colour::of(has_colour, facts.call.reply, facts.is_switch);
     write_note(note, facts)?;
     push_piece(line, Bytes(colour.opening()))?;
-    push_fields(line, widths, facts)?;
     let start = line.len();
-    push_statement(line, facts.next)?;
-    let size = line.len().saturating_sub(start);
-    let room = spaces_before(widths.words.saturating_sub(size), note);
-    push_two(line, Spaces(room), Bytes(note))?;
+    push_call(line, note, widths, facts)?;
+    cut_after(line, start, widths.line)?;
     push_two(line, Bytes(colour.closing()), Bytes(b"\n"))
 }

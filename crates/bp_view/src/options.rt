@@ -35,6 +35,8 @@ pub struct ViewOptions<'a> {
     pub is_brief: bool,
     /// With the colours of a terminal.
     pub has_colour: bool,
+    /// The most columns of a line of a call; none where it has as many as it needs.
+    pub columns: Option<usize>,
     pub format: ViewFormat,
 }
 
@@ -43,7 +45,7 @@ impl ViewOptions<'_> {
 
     /// All calls, without colours.
     pub(crate) fn all<'a>(format: ViewFormat) -> ViewOptions<'a>
-        ensures { (result.format ≡ format) × (result.watch ≡ None) }
+        ensures { (result.format ≡ format) × (result.watch ≡ None) × (result.columns ≡ None) }
     {
         ViewOptions {
             thread: None,
@@ -55,6 +57,7 @@ impl ViewOptions<'_> {
             has_state: false,
             is_brief: false,
             has_colour: false,
+            columns: None,
             format,
         }
     }

@@ -1,12 +1,12 @@
 //! What the lines of a view have in common: the program's scenes and names, and the widths of the
 //! columns.
-ghost use Rattle.std.specs.Prelude.{◌≡◌, ◌<◌, ◌^◌, drop, length, map, max, take};
+ghost use Rattle.std.specs.Prelude.{◌≡◌, ◌<◌, ◌≤◌, ◌^◌, drop, length, map, max, take};
 ghost use Rattle.bp_view.specs.Options.{calls_at, is_shown};
 ghost use Rattle.bp_view.specs.StatementColumns.{shortened};
 ghost use Rattle.bp_view.specs.Widths.{extent, extent_of, longest, AreWidths};
 
 use crate::options::ViewOptions;
-use crate::statement_columns::MAX_STATEMENT;
+use crate::statement_columns::statement_room;
 use crate::waits::calls_in_line;
 use bp_check::Checked;
 use bp_machine::{Call, Setup};
@@ -26,6 +26,10 @@ pub(crate) struct Widths {
     pub(crate) context: usize,
     pub(crate) place: usize,
     pub(crate) words: usize,
+    /// The most bytes of a statement in its column.
+    pub(crate) statement: usize,
+    /// The most columns of a line; none where a line has as many as it needs.
+    pub(crate) line: Option<usize>,
 }
 
 /// The first calls, this many, or all where there are fewer.
@@ -70,31 +74,42 @@ fn longest_place(scenes: &[Scene]) -> usize
 }
 
 /// The length of the longest statement in its column.
-fn longest_words(scenes: &[Scene]) -> usize
+fn longest_words(scenes: &[Scene], room: usize) -> usize
+    requires { (2 ≤ room) × (room < 2 ^ 63) }
     ensures is { let statements = map (λ s. s.excerpt.words.items) scenes.now in
-        result ≡ longest (map shortened statements) }
+        result ≡ longest (map (shortened room) statements) }
     ensures fits { result < 2 ^ 63 }
 {
     let mut longest: usize = 0;
     for scene in scenes {
-        longest = longest.max(scene.excerpt.words.len().min(MAX_STATEMENT));
+        longest = longest.max(scene.excerpt.words.len().min(room));
     }
     longest
 }
 
 /// The widths of the columns of a view of `count` calls in this setup.
-fn widths_of(scenes: &[Scene], procs: &[Proc], count: u64, setup: &Setup) -> Widths
+fn widths_of(
+    scenes: &[Scene],
+    procs: &[Proc],
+    count: u64,
+    setup: &Setup,
+    columns: Option<usize>,
+) -> Widths
     ensures { let places = map (λ s. s.place.items) scenes.now in
         let statements = map (λ s. s.excerpt.words.items) scenes.now in
-        AreWidths setup.now (extent count places statements (length procs.now)) result }
+        let e = extent count places statements (length procs.now) columns in
+        AreWidths setup.now e result }
 {
     let indents = 2 * procs.len().min(MAX_INDENTS);
+    let room = statement_room(columns);
     Widths {
         number: digits(count),
         thread: digits(u64::from(setup.threads())),
         context: digits(u64::from(setup.contexts())),
         place: longest_place(scenes),
-        words: longest_words(scenes) + indents,
+        words: longest_words(scenes, room) + indents,
+        statement: room,
+        line: columns,
     }
 }
 
@@ -153,7 +168,13 @@ pub(crate) fn setting_of<'a>(
         scenes,
         globals: tree.globals(),
         procs: tree.procs(),
-        widths: widths_of(scenes, tree.procs(), history.len() as u64, setup),
+        widths: widths_of(
+            scenes,
+            tree.procs(),
+            history.len() as u64,
+            setup,
+            options.columns,
+        ),
         history,
         options,
         names,

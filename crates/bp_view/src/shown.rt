@@ -31,7 +31,10 @@ fn push_line_in(
 {
     let options = setting.options;
     match options.format {
-        ViewFormat::Columns => push_line(view, note, setting.widths, options.has_colour, facts),
+        ViewFormat::Columns => {
+            let widths = setting.widths.under_headings();
+            push_line(view, note, widths, options.has_colour, facts)
+        }
         ViewFormat::Json => push_object(view, note, facts),
     }
 }

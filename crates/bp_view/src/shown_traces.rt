@@ -56,6 +56,7 @@ impl ShownTrace {
         ensures widths { AreWidths self.now.replayed.setup (extent_of result) result.widths }
         ensures history { result.history.now ≡ self.now.replayed.history.items }
         ensures format { result.options.format ≡ format }
+        ensures columns { result.options.columns ≡ None }
     {
         setting_of(
             self.scenes.as_slice(),

@@ -1,21 +1,63 @@
-//! A statement in the column of a view.
-ghost use Rattle.std.specs.Prelude.{◌≡◌, ◌++◌};
-ghost use Rattle.bp_view.specs.StatementColumns.{shortened};
+//! How many columns a line and a statement in it have.
+ghost use Rattle.std.specs.Prelude.{◌≡◌, ◌++◌, ◌≤◌, ◌<◌, drop, length, take, OnOk};
+ghost use Rattle.bp_view.specs.StatementColumns.{shortened, statement_room, within};
 
-use bp_text::part_before;
+use bp_text::{part_before, push_bytes};
+use std::alloc::AllocError;
 
 /// The most bytes of a statement in its column.
 pub(crate) const MAX_STATEMENT: usize = 60;
 
-/// What ends a statement that is cut.
+/// The most bytes that a statement has at least.
+pub(crate) const LEAST_STATEMENT: usize = 12;
+
+/// How many columns of a line are left to the other fields and to a note.
+pub(crate) const OTHER_COLUMNS: usize = 50;
+
+/// What ends a text that is cut.
 const CUT: &[u8] = b"..";
 
-/// The bytes of a statement that its column has room for, and what ends them.
-pub(crate) fn in_column(words: &[u8]) -> (&[u8], &[u8])
-    ensures { result.0.now ++ result.1.now ≡ shortened words.now }
+/// The most bytes of a statement in its column, where lines have at most so many columns.
+pub(crate) fn statement_room(columns: Option<usize>) -> usize
+    ensures is { result ≡ statement_room columns }
+    ensures most { result ≤ MAX_STATEMENT }
+    ensures least { LEAST_STATEMENT ≤ result }
 {
-    if words.len() > MAX_STATEMENT {
-        return (part_before(words, MAX_STATEMENT - CUT.len()), CUT);
+    match columns {
+        Some(columns) => columns
+            .saturating_sub(OTHER_COLUMNS)
+            .min(MAX_STATEMENT)
+            .max(LEAST_STATEMENT),
+        None => MAX_STATEMENT,
+    }
+}
+
+/// The bytes of a statement that its column has room for, and what ends them.
+pub(crate) fn in_column(room: usize, words: &[u8]) -> (&[u8], &[u8])
+    ensures { result.0.now ++ result.1.now ≡ shortened room words.now }
+{
+    if words.len() > room {
+        return (part_before(words, room.saturating_sub(CUT.len())), CUT);
     }
     (words, b"")
+}
+
+/// Cuts what a line has after its first bytes, where it has more than so many columns there.
+pub(crate) fn cut_after(
+    line: &mut Vec<u8>,
+    start: usize,
+    columns: Option<usize>,
+) -> Result<(), AllocError>
+    requires { start ≤ length line.now.items }
+    ensures { let old = line.old.items in
+        OnOk result (line.new.items ≡ take start old ++ within columns (drop start old)) }
+{
+    let Some(columns) = columns else {
+        return Ok(());
+    };
+    if line.len() - start <= columns {
+        return Ok(());
+    }
+    line.truncate(start + columns.saturating_sub(CUT.len()));
+    push_bytes(line, CUT)
 }

@@ -59,7 +59,7 @@ fn write_parts<W: Write>(
         let x = writer.old.setting in
         IsViewable writer.old.session.code t text s report x
         → HasMade t [] writer.old
-        → head.now ≡ view_head x.options x.globals.now s
+        → head.now ≡ view_head x.options x.globals.now s x.widths
         → let is_view = IsView t text s x.history.now report x.options in
         MatchResult result
         (λ _. IsWritten is_view (W.contents out.old) (W.contents out.new))
@@ -106,7 +106,7 @@ fn write_view<W: Write>(
     let setup = &shown.replayed.setup;
     let history = shown.replayed.history.as_slice();
     let setting = setting_of(&shown.scenes, checked, setup, history, options, names);
-    let head = head_of(alloc, setting.options, setup, setting.globals)?;
+    let head = head_of(alloc, &setting, setup)?;
     let session = Session::new(alloc, code, setup)?;
     let mut writer = ViewWriter {
         setting,

@@ -31,6 +31,7 @@ use Rattle.bp_words.specs.declared.explain.ExplainWords.{ExplainWords}
 use Rattle.bp_words.specs.declared.run.RunWords.{RunWords}
 use Rattle.bp_words.specs.declared.show.ShowWords.{ShowWords}
 use Rattle.bp_words.specs.declared.test.TestWords.{TestWords}
+use Rattle.btrun.specs.declared.tasks.Screen.{Screen}
 
 abbrev pub format_of : ShowWords → ViewFormat
 format_of words = if words.json then Json else Columns
@@ -44,8 +45,8 @@ fault_format json explain on_terminal =
     else fault.Line
 
 -- which calls are shown, and how
-abbrev pub view_options : ShowWords → Bool → ViewOptions
-view_options words has_colour = record {
+abbrev pub view_options : ShowWords → Screen → ViewOptions
+view_options words screen = record {
   thread = words.thread;
   last = words.last;
   from = words.from;
@@ -54,7 +55,8 @@ view_options words has_colour = record {
   fold = words.fold;
   has_state = words.state;
   is_brief = words.brief;
-  has_colour = has_colour;
+  has_colour = screen.has_colour;
+  columns = screen.columns;
   format = format_of words;
 }
 
@@ -87,9 +89,9 @@ abbrev pub listed_if : Bool → List ℕ → Option (List ℕ)
 listed_if true name = Some name
 listed_if false name = None
 
--- The files have these bytes by their paths. Colours are wanted or not, and standard error is a
--- terminal or not.
-module _ (bytes : List ℕ → Option (List ℕ)) (has_colour on_terminal : Bool) where
+-- The files have these bytes by their paths. Lines are shown so on standard output, and standard
+-- error is a terminal or not.
+module _ (bytes : List ℕ → Option (List ℕ)) (screen : Screen) (on_terminal : Bool) where
   -- the program of a file is run as these words ask for
   abbrev pub run_job : RunWords → Job
   run_job words =
@@ -115,7 +117,7 @@ module _ (bytes : List ℕ → Option (List ℕ)) (has_colour on_terminal : Bool
   abbrev pub show_job : ShowWords → Job
   show_job words =
       let format = fault_format words.json words.explain on_terminal in
-      let options = view_options words has_colour in
+      let options = view_options words screen in
       let command = shows_as options words.contexts words.steps words.at in
       on_files bytes format command of_report MAX_TRACE Trace words.program.now words.trace.now
 

@@ -2,9 +2,9 @@
 
 use crate::host_files::HostFiles;
 use crate::progress_lines::ProgressLine;
-use crate::tasks::{Io, do_task};
+use crate::tasks::{Io, Screen, do_task};
 use crate::usage::{end_without_task, refuse_memory, unread};
-use bp_text::put;
+use bp_text::{number_of, put};
 use bp_words::{NoTask, Task, asks_for_json, read_words};
 use std::env;
 use std::io::{self, BufWriter, IsTerminal};
@@ -25,9 +25,33 @@ fn is_set(rt: &HostRuntime, name: &str) -> bool {
     }
 }
 
-/// Whether colours are wanted: standard output is a terminal, and NO_COLOR is not set to a text.
-fn has_colour(rt: &HostRuntime) -> bool {
-    !is_set(rt, "NO_COLOR") && rt.stdout().is_terminal()
+/// The fewest columns of a terminal for which lines are cut.
+const LEAST_COLUMNS: u64 = 40;
+
+/// The columns that COLUMNS gives a terminal; none where it gives no number, or too few.
+fn columns(rt: &HostRuntime) -> Option<usize> {
+    let Ok(value) = env::var(rt, "COLUMNS") else {
+        return None;
+    };
+    match number_of(value.as_bytes()) {
+        Some(columns) if columns >= LEAST_COLUMNS => Some(columns as usize),
+        _ => None,
+    }
+}
+
+/// How lines are shown on standard output. On a terminal they are cut, and in colour where NO_COLOR
+/// is not set to a text.
+fn screen(rt: &HostRuntime) -> Screen {
+    if !rt.stdout().is_terminal() {
+        return Screen {
+            has_colour: false,
+            columns: None,
+        };
+    }
+    Screen {
+        has_colour: !is_set(rt, "NO_COLOR"),
+        columns: columns(rt),
+    }
 }
 
 /// Whether faults are explained if no option says so: standard error is a terminal, or
@@ -85,7 +109,7 @@ fn do_on_host<T: Threads + Wait + Clock + Sync>(
     let io = Io {
         alloc,
         files: &files,
-        has_colour: has_colour(rt),
+        screen: screen(rt),
         on_terminal: explains_faults(rt),
     };
     let progress = progress_line(rt, task);

@@ -22,13 +22,22 @@ use std::sync::Wait;
 use std::thread::Threads;
 use std::time::Clock;
 
+/// How lines are shown on standard output.
+#[derive(Clone, Copy)]
+pub struct Screen {
+    /// Whether colours are wanted.
+    pub has_colour: bool,
+    /// The most columns of a line; none where it has as many as it needs.
+    pub columns: Option<usize>,
+}
+
 /// Where a task is done: the memory, the files, and what the streams are.
 #[derive(Clone, Copy)]
 pub struct Io<'a, F> {
     pub alloc: Global,
     pub files: &'a F,
-    /// Whether colours are wanted on standard output.
-    pub has_colour: bool,
+    /// How lines are shown on standard output.
+    pub screen: Screen,
     /// Whether faults are explained if no option says so, as on a terminal.
     pub on_terminal: bool,
 }
@@ -58,7 +67,7 @@ fn run_as_asked<F: Files, T: Threads + Wait + Clock + Sync, W: Write + Drop, E: 
         let written = streams old (W.contents result.1)
         (E.contents errors.old) (E.contents errors.new) in
         let job = run_job (F.bytes io.entry.files.now)
-        io.entry.has_colour io.entry.on_terminal words.now in
+        io.entry.screen io.entry.on_terminal words.now in
         IsRun job written result.0 }
 {
     let Io { alloc, files, .. } = io;
@@ -102,7 +111,7 @@ fn test_as_asked<F: Files, T: Threads + Sync, P: Progress, W: Write + Drop, E: W
         let written = streams old (W.contents result.1)
         (E.contents errors.old) (E.contents errors.new) in
         let job = test_job (F.bytes io.entry.files.now)
-        io.entry.has_colour io.entry.on_terminal words.now in
+        io.entry.screen io.entry.on_terminal words.now in
         IsRun job written result.0 }
 {
     let test = Test {
@@ -146,7 +155,7 @@ fn confirm_as_asked<F: Files, W: Write + Drop, E: Write>(
         let written = streams old (W.contents result.1)
         (E.contents errors.old) (E.contents errors.new) in
         let job = confirm_job (F.bytes io.entry.files.now)
-        io.entry.has_colour io.entry.on_terminal words.now in
+        io.entry.screen io.entry.on_terminal words.now in
         IsRun job written result.0 }
 {
     let Io { alloc, files, .. } = io;
@@ -208,8 +217,8 @@ fn format_of(words: &ShowWords<'_>) -> ViewFormat
 }
 
 /// Which calls are shown, and how.
-fn view_options<'a>(words: &ShowWords<'a>, has_colour: bool) -> ViewOptions<'a>
-    ensures { result ≡ view_options words.now has_colour }
+fn view_options<'a>(words: &ShowWords<'a>, screen: Screen) -> ViewOptions<'a>
+    ensures { result ≡ view_options words.now screen }
 {
     ViewOptions {
         thread: words.thread,
@@ -220,7 +229,8 @@ fn view_options<'a>(words: &ShowWords<'a>, has_colour: bool) -> ViewOptions<'a>
         fold: words.fold,
         has_state: words.state,
         is_brief: words.brief,
-        has_colour,
+        has_colour: screen.has_colour,
+        columns: screen.columns,
         format: format_of(words),
     }
 }
@@ -237,7 +247,7 @@ fn show_as_asked<F: Files, W: Write + Drop, E: Write>(
         let written = streams old (W.contents result.1)
         (E.contents errors.old) (E.contents errors.new) in
         let job = show_job (F.bytes io.entry.files.now)
-        io.entry.has_colour io.entry.on_terminal words.now in
+        io.entry.screen io.entry.on_terminal words.now in
         IsRun job written result.0 }
 {
     let Io { alloc, files, .. } = io;
@@ -257,7 +267,7 @@ fn show_as_asked<F: Files, W: Write + Drop, E: Write>(
             run_on_pair(alloc, files, &ShowSteps, path, trace, told, out, errors)
         }
         None => {
-            let options = view_options(words, io.has_colour);
+            let options = view_options(words, io.screen);
             run_on_pair(
                 alloc,
                 files,
@@ -293,7 +303,7 @@ pub fn do_task<
         let written = streams old (W.contents result.1)
         (E.contents errors.old) (E.contents errors.new) in
         let job = job_of (F.bytes io.entry.files.now)
-        io.entry.has_colour io.entry.on_terminal (R.remaining input) task.now in
+        io.entry.screen io.entry.on_terminal (R.remaining input) task.now in
         IsRun job written result.0 }
 {
     let Io { alloc, files, .. } = io;

@@ -21,6 +21,6 @@ returns c = λ text are.
     let spans = subst (λ g. AreSpans t r.setup g c.in-Ok.spans.items) c.as_slice-history.ensures.value (c.in-Ok.ensures t c.requires.code) in
     let spans_are = subst (AreSpans t r.setup h) (sym c.deref.ensures.value) spans in
     IfOk-weaker c.contexts_text.result _ _ (λ v lines.
-    let own = all_contexts t text r.setup h x known setting.widths (ap length setting.history) c.deref.result.now spans_are v.items lines in
+    let own = all_contexts t text r.setup h x known setting.widths setting.columns (ap length setting.history) c.deref.result.now spans_are v.items lines in
     subst (λ f. AreContextLines f t text r.setup h v.items) setting.format own)
     (c.contexts_text.ensures t text r.setup h known spans_are)

@@ -12,6 +12,6 @@ returns c =
     let whole = c.in-Some.words.now in
     let indent = spaces (2 * min c.args.next.depth MAX_INDENTS) in
     let old = c.args.line.now.items in
-    let cut = pair_added (old ++ indent) c.in_column.result.0.now c.in_column.result.1.now (shortened whole) c.in_column.ensures in
+    let cut = pair_added (old ++ indent) c.in_column.result.0.now c.in_column.result.1.now (shortened c.args.room whole) c.in_column.ensures in
     when_ok c.push_piece.result c.push_piece.ensures (λ added.
-    rw (c.in-Some.is, added, c.in_ok-push_two.ensures, c.min-indent.ensures) (cut ∙ all_added old (indent ∷ shortened whole ∷ [])))
+    rw (c.in-Some.is, added, c.in_ok-push_two.ensures, c.min-indent.ensures) (cut ∙ all_added old (indent ∷ shortened c.args.room whole ∷ [])))

@@ -6,6 +6,6 @@ use Rattle.bp_view.proofs.settings.longest_words.Given as goal
 
 abbrev pub invariant-loop-scene : goal.invariant-loop-scene
 invariant-loop-scene l = record {
-  is : l.longest ≡ longest (map shortened (words_items (take l.scene-index l.scenes)));
+  is : l.longest ≡ longest (map (shortened l.room) (words_items (take l.scene-index l.scenes)));
   fits : l.longest < 2 ^ 63;
 }
