@@ -29,6 +29,7 @@ pub mod PlacedStacks
 pub mod PlacesOfTops
 pub mod PlayedFronts
 pub mod PrintedValues
+pub mod QualifiedNames
 pub mod RecordedCalls
 pub mod ShownLines
 pub mod SpansOfHistories

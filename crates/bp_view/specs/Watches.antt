@@ -1,5 +1,5 @@
 -- The names of the watched variables.
-use Rattle.std.specs.Prelude.{◌≡◌, ◌==◌, ◌-◌, ◌&&◌, ◌||◌, if◌then◌else◌, ℕ, suc, Bool, true, false, not, List, [], ◌∷◌, Option, None, Some, is_some, length, map, slice_get, take, drop}
+use Rattle.std.specs.Prelude.{◌≡◌, ◌==◌, ◌-◌, ◌&&◌, ◌||◌, ◌++◌, if◌then◌else◌, ℕ, suc, Bool, true, false, not, List, [], ◌∷◌, Option, None, Some, is_some, bytes_eq, codes, length, map, slice_get, take, drop}
 use Rattle.std.specs.Borrow.{Bor}
 use Rattle.std.specs.List.{list_all, list_any, onto_first, prefix_len, suffix_len}
 use Rattle.bp_tree.specs.Ast.{Procedure, Program}
@@ -39,13 +39,33 @@ piece_size braced [] = 0
 piece_size braced (b ∷ bs) =
     if not braced && b == 44 then 0 else suc (piece_size (is_braced_after braced b) bs)
 
+-- the name of a local after that of its procedure and a dot
+abbrev pub qualified : (procedure name : List ℕ) → List ℕ
+qualified procedure name = procedure ++ codes "." ++ name
+
+-- a text says which variable is meant, which is a local of a procedure of this name, or a global: by
+-- its name, or by its procedure's name too
+abbrev pub is_of : (text : List ℕ) → (procedure : Option (List ℕ)) → (name : List ℕ) → Bool
+is_of text None x = bytes_eq text x
+is_of text (Some p) x = bytes_eq text x || bytes_eq text (qualified p x)
+
+-- one of these texts says so
+abbrev pub is_watched : List (List ℕ) → (procedure : Option (List ℕ)) → (name : List ℕ) → Bool
+is_watched texts p x = list_any (λ text. is_of text p x) texts
+
 -- a formal or local of one of these procedures has this name
 abbrev pub has_local : List Procedure → List ℕ → Bool
 has_local ps x = list_any (λ p. is_some (first_index (variables p) x)) ps
 
--- a variable of the program has this name
+-- a formal or local of one of these procedures is that of this text, with its procedure's name
+abbrev pub has_qualified : List Procedure → List ℕ → Bool
+has_qualified ps text =
+    list_any (λ p. list_any (λ v. bytes_eq text (qualified p.name.text v.text)) (variables p)) ps
+
+-- a text says which variable of the program is meant
 abbrev pub declares : Program → List ℕ → Bool
-declares t x = is_some (first_index t.globals x) || has_local t.procedures x
+declares t x =
+    (is_some (first_index t.globals x) || has_local t.procedures x) || has_qualified t.procedures x
 
 -- each of these names is that of a variable
 abbrev pub AreDeclared : Program → List (List ℕ) → Type 0

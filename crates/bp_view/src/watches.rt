@@ -1,13 +1,14 @@
 //! The names of the watched variables.
-ghost use Rattle.std.specs.Prelude.{◌≡◌, ◌==◌, ◌-◌, false, length, map, IfOk, MatchResult};
-ghost use Rattle.std.specs.List.{prefix_len, suffix_len};
-ghost use Rattle.bp_view.specs.Watches.{declares, has_local, is_braced_after, piece_size, pieces, trimmed, watched_names, AreDeclared, IsNameFault};
+ghost use Rattle.std.specs.Prelude.{◌≡◌, ◌==◌, ◌++◌, ◌-◌, bytes_eq, codes, false, length, map, option_map, IfOk, MatchResult};
+ghost use Rattle.std.specs.List.{list_any, prefix_len, suffix_len};
+ghost use Rattle.bp_code.specs.StandsFor.{variables};
+ghost use Rattle.bp_view.specs.Watches.{declares, has_local, has_qualified, is_braced_after, is_of, piece_size, pieces, qualified, trimmed, watched_names, AreDeclared, IsNameFault};
 
 use crate::faults::ViewFault;
 use bp_check::Checked;
 use bp_code::{local_slot_of, slot_of};
 use bp_text::{part_before, part_from};
-use bp_tree::Proc;
+use bp_tree::{Name, Proc};
 use std::alloc::{AllocError, Global};
 
 /// Whether what follows this byte is inside braces, where the byte itself is inside or outside.
@@ -100,12 +101,76 @@ fn is_local(procs: &[Proc], name: &[u8]) -> bool
     procs.iter().any(|proc| local_slot_of(proc, name).is_some())
 }
 
-/// Whether a variable of the program has this name.
-fn declares(checked: &Checked, name: &[u8]) -> bool
-    ensures { result ≡ declares checked.now name.now }
+/// Whether a text is a dot and a name.
+fn is_after_dot(text: &[u8], name: &[u8]) -> bool
+    ensures { result ≡ bytes_eq text.now (codes "." ++ name.now) }
+{
+    match text.split_first() {
+        Some((first, rest)) => *first == b'.' && rest == name,
+        None => false,
+    }
+}
+
+/// Whether a text is the name of a procedure, a dot, and this name.
+fn is_qualified(text: &[u8], procedure: &[u8], name: &[u8]) -> bool
+    ensures { result ≡ bytes_eq text.now (qualified procedure.now name.now) }
+{
+    let size = procedure.len();
+    part_before(text, size) == procedure && is_after_dot(part_from(text, size), name)
+}
+
+/// Whether a text says which variable is meant, which is a local of the procedure or a global.
+fn is_of(text: &[u8], owner: Option<&Proc>, name: &[u8]) -> bool
+    ensures { let procedure = option_map (λ p. p.now.name.text) owner.entry in
+        result ≡ is_of text.now procedure name.now }
+{
+    match owner {
+        Some(proc) => text == name || is_qualified(text, proc.name().text().as_bytes(), name),
+        None => text == name,
+    }
+}
+
+/// Whether one of these texts says which variable is meant.
+pub(crate) fn is_watched(texts: &[&[u8]], owner: Option<&Proc>, name: &[u8]) -> bool
+    ensures { let procedure = option_map (λ p. p.now.name.text) owner.entry in
+        result ≡ list_any (λ text. is_of text.now procedure name.now) texts.now }
+{
+    texts.iter().any(|text| is_of(text, owner, name))
+}
+
+/// Whether a text says which of these variables of a procedure is meant, with the name of that.
+fn is_qualified_among(names: &[Name], procedure: &[u8], text: &[u8]) -> bool
+    ensures { let is = λ v. bytes_eq text.now (qualified procedure.now v.text) in
+        result ≡ list_any is names.now }
+{
+    names.iter().any(|name| is_qualified(text, procedure, name.text().as_bytes()))
+}
+
+/// Whether a text says which variable of a procedure is meant, with the name of that.
+fn qualifies(proc: &Proc, text: &[u8]) -> bool
+    ensures { let is = λ v. bytes_eq text.now (qualified proc.now.name.text v.text) in
+        result ≡ list_any is (variables proc.now) }
+{
+    let own = proc.name().text().as_bytes();
+    is_qualified_among(proc.formals(), own, text) || is_qualified_among(proc.locals(), own, text)
+}
+
+/// Whether a text says which local is meant, with the name of its procedure.
+fn is_qualified_local(procs: &[Proc], text: &[u8]) -> bool
+    ensures { result ≡ has_qualified procs.now text.now }
+{
+    procs.iter().any(|proc| qualifies(proc, text))
+}
+
+/// Whether a text says which variable of the program is meant.
+fn declares(checked: &Checked, text: &[u8]) -> bool
+    ensures { result ≡ declares checked.now text.now }
 {
     let tree = checked.tree();
-    slot_of(tree.globals(), name).is_some() || is_local(tree.procs(), name)
+    let procs = tree.procs();
+    slot_of(tree.globals(), text).is_some()
+        || is_local(procs, text)
+        || is_qualified_local(procs, text)
 }
 
 /// Refuses the first of these names that no variable has.
