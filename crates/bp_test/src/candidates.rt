@@ -17,16 +17,18 @@ enum Kind {
     Halves,
     /// Whole contexts.
     Contexts,
+    /// A context and the one after it.
+    Pairs,
     /// A context is joined to the one before it of its thread.
     Earlier,
     /// A context is joined to the one after it of its thread.
     Later,
+    /// A context is divided between both sides.
+    Splits,
     /// The last calls of each context, by halves.
     Tails,
     /// Parts, by halves down to single calls.
     Parts,
-    /// A context is joined to both neighbours of its thread.
-    Splits,
     /// Choices are 0.
     Zeros,
 }
@@ -38,12 +40,13 @@ impl Kind {
             Kind::Idle => Some(Kind::Loops),
             Kind::Loops => Some(Kind::Halves),
             Kind::Halves => Some(Kind::Contexts),
-            Kind::Contexts => Some(Kind::Earlier),
+            Kind::Contexts => Some(Kind::Pairs),
+            Kind::Pairs => Some(Kind::Earlier),
             Kind::Earlier => Some(Kind::Later),
-            Kind::Later => Some(Kind::Tails),
+            Kind::Later => Some(Kind::Splits),
+            Kind::Splits => Some(Kind::Tails),
             Kind::Tails => Some(Kind::Parts),
-            Kind::Parts => Some(Kind::Splits),
-            Kind::Splits => Some(Kind::Zeros),
+            Kind::Parts => Some(Kind::Zeros),
             Kind::Zeros => None,
         }
     }
@@ -163,20 +166,63 @@ fn later(history: &[Call], part: Part, thread: u32) -> Option<Change> {
     })
 }
 
-/// The context of this place is moved to both sides: what is before the place to the end of the
-/// context before it of its thread, the rest to the start of the one after it.
+/// The end of the context before this place of the thread. Where there is none, it is the start of
+/// the context before this place, whose thread is another one.
+fn place_before(history: &[Call], from: usize, thread: u32) -> usize {
+    if let Some(place) = end_before(history, from, thread) {
+        return place;
+    }
+    let Some(last) = from.checked_sub(1) else {
+        return from;
+    };
+    match history.get(last) {
+        Some(call) => start_of_context(history, from, call.thread),
+        None => from,
+    }
+}
+
+/// The start of the context of the thread from this place on. Where there is none, it is the end of
+/// the context that begins here, whose thread is another one.
+fn place_after(history: &[Call], to: usize, thread: u32) -> usize {
+    if let Some(place) = start_after(history, to, thread) {
+        return place;
+    }
+    match history.get(to) {
+        Some(call) => end_of_context(history, to, call.thread),
+        None => to,
+    }
+}
+
+/// The context of this place is divided: what is before the place moves to an earlier one, and the
+/// rest to a later one.
 fn split(history: &[Call], place: usize, thread: u32) -> Option<Change> {
     let from = start_of_context(history, place, thread);
     let to = end_of_context(history, place, thread);
     if from == place {
         return None;
     }
+    let (earlier, later) = (
+        place_before(history, from, thread),
+        place_after(history, to, thread),
+    );
+    if earlier == from && later == to {
+        return None;
+    }
     Some(Change::Split {
         part: Part { from, to },
         middle: place,
-        earlier: end_before(history, from, thread)?,
-        later: start_after(history, to, thread)?,
+        earlier,
+        later,
     })
+}
+
+/// A context and the one after it.
+fn pair(history: &[Call], part: Part) -> Option<Change> {
+    let next = history.get(part.to)?;
+    Some(Change::LeftOut(Part {
+        from: part.from,
+        to: end_of_context(history, part.to, next.thread),
+    }))
 }
 
 impl Candidates {
@@ -236,13 +282,16 @@ impl Candidates {
         let end = end_of_context(history, from, thread);
         let part = Part { from, to: end };
         self.step = match self.kind {
-            Kind::Contexts | Kind::Earlier | Kind::Later | Kind::Tails => end.saturating_sub(from),
+            Kind::Contexts | Kind::Pairs | Kind::Earlier | Kind::Later | Kind::Tails => {
+                end.saturating_sub(from)
+            }
             _ => self.size,
         };
         match self.kind {
             Kind::Idle | Kind::Loops => None,
             Kind::Halves | Kind::Parts => Some(Change::LeftOut(Part { from, to })),
             Kind::Contexts => Some(Change::LeftOut(part)),
+            Kind::Pairs => pair(history, part),
             Kind::Earlier => earlier(history, part, thread),
             Kind::Later => later(history, part, thread),
             Kind::Tails => self.tail(part),
