@@ -2,6 +2,7 @@ pub mod AmongNames
 pub mod CodeObjects
 pub mod DecidersOfPlaces
 pub mod GotItems
+pub mod JoinedPieces
 pub mod OneStatement
 pub mod PositionsOfScenes
 pub mod SceneLists

@@ -2,10 +2,11 @@
 ghost use Rattle.std.specs.Prelude.{◌≡◌, ◌++◌, IfOk, OnOk};
 ghost use Rattle.bp_source.specs.Listings.{is_heading, line_with, plain_line, scenes_after, sourced_line, IsSourcedListing};
 
+use crate::pieces::push_two;
 use crate::scenes::{Scene, scenes_of};
 use bp_check::Checked;
 use bp_text::Piece::{Bytes, Left};
-use bp_text::{push_pieces, push_two, take_line};
+use bp_text::{push_pieces, take_line};
 use std::alloc::{AllocError, Global};
 
 /// The width of the column of an instruction.

@@ -2,9 +2,10 @@
 ghost use Rattle.std.specs.Prelude.{◌≡◌, ◌++◌, flat_map, IfOk, OnOk};
 ghost use Rattle.bp_source.specs.Programs.{name_item, procedure_item, program_object, string_item};
 
+use crate::pieces::{push_four, push_three, push_two};
 use bp_check::Checked;
 use bp_text::Piece::{Bytes, Key, List, Text};
-use bp_text::{push_four, push_pieces, push_three, push_two};
+use bp_text::push_pieces;
 use bp_tree::{Name, Proc};
 use std::alloc::{AllocError, Global};
 

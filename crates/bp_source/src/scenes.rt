@@ -8,12 +8,11 @@ ghost use Rattle.bp_text.specs.Positions.{position_at};
 ghost use Rattle.bp_source.specs.Scenes.{AreScenes, IsScene};
 
 use crate::excerpts::{Excerpt, excerpt_of};
+use crate::pieces::push_three;
 use bp_check::Checked;
 use bp_code::statement_starts;
 use bp_text::Piece::{Bytes, Number};
-use bp_text::{
-    FIRST, Position, part_from, position_from, push_bytes, push_on_one_line, push_three,
-};
+use bp_text::{FIRST, Position, part_from, position_from, push_bytes, push_on_one_line};
 use bp_tree::Proc;
 use std::alloc::{AllocError, Global};
 

@@ -20,6 +20,6 @@ pub use json_strings::strings_are_read_back;
 pub use lines::{Line, line_of, take_line, text_from_line};
 pub use one_line::push_on_one_line;
 pub use parts::{first_line, last_line, part_before, part_from};
-pub use pieces::{Piece, push_four, push_piece, push_pieces, push_three, push_two, put_pieces};
+pub use pieces::{Piece, push_piece, push_pieces, put_pieces};
 pub use positions::{FIRST, Position, behind_all, position_from, position_of};
 pub use writing::{WriteFault, put};

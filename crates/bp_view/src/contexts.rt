@@ -26,8 +26,9 @@ use crate::spans::{Span, spans_of};
 use bp_check::Checked;
 use bp_code::Code;
 use bp_machine::Report;
+use bp_source::{push_three, push_two};
 use bp_text::Piece::{Bytes, Key, Left, List, Number, NumberRight, Spaces};
-use bp_text::{Position, push_pieces, push_three, push_two};
+use bp_text::{Position, push_pieces};
 use bp_trace::ReplayFault;
 use std::alloc::{AllocError, Global};
 

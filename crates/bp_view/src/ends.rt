@@ -14,8 +14,9 @@ use crate::outcomes::foot_of;
 use crate::settings::Setting;
 use crate::states::state_of;
 use bp_machine::{Report, Session};
+use bp_source::push_two;
 use bp_text::Piece::Bytes;
-use bp_text::{push_bytes, push_two};
+use bp_text::push_bytes;
 use std::alloc::{AllocError, Global};
 
 /// Adds a state after a foot.

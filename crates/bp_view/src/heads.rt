@@ -10,9 +10,9 @@ use crate::options::{ViewFormat, ViewOptions};
 use crate::settings::Setting;
 use crate::variables::push_value;
 use bp_machine::Setup;
-use bp_source::push_item;
+use bp_source::{push_item, push_three};
 use bp_text::Piece::{Bytes, Key, List, Number, NumberOrNull, Text};
-use bp_text::{push_bytes, push_pieces, push_three};
+use bp_text::{push_bytes, push_pieces};
 use bp_tree::Name;
 use std::alloc::{AllocError, Global};
 

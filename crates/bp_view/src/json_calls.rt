@@ -11,11 +11,11 @@ use crate::call_facts::CallFacts;
 use crate::lines::push_changed;
 use crate::options::ViewFormat;
 use bp_machine::Reply;
-use bp_source::{column_of, line_of, wide};
+use bp_source::{column_of, line_of, push_four, push_three, push_two, wide};
 use bp_text::Piece::{
     Bit, BitOrNull, Bytes, Key, List, Number, NumberOrNull, Text, TextOrNull, Truth,
 };
-use bp_text::{push_four, push_piece, push_three, push_two};
+use bp_text::push_piece;
 use std::alloc::AllocError;
 
 /// What is said of a reply.

@@ -15,8 +15,9 @@ use crate::settings::{MAX_INDENTS, Widths};
 use crate::statement_columns::{cut_after, in_column};
 use crate::variables::push_value;
 use bp_machine::Reply;
+use bp_source::{push_four, push_three, push_two};
 use bp_text::Piece::{Bytes, Left, Number, NumberRight, Right, Spaces};
-use bp_text::{Piece, push_four, push_piece, push_three, push_two};
+use bp_text::{Piece, push_piece};
 use std::alloc::AllocError;
 
 /// What is said of a reply.

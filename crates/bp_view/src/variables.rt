@@ -8,8 +8,9 @@ ghost use Rattle.bp_view.specs.Conditions.{named_value};
 
 use crate::options::ViewFormat;
 use bp_code::{Store, bit_of, local_slot_of, slot_of};
+use bp_source::{push_four, push_three, push_two};
+use bp_text::Piece;
 use bp_text::Piece::{Bit, Bytes, Key, OneLine, Text, TextOrNull};
-use bp_text::{Piece, push_four, push_three, push_two};
 use bp_tree::{Name, Proc};
 use std::alloc::AllocError;
 

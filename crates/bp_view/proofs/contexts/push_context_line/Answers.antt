@@ -5,7 +5,7 @@ use Rattle.bp_view.specs.ChangeFacts.{entries_text}
 use Rattle.bp_view.specs.ContextLines.{context_in}
 use Rattle.bp_view.specs.declared.options.ViewFormat.TheVariants.{Columns}
 use Rattle.bp_view.specs.Lines.{after_room}
-use Rattle.bp_text.proofs.PiecesInTurn.{when_ok}
+use Rattle.bp_source.proofs.JoinedPieces.{when_ok}
 use Rattle.bp_view.proofs.JoinedTexts.{pair_joined, two_joined}
 use Rattle.bp_view.proofs.contexts.push_context_line.Goals as goal
 

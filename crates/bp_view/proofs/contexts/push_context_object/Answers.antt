@@ -3,7 +3,7 @@ use Rattle.bp_text.specs.Pieces.{key_text, list_text}
 use Rattle.bp_view.specs.ChangeFacts.{entries_text}
 use Rattle.bp_view.specs.ContextLines.{context_in, position_or_null}
 use Rattle.bp_view.specs.declared.options.ViewFormat.TheVariants.{Json}
-use Rattle.bp_text.proofs.PiecesInTurn.{when_ok}
+use Rattle.bp_source.proofs.JoinedPieces.{when_ok}
 use Rattle.bp_view.proofs.JoinedTexts.{all_joined}
 use Rattle.bp_view.proofs.contexts.push_context_object.Goals as goal
 

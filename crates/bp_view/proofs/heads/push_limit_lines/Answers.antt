@@ -1,5 +1,5 @@
 use Rattle.std.proofs.Common.{codes, decimal}
-use Rattle.bp_text.proofs.PiecesInTurn.{when_ok}
+use Rattle.bp_source.proofs.JoinedPieces.{when_ok}
 use Rattle.bp_view.proofs.JoinedTexts.{limits_joined}
 use Rattle.bp_view.proofs.heads.push_limit_lines.Goals as goal
 

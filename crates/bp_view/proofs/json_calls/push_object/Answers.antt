@@ -6,7 +6,7 @@ use Rattle.bp_view.specs.CallFacts.{facts_in}
 use Rattle.bp_view.specs.ChangeFacts.{entries_text}
 use Rattle.bp_view.specs.declared.options.ViewFormat.TheVariants.{Json}
 use Rattle.bp_view.specs.JsonCalls.{member_texts, printed_text}
-use Rattle.bp_text.proofs.PiecesInTurn.{when_ok}
+use Rattle.bp_source.proofs.JoinedPieces.{when_ok}
 use Rattle.bp_view.proofs.json_calls.push_object.Goals as goal
 
 pub returns : goal.returns

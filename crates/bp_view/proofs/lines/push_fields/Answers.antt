@@ -1,7 +1,7 @@
 use Rattle.bp_text.proofs.PiecesInTurn.{all_added}
 use Rattle.bp_view.specs.CallFacts.{facts_in}
 use Rattle.bp_view.specs.Lines.{field_texts}
-use Rattle.bp_text.proofs.PiecesInTurn.{when_ok}
+use Rattle.bp_source.proofs.JoinedPieces.{when_ok}
 use Rattle.bp_view.proofs.lines.push_fields.Goals as goal
 
 pub returns : goal.returns

@@ -5,7 +5,7 @@ use Rattle.bp_text.proofs.PiecesInTurn.{all_added}
 use Rattle.bp_view.specs.CallFacts.{facts_in}
 use Rattle.bp_view.specs.Colours.{closing, colour_of, opening}
 use Rattle.bp_view.specs.Lines.{after_room, field_texts, indented, note_text}
-use Rattle.bp_text.proofs.PiecesInTurn.{when_ok}
+use Rattle.bp_source.proofs.JoinedPieces.{when_ok}
 use Rattle.bp_view.proofs.JoinedTexts.{pair_added}
 use Rattle.bp_view.proofs.lines.push_line.Goals as goal
 

@@ -4,7 +4,7 @@ use Rattle.bp_view.specs.CallFacts.{choice_of, facts_in}
 use Rattle.bp_view.specs.ChangeFacts.{entries_text}
 use Rattle.bp_view.specs.declared.options.ViewFormat.TheVariants.{Columns}
 use Rattle.bp_view.specs.Lines.{choice_text, reply_words, times_text}
-use Rattle.bp_text.proofs.PiecesInTurn.{when_ok}
+use Rattle.bp_source.proofs.JoinedPieces.{when_ok}
 use Rattle.bp_view.proofs.lines.write_note.Goals as goal
 
 pub returns : goal.returns

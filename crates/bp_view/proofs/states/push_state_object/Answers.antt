@@ -7,7 +7,7 @@ use Rattle.bp_view.specs.declared.options.ViewFormat.TheVariants.{Json}
 use Rattle.bp_view.specs.Changes.{variables_text}
 use Rattle.bp_view.specs.States.{state_members}
 use Rattle.bp_view.proofs.ChangedVariables.{from_first}
-use Rattle.bp_text.proofs.PiecesInTurn.{when_ok}
+use Rattle.bp_source.proofs.JoinedPieces.{when_ok}
 use Rattle.bp_view.proofs.states.push_state_object.Goals as goal
 
 pub returns : goal.returns
