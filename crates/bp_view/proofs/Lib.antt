@@ -6,6 +6,7 @@ pub mod ChangedVariables
 pub mod ChangesOfFrames
 pub mod ChangesReplay
 pub mod ConditionTexts
+pub mod CutLines
 pub mod DecidedDeadlocks
 pub mod EqualWaits
 pub mod FailedConditions

@@ -140,16 +140,16 @@ pub(crate) fn is_watched(texts: &[&[u8]], owner: Option<&Proc>, name: &[u8]) -> 
 
 /// Whether a text says which of these variables of a procedure is meant, with the name of that.
 fn is_qualified_among(names: &[Name], procedure: &[u8], text: &[u8]) -> bool
-    ensures { let is = λ v. bytes_eq text.now (qualified procedure.now v.text) in
-        result ≡ list_any is names.now }
+    ensures { let own = procedure.now in
+        result ≡ list_any (λ v. bytes_eq text.now (qualified own v.text)) names.now }
 {
     names.iter().any(|name| is_qualified(text, procedure, name.text().as_bytes()))
 }
 
 /// Whether a text says which variable of a procedure is meant, with the name of that.
 fn qualifies(proc: &Proc, text: &[u8]) -> bool
-    ensures { let is = λ v. bytes_eq text.now (qualified proc.now.name.text v.text) in
-        result ≡ list_any is (variables proc.now) }
+    ensures { let own = proc.now.name.text in
+        result ≡ list_any (λ v. bytes_eq text.now (qualified own v.text)) (variables proc.now) }
 {
     let own = proc.name().text().as_bytes();
     is_qualified_among(proc.formals(), own, text) || is_qualified_among(proc.locals(), own, text)

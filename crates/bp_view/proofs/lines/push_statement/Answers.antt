@@ -1,4 +1,4 @@
-use Rattle.std.proofs.Common.{◌≡◌, ◌∙◌, ◌++◌, ◌*◌, [], ◌∷◌, min}
+use Rattle.std.proofs.Common.{◌∙◌, ◌++◌, ◌*◌, [], ◌∷◌, min}
 use Rattle.bp_text.specs.Columns.{spaces}
 use Rattle.bp_text.proofs.PiecesInTurn.{all_added}
 use Rattle.bp_view.specs.StatementColumns.{shortened}
