@@ -98,6 +98,15 @@ pub static ROWS: [Row<'static>; 10] = [
     },
 ];
 
+/// How many contexts a test of these threads allows, where no other number is given: one more than
+/// there are threads, so that each may begin and one may go on.
+fn default_contexts(entries: &[String]) -> u32
+    ensures { result ≡ contexts_for (length entries.now) }
+{
+    // More threads than that are refused.
+    entries.len().min(MAX_THREADS) as u32 + 1
+}
+
 /// What the words after `test` ask for.
 pub fn test_words<'a>(alloc: Global, words: &ArgMatches<'a>) -> Result<TestWords<'a>, AllocError>
     ensures { IfOk result (IsTestOf (rows_of (found_of words.now))) }
