@@ -12,6 +12,19 @@ _btrun_variables() {
         grep -oE '"\w+"' | tr -d '"'
 }
 
+# The globals of a program whose names have no braces, each with either bit.
+_btrun_bits() {
+    btrun check "$1" --json 2> /dev/null | grep -oE '"globals":\[[^]]*' | cut -d : -f 2- | grep -oE '"\w+"' |
+        tr -d '"' | sed -n 's/$/=0/p; s/0$/1/p'
+}
+
+# Whether the word that is completed is of the value of --init, which bash cuts at each equals sign.
+_btrun_in_init() {
+    local at=$((COMP_CWORD - 1))
+    while [[ ${COMP_WORDS[at]} == = ]]; do ((at -= 2)); done
+    [[ ${COMP_WORDS[at]} == --init ]]
+}
+
 # The words before the one that is completed which are files.
 _btrun_files() {
     local word
@@ -44,7 +57,14 @@ _btrun() {
             mapfile -t COMPREPLY < <(compgen -W "$(_btrun_variables "${files[0]}")" -- "$word")
             return
             ;;
-        *--contexts | *--calls | *--init | *--seed | *--turn | *--ring | *--runs | *--jobs | *--thread | *--last | *--from | *--to | *--at) return ;;
+        *--init | *=)
+            if _btrun_in_init; then
+                compopt +o filenames 2> /dev/null
+                mapfile -t COMPREPLY < <(compgen -P "${word%"${word##*,}"}" -W "$(_btrun_bits "${files[0]}")" -- "${word##*,}")
+            fi
+            return
+            ;;
+        *--contexts | *--calls | *--seed | *--turn | *--ring | *--runs | *--jobs | *--thread | *--last | *--from | *--to | *--at) return ;;
     esac
     if ((COMP_CWORD == 1)); then
         words="check code drive confirm run test replay show migrate shrink help --help --version"

@@ -25,6 +25,14 @@ function __btrun_variables
         string match -arg '"(\w+)"'
 end
 
+# The globals of a program whose names have no braces, each with either bit, after those that are given.
+function __btrun_bits
+    set -l given (commandline -ct | string match -r '^.*,'; or echo)
+    set -l globals (btrun check (__btrun_files)[1] --json 2> /dev/null | string match -arg '"globals":\[([^]]*)' |
+        string match -arg '"(\w+)"')
+    printf '%s\n' $given$globals={0,1}
+end
+
 complete -c btrun -n __btrun_takes_entry -f -a '(__btrun_entries)' -d 'An entry'
 
 complete -c btrun -n __fish_use_subcommand -f -a check -d 'Check a program'
@@ -47,7 +55,7 @@ complete -c btrun -n "__fish_seen_subcommand_from $all" -l help -d 'Print help'
 set -l starting drive confirm run test
 complete -c btrun -n "__fish_seen_subcommand_from $starting" -x -l contexts -d 'Allow N contexts'
 complete -c btrun -n "__fish_seen_subcommand_from $starting" -x -l calls -d 'Allow each thread N calls'
-complete -c btrun -n "__fish_seen_subcommand_from $starting" -x -l init -d 'The initial bits of the globals'
+complete -c btrun -n "__fish_seen_subcommand_from $starting" -x -l init -a '(__btrun_bits)' -d 'The initial bits of the globals'
 
 set -l seeded run test
 complete -c btrun -n "__fish_seen_subcommand_from $seeded" -x -l seed -d 'The seed of the choice bits'

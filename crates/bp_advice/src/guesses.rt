@@ -134,6 +134,12 @@ pub(crate) fn push_near_variable(
     push_guess(out, guess)
 }
 
+/// Adds the global that a name may stand for, where one is near.
+pub fn push_near_global(out: &mut Vec<u8>, tree: &Tree, name: &[u8]) -> Result<(), AllocError> {
+    let guess = weighed_names(*out.allocator(), no_guess(name), tree.globals())?;
+    push_guess(out, guess)
+}
+
 /// Adds the variable of any procedure or of all that a name may stand for, where one is near.
 pub fn push_near_name(out: &mut Vec<u8>, tree: &Tree, name: &[u8]) -> Result<(), AllocError> {
     let alloc = *out.allocator();

@@ -1,4 +1,5 @@
 mod Answered
+mod AnswersByNames
 mod ConcludedReads
 mod ConfirmedSteps
 mod Driven

@@ -12,12 +12,14 @@ use Rattle.bp_confirm.specs.declared.histories.ConfirmReport.{ConfirmReport}
 use Rattle.bp_confirm.specs.ConfirmReports.{IsConfirmReport}
 use Rattle.bp_confirm.specs.ConfirmedTexts.{IsConfirmedText, IsStepsRefusal}
 use Rattle.bp_messages.specs.declared.faults.Fault.{Fault}
+use Rattle.bp_init.specs.NamedBits.{NamedBitOf}
 use Rattle.bp_commands.specs.Commands.{Command}
 use Rattle.bp_commands.specs.Drives.{IsSetupRefused}
 use Rattle.bp_commands.specs.Ends.{report_failed, Ending}
 use Rattle.bp_messages.specs.Faults.{fault_of_steps}
 use Rattle.bp_commands.specs.Given.{Pair}
 use Rattle.bp_commands.specs.Listings.{HasNoCode}
+use Rattle.bp_commands.specs.NamedStarts.{by_names}
 
 -- what a user reads where the last step is no failed assertion
 abbrev pub not_failed_line : List ℕ
@@ -82,3 +84,9 @@ confirms start bound = record {
   Refuses = IsConfirmRefused start bound;
   Spoils = λ _ _ _. ⊥;
 }
+
+-- the same from a start in which these globals have their bits by name
+abbrev pub confirms_by_names
+    : StartOf → List NamedBitOf → ContextBound → Command Pair ConfirmReport
+confirms_by_names start named bound =
+    by_names (λ given. given.text) start named (λ s. confirms s bound)

@@ -12,10 +12,12 @@ use Rattle.bp_trace.specs.declared.faults.DriveFault.{DriveFault}
 use Rattle.bp_trace.specs.Drives.{IsDriven, IsScheduleRefusal}
 use Rattle.bp_trace.specs.TraceText.{trace_text}
 use Rattle.bp_messages.specs.declared.faults.Fault.{Fault}
+use Rattle.bp_init.specs.NamedBits.{NamedBitOf}
 use Rattle.bp_commands.specs.Commands.{Command}
 use Rattle.bp_messages.specs.Faults.{fault_of_schedule, fault_of_setup}
 use Rattle.bp_commands.specs.Given.{Pair}
 use Rattle.bp_commands.specs.Listings.{HasNoCode}
+use Rattle.bp_commands.specs.NamedStarts.{by_names}
 
 -- The program of a text is driven by a schedule from this start, with the schedule's choice bits.
 module _ (start : StartOf) (given : Pair) where
@@ -61,3 +63,7 @@ drives start = record {
   Refuses = IsDriveRefused start;
   Spoils = λ _ _ _. ⊥;
 }
+
+-- the same from a start in which these globals have their bits by name
+abbrev pub drives_by_names : StartOf → List NamedBitOf → Command Pair Report
+drives_by_names start named = by_names (λ given. given.text) start named drives

@@ -12,6 +12,7 @@ pub mod Given
 pub mod Inputs
 pub mod Jobs
 pub mod Listings
+pub mod NamedStarts
 pub mod Runs
 pub mod Shrinks
 pub mod Tellings

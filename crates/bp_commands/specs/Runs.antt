@@ -6,13 +6,15 @@ use Rattle.bp_machine.specs.Histories.{IsLegal}
 use Rattle.bp_machine.specs.SeededHistories.{HasSeededBits}
 use Rattle.bp_run.specs.declared.answers.RunReport.{RunReport}
 use Rattle.bp_run.specs.declared.run_faults.RunFault.TheVariants as run
-use Rattle.bp_run.specs.Options.{OptionsOf, setup_under, options_fault, IsOptionsRefusal}
+use Rattle.bp_init.specs.NamedBits.{NamedBitOf}
+use Rattle.bp_run.specs.Options.{OptionsOf, options_of, setup_under, options_fault, IsOptionsRefusal}
 use Rattle.bp_run.specs.Runs.{OfProgram, IsTracedRun, IsRefusedInPlay}
 use Rattle.bp_trace.specs.TraceText.{trace_text}
 use Rattle.bp_messages.specs.declared.faults.Fault.{Fault}
 use Rattle.bp_messages.specs.declared.faults.Fault.TheVariants.{Start, Early, Memory}
 use Rattle.bp_commands.specs.Checks.{IsUnlawful}
 use Rattle.bp_commands.specs.Commands.{Command}
+use Rattle.bp_commands.specs.NamedStarts.{by_names}
 use Rattle.bp_messages.specs.Faults.{fault_of_setup}
 
 -- The program of a text is run by real threads, under these options.
@@ -69,3 +71,8 @@ runs o = record {
   Refuses = IsRunRefused o;
   Spoils = IsEarly o;
 }
+
+-- the same under options in whose start these globals have their bits by name
+abbrev pub runs_by_names : OptionsOf → List NamedBitOf → Command (List ℕ) RunReport
+runs_by_names o named =
+    by_names (λ text. text) o.start named (λ s. runs (options_of s o.turn o.seed o.ring))

@@ -17,10 +17,12 @@ use Rattle.bp_test.specs.Tests.{IsFound, IsSought, IsWrittenRun}
 use Rattle.bp_messages.specs.declared.faults.Fault.{Fault}
 use Rattle.bp_messages.specs.declared.faults.Fault.TheVariants.{Memory}
 use Rattle.bp_messages.specs.declared.tested.Tested.{Tested}
+use Rattle.bp_init.specs.NamedBits.{NamedBitOf}
 use Rattle.bp_commands.specs.Commands.{Command}
 use Rattle.bp_commands.specs.Ends.{Ending}
 use Rattle.bp_messages.specs.Faults.{fault_of_setup}
 use Rattle.bp_commands.specs.Listings.{HasNoCode}
+use Rattle.bp_commands.specs.NamedStarts.{by_names}
 use Rattle.bp_messages.specs.Notes.{notes_of}
 use Rattle.bp_messages.specs.Summaries.{summary_text}
 use Rattle.bp_messages.specs.SummaryObjects.{summary_objects}
@@ -124,3 +126,10 @@ tests start x listed json = record {
   Refuses = IsTestRefused start x listed json;
   Spoils = λ _ _ _. ⊥;
 }
+
+-- the same from a start in which these globals have their bits by name
+abbrev pub tests_by_names
+    : StartOf → List NamedBitOf → TestOptions → Option (List ℕ) → (json : Bool)
+    → Command (List ℕ) Tested
+tests_by_names start named x listed json =
+    by_names (λ text. text) start named (λ s. tests s x listed json)

@@ -4,8 +4,7 @@ ghost use Rattle.bp_commands.specs.Commands.{Answers};
 ghost use Rattle.bp_commands.specs.Given.{bundle_alone};
 
 use crate::bundle_parts::parts;
-use crate::commands::PairCommand;
-use crate::driving::Drive;
+use crate::driving::drive_from;
 use crate::inputs::{Source, read_input};
 use crate::limits::MAX_BUNDLE;
 use bp_machine::{Report, Start};
@@ -31,5 +30,5 @@ pub fn drive_bundle<R: Read, W: Write>(
     read_input(alloc, MAX_BUNDLE, bundle)?;
     let start = Start::defaults(alloc)?;
     let (text, schedule) = parts(&bundle.bytes);
-    Drive { start: &start }.apply(alloc, text, schedule, out)
+    drive_from(alloc, &start, text, schedule, out)
 }

@@ -8,7 +8,7 @@ ghost use Rattle.bp_commands.specs.Given.{text_alone, text_and, Pair};
 use crate::ends::Ended;
 use crate::explanations::Beside;
 use crate::inputs::{Source, read_pair, read_text};
-use bp_machine::Start;
+use bp_init::NamedStart;
 use bp_messages::Fault;
 use std::alloc::Global;
 use std::io::{Read, Write};
@@ -34,7 +34,7 @@ pub trait ProgramCommand {
             (W.contents out.old) (W.contents out.new) result };
 
     /// What the runs of the program start from, if it is run.
-    fn start(&self) -> Option<&Start> {
+    fn start(&self) -> Option<NamedStart<'_>> {
         None
     }
 }
@@ -70,7 +70,7 @@ pub trait PairCommand {
         ensures { result ≡ beside self.now };
 
     /// What the run starts from, where the input does not say it.
-    fn start(&self) -> Option<&Start> {
+    fn start(&self) -> Option<NamedStart<'_>> {
         None
     }
 

@@ -1,11 +1,15 @@
 //! The command `confirm`.
-ghost use Rattle.bp_commands.specs.Confirms.{of_confirm};
+ghost use Rattle.bp_commands.specs.Commands.{AnswersOf};
+ghost use Rattle.bp_commands.specs.Confirms.{confirms, of_confirm};
+ghost use Rattle.bp_commands.specs.Given.{Pair};
 
 use crate::commands::PairCommand;
 use crate::ends::Ended;
 use crate::explanations::Beside;
+use crate::named_starts::start_by_names;
 use crate::showing::program_of;
 use bp_confirm::{ConfirmReport, ContextBound, confirm};
+use bp_init::NamedStart;
 use bp_machine::Start;
 use bp_messages::Fault;
 use bp_text::{WriteFault, put};
@@ -17,7 +21,7 @@ use std::io::Write;
 #[derive(Clone, Copy)]
 pub struct Confirm<'a> {
     /// What the steps start from.
-    pub start: &'a Start,
+    pub start: NamedStart<'a>,
     /// How many contexts are allowed to them.
     pub bound: ContextBound,
 }
@@ -47,14 +51,33 @@ impl Ended for ConfirmReport {
     }
 }
 
+/// Takes the steps that a model checker reports from a start, and writes the trace.
+fn confirm_from<W: Write>(
+    alloc: Global,
+    start: &Start,
+    bound: ContextBound,
+    text: &[u8],
+    steps: &[u8],
+    out: &mut W,
+) -> Result<ConfirmReport, Fault>
+    ensures { let given : Pair = record { text = text.now; input = steps.now } in
+        AnswersOf (confirms start.now bound) given
+        (W.contents out.old) (W.contents out.new) result }
+{
+    let (checked, code) = program_of(alloc, text)?;
+    let setup = start.setup(alloc, &code, None)?;
+    let report = confirm(alloc, text, &checked, &code, &setup, bound, steps, out)?;
+    Ok(report)
+}
+
 impl PairCommand for Confirm<'_> {
     ghost use Rattle.bp_commands.specs.declared.explanations.Beside.{Beside};
     ghost use Rattle.bp_trace.specs.declared.limits.TheConstants.{MAX_SCHEDULE};
-    ghost use Rattle.bp_commands.specs.Confirms.{confirms};
+    ghost use Rattle.bp_commands.specs.Confirms.{confirms_by_names};
 
     type Answer = ConfirmReport;
 
-    ghost command = { λ c. confirms c.start.now c.bound };
+    ghost command = { λ c. confirms_by_names c.start.start.now c.start.named.now c.bound };
 
     ghost limit = { λ _. MAX_SCHEDULE };
 
@@ -71,18 +94,18 @@ impl PairCommand for Confirm<'_> {
         steps: &[u8],
         out: &mut W,
     ) -> Result<ConfirmReport, Fault> {
-        let (checked, code) = program_of(alloc, text)?;
-        let setup = self.start.setup(alloc, &code, None)?;
-        let bound = self.bound;
-        let report = confirm(alloc, text, &checked, &code, &setup, bound, steps, out)?;
-        Ok(report)
+        let found = start_by_names(alloc, text, self.start)?;
+        match found {
+            Some(start) => confirm_from(alloc, &start, self.bound, text, steps, out),
+            None => confirm_from(alloc, self.start.start, self.bound, text, steps, out),
+        }
     }
 
     fn beside(&self) -> Beside {
         Beside::Steps
     }
 
-    fn start(&self) -> Option<&Start> {
+    fn start(&self) -> Option<NamedStart<'_>> {
         Some(self.start)
     }
 }

@@ -1,7 +1,13 @@
 //! The command `drive`.
+ghost use Rattle.bp_commands.specs.Commands.{AnswersOf};
+ghost use Rattle.bp_commands.specs.Drives.{drives};
+ghost use Rattle.bp_commands.specs.Given.{Pair};
+
 use crate::commands::PairCommand;
 use crate::explanations::Beside;
+use crate::named_starts::start_by_names;
 use bp_code::code_of;
+use bp_init::NamedStart;
 use bp_machine::{Report, Start};
 use bp_messages::Fault;
 use bp_trace::drive;
@@ -13,17 +19,33 @@ use std::io::Write;
 #[derive(Clone, Copy)]
 pub struct Drive<'a> {
     /// What the run starts from.
-    pub start: &'a Start,
+    pub start: NamedStart<'a>,
+}
+
+/// Drives a program by a schedule from a start, and writes the trace.
+pub(crate) fn drive_from<W: Write>(
+    alloc: Global,
+    start: &Start,
+    text: &[u8],
+    schedule: &[u8],
+    out: &mut W,
+) -> Result<Report, Fault>
+    ensures { let given : Pair = record { text = text.now; input = schedule.now } in
+        AnswersOf (drives start.now) given (W.contents out.old) (W.contents out.new) result }
+{
+    let code = code_of(alloc, text)?;
+    let setup = start.setup(alloc, &code, None)?;
+    Ok(drive(alloc, &code, &setup, schedule, out)?)
 }
 
 impl PairCommand for Drive<'_> {
     ghost use Rattle.bp_commands.specs.declared.explanations.Beside.{Beside};
     ghost use Rattle.bp_trace.specs.declared.limits.TheConstants.{MAX_SCHEDULE};
-    ghost use Rattle.bp_commands.specs.Drives.{drives};
+    ghost use Rattle.bp_commands.specs.Drives.{drives_by_names};
 
     type Answer = Report;
 
-    ghost command = { λ d. drives d.start.now };
+    ghost command = { λ d. drives_by_names d.start.start.now d.start.named.now };
 
     ghost limit = { λ _. MAX_SCHEDULE };
 
@@ -40,16 +62,18 @@ impl PairCommand for Drive<'_> {
         schedule: &[u8],
         out: &mut W,
     ) -> Result<Report, Fault> {
-        let code = code_of(alloc, text)?;
-        let setup = self.start.setup(alloc, &code, None)?;
-        Ok(drive(alloc, &code, &setup, schedule, out)?)
+        let found = start_by_names(alloc, text, self.start)?;
+        match found {
+            Some(start) => drive_from(alloc, &start, text, schedule, out),
+            None => drive_from(alloc, self.start.start, text, schedule, out),
+        }
     }
 
     fn beside(&self) -> Beside {
         Beside::Schedule
     }
 
-    fn start(&self) -> Option<&Start> {
+    fn start(&self) -> Option<NamedStart<'_>> {
         Some(self.start)
     }
 }

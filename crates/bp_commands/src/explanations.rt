@@ -8,10 +8,12 @@ ghost use Rattle.bp_commands.specs.Given.{Pair};
 use crate::ends::Explained;
 use crate::hints::Hints;
 use crate::messages::shown_sentence;
+use crate::named_starts::start_of_run;
 use bp_advice::explain_program;
 use bp_code::ProgramFault;
 use bp_confirm::ConfirmFault;
 use bp_explain::{explain_schedule, explain_steps, explain_trace};
+use bp_init::{NamedBits, NamedStart};
 use bp_machine::Start;
 use bp_messages::Fault;
 use bp_syntax::ReadFault;
@@ -57,7 +59,7 @@ pub(crate) fn of_program(
 fn of_schedule(
     alloc: Global,
     fault: &DriveFault,
-    start: Option<&Start>,
+    start: Option<NamedStart<'_>>,
     program: Named<'_>,
     schedule: Named<'_>,
 ) -> Result<Vec<u8>, AllocError>
@@ -65,12 +67,14 @@ fn of_schedule(
         schedule.entry.name.now schedule.entry.text.now fault.now v.items) }
 {
     let (text, name, lines) = (program.text, schedule.name, schedule.text);
-    match start {
+    let (defaults, none) = (Start::defaults(alloc)?, NamedBits::none(alloc));
+    let asked = start.unwrap_or(NamedStart {
+        start: &defaults,
+        named: &none,
+    });
+    match &start_of_run(alloc, text, asked)? {
         Some(start) => explain_schedule(alloc, text, start, name, lines, fault),
-        None => {
-            let start = Start::defaults(alloc)?;
-            explain_schedule(alloc, text, &start, name, lines, fault)
-        }
+        None => explain_schedule(alloc, text, asked.start, name, lines, fault),
     }
 }
 
@@ -78,7 +82,7 @@ fn of_schedule(
 fn of_steps(
     alloc: Global,
     fault: &ConfirmFault,
-    start: Option<&Start>,
+    start: Option<NamedStart<'_>>,
     program: Named<'_>,
     steps: Named<'_>,
 ) -> Result<Vec<u8>, AllocError>
@@ -86,12 +90,14 @@ fn of_steps(
         steps.entry.name.now steps.entry.text.now fault.now v.items) }
 {
     let (text, name, lines) = (program.text, steps.name, steps.text);
-    match start {
+    let (defaults, none) = (Start::defaults(alloc)?, NamedBits::none(alloc));
+    let asked = start.unwrap_or(NamedStart {
+        start: &defaults,
+        named: &none,
+    });
+    match &start_of_run(alloc, text, asked)? {
         Some(start) => explain_steps(alloc, text, start, name, lines, fault),
-        None => {
-            let start = Start::defaults(alloc)?;
-            explain_steps(alloc, text, &start, name, lines, fault)
-        }
+        None => explain_steps(alloc, text, asked.start, name, lines, fault),
     }
 }
 
@@ -101,7 +107,7 @@ fn of_input(
     alloc: Global,
     beside: Beside,
     fault: &Fault,
-    start: Option<&Start>,
+    start: Option<NamedStart<'_>>,
     program: Named<'_>,
     input: Named<'_>,
 ) -> Result<Vec<u8>, AllocError>
@@ -130,7 +136,7 @@ pub(crate) fn of_pair(
     alloc: Global,
     beside: Beside,
     fault: &Fault,
-    start: Option<&Start>,
+    start: Option<NamedStart<'_>>,
     program: Named<'_>,
     input: Named<'_>,
 ) -> Result<Vec<u8>, AllocError>

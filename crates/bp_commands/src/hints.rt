@@ -3,7 +3,8 @@
 use crate::files::Failure;
 use bp_board::limits::{MAX_RING, MAX_TURN};
 use bp_code::ProgramFault;
-use bp_explain::{start_sentence, variable_sentence};
+use bp_explain::{global_sentence, start_sentence, variable_sentence};
+use bp_init::NamedStart;
 use bp_machine::limits::{MAX_CALLS, MAX_CONTEXTS};
 use bp_machine::{SetupFault, Start};
 use bp_messages::Fault;
@@ -123,13 +124,13 @@ fn of_limit(alloc: Global, file: Limited<'_>) -> Option<String> {
 #[derive(Clone, Copy)]
 pub(crate) struct Asked<'a, 't> {
     pub(crate) program: &'t [u8],
-    pub(crate) start: Option<&'a Start>,
+    pub(crate) start: Option<NamedStart<'a>>,
     pub(crate) watch: Option<&'a str>,
 }
 
 /// What does not fit the program in what a run starts from.
 fn of_start(alloc: Global, asked: Asked<'_, '_>, fault: SetupFault) -> Option<Vec<u8>> {
-    let sentence = start_sentence(alloc, asked.program, asked.start?, fault).ok()?;
+    let sentence = start_sentence(alloc, asked.program, asked.start?.start, fault).ok()?;
     if sentence.is_empty() {
         None
     } else {
@@ -142,6 +143,21 @@ fn of_watch(alloc: Global, asked: Asked<'_, '_>, number: u64) -> Option<Vec<u8>>
     let names = watched_names(alloc, asked.watch).ok()?;
     let name = names.get((number as usize).checked_sub(1)?)?;
     variable_sentence(alloc, asked.program, name).ok()
+}
+
+/// What is said of the global at this place, from 1, among those that have their bits by name. No
+/// global has that name.
+fn of_named(alloc: Global, asked: Asked<'_, '_>, number: u64) -> Option<Vec<u8>> {
+    let name = asked.start?.named.name((number as usize).checked_sub(1)?)?;
+    global_sentence(alloc, asked.program, name).ok()
+}
+
+/// What is said of the name at this place, from 1. A command has names of one option at most.
+fn of_name(alloc: Global, asked: Asked<'_, '_>, number: u64) -> Option<Vec<u8>> {
+    match asked.watch {
+        Some(_) => of_watch(alloc, asked, number),
+        None => of_named(alloc, asked, number),
+    }
 }
 
 /// What is known of the command line of a run.
@@ -185,7 +201,7 @@ impl Hints<'_, '_> {
         }
         match fault {
             Fault::Setup(fault) => of_start(alloc, self.asked, *fault),
-            Fault::NoVariable(number) => of_watch(alloc, self.asked, *number),
+            Fault::NoVariable(number) => of_name(alloc, self.asked, *number),
             _ => None,
         }
     }

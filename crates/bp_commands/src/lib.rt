@@ -19,6 +19,7 @@ mod inputs;
 pub mod limits;
 mod messages;
 mod migrating;
+mod named_starts;
 mod outlining;
 mod replaying;
 mod running;

@@ -2,7 +2,7 @@
 ghost use Rattle.std.specs.Io.Buffered.{writer_contents};
 ghost use Rattle.bp_commands.specs.Ends.{of_run};
 ghost use Rattle.bp_commands.specs.Jobs.{on_bundle, on_file, on_files, streams, IsRun};
-ghost use Rattle.bp_commands.specs.Runs.{runs};
+ghost use Rattle.bp_commands.specs.Runs.{runs_by_names};
 
 use crate::bundles::drive_bundle;
 use crate::commands::{PairCommand, ProgramCommand, do_on_pair, do_on_program};
@@ -15,12 +15,19 @@ use crate::hints::{Asked, Hints, Limited, Numbers};
 use crate::inputs::Source;
 use crate::running::run_program;
 use crate::tellings::{NamedPair, conclude};
+use bp_init::{NamedBits, NamedStart};
 use bp_run::{Gate, RunOptions};
 use std::alloc::Global;
 use std::io::{BufWriter, Read, Write};
 use std::sync::Wait;
 use std::thread::Threads;
 use std::time::Clock;
+
+/// The numbers of what a run starts from, where there is such a start.
+fn numbers_of(asked: Option<NamedStart<'_>>) -> Option<Numbers> {
+    let asked = asked?;
+    Some(Numbers::of_start(asked.start))
+}
 
 /// Does a command on the program of a file, and answers how it ends and the output.
 pub fn run_on_program<'a, C: ProgramCommand, F: Files, W: Write + Drop, E: Write>(
@@ -50,7 +57,7 @@ pub fn run_on_program<'a, C: ProgramCommand, F: Files, W: Write + Drop, E: Write
     };
     let hints = Hints {
         unread,
-        numbers: command.start().map(Numbers::of_start),
+        numbers: numbers_of(command.start()),
         asked: Asked {
             program: given.text,
             start: command.start(),
@@ -67,6 +74,8 @@ pub fn run_on_program<'a, C: ProgramCommand, F: Files, W: Write + Drop, E: Write
 #[derive(Drop)]
 pub struct Workers<'a, G> {
     pub options: &'a RunOptions,
+    /// The globals in the start of the options that have their bits by name.
+    pub named: &'a NamedBits<'a>,
     pub gate: &'a G,
 }
 
@@ -89,15 +98,15 @@ pub fn run_by_workers<
     errors: &mut E,
 ) -> (RunEnd, W)
     ensures { let old = writer_contents W.contents out in
-        let options = workers.now.options.now in
-        let job = on_file (F.bytes files.now) format (runs options) of_run path.now in
+        let command = runs_by_names workers.now.options.now workers.now.named.now in
+        let job = on_file (F.bytes files.now) format command of_run path.now in
         let written = streams old (W.contents result.1)
         (E.contents errors.old) (E.contents errors.new) in
         IsRun job written result.0 }
 {
     let mut program = InputFile::source(alloc, files, path);
-    let (options, gate) = (workers.options, workers.gate);
-    let done = run_program(alloc, threads, options, gate, &mut program, &mut out);
+    let (options, named, gate) = (workers.options, workers.named, workers.gate);
+    let done = run_program(alloc, threads, options, named, gate, &mut program, &mut out);
     let (done, output) = flushed(done, out);
     let unread = program.reader.unread();
     let given = Named {
@@ -109,7 +118,10 @@ pub fn run_by_workers<
         numbers: Some(Numbers::of_run(options)),
         asked: Asked {
             program: given.text,
-            start: Some(&options.start),
+            start: Some(NamedStart {
+                start: &options.start,
+                named,
+            }),
             watch: None,
         },
         program: path,
@@ -157,7 +169,7 @@ pub fn run_on_pair<'a, C: PairCommand, F: Files, W: Write + Drop, E: Write>(
     };
     let hints = Hints {
         unread,
-        numbers: command.start().map(Numbers::of_start),
+        numbers: numbers_of(command.start()),
         asked: Asked {
             program: given.program.text,
             start: command.start(),

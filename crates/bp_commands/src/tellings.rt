@@ -14,7 +14,7 @@ use crate::explanations::{Beside, Named, of_pair, of_program, put_explanation};
 use crate::fault_formats::FaultFormat;
 use crate::hints::Hints;
 use crate::messages::message;
-use bp_machine::Start;
+use bp_init::NamedStart;
 use bp_messages::{Fault, put_fault_object, value_in};
 use std::alloc::{AllocError, Global};
 use std::io::Write;
@@ -78,7 +78,7 @@ pub(crate) struct NamedPair<'a> {
     pub(crate) program: Named<'a>,
     pub(crate) input: Named<'a>,
     pub(crate) beside: Beside,
-    pub(crate) start: Option<&'a Start>,
+    pub(crate) start: Option<NamedStart<'a>>,
 }
 
 impl Texts for NamedPair<'_> {

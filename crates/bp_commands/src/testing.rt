@@ -1,14 +1,18 @@
 //! The command `test`.
 ghost use Rattle.std.specs.Prelude.{◌≡◌, map, IfOk};
 ghost use Rattle.bp_code.specs.StandsFor.{places_of};
-ghost use Rattle.bp_commands.specs.Tests.{name_of, AreListed};
 ghost use Rattle.bp_source.specs.Scenes.{AreStatements};
 ghost use Rattle.bp_source.specs.StatementLines.{positions_of};
+ghost use Rattle.std.specs.Thread.{IsSync};
+ghost use Rattle.bp_commands.specs.Commands.{AnswersOf};
+ghost use Rattle.bp_commands.specs.Tests.{name_of, tests, AreListed};
 
 use crate::commands::ProgramCommand;
 use crate::ends::Ended;
+use crate::named_starts::start_by_names;
 use crate::showing::program_of;
 use bp_check::Checked;
+use bp_init::NamedStart;
 use bp_machine::Start;
 use bp_messages::{Fault, Notes, Tested, notes_of, put_summary, put_summary_objects};
 use bp_source::{statement_lines, statement_positions, statement_texts, unreached_objects};
@@ -27,7 +31,7 @@ pub struct Test<'a, R, P> {
     /// Who is told how far the test is.
     pub progress: &'a P,
     /// What each run starts from.
-    pub start: &'a Start,
+    pub start: NamedStart<'a>,
     /// What the test looks for, and among how many runs.
     pub options: TestOptions,
     /// The name of the program's text, where its statements that no run reached are listed.
@@ -111,41 +115,62 @@ fn description_of(
     })
 }
 
+/// Tests a program as it is asked, from a start.
+fn test_from<R: Threads + Sync, P: Progress, W: Write>(
+    alloc: Global,
+    asked: &Test<'_, R, P>,
+    start: &Start,
+    text: &[u8],
+    out: &mut W,
+) -> Result<Tested, Fault>
+    requires { IsSync R.row }
+    ensures { let asked = asked.now in
+        AnswersOf (tests start.now asked.options (name_of asked.listed) asked.json) text.now
+        (W.contents out.old) (W.contents out.new) result }
+{
+    let (checked, code) = program_of(alloc, text)?;
+    let setup = start.setup(alloc, &code, None)?;
+    let described = description_of(alloc, asked.json, asked.listed, text, &checked)?;
+    let options = asked.options;
+    let (runtime, progress) = (asked.runtime, asked.progress);
+    let tested = test(runtime, alloc, &code, &setup, &options, progress, out)?;
+    let counts = tested.tally.counts(&code);
+    let notes = notes_of(tested.found, setup.contexts(), &counts);
+    Ok(Tested {
+        options,
+        found: tested.found,
+        failed: tested.failed,
+        waiting: tested.waiting,
+        positions: described.positions,
+        statements: described.statements,
+        counts,
+        notes,
+        lines: described.lines,
+        reached: tested.tally.reached,
+        json: asked.json,
+    })
+}
+
 impl<R: Threads + Sync, P: Progress> ProgramCommand for Test<'_, R, P> {
     ghost use Rattle.std.specs.Thread.{IsSync};
-    ghost use Rattle.bp_commands.specs.Tests.{name_of, tests};
+    ghost use Rattle.bp_commands.specs.Tests.{name_of, tests_by_names};
 
     type Answer = Tested;
 
-    ghost command = { λ x. tests x.start.now x.options (name_of x.listed) x.json };
+    ghost command = { λ x. tests_by_names x.start.start.now x.start.named.now
+        x.options (name_of x.listed) x.json };
 
     ghost allowed = { λ _. IsSync R.row };
 
     fn apply<W: Write>(&self, alloc: Global, text: &[u8], out: &mut W) -> Result<Tested, Fault> {
-        let (checked, code) = program_of(alloc, text)?;
-        let setup = self.start.setup(alloc, &code, None)?;
-        let described = description_of(alloc, self.json, self.listed, text, &checked)?;
-        let options = self.options;
-        let (runtime, progress) = (self.runtime, self.progress);
-        let tested = test(runtime, alloc, &code, &setup, &options, progress, out)?;
-        let counts = tested.tally.counts(&code);
-        let notes = notes_of(tested.found, setup.contexts(), &counts);
-        Ok(Tested {
-            options,
-            found: tested.found,
-            failed: tested.failed,
-            waiting: tested.waiting,
-            positions: described.positions,
-            statements: described.statements,
-            counts,
-            notes,
-            lines: described.lines,
-            reached: tested.tally.reached,
-            json: self.json,
-        })
+        let found = start_by_names(alloc, text, self.start)?;
+        match found {
+            Some(start) => test_from(alloc, self, &start, text, out),
+            None => test_from(alloc, self, self.start.start, text, out),
+        }
     }
 
-    fn start(&self) -> Option<&Start> {
+    fn start(&self) -> Option<NamedStart<'_>> {
         Some(self.start)
     }
 }

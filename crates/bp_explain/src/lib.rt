@@ -18,7 +18,7 @@ mod steps_before;
 mod trace_heads;
 mod traces;
 
-pub use option_sentences::{start_sentence, variable_sentence};
+pub use option_sentences::{global_sentence, start_sentence, variable_sentence};
 pub use schedules::explain_schedule;
 pub use steps::explain_steps;
 pub use traces::explain_trace;

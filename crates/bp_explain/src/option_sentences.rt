@@ -3,7 +3,7 @@
 
 use crate::setup_sentences::push_formals;
 use bp_advice::Part::{Count, Name as Named, Number, Quoted, Words};
-use bp_advice::{push_all, push_near_entry, push_near_name, push_parts, tree_of};
+use bp_advice::{push_all, push_near_entry, push_near_global, push_near_name, push_parts, tree_of};
 use bp_machine::limits::DEFAULT_ENTRY;
 use bp_machine::{SetupFault, Start};
 use bp_syntax::Tree;
@@ -152,6 +152,16 @@ pub fn variable_sentence(
     push_parts(&mut sentence, &[Words(b"no variable "), Quoted(name)])?;
     if let Some(tree) = &tree_of(alloc, program)? {
         push_near_name(&mut sentence, tree, name)?;
+    }
+    Ok(sentence)
+}
+
+/// The sentence on a name that no global of the program has. The only error is refused memory.
+pub fn global_sentence(alloc: Global, program: &[u8], name: &[u8]) -> Result<Vec<u8>, AllocError> {
+    let mut sentence = Vec::new(alloc);
+    push_parts(&mut sentence, &[Words(b"no global "), Quoted(name)])?;
+    if let Some(tree) = &tree_of(alloc, program)? {
+        push_near_global(&mut sentence, tree, name)?;
     }
     Ok(sentence)
 }

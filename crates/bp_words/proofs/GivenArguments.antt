@@ -1,25 +1,17 @@
 -- What a match on an argument's value says of the rows of a parse.
-use Rattle.std.proofs.Common.{◌≡◌, ap, refl, false, not, codes, map, option_map, unwrap_or, Bool, List, [], ◌∷◌, Bor, Option, Some, None}
-use Rattle.std.specs.Option.{option_map_or}
+use Rattle.std.proofs.Common.{◌≡◌, refl, codes, map, option_map, unwrap_or, List, [], ◌∷◌, Bor, Option, Some, None}
 use Rattle.clap.specs.Walk.{Text}
-use Rattle.bp_words.specs.Values.{is_bits, bits_in}
 
 read_or : (given : Option (Bor Text)) (first : Option Text) (r d : Bor Text) → option_map (λ s. s.now) given ≡ first → r ≡ unwrap_or given d → d.now ≡ [] → r.now ≡ unwrap_or first []
 read_or None first r d same is empty = rw (is, ← same) empty
 read_or (Some p) first r d same is empty = rw (is, ← same) refl
 
 module _ (given : Option (Bor Text)) (first : Option Text) (same : option_map (λ s. s.now) given ≡ first) where
-  pub bits_bad : (text : Bor Text) (r : Bool) → given ≡ Some text → r ≡ is_bits text.now → not r ≡ option_map_or (λ t. not (is_bits t)) first false
-  bits_bad text r is value = rw (← same, is) (ap not value)
+  pub text_read : (text : Bor Text) → given ≡ Some text → first ≡ Some text.now
+  text_read text is = rw (← same, is) refl
 
-  pub bits_fine : given ≡ None → false ≡ option_map_or (λ t. not (is_bits t)) first false
-  bits_fine is = rw (← same, is) refl
-
-  pub bits_read : (text : Bor Text) (bits : List Bool) → given ≡ Some text → bits ≡ bits_in text.now → Some bits ≡ option_map bits_in first
-  bits_read text bits is value = rw (← same, is) (ap Some value)
-
-  pub no_bits_read : given ≡ None → None ≡ option_map bits_in first
-  no_bits_read is = rw (← same, is) refl
+  pub no_text_read : given ≡ None → first ≡ None
+  no_text_read is = rw (← same, is) refl
 
   -- the value that was given, or the empty one in its place
   pub value_read : (r d : Bor Text) → r ≡ unwrap_or given d → d.now ≡ [] → r.now ≡ unwrap_or first []

@@ -1,8 +1,8 @@
 -- What the words after `drive` ask for.
-use Rattle.std.specs.Prelude.{◌≡◌, List, codes, option_map}
-use Rattle.clap.specs.Walk.{Row, first_of, one_of}
+use Rattle.std.specs.Prelude.{◌≡◌, List, codes}
+use Rattle.clap.specs.Walk.{Row, one_of}
 use Rattle.bp_machine.specs.declared.limits.TheConstants.{DEFAULT_CONTEXTS, DEFAULT_CALLS}
-use Rattle.bp_words.specs.Values.{bits_in, entries_in, value_of, IsNumberOf}
+use Rattle.bp_words.specs.Values.{entries_in, init_in, named_in, value_of, IsNumberOf}
 use Rattle.bp_words.specs.ExplainWords.{IsExplainOf}
 use Rattle.bp_words.specs.declared.drive.DriveWords.{DriveWords}
 
@@ -11,7 +11,8 @@ pub record IsDriveOf (rows : List Row) (words : DriveWords) : Type 0 where
   pub program : words.program.now ≡ value_of (codes "FILE") rows
   pub schedule : words.schedule.now ≡ value_of (codes "SCHEDULE") rows
   pub entries : words.start.entries ≡ entries_in rows
-  pub init : words.start.init ≡ option_map bits_in (first_of (codes "init") rows)
+  pub init : words.start.init ≡ init_in rows
+  pub named : words.named ≡ named_in rows
   pub contexts :
       IsNumberOf 32 DEFAULT_CONTEXTS (one_of (codes "contexts") rows) words.start.contexts
   pub calls :

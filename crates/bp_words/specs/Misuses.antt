@@ -9,7 +9,7 @@ use Rattle.clap.specs.declared.error.kind.ErrorKind.TheVariants.{ArgumentConflic
 use Rattle.clap.specs.declared.parser.matches.ValueSource.{ValueSource}
 use Rattle.clap.specs.declared.parser.matches.ValueSource.TheVariants.{CommandLine, DefaultValue}
 use Rattle.bp_test.specs.declared.limits.TheConstants.{MAX_JOBS}
-use Rattle.bp_words.specs.Values.{has_bad_bits, number_in}
+use Rattle.bp_words.specs.Values.{has_bad_init, number_in}
 use Rattle.bp_words.specs.declared.misuses.Misuse.{Misuse}
 use Rattle.bp_words.specs.declared.misuses.Misuse.TheVariants.{BadInit, ManyJobs, Together, Backwards}
 use Rattle.bp_words.specs.declared.misuses.OptionName.{OptionName}
@@ -101,7 +101,7 @@ pair_misuse None None = None
 -- what is wrong with the options of a command: the first that applies
 abbrev pub misuse_in : List Row → Option Misuse
 misuse_in rows =
-    if has_bad_bits rows then Some BadInit
+    if has_bad_init rows then Some BadInit
     else if has_many_jobs rows then Some ManyJobs
     else pair_misuse (clash_in rows) (backwards_in rows)
 

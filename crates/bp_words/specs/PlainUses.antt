@@ -80,6 +80,7 @@ IsPlainDriveOf file schedule (task.Drive words) =
     × (words.schedule.now ≡ schedule)
     × (words.explain ≡ on_terminals)
     × (words.start ≡ default_start)
+    × (words.named ≡ [])
 IsPlainDriveOf file schedule other = ⊥
 
 -- the task is to confirm the steps of that file by the program of this one, under the defaults and
@@ -91,6 +92,7 @@ IsPlainConfirmOf file steps (task.Confirm words) =
     × (words.explain ≡ on_terminals)
     × (words.contexts ≡ None)
     × (words.start ≡ default_start)
+    × (words.named ≡ [])
     × (words.json ≡ false)
 IsPlainConfirmOf file steps other = ⊥
 
@@ -101,6 +103,7 @@ IsPlainRunOf file (task.Run words) =
     × (words.spread ≡ false)
     × (words.explain ≡ on_terminals)
     × (words.options ≡ default_options)
+    × (words.named ≡ [])
 IsPlainRunOf file other = ⊥
 
 -- the task is to test the program of this file under the defaults
@@ -109,6 +112,7 @@ IsPlainTestOf file (task.Test words) =
     (words.program.now ≡ file)
     × (words.explain ≡ on_terminals)
     × (words.start ≡ default_start)
+    × (words.named ≡ [])
     × (words.seed ≡ DEFAULT_SEED)
     × (words.runs ≡ DEFAULT_RUNS)
     × (words.jobs ≡ DEFAULT_JOBS)

@@ -1,9 +1,9 @@
 -- What the words after `run` ask for.
-use Rattle.std.specs.Prelude.{◌≡◌, List, codes, option_map}
-use Rattle.clap.specs.Walk.{Row, first_of, one_of}
+use Rattle.std.specs.Prelude.{◌≡◌, List, codes}
+use Rattle.clap.specs.Walk.{Row, one_of}
 use Rattle.bp_machine.specs.declared.limits.TheConstants.{DEFAULT_CONTEXTS, DEFAULT_CALLS}
 use Rattle.bp_run.specs.declared.limits.TheConstants.{DEFAULT_TURN, DEFAULT_SEED, DEFAULT_RING}
-use Rattle.bp_words.specs.Values.{bits_in, entries_in, value_of, IsFlagOf, IsNumberOf}
+use Rattle.bp_words.specs.Values.{entries_in, init_in, named_in, value_of, IsFlagOf, IsNumberOf}
 use Rattle.bp_words.specs.ExplainWords.{IsExplainOf}
 use Rattle.bp_words.specs.declared.run.RunWords.{RunWords}
 
@@ -11,7 +11,8 @@ use Rattle.bp_words.specs.declared.run.RunWords.{RunWords}
 pub record IsRunOf (rows : List Row) (words : RunWords) : Type 0 where
   pub program : words.program.now ≡ value_of (codes "FILE") rows
   pub entries : words.options.start.entries ≡ entries_in rows
-  pub init : words.options.start.init ≡ option_map bits_in (first_of (codes "init") rows)
+  pub init : words.options.start.init ≡ init_in rows
+  pub named : words.named ≡ named_in rows
   pub contexts :
       IsNumberOf 32 DEFAULT_CONTEXTS (one_of (codes "contexts") rows) words.options.start.contexts
   pub calls :

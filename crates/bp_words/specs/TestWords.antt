@@ -1,10 +1,10 @@
 -- What the words after `test` ask for.
-use Rattle.std.specs.Prelude.{◌≡◌, ◌+◌, ℕ, List, codes, length, min, option_map}
-use Rattle.clap.specs.Walk.{Row, first_of, one_of}
+use Rattle.std.specs.Prelude.{◌≡◌, ◌+◌, ℕ, List, codes, length, min}
+use Rattle.clap.specs.Walk.{Row, one_of}
 use Rattle.bp_machine.specs.declared.limits.TheConstants.{DEFAULT_CALLS, MAX_THREADS}
 use Rattle.bp_run.specs.declared.limits.TheConstants.{DEFAULT_SEED}
 use Rattle.bp_test.specs.declared.limits.TheConstants.{DEFAULT_JOBS, DEFAULT_RUNS}
-use Rattle.bp_words.specs.Values.{bits_in, entries_in, value_of, IsFlagOf, IsNumberOf}
+use Rattle.bp_words.specs.Values.{entries_in, init_in, named_in, value_of, IsFlagOf, IsNumberOf}
 use Rattle.bp_words.specs.ExplainWords.{IsExplainOf}
 use Rattle.bp_words.specs.declared.test.TestWords.{TestWords}
 
@@ -16,7 +16,8 @@ contexts_for threads = min threads MAX_THREADS + 1
 pub record IsTestOf (rows : List Row) (words : TestWords) : Type 0 where
   pub program : words.program.now ≡ value_of (codes "FILE") rows
   pub entries : words.start.entries ≡ entries_in rows
-  pub init : words.start.init ≡ option_map bits_in (first_of (codes "init") rows)
+  pub init : words.start.init ≡ init_in rows
+  pub named : words.named ≡ named_in rows
   pub contexts :
       IsNumberOf 32 (contexts_for (length words.start.entries)) (one_of (codes "contexts") rows)
       words.start.contexts

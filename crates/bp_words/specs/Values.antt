@@ -5,6 +5,8 @@ use Rattle.std.specs.Option.{option_map_or}
 use Rattle.std.specs.Str.Parse.{IsNumeral, digits_value, without_leading_plus}
 use Rattle.clap.specs.ValueTests.{is_numeral}
 use Rattle.clap.specs.Walk.{Row, Text, all_of, first_of}
+use Rattle.bp_init.specs.NamedBits.{NamedBitOf}
+use Rattle.bp_init.specs.Texts.{are_named_bits, gives_names, named_bits}
 
 -- the value of an argument, empty where it has none
 abbrev pub value_of : Text → List Row → Text
@@ -61,6 +63,26 @@ bits_in text = map (λ b. b == 49) text
 abbrev pub entries_in : List Row → List Text
 entries_in rows = unwrap_or (all_of (codes "ENTRY") rows) (codes "main" ∷ [])
 
--- the initial bits have another character than 0 and 1
-abbrev pub has_bad_bits : List Row → Bool
-has_bad_bits rows = option_map_or (λ t. not (is_bits t)) (first_of (codes "init") rows) false
+-- the bits that a text gives in order of declaration, unless it gives them by name
+abbrev pub bits_given : Text → Option (List Bool)
+bits_given text = if gives_names text then None else Some (bits_in text)
+
+-- the globals to which a text gives bits by name
+abbrev pub names_given : Text → List NamedBitOf
+names_given text = if gives_names text then named_bits text else []
+
+-- a text is bits, or gives names bits
+abbrev pub is_init : Text → Bool
+is_init text = if gives_names text then are_named_bits text else is_bits text
+
+-- the initial bits, where they are given in order of declaration
+abbrev pub init_in : List Row → Option (List Bool)
+init_in rows = option_and_then bits_given (first_of (codes "init") rows)
+
+-- the globals whose initial bits are given by name
+abbrev pub named_in : List Row → List NamedBitOf
+named_in rows = option_map_or names_given (first_of (codes "init") rows) []
+
+-- the initial bits are neither bits nor names with bits
+abbrev pub has_bad_init : List Row → Bool
+has_bad_init rows = option_map_or (λ t. not (is_init t)) (first_of (codes "init") rows) false

@@ -6,7 +6,8 @@ ghost use Rattle.bp_words.specs.ConfirmWords.{IsConfirmOf};
 use crate::arguments::{Row, Takes};
 use crate::explain::{ExplainWords, explain_words};
 use crate::rows::{CALLS, ENTRY, INIT};
-use crate::values::{entries, given_number, init, is_given, number};
+use crate::values::{entries, given_number, init, is_given, named, number};
+use bp_init::NamedBits;
 use bp_machine::Start;
 use bp_machine::limits::{DEFAULT_CALLS, DEFAULT_CONTEXTS};
 use clap::ArgMatches;
@@ -26,6 +27,8 @@ pub struct ConfirmWords<'a> {
     /// The number of contexts, if one is given.
     pub contexts: Option<u32>,
     pub start: Start,
+    /// The globals whose initial bits are given by name.
+    pub named: NamedBits<'a>,
 }
 
 /// What help says of the command first.
@@ -85,5 +88,6 @@ pub fn confirm_words<'a>(
             contexts: number(words, "contexts", DEFAULT_CONTEXTS),
             calls: number(words, "calls", DEFAULT_CALLS),
         },
+        named: named(alloc, words)?,
     })
 }

@@ -6,7 +6,8 @@ ghost use Rattle.bp_words.specs.DriveWords.{IsDriveOf};
 use crate::arguments::{Row, Takes};
 use crate::explain::{ExplainWords, explain_words};
 use crate::rows::{CALLS, CONTEXTS, ENTRY, INIT};
-use crate::values::{entries, init, number};
+use crate::values::{entries, init, named, number};
+use bp_init::NamedBits;
 use bp_machine::Start;
 use bp_machine::limits::{DEFAULT_CALLS, DEFAULT_CONTEXTS};
 use clap::ArgMatches;
@@ -22,6 +23,8 @@ pub struct DriveWords<'a> {
     /// When a fault is explained.
     pub explain: ExplainWords,
     pub start: Start,
+    /// The globals whose initial bits are given by name.
+    pub named: NamedBits<'a>,
 }
 
 /// What help says of the command first.
@@ -64,5 +67,6 @@ pub fn drive_words<'a>(alloc: Global, words: &ArgMatches<'a>) -> Result<DriveWor
             contexts: number(words, "contexts", DEFAULT_CONTEXTS),
             calls: number(words, "calls", DEFAULT_CALLS),
         },
+        named: named(alloc, words)?,
     })
 }

@@ -3,7 +3,7 @@ ghost use Rattle.std.specs.Prelude.{◌≡◌};
 ghost use Rattle.clap.specs.Words.{found_of, kind_of, rows_of, subcommand_rows_of};
 ghost use Rattle.bp_words.specs.Misuses.{are_in_words, are_many, backwards_in, clash_in, descending, has_many_jobs, is_from_words, is_in_words, misuse_in, misuse_kind, misuse_of, option_name};
 
-use crate::values::{given_long_number, given_number, has_bad_bits};
+use crate::values::{given_long_number, given_number, has_bad_init};
 use bp_test::limits::MAX_JOBS;
 use clap::ArgMatches;
 use clap::error::ErrorKind;
@@ -32,7 +32,7 @@ pub enum OptionName {
 /// What is wrong with options that are lawful one by one.
 #[derive(Clone, Copy, Debug, PartialEq, Eq)]
 pub enum Misuse {
-    /// The initial bits have another character than 0 and 1.
+    /// The initial bits are neither bits nor different names with bits.
     BadInit,
     /// More blocks of runs are to be made side by side than there may be.
     ManyJobs,
@@ -174,7 +174,7 @@ fn backwards_in(words: &ArgMatches<'_>) -> Option<(u64, u64)>
 fn misuse_in(words: &ArgMatches<'_>) -> Option<Misuse>
     ensures { result ≡ misuse_in (rows_of (found_of words.now)) }
 {
-    if has_bad_bits(words) {
+    if has_bad_init(words) {
         return Some(Misuse::BadInit);
     }
     if has_many_jobs(words) {
@@ -211,7 +211,10 @@ pub fn misuse_kind(misuse: Misuse) -> ErrorKind
 pub fn misuse_text(alloc: Global, misuse: Misuse) -> Result<String, AllocError> {
     match misuse {
         Misuse::BadInit => {
-            format!(in alloc; "the value of '--init' has a character other than 0 and 1")
+            format!(in alloc;
+                "the value of '--init' is neither bits, as 10, nor \
+                different globals with bits, as valid=1,freed=0"
+            )
         }
         Misuse::ManyJobs => format!(in alloc; "--jobs takes 0 to {MAX_JOBS}"),
         Misuse::Together(first, second) => {

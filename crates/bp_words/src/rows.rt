@@ -48,5 +48,5 @@ pub const CALLS: Row<'static> = Row {
 pub const INIT: Row<'static> = Row {
     name: "init",
     takes: Takes::Text("BITS"),
-    help: "Set the initial bits of the globals, each 0 or 1 [default: all 0]",
+    help: "Set globals' initial bits, 01 or x=1,y=0 [default: all 0]",
 };

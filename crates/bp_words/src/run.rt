@@ -6,7 +6,8 @@ ghost use Rattle.bp_words.specs.RunWords.{IsRunOf};
 use crate::arguments::{Row, Takes};
 use crate::explain::{ExplainWords, explain_words};
 use crate::rows::{CALLS, CONTEXTS, ENTRY, INIT};
-use crate::values::{entries, init, is_given, long_number, number};
+use crate::values::{entries, init, is_given, long_number, named, number};
+use bp_init::NamedBits;
 use bp_machine::Start;
 use bp_machine::limits::{DEFAULT_CALLS, DEFAULT_CONTEXTS};
 use bp_run::RunOptions;
@@ -25,6 +26,8 @@ pub struct RunWords<'a> {
     pub explain: ExplainWords,
     /// What the run starts from.
     pub options: RunOptions,
+    /// The globals whose initial bits are given by name.
+    pub named: NamedBits<'a>,
 }
 
 /// What help says of the command first.
@@ -93,5 +96,6 @@ pub fn run_words<'a>(alloc: Global, words: &ArgMatches<'a>) -> Result<RunWords<'
             seed: long_number(words, "seed", DEFAULT_SEED),
             ring: number(words, "ring", DEFAULT_RING),
         },
+        named: named(alloc, words)?,
     })
 }

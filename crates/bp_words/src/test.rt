@@ -6,7 +6,8 @@ ghost use Rattle.bp_words.specs.TestWords.{contexts_for, IsTestOf};
 use crate::arguments::{Row, Takes};
 use crate::explain::{ExplainWords, explain_words};
 use crate::rows::{CALLS, ENTRY, INIT};
-use crate::values::{entries, init, is_given, long_number, number};
+use crate::values::{entries, init, is_given, long_number, named, number};
+use bp_init::NamedBits;
 use bp_machine::Start;
 use bp_machine::limits::{DEFAULT_CALLS, MAX_THREADS};
 use bp_run::limits::DEFAULT_SEED;
@@ -23,6 +24,8 @@ pub struct TestWords<'a> {
     pub explain: ExplainWords,
     /// What each run starts from.
     pub start: Start,
+    /// The globals whose initial bits are given by name.
+    pub named: NamedBits<'a>,
     /// The seed of the first run. Each other run has the seed after that of the run before it.
     pub seed: u64,
     /// How many runs there are at most.
@@ -123,6 +126,7 @@ pub fn test_words<'a>(alloc: Global, words: &ArgMatches<'a>) -> Result<TestWords
             contexts: number(words, "contexts", contexts),
             calls: number(words, "calls", DEFAULT_CALLS),
         },
+        named: named(alloc, words)?,
         seed: long_number(words, "seed", DEFAULT_SEED),
         runs: long_number(words, "runs", DEFAULT_RUNS),
         jobs: number(words, "jobs", DEFAULT_JOBS),

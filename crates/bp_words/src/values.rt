@@ -1,8 +1,9 @@
 //! The values of arguments.
 ghost use Rattle.std.specs.Prelude.{◌≡◌, codes, map, string_bytes, option_map, IfOk};
 ghost use Rattle.clap.specs.Words.{first_of, found_of, one_of, rows_of};
-ghost use Rattle.bp_words.specs.Values.{bits_in, entries_in, has_bad_bits, is_bits, IsFlagOf, IsNumberIn, IsNumberOf};
+ghost use Rattle.bp_words.specs.Values.{bits_given, bits_in, entries_in, has_bad_init, init_in, is_bits, is_init, named_in, names_given, IsFlagOf, IsNumberIn, IsNumberOf};
 
+use bp_init::{NamedBits, are_named_bits, gives_names, named_bits};
 use bp_machine::limits::DEFAULT_ENTRY;
 use clap::ArgMatches;
 use std::alloc::{AllocError, Global};
@@ -46,14 +47,44 @@ fn bits(alloc: Global, text: &str) -> Result<Vec<bool>, AllocError>
     Ok(bits)
 }
 
-/// The initial bits, where they are given.
+/// The bits that a text gives in order of declaration, unless it gives them by name.
+fn bits_given(alloc: Global, text: &str) -> Result<Option<Vec<bool>>, AllocError>
+    ensures { IfOk result (λ o. option_map (λ v. v.items) o ≡ bits_given text.now) }
+{
+    if gives_names(text) {
+        return Ok(None);
+    }
+    Ok(Some(bits(alloc, text)?))
+}
+
+/// The initial bits, where they are given in order of declaration.
 pub fn init(alloc: Global, words: &ArgMatches<'_>) -> Result<Option<Vec<bool>>, AllocError>
-    ensures { let given = first_of (codes "init") (rows_of (found_of words.now)) in
-        IfOk result (λ o. option_map (λ v. v.items) o ≡ option_map bits_in given) }
+    ensures { IfOk result
+        (λ o. option_map (λ v. v.items) o ≡ init_in (rows_of (found_of words.now))) }
 {
     match words.get_str("init") {
-        Some(text) => Ok(Some(bits(alloc, text)?)),
+        Some(text) => bits_given(alloc, text),
         None => Ok(None),
+    }
+}
+
+/// The globals to which a text gives bits by name.
+fn names_given(alloc: Global, text: &str) -> Result<NamedBits<'_>, AllocError>
+    ensures { IfOk result (λ n. n ≡ names_given text.now) }
+{
+    if gives_names(text) {
+        return named_bits(alloc, text);
+    }
+    Ok(NamedBits::none(alloc))
+}
+
+/// The globals whose initial bits are given by name.
+pub fn named<'a>(alloc: Global, words: &ArgMatches<'a>) -> Result<NamedBits<'a>, AllocError>
+    ensures { IfOk result (λ n. n ≡ named_in (rows_of (found_of words.now))) }
+{
+    match words.get_str("init") {
+        Some(text) => names_given(alloc, text),
+        None => Ok(NamedBits::none(alloc)),
     }
 }
 
@@ -91,12 +122,22 @@ pub fn is_given(words: &ArgMatches<'_>, name: &str) -> bool
     words.get_flag(name)
 }
 
-/// Whether the initial bits have another character than 0 and 1.
-pub fn has_bad_bits(words: &ArgMatches<'_>) -> bool
-    ensures { result ≡ has_bad_bits (rows_of (found_of words.now)) }
+/// Whether a text is bits, or gives names bits.
+fn is_init(text: &str) -> bool
+    ensures { result ≡ is_init text.now }
+{
+    if gives_names(text) {
+        return are_named_bits(text);
+    }
+    is_bits(text)
+}
+
+/// Whether the initial bits are neither bits nor names with bits.
+pub fn has_bad_init(words: &ArgMatches<'_>) -> bool
+    ensures { result ≡ has_bad_init (rows_of (found_of words.now)) }
 {
     match words.get_str("init") {
-        Some(text) => !is_bits(text),
+        Some(text) => !is_init(text),
         None => false,
     }
 }

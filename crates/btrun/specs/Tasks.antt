@@ -1,8 +1,8 @@
 -- What a run does, by the task that its words ask for.
 use Rattle.std.specs.Prelude.{if◌then◌else◌, ℕ, Bool, true, false, List, Option, None, Some}
 use Rattle.bp_commands.specs.Checks.{checks}
-use Rattle.bp_commands.specs.Confirms.{confirms, of_confirm}
-use Rattle.bp_commands.specs.Drives.{drives}
+use Rattle.bp_commands.specs.Confirms.{confirms_by_names, of_confirm}
+use Rattle.bp_commands.specs.Drives.{drives_by_names}
 use Rattle.bp_commands.specs.declared.explanations.Beside.TheVariants.{Schedule, Steps, Trace}
 use Rattle.bp_commands.specs.declared.coding.ListingForm.{ListingForm}
 use Rattle.bp_commands.specs.declared.coding.ListingForm.TheVariants as listing
@@ -11,9 +11,9 @@ use Rattle.bp_commands.specs.declared.fault_formats.FaultFormat.{FaultFormat}
 use Rattle.bp_commands.specs.declared.fault_formats.FaultFormat.TheVariants as fault
 use Rattle.bp_commands.specs.Jobs.{on_bundle, on_file, on_files, Job}
 use Rattle.bp_commands.specs.Listings.{lists}
-use Rattle.bp_commands.specs.Runs.{runs}
+use Rattle.bp_commands.specs.Runs.{runs_by_names}
 use Rattle.bp_commands.specs.Shrinks.{shrinks}
-use Rattle.bp_commands.specs.Tests.{of_test, tests}
+use Rattle.bp_commands.specs.Tests.{of_test, tests_by_names}
 use Rattle.bp_commands.specs.Traces.{migrates, replays, shows_as}
 use Rattle.bp_confirm.specs.declared.context_bounds.ContextBound.{ContextBound}
 use Rattle.bp_confirm.specs.declared.context_bounds.ContextBound.TheVariants.{Kept, AsUsed}
@@ -96,21 +96,23 @@ module _ (bytes : List ℕ → Option (List ℕ)) (screen : Screen) (on_terminal
   abbrev pub run_job : RunWords → Job
   run_job words =
       let format = fault_format false words.explain on_terminal in
-      on_file bytes format (runs words.options) of_run words.program.now
+      let command = runs_by_names words.options words.named in
+      on_file bytes format command of_run words.program.now
 
   -- the program of a file is tested as these words ask for
   abbrev pub test_job : TestWords → Job
   test_job words =
       let format = fault_format words.json words.explain on_terminal in
       let listed = listed_if words.unreached words.program.now in
-      let command = tests words.start (test_options words) listed words.json in
+      let options = test_options words in
+      let command = tests_by_names words.start words.named options listed words.json in
       on_file bytes format command of_test words.program.now
 
   -- the steps of a file are confirmed as these words ask for
   abbrev pub confirm_job : ConfirmWords → Job
   confirm_job words =
       let format = fault_format words.json words.explain on_terminal in
-      let command = confirms words.start (bound_of words) in
+      let command = confirms_by_names words.start words.named (bound_of words) in
       on_files bytes format command of_confirm MAX_SCHEDULE Steps words.program.now words.steps.now
 
   -- the trace of a file is shown as these words ask for
@@ -132,7 +134,7 @@ module _ (bytes : List ℕ → Option (List ℕ)) (screen : Screen) (on_terminal
       on_file bytes format (lists (listing_form words)) never words.program.now
   job_of input (Drive words) =
       let format = fault_format false words.explain on_terminal in
-      let command = drives words.start in
+      let command = drives_by_names words.start words.named in
       on_files
       bytes format command of_report MAX_SCHEDULE Schedule words.program.now words.schedule.now
   job_of input (Confirm words) = confirm_job words

@@ -10,6 +10,7 @@ use bp_commands::{
     run_on_bundle, run_on_pair, run_on_program,
 };
 use bp_confirm::ContextBound;
+use bp_init::NamedStart;
 use bp_run::{Open, Spread};
 use bp_test::{Progress, TestOptions};
 use bp_view::{ViewFormat, ViewOptions};
@@ -71,15 +72,20 @@ fn run_as_asked<F: Files, T: Threads + Wait + Clock + Sync, W: Write + Drop, E: 
         IsRun job written result.0 }
 {
     let Io { alloc, files, .. } = io;
-    let (options, path) = (&words.options, words.program);
+    let (options, named, path) = (&words.options, &words.named, words.program);
     let format = fault_format(false, words.explain, io.on_terminal);
     if words.spread {
         let gate = &Spread::new(options.seed, options.start.entries.len());
-        let workers = Workers { options, gate };
+        let workers = Workers {
+            options,
+            named,
+            gate,
+        };
         run_by_workers(alloc, files, threads, &workers, path, format, out, errors)
     } else {
         let workers = Workers {
             options,
+            named,
             gate: &Open,
         };
         run_by_workers(alloc, files, threads, &workers, path, format, out, errors)
@@ -117,7 +123,10 @@ fn test_as_asked<F: Files, T: Threads + Sync, P: Progress, W: Write + Drop, E: W
     let test = Test {
         runtime: threads,
         progress,
-        start: &words.start,
+        start: NamedStart {
+            start: &words.start,
+            named: &words.named,
+        },
         options: test_options(words),
         listed: words.unreached.then_some(words.program),
         json: words.json,
@@ -161,7 +170,10 @@ fn confirm_as_asked<F: Files, W: Write + Drop, E: Write>(
     let Io { alloc, files, .. } = io;
     let format = fault_format(words.json, words.explain, io.on_terminal);
     let confirm = Confirm {
-        start: &words.start,
+        start: NamedStart {
+            start: &words.start,
+            named: &words.named,
+        },
         bound: bound_of(words),
     };
     let (path, steps) = (words.program, words.steps);
@@ -330,7 +342,10 @@ pub fn do_task<
         Task::Drive(words) => {
             let format = fault_format(false, words.explain, io.on_terminal);
             let (path, schedule) = (words.program, words.schedule);
-            let start = &words.start;
+            let start = NamedStart {
+                start: &words.start,
+                named: &words.named,
+            };
             run_on_pair(
                 alloc,
                 files,

@@ -10,6 +10,7 @@ returns c = record {
   schedule = value_read _ _ (c.get_str-2.ensures ∙ first_value-rows (found_of c.args.words.now) (codes "SCHEDULE")) c.unwrap_or-2.result _ c.unwrap_or-2.ensures refl;
   entries = c.in_ok-entries.ensures;
   init = c.in_ok-init.ensures;
+  named = c.in_ok-named.ensures;
   contexts = c.number.ensures;
   calls = c.number-2.ensures;
   explain = c.explain_words.ensures;

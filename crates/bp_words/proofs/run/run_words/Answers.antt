@@ -9,6 +9,7 @@ returns c = record {
   program = value_read _ _ (c.get_str.ensures ∙ first_value-rows (found_of c.args.words.now) (codes "FILE")) c.unwrap_or.result _ c.unwrap_or.ensures refl;
   entries = c.in_ok-entries.ensures;
   init = c.in_ok-init.ensures;
+  named = c.in_ok-named.ensures;
   contexts = c.number.ensures;
   calls = c.number-2.ensures;
   turn = c.number-3.ensures;

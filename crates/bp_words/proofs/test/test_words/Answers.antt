@@ -21,6 +21,7 @@ returns c =
       program = value_read _ _ (c.get_str.ensures ∙ first_value-rows (found_of c.args.words.now) (codes "FILE")) c.unwrap_or.result _ c.unwrap_or.ensures refl;
       entries = c.in_ok-entries.ensures;
       init = c.in_ok-init.ensures;
+      named = c.in_ok-named.ensures;
       contexts = subst (λ d. IsNumberOf 32 d (one_of (codes "contexts") (rows_of (found_of c.args.words.now))) c.number.result) default c.number.ensures;
       calls = c.number-2.ensures;
       seed = c.long_number.ensures;

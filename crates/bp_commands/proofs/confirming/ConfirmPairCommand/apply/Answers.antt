@@ -1,37 +1,21 @@
-use Rattle.std.proofs.Common.{inl, refl}
 use Rattle.std.proofs.lemmas.Result.{err_from_is_err_and}
-use Rattle.bp_commands.specs.Confirms.{confirms}
 use Rattle.bp_commands.specs.Given.{Pair}
-use Rattle.bp_commands.proofs.Answered.{refused_with}
-use Rattle.bp_commands.proofs.ConfirmedSteps.{confirmed, refused, setup_refused}
+use Rattle.bp_commands.specs.Confirms.{confirms}
+use Rattle.bp_commands.proofs.AnswersByNames.{answers_found, answers_start, names_refused}
 use Rattle.bp_commands.proofs.confirming.ConfirmPairCommand.apply.Goals as goal
 
-pub returns-in_err-checked : goal.returns-in_err-checked
-returns-in_err-checked g c =
+pub returns-in_err-found : goal.returns-in_err-found
+returns-in_err-found g c =
     let p = err_from_is_err_and c.from_residual.result c.from_residual.ensures.1 in
-    let given : Pair = record { text = c.args.text.now; input = c.args.steps.now } in
-    rw (p.1, p.2) (refused_with (confirms c.args.self.now.start.now c.args.self.now.bound) given _ _ (inl (record { cause = c.in_err-checked.field-0.0; why = c.in_err-checked.ensures; is = refl })))
+    let why = c.in_err-found.ensures in
+    rw (p.1, p.2) (names_refused (λ (p : Pair). p.text) c.args.self.now.start.start.now (λ s. confirms s c.args.self.now.bound) (record { text = c.args.text.now; input = c.args.steps.now }) _ c.args.self.now.start.named.now why.0 c.in_err-found.field-0.0 why.1)
 
-pub returns-in_err-setup : goal.returns-in_err-setup
-returns-in_err-setup g c =
-    let p = err_from_is_err_and c.from_residual-in_err-setup.result c.from_residual-in_err-setup.ensures.1 in
-    let of = c.in_ok-checked.ensures in
-    let given : Pair = record { text = c.args.text.now; input = c.args.steps.now } in
-    rw (p.1, p.2) (setup_refused c.args.self.now.start.now c.args.self.now.bound given c.in_ok-checked.checked of.0 _
-    c.in_err-setup.field-0.0 (c.in_err-setup.ensures.answer c.in_ok-checked.checked of.1))
+pub returns-in-Some : goal.returns-in-Some
+returns-in-Some g c =
+    let found = rw c.in-Some.is at c.in_ok-found.ensures in
+    answers_found (λ (p : Pair). p.text) c.args.self.now.start.start.now (λ s. confirms s c.args.self.now.bound) (record { text = c.args.text.now; input = c.args.steps.now }) _ _ c.args.self.now.start.named.now found.0 _ found.1 c.confirm_from.result c.confirm_from.ensures
 
-pub returns-in_err-report : goal.returns-in_err-report
-returns-in_err-report g c =
-    let p = err_from_is_err_and c.from_residual-in_err-report.result c.from_residual-in_err-report.ensures.1 in
-    let of = c.in_ok-checked.ensures in
-    let given : Pair = record { text = c.args.text.now; input = c.args.steps.now } in
-    let setup = c.in_ok-setup.ensures.answer c.in_ok-checked.checked of.1 in
-    rw (p.1, p.2) (refused c.args.self.now.start.now c.args.self.now.bound given c.in_ok-checked.checked of.0 _ setup.0 setup.1 _ _
-    c.in_err-report.field-0.0 c.in_err-report.ensures)
-
-pub returns : goal.returns
-returns g c =
-    let of = c.in_ok-checked.ensures in
-    let given : Pair = record { text = c.args.text.now; input = c.args.steps.now } in
-    let setup = c.in_ok-setup.ensures.answer c.in_ok-checked.checked of.1 in
-    confirmed c.args.self.now.start.now c.args.self.now.bound given c.in_ok-checked.checked of.0 _ setup.0 setup.1 _ _ _ c.in_ok-report.ensures
+pub returns-in-None : goal.returns-in-None
+returns-in-None g c =
+    let none = rw c.in-None.is at c.in_ok-found.ensures in
+    answers_start (λ (p : Pair). p.text) c.args.self.now.start.start.now (λ s. confirms s c.args.self.now.bound) (record { text = c.args.text.now; input = c.args.steps.now }) _ _ c.args.self.now.start.named.now none c.confirm_from-in-None.result c.confirm_from-in-None.ensures

@@ -1,25 +1,21 @@
 use Rattle.std.proofs.lemmas.Result.{err_from_is_err_and}
-use Rattle.bp_commands.proofs.Driven.{driven, not_driven, setup_refused}
+use Rattle.bp_commands.specs.Given.{Pair}
+use Rattle.bp_commands.specs.Drives.{drives}
+use Rattle.bp_commands.proofs.AnswersByNames.{answers_found, answers_start, names_refused}
 use Rattle.bp_commands.proofs.driving.DrivePairCommand.apply.Goals as goal
 
-pub returns-in_err-drive : goal.returns-in_err-drive
-returns-in_err-drive g c =
-    let p = err_from_is_err_and c.from_residual-in_err-drive.result c.from_residual-in_err-drive.ensures.1 in
-    let code = c.in_ok-code.ensures in
-    let setup = c.in_ok-setup.ensures.answer code.program code.stands in
-    rw (p.1, p.2) (not_driven c.args.self.now.start.now (record { text = c.args.text.now; input = c.args.schedule.now }) _ code _ setup.0 setup.1 _ _
-    c.in_err-drive.field-0.0 (c.in_err-drive.ensures code.program code.stands))
+pub returns-in_err-found : goal.returns-in_err-found
+returns-in_err-found g c =
+    let p = err_from_is_err_and c.from_residual.result c.from_residual.ensures.1 in
+    let why = c.in_err-found.ensures in
+    rw (p.1, p.2) (names_refused (λ (p : Pair). p.text) c.args.self.now.start.start.now drives (record { text = c.args.text.now; input = c.args.schedule.now }) _ c.args.self.now.start.named.now why.0 c.in_err-found.field-0.0 why.1)
 
-pub returns : goal.returns
-returns g c =
-    let code = c.in_ok-code.ensures in
-    let setup = c.in_ok-setup.ensures.answer code.program code.stands in
-    driven c.args.self.now.start.now (record { text = c.args.text.now; input = c.args.schedule.now }) _ code _ setup.0 setup.1 _ _
-    c.in_ok-drive.field-0 (c.in_ok-drive.ensures code.program code.stands)
+pub returns-in-Some : goal.returns-in-Some
+returns-in-Some g c =
+    let found = rw c.in-Some.is at c.in_ok-found.ensures in
+    answers_found (λ (p : Pair). p.text) c.args.self.now.start.start.now drives (record { text = c.args.text.now; input = c.args.schedule.now }) _ _ c.args.self.now.start.named.now found.0 _ found.1 c.drive_from.result c.drive_from.ensures
 
-pub returns-in_err-setup : goal.returns-in_err-setup
-returns-in_err-setup g c =
-    let p = err_from_is_err_and c.from_residual-in_err-setup.result c.from_residual-in_err-setup.ensures.1 in
-    let code = c.in_ok-code.ensures in
-    rw (p.1, p.2) (setup_refused c.args.self.now.start.now (record { text = c.args.text.now; input = c.args.schedule.now }) _ code _
-    c.in_err-setup.field-0.0 (c.in_err-setup.ensures.answer code.program code.stands))
+pub returns-in-None : goal.returns-in-None
+returns-in-None g c =
+    let none = rw c.in-None.is at c.in_ok-found.ensures in
+    answers_start (λ (p : Pair). p.text) c.args.self.now.start.start.now drives (record { text = c.args.text.now; input = c.args.schedule.now }) _ _ c.args.self.now.start.named.now none c.drive_from-in-None.result c.drive_from-in-None.ensures

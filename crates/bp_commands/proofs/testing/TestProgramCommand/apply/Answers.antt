@@ -1,34 +1,20 @@
-use Rattle.std.proofs.Common.{refl}
 use Rattle.std.proofs.lemmas.Result.{err_from_is_err_and}
-use Rattle.bp_commands.proofs.TestAnswers.{done, refused, setup_refused, lacks_memory}
+use Rattle.bp_commands.specs.Tests.{name_of, tests}
+use Rattle.bp_commands.proofs.AnswersByNames.{answers_found, answers_start, names_refused}
 use Rattle.bp_commands.proofs.testing.TestProgramCommand.apply.Goals as goal
 
-pub returns-in_err-setup : goal.returns-in_err-setup
-returns-in_err-setup g c =
-    let p = err_from_is_err_and c.from_residual-in_err-setup.result c.from_residual-in_err-setup.ensures.1 in
-    let of = c.in_ok-checked.ensures in
-    rw (p.1, p.2) (setup_refused c.args.self.now.start.now c.args.self.now.options _ c.args.self.now.json c.args.text.now c.in_ok-checked.checked of.0 _
-    c.in_err-setup.field-0.0 (c.in_err-setup.ensures.answer c.in_ok-checked.checked of.1))
+pub returns-in_err-found : goal.returns-in_err-found
+returns-in_err-found g c =
+    let p = err_from_is_err_and c.from_residual.result c.from_residual.ensures.1 in
+    let why = c.in_err-found.ensures in
+    rw (p.1, p.2) (names_refused (λ text. text) c.args.self.now.start.start.now (λ s. tests s c.args.self.now.options (name_of c.args.self.now.listed) c.args.self.now.json) c.args.text.now _ c.args.self.now.start.named.now why.0 c.in_err-found.field-0.0 why.1)
 
-pub returns-in_err-described : goal.returns-in_err-described
-returns-in_err-described g c =
-    let p = err_from_is_err_and c.from_residual-in_err-described.result c.from_residual-in_err-described.ensures.1 in
-    let of = c.in_ok-checked.ensures in
-    let setup = c.in_ok-setup.ensures.answer c.in_ok-checked.checked of.1 in
-    let out = g.W.Write.contents c.args.out.now in
-    rw (p.1, p.2) (lacks_memory c.args.self.now.start.now c.args.self.now.options _ c.args.self.now.json c.args.text.now c.in_ok-checked.checked of.0 _ setup.0 setup.1 out out out)
+pub returns-in-Some : goal.returns-in-Some
+returns-in-Some g c =
+    let found = rw c.in-Some.is at c.in_ok-found.ensures in
+    answers_found (λ text. text) c.args.self.now.start.start.now (λ s. tests s c.args.self.now.options (name_of c.args.self.now.listed) c.args.self.now.json) c.args.text.now _ _ c.args.self.now.start.named.now found.0 _ found.1 c.test_from.result c.test_from.ensures
 
-pub returns-in_err-tested : goal.returns-in_err-tested
-returns-in_err-tested g c =
-    let p = err_from_is_err_and c.from_residual-in_err-tested.result c.from_residual-in_err-tested.ensures.1 in
-    let of = c.in_ok-checked.ensures in
-    let setup = c.in_ok-setup.ensures.answer c.in_ok-checked.checked of.1 in
-    rw (p.1, p.2) (refused c.args.self.now.start.now c.args.self.now.options _ c.args.self.now.json c.args.text.now c.in_ok-checked.checked of.0 _ setup.0 setup.1 _ _
-    c.in_err-tested.field-0.0 (c.in_err-tested.ensures c.in_ok-checked.checked of.1))
-
-pub returns : goal.returns
-returns g c =
-    let of = c.in_ok-checked.ensures in
-    let setup = c.in_ok-setup.ensures.answer c.in_ok-checked.checked of.1 in
-    done c.args.self.now.start.now c.args.self.now.options _ c.args.self.now.json c.args.text.now c.in_ok-checked.checked of.0 _ setup.0 setup.1 _ _
-    c.in_ok-tested.tested (c.in_ok-tested.ensures c.in_ok-checked.checked of.1) _ refl refl refl c.in_ok-described.ensures.positions c.in_ok-described.ensures.statements refl c.counts-counts.ensures (rw c.contexts.ensures at c.notes_of-notes.ensures) refl refl c.in_ok-described.ensures.lines
+pub returns-in-None : goal.returns-in-None
+returns-in-None g c =
+    let none = rw c.in-None.is at c.in_ok-found.ensures in
+    answers_start (λ text. text) c.args.self.now.start.start.now (λ s. tests s c.args.self.now.options (name_of c.args.self.now.listed) c.args.self.now.json) c.args.text.now _ _ c.args.self.now.start.named.now none c.test_from-in-None.result c.test_from-in-None.ensures

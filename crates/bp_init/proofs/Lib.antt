@@ -1,0 +1,3 @@
+mod FirstPieces
+mod NamedValues
+mod PiecesLeft

@@ -1,0 +1,4 @@
+pub mod NamedBits
+pub mod Pieces
+pub mod Starts
+pub mod Texts
