@@ -1,3 +1,2 @@
-mod FirstPieces
 mod NamedValues
-mod PiecesLeft
+pub mod PiecesLeft

@@ -1,4 +1,3 @@
 pub mod NamedBits
-pub mod Pieces
 pub mod Starts
 pub mod Texts

@@ -2,7 +2,7 @@
 use Rattle.std.specs.Prelude.{◌==◌, ◌-◌, ◌&&◌, ◌||◌, ℕ, Bool, true, false, not, List, [], ◌∷◌, bytes_eq, codes, length, map, take, drop}
 use Rattle.std.specs.List.{list_any}
 use Rattle.bp_init.specs.NamedBits.{NamedBitOf, named_bit}
-use Rattle.bp_init.specs.Pieces.{pieces}
+use Rattle.bp_source.specs.Lists.{pieces}
 
 -- a text gives bits by name if it has an equals sign
 abbrev pub gives_names : List ℕ → Bool

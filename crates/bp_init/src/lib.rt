@@ -2,7 +2,6 @@
 #![tactic(auto)]
 
 mod names;
-mod pieces;
 mod starts;
 mod texts;
 

@@ -1,11 +1,11 @@
 //! The text that gives globals their initial bits by name, as `valid=1,freed=0`.
 ghost use Rattle.std.specs.Prelude.{◌≡◌, IfOk};
 ghost use Rattle.bp_init.specs.NamedBits.{named_bit};
-ghost use Rattle.bp_init.specs.Pieces.{pieces_left};
+ghost use Rattle.bp_source.specs.Lists.{pieces_left};
 ghost use Rattle.bp_init.specs.Texts.{are_named_bits, ending_of, gives_names, is_named_bit, is_named_in, name_in, named_bit_in, named_bits};
 
 use crate::names::{NamedBit, NamedBits};
-use crate::pieces::first_piece;
+use bp_source::first_piece;
 use bp_text::{part_before, part_from};
 use std::alloc::{AllocError, Global};
 

@@ -1,6 +1,7 @@
 pub mod AmongNames
 pub mod CodeObjects
 pub mod DecidersOfPlaces
+pub mod FirstPieces
 pub mod GotItems
 pub mod JoinedPieces
 pub mod OneStatement

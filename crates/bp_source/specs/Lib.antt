@@ -2,6 +2,7 @@ pub mod Assertions
 pub mod JsonListings
 pub mod JsonPlaces
 pub mod Listings
+pub mod Lists
 pub mod Names
 pub mod Places
 pub mod Procedures

@@ -11,7 +11,6 @@ pub mod DecidedDeadlocks
 pub mod EqualWaits
 pub mod FailedConditions
 pub mod FailedStatements
-pub mod FirstPieces
 pub mod FramesOfTops
 pub mod JoinedTexts
 pub mod LastReplies

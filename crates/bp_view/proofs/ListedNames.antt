@@ -7,7 +7,8 @@ use Rattle.std.proofs.lemmas.List.Sums.{suffix_len_is}
 use Rattle.bp_syntax.specs.Tokens.{is_braced_byte, is_braced_rest, is_letter, is_word_byte, IsSpelled}
 use Rattle.bp_view.specs.Laws.{ListedNames}
 use Rattle.bp_view.specs.NameLists.{IsListOf, SpacedName}
-use Rattle.bp_view.specs.Watches.{is_braced_after, pieces, trimmed}
+use Rattle.bp_source.specs.Lists.{is_braced_after, pieces}
+use Rattle.bp_view.specs.Watches.{trimmed}
 
 -- what begins inside or outside braces has no comma outside them, and ends outside
 abbrev is_piece : (braced : Bool) → List ℕ → Bool

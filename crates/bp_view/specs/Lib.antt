@@ -15,13 +15,13 @@ pub mod Lines
 pub mod Moments
 pub mod NameLists
 pub mod Options
-pub mod StatementColumns
 pub mod Outcomes
 pub mod Parts
 pub mod ReplayedChanges
 pub mod ShownTraces
 pub mod Spans
 pub mod Standings
+pub mod StatementColumns
 pub mod States
 pub mod Views
 pub mod Waits

@@ -5,20 +5,9 @@ use Rattle.std.specs.List.{list_all, list_any, onto_first, prefix_len, suffix_le
 use Rattle.bp_tree.specs.Ast.{Procedure, Program}
 use Rattle.bp_check.specs.Tables.{first_index}
 use Rattle.bp_code.specs.StandsFor.{variables}
+use Rattle.bp_source.specs.Lists.{pieces}
 use Rattle.bp_view.specs.declared.faults.ViewFault.{ViewFault}
 use Rattle.bp_view.specs.declared.faults.ViewFault.TheVariants.{NoVariable}
-
--- what follows a byte is inside braces, where the byte itself is inside or outside
-abbrev pub is_braced_after : (braced : Bool) → ℕ → Bool
-is_braced_after true b = not (b == 125)
-is_braced_after false b = b == 123
-
--- the pieces of a text that is cut at its commas outside braces, and begins inside or outside
-abbrev pub pieces : (braced : Bool) → List ℕ → List (List ℕ)
-pieces braced [] = [] ∷ []
-pieces braced (b ∷ bs) =
-    if not braced && b == 44 then [] ∷ pieces false bs
-    else onto_first b (pieces (is_braced_after braced b) bs)
 
 -- a text without the spaces that it begins with, and those that it ends with
 abbrev pub trimmed : List ℕ → List ℕ
@@ -31,13 +20,6 @@ trimmed text =
 abbrev pub watched_names : Option (Bor (List ℕ)) → List (List ℕ)
 watched_names None = []
 watched_names (Some list) = map trimmed (pieces false list.now)
-
--- A device: how many bytes are before the first comma outside braces, or in all where there is
--- none.
-abbrev pub piece_size : (braced : Bool) → List ℕ → ℕ
-piece_size braced [] = 0
-piece_size braced (b ∷ bs) =
-    if not braced && b == 44 then 0 else suc (piece_size (is_braced_after braced b) bs)
 
 -- the name of a local after that of its procedure and a dot
 abbrev pub qualified : (procedure name : List ℕ) → List ℕ

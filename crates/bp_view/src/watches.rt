@@ -2,35 +2,16 @@
 ghost use Rattle.std.specs.Prelude.{◌≡◌, ◌==◌, ◌++◌, ◌-◌, bytes_eq, codes, false, length, map, option_map, IfOk, MatchResult};
 ghost use Rattle.std.specs.List.{list_any, prefix_len, suffix_len};
 ghost use Rattle.bp_code.specs.StandsFor.{variables};
-ghost use Rattle.bp_view.specs.Watches.{declares, has_local, has_qualified, is_braced_after, is_of, piece_size, pieces, qualified, trimmed, watched_names, AreDeclared, IsNameFault};
+ghost use Rattle.bp_source.specs.Lists.{pieces};
+ghost use Rattle.bp_view.specs.Watches.{declares, has_local, has_qualified, is_of, qualified, trimmed, watched_names, AreDeclared, IsNameFault};
 
 use crate::faults::ViewFault;
 use bp_check::Checked;
 use bp_code::{local_slot_of, slot_of};
+use bp_source::piece_size;
 use bp_text::{part_before, part_from};
 use bp_tree::{Name, Proc};
 use std::alloc::{AllocError, Global};
-
-/// Whether what follows this byte is inside braces, where the byte itself is inside or outside.
-fn is_braced_after(braced: bool, byte: u8) -> bool
-    ensures { result ≡ is_braced_after braced byte }
-{
-    if braced { byte != b'}' } else { byte == b'{' }
-}
-
-/// How many bytes are before the first comma outside braces, or in all where there is none.
-fn piece_size(list: &[u8]) -> usize
-    ensures { result ≡ piece_size false list.now }
-{
-    let mut braced = false;
-    for (i, byte) in list.iter().enumerate() {
-        if !braced && *byte == b',' {
-            return i;
-        }
-        braced = is_braced_after(braced, *byte);
-    }
-    list.len()
-}
 
 /// How many spaces a text begins with.
 fn spaces_before(text: &[u8]) -> usize

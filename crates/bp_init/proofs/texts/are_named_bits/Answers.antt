@@ -1,5 +1,5 @@
 use Rattle.std.proofs.Common.{◌∙◌, ap, sym}
-use Rattle.bp_init.specs.Pieces.{pieces_left}
+use Rattle.bp_source.specs.Lists.{pieces_left}
 use Rattle.bp_init.specs.Texts.{are_named, is_named_in}
 use Rattle.bp_init.proofs.PiecesLeft.{fine_piece}
 use Rattle.bp_init.proofs.texts.are_named_bits.Goals as goal

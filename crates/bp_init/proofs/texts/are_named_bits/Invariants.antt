@@ -1,5 +1,5 @@
 use Rattle.std.proofs.Common.{◌≡◌}
-use Rattle.bp_init.specs.Pieces.{pieces_left}
+use Rattle.bp_source.specs.Lists.{pieces_left}
 use Rattle.bp_init.specs.Texts.{are_named, are_named_bits}
 use Rattle.bp_init.proofs.PiecesLeft.{size_left}
 use Rattle.bp_init.proofs.texts.are_named_bits.Given as goal

@@ -1,6 +1,6 @@
 use Rattle.std.proofs.Common.{◌∙◌, ap, sym}
 use Rattle.std.specs.Prelude.{bytes_eq}
-use Rattle.bp_init.specs.Pieces.{pieces_left}
+use Rattle.bp_source.specs.Lists.{pieces_left}
 use Rattle.bp_init.specs.Texts.{is_named_in}
 use Rattle.bp_init.proofs.PiecesLeft.{another_name}
 use Rattle.bp_init.proofs.texts.is_named_in.Goals as goal

@@ -1,5 +1,5 @@
 use Rattle.std.proofs.Common.{◌≡◌}
-use Rattle.bp_init.specs.Pieces.{pieces_left}
+use Rattle.bp_source.specs.Lists.{pieces_left}
 use Rattle.bp_init.specs.Texts.{is_named_in}
 use Rattle.bp_init.proofs.PiecesLeft.{size_left}
 use Rattle.bp_init.proofs.texts.is_named_in.Given as goal

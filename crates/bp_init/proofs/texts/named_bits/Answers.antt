@@ -1,7 +1,7 @@
 use Rattle.std.proofs.Common.{◌∙◌, ◌++◌, ◌∷◌, [], ap, map}
 use Rattle.std.proofs.lemmas.List.{map-append}
 use Rattle.bp_init.specs.NamedBits.{named_bit, values_of}
-use Rattle.bp_init.specs.Pieces.{pieces_left}
+use Rattle.bp_source.specs.Lists.{pieces_left}
 use Rattle.bp_init.specs.Texts.{named_bit_in}
 use Rattle.bp_init.specs.declared.names.NamedBit.{NamedBit}
 use Rattle.bp_init.proofs.PiecesLeft.{taken}

@@ -1,6 +1,6 @@
 use Rattle.std.proofs.Common.{◌≡◌, ◌++◌, map}
 use Rattle.bp_init.specs.NamedBits.{values_of}
-use Rattle.bp_init.specs.Pieces.{pieces_left}
+use Rattle.bp_source.specs.Lists.{pieces_left}
 use Rattle.bp_init.specs.Texts.{named_bit_in, named_bits}
 use Rattle.bp_init.proofs.PiecesLeft.{size_left}
 use Rattle.bp_init.proofs.texts.named_bits.Given as goal

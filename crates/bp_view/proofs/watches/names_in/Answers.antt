@@ -1,7 +1,8 @@
 use Rattle.std.proofs.Common.{◌≡◌, ◌∙◌, ◌+◌, ◌<◌, ◌≤◌, ◌++◌, ◌∷◌, [], false, length, map, take, drop, ap, sym, append_assoc, arith}
 use Rattle.std.proofs.lemmas.List.{map-append}
-use Rattle.bp_view.specs.Watches.{piece_size, pieces, trimmed}
-use Rattle.bp_view.proofs.FirstPieces.{first_piece, one_piece}
+use Rattle.bp_source.specs.Lists.{piece_size, pieces}
+use Rattle.bp_view.specs.Watches.{trimmed}
+use Rattle.bp_source.proofs.FirstPieces.{first_piece, one_piece}
 use Rattle.bp_view.proofs.watches.names_in.Goals as goal
 
 pub loop-size-preserved : goal.loop-size-preserved

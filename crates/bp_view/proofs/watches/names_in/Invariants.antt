@@ -1,5 +1,6 @@
 use Rattle.std.proofs.Common.{◌≡◌, ◌++◌, ℕ, List, false, length, map}
-use Rattle.bp_view.specs.Watches.{piece_size, pieces, trimmed}
+use Rattle.bp_source.specs.Lists.{piece_size, pieces}
+use Rattle.bp_view.specs.Watches.{trimmed}
 use Rattle.bp_view.proofs.watches.names_in.Given as goal
 
 pub record Split (whole rest : List ℕ) (names : List (List ℕ)) (size : ℕ) : Type 0 where

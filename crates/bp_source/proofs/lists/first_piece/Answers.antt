@@ -1,7 +1,7 @@
 use Rattle.std.proofs.Common.{◌∙◌, ◌+◌, ◌<◌, ◌≤◌, ◌∷◌, false, length, take, drop, ap, ap₂, sym, arith}
-use Rattle.bp_init.specs.Pieces.{piece_size, pieces}
-use Rattle.bp_init.proofs.FirstPieces.{first_piece, one_piece}
-use Rattle.bp_init.proofs.pieces.first_piece.Goals as goal
+use Rattle.bp_source.specs.Lists.{piece_size, pieces}
+use Rattle.bp_source.proofs.FirstPieces.{first_piece, one_piece}
+use Rattle.bp_source.proofs.lists.first_piece.Goals as goal
 
 pub returns-then-size-text-clause-pieces : goal.returns-then-size-text-clause-pieces
 returns-then-size-text-clause-pieces c =

@@ -1,6 +1,6 @@
-//! The pieces of a text between its commas outside braces.
+//! The pieces of a text between its commas, of which a name in braces may have some too.
 ghost use Rattle.std.specs.Prelude.{◌≡◌, ◌<◌, ◌∷◌, false, length, MatchOption};
-ghost use Rattle.bp_init.specs.Pieces.{is_braced_after, piece_size, pieces, pieces_left};
+ghost use Rattle.bp_source.specs.Lists.{is_braced_after, piece_size, pieces, pieces_left};
 
 use bp_text::{part_before, part_from};
 
@@ -12,7 +12,7 @@ fn is_braced_after(braced: bool, byte: u8) -> bool
 }
 
 /// How many bytes are before the first comma outside braces, or in all where there is none.
-fn piece_size(text: &[u8]) -> usize
+pub fn piece_size(text: &[u8]) -> usize
     ensures { result ≡ piece_size false text.now }
 {
     let mut braced = false;
@@ -26,7 +26,7 @@ fn piece_size(text: &[u8]) -> usize
 }
 
 /// The first piece of a text, and what is after its comma, where it has one.
-pub(crate) fn first_piece(text: &[u8]) -> (&[u8], Option<&[u8]>)
+pub fn first_piece(text: &[u8]) -> (&[u8], Option<&[u8]>)
     ensures pieces { pieces false text.now ≡ result.0.now ∷ pieces_left result.1 }
     ensures shorter { MatchOption result.1 Unit (λ rest. length rest.now < length text.now) }
 {

@@ -1,7 +1,7 @@
 -- The first piece of a text that is cut at its commas outside braces.
 use Rattle.std.proofs.Common.{◌≡◌, ◌∙◌, ◌==◌, ◌&&◌, ◌+◌, ◌<◌, ◌≤◌, ℕ, suc, Bool, true, false, not, cond, List, [], ◌∷◌, length, take, drop, ap, refl, arith}
 use Rattle.std.specs.List.{onto_first}
-use Rattle.bp_view.specs.Watches.{is_braced_after, piece_size, pieces}
+use Rattle.bp_source.specs.Lists.{is_braced_after, piece_size, pieces}
 
 -- it ends at the first of these commas
 pub first_piece :

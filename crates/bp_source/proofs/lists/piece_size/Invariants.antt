@@ -1,6 +1,6 @@
 use Rattle.std.proofs.Common.{◌≡◌, ◌+◌, ◌≤◌, false, length, drop}
-use Rattle.bp_init.specs.Pieces.{piece_size}
-use Rattle.bp_init.proofs.pieces.piece_size.Given as goal
+use Rattle.bp_source.specs.Lists.{piece_size}
+use Rattle.bp_source.proofs.lists.piece_size.Given as goal
 
 abbrev pub invariant-loop-i : goal.invariant-loop-i
 invariant-loop-i l = record {
