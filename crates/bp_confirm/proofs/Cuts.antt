@@ -99,7 +99,7 @@ digits_without byte other (d ∷ ds) p =
     let range = digit_from_value d p.0 in
     (other d (omega (arith, range)) (omega (arith, range)), digits_without byte other ds p.1)
 
-abbrev IsNoDigit : ℕ → Type 0
+abbrev pub IsNoDigit : ℕ → Type 0
 IsNoDigit byte = (c : ℕ) → 47 < c → c < 58 → c ≢ byte
 
 pub decimal_without : (byte : ℕ) → IsNoDigit byte → (n : ℕ) → IsShort n → Without byte (decimal n)

@@ -1,32 +1,23 @@
 -- The first value that a thread does not see after a call, and the last call that changed what it sees.
-use Rattle.std.proofs.Common.{◌≡◌, ◌∙◌, ◌<◌, ◌≤◌, ◌+◌, ℕ, Bool, List, [], ◌∷◌, ◌++◌, length, get_or, Option, refl, ap, sym, subst, arith, length-append}
-use Rattle.std.specs.Prelude.{option_map}
-use Rattle.std.proofs.lemmas.Option.{slice_get-get_or, slice_get-map}
+use Rattle.std.proofs.Common.{◌≡◌, ◌∙◌, ◌<◌, ◌≤◌, ◌+◌, ℕ, Bool, List, [], ◌∷◌, ◌++◌, length, Option, Some, refl, ap, sym, subst, arith, length-append}
+use Rattle.std.specs.Prelude.{option_map, slice_get}
 use Rattle.bp_tree.specs.Ast.{Program}
+use Rattle.bp_code.specs.Values.{Valuation}
 use Rattle.bp_machine.specs.declared.calls.Call.{Call}
 use Rattle.bp_machine.specs.Histories.{configuration_after}
 use Rattle.bp_machine.specs.Setups.{SetupOf}
-use Rattle.bp_confirm.specs.declared.step_lines.SeenValue.{SeenValue}
 use Rattle.bp_confirm.specs.Changes.{seen_by, seen_after, IsDifference, IsLastChange}
-use Rattle.bp_confirm.specs.StepLines.{value_of, values_of}
 use Rattle.bp_confirm.specs.Steps.{IsFirstUnseen}
 use Rattle.bp_confirm.proofs.LastChanges.{change_in_front, seen_in_front, seen_whole}
 
-module _ (t : Program) (s : SetupOf) (h : List Call) (a : Call) (i : ℕ) (vs : List SeenValue) (d : SeenValue) (place : ℕ) (seen : Option Bool)
-    (within : place < length vs) (unseen : IsFirstUnseen (configuration_after t s (h ++ a ∷ [])) i (values_of vs) place seen) where
-  abbrev name : List ℕ
-  name = let v = get_or vs place d in v.name.now
-
+module _ (t : Program) (s : SetupOf) (h : List Call) (a : Call) (i : ℕ) (vs : Valuation) (name : List ℕ) (place : ℕ) (seen : Option Bool)
+    (named : option_map (λ v. v.0) (slice_get vs place) ≡ Some name) (unseen : IsFirstUnseen (configuration_after t s (h ++ a ∷ [])) i vs place seen) where
   -- what is seen of the name of the value, after the first calls of the history with the call
   abbrev sees : ℕ → Option Bool
   sees = seen_after t s (h ++ a ∷ []) i name
 
   name_is : unseen.value.0 ≡ name
-  name_is =
-      let at = unseen.at in
-      let e = sym at ∙ slice_get-map value_of vs place ∙ ap (option_map value_of) (slice_get-get_or vs place d within) in
-      let same : unseen.value ≡ value_of (get_or vs place d) = cc in
-      ap (λ v. v.0) same
+  name_is = let e = sym (ap (option_map (λ v. v.0)) unseen.at) ∙ named in cc
 
   all_calls : length h + 1 ≡ length (h ++ a ∷ [])
   all_calls = sym (length-append h (a ∷ []))
@@ -44,7 +35,7 @@ module _ (t : Program) (s : SetupOf) (h : List Call) (a : Call) (i : ℕ) (vs : 
         let all : length h ≤ length h = omega arith in
         next sees (length h) refl (before.0 ∙ sym (seen_in_front (seen_by t s i name) h a (length h) all)) (change_in_front (seen_by t s i name) h a old before.1) seen_last
 
-    pub difference_is : IsDifference t s (h ++ a ∷ []) i (values_of vs) (record { place = place; seen = seen; changed = changed })
+    pub difference_is : IsDifference t s (h ++ a ∷ []) i vs (record { place = place; seen = seen; changed = changed })
     difference_is = record {
       unseen = unseen;
       changed =

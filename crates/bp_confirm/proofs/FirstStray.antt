@@ -1,13 +1,13 @@
 -- The first value, and the first line, of what is not declared.
-use Rattle.std.proofs.Common.{◌≡◌, ◌∙◌, ◌<◌, ◌+◌, ℕ, suc, true, false, List, [], ◌∷◌, ◌++◌, length, take, drop, get_or, ap, sym, subst, arith}
-use Rattle.std.proofs.lemmas.List.{length-map, map-append, map_push, take_more, take-append-drop}
+use Rattle.std.proofs.Common.{◌≡◌, ◌∙◌, ◌<◌, ◌+◌, ℕ, zero, suc, Bool, true, false, List, [], ◌∷◌, ◌++◌, length, take, drop, get_or, Some, refl, ap, sym, subst, arith}
+use Rattle.std.specs.Prelude.{slice_get}
+use Rattle.std.proofs.lemmas.List.{take-append-drop}
 use Rattle.std.proofs.Math.ListN.{length-take}
 use Rattle.std.proofs.Math.Seq.{drop-cons}
 use Rattle.bp_tree.specs.Ast.{Program}
 use Rattle.bp_code.specs.Values.{Valuation}
 use Rattle.bp_machine.specs.Setups.{SetupOf}
-use Rattle.bp_confirm.specs.declared.step_lines.SeenValue.{SeenValue}
-use Rattle.bp_confirm.specs.StepLines.{StepLineOf, value_of, values_of}
+use Rattle.bp_confirm.specs.StepLines.{StepLineOf}
 use Rattle.bp_confirm.specs.DeclaredLines.{declares, AreDeclared, IsFirstUndeclared, AreDeclaredLines, IsFirstStray}
 use Rattle.bp_confirm.specs.Confirms.{AreOfThreads}
 
@@ -18,25 +18,40 @@ parts_at xs n d within =
     sym (take-append-drop n xs) ∙ ap (λ ys. take n xs ++ ys) (drop-cons xs n d within ∙ ap (λ k. get_or xs n d ∷ drop k xs) one)
 
 -- the values
-module _ (t : Program) (vs : List SeenValue) (n : ℕ) (d : SeenValue) (within : n < length vs) (first : AreDeclared t (values_of (take n vs))) where
-  pub first_undeclared : declares t (get_or vs n d).name.now ≡ false → IsFirstUndeclared t (values_of vs) n
-  first_undeclared none = record {
-    before = values_of (take n vs);
-    value = value_of (get_or vs n d);
-    after = values_of (drop (n + 1) vs);
-    parts = ap values_of (parts_at vs n d within) ∙ map-append value_of (take n vs) (get_or vs n d ∷ drop (n + 1) vs);
+parts_of : (vs : Valuation) (n : ℕ) (v : List ℕ × Bool) → slice_get vs n ≡ Some v → vs ≡ take n vs ++ v ∷ drop (suc n) vs
+parts_of [] zero v at = absurd cc
+parts_of [] (suc n) v at = absurd cc
+parts_of (w ∷ ws) zero v at = let same : w ≡ v = cc in ap (λ x. x ∷ ws) same
+parts_of (w ∷ ws) (suc n) v at = ap (λ xs. w ∷ xs) (parts_of ws n v at)
+
+as_many_taken : (vs : Valuation) (n : ℕ) (v : List ℕ × Bool) → slice_get vs n ≡ Some v → length (take n vs) ≡ n
+as_many_taken [] zero v at = refl
+as_many_taken [] (suc n) v at = absurd cc
+as_many_taken (w ∷ ws) zero v at = refl
+as_many_taken (w ∷ ws) (suc n) v at = ap suc (as_many_taken ws n v at)
+
+module _ (t : Program) (v : List ℕ × Bool) where
+  pub first_undeclared : (vs : Valuation) (n : ℕ) → slice_get vs n ≡ Some v → AreDeclared t (take n vs) → declares t v.0 ≡ false → IsFirstUndeclared t vs n
+  first_undeclared vs n at first none = record {
+    before = take n vs;
+    value = v;
+    after = drop (suc n) vs;
+    parts = parts_of vs n v at;
     first = first;
-    number = let size : length (take n vs) ≡ n = simp length-take (omega arith) in sym (length-map (take n vs) value_of ∙ size);
+    number = sym (as_many_taken vs n v at);
     undeclared = none;
   }
 
-  pub declared_more : declares t (get_or vs n d).name.now ≡ true → AreDeclared t (values_of (take (n + 1) vs))
-  declared_more here =
-      subst (AreDeclared t) (sym (ap values_of (take_more vs n d within) ∙ map_push value_of (take n vs) (get_or vs n d))) (both (values_of (take n vs)) first)
-    where
-      both : (ws : Valuation) → AreDeclared t ws → AreDeclared t (ws ++ value_of (get_or vs n d) ∷ [])
-      both [] all = (here, tt)
-      both (w ∷ ws) all = (all.0, both ws all.1)
+  one_more_declared : (vs : Valuation) (n : ℕ) → slice_get vs n ≡ Some v → AreDeclared t (take n vs) → declares t v.0 ≡ true → AreDeclared t (take (suc n) vs)
+  one_more_declared [] zero at first here = absurd cc
+  one_more_declared [] (suc n) at first here = absurd cc
+  one_more_declared (w ∷ ws) zero at first here = let same : v ≡ w = cc in (ap (λ x. declares t x.0) (sym same) ∙ here, tt)
+  one_more_declared (w ∷ ws) (suc n) at first here = (first.0, one_more_declared ws n at first.1 here)
+
+  pub declared_more : (vs : Valuation) (n : ℕ) → slice_get vs n ≡ Some v → AreDeclared t (take n vs) → declares t v.0 ≡ true → AreDeclared t (take (n + 1) vs)
+  declared_more vs n at first here =
+      let one : suc n ≡ n + 1 = omega arith in
+      subst (λ k. AreDeclared t (take k vs)) one (one_more_declared vs n at first here)
 
 -- the lines
 module _ (t : Program) (s : SetupOf) (xs : List StepLineOf) (n : ℕ) (d x : StepLineOf) (within : n < length xs) (first : AreDeclaredLines t s (take n xs)) (is : x ≡ get_or xs n d) where

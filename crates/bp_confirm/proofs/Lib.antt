@@ -17,7 +17,10 @@ pub mod OneConfirmed
 pub mod RunsTakeSteps
 pub mod Cuts
 pub mod OneName
+pub mod OneNumberAt
 pub mod OneStepLine
+pub mod OneStepAt
+pub mod ValuesRead
 pub mod OneReading
 pub mod ValuesOnLines
 pub mod FirstStray

@@ -1,18 +1,21 @@
 -- The location of a thread before its next step is that of the place of the next step.
-use Rattle.std.proofs.Common.{◌≡◌, ◌≢◌, ◌==◌, ◌<◌, ◌+◌, ◌-◌, ◌∙◌, ℕ, zero, suc, Bool, true, false, cond, List, [], ◌∷◌, ◌++◌, length, drop, get_or, reverse, replicate, set, Option, None, Some, refl, ap, sym, option_map, arith}
+use Rattle.std.proofs.Common.{◌≡◌, ◌≢◌, ◌==◌, ◌<◌, ◌+◌, ◌-◌, ◌∙◌, ℕ, zero, suc, Bool, true, false, cond, List, [], ◌∷◌, length, drop, get_or, map, replicate, set, Option, None, Some, refl, ap, sym, option_map, arith}
 use Rattle.std.specs.Prelude.{nat_lt, slice_get}
 use Rattle.std.specs.List.{AllByRecursion}
 use Rattle.std.proofs.lemmas.Bool.Decides.{nat_tests}
-use Rattle.std.proofs.lemmas.Option.{slice_get-get_or}
-use Rattle.std.proofs.lemmas.List.{reverse-append}
+use Rattle.std.proofs.lemmas.Option.{slice_get-get_or, slice_get_past}
+use Rattle.std.proofs.lemmas.List.{length-map}
 use Rattle.std.proofs.Math.Seq.{drop-cons, drop-length}
 use Rattle.bp_confirm.specs.declared.locations.Location.{Location}
 use Rattle.bp_confirm.specs.Inferred.{some_follow}
 use Rattle.bp_confirm.specs.StepRefusals.{TellsNext}
 use Rattle.bp_machine.specs.declared.limits.TheConstants.{MAX_THREADS}
 use Rattle.bp_confirm.specs.Places.{place_of}
-use Rattle.bp_confirm.specs.StepLines.{StepLineOf, step_of, steps_of, next_location, next_locations}
+use Rattle.bp_confirm.specs.StepLines.{StepLineOf, step_of, steps_of, location_in, next_location, next_locations}
 use Rattle.bp_confirm.specs.Steps.{next_place}
+
+abbrev nowhere : Option Location
+nowhere = None
 
 module _ (text : List ℕ) where
   pub next_place_of : (i : ℕ) (xs : List StepLineOf) → next_place i (steps_of text xs) ≡ option_map (place_of text) (next_location i xs)
@@ -41,29 +44,51 @@ some_after text (suc k) [] = grind arith
 some_after text zero (x ∷ xs) = grind arith
 some_after text (suc k) (x ∷ xs) = some_after text k xs ∙ (grind (arith, nat_tests))
 
+mapped_at : (f : ℕ → Option Location) (nexts : List ℕ) (n d : ℕ) (e : Option Location) → n < length nexts → get_or (map f nexts) n e ≡ f (get_or nexts n d)
+mapped_at f [] n d e within = absurd (omega (arith, within))
+mapped_at f (k ∷ nexts) zero d e within = refl
+mapped_at f (k ∷ nexts) (suc n) d e within = mapped_at f nexts n d e (omega (arith, within))
+
+pub as_many_nexts : (xs : List StepLineOf) (nexts : List ℕ) → map (location_in xs) nexts ≡ next_locations xs → length nexts ≡ length xs
+as_many_nexts xs nexts are = sym (length-map nexts (location_in xs)) ∙ ap length are ∙ as_many xs
+
 -- what the later lines tell of line n
-pub tells_next : (text : List ℕ) (xs : List StepLineOf) (nexts : List (Option Location)) (n : ℕ) (d x : StepLineOf) (e : Option Location) → nexts ≡ next_locations xs → n < length xs → x ≡ get_or xs n d
-    → TellsNext text (step_of text x) (steps_of text (drop (n + 1) xs)) (record { location = get_or nexts n e; follows = nat_lt (n + 1) (length xs) })
-tells_next text xs nexts n d x e are within is =
+pub tells_next : (text : List ℕ) (xs : List StepLineOf) (nexts : List ℕ) (n : ℕ) (d x : StepLineOf) (k : ℕ) (next : Option Location) → next ≡ location_in xs (get_or nexts n k) → map (location_in xs) nexts ≡ next_locations xs → n < length xs → x ≡ get_or xs n d
+    → TellsNext text (step_of text x) (steps_of text (drop (n + 1) xs)) (record { location = next; follows = nat_lt (n + 1) (length xs) })
+tells_next text xs nexts n d x k next next_is are within is =
     let one : suc n ≡ n + 1 = omega arith in
     let i = (get_or xs n d).thread in
-    let next : get_or nexts n e ≡ next_location i (drop (n + 1) xs) = ap (λ ys. get_or ys n e) are ∙ next_at xs n d e within ∙ ap (λ k. next_location i (drop k xs)) one in
+    let there = mapped_at (location_in xs) nexts n k nowhere (omega (arith, within, as_many_nexts xs nexts are)) in
+    let location : next ≡ next_location i (drop (n + 1) xs) =
+    next_is ∙ sym there ∙ ap (λ ys. get_or ys n nowhere) are ∙ next_at xs n d nowhere within ∙ ap (λ m. next_location i (drop m xs)) one in
     record {
-      place = ap (λ z. next_place z.thread (steps_of text (drop (n + 1) xs))) is ∙ next_place_of text i (drop (n + 1) xs) ∙ ap (option_map (place_of text)) (sym next);
+      place = ap (λ z. next_place z.thread (steps_of text (drop (n + 1) xs))) is ∙ next_place_of text i (drop (n + 1) xs) ∙ ap (option_map (place_of text)) (sym location);
       follows = some_after text (n + 1) xs;
     }
 
--- the table of the threads' next locations, from the last line on
-abbrev nowhere : Option Location
-nowhere = None
+-- the table of the threads' next steps, from the last line on
+none_at : (f : ℕ → Option Location) (size none i : ℕ) → f none ≡ nowhere → i < size → slice_get (map f (replicate size none)) i ≡ Some nowhere
+none_at f zero none i past within = absurd (omega (arith, within))
+none_at f (suc size) none zero past within = ap Some past
+none_at f (suc size) none (suc i) past within = none_at f size none i past (omega (arith, within))
 
-none_at : (k i : ℕ) → i < k → slice_get (replicate k nowhere) i ≡ Some nowhere
-none_at zero i within = absurd (omega (arith, within))
-none_at (suc k) zero within = refl
-none_at (suc k) (suc i) within = none_at k i (omega (arith, within))
+pub none_yet : (size i : ℕ) (xs : List StepLineOf) → i < size → slice_get (map (location_in xs) (replicate size (length xs))) i ≡ Some (next_location i (drop (length xs) xs))
+none_yet size i xs within =
+    let past : location_in xs (length xs) ≡ nowhere = ap (option_map (λ x. x.location)) (slice_get_past xs (length xs) (omega arith)) in
+    none_at (location_in xs) size (length xs) i past within ∙ ap (λ ys. Some (next_location i ys)) (sym (drop-length xs))
 
-pub none_yet : (k i : ℕ) (xs : List StepLineOf) → i < k → slice_get (replicate k nowhere) i ≡ Some (next_location i (drop (length xs) xs))
-none_yet k i xs within = none_at k i within ∙ ap (λ ys. Some (next_location i ys)) (sym (drop-length xs))
+map_set : (f : ℕ → Option Location) (xs : List ℕ) (i v : ℕ) → map f (set xs i v) ≡ set (map f xs) i (f v)
+map_set f [] i v = refl
+map_set f (x ∷ xs) zero v = refl
+map_set f (x ∷ xs) (suc i) v = ap (λ ys. f x ∷ ys) (map_set f xs i v)
+
+drop_set : (xs : List ℕ) (i v : ℕ) → i < length xs → drop i (set xs i v) ≡ v ∷ drop (suc i) xs
+drop_set [] i v within = absurd (omega (arith, within))
+drop_set (x ∷ xs) zero v within = refl
+drop_set (x ∷ xs) (suc i) v within = drop_set xs i v (omega (arith, within))
+
+location_there : (xs : List StepLineOf) (n : ℕ) (d : StepLineOf) → n < length xs → location_in xs n ≡ Some (get_or xs n d).location
+location_there xs n d within = ap (option_map (λ x. x.location)) (slice_get-get_or xs n d within)
 
 set_same : (xs : List (Option Location)) (i : ℕ) (v : Option Location) → i < length xs → slice_get (set xs i v) i ≡ Some v
 set_same [] i v within = absurd (omega (arith, within))
@@ -106,35 +131,39 @@ module _ (xs : List StepLineOf) (n : ℕ) (d : StepLineOf) (within : n - 1 < len
           ∙ old
           ∙ ap Some (sym (ap (next_location i) rest_is ∙ ap (λ b. cond b (Some (get_or xs (n - 1) d).location) (next_location i (drop n xs))) e))
 
-  -- and one more line is done
-  pub done_more : (old new : List (Option Location)) (v : Option Location) → old ≡ reverse (next_locations (drop n xs)) → new ≡ old ++ v ∷ []
-      → v ≡ next_location (get_or xs (n - 1) d).thread (drop n xs) → new ≡ reverse (next_locations (drop (n - 1) xs))
-  done_more old new v done is value =
-      is ∙ (λ j. done j ++ value j ∷ [])
-      ∙ sym (reverse-append (next_location (get_or xs (n - 1) d).thread (drop n xs) ∷ []) (next_locations (drop n xs)))
-      ∙ sym (ap (λ ys. reverse (next_locations ys)) rest_is)
-
   -- the thread of each line has its entry
   each_small : (size k : ℕ) (e : StepLineOf) (ys : List StepLineOf) → AllByRecursion (λ y. y.thread < size) ys → k < length ys → (get_or ys k e).thread < size
   each_small size k e [] all inside = absurd (omega (arith, inside))
   each_small size zero e (y ∷ ys) all inside = all.0
   each_small size (suc k) e (y ∷ ys) all inside = each_small size k e ys all.1 (omega (arith, inside))
 
-  pub table_next : (table : List (Option Location)) (thread : ℕ) (place : Location) → thread ≡ (get_or xs (n - 1) d).thread → place ≡ (get_or xs (n - 1) d).location
-      → AllByRecursion (λ y. y.thread < MAX_THREADS) xs → (i : ℕ) → length table ≡ MAX_THREADS
-      → slice_get table i ≡ Some (next_location i (drop n xs))
-      → slice_get (set table thread (Some place)) i ≡ Some (next_location i (drop (n - 1) xs))
-  table_next table thread place thread_is place_is all i long old =
-      (λ j. slice_get (set table (thread_is j) (Some (place_is j))) i) ∙ table_more table MAX_THREADS i long (each_small MAX_THREADS (n - 1) d xs all within) old
+  pub table_next : (table : List ℕ) (thread : ℕ) → thread ≡ (get_or xs (n - 1) d).thread → AllByRecursion (λ y. y.thread < MAX_THREADS) xs → (i : ℕ) → length table ≡ MAX_THREADS
+      → slice_get (map (location_in xs) table) i ≡ Some (next_location i (drop n xs))
+      → slice_get (map (location_in xs) (set table thread (n - 1))) i ≡ Some (next_location i (drop (n - 1) xs))
+  table_next table thread thread_is all i long old =
+      let entries = map (location_in xs) table in
+      let many : length entries ≡ MAX_THREADS = length-map table (location_in xs) ∙ long in
+      ap (λ k. slice_get (map (location_in xs) (set table k (n - 1))) i) thread_is
+      ∙ ap (λ ys. slice_get ys i) (map_set (location_in xs) table (get_or xs (n - 1) d).thread (n - 1))
+      ∙ ap (λ v. slice_get (set entries (get_or xs (n - 1) d).thread v) i) (location_there xs (n - 1) d within)
+      ∙ table_more entries MAX_THREADS i many (each_small MAX_THREADS (n - 1) d xs all within) old
 
-  pub done_next : (table : List (Option Location)) (thread : ℕ) → thread ≡ (get_or xs (n - 1) d).thread
-      → AllByRecursion (λ y. y.thread < MAX_THREADS) xs → length table ≡ MAX_THREADS
-      → ((i : ℕ) → i < MAX_THREADS → slice_get table i ≡ Some (next_location i (drop n xs)))
-      → (old new : List (Option Location)) (e : Option Location) → old ≡ reverse (next_locations (drop n xs)) → new ≡ old ++ get_or table thread e ∷ []
-      → new ≡ reverse (next_locations (drop (n - 1) xs))
-  done_next table thread thread_is all long each old new e done is =
-      let few = each_small MAX_THREADS (n - 1) d xs all within in
+  -- and one more line is done
+  pub done_next : (table : List ℕ) (thread k : ℕ) → thread ≡ (get_or xs (n - 1) d).thread → AllByRecursion (λ y. y.thread < MAX_THREADS) xs → length table ≡ MAX_THREADS
+      → ((i : ℕ) → i < MAX_THREADS → slice_get (map (location_in xs) table) i ≡ Some (next_location i (drop n xs)))
+      → (steps : List ℕ) → length steps ≡ length xs → map (location_in xs) (drop n steps) ≡ next_locations (drop n xs)
+      → map (location_in xs) (drop (n - 1) (set steps (n - 1) (get_or table thread k))) ≡ next_locations (drop (n - 1) xs)
+  done_next table thread k thread_is all long each steps many done =
       let i = (get_or xs (n - 1) d).thread in
-      let found : Some (get_or table i e) ≡ Some (next_location i (drop n xs)) = sym (slice_get-get_or table i e (omega (arith, few, long))) ∙ each i few in
-      let value : get_or table i e ≡ next_location i (drop n xs) = cc in
-      done_more old new (get_or table thread e) done is (ap (λ k. get_or table k e) thread_is ∙ value)
+      let few = each_small MAX_THREADS (n - 1) d xs all within in
+      let one : suc (n - 1) ≡ n = omega (arith, some) in
+      let entries = map (location_in xs) table in
+      let wide : i < length entries = omega (arith, few, long, length-map table (location_in xs)) in
+      let found : Some (get_or entries i nowhere) ≡ Some (next_location i (drop n xs)) = sym (slice_get-get_or entries i nowhere wide) ∙ each i few in
+      let next : get_or entries i nowhere ≡ next_location i (drop n xs) = cc in
+      let value : location_in xs (get_or table thread k) ≡ next_location i (drop n xs) =
+      ap (λ m. location_in xs (get_or table m k)) thread_is ∙ sym (mapped_at (location_in xs) table i k nowhere (omega (arith, few, long))) ∙ next in
+      ap (map (location_in xs)) (drop_set steps (n - 1) (get_or table thread k) (omega (arith, many, within)))
+      ∙ (λ j. value j ∷ map (location_in xs) (drop (one j) steps))
+      ∙ ap (λ ys. next_location i (drop n xs) ∷ ys) done
+      ∙ sym (ap next_locations rest_is)

@@ -2,10 +2,9 @@
 use Rattle.std.proofs.Common.{◌≡◌, ◌≢◌, ◌+◌, ◌≤◌, ℕ, suc, List, [], ◌∷◌, ◌++◌, length, refl, sym, ap, ◌∙◌, append_assoc, length-append, arith, codes}
 use Rattle.std.specs.List.{AllByRecursion}
 use Rattle.std.proofs.lemmas.List.{append-nil}
-use Rattle.bp_trace.specs.Writable.{Without}
 use Rattle.bp_confirm.specs.StepLines.{StepLineOf}
 use Rattle.bp_confirm.specs.StepTexts.{HasLine, line_text, steps_text}
-use Rattle.bp_confirm.specs.LineReading.{IsCut, IsStepLine, IsNoStepLine}
+use Rattle.bp_confirm.specs.LineReading.{HasNoStep, IsStepAt}
 use Rattle.bp_confirm.proofs.Cuts.{one_cut, no_cut}
 use Rattle.bp_confirm.proofs.OneStepLine.{one_step, line_without_feed}
 
@@ -17,12 +16,8 @@ steps_then x more = append_assoc (line_text x) (10 ∷ []) more
 abbrev pub BeginsNoLine : List ℕ → Type 0
 BeginsNoLine rest = (x : StepLineOf) (more : List ℕ) → HasLine x → rest ≢ line_text x ++ 10 ∷ more
 
-pub unended : (rest : List ℕ) → Without 10 rest → BeginsNoLine rest
-unended rest none x more has e = no_cut 10 rest (line_text x) more none e
-
-pub no_step_line : (rest line more : List ℕ) → IsCut 10 rest line more → IsNoStepLine line → BeginsNoLine rest
-no_step_line rest line more cut none x others has e =
-    none x has (one_cut 10 line (line_text x) more others cut.first (line_without_feed x has) (sym cut.parts ∙ e)).0
+pub no_line : (rest : List ℕ) → HasNoStep rest → BeginsNoLine rest
+no_line rest none = λ x more has e. none x more (record { has = has; parts = e })
 
 one_line : (x y : StepLineOf) (a b : List ℕ) → HasLine x → HasLine y → (line_text x ++ codes "\n") ++ a ≡ (line_text y ++ codes "\n") ++ b → (x ≡ y) × (a ≡ b)
 one_line x y a b p q e =
@@ -74,14 +69,13 @@ each_append [] x p q = (q, tt)
 each_append (y ∷ xs) x p q = (p.0, each_append xs x p.1 q)
 
 -- one more line is read
-pub line_more : (text : List ℕ) (xs : List StepLineOf) (rest line more : List ℕ) (x : StepLineOf) → AllByRecursion HasLine xs → text ≡ steps_text xs ++ rest
-    → IsCut 10 rest line more → IsStepLine line x
+pub line_more : (text : List ℕ) (xs : List StepLineOf) (rest more : List ℕ) (x : StepLineOf) → AllByRecursion HasLine xs → text ≡ steps_text xs ++ rest → IsStepAt rest x more
     → AllByRecursion HasLine (xs ++ x ∷ []) × (text ≡ steps_text (xs ++ x ∷ []) ++ more)
-line_more text xs rest line more x each is cut step = (
-  each_append xs x each step.0,
-  is ∙ ap (λ z. steps_text xs ++ z) (cut.parts ∙ ap (λ z. z ++ 10 ∷ more) step.1 ∙ sym (steps_then x more))
-      ∙ sym (append_assoc (steps_text xs) (line_text x ++ codes "\n") more) ∙ ap (λ z. z ++ more) (sym (steps_append xs x)),
+line_more text xs rest more x each is at = (
+  each_append xs x each at.has,
+  is ∙ ap (λ z. steps_text xs ++ z) (at.parts ∙ sym (steps_then x more)) ∙ sym (append_assoc (steps_text xs) (line_text x ++ codes "\n") more)
+      ∙ ap (λ z. z ++ more) (sym (steps_append xs x)),
 )
 
-pub rest_shorter : (rest line more : List ℕ) → IsCut 10 rest line more → length more + 1 ≤ length rest
-rest_shorter rest line more cut = let whole = ap length cut.parts ∙ length-append line (10 ∷ more) in omega (arith, whole)
+pub rest_shorter : (rest more : List ℕ) (x : StepLineOf) → IsStepAt rest x more → length more + 1 ≤ length rest
+rest_shorter rest more x at = let whole = ap length at.parts ∙ length-append (line_text x) (10 ∷ more) in omega (arith, whole)

@@ -1,8 +1,7 @@
 -- A line says at most one step.
 use Rattle.std.proofs.Common.{◌≡◌, ◌≢◌, inl, inr, ℕ, ◌<◌, ◌^◌, Bool, true, false, List, [], ◌∷◌, ◌++◌, ◌+◌, length, refl, sym, ap, ◌∙◌, subst, append_assoc, arith, codes, decimal}
-use Rattle.std.proofs.lemmas.Fmt.{decimal_injective, decimal_nonempty}
+use Rattle.std.proofs.lemmas.Fmt.{decimal_nonempty}
 use Rattle.std.proofs.lemmas.List.{append-nil}
-use Rattle.bp_text.specs.Decimals.{IsNumber, IsNoNumber}
 use Rattle.bp_code.specs.Values.{Valuation}
 use Rattle.bp_trace.specs.Schedules.{bit_digit}
 use Rattle.bp_trace.specs.Writable.{Without}
@@ -10,21 +9,11 @@ use Rattle.bp_confirm.specs.declared.locations.Location.{Location}
 use Rattle.bp_confirm.specs.declared.locations.Location.TheVariants.{End, Line, Column}
 use Rattle.bp_confirm.specs.StepLines.{StepLineOf}
 use Rattle.bp_confirm.specs.StepTexts.{IsShort, IsShortLocation, IsStepName, AreNamed, HasLine, location_text, value_text, values_text, line_text}
-use Rattle.bp_confirm.specs.LineReading.{IsCut, IsField, IsShortNumber, IsNoShortNumber, IsLocation, IsNoLocation, IsValueAt, HasNoValue, AreValues, AreNoValues, IsStepLine, IsNoStepLine}
+use Rattle.bp_confirm.specs.LineReading.{IsCut, IsField, IsValueAt, HasNoValue, AreValues, AreNoValues}
 use Rattle.bp_confirm.proofs.Cuts.{same_head, one_cut, no_cut, without_both, without_rest, BeginsSpaced, one_field, decimal_without, no_space, no_line_feed, no_dash, no_colon, one_decimal}
 use Rattle.bp_confirm.proofs.OneName.{one_value, value_then}
 
--- numbers
-module _ (digits : List ℕ) where
-  pub no_number : IsNoNumber digits → IsNoShortNumber digits
-  no_number none = λ n short e. none n (omega (arith, short)) e
-
-  pub too_large : (m : ℕ) → IsNumber digits m → 2 ^ 32 < m + 1 → IsNoShortNumber digits
-  too_large m is large = λ n short e.
-      let same : m ≡ n = decimal_injective m n is.fits (omega (arith, short)) (sym is.digits_are ∙ e) in
-      omega (arith, same, large, short)
-
--- the location that a field says
+-- locations
 dash_without : (byte : ℕ) → 45 ≢ byte → Without byte (codes "-")
 dash_without byte other = (other, tt)
 
@@ -40,59 +29,21 @@ location_without_feed (Line n) short = decimal_without 10 no_line_feed n short
 location_without_feed (Column n m) short =
     without_both 10 (decimal n) (58 ∷ decimal m) (decimal_without 10 no_line_feed n short.0) (λ e. omega (arith, e), decimal_without 10 no_line_feed m short.1)
 
-module _ (field : List ℕ) (undashed : field ≢ codes "-") where
-  pub no_line_number : Without 58 field → IsNoShortNumber field → IsNoLocation field
-  no_line_number none number = λ x short e. by_kind x short e
-    where
-      by_kind : (x : Location) → IsShortLocation x → field ≡ location_text x → ⊥
-      by_kind End short e = undashed e
-      by_kind (Line n) short e = number n short e
-      by_kind (Column n m) short e = no_cut 58 field (decimal n) (decimal m) none e
-
-  module _ (line column : List ℕ) (cut : IsCut 58 field line column) where
-    numbers_are : (n m : ℕ) → IsShortLocation (Column n m) → field ≡ location_text (Column n m) → (line ≡ decimal n) × (column ≡ decimal m)
-    numbers_are n m short e = one_cut 58 line (decimal n) column (decimal m) cut.first (decimal_without 58 no_colon n short.0) (sym cut.parts ∙ e)
-
-    no_colon_in : (n : ℕ) → IsShort n → field ≡ decimal n → ⊥
-    no_colon_in n short e = no_cut 58 (decimal n) line column (decimal_without 58 no_colon n short) (sym e ∙ cut.parts)
-
-    pub no_first_number : IsNoShortNumber line → IsNoLocation field
-    no_first_number number = λ x short e. by_kind x short e
-      where
-        by_kind : (x : Location) → IsShortLocation x → field ≡ location_text x → ⊥
-        by_kind End short e = undashed e
-        by_kind (Line n) short e = no_colon_in n short e
-        by_kind (Column n m) short e = number n short.0 (numbers_are n m short e).0
-
-    pub no_second_number : IsNoShortNumber column → IsNoLocation field
-    no_second_number number = λ x short e. by_kind x short e
-      where
-        by_kind : (x : Location) → IsShortLocation x → field ≡ location_text x → ⊥
-        by_kind End short e = undashed e
-        by_kind (Line n) short e = no_colon_in n short e
-        by_kind (Column n m) short e = number m short.1 (numbers_are n m short e).1
-
-    pub has_column : (n m : ℕ) → IsShortNumber line n → IsShortNumber column m → IsLocation field (Column n m)
-    has_column n m first second = ((first.0, second.0), cut.parts ∙ (λ j. first.1 j ++ 58 ∷ second.1 j))
-
-digit_no_dash : (n : ℕ) → IsShort n → (rest : List ℕ) → decimal n ++ rest ≡ codes "-" → ⊥
-digit_no_dash n short rest e = no_dash_in (decimal n) rest (decimal_without 45 no_dash n short) (some_digits n short) e
+pub digit_no_dash : (n : ℕ) → IsShort n → (rest more : List ℕ) → decimal n ++ rest ≢ 45 ∷ more
+digit_no_dash n short rest more e = no_dash_in (decimal n) (decimal_without 45 no_dash n short) (decimal_nonempty n (omega (arith, short))) e
   where
-    no_dash_in : (ds more : List ℕ) → Without 45 ds → 0 < length ds → ds ++ more ≡ 45 ∷ [] → ⊥
-    no_dash_in [] more none some e = omega (arith, some)
-    no_dash_in (d ∷ ds) more none some e = none.0 (same_head d 45 (ds ++ more) [] e).0
-
-    some_digits : (k : ℕ) → IsShort k → 0 < length (decimal k)
-    some_digits k short = decimal_nonempty k (omega (arith, short))
+    no_dash_in : (ds : List ℕ) → Without 45 ds → 0 < length ds → ds ++ rest ≢ 45 ∷ more
+    no_dash_in [] none some e = omega (arith, some)
+    no_dash_in (d ∷ ds) none some e = none.0 (same_head d 45 (ds ++ rest) more e).0
 
 pub one_location : (x y : Location) → IsShortLocation x → IsShortLocation y → location_text x ≡ location_text y → x ≡ y
 one_location End End p q e = refl
-one_location End (Line n) p q e = absurd (digit_no_dash n q [] (append-nil (decimal n) ∙ sym e))
-one_location End (Column n m) p q e = absurd (digit_no_dash n q.0 (58 ∷ decimal m) (sym e))
-one_location (Line n) End p q e = absurd (digit_no_dash n p [] (append-nil (decimal n) ∙ e))
+one_location End (Line n) p q e = absurd (digit_no_dash n q [] [] (append-nil (decimal n) ∙ sym e))
+one_location End (Column n m) p q e = absurd (digit_no_dash n q.0 (58 ∷ decimal m) [] (sym e))
+one_location (Line n) End p q e = absurd (digit_no_dash n p [] [] (append-nil (decimal n) ∙ e))
 one_location (Line n) (Line k) p q e = ap Line (one_decimal n k p q e)
 one_location (Line n) (Column k m) p q e = absurd (no_cut 58 (decimal n) (decimal k) (decimal m) (decimal_without 58 no_colon n p) e)
-one_location (Column n m) End p q e = absurd (digit_no_dash n p.0 (58 ∷ decimal m) e)
+one_location (Column n m) End p q e = absurd (digit_no_dash n p.0 (58 ∷ decimal m) [] e)
 one_location (Column n m) (Line k) p q e = absurd (no_cut 58 (decimal k) (decimal n) (decimal m) (decimal_without 58 no_colon k q) (sym e))
 one_location (Column n m) (Column k l) p q e =
     let cut = one_cut 58 (decimal n) (decimal k) (decimal m) (decimal l) (decimal_without 58 no_colon n p.0) (decimal_without 58 no_colon k q.0) e in
@@ -158,15 +109,12 @@ whole_values text vs rest named is none = (named, is ∙ ap (λ x. values_text v
 
 -- the step that a line says
 module _ (line : List ℕ) where
-  pub no_space_no_step : Without 32 line → IsNoStepLine line
-  no_space_no_step none = λ x has e. no_cut 32 line (decimal x.thread) (location_text x.location ++ values_text x.values) none e
+  pub no_space_no_step : Without 32 line → (x : StepLineOf) → line ≢ line_text x
+  no_space_no_step none x e = no_cut 32 line (decimal x.thread) (location_text x.location ++ values_text x.values) none e
 
   module _ (digits rest : List ℕ) (cut : IsCut 32 line digits rest) where
     fields_are : (x : StepLineOf) → HasLine x → line ≡ line_text x → (digits ≡ decimal x.thread) × (rest ≡ location_text x.location ++ values_text x.values)
     fields_are x has e = one_cut 32 digits (decimal x.thread) rest (location_text x.location ++ values_text x.values) cut.first (decimal_without 32 no_space x.thread has.thread) (sym cut.parts ∙ e)
-
-    pub no_thread_no_step : IsNoShortNumber digits → IsNoStepLine line
-    no_thread_no_step none = λ x has e. none x.thread has.thread (fields_are x has e).0
 
     module _ (field values : List ℕ) (at : IsField rest field values) where
       pub both_are : (x : StepLineOf) → HasLine x → line ≡ line_text x → (field ≡ location_text x.location) × (values ≡ values_text x.values)
@@ -178,18 +126,6 @@ module _ (line : List ℕ) where
       values_line none =
           let after = without_rest 10 digits (32 ∷ rest) (subst (Without 10) cut.parts none) in
           without_rest 10 field values (subst (Without 10) at.parts after.1)
-
-      pub no_location_no_step : IsNoLocation field → IsNoStepLine line
-      no_location_no_step none = λ x has e. none x.location has.location (both_are x has e).0
-
-      pub no_values_no_step : AreNoValues values → IsNoStepLine line
-      no_values_no_step none = λ x has e. none x.values has.values (both_are x has e).1
-
-      pub has_step : (x : StepLineOf) → IsShortNumber digits x.thread → IsLocation field x.location → AreValues values x.values → IsStepLine line x
-      has_step x thread location are = (
-        record { thread = thread.0; location = location.0; values = are.0 },
-        cut.parts ∙ (λ j. thread.1 j ++ 32 ∷ (at.parts ∙ (λ k. location.1 k ++ are.1 k)) j),
-      )
 
 -- two steps on one line are the same
 pub one_step : (x y : StepLineOf) → HasLine x → HasLine y → line_text x ≡ line_text y → x ≡ y
@@ -212,7 +148,7 @@ name_without_feed : (name : List ℕ) → IsStepName name → Without 10 name
 name_without_feed name (inl p) = subst (Without 10) (sym p.is) ((λ e. absurd (omega (arith, e))), without_both 10 p.inner (125 ∷ []) p.line ((λ e. absurd (omega (arith, e))), tt))
 name_without_feed name (inr q) = q.line
 
-values_without_feed : (vs : Valuation) → AreNamed vs → Without 10 (values_text vs)
+pub values_without_feed : (vs : Valuation) → AreNamed vs → Without 10 (values_text vs)
 values_without_feed [] p = tt
 values_without_feed (v ∷ vs) p =
     without_both 10 (value_text v) (values_text vs)

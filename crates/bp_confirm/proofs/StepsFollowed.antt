@@ -24,8 +24,7 @@ use Rattle.bp_confirm.specs.declared.faults.StepFault.TheVariants as fault
 use Rattle.bp_confirm.specs.declared.faults.StepReason.{StepReason}
 use Rattle.bp_confirm.specs.declared.faults.StepReason.TheVariants.{Elsewhere, Ambiguous, Finished, Refused, Differs}
 use Rattle.bp_confirm.specs.declared.faults.StepRefusal.{StepRefusal}
-use Rattle.bp_confirm.specs.declared.step_lines.SeenValue.{SeenValue}
-use Rattle.bp_confirm.specs.StepLines.{StepLineOf, value_of, values_of, step_of, steps_of}
+use Rattle.bp_confirm.specs.StepLines.{StepLineOf, step_of, steps_of}
 use Rattle.bp_confirm.specs.Steps.{StepOf, value_seen, IsFirstUnseen, SeesValues, IsStepOf, TakeAfter, Takes}
 use Rattle.bp_confirm.specs.Inferred.{bit_of_stack, IsAmbiguousOnStack, IsClearOnStack, Follows, FollowAfter}
 use Rattle.bp_confirm.specs.Changes.{IsDifference}
@@ -133,30 +132,17 @@ unseen_not c i vs n seen unseen sees = unseen.differs (unseen.is_seen ∙ seen_a
     seen_at (w ∷ ws) (suc m) v at all = seen_at ws m v at all.1
 
 -- one more value is seen
-pub sees_more : (c : Configuration) (i : ℕ) (vs : List SeenValue) (k : ℕ) (d : SeenValue) → k < length vs → SeesValues c i (values_of (take k vs))
-    → value_seen c.globals (stack_of c i) (get_or vs k d).name.now ≡ Some (get_or vs k d).bit → SeesValues c i (values_of (take (k + 1) vs))
-sees_more c i vs k d within sees here =
-    subst (SeesValues c i) (sym (ap values_of (take_more vs k d within) ∙ map_push value_of (take k vs) (get_or vs k d))) (both (values_of (take k vs)) sees)
-  where
-    both : (ws : Valuation) → SeesValues c i ws → SeesValues c i (ws ++ value_of (get_or vs k d) ∷ [])
-    both [] all = (here, tt)
-    both (w ∷ ws) all = (all.0, both ws all.1)
+module _ (c : Configuration) (i : ℕ) (v : List ℕ × Bool) where
+  one_more_seen : (vs : Valuation) (n : ℕ) → slice_get vs n ≡ Some v → SeesValues c i (take n vs) → value_seen c.globals (stack_of c i) v.0 ≡ Some v.1 → SeesValues c i (take (suc n) vs)
+  one_more_seen [] zero at sees here = absurd cc
+  one_more_seen [] (suc n) at sees here = absurd cc
+  one_more_seen (w ∷ ws) zero at sees here = let same : v ≡ w = cc in (subst (λ x. value_seen c.globals (stack_of c i) x.0 ≡ Some x.1) same here, tt)
+  one_more_seen (w ∷ ws) (suc n) at sees here = (sees.0, one_more_seen ws n at sees.1 here)
 
-take_values : (k : ℕ) (vs : List SeenValue) → values_of (take k vs) ≡ take k (values_of vs)
-take_values zero vs = refl
-take_values (suc k) [] = refl
-take_values (suc k) (v ∷ vs) = ap (λ ws. value_of v ∷ ws) (take_values k vs)
-
--- this value is the first that is not seen
-pub unseen_at : (c : Configuration) (i : ℕ) (vs : List SeenValue) (k : ℕ) (d : SeenValue) (seen : Option Bool) → k < length vs → SeesValues c i (values_of (take k vs))
-    → seen ≡ value_seen c.globals (stack_of c i) (get_or vs k d).name.now → seen ≢ Some (get_or vs k d).bit → IsFirstUnseen c i (values_of vs) k seen
-unseen_at c i vs k d seen within sees is differs = record {
-  value = value_of (get_or vs k d);
-  at = slice_get-map value_of vs k ∙ ap (option_map value_of) (slice_get-get_or vs k d within);
-  first = subst (SeesValues c i) (take_values k vs) sees;
-  is_seen = is;
-  differs = differs;
-}
+  pub sees_more : (vs : Valuation) (n : ℕ) → slice_get vs n ≡ Some v → SeesValues c i (take n vs) → value_seen c.globals (stack_of c i) v.0 ≡ Some v.1 → SeesValues c i (take (n + 1) vs)
+  sees_more vs n at sees here =
+      let one : suc n ≡ n + 1 = omega arith in
+      subst (λ k. SeesValues c i (take k vs)) one (one_more_seen vs n at sees here)
 
 -- the refusals of the step of one line, whose thread goes on at this instruction
 module _ (text : List ℕ) (t : Program) (s : SetupOf) (h : List Call) (x : StepLineOf) (later : List StepOf) (n : ℕ) (number : Option ℕ)

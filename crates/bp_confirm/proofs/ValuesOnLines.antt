@@ -1,17 +1,19 @@
 -- The lines of a text of steps by their numbers, and the values of a line.
-use Rattle.std.proofs.Common.{◌≡◌, ◌≤◌, ℕ, zero, suc, Bool, List, [], ◌∷◌, length, drop, None, Some, refl, sym, ap, ◌∙◌, subst, arith}
+use Rattle.std.proofs.Common.{◌≡◌, ◌≤◌, ◌+◌, ℕ, zero, suc, Bool, List, [], ◌∷◌, ◌++◌, length, length-append, drop, take, None, Some, refl, sym, ap, ◌∙◌, subst, arith}
 use Rattle.std.specs.Prelude.{slice_get}
 use Rattle.std.specs.List.{AllByRecursion}
 use Rattle.std.proofs.lemmas.List.{length-drop}
 use Rattle.std.proofs.lemmas.Option.{slice_get_past}
 use Rattle.bp_code.specs.Values.{Valuation}
+use Rattle.bp_trace.specs.Schedules.{bit_digit}
 use Rattle.bp_trace.specs.Writable.{Without}
 use Rattle.bp_confirm.specs.StepLines.{StepLineOf}
 use Rattle.bp_confirm.specs.StepTexts.{AreNamed, HasLine, line_text, steps_text, values_text}
 use Rattle.bp_confirm.specs.LineReading.{HasNoValue, IsCut, IsStepLine, IsValueAt}
 use Rattle.bp_confirm.proofs.Cuts.{one_cut, no_cut}
 use Rattle.bp_confirm.proofs.OneName.{one_value, value_then}
-use Rattle.bp_confirm.proofs.OneStepLine.{line_without_feed}
+use Rattle.bp_confirm.specs.ValuesIn.{values_in, SaysValues}
+use Rattle.bp_confirm.proofs.OneStepLine.{line_rest, line_without_feed, values_without_feed}
 use Rattle.bp_confirm.proofs.OneReading.{steps_then}
 
 past : {X : Type 0} (xs : List X) (i n : ℕ) → drop i xs ≡ [] → i ≤ n → slice_get xs n ≡ None
@@ -66,3 +68,41 @@ no_next_value [] (suc i) n rest named is none more = slice_get_past [] n (omega 
 no_next_value (w ∷ ws) zero n rest named is none more = absurd (none w (values_text ws) named.0 is)
 no_next_value (w ∷ ws) (suc i) zero rest named is none more = absurd (omega (arith, more))
 no_next_value (w ∷ ws) (suc i) (suc n) rest named is none more = no_next_value ws i n rest named.1 is none (omega (arith, more))
+
+-- the first values of a text are read, and this is the rest
+pub record AreReadTo (text rest : List ℕ) (n : ℕ) : Type 0 where
+  pub line : Without 10 rest
+  pub is : rest ≡ values_text (drop n (values_in text))
+  pub few : n + length rest ≤ length text
+
+all_taken : (vs : Valuation) (n : ℕ) → slice_get vs n ≡ None → take n vs ≡ vs
+all_taken [] zero none = refl
+all_taken [] (suc n) none = refl
+all_taken (v ∷ vs) zero none = absurd cc
+all_taken (v ∷ vs) (suc n) none = ap (λ ws. v ∷ ws) (all_taken vs n none)
+
+module _ (text : List ℕ) (says : SaysValues text) where
+  pub none_read : AreReadTo text text 0
+  none_read = record { line = subst (Without 10) (sym says.1) (values_without_feed (values_in text) says.0); is = says.1; few = omega arith }
+
+  module _ (rest : List ℕ) (n : ℕ) (read : AreReadTo text rest n) where
+    pub all_read : HasNoValue rest → take n (values_in text) ≡ values_in text
+    all_read none = all_taken (values_in text) n (no_next_value (values_in text) n n rest says.0 read.is none (omega arith))
+
+    module _ (v : List ℕ × Bool) (more : List ℕ) (at : IsValueAt rest v more) where
+      next : IsNextValue (values_in text) n v more
+      next = next_value (values_in text) n rest v more says.0 read.is at
+
+      pub value_there : slice_get (values_in text) n ≡ Some v
+      value_there = next.at
+
+      pub one_more_read : AreReadTo text more (n + 1)
+      one_more_read =
+          let one : suc n ≡ n + 1 = omega arith in
+          let size = ap length (at.parts ∙ value_then v more) in
+          let inner = length-append v.0 (61 ∷ bit_digit v.1 ∷ more) in
+          record {
+            line = line_rest rest v more at read.line;
+            is = next.rest ∙ ap (λ k. values_text (drop k (values_in text))) one;
+            few = omega (arith, read.few, size, inner);
+          }

@@ -13,6 +13,7 @@ pub mod StepRuns
 pub mod StepTexts
 pub mod LineValues
 pub mod LineReading
+pub mod ValuesIn
 pub mod DeclaredLines
 pub mod StrayLines
 pub mod ConfirmReports

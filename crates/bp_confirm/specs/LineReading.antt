@@ -1,8 +1,9 @@
 -- How a line of reported steps is read: a device of the reader, which no public clause names.
-use Rattle.std.specs.Prelude.{◌≡◌, ◌≢◌, ◌⊎◌, ℕ, List, [], ◌∷◌, ◌++◌, Bool, decimal}
+use Rattle.std.specs.Prelude.{◌≡◌, ◌≢◌, ◌<◌, ◌⊎◌, ℕ, List, [], ◌∷◌, ◌++◌, Bool, decimal}
 use Rattle.bp_code.specs.Values.{Valuation}
 use Rattle.bp_trace.specs.Writable.{Without}
 use Rattle.bp_confirm.specs.declared.locations.Location.{Location}
+use Rattle.bp_confirm.specs.declared.locations.Location.TheVariants.{End, Line, Column}
 use Rattle.bp_confirm.specs.declared.step_texts.StepsFault.{StepsFault}
 use Rattle.bp_confirm.specs.declared.step_texts.StepsFault.TheVariants as fault
 use Rattle.bp_confirm.specs.StepLines.{StepLineOf}
@@ -19,17 +20,33 @@ pub record IsField (text field rest : List ℕ) : Type 0 where
   pub parts : text ≡ field ++ rest
   pub ends : (rest ≡ []) ⊎ ((more : List ℕ) × (rest ≡ 32 ∷ more))
 
-abbrev pub IsShortNumber : List ℕ → ℕ → Type 0
-IsShortNumber digits n = IsShort n × (digits ≡ decimal n)
+-- no digit begins this text
+abbrev pub EndsNumber : List ℕ → Type 0
+EndsNumber rest = (digit : ℕ) (more : List ℕ) → 47 < digit → digit < 58 → rest ≢ digit ∷ more
 
-abbrev pub IsNoShortNumber : List ℕ → Type 0
-IsNoShortNumber digits = (n : ℕ) → IsShort n → digits ≢ decimal n
+-- the decimal of a number of 32 bits begins the text, and no digit follows
+pub record IsNumberAt (text : List ℕ) (n : ℕ) (rest : List ℕ) : Type 0 where
+  pub short : IsShort n
+  pub parts : text ≡ decimal n ++ rest
+  pub ends : EndsNumber rest
 
-abbrev pub IsLocation : List ℕ → Location → Type 0
-IsLocation field x = IsShortLocation x × (field ≡ location_text x)
+abbrev pub HasNoNumber : List ℕ → Type 0
+HasNoNumber text = (n : ℕ) (rest : List ℕ) → IsNumberAt text n rest → ⊥
 
-abbrev pub IsNoLocation : List ℕ → Type 0
-IsNoLocation field = (x : Location) → IsShortLocation x → field ≢ location_text x
+-- what follows does not make the location longer
+abbrev pub EndsLocation : Location → List ℕ → Type 0
+EndsLocation End rest = Unit {0}
+EndsLocation (Line n) rest = EndsNumber rest × ((more : List ℕ) → rest ≢ 58 ∷ more)
+EndsLocation (Column n m) rest = EndsNumber rest
+
+-- a location begins the text, and no longer one
+pub record IsLocationAt (text : List ℕ) (x : Location) (rest : List ℕ) : Type 0 where
+  pub short : IsShortLocation x
+  pub parts : text ≡ location_text x ++ rest
+  pub ends : EndsLocation x rest
+
+abbrev pub HasNoLocation : List ℕ → Type 0
+HasNoLocation text = (x : Location) (rest : List ℕ) → IsLocationAt text x rest → ⊥
 
 -- this byte begins the text
 abbrev pub BeginsWith : ℕ → List ℕ → Type 0
@@ -61,8 +78,13 @@ AreNoValues text = (vs : Valuation) → AreNamed vs → text ≢ values_text vs
 abbrev pub IsStepLine : List ℕ → StepLineOf → Type 0
 IsStepLine line x = HasLine x × (line ≡ line_text x)
 
-abbrev pub IsNoStepLine : List ℕ → Type 0
-IsNoStepLine line = (x : StepLineOf) → HasLine x → line ≢ line_text x
+-- the line of a step begins the text
+pub record IsStepAt (text : List ℕ) (x : StepLineOf) (rest : List ℕ) : Type 0 where
+  pub has : HasLine x
+  pub parts : text ≡ line_text x ++ 10 ∷ rest
+
+abbrev pub HasNoStep : List ℕ → Type 0
+HasNoStep text = (x : StepLineOf) (rest : List ℕ) → IsStepAt text x rest → ⊥
 
 -- the first malformed line; nothing is said of when memory is refused
 abbrev pub IsUnreadable : List ℕ → StepsFault → Type 0

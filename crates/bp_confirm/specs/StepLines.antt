@@ -1,5 +1,5 @@
 -- The lines of reported steps, and what they say in the text of a program.
-use Rattle.std.specs.Prelude.{if◌then◌else◌, ℕ, Bool, ◌==◌, List, [], ◌∷◌, Option, None, Some, map}
+use Rattle.std.specs.Prelude.{if◌then◌else◌, ℕ, Bool, ◌==◌, List, [], ◌∷◌, Option, None, Some, map, option_map, slice_get}
 use Rattle.bp_code.specs.Values.{Valuation}
 use Rattle.bp_confirm.specs.declared.locations.Location.{Location}
 use Rattle.bp_confirm.specs.declared.step_lines.SeenValue.{SeenValue}
@@ -9,9 +9,6 @@ use Rattle.bp_confirm.specs.Steps.{StepOf}
 -- a variable's name and value
 abbrev pub value_of : SeenValue → List ℕ × Bool
 value_of v = (v.name.now, v.bit)
-
-abbrev pub values_of : List SeenValue → Valuation
-values_of vs = map value_of vs
 
 -- a step as it is written: its thread, its location before the step, and the values after it
 pub record StepLineOf : Type 0 where
@@ -34,6 +31,10 @@ steps_of text xs = map (step_of text) xs
 abbrev pub next_location : ℕ → List StepLineOf → Option Location
 next_location i [] = None
 next_location i (x ∷ xs) = if x.thread == i then Some x.location else next_location i xs
+
+-- A device: the location of the line of this number, from 0, if there is one.
+abbrev pub location_in : List StepLineOf → ℕ → Option Location
+location_in xs n = option_map (λ x. x.location) (slice_get xs n)
 
 -- A device: for each line the location of its thread before the thread's next step.
 abbrev pub next_locations : List StepLineOf → List (Option Location)

@@ -2,10 +2,11 @@
 ghost use Rattle.std.specs.Prelude.{◌≡◌, ◌<◌, ◌^◌, length, MatchOption, MatchResult};
 ghost use Rattle.bp_machine.specs.Setups.{threads};
 ghost use Rattle.bp_confirm.specs.DeclaredLines.{declares, has_local, AreDeclared, AreDeclaredLines, IsFirstUndeclared};
-ghost use Rattle.bp_confirm.specs.StepLines.{values_of};
 ghost use Rattle.bp_confirm.specs.StrayLines.{IsStray};
+ghost use Rattle.bp_confirm.specs.ValuesIn.{values_in, SaysValues};
 
-use crate::step_lines::{SeenValue, StepLine};
+use crate::fields::value_at;
+use crate::step_lines::StepLine;
 use bp_check::Checked;
 use bp_code::{local_slot_of, slot_of};
 use bp_machine::Setup;
@@ -34,16 +35,21 @@ fn declares(checked: &Checked, name: &[u8]) -> bool
     slot_of(tree.globals(), name).is_some() || is_local(tree.procs(), name)
 }
 
-/// The first of these values, from 0, that is of no variable.
-fn undeclared_value(checked: &Checked, values: &[SeenValue]) -> Option<usize>
+/// The first of the values that a text says, from 0, that is of no variable.
+fn undeclared_value(checked: &Checked, values: &[u8]) -> Option<usize>
+    requires { SaysValues values.now }
     ensures { MatchOption result
-        (AreDeclared checked.now (values_of values.now))
-        (λ value. IsFirstUndeclared checked.now (values_of values.now) value) }
+        (AreDeclared checked.now (values_in values.now))
+        (IsFirstUndeclared checked.now (values_in values.now)) }
 {
-    for (n, value) in values.iter().enumerate() {
+    let mut rest = values;
+    let mut n: usize = 0;
+    while let Some((value, more)) = value_at(rest) {
         if !declares(checked, value.name) {
             return Some(n);
         }
+        rest = more;
+        n += 1;
     }
     None
 }
@@ -64,7 +70,7 @@ pub(crate) fn check_lines(
         if line.thread >= setup.threads() {
             return Err((n as u32 + 1, Stray::Thread(line.thread)));
         }
-        if let Some(value) = undeclared_value(checked, line.values.as_slice()) {
+        if let Some(value) = undeclared_value(checked, line.values) {
             return Err((n as u32 + 1, Stray::Variable(value)));
         }
     }

@@ -1,13 +1,13 @@
 //! The fields of a line of reported steps.
-ghost use Rattle.std.specs.Prelude.{◌≡◌, ◌≢◌, Bool, ◌++◌, ◌∷◌, [], List, ℕ, MatchOption};
+ghost use Rattle.std.specs.Prelude.{◌≡◌, ◌≢◌, Bool, ◌∷◌, List, ℕ, MatchOption};
 ghost use Rattle.bp_trace.specs.Schedules.{bit_digit};
 ghost use Rattle.bp_trace.specs.Writable.{Without};
-ghost use Rattle.bp_confirm.specs.LineReading.{BeginsWith, HasNoName, HasNoValue, IsCut, IsField, IsLocation, IsNameAt, IsNoLocation, IsNoShortNumber, IsShortNumber, IsValueAt};
+ghost use Rattle.bp_confirm.specs.LineReading.{BeginsWith, HasNoLocation, HasNoName, HasNoNumber, HasNoValue, IsCut, IsField, IsLocationAt, IsNameAt, IsNumberAt, IsValueAt};
 ghost use Rattle.bp_confirm.specs.StepLines.{value_of};
 
 use crate::locations::Location;
 use crate::step_lines::SeenValue;
-use bp_text::{number_of, part_before, part_from};
+use bp_text::{part_before, part_from};
 
 /// The text before the first of a byte, and what is after it.
 pub(crate) fn cut_at(text: &[u8], byte: u8) -> Option<(&[u8], &[u8])>
@@ -23,13 +23,20 @@ pub(crate) fn cut_at(text: &[u8], byte: u8) -> Option<(&[u8], &[u8])>
     None
 }
 
-/// What is after the word, where the word begins the text.
-fn after<'a>(text: &'a [u8], word: &[u8]) -> Option<&'a [u8]>
+/// What is after the byte, where the byte begins the text.
+#[inline(always)]
+pub(crate) fn after(text: &[u8], byte: u8) -> Option<&[u8]>
     ensures { MatchOption result
-        ((rest : List ℕ) → text.now ≢ word.now ++ rest)
-        (λ rest. text.now ≡ word.now ++ rest.now) }
+        ((rest : List ℕ) → text.now ≢ byte ∷ rest)
+        (λ rest. text.now ≡ byte ∷ rest.now) }
 {
-    text.strip_prefix(word)
+    let Some((first, rest)) = text.split_first() else {
+        return None;
+    };
+    if *first != byte {
+        return None;
+    }
+    Some(rest)
 }
 
 /// The text before the first space, and the rest from there on; the whole text where it has none.
@@ -42,38 +49,57 @@ pub(crate) fn field_at(text: &[u8]) -> (&[u8], &[u8])
     }
 }
 
-/// The number of 32 bits whose decimal the digits are.
-pub(crate) fn short_number_of(digits: &[u8]) -> Option<u32>
-    ensures { MatchOption result (IsNoShortNumber digits.now) (IsShortNumber digits.now) }
+/// The number of 32 bits that begins a text, and what is after its digits.
+#[inline(always)]
+pub(crate) fn number_at(text: &[u8]) -> Option<(u32, &[u8])>
+    ensures { MatchOption result
+        (HasNoNumber text.now)
+        (λ p. IsNumberAt text.now p.0 p.1.now) }
 {
-    let Some(number) = number_of(digits) else {
+    let Some((first, others)) = text.split_first() else {
         return None;
     };
-    if number > u64::from(u32::MAX) {
+    if !first.is_ascii_digit() {
         return None;
     }
-    Some(number as u32)
+    let mut number = u64::from(*first - b'0');
+    let mut rest = others;
+    while let Some((digit, more)) = rest.split_first() {
+        if !digit.is_ascii_digit() {
+            return Some((number as u32, rest));
+        }
+        // No digit comes after a leading zero.
+        if number == 0 {
+            return None;
+        }
+        number = number * 10 + u64::from(*digit - b'0');
+        if number > u64::from(u32::MAX) {
+            return None;
+        }
+        rest = more;
+    }
+    Some((number as u32, rest))
 }
 
-/// The location that a field says.
-pub(crate) fn location_of(field: &[u8]) -> Option<Location>
-    ensures { MatchOption result (IsNoLocation field.now) (IsLocation field.now) }
+/// The location that begins a text, and what is after it.
+#[inline(always)]
+pub(crate) fn location_at(text: &[u8]) -> Option<(Location, &[u8])>
+    ensures { MatchOption result
+        (HasNoLocation text.now)
+        (λ p. IsLocationAt text.now p.0 p.1.now) }
 {
-    if field == b"-".as_slice() {
-        return Some(Location::End);
+    if let Some(rest) = after(text, b'-') {
+        return Some((Location::End, rest));
     }
-    let Some((line, column)) = cut_at(field, b':') else {
-        return match short_number_of(field) {
-            None => None,
-            Some(line) => Some(Location::Line(line)),
-        };
-    };
-    let Some(line) = short_number_of(line) else {
+    let Some((line, rest)) = number_at(text) else {
         return None;
     };
-    match short_number_of(column) {
+    let Some(rest) = after(rest, b':') else {
+        return Some((Location::Line(line), rest));
+    };
+    match number_at(rest) {
         None => None,
-        Some(column) => Some(Location::Column(line, column)),
+        Some((column, rest)) => Some((Location::Column(line, column), rest)),
     }
 }
 
@@ -88,7 +114,7 @@ fn braced_name_at(text: &[u8]) -> Option<(&[u8], &[u8])>
     let Some((inner, rest)) = cut_at(text, b'}') else {
         return None;
     };
-    let Some(rest) = after(rest, b"=") else {
+    let Some(rest) = after(rest, b'=') else {
         return None;
     };
     Some((part_before(text, inner.len() + 1), rest))
@@ -133,10 +159,10 @@ fn bit_at(text: &[u8]) -> Option<(bool, &[u8])>
         ((b : Bool) (rest : List ℕ) → text.now ≢ bit_digit b ∷ rest)
         (λ p. text.now ≡ bit_digit p.0 ∷ p.1.now) }
 {
-    if let Some(rest) = after(text, b"0") {
+    if let Some(rest) = after(text, b'0') {
         return Some((false, rest));
     }
-    match after(text, b"1") {
+    match after(text, b'1') {
         None => None,
         Some(rest) => Some((true, rest)),
     }
@@ -149,7 +175,7 @@ pub(crate) fn value_at(text: &[u8]) -> Option<(SeenValue<'_>, &[u8])>
         (HasNoValue text.now)
         (λ p. IsValueAt text.now (value_of p.0) p.1.now) }
 {
-    let Some(words) = after(text, b" ") else {
+    let Some(words) = after(text, b' ') else {
         return None;
     };
     let Some((name, digit)) = name_at(words) else {

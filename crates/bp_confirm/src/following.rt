@@ -1,5 +1,5 @@
 //! Following reported steps.
-ghost use Rattle.std.specs.Prelude.{◌≡◌, ◌<◌, ◌≤◌, ◌+◌, ◌^◌, ◌++◌, ◌∷◌, [], List, ℕ, None, length, true, false, option_map, IfOk, IfErr, OnOk, MatchOption, MatchResult};
+ghost use Rattle.std.specs.Prelude.{◌≡◌, ◌<◌, ◌≤◌, ◌+◌, ◌^◌, ◌++◌, ◌∷◌, [], List, ℕ, None, length, map, true, false, option_map, IfOk, IfErr, OnOk, MatchOption, MatchResult};
 ghost use Rattle.bp_tree.specs.Ast.{Program};
 ghost use Rattle.bp_code.specs.StandsFor.{StandsFor};
 ghost use Rattle.bp_machine.specs.declared.calls.Call.{Call as Answered};
@@ -16,7 +16,7 @@ ghost use Rattle.bp_confirm.specs.Confirms.{AreOfThreads, GoesOnAt, IsConfirmed,
 ghost use Rattle.bp_confirm.specs.Inferred.{bit_of_stack, IsAmbiguousOnStack, IsClearOnStack, Follows};
 ghost use Rattle.bp_confirm.specs.Places.{place_of, stands_at};
 ghost use Rattle.bp_confirm.specs.Spots.{spots_of};
-ghost use Rattle.bp_confirm.specs.StepLines.{next_locations, step_of, steps_of};
+ghost use Rattle.bp_confirm.specs.StepLines.{location_in, next_locations, step_of, steps_of};
 ghost use Rattle.bp_confirm.specs.StepRefusals.{refusal_of, IsNotCalled, IsNotTaken, TellsNext};
 ghost use Rattle.bp_confirm.specs.Steps.{StepOf, SeesValues};
 
@@ -24,6 +24,7 @@ use crate::changes::{sight_after, sight_of};
 use crate::choices::inferred_bit;
 use crate::faults::{Difference, StepFault, StepReason, StepRefusal};
 use crate::locations::Location;
+use crate::next_steps::location_in;
 use crate::noted_steps::is_granted;
 use crate::spots::{Spot, is_there};
 use crate::stands::stand_in;
@@ -166,16 +167,15 @@ fn first_difference(
         (SeesValues (configuration_after checked.now session.now.setup after) i line.now.values)
         (IsDifference checked.now session.now.setup after i line.now.values)) }
 {
-    let values = line.values.as_slice();
-    let Some((place, seen)) = first_unseen(checked, spots, session, line.thread, values) else {
+    let Some(unseen) = first_unseen(checked, spots, session, line.thread, line.values) else {
         return Ok(None);
     };
-    let name = values[place].name;
+    let name = unseen.name;
     let before = sight_of(alloc, checked, spots, session, history, line.thread, name)?;
-    let changed = sight_after(before, seen, history.len() as u32 + 1).changed;
+    let changed = sight_after(before, unseen.seen, history.len() as u32 + 1).changed;
     Ok(Some(Difference {
-        place,
-        seen,
+        place: unseen.place,
+        seen: unseen.seen,
         changed,
     }))
 }
@@ -256,13 +256,13 @@ pub(crate) fn take_steps(
     alloc: Global,
     checked: &Checked,
     spots: &[Spot],
-    nexts: &[Option<Location>],
+    nexts: &[u32],
     session: &mut Session,
     lines: &[StepLine],
 ) -> Result<Vec<Call>, StepFault>
     requires code { StandsFor session.old.code checked.now }
     requires fits { FitsCode session.old.code session.old.setup }
-    requires nexts { nexts.now ≡ next_locations lines.now }
+    requires nexts { map (location_in lines.now) nexts.now ≡ next_locations lines.now }
     requires threads { AreOfThreads session.old.setup lines.now }
     requires unseeded { session.old.setup.seed ≡ None }
     requires stands { Stands checked.now session.old [] }
@@ -281,7 +281,7 @@ pub(crate) fn take_steps(
     let mut n = 0;
     while n < lines.len() {
         let next = Next {
-            location: nexts[n],
+            location: location_in(lines, nexts[n]),
             follows: n + 1 < lines.len(),
         };
         let made = history.as_slice();

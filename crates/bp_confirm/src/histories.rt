@@ -8,7 +8,7 @@ ghost use Rattle.bp_confirm.specs.StepLines.{steps_of};
 
 use crate::faults::StepFault;
 use crate::following::take_steps;
-use crate::next_locations::next_locations;
+use crate::next_steps::next_steps;
 use crate::spots::spots_of;
 use crate::step_lines::StepLine;
 use bp_check::Checked;
@@ -55,7 +55,7 @@ pub(crate) fn confirm_lines(
 {
     setup.is_in_range();
     let spots = spots_of(alloc, text, checked)?;
-    let nexts = next_locations(alloc, lines)?;
+    let nexts = next_steps(alloc, lines)?;
     let mut session = Session::new(alloc, code, setup)?;
     let history = take_steps(
         alloc,

@@ -15,7 +15,7 @@ mod histories;
 mod laws;
 mod line_values;
 mod locations;
-mod next_locations;
+mod next_steps;
 mod noted_steps;
 mod own_step_texts;
 mod spots;

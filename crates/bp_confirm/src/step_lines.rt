@@ -17,17 +17,21 @@ pub struct StepLine<'a> {
     /// The thread, from 0.
     pub thread: u32,
     pub location: Location,
-    pub values: Vec<SeenValue<'a>>,
+    /// The part of the line that says the values: most steps have none, and a list takes more.
+    pub values: &'a [u8],
 }
 
 impl<'a> Model for StepLine<'a> {
-    ghost use Rattle.bp_confirm.specs.StepLines.{StepLineOf, values_of};
+    ghost use Rattle.bp_confirm.specs.StepLines.{StepLineOf};
+    ghost use Rattle.bp_confirm.specs.ValuesIn.{values_in, SaysValues};
 
     ghost Value = { StepLineOf };
 
     ghost view = { λ s. record {
       thread = s.thread;
       location = s.location;
-      values = values_of s.values.items;
+      values = values_in s.values.now;
     } };
+
+    ghost invariant = { λ s. SaysValues s.values.now };
 }

@@ -1,13 +1,14 @@
 //! The text of reported steps.
-ghost use Rattle.std.specs.Prelude.{◌≡◌, ◌<◌, ◌≤◌, ◌^◌, ◌++◌, ◌∷◌, [], IfOk, IfErr, OnOk, MatchOption, MatchResult, length};
+ghost use Rattle.std.specs.Prelude.{◌≡◌, ◌<◌, ◌≤◌, ◌^◌, ◌++◌, ◌∷◌, [], IfOk, IfErr, OnOk, MatchBool, MatchOption, MatchResult, length};
 ghost use Rattle.bp_trace.specs.Writable.{Without};
 ghost use Rattle.bp_confirm.specs.declared.step_texts.StepsFault.{StepsFault};
-ghost use Rattle.bp_confirm.specs.LineReading.{AreNoValues, AreValues, IsNoStepLine, IsStepLine, IsUnreadable};
-ghost use Rattle.bp_confirm.specs.StepLines.{values_of};
+ghost use Rattle.bp_confirm.specs.LineReading.{AreNoValues, HasNoStep, IsStepAt, IsUnreadable};
 ghost use Rattle.bp_confirm.specs.StepTexts.{HasLines};
+ghost use Rattle.bp_confirm.specs.ValuesIn.{HasNoValuesLine, IsValuesLine, SaysValues};
 
-use crate::fields::{cut_at, field_at, location_of, short_number_of, value_at};
-use crate::step_lines::{SeenValue, StepLine};
+use crate::fields::{after, cut_at, location_at, number_at, value_at};
+use crate::step_lines::StepLine;
+use bp_text::part_before;
 use std::alloc::{AllocError, Global};
 use thiserror::Error;
 
@@ -33,50 +34,66 @@ impl From<AllocError> for StepsFault {
     }
 }
 
-/// The values that the rest of a line says.
-fn values_of(alloc: Global, text: &[u8]) -> Result<Option<Vec<SeenValue<'_>>>, AllocError>
+/// Whether a part of a line says values.
+fn says_values(text: &[u8]) -> bool
     requires { Without 10 text.now }
-    ensures { IfOk result (λ o. MatchOption o
-        (AreNoValues text.now)
-        (λ vs. AreValues text.now (values_of vs.items))) }
+    ensures { MatchBool result (SaysValues text.now) (AreNoValues text.now) }
 {
-    let mut values = Vec::new(alloc);
     let mut rest = text;
     while !rest.is_empty() {
-        let Some((value, more)) = value_at(rest) else {
-            return Ok(None);
+        let Some((_, more)) = value_at(rest) else {
+            return false;
         };
-        values.push(value)?;
         rest = more;
     }
-    Ok(Some(values))
+    true
 }
 
-/// The step that a line says.
-fn step_line_of(alloc: Global, line: &[u8]) -> Result<Option<StepLine<'_>>, AllocError>
-    requires { Without 10 line.now }
-    ensures { IfOk result (λ o. MatchOption o
-        (IsNoStepLine line.now)
-        (λ x. IsStepLine line.now x)) }
+/// The part of a line that says values, and what is after the line feed after it.
+#[inline(always)]
+fn values_at(text: &[u8]) -> Option<(&[u8], &[u8])>
+    ensures { MatchOption result
+        (HasNoValuesLine text.now)
+        (λ p. IsValuesLine text.now p.0.now p.1.now) }
 {
-    let Some((digits, rest)) = cut_at(line, b' ') else {
-        return Ok(None);
-    };
-    let Some(thread) = short_number_of(digits) else {
-        return Ok(None);
-    };
-    let (field, rest) = field_at(rest);
-    let Some(location) = location_of(field) else {
-        return Ok(None);
-    };
-    match values_of(alloc, rest)? {
-        None => Ok(None),
-        Some(values) => Ok(Some(StepLine {
-            thread,
-            location,
-            values,
-        })),
+    // Most lines have no values.
+    if let Some(more) = after(text, b'\n') {
+        return Some((part_before(text, 0), more));
     }
+    let Some((values, more)) = cut_at(text, b'\n') else {
+        return None;
+    };
+    if !says_values(values) {
+        return None;
+    }
+    Some((values, more))
+}
+
+/// The step of the line that begins a text, and what is after the line.
+#[inline(always)]
+fn step_at(text: &[u8]) -> Option<(StepLine<'_>, &[u8])>
+    ensures { MatchOption result
+        (HasNoStep text.now)
+        (λ p. IsStepAt text.now p.0 p.1.now) }
+{
+    let Some((thread, rest)) = number_at(text) else {
+        return None;
+    };
+    let Some(words) = after(rest, b' ') else {
+        return None;
+    };
+    let Some((location, rest)) = location_at(words) else {
+        return None;
+    };
+    let Some((values, more)) = values_at(rest) else {
+        return None;
+    };
+    let step = StepLine {
+        thread,
+        location,
+        values,
+    };
+    Some((step, more))
 }
 
 /// Adds the step of a line.
@@ -106,10 +123,7 @@ pub fn read_steps(alloc: Global, text: &[u8]) -> Result<Vec<StepLine<'_>>, Steps
     let mut rest = text;
     while !rest.is_empty() {
         let n = lines.len() as u32 + 1;
-        let Some((line, more)) = cut_at(rest, b'\n') else {
-            return Err(StepsFault::Line(n));
-        };
-        let Some(step) = step_line_of(alloc, line)? else {
+        let Some((step, more)) = step_at(rest) else {
             return Err(StepsFault::Line(n));
         };
         keep(&mut lines, step)?;

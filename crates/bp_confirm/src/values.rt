@@ -1,5 +1,5 @@
 //! The values that a thread sees.
-ghost use Rattle.std.specs.Prelude.{◌≡◌, ◌↔◌, ◌<◌, IsTrue, Some, [], ℕ, List, length, IfSome, MatchOption};
+ghost use Rattle.std.specs.Prelude.{◌≡◌, ◌↔◌, IsTrue, Some, [], ℕ, List, IfSome, MatchOption};
 ghost use Rattle.bp_code.specs.Configurations.{Configuration};
 ghost use Rattle.bp_code.specs.StandsFor.{StandsFor};
 ghost use Rattle.bp_machine.specs.declared.calls.Call.{Call as Answered};
@@ -8,11 +8,11 @@ ghost use Rattle.bp_machine.specs.Histories.{configuration_after};
 ghost use Rattle.bp_machine.specs.Sessions.{Stands};
 ghost use Rattle.bp_machine.specs.Tops.{IsTop};
 ghost use Rattle.bp_confirm.specs.Spots.{spots_of};
-ghost use Rattle.bp_confirm.specs.StepLines.{values_of};
 ghost use Rattle.bp_confirm.specs.Steps.{local_seen, value_seen, IsFirstUnseen, SeesValues};
+ghost use Rattle.bp_confirm.specs.ValuesIn.{values_in, IsNameIn, SaysValues};
 
+use crate::fields::value_at;
 use crate::spots::{Spot, procedure_of};
-use crate::step_lines::SeenValue;
 use bp_check::Checked;
 use bp_code::{global_value, local_value};
 use bp_machine::{Session, Top};
@@ -68,29 +68,45 @@ fn is_value(seen: Option<bool>, bit: bool) -> bool
     }
 }
 
-/// The first of these values that a thread does not see, from 0, and what it sees in its place.
-pub(crate) fn first_unseen(
+/// A value that a thread does not see.
+#[derive(Clone, Copy)]
+pub(crate) struct Unseen<'a> {
+    /// Its place among the values of its line, from 0.
+    pub(crate) place: usize,
+    pub(crate) name: &'a [u8],
+    /// What the thread sees in its place.
+    pub(crate) seen: Option<bool>,
+}
+
+/// The first of the values that a text says that a thread does not see.
+pub(crate) fn first_unseen<'a>(
     checked: &Checked,
     spots: &[Spot],
     session: &Session,
     thread: u32,
-    values: &[SeenValue],
-) -> Option<(usize, Option<bool>)>
-    ensures within { IfSome result (λ r. r.0 < length values.now) }
+    values: &'a [u8],
+) -> Option<Unseen<'a>>
+    requires { SaysValues values.now }
+    ensures name { IfSome result (λ r. IsNameIn values.now r.place r.name.now) }
     ensures first { (text : List ℕ) (h : List Answered)
         → StandsFor session.now.code checked.now
         → spots.now ≡ spots_of text checked.now
         → Stands checked.now session.now h
         → let c = configuration_after checked.now session.now.setup h in
         MatchOption result
-        (SeesValues c thread (values_of values.now))
-        (λ r. IsFirstUnseen c thread (values_of values.now) r.0 r.1) }
+        (SeesValues c thread (values_in values.now))
+        (λ r. IsFirstUnseen c thread (values_in values.now) r.place r.seen) }
 {
-    for (n, value) in values.iter().enumerate() {
-        let seen = value_seen(checked, spots, session, thread, value.name);
+    let mut rest = values;
+    let mut place: usize = 0;
+    while let Some((value, more)) = value_at(rest) {
+        let name = value.name;
+        let seen = value_seen(checked, spots, session, thread, name);
         if !is_value(seen, value.bit) {
-            return Some((n, seen));
+            return Some(Unseen { place, name, seen });
         }
+        rest = more;
+        place += 1;
     }
     None
 }

@@ -1,6 +1,5 @@
 use Rattle.std.proofs.Common.{◌≡◌, ap, sym, subst, arith}
 use Rattle.bp_confirm.specs.DeclaredLines.{IsFirstUndeclared, IsOfNoThread, IsOfNoVariable}
-use Rattle.bp_confirm.specs.StepLines.{values_of}
 use Rattle.bp_confirm.proofs.FirstStray.{first_stray}
 use Rattle.bp_confirm.proofs.declared.check_lines.Goals as goal
 
@@ -25,5 +24,5 @@ returns-in-Some c =
       thread = omega (arith, c.if-line-threads.false, c.threads.ensures, thread);
       variable =
           subst (λ z. IsFirstUndeclared t z.values value) c.line.view_is
-          (subst (λ vs. IsFirstUndeclared t (values_of vs) value) c.as_slice.ensures.value c.in-Some.ensures);
+          c.in-Some.ensures;
     })

@@ -1,11 +1,35 @@
-use Rattle.std.proofs.Common.{◌∙◌, sym}
+use Rattle.std.proofs.Common.{◌∙◌, sym, subst, arith}
+use Rattle.bp_confirm.specs.DeclaredLines.{AreDeclared}
+use Rattle.bp_confirm.specs.StepLines.{value_of}
+use Rattle.bp_confirm.specs.ValuesIn.{values_in}
 use Rattle.bp_confirm.proofs.FirstStray.{first_undeclared, declared_more}
+use Rattle.bp_confirm.proofs.ValuesOnLines.{all_read, none_read, one_more_read, value_there}
 use Rattle.bp_confirm.proofs.declared.undeclared_value.Goals as goal
+
+pub loop-value-init : goal.loop-value-init
+loop-value-init c = record { read = none_read c.args.values.now c.requires; first = tt }
 
 pub returns-then-not-declares : goal.returns-then-not-declares
 returns-then-not-declares c =
-    first_undeclared c.args.checked.now c.args.values.now c.loop-n.n _ c.loop-n-test.true c.loop-n.invariant (sym c.declares.ensures ∙ c.if-not-declares.true)
+    let values = c.args.values.now in
+    let v = value_of c.in-Some.value in
+    let there = value_there values c.requires c.loop-value.rest.now c.loop-value.n c.loop-value.invariant.read v c.in-Some.more.now c.in-Some.ensures in
+    first_undeclared c.args.checked.now v (values_in values) c.loop-value.n there c.loop-value.invariant.first (sym c.declares.ensures ∙ c.if-not-declares.true)
 
-pub loop-n-preserved : goal.loop-n-preserved
-loop-n-preserved c =
-    declared_more c.args.checked.now c.args.values.now c.loop-n.n _ c.loop-n-test.true c.loop-n.invariant (sym c.declares.ensures ∙ c.if-not-declares.false)
+pub loop-value-preserved : goal.loop-value-preserved
+loop-value-preserved c =
+    let values = c.args.values.now in
+    let rest = c.loop-value.rest.now in
+    let n = c.loop-value.n in
+    let v = value_of c.in-Some.value in
+    let read = c.loop-value.invariant.read in
+    let there = value_there values c.requires rest n read v c.in-Some.more.now c.in-Some.ensures in
+    record {
+      read = one_more_read values c.requires rest n read v c.in-Some.more.now c.in-Some.ensures;
+      first = declared_more c.args.checked.now v (values_in values) n there c.loop-value.invariant.first (sym c.declares.ensures ∙ c.if-not-declares.false);
+    }
+
+pub returns : goal.returns
+returns c =
+    let values = c.args.values.now in
+    subst (AreDeclared c.args.checked.now) (all_read values c.requires c.loop-value.rest.now c.loop-value.n c.loop-value.invariant.read c.in_default.ensures) c.loop-value.invariant.first

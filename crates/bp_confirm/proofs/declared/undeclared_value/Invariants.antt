@@ -1,7 +1,14 @@
-use Rattle.std.proofs.Common.{take}
+use Rattle.std.proofs.Common.{length, take}
 use Rattle.bp_confirm.specs.DeclaredLines.{AreDeclared}
-use Rattle.bp_confirm.specs.StepLines.{values_of}
+use Rattle.bp_confirm.specs.ValuesIn.{values_in}
+use Rattle.bp_confirm.proofs.ValuesOnLines.{AreReadTo}
 use Rattle.bp_confirm.proofs.declared.undeclared_value.Given as goal
 
-abbrev pub invariant-loop-n : goal.invariant-loop-n
-invariant-loop-n l = AreDeclared l.checked (values_of (take l.n l.values))
+abbrev pub invariant-loop-value : goal.invariant-loop-value
+invariant-loop-value l = record {
+  read : AreReadTo l.values l.rest l.n;
+  first : AreDeclared l.checked (take l.n (values_in l.values));
+}
+
+abbrev pub decreases-loop-value : goal.decreases-loop-value
+decreases-loop-value l = length l.rest

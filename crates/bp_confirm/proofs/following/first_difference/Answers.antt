@@ -1,7 +1,8 @@
 use Rattle.std.proofs.Common.{◌++◌, ◌∷◌, [], subst}
 use Rattle.bp_confirm.specs.declared.faults.Difference.{Difference}
 use Rattle.bp_confirm.specs.Changes.{IsDifference}
-use Rattle.bp_confirm.specs.StepLines.{StepLineOf, values_of}
+use Rattle.bp_confirm.specs.StepLines.{StepLineOf}
+use Rattle.bp_confirm.specs.ValuesIn.{values_in}
 use Rattle.bp_confirm.proofs.FirstDifference.{difference_is}
 use Rattle.bp_confirm.proofs.following.first_difference.Goals as goal
 
@@ -11,9 +12,8 @@ returns c = λ text call are stands.
     let s = c.args.session.now.setup in
     let h = c.args.history.now in
     let after = h ++ call ∷ [] in
-    let found : Difference = record { place = c.in-Some.place; seen = c.in-Some.seen; changed = c.sight_after-changed.result.changed } in
+    let found : Difference = record { place = c.in-Some.unseen.place; seen = c.in-Some.unseen.seen; changed = c.sight_after-changed.result.changed } in
     let unseen = c.in-Some.ensures.first text after c.requires.code are stands in
-    let differs = difference_is t s h call c.line.inside.thread c.as_slice-values.result.now _ found.place found.seen c.in-Some.ensures.within unseen
+    let differs = difference_is t s h call c.line.inside.thread (values_in c.line.inside.values.now) c.in-Some.unseen.name.now found.place found.seen c.in-Some.ensures.name unseen
     c.in_ok-before.before.seen c.in_ok-before.before.changed found.changed (c.in_ok-before.ensures text are) c.sight_after-changed.ensures.changed in
-    subst (λ (z : StepLineOf). IsDifference t s after z.thread z.values found) c.line.view_is
-    (subst (λ vs. IsDifference t s after c.line.inside.thread (values_of vs) found) c.as_slice-values.ensures.value differs)
+    subst (λ (z : StepLineOf). IsDifference t s after z.thread z.values found) c.line.view_is differs

@@ -4,9 +4,10 @@ use Rattle.bp_confirm.specs.declared.faults.StepReason.TheVariants.{Elsewhere, A
 use Rattle.bp_confirm.specs.Changes.{IsDifference}
 use Rattle.bp_confirm.specs.Confirms.{GoesOnAt}
 use Rattle.bp_confirm.specs.Inferred.{Follows}
-use Rattle.bp_confirm.specs.StepLines.{StepLineOf, values_of, step_of}
+use Rattle.bp_confirm.specs.StepLines.{StepLineOf, step_of}
 use Rattle.bp_confirm.specs.StepRefusals.{IsNotTaken, TellsNext, refusal_of}
 use Rattle.bp_confirm.specs.Steps.{SeesValues}
+use Rattle.bp_confirm.specs.ValuesIn.{values_in}
 use Rattle.bp_confirm.proofs.StepsFollowed.{elsewhere, ambiguous, finished, answered, others_seen}
 use Rattle.bp_confirm.proofs.following.take_step.Goals as goal
 
@@ -17,7 +18,7 @@ returns-in-Err-clause-refused c = λ text later are tells.
     let n = length h + 1 in
     let t = c.args.checked.now in
     let s = c.args.session.now.setup in
-    let x : StepLineOf = record { thread = c.line.inside.thread; location = c.line.inside.location; values = values_of c.line.inside.values.items } in
+    let x : StepLineOf = record { thread = c.line.inside.thread; location = c.line.inside.location; values = values_in c.line.inside.values.now } in
     let top = c.in-Err.ensures text t h c.requires.code are stands in
     rw c.refusal_of.ensures
     (subst (λ z. IsNotTaken text t s h z later n (refusal_of c.args.spots.now z n c.in-Err.number Elsewhere)) c.line.view_is
@@ -30,7 +31,7 @@ returns-in_default-clause-refused c = λ text later are tells.
     let n = length h + 1 in
     let t = c.args.checked.now in
     let s = c.args.session.now.setup in
-    let x : StepLineOf = record { thread = c.line.inside.thread; location = c.line.inside.location; values = values_of c.line.inside.values.items } in
+    let x : StepLineOf = record { thread = c.line.inside.thread; location = c.line.inside.location; values = values_in c.line.inside.values.now } in
     let now = configuration_after t s h in
     let top = c.in-Ok.ensures text t h c.requires.code are stands in
     let number : GoesOnAt t now c.line.inside.thread (Some c.in-Ok.top.number) = (c.in-Ok.top, top.1, refl) in
@@ -46,7 +47,7 @@ returns-in-Err-Finished-clause-refused c = λ text later are tells.
     let n = length h + 1 in
     let t = c.args.checked.now in
     let s = c.args.session.now.setup in
-    let x : StepLineOf = record { thread = c.line.inside.thread; location = c.line.inside.location; values = values_of c.line.inside.values.items } in
+    let x : StepLineOf = record { thread = c.line.inside.thread; location = c.line.inside.location; values = values_in c.line.inside.values.now } in
     let now = configuration_after t s h in
     let top = c.in-Ok.ensures text t h c.requires.code are stands in
     let number : GoesOnAt t now c.line.inside.thread (Some c.in-Ok.top.number) = (c.in-Ok.top, top.1, refl) in
@@ -64,7 +65,7 @@ returns-then-not-is_granted-clause-refused c = λ text later are tells.
     let n = length h + 1 in
     let t = c.args.checked.now in
     let s = c.args.session.now.setup in
-    let x : StepLineOf = record { thread = c.line.inside.thread; location = c.line.inside.location; values = values_of c.line.inside.values.items } in
+    let x : StepLineOf = record { thread = c.line.inside.thread; location = c.line.inside.location; values = values_in c.line.inside.values.now } in
     let now = configuration_after t s h in
     let top = c.in-Ok.ensures text t h c.requires.code are stands in
     let number : GoesOnAt t now c.line.inside.thread (Some c.in-Ok.top.number) = (c.in-Ok.top, top.1, refl) in
@@ -83,7 +84,7 @@ returns-in-Ok-Some-clause-refused c = λ text later are tells.
     let n = length h + 1 in
     let t = c.args.checked.now in
     let s = c.args.session.now.setup in
-    let x : StepLineOf = record { thread = c.line.inside.thread; location = c.line.inside.location; values = values_of c.line.inside.values.items } in
+    let x : StepLineOf = record { thread = c.line.inside.thread; location = c.line.inside.location; values = values_in c.line.inside.values.now } in
     let now = configuration_after t s h in
     let top = c.in-Ok.ensures text t h c.requires.code are stands in
     let number : GoesOnAt t now c.line.inside.thread (Some c.in-Ok.top.number) = (c.in-Ok.top, top.1, refl) in
@@ -108,7 +109,7 @@ returns-in-Ok-None-clause-follows c = λ text later are tells.
     let n = length h + 1 in
     let t = c.args.checked.now in
     let s = c.args.session.now.setup in
-    let x : StepLineOf = record { thread = c.line.inside.thread; location = c.line.inside.location; values = values_of c.line.inside.values.items } in
+    let x : StepLineOf = record { thread = c.line.inside.thread; location = c.line.inside.location; values = values_in c.line.inside.values.now } in
     let now = configuration_after t s h in
     let top = c.in-Ok.ensures text t h c.requires.code are stands in
     let knows : TellsNext text (step_of text x) later c.args.next = subst (λ z. TellsNext text (step_of text z) later c.args.next) (sym c.line.view_is) tells in

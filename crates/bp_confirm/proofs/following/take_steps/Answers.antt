@@ -5,12 +5,12 @@ use Rattle.bp_machine.specs.Sessions.{Stands}
 use Rattle.bp_confirm.specs.Inferred.{Follows}
 use Rattle.bp_confirm.specs.StepLines.{step_of, steps_of}
 use Rattle.bp_confirm.specs.StepRefusals.{IsNotTaken}
-use Rattle.bp_confirm.proofs.NextLocations.{as_many, tells_next}
+use Rattle.bp_confirm.proofs.NextLocations.{as_many_nexts, tells_next}
 use Rattle.bp_confirm.proofs.StepsFollowed.{follow_next, not_confirmed, confirmed}
 use Rattle.bp_confirm.proofs.following.take_steps.Goals as goal
 
 pub bounds-nexts-n : goal.bounds-nexts-n
-bounds-nexts-n c = let size = ap length c.requires.nexts ∙ as_many c.args.lines.now in omega (arith, c.loop-n-test.true, size)
+bounds-nexts-n c = let size = as_many_nexts c.args.lines.now c.args.nexts.now c.requires.nexts in omega (arith, c.loop-n-test.true, size)
 
 pub returns-in_err-call-clause-refused : goal.returns-in_err-call-clause-refused
 returns-in_err-call-clause-refused c = λ text are.
@@ -24,7 +24,7 @@ returns-in_err-call-clause-refused c = λ text are.
     let is = c.index-lines-n.is in
     let h = c.loop-n.history.items in
     let f = c.in_err-call.field-0.0 in
-    let there = c.in_err-call.ensures.refused text later are (tells_next text lines c.args.nexts.now n x x _ c.requires.nexts c.loop-n-test.true is) in
+    let there = c.in_err-call.ensures.refused text later are (tells_next text lines c.args.nexts.now n x x _ _ c.location_in.ensures c.requires.nexts c.loop-n-test.true is) in
     let here = subst (λ k. IsNotTaken text t c.loop-n.session.setup h x later (k + 1) f) inv.made
     (subst (λ g. IsNotTaken text t c.loop-n.session.setup g x later (length g + 1) f) c.as_slice-made.ensures.value there) in
     let p = err_from_is_err_and c.from_residual.result c.from_residual.ensures.1 in
@@ -51,7 +51,7 @@ loop-n-preserved c =
       stands = subst (λ g. Stands t c.take_step.new.session g) (sym c.in_ok-keep.ensures.kept) stands;
       follow = λ text are.
           let later = steps_of text (drop (n + 1) lines) in
-          let made = c.in_ok-call.ensures.follows text later are (tells_next text lines c.args.nexts.now n x x _ c.requires.nexts c.loop-n-test.true is) in
+          let made = c.in_ok-call.ensures.follows text later are (tells_next text lines c.args.nexts.now n x x _ _ c.location_in.ensures c.requires.nexts c.loop-n-test.true is) in
           let next = subst (λ g. Follows t c.loop-n.session.setup g (step_of text x) later a) c.as_slice-made.ensures.value made in
           follow_next text t s lines n x c.loop-n.history.items c.keep.new.history.items c.in_ok-call.call c.loop-n-test.true c.in_ok-keep.ensures.kept (inv.follow text are)
           (subst (λ z. Follows t s c.loop-n.history.items (step_of text z) later c.in_ok-call.call) is

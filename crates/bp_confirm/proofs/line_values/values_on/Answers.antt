@@ -4,7 +4,7 @@ use Rattle.bp_confirm.proofs.line_values.values_on.Goals as goal
 pub returns-in_default-cut_at : goal.returns-in_default-cut_at
 returns-in_default-cut_at c = λ lines has.
     let found = c.in-Some.ensures.are lines has in
-    absurd (no_space_no_step c.in-Some.words.now c.in_default-cut_at.ensures found.0 found.2.0 found.2.1)
+    absurd (no_space_no_step c.in-Some.words.now c.in_default-cut_at.ensures found.0 found.2.1)
 
 pub returns : goal.returns
 returns c =

@@ -3,7 +3,7 @@ use Rattle.std.specs.List.{AllByRecursion}
 use Rattle.std.proofs.lemmas.List.{append-nil}
 use Rattle.bp_text.proofs.Lengths.{none_left, some_left}
 use Rattle.bp_confirm.specs.StepTexts.{HasLine, steps_text}
-use Rattle.bp_confirm.proofs.OneReading.{unended, no_step_line, line_more, rest_shorter}
+use Rattle.bp_confirm.proofs.OneReading.{no_line, line_more, rest_shorter}
 use Rattle.bp_confirm.proofs.step_texts.read_steps.Goals as goal
 
 pub returns-in_default : goal.returns-in_default
@@ -15,40 +15,25 @@ returns-in_default c = record {
     whole = c.loop-rest.invariant.parts;
     number = omega (arith, c.len.ensures);
     some = some_left c.loop-rest.rest.now (sym c.is_empty.ensures ∙ c.loop-rest-test.true);
-    bad = unended c.loop-rest.rest.now c.in_default.ensures;
+    bad = no_line c.loop-rest.rest.now c.in_default.ensures;
   };
   few = tt;
 }
 
-pub returns-in_default-2 : goal.returns-in_default-2
-returns-in_default-2 c =
-    let none = rw c.in_default-2.is at c.in_ok-step.ensures in
-    record {
-      read = record {
-        before = c.loop-rest.lines.items;
-        each = c.loop-rest.invariant.each;
-        rest = c.loop-rest.rest.now;
-        whole = c.loop-rest.invariant.parts;
-        number = omega (arith, c.len.ensures);
-        some = some_left c.loop-rest.rest.now (sym c.is_empty.ensures ∙ c.loop-rest-test.true);
-        bad = no_step_line c.loop-rest.rest.now c.in-Some.line.now c.in-Some.more.now c.in-Some.ensures none;
-      };
-      few = tt;
-    }
-
 pub loop-rest-preserved : goal.loop-rest-preserved
 loop-rest-preserved c =
     let old = c.loop-rest.lines.items in
+    let rest = c.loop-rest.rest.now in
     let inv = c.loop-rest.invariant in
-    let is = rw c.in-Some-2.is at c.in_ok-step.ensures in
-    let more = line_more c.args.text.now old c.loop-rest.rest.now c.in-Some.line.now c.in-Some.more.now c.in-Some-2.step inv.each inv.parts c.in-Some.ensures is in
+    let at = c.in-Some.ensures in
+    let more = line_more c.args.text.now old rest c.in-Some.more.now c.in-Some.step inv.each inv.parts at in
     let items = c.in_ok-keep.ensures.kept in
     record {
       each = subst (AllByRecursion HasLine) (sym items) more.0;
       parts = more.1 ∙ ap (λ xs. steps_text xs ++ c.in-Some.more.now) (sym items);
       few =
-          let one = rest_shorter c.loop-rest.rest.now c.in-Some.line.now c.in-Some.more.now c.in-Some.ensures in
-          omega (arith, one, ap length items, length-append old (c.in-Some-2.step ∷ []), inv.few);
+          let one = rest_shorter rest c.in-Some.more.now c.in-Some.step at in
+          omega (arith, one, ap length items, length-append old (c.in-Some.step ∷ []), inv.few);
     }
 
 pub returns : goal.returns

@@ -1,18 +1,53 @@
-use Rattle.std.proofs.Common.{sym, ◌∙◌}
+use Rattle.std.proofs.Common.{◌∙◌, ap, sym, subst}
+use Rattle.std.specs.Prelude.{option_map}
 use Rattle.bp_machine.specs.Histories.{configuration_after}
-use Rattle.bp_confirm.proofs.StepsFollowed.{unseen_at, sees_more}
+use Rattle.bp_confirm.specs.StepLines.{value_of}
+use Rattle.bp_confirm.specs.Steps.{SeesValues}
+use Rattle.bp_confirm.specs.ValuesIn.{values_in}
+use Rattle.bp_confirm.proofs.StepsFollowed.{sees_more}
+use Rattle.bp_confirm.proofs.ValuesOnLines.{all_read, none_read, one_more_read, value_there}
 use Rattle.bp_confirm.proofs.values.first_unseen.Goals as goal
 
-pub returns-then-not-is_value-clause-first : goal.returns-then-not-is_value-clause-first
-returns-then-not-is_value-clause-first c = λ text h code are stands.
-    let now = configuration_after c.args.checked.now c.args.session.now.setup h in
-    let seen = c.value_seen-seen.ensures text h code are stands in
-    unseen_at now c.args.thread c.args.values.now c.loop-n.n _ c.value_seen-seen.result c.loop-n-test.true (c.loop-n.invariant text h code are stands) seen
-    (λ e. let yes_it = c.is_value.ensures.1 e in absurd (cc (yes_it, c.if-not-is_value.true)))
+pub loop-value-init : goal.loop-value-init
+loop-value-init c = record { read = none_read c.args.values.now c.requires; sees = λ text h code are stands. tt }
 
-pub loop-n-preserved : goal.loop-n-preserved
-loop-n-preserved c = λ text h code are stands.
-    let now = configuration_after c.args.checked.now c.args.session.now.setup h in
-    let seen = c.value_seen-seen.ensures text h code are stands in
-    sees_more now c.args.thread c.args.values.now c.loop-n.n _ c.loop-n-test.true (c.loop-n.invariant text h code are stands)
-    (sym seen ∙ c.is_value.ensures.0 c.if-not-is_value.false)
+pub returns-then-not-is_value : goal.returns-then-not-is_value
+returns-then-not-is_value c =
+    let v = value_of c.in-Some.value in
+    let there = value_there c.args.values.now c.requires c.loop-value.rest.now c.loop-value.place c.loop-value.invariant.read v c.in-Some.more.now c.in-Some.ensures in
+    record {
+      name = ap (option_map (λ x. x.0)) there;
+      first = λ text h code are stands. record {
+        value = v;
+        at = there;
+        first = c.loop-value.invariant.sees text h code are stands;
+        is_seen = c.value_seen-seen.ensures text h code are stands;
+        differs = λ e. let same = c.is_value.ensures.1 e in absurd (cc (same, c.if-not-is_value.true));
+      };
+    }
+
+pub loop-value-preserved : goal.loop-value-preserved
+loop-value-preserved c =
+    let values = c.args.values.now in
+    let rest = c.loop-value.rest.now in
+    let n = c.loop-value.place in
+    let v = value_of c.in-Some.value in
+    let read = c.loop-value.invariant.read in
+    let there = value_there values c.requires rest n read v c.in-Some.more.now c.in-Some.ensures in
+    record {
+      read = one_more_read values c.requires rest n read v c.in-Some.more.now c.in-Some.ensures;
+      sees = λ text h code are stands.
+          let now = configuration_after c.args.checked.now c.args.session.now.setup h in
+          let seen = c.value_seen-seen.ensures text h code are stands in
+          sees_more now c.args.thread v (values_in values) n there (c.loop-value.invariant.sees text h code are stands)
+          (sym seen ∙ c.is_value.ensures.0 c.if-not-is_value.false);
+    }
+
+pub returns : goal.returns
+returns c = record {
+  name = tt;
+  first = λ text h code are stands.
+      let now = configuration_after c.args.checked.now c.args.session.now.setup h in
+      let all = all_read c.args.values.now c.requires c.loop-value.rest.now c.loop-value.place c.loop-value.invariant.read c.in_default.ensures in
+      subst (SeesValues now c.args.thread) all (c.loop-value.invariant.sees text h code are stands);
+}
