@@ -5,11 +5,10 @@ use Rattle.bp_trace.specs.Writable.{Without}
 use Rattle.bp_confirm.specs.declared.locations.Location.{Location}
 use Rattle.bp_confirm.specs.declared.locations.Location.TheVariants.{End, Line, Column}
 use Rattle.bp_confirm.specs.StepLines.{StepLineOf}
-use Rattle.bp_confirm.specs.StepTexts.{IsShort, IsShortLocation, HasLine, location_text, line_text, values_text}
+use Rattle.bp_confirm.specs.StepTexts.{IsShortLocation, location_text, line_text, values_text}
 use Rattle.bp_confirm.specs.LineReading.{AreNoValues, EndsLocation, EndsNumber, HasNoLocation, HasNoNumber, HasNoStep, IsCut, IsLocationAt, IsNumberAt, IsStepAt}
 use Rattle.bp_confirm.specs.ValuesIn.{values_in, HasNoValuesLine, IsValuesLine}
 use Rattle.bp_confirm.proofs.Cuts.{same_head, one_cut, no_cut, no_colon, no_line_feed, no_space}
-use Rattle.bp_confirm.proofs.OneName.{value_then}
 use Rattle.bp_confirm.proofs.OneNumberAt.{ends_at, one_number}
 use Rattle.bp_confirm.proofs.OneStepLine.{digit_no_dash, values_without_feed}
 

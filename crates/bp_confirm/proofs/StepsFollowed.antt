@@ -1,7 +1,6 @@
 -- One more step that is followed, and one that is refused.
 use Rattle.std.proofs.Common.{◌≡◌, ◌≢◌, ◌≤◌, ◌<◌, ◌+◌, ℕ, zero, suc, Bool, true, false, List, [], ◌∷◌, ◌++◌, length, take, drop, get_or, None, Some, refl, ap, sym, ◌∙◌, subst, append_assoc, arith}
-use Rattle.std.specs.Prelude.{is_some, slice_get, option_map}
-use Rattle.std.proofs.lemmas.Option.{slice_get-get_or, slice_get-map}
+use Rattle.std.specs.Prelude.{is_some, slice_get}
 use Rattle.std.proofs.Common.{Option}
 use Rattle.bp_code.specs.Configurations.{Configuration}
 use Rattle.bp_code.specs.Values.{Valuation}

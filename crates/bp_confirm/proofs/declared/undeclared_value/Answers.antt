@@ -1,4 +1,4 @@
-use Rattle.std.proofs.Common.{◌∙◌, sym, subst, arith}
+use Rattle.std.proofs.Common.{◌∙◌, sym, subst}
 use Rattle.bp_confirm.specs.DeclaredLines.{AreDeclared}
 use Rattle.bp_confirm.specs.StepLines.{value_of}
 use Rattle.bp_confirm.specs.ValuesIn.{values_in}

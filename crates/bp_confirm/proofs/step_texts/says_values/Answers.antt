@@ -1,4 +1,4 @@
-use Rattle.std.proofs.Common.{◌∙◌, ◌++◌, ◌∷◌, [], refl, sym}
+use Rattle.std.proofs.Common.{◌∙◌, [], refl, sym}
 use Rattle.bp_text.proofs.Lengths.{none_left, some_left}
 use Rattle.bp_confirm.proofs.OneStepLine.{no_value_no_values, values_more, line_rest, whole_values}
 use Rattle.bp_confirm.proofs.ValuesRead.{says}
