@@ -17,7 +17,7 @@ pub struct StepLine<'a> {
     /// The thread, from 0.
     pub thread: u32,
     pub location: Location,
-    /// The part of the line that says the values: most steps have none, and a list takes more.
+    /// The part of the line that says the values. Most lines have none, and a list needs memory.
     pub values: &'a [u8],
 }
 

@@ -49,7 +49,7 @@ fn says_values(text: &[u8]) -> bool
     true
 }
 
-/// The part of a line that says values, and what is after the line feed after it.
+/// The part of a text that says values up to its first line feed, and what is after that.
 #[inline(always)]
 fn values_at(text: &[u8]) -> Option<(&[u8], &[u8])>
     ensures { MatchOption result
