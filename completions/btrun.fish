@@ -28,9 +28,10 @@ end
 # The globals of a program whose names have no braces, each with either bit, after those that are given.
 function __btrun_bits
     set -l given (commandline -ct | string match -r '^.*,'; or echo)
-    set -l globals (btrun check (__btrun_files)[1] --json 2> /dev/null | string match -arg '"globals":\[([^]]*)' |
+    for name in (btrun check (__btrun_files)[1] --json 2> /dev/null | string match -arg '"globals":\[([^]]*)' |
         string match -arg '"(\w+)"')
-    printf '%s\n' $given$globals={0,1}
+        printf '%s\n' $given$name={0,1}
+    end
 end
 
 complete -c btrun -n __btrun_takes_entry -f -a '(__btrun_entries)' -d 'An entry'
