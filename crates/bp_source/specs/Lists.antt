@@ -1,4 +1,4 @@
--- The pieces of a text between its commas, of which a name in braces may have some too.
+-- The pieces of a text that is cut at its commas. A comma inside braces cuts nothing.
 use Rattle.std.specs.Prelude.{◌==◌, ◌&&◌, if◌then◌else◌, ℕ, suc, Bool, true, false, not, List, [], ◌∷◌, Option, None, Some}
 use Rattle.std.specs.Borrow.{Bor}
 use Rattle.std.specs.List.{onto_first}

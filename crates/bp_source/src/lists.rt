@@ -1,4 +1,4 @@
-//! The pieces of a text between its commas, of which a name in braces may have some too.
+//! The pieces of a text that is cut at its commas. A comma inside braces cuts nothing.
 ghost use Rattle.std.specs.Prelude.{◌≡◌, ◌<◌, ◌∷◌, false, length, MatchOption};
 ghost use Rattle.bp_source.specs.Lists.{is_braced_after, piece_size, pieces, pieces_left};
 

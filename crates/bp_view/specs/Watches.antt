@@ -25,8 +25,8 @@ watched_names (Some list) = map trimmed (pieces false list.now)
 abbrev pub qualified : (procedure name : List ℕ) → List ℕ
 qualified procedure name = procedure ++ codes "." ++ name
 
--- a text says which variable is meant, which is a local of a procedure of this name, or a global: by
--- its name, or by its procedure's name too
+-- a text names this variable, a local of a procedure or a global: by its own name, or where it is a
+-- local by the qualified one
 abbrev pub is_of : (text : List ℕ) → (procedure : Option (List ℕ)) → (name : List ℕ) → Bool
 is_of text None x = bytes_eq text x
 is_of text (Some p) x = bytes_eq text x || bytes_eq text (qualified p x)

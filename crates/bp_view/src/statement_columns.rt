@@ -17,7 +17,7 @@ pub(crate) const OTHER_COLUMNS: usize = 50;
 /// What ends a text that is cut.
 const CUT: &[u8] = b"..";
 
-/// The most bytes of a statement in its column, where lines have at most so many columns.
+/// The width of the column of statements in lines of at most `columns` bytes, or of any width.
 pub(crate) fn statement_room(columns: Option<usize>) -> usize
     ensures is { result ≡ statement_room columns }
     ensures most { result ≤ MAX_STATEMENT }
@@ -42,7 +42,7 @@ pub(crate) fn in_column(room: usize, words: &[u8]) -> (&[u8], &[u8])
     (words, b"")
 }
 
-/// Cuts what a line has after its first bytes, where it has more than so many columns there.
+/// Cuts a line that has more than `columns` bytes after its first `start` bytes.
 pub(crate) fn cut_after(
     line: &mut Vec<u8>,
     start: usize,

@@ -47,7 +47,7 @@ pub(super) fn begin<R: Runtime>(rt: &R) -> io::Result<()> {
     println!(rt; "ready")
 }
 
-/// Prints whether the call was refused. No growth is refused after that line.
+/// Prints whether the call was refused. After this line every growth is granted.
 pub(super) fn tell<R: Runtime>(rt: &R, was_refused: bool) -> io::Result<()> {
     let told = if was_refused { "refused" } else { "done" };
     println!(rt; "{told}")
