@@ -1,5 +1,5 @@
 -- What is said of the condition at which a thread stands is what the scene of its top shows.
-use Rattle.std.proofs.Common.{◌≡◌, ◌∙◌, ℕ, List, Some, ap, ap₂, drop, slice_get, subst, sym}
+use Rattle.std.proofs.Common.{◌≡◌, ◌∙◌, ℕ, List, Some, ap, ap₂, drop, subst, sym}
 use Rattle.std.specs.Prelude.{option_map}
 use Rattle.bp_tree.specs.Ast.{Decision, Program}
 use Rattle.bp_code.specs.Configurations.{Configuration, Frame}
@@ -11,14 +11,13 @@ use Rattle.bp_machine.specs.Tops.{IsTop}
 use Rattle.bp_source.specs.Assertions.{next_decision, variables_read}
 use Rattle.bp_source.specs.declared.scenes.Scene.{Scene}
 use Rattle.bp_source.specs.Places.{place_text, position_text}
-use Rattle.bp_source.specs.Scenes.{AreScenes, IsScene, IsStatementAt}
+use Rattle.bp_source.specs.Scenes.{IsScene, IsStatementAt}
 use Rattle.bp_source.specs.Statements.{IsStatement}
 use Rattle.bp_source.proofs.OneStatement.{one_statement}
 use Rattle.bp_view.specs.declared.options.ViewFormat.{ViewFormat}
 use Rattle.bp_text.specs.declared.positions.Position.{Position}
 use Rattle.bp_text.specs.Positions.{position_at}
 use Rattle.bp_view.specs.Conditions.{condition_in, named_values, IsAtCondition, IsConditionText}
-use Rattle.bp_view.proofs.PlacesOfTops.{scene_of_top}
 
 -- a thread stands at one condition
 module _ (c : Configuration) (i : ℕ) (a b : IsAtCondition c i) where
@@ -48,20 +47,13 @@ one_condition format text c i v w x y =
     x.is ∙ (λ j. condition_in format (position_at text (place j)) (words j) (values j)) ∙ sym y.is
 
 module _
-    (t : Program) (text : List ℕ) (c : Configuration) (i : ℕ) (stands : IsAtCondition c i) (scenes : List Scene) (are : AreScenes text t scenes)
-    (x : Top) (top : IsTop t c i x) (scene : Scene) (here : slice_get scenes x.number ≡ Some scene) where
+    (t : Program) (text : List ℕ) (c : Configuration) (i : ℕ) (stands : IsAtCondition c i) (x : Top) (top : IsTop t c i x)
+    (scene : Scene) (shown : IsScene text t.procedures (place top.frame.procedure top.frame.left) scene) where
   frame_is : top.frame ≡ stands.frame
   frame_is = let own = top.stack in let same = stands.stack in cc
 
   begins : start_of_block top.frame.left ≡ Some stands.at
   begins = ap (λ (f : Frame). start_of_block f.left) frame_is ∙ stands.begins
-
-  shown : IsScene text t.procedures (place top.frame.procedure top.frame.left) scene
-  shown =
-      let found = scene_of_top t text c i scenes are x top in
-      let there = found.at in
-      let same : found.scene ≡ scene = cc in
-      subst (IsScene text t.procedures (place top.frame.procedure top.frame.left)) same found.is
 
   statement : IsStatement (drop stands.at text) scene.excerpt.words.items scene.excerpt.reads_choice
   statement = subst (λ at. IsStatementAt text top.frame.procedure at scene.excerpt.words.items scene.excerpt.reads_choice) begins shown.statement

@@ -11,7 +11,7 @@ pub mod DecidedDeadlocks
 pub mod EqualWaits
 pub mod FailedConditions
 pub mod FailedStatements
-pub mod FramesOfTops
+pub mod FilledFacts
 pub mod JoinedTexts
 pub mod LastReplies
 pub mod LastSteps

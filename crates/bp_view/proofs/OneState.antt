@@ -1,42 +1,66 @@
--- A state has one text.
-use Rattle.std.proofs.Common.{◌≡◌, ◌∙◌, ◌<◌, ℕ, List, Some, length, slice_get, ap, sym}
+-- A state has one text, since it has one set of facts.
+use Rattle.std.proofs.Common.{◌≡◌, ◌∙◌, ℕ, suc, List, [], ◌∷◌, length, ap, ap₂, refl, sym, arith}
 use Rattle.bp_tree.specs.Ast.{Program}
 use Rattle.bp_code.specs.Configurations.{Frame}
 use Rattle.bp_code.specs.Starts.{start_of_block}
 use Rattle.bp_machine.specs.declared.calls.Call.{Call}
 use Rattle.bp_machine.specs.Answers.{stack_of}
 use Rattle.bp_machine.specs.Histories.{configuration_after}
-use Rattle.bp_machine.specs.Reports.{outcome_of}
-use Rattle.bp_machine.specs.Setups.{SetupOf, threads}
+use Rattle.bp_machine.specs.Setups.{SetupOf}
 use Rattle.bp_source.proofs.OneStatement.{one_statement_at}
 use Rattle.bp_view.specs.declared.options.ViewFormat.{ViewFormat}
-use Rattle.bp_view.specs.Changes.{variables_text}
-use Rattle.bp_view.specs.Frames.{frame_in, IsFrameText, IsStackText}
-use Rattle.bp_view.specs.Standings.{standing}
-use Rattle.bp_view.specs.States.{state_in, thread_state_in, IsStateText, IsThreadText}
-use Rattle.bp_view.proofs.PartsOfTexts.{item_at, one_of_parts}
+use Rattle.bp_view.specs.StateFacts.{AreFrameFacts, AreStackFacts, AreStateFacts, AreThreadFacts, AreThreadsFacts, ShownFrame, ShownState, ShownThread}
+use Rattle.bp_view.specs.States.{state_text, IsStateText}
 
-module _ (format : ViewFormat) (text : List ℕ) where
-  one_frame : (n : ℕ) (f : Frame) (a b : List ℕ) → IsFrameText format text n f a → IsFrameText format text n f b → a ≡ b
-  one_frame n f a b x y =
-      let start = start_of_block f.left in
-      let same = one_statement_at text f.procedure start x.words y.words x.reads y.reads x.words_are y.words_are in
-      x.is ∙ ap (λ words. frame_in format text n f.procedure start words (variables_text format (Some f.procedure) f.locals)) same.0 ∙ sym y.is
+module _ (text : List ℕ) where
+  one_frame : (n : ℕ) (f : Frame) (x y : ShownFrame) → AreFrameFacts text n f x → AreFrameFacts text n f y → x ≡ y
+  one_frame n f x y a b =
+      let words = (one_statement_at text f.procedure (start_of_block f.left) x.words y.words a.reads b.reads a.words b.words).0 in
+      λ i. record {
+        above = (a.above ∙ sym b.above) i;
+        procedure = (a.procedure ∙ sym b.procedure) i;
+        place = (a.place ∙ sym b.place) i;
+        position = (a.position ∙ sym b.position) i;
+        words = words i;
+        locals = (a.locals ∙ sym b.locals) i;
+      }
 
-  one_stack : (stack : List Frame) (a b : List ℕ) → IsStackText format text stack a → IsStackText format text stack b → a ≡ b
-  one_stack stack = one_of_parts _ (length stack) each
-    where
-      each : (k : ℕ) (p q : List ℕ) → k < length stack → ((f : Frame) → slice_get stack k ≡ Some f → IsFrameText format text k f p)
-          → ((f : Frame) → slice_get stack k ≡ Some f → IsFrameText format text k f q) → p ≡ q
-      each k p q within x y = let (f, at) = item_at stack k within in one_frame k f p q (x f at) (y f at)
+  one_stack : (n : ℕ) (stack : List Frame) (xs ys : List ShownFrame) → AreStackFacts text n stack xs → AreStackFacts text n stack ys → xs ≡ ys
+  one_stack n [] [] [] a b = refl
+  one_stack n [] [] (y ∷ ys) a b = elim b [ ]
+  one_stack n [] (x ∷ xs) ys a b = elim a [ ]
+  one_stack n (f ∷ fs) [] ys a b = elim a [ ]
+  one_stack n (f ∷ fs) (x ∷ xs) [] a b = elim b [ ]
+  one_stack n (f ∷ fs) (x ∷ xs) (y ∷ ys) a b = ap₂ (λ z (zs : List ShownFrame). z ∷ zs) (one_frame n f x y a.0 b.0) (one_stack (suc n) fs xs ys a.1 b.1)
+
+module _ (t : Program) (text : List ℕ) (s : SetupOf) (h : List Call) where
+  one_thread : (i : ℕ) (x y : ShownThread) → AreThreadFacts t text s h i x → AreThreadFacts t text s h i y → x ≡ y
+  one_thread i x y a b =
+      let frames = one_stack text 0 (stack_of (configuration_after t s h) i) x.frames y.frames a.frames b.frames in
+      λ j. record {
+        thread = (a.thread ∙ sym b.thread) j;
+        standing = (a.standing_is ∙ sym b.standing_is) j;
+        frames = frames j;
+      }
+
+  one_threads : (i : ℕ) (xs ys : List ShownThread) → length xs ≡ length ys → AreThreadsFacts t text s h i xs → AreThreadsFacts t text s h i ys → xs ≡ ys
+  one_threads i [] [] count a b = refl
+  one_threads i [] (y ∷ ys) count a b = absurd (omega (arith, count))
+  one_threads i (x ∷ xs) [] count a b = absurd (omega (arith, count))
+  one_threads i (x ∷ xs) (y ∷ ys) count a b =
+      ap₂ (λ z (zs : List ShownThread). z ∷ zs) (one_thread i x y a.0 b.0) (one_threads (suc i) xs ys (omega (arith, count)) a.1 b.1)
+
+  one_facts : (count : ℕ) (x y : ShownState) → AreStateFacts t text s h count x → AreStateFacts t text s h count y → x ≡ y
+  one_facts count x y a b =
+      let all = one_threads 0 x.threads y.threads (a.all_threads ∙ sym b.all_threads) a.threads_are b.threads_are in
+      λ j. record {
+        number = (a.number ∙ sym b.number) j;
+        count = (a.count_is ∙ sym b.count_is) j;
+        outcome = (a.outcome ∙ sym b.outcome) j;
+        globals = (a.globals ∙ sym b.globals) j;
+        threads = all j;
+      }
 
 pub one_state : (format : ViewFormat) (t : Program) (text : List ℕ) (s : SetupOf) (h : List Call) (count : ℕ) (v w : List ℕ)
     → IsStateText format t text s h count v → IsStateText format t text s h count w → v ≡ w
-one_state format t text s h count v w x y =
-    let now = configuration_after t s h in
-    x.is ∙ ap (λ said. state_in format (length h) count (outcome_of h) now.globals said) (one_of_parts _ (threads s) each x.threads_text y.threads_text x.threads_are y.threads_are) ∙ sym y.is
-  where
-    each : (i : ℕ) (p q : List ℕ) → i < threads s → IsThreadText format t text s h i p → IsThreadText format t text s h i q → p ≡ q
-    each i p q within a b =
-        let frames = one_stack format text (stack_of (configuration_after t s h) i) a.frames b.frames a.frames_are b.frames_are in
-        a.is ∙ ap (thread_state_in format i (standing t s h i)) frames ∙ sym b.is
+one_state format t text s h count v w x y = x.is ∙ ap (state_text format) (one_facts t text s h count x.facts y.facts x.facts_are y.facts_are) ∙ sym y.is

@@ -1,18 +1,22 @@
--- The scene of a thread's next statement has its place.
-use Rattle.std.proofs.Common.{◌≡◌, ◌∙◌, ℕ, List, ◌∷◌, subst, Option, None, Some, Bor, length, nat_lt, is_some, slice_get, get_or, ap, refl, sym, arith, ◌<◌, ◌≤◌}
-use Rattle.std.specs.Prelude.{option_map, IfSome}
-use Rattle.std.proofs.lemmas.Option.{slice_get_past, slice_get-get_or}
+-- What is shown of a frame of a stack is what the scene of its instruction shows.
+use Rattle.std.proofs.Common.{◌≡◌, ◌∙◌, ℕ, suc, List, ◌∷◌, Some, drop, drop-cons, length, slice_get, ap, refl, subst, sym}
+use Rattle.std.specs.Prelude.{option_map}
+use Rattle.std.proofs.lemmas.Option.{slice_get_within, get_or_from_slice_get}
 use Rattle.bp_tree.specs.Ast.{Procedure, Program}
-use Rattle.bp_code.specs.Configurations.{Configuration}
-use Rattle.bp_code.specs.StandsFor.{place, places_of}
+use Rattle.bp_code.specs.Bits.{bits_of}
+use Rattle.bp_code.specs.Configurations.{Configuration, Frame}
+use Rattle.bp_code.specs.StandsFor.{place, valuation_of, variables}
 use Rattle.bp_machine.specs.declared.tops.Top.{Top}
-use Rattle.bp_machine.specs.Answers.{stack_of}
-use Rattle.bp_machine.specs.Tops.{IsTop}
+use Rattle.bp_machine.specs.Tops.{IsTopOf}
 use Rattle.bp_source.specs.declared.scenes.Scene.{Scene}
 use Rattle.bp_source.specs.Procedures.{name_at}
-use Rattle.bp_source.specs.Scenes.{AreScenes, IsScene}
-use Rattle.bp_source.proofs.SceneLists.{SceneAt, scene_at}
+use Rattle.bp_source.specs.Scenes.{IsScene}
 use Rattle.bp_view.specs.CallFacts.{IsNextAt, IsNextOf, Next}
+use Rattle.bp_view.specs.StateFacts.{AreFrameFacts, ShownFrame}
+
+-- what is left of a stack begins with the frame that is there
+pub from_here : (stack : List Frame) (n : ℕ) (f : Frame) → slice_get stack n ≡ Some f → drop n stack ≡ f ∷ drop (suc n) stack
+from_here stack n f has = drop-cons stack n f (slice_get_within stack n f has) ∙ ap (λ y. y ∷ drop (suc n) stack) (get_or_from_slice_get stack n f f has)
 
 -- what a scene shows of what comes next at this top
 abbrev pub next_at : List Procedure → Scene → Top → Next
@@ -26,18 +30,23 @@ next_at ps scene x =
       reads = scene.excerpt.reads_choice;
     }
 
-module _ (t : Program) (text : List ℕ) (c : Configuration) (i : ℕ) (scenes : List Scene) (are : AreScenes text t scenes) where
-  -- the scene of what comes next
-  pub scene_of_top : (x : Top) → (is : IsTop t c i x) → SceneAt text t.procedures (place is.frame.procedure is.frame.left) scenes x.number
-  scene_of_top x is = scene_at text t.procedures (places_of t.procedures) scenes x.number (place is.frame.procedure is.frame.left) are is.next
+-- what it shows of the frame at this top, which is of this procedure
+abbrev pub frame_at : (above : ℕ) → Procedure → Scene → Top → ShownFrame
+frame_at n p scene x =
+    record {
+      above = n;
+      procedure = p;
+      place = scene.place.items;
+      position = scene.position;
+      words = scene.excerpt.words.items;
+      locals = valuation_of (variables p) (bits_of x.store.locals);
+    }
 
-  -- what its scene shows is what comes next
-  pub next_of_top : (x : Top) → (is : IsTop t c i x) → (scene : Scene) → slice_get scenes x.number ≡ Some scene
-      → IsNextOf text (stack_of c i) (next_at t.procedures scene x)
-  next_of_top x is scene here =
-      let found = scene_of_top x is in
-      let same : found.scene ≡ scene = let at = found.at in cc in
-      let shows = subst (IsScene text t.procedures (place is.frame.procedure is.frame.left)) same found.is in
+module _
+    (t : Program) (text : List ℕ) (c : Configuration) (frames : List Frame) (x : Top) (is : IsTopOf t c frames x)
+    (scene : Scene) (shows : IsScene text t.procedures (place is.frame.procedure is.frame.left) scene) where
+  pub next_of_top : IsNextOf text frames (next_at t.procedures scene x)
+  next_of_top =
       let own : IsNextAt text is.frame (length (is.frame ∷ is.below)) (next_at t.procedures scene x) = record {
         place = shows.place;
         position = shows.position;
@@ -50,3 +59,14 @@ module _ (t : Program) (text : List ℕ) (c : Configuration) (i : ℕ) (scenes :
       } in
       let on_frames : IsNextOf text (is.frame ∷ is.below) (next_at t.procedures scene x) = own in
       subst (λ s. IsNextOf text s (next_at t.procedures scene x)) (sym is.stack) on_frames
+
+  pub frame_of_top : (n : ℕ) (p : Procedure) → p ≡ is.frame.procedure → AreFrameFacts text n is.frame (frame_at n p scene x)
+  frame_of_top n p own = record {
+    above = refl;
+    procedure = own;
+    place = shows.place;
+    position = shows.position;
+    reads = scene.excerpt.reads_choice;
+    words = shows.statement;
+    locals = ap (λ (q : Procedure). valuation_of (variables q) (bits_of x.store.locals)) own ∙ sym is.locals;
+  }

@@ -21,6 +21,7 @@ pub mod ReplayedChanges
 pub mod ShownTraces
 pub mod Spans
 pub mod Standings
+pub mod StateFacts
 pub mod StatementColumns
 pub mod States
 pub mod Views

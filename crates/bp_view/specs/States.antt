@@ -1,48 +1,46 @@
--- The state after a history: the values of the globals, and how each thread stands.
-use Rattle.std.specs.Prelude.{◌≡◌, ℕ, List, [], ◌∷◌, Option, None, Some, codes, decimal, length, take}
+-- The text of a state, from its facts: the values of the globals, and how each thread stands.
+use Rattle.std.specs.Prelude.{◌≡◌, ℕ, List, [], ◌∷◌, Option, None, Some, codes, decimal, flat_map, length, take}
 use Rattle.std.specs.List.{concat}
 use Rattle.bp_tree.specs.Ast.{Program}
-use Rattle.bp_code.specs.Values.{Valuation}
 use Rattle.bp_machine.specs.declared.calls.Call.{Call}
 use Rattle.bp_machine.specs.declared.reports.Outcome.{Outcome}
 use Rattle.bp_machine.specs.declared.reports.Outcome.TheVariants.{Clean, Failed}
 use Rattle.bp_machine.specs.declared.reports.Report.{Report}
-use Rattle.bp_machine.specs.Answers.{stack_of}
-use Rattle.bp_machine.specs.Histories.{configuration_after}
-use Rattle.bp_machine.specs.Reports.{outcome_of}
-use Rattle.bp_machine.specs.Setups.{SetupOf, threads}
+use Rattle.bp_machine.specs.Setups.{SetupOf}
 use Rattle.bp_text.specs.JsonStrings.{string_text}
 use Rattle.bp_text.specs.Pieces.{key_text, list_text, number_or_null}
 use Rattle.bp_trace.specs.declared.replaying.Replayed.{Replayed}
 use Rattle.bp_trace.specs.Replayed.{IsReplayed}
 use Rattle.bp_view.specs.declared.options.ViewFormat.{ViewFormat}
 use Rattle.bp_view.specs.declared.options.ViewFormat.TheVariants.{Columns, Json}
-use Rattle.bp_view.specs.declared.standings.Standing.{Standing}
 use Rattle.bp_view.specs.Changes.{variables_text}
-use Rattle.bp_view.specs.Frames.{IsStackText}
+use Rattle.bp_view.specs.Frames.{frames_text}
 use Rattle.bp_view.specs.Heads.{globals_line}
-use Rattle.bp_view.specs.Parts.{IsInParts}
-use Rattle.bp_view.specs.Standings.{standing, standing_name, standing_words}
+use Rattle.bp_view.specs.Standings.{standing_name, standing_words}
+use Rattle.bp_view.specs.StateFacts.{AreStateFacts, ShownState, ShownThread}
 
 -- a thread for people, after an empty line, and the frames of its stack
-abbrev pub thread_state_lines : ℕ → Standing → (frames : List ℕ) → List ℕ
-thread_state_lines i standing frames =
+abbrev pub thread_lines : ShownThread → (frames : List ℕ) → List ℕ
+thread_lines x frames =
     concat (
-    codes "\nthread " ∷ decimal i
-    ∷ standing_words standing ∷ codes "\n" ∷ frames ∷ [])
+    codes "\nthread " ∷ decimal x.thread
+    ∷ standing_words x.standing ∷ codes "\n" ∷ frames ∷ [])
 
 -- the same as an object of JSON after a comma
-abbrev pub thread_state_object : ℕ → Standing → (frames : List ℕ) → List ℕ
-thread_state_object i standing frames =
+abbrev pub thread_object : ShownThread → (frames : List ℕ) → List ℕ
+thread_object x frames =
     concat (
-    codes ",{\"thread\":" ∷ decimal i
-    ∷ key_text (codes "standing") ∷ string_text (standing_name standing)
+    codes ",{\"thread\":" ∷ decimal x.thread
+    ∷ key_text (codes "standing") ∷ string_text (standing_name x.standing)
     ∷ key_text (codes "frames") ∷ list_text frames
     ∷ codes "}" ∷ [])
 
-abbrev pub thread_state_in : ViewFormat → ℕ → Standing → (frames : List ℕ) → List ℕ
-thread_state_in Columns i standing frames = thread_state_lines i standing frames
-thread_state_in Json i standing frames = thread_state_object i standing frames
+abbrev pub thread_text : ViewFormat → ShownThread → List ℕ
+thread_text Columns x = thread_lines x (frames_text Columns x.frames)
+thread_text Json x = thread_object x (frames_text Json x.frames)
+
+abbrev pub threads_text : ViewFormat → List ShownThread → List ℕ
+threads_text format xs = flat_map (thread_text format) xs
 
 -- that an assertion of a thread failed, and no line where none did
 abbrev pub failed_line : Outcome → List ℕ
@@ -50,13 +48,15 @@ failed_line Clean = []
 failed_line (Failed i) =
     concat (codes "an assertion of thread " ∷ decimal i ∷ codes " failed\n" ∷ [])
 
--- the state for people after n of so many calls
-abbrev pub state_lines : (n count : ℕ) → Outcome → Valuation → (threads : List ℕ) → List ℕ
-state_lines n count outcome globals threads =
+-- a state for people
+abbrev pub state_lines : ShownState → (threads : List ℕ) → List ℕ
+state_lines x threads =
     concat (
-    concat (codes "after call " ∷ decimal n ∷ codes " of " ∷ decimal count ∷ codes "\n" ∷ [])
-    ∷ failed_line outcome
-    ∷ globals_line globals
+    concat (
+    codes "after call " ∷ decimal x.number
+    ∷ codes " of " ∷ decimal x.count ∷ codes "\n" ∷ [])
+    ∷ failed_line x.outcome
+    ∷ globals_line x.globals
     ∷ threads ∷ [])
 
 -- the thread whose assertion failed
@@ -65,44 +65,36 @@ failed_thread Clean = None
 failed_thread (Failed i) = Some i
 
 -- the members of a state that have one value each, and the key of the globals
-abbrev pub state_members : (n count : ℕ) → Outcome → List ℕ
-state_members n count outcome =
+abbrev pub state_members : ShownState → List ℕ
+state_members x =
     concat (
     codes "{\"kind\":\"state\",\"version\":2"
-    ∷ key_text (codes "call") ∷ decimal n
-    ∷ key_text (codes "calls") ∷ decimal count
-    ∷ key_text (codes "failed") ∷ number_or_null (failed_thread outcome)
+    ∷ key_text (codes "call") ∷ decimal x.number
+    ∷ key_text (codes "calls") ∷ decimal x.count
+    ∷ key_text (codes "failed") ∷ number_or_null (failed_thread x.outcome)
     ∷ key_text (codes "globals") ∷ [])
 
 -- the same as an object of JSON
-abbrev pub state_object : (n count : ℕ) → Outcome → Valuation → (threads : List ℕ) → List ℕ
-state_object n count outcome globals threads =
+abbrev pub state_object : ShownState → (threads : List ℕ) → List ℕ
+state_object x threads =
     concat (
-    state_members n count outcome
-    ∷ list_text (variables_text Json None globals)
+    state_members x
+    ∷ list_text (variables_text Json None x.globals)
     ∷ key_text (codes "threads") ∷ list_text threads
     ∷ codes "}\n" ∷ [])
 
-abbrev pub state_in
-    : ViewFormat → (n count : ℕ) → Outcome → Valuation → (threads : List ℕ) → List ℕ
-state_in Columns n count outcome globals threads = state_lines n count outcome globals threads
-state_in Json n count outcome globals threads = state_object n count outcome globals threads
+abbrev pub state_text : ViewFormat → ShownState → List ℕ
+state_text Columns x = state_lines x (threads_text Columns x.threads)
+state_text Json x = state_object x (threads_text Json x.threads)
 
--- Of a program and its text, in a setup; after the history h.
-module _ (format : ViewFormat) (t : Program) (text : List ℕ) (s : SetupOf) (h : List Call) where
-  -- how thread i stands, and the frames of its stack
-  pub record IsThreadText (i : ℕ) (said : List ℕ) : Type 0 where
-    pub frames : List ℕ
-    pub frames_are : IsStackText format text (stack_of (configuration_after t s h) i) frames
-    pub is : said ≡ thread_state_in format i (standing t s h i) frames
-
-  -- the state after the first calls of a history of so many
-  pub record IsStateText (count : ℕ) (said : List ℕ) : Type 0 where
-    pub threads_text : List ℕ
-    pub threads_are : IsInParts IsThreadText (threads s) threads_text
-    pub is :
-        let globals = (configuration_after t s h).globals in
-        said ≡ state_in format (length h) count (outcome_of h) globals threads_text
+-- of a program and its text, in a setup: the state after the calls h, the first of so many
+pub record IsStateText
+    (format : ViewFormat)
+    (t : Program) (text : List ℕ) (s : SetupOf) (h : List Call) (count : ℕ) (said : List ℕ)
+    : Type 0 where
+  pub facts : ShownState
+  pub facts_are : AreStateFacts t text s h count facts
+  pub is : said ≡ state_text format facts
 
 -- the state after the first n calls of the history of a trace of the program, or after all where
 -- there are no more, and the report of the whole history

@@ -1,7 +1,7 @@
 -- The names of the watched variables.
-use Rattle.std.specs.Prelude.{◌≡◌, ◌==◌, ◌-◌, ◌&&◌, ◌||◌, ◌++◌, if◌then◌else◌, ℕ, suc, Bool, true, false, not, List, [], ◌∷◌, Option, None, Some, is_some, bytes_eq, codes, length, map, slice_get, take, drop}
+use Rattle.std.specs.Prelude.{◌≡◌, ◌==◌, ◌-◌, ◌||◌, ◌++◌, ℕ, suc, Bool, true, false, List, [], Option, None, Some, is_some, bytes_eq, codes, length, map, slice_get, take, drop}
 use Rattle.std.specs.Borrow.{Bor}
-use Rattle.std.specs.List.{list_all, list_any, onto_first, prefix_len, suffix_len}
+use Rattle.std.specs.List.{list_all, list_any, prefix_len, suffix_len}
 use Rattle.bp_tree.specs.Ast.{Procedure, Program}
 use Rattle.bp_check.specs.Tables.{first_index}
 use Rattle.bp_code.specs.StandsFor.{variables}

@@ -14,7 +14,7 @@ ghost use Rattle.bp_view.specs.Options.{calls_of};
 
 use crate::change_facts::Change;
 use crate::moments::Moment;
-use crate::settings::Setting;
+use crate::settings::{Setting, scene_of};
 use bp_machine::{Call, Reply, Top};
 use bp_source::name_at;
 use bp_text::Position;
@@ -75,7 +75,7 @@ pub(crate) fn next_of<'a>(setting: &Setting<'a>, top: Option<Top>) -> Next<'a>
     let Some(top) = top else {
         return NOTHING;
     };
-    let Some(scene) = setting.scenes.get(top.number as usize) else {
+    let Some(scene) = scene_of(setting, top) else {
         return NOTHING;
     };
     Next {

@@ -16,7 +16,7 @@ ghost use Rattle.bp_view.specs.Conditions.{condition_in, condition_members, cond
 ghost use Rattle.bp_view.specs.Moments.{IsSettingOf};
 
 use crate::options::ViewFormat;
-use crate::settings::Setting;
+use crate::settings::{Setting, scene_of};
 use crate::variables::push_variable;
 use bp_code::Store;
 use bp_machine::{Session, Top};
@@ -173,7 +173,7 @@ pub(crate) fn condition_of(
     let Some(top) = session.top(thread) else {
         return Ok(said);
     };
-    let Some(scene) = setting.scenes.get(top.number as usize) else {
+    let Some(scene) = scene_of(setting, top) else {
         return Ok(said);
     };
     let Some(position) = scene.position else {

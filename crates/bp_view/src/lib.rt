@@ -24,6 +24,7 @@ mod shown;
 mod shown_traces;
 mod spans;
 mod standings;
+mod state_facts;
 mod statement_columns;
 mod states;
 mod variables;

@@ -1,6 +1,12 @@
 //! What the lines of a view have in common: the program's scenes and names, and the widths of the
 //! columns.
-ghost use Rattle.std.specs.Prelude.{◌≡◌, ◌<◌, ◌≤◌, ◌^◌, drop, length, map, max, take};
+ghost use Rattle.std.specs.Prelude.{◌≡◌, ◌<◌, ◌≤◌, ◌^◌, ℕ, List, drop, length, map, max, take, IsSomeAnd};
+ghost use Rattle.bp_tree.specs.Ast.{Program};
+ghost use Rattle.bp_code.specs.Configurations.{Configuration, Frame};
+ghost use Rattle.bp_code.specs.StandsFor.{place};
+ghost use Rattle.bp_machine.specs.Tops.{IsTopOf};
+ghost use Rattle.bp_source.specs.Scenes.{IsScene};
+ghost use Rattle.bp_view.specs.Moments.{IsSettingOf};
 ghost use Rattle.bp_view.specs.Options.{calls_at, is_shown};
 ghost use Rattle.bp_view.specs.StatementColumns.{shortened};
 ghost use Rattle.bp_view.specs.Widths.{extent, extent_of, longest, AreWidths};
@@ -9,7 +15,7 @@ use crate::options::ViewOptions;
 use crate::statement_columns::statement_room;
 use crate::waits::calls_in_line;
 use bp_check::Checked;
-use bp_machine::{Call, Setup};
+use bp_machine::{Call, Setup, Top};
 use bp_source::Scene;
 use bp_text::digits;
 use bp_tree::{Name, Proc};
@@ -144,6 +150,17 @@ impl Setting<'_> {
         );
         calls_in_line(self.options.folds(), call, before, after)
     }
+}
+
+/// What is shown of the next statement at this top of a stack.
+pub(crate) fn scene_of<'a>(setting: &Setting<'a>, top: Top) -> Option<&'a Scene>
+    ensures { (t : Program) (text : List ℕ) (c : Configuration) (frames : List Frame)
+        → IsSettingOf t text setting.now
+        → (is : IsTopOf t c frames top)
+        → let next = place is.frame.procedure is.frame.left in
+        IsSomeAnd result (λ scene. IsScene text t.procedures next scene.now) }
+{
+    setting.scenes.get(top.number as usize)
 }
 
 /// The setting of a view of a history in this setup.

@@ -1,23 +1,23 @@
-//! The state after a history: the values of the globals, and how each thread stands.
-ghost use Rattle.std.specs.Prelude.{◌≡◌, ◌++◌, ◌<◌, ℕ, List, codes, length, take, IfOk, MatchResult, OnOk};
+//! The text of a state, from its facts: the values of the globals, and how each thread stands.
+ghost use Rattle.std.specs.Prelude.{◌≡◌, ◌++◌, ℕ, List, length, map, take, IfOk, MatchResult, OnOk};
 ghost use Rattle.bp_tree.specs.Ast.{Program};
 ghost use Rattle.bp_code.specs.Bits.{bits_of};
 ghost use Rattle.bp_code.specs.StandsFor.{valuation_of, StandsFor};
 ghost use Rattle.bp_machine.specs.Sessions.{Stands};
-ghost use Rattle.bp_machine.specs.Setups.{threads, FitsCode};
+ghost use Rattle.bp_machine.specs.Setups.{FitsCode};
 ghost use Rattle.bp_trace.specs.Replays.{IsPlayable, IsReplayRefusal};
 ghost use Rattle.bp_source.specs.Scenes.{AreScenes};
 ghost use Rattle.bp_view.specs.Heads.{globals_line};
 ghost use Rattle.bp_view.specs.Moments.{IsSettingOf};
-ghost use Rattle.bp_view.specs.Parts.{Adds, IsInParts};
-ghost use Rattle.bp_view.specs.States.{failed_line, failed_thread, state_in, state_lines, state_members, state_object, thread_state_in, thread_state_lines, thread_state_object, IsStateOfTrace, IsStateText, IsThreadText};
+ghost use Rattle.bp_view.specs.StateFacts.{state_in, thread_in};
+ghost use Rattle.bp_view.specs.States.{failed_line, failed_thread, state_lines, state_members, state_object, state_text, thread_lines, thread_object, thread_text, threads_text, IsStateOfTrace, IsStateText};
 
 use crate::frames::push_frames;
 use crate::options::ViewFormat;
 use crate::played_again::session_after;
 use crate::settings::{Setting, calls_to};
 use crate::shown_traces::{ShownTrace, shown_trace_of};
-use crate::standings::Standing;
+use crate::state_facts::{StateFacts, ThreadFacts, state_facts};
 use crate::variables::push_values;
 use bp_check::Checked;
 use bp_code::Code;
@@ -29,67 +29,48 @@ use bp_trace::ReplayFault;
 use bp_tree::Name;
 use std::alloc::{AllocError, Global};
 
-/// Adds a thread for people, and these frames.
+/// Adds a thread with these frames, for people.
 fn push_thread_lines(
     view: &mut Vec<u8>,
-    thread: u32,
-    standing: Standing,
+    thread: &ThreadFacts<'_>,
     frames: &[u8],
 ) -> Result<(), AllocError>
-    ensures { let thread = thread_state_lines thread standing frames.now in
-        OnOk result (view.new.items ≡ view.old.items ++ thread) }
+    ensures { let text = thread_lines (thread_in thread.now) frames.now in
+        OnOk result (view.new.items ≡ view.old.items ++ text) }
 {
     push_pieces(
         view,
         &[
             Bytes(b"\nthread "),
-            Number(u64::from(thread)),
-            Bytes(standing.words()),
+            Number(u64::from(thread.thread)),
+            Bytes(thread.standing.words()),
             Bytes(b"\n"),
             Bytes(frames),
         ],
     )
 }
 
-/// Adds a thread as an object of JSON, after a comma.
+/// Adds a thread with these frames as an object of JSON, after a comma.
 fn push_thread_object(
     view: &mut Vec<u8>,
-    thread: u32,
-    standing: Standing,
+    thread: &ThreadFacts<'_>,
     frames: &[u8],
 ) -> Result<(), AllocError>
-    ensures { let thread = thread_state_object thread standing frames.now in
-        OnOk result (view.new.items ≡ view.old.items ++ thread) }
+    ensures { let text = thread_object (thread_in thread.now) frames.now in
+        OnOk result (view.new.items ≡ view.old.items ++ text) }
 {
     push_pieces(
         view,
         &[
             Bytes(b",{\"thread\":"),
-            Number(u64::from(thread)),
+            Number(u64::from(thread.thread)),
             Key(b"standing"),
-            Text(standing.name()),
+            Text(thread.standing.name()),
             Key(b"frames"),
             List(frames),
             Bytes(b"}"),
         ],
     )
-}
-
-/// Adds a thread in this format.
-fn push_thread_in(
-    view: &mut Vec<u8>,
-    format: ViewFormat,
-    thread: u32,
-    standing: Standing,
-    frames: &[u8],
-) -> Result<(), AllocError>
-    ensures { let thread = thread_state_in format thread standing frames.now in
-        OnOk result (view.new.items ≡ view.old.items ++ thread) }
-{
-    match format {
-        ViewFormat::Columns => push_thread_lines(view, thread, standing, frames),
-        ViewFormat::Json => push_thread_object(view, thread, standing, frames),
-    }
 }
 
 /// Room for parts of a state while it is written.
@@ -99,71 +80,46 @@ struct Room {
     note: Vec<u8>,
 }
 
-/// Adds how a thread of the session stands, and the frames of its stack.
+/// Adds a thread.
 fn push_thread(
     view: &mut Vec<u8>,
     room: &mut Room,
-    setting: &Setting<'_>,
-    session: &Session,
-    history: &[Call],
-    thread: u32,
+    format: ViewFormat,
+    thread: &ThreadFacts<'_>,
 ) -> Result<(), AllocError>
-    requires { thread < threads session.now.setup }
-    ensures { (t : Program) (text : List ℕ)
-        → IsSettingOf t text setting.now
-        → StandsFor session.now.code t
-        → Stands t session.now history.now
-        → let format = setting.now.options.format in
-        let said = IsThreadText format t text session.now.setup history.now thread in
-        OnOk result (Adds said view.old.items view.new.items) }
+    ensures { let text = thread_text format (thread_in thread.now) in
+        OnOk result (view.new.items ≡ view.old.items ++ text) }
 {
-    let format = setting.options.format;
     room.frames.clear();
-    push_frames(&mut room.frames, &mut room.note, setting, session, thread)?;
-    let standing = Standing::of(session, history, thread);
-    push_thread_in(view, format, thread, standing, &room.frames)?;
-    Ok(())
+    push_frames(
+        &mut room.frames,
+        &mut room.note,
+        format,
+        thread.frames.as_slice(),
+    )?;
+    match format {
+        ViewFormat::Columns => push_thread_lines(view, thread, &room.frames),
+        ViewFormat::Json => push_thread_object(view, thread, &room.frames),
+    }
 }
 
-/// How each thread of the session stands, and the frames of its stack. The session stands after
-/// this history.
-fn threads_of(
+/// The text of all threads.
+fn threads_text(
     alloc: Global,
-    setting: &Setting<'_>,
-    session: &Session,
-    history: &[Call],
+    format: ViewFormat,
+    threads: &[ThreadFacts<'_>],
 ) -> Result<Vec<u8>, AllocError>
-    ensures { (t : Program) (text : List ℕ)
-        → IsSettingOf t text setting.now
-        → StandsFor session.now.code t
-        → Stands t session.now history.now
-        → let format = setting.now.options.format in
-        let s = session.now.setup in
-        let thread = IsThreadText format t text s history.now in
-        IfOk result (λ v. IsInParts thread (threads s) v.items) }
+    ensures { IfOk result (λ v. v.items ≡ threads_text format (map thread_in threads.now)) }
 {
-    session.setup().is_in_range();
     let mut view = Vec::new(alloc);
     let mut room = Room {
         frames: Vec::new(alloc),
         note: Vec::new(alloc),
     };
-    for thread in 0..session.setup().threads() {
-        push_thread(&mut view, &mut room, setting, session, history, thread)?;
+    for thread in threads {
+        push_thread(&mut view, &mut room, format, thread)?;
     }
     Ok(view)
-}
-
-/// What is said of a state before its threads.
-#[derive(Clone, Copy)]
-struct StateHead {
-    /// How many calls were made.
-    number: u64,
-    /// How many calls the history has.
-    count: u64,
-    outcome: Outcome,
-    /// The bits of the globals.
-    globals: u128,
 }
 
 /// Adds that an assertion failed, where one did.
@@ -196,29 +152,27 @@ fn push_globals_line(view: &mut Vec<u8>, globals: &[Name], word: u128) -> Result
     push_bytes(view, b"\n")
 }
 
-/// Adds a state for people.
+/// Adds a state with this text of its threads, for people.
 fn push_state_lines(
     view: &mut Vec<u8>,
-    globals: &[Name],
-    head: StateHead,
+    state: &StateFacts<'_>,
     threads: &[u8],
 ) -> Result<(), AllocError>
-    ensures { let values = valuation_of globals.now (bits_of head.globals) in
-        let state = state_lines head.number head.count head.outcome values threads.now in
-        OnOk result (view.new.items ≡ view.old.items ++ state) }
+    ensures { let text = state_lines (state_in state.now) threads.now in
+        OnOk result (view.new.items ≡ view.old.items ++ text) }
 {
     push_pieces(
         view,
         &[
             Bytes(b"after call "),
-            Number(head.number),
+            Number(state.number),
             Bytes(b" of "),
-            Number(head.count),
+            Number(state.count),
             Bytes(b"\n"),
         ],
     )?;
-    push_failed_line(view, head.outcome)?;
-    push_globals_line(view, globals, head.globals)?;
+    push_failed_line(view, state.outcome)?;
+    push_globals_line(view, state.globals, state.values)?;
     push_bytes(view, threads)
 }
 
@@ -233,40 +187,39 @@ fn failed_thread(outcome: Outcome) -> Option<u64>
 }
 
 /// Adds the members of a state that have one value each, and the key of the globals.
-fn push_state_members(view: &mut Vec<u8>, head: StateHead) -> Result<(), AllocError>
-    ensures { let members = state_members head.number head.count head.outcome in
-        OnOk result (view.new.items ≡ view.old.items ++ members) }
+fn push_state_members(view: &mut Vec<u8>, state: &StateFacts<'_>) -> Result<(), AllocError>
+    ensures { OnOk result
+        (view.new.items ≡ view.old.items ++ state_members (state_in state.now)) }
 {
     push_pieces(
         view,
         &[
             Bytes(b"{\"kind\":\"state\",\"version\":2"),
             Key(b"call"),
-            Number(head.number),
+            Number(state.number),
             Key(b"calls"),
-            Number(head.count),
+            Number(state.count),
             Key(b"failed"),
-            NumberOrNull(failed_thread(head.outcome)),
+            NumberOrNull(failed_thread(state.outcome)),
             Key(b"globals"),
         ],
     )
 }
 
-/// Adds a state as an object of JSON. `note` is room for the values of the globals.
+/// Adds a state with this text of its threads as an object of JSON. `note` is room for the values
+/// of the globals.
 fn push_state_object(
     view: &mut Vec<u8>,
     note: &mut Vec<u8>,
-    globals: &[Name],
-    head: StateHead,
+    state: &StateFacts<'_>,
     threads: &[u8],
 ) -> Result<(), AllocError>
-    ensures { let values = valuation_of globals.now (bits_of head.globals) in
-        let state = state_object head.number head.count head.outcome values threads.now in
-        OnOk result (view.new.items ≡ view.old.items ++ state) }
+    ensures { let text = state_object (state_in state.now) threads.now in
+        OnOk result (view.new.items ≡ view.old.items ++ text) }
 {
     note.clear();
-    push_values(note, ViewFormat::Json, None, globals, 0, head.globals)?;
-    push_state_members(view, head)?;
+    push_values(note, ViewFormat::Json, None, state.globals, 0, state.values)?;
+    push_state_members(view, state)?;
     push_four(
         view,
         List(note),
@@ -280,20 +233,17 @@ fn push_state_object(
 fn state_text(
     alloc: Global,
     format: ViewFormat,
-    globals: &[Name],
-    head: StateHead,
-    threads: &[u8],
+    state: &StateFacts<'_>,
 ) -> Result<Vec<u8>, AllocError>
-    ensures { let values = valuation_of globals.now (bits_of head.globals) in
-        let state = state_in format head.number head.count head.outcome values threads.now in
-        IfOk result (λ v. v.items ≡ state) }
+    ensures { IfOk result (λ v. v.items ≡ state_text format (state_in state.now)) }
 {
+    let threads = threads_text(alloc, format, state.threads.as_slice())?;
     let mut view = Vec::new(alloc);
     match format {
-        ViewFormat::Columns => push_state_lines(&mut view, globals, head, threads)?,
+        ViewFormat::Columns => push_state_lines(&mut view, state, &threads)?,
         ViewFormat::Json => {
             let mut note = Vec::new(alloc);
-            push_state_object(&mut view, &mut note, globals, head, threads)?;
+            push_state_object(&mut view, &mut note, state, &threads)?;
         }
     }
     Ok(view)
@@ -315,21 +265,8 @@ pub(crate) fn state_of(
         let s = session.now.setup in
         IfOk result (λ v. IsStateText format t text s history.now count v.items) }
 {
-    let threads = threads_of(alloc, setting, session, history)?;
-    let report = session.report();
-    let head = StateHead {
-        number: report.calls,
-        count,
-        outcome: report.outcome,
-        globals: session.globals(),
-    };
-    state_text(
-        alloc,
-        setting.options.format,
-        setting.globals,
-        head,
-        &threads,
-    )
+    let facts = state_facts(alloc, setting, session, history, count)?;
+    state_text(alloc, setting.options.format, &facts)
 }
 
 /// The state after the first `number` calls of a trace that was replayed, or after the last where

@@ -7,10 +7,10 @@ use Rattle.bp_view.proofs.frames.push_frame_lines.Goals as goal
 
 pub returns : goal.returns
 returns c =
-    let scene = c.args.scene.now in
+    let frame = c.args.frame in
     let old = c.args.view.now.items in
-    let name = map on_one_line c.args.proc.now.name.text in
-    let joined = frame_joined (lead c.args.returned) name scene.place.items scene.excerpt.words.items c.values_lead.result.now c.args.values.now c.values_lead.ensures in
+    let name = map on_one_line frame.proc.now.name.text in
+    let joined = frame_joined (lead frame.above) name frame.place.now frame.words.now c.values_lead.result.now c.args.values.now c.values_lead.ensures in
     when_ok c.push_pieces.result c.push_pieces.ensures (λ added.
-    rw (added, c.lead.ensures, c.as_bytes.ensures.value, c.text.ensures, c.name.ensures, c.as_slice.ensures.value, c.as_slice-2.ensures.value)
+    rw (added, c.lead.ensures, c.as_bytes.ensures.value, c.text.ensures, c.name.ensures)
     (ap (λ x. old ++ x) joined))

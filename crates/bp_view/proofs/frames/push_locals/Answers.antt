@@ -10,9 +10,9 @@ use Rattle.bp_view.proofs.frames.push_locals.Goals as goal
 
 pub returns : goal.returns
 returns c =
-    let p = c.args.proc.now in
+    let p = c.args.frame.proc.now in
     let old = c.args.values.now.items in
-    let bits = bits_of c.args.word in
+    let bits = bits_of c.args.frame.locals in
     let said : (xs : List Name) → Bits → List ℕ = λ xs f. variables_text c.args.format (Some p) (valuation_of xs f) in
     let later : ℕ → Bits = λ n k. bits (n + k) in
     let first = said p.formals bits in

@@ -10,9 +10,9 @@ use Rattle.bp_view.proofs.states.push_state_lines.Goals as goal
 
 pub returns : goal.returns
 returns c =
-    let head = c.args.head in
-    let first = concat (codes "after call " ∷ decimal head.number ∷ codes " of " ∷ decimal head.count ∷ codes "\n" ∷ []) in
-    let globals = globals_line (valuation_of c.args.globals.now (bits_of head.globals)) in
+    let state = c.args.state.now in
+    let first = concat (codes "after call " ∷ decimal state.number ∷ codes " of " ∷ decimal state.count ∷ codes "\n" ∷ []) in
+    let globals = globals_line (valuation_of state.globals.now (bits_of state.values)) in
     when_ok c.push_bytes.result c.push_bytes.ensures (λ added.
     rw (added, c.in_ok-push_globals_line.ensures, c.in_ok-push_failed_line.ensures, c.in_ok-push_pieces.ensures)
-    (all_added c.args.view.now.items (first ∷ failed_line head.outcome ∷ globals ∷ c.args.threads.now ∷ [])))
+    (all_added c.args.view.now.items (first ∷ failed_line state.outcome ∷ globals ∷ c.args.threads.now ∷ [])))

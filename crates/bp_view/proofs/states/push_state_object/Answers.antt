@@ -5,6 +5,7 @@ use Rattle.bp_text.proofs.PiecesInTurn.{all_added}
 use Rattle.bp_text.specs.Pieces.{key_text, list_text}
 use Rattle.bp_view.specs.declared.options.ViewFormat.TheVariants.{Json}
 use Rattle.bp_view.specs.Changes.{variables_text}
+use Rattle.bp_view.specs.StateFacts.{state_in}
 use Rattle.bp_view.specs.States.{state_members}
 use Rattle.bp_view.proofs.ChangedVariables.{from_first}
 use Rattle.bp_source.proofs.JoinedPieces.{when_ok}
@@ -12,9 +13,9 @@ use Rattle.bp_view.proofs.states.push_state_object.Goals as goal
 
 pub returns : goal.returns
 returns c =
-    let head = c.args.head in
-    let bits = bits_of head.globals in
-    let names = c.args.globals.now in
+    let state = c.args.state.now in
+    let bits = bits_of state.values in
+    let names = state.globals.now in
     let values = variables_text Json None (valuation_of names bits) in
     let note = c.deref.ensures.value
     ∙ c.in_ok-push_values.ensures
@@ -23,4 +24,4 @@ returns c =
     in
     when_ok c.push_four.result c.push_four.ensures (λ added.
     rw (added, c.in_ok-push_state_members.ensures, note)
-    (all_added c.args.view.now.items (state_members head.number head.count head.outcome ∷ list_text values ∷ key_text (codes "threads") ∷ list_text c.args.threads.now ∷ codes "}\n" ∷ [])))
+    (all_added c.args.view.now.items (state_members (state_in state) ∷ list_text values ∷ key_text (codes "threads") ∷ list_text c.args.threads.now ∷ codes "}\n" ∷ [])))

@@ -1,0 +1,28 @@
+-- The facts of a stack and of threads, with those of one more.
+use Rattle.std.proofs.Common.{◌≡◌, ◌+◌, ◌++◌, ℕ, zero, suc, List, [], ◌∷◌, Some, length, slice_get, take, subst, arith}
+use Rattle.std.proofs.lemmas.Option.{slice_get_within}
+use Rattle.bp_tree.specs.Ast.{Program}
+use Rattle.bp_code.specs.Configurations.{Frame}
+use Rattle.bp_machine.specs.declared.calls.Call.{Call}
+use Rattle.bp_machine.specs.Setups.{SetupOf}
+use Rattle.bp_view.specs.StateFacts.{AreFrameFacts, AreStackFacts, AreThreadFacts, AreThreadsFacts, ShownFrame, ShownThread}
+
+pub one_frame_more : (text : List ℕ) (n k m : ℕ) → m ≡ n + k → (stack : List Frame) (xs : List ShownFrame) (f : Frame) (x : ShownFrame)
+    → AreStackFacts text n (take k stack) xs → slice_get stack k ≡ Some f → AreFrameFacts text m f x
+    → AreStackFacts text n (take (suc k) stack) (xs ++ x ∷ [])
+one_frame_more text n k m deep [] xs f x are at is = absurd (omega (arith, slice_get_within [] k f at))
+one_frame_more text n zero m deep (g ∷ gs) [] f x are at is =
+    let same : f ≡ g = cc in
+    let first : m ≡ n = omega (arith, deep) in
+    (subst (λ k. AreFrameFacts text k g x) first (subst (λ e. AreFrameFacts text m e x) same is), tt)
+one_frame_more text n zero m deep (g ∷ gs) (y ∷ ys) f x are at is = elim are [ ]
+one_frame_more text n (suc k) m deep (g ∷ gs) [] f x are at is = elim are [ ]
+one_frame_more text n (suc k) m deep (g ∷ gs) (y ∷ ys) f x are at is =
+    (are.0, one_frame_more text (suc n) k m (omega (arith, deep)) gs ys f x are.1 at is)
+
+pub one_thread_more : (t : Program) (text : List ℕ) (s : SetupOf) (h : List Call) (i m : ℕ) (xs : List ShownThread) (x : ShownThread)
+    → m ≡ i + length xs → AreThreadsFacts t text s h i xs → AreThreadFacts t text s h m x → AreThreadsFacts t text s h i (xs ++ x ∷ [])
+one_thread_more t text s h i m [] x count are is =
+    let first : m ≡ i = omega (arith, count) in
+    (subst (λ k. AreThreadFacts t text s h k x) first is, tt)
+one_thread_more t text s h i m (y ∷ ys) x count are is = (are.0, one_thread_more t text s h (suc i) m ys x (omega (arith, count)) are.1 is)

@@ -1,0 +1,41 @@
+use Rattle.std.proofs.Common.{◌≡◌, drop, subst}
+use Rattle.bp_code.specs.StandsFor.{place}
+use Rattle.bp_machine.specs.Answers.{stack_of}
+use Rattle.bp_machine.specs.Histories.{configuration_after}
+use Rattle.bp_view.specs.StateFacts.{AreFrameFacts}
+use Rattle.bp_view.proofs.PlacesOfTops.{frame_at, frame_of_top, from_here}
+use Rattle.bp_view.proofs.state_facts.frame_below.Goals as goal
+
+pub returns-in_err-top : goal.returns-in_err-top
+returns-in_err-top c = λ t text h f set is stands at.
+    let stack = stack_of (configuration_after t c.args.session.now.setup h) c.args.thread in
+    let none = c.in_err-top.ensures t h is stands in
+    let some = from_here stack c.args.above f at in
+    absurd cc
+
+pub returns-in_err-scene : goal.returns-in_err-scene
+returns-in_err-scene c = λ t text h f set is stands at.
+    let now = configuration_after t c.args.session.now.setup h in
+    absurd (c.in_err-scene.ensures t text now (drop c.args.above (stack_of now c.args.thread)) set (c.in_ok-top.ensures t h is stands))
+
+pub returns-in_err-proc : goal.returns-in_err-proc
+returns-in_err-proc c = λ t text h f set is stands at.
+    let top = c.in_ok-top.ensures t h is stands in
+    let none = c.in_err-proc.ensures t text (place top.frame.procedure top.frame.left) set.scenes set.procedures top.next in
+    absurd cc
+
+pub returns : goal.returns
+returns c = λ t text h f set is stands at.
+    let now = configuration_after t c.args.session.now.setup h in
+    let n = c.args.above in
+    let left = drop n (stack_of now c.args.thread) in
+    let top = c.in_ok-top.ensures t h is stands in
+    let shows = c.in_ok-scene.ensures t text now left set top in
+    let some = c.in_ok-proc.ensures t text (place top.frame.procedure top.frame.left) set.scenes set.procedures top.next in
+    let own : c.in_ok-proc.proc.now ≡ top.frame.procedure = cc in
+    let here = from_here (stack_of now c.args.thread) n f at in
+    let there = top.stack in
+    let same : top.frame ≡ f = cc in
+    let facts = frame_of_top t text now left c.in_ok-top.top top c.in_ok-scene.scene.now shows n c.in_ok-proc.proc.now own in
+    rw (c.as_slice.ensures.value, c.as_slice-2.ensures.value)
+    (subst (λ g. AreFrameFacts text n g (frame_at n c.in_ok-proc.proc.now c.in_ok-scene.scene.now c.in_ok-top.top)) same facts)
