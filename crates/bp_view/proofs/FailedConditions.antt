@@ -1,24 +1,19 @@
--- A thread whose assertion failed still stands at it, and what is said of it there is what was so.
-use Rattle.std.proofs.Common.{◌∙◌, ℕ, List, ap, drop, subst}
+-- A thread whose assertion failed still stands at it, and what is shown of it there is what was so.
+use Rattle.std.proofs.Common.{◌≡◌, ◌∙◌, ℕ, List, ap, refl, sym}
 use Rattle.bp_tree.specs.Ast.{Program}
-use Rattle.bp_code.specs.Moves.{frame_store}
 use Rattle.bp_code.specs.Starts.{start_of_block}
 use Rattle.bp_machine.specs.declared.calls.Call.{Call}
 use Rattle.bp_machine.specs.Histories.{configuration_after}
 use Rattle.bp_machine.specs.Reports.{IsRealFailure}
 use Rattle.bp_machine.specs.Setups.{SetupOf}
-use Rattle.bp_text.specs.Positions.{position_at}
-use Rattle.bp_source.specs.Assertions.{next_decision, variables_read}
-use Rattle.bp_source.specs.Statements.{IsStatement}
-use Rattle.bp_view.specs.declared.options.ViewFormat.{ViewFormat}
-use Rattle.bp_view.specs.Conditions.{condition_in, named_values, IsAtCondition, IsConditionText}
-use Rattle.bp_view.specs.Outcomes.{IsAssertionText}
-use Rattle.bp_view.proofs.ConditionTexts.{one_decision, one_frame, one_place}
+use Rattle.bp_source.specs.Assertions.{next_decision}
+use Rattle.bp_view.specs.FootFacts.{AreAssertionFacts, AreStandingFacts, IsAtCondition, ShownCondition}
 use Rattle.bp_view.proofs.FailedStatements.{globals_stay, stack_stays}
+use Rattle.bp_view.proofs.StandingThreads.{one_condition, one_decision, one_frame, one_place, same_condition}
 
-module _ (t : Program) (text : List ℕ) (s : SetupOf) (h : List Call) (i : ℕ) (failure : IsRealFailure t s h i) where
-  pub at_assertion : IsAtCondition (configuration_after t s h) i
-  at_assertion = record {
+module _ (t : Program) (s : SetupOf) (h : List Call) where
+  pub at_assertion : (i : ℕ) → IsRealFailure t s h i → IsAtCondition (configuration_after t s h) i
+  at_assertion i failure = record {
     frame = failure.stands.frame;
     below = failure.stands.below;
     stack = stack_stays t s h i failure;
@@ -28,21 +23,32 @@ module _ (t : Program) (text : List ℕ) (s : SetupOf) (h : List Call) (i : ℕ)
     decides = ap next_decision failure.stands.asserts;
   }
 
-  pub assertion_said : (format : ViewFormat) (said : List ℕ) → IsConditionText format text (configuration_after t s h) i said
-      → IsAssertionText format t text s h i said
+  pub assertion_facts : (text : List ℕ) (x : ShownCondition) → IsRealFailure t s h x.thread → AreStandingFacts text (configuration_after t s h) x
+      → AreAssertionFacts t text s h x
   unfolding at_assertion
-  assertion_said format said x =
+  assertion_facts text x failure standing =
       let now = configuration_after t s h in
-      let place = one_place now i x.stands at_assertion in
-      let frame = one_frame now i x.stands at_assertion in
-      let decision = one_decision now i x.stands at_assertion in
-      let globals = globals_stay t s h i failure in
+      let i = x.thread in
+      let there = at_assertion i failure in
+      let place = one_place now i i refl standing.stands there in
+      let frame = one_frame now i i refl standing.stands there in
+      let decision = one_decision now i i refl standing.stands there in
       record {
         failure = failure;
-        words = x.words;
-        reads = x.reads;
-        words_are = subst (λ at. IsStatement (drop at text) x.words x.reads) place x.words_are;
-        is =
-            x.is ∙ (λ j. condition_in format (position_at text (place j)) x.words
-            (named_values format (frame j).procedure (frame_store (globals j) (frame j)) (variables_read (decision j))));
+        are = same_condition text _ _ _ _ _ _ _ _ x place decision frame (globals_stay t s h i failure) standing.are;
       }
+
+  -- and so one failure has one set of facts
+  pub one_assertion : (text : List ℕ) (x y : ShownCondition) → x.thread ≡ y.thread → AreAssertionFacts t text s h x → AreAssertionFacts t text s h y → x ≡ y
+  unfolding at_assertion
+  one_assertion text x y same a b =
+      let now = configuration_after t s h in
+      let i = x.thread in
+      let j = y.thread in
+      let there = at_assertion i a.failure in
+      let also = at_assertion j b.failure in
+      let place = one_place now i j same there also in
+      let decision = one_decision now i j same there also in
+      let frame = one_frame now i j same there also in
+      let globals = sym (globals_stay t s h i a.failure) ∙ globals_stay t s h j b.failure in
+      one_condition text _ _ _ _ x y same (same_condition text _ _ _ _ _ _ _ _ x place decision frame globals a.are) b.are

@@ -1,10 +1,14 @@
--- The facts of a stack and of threads, with those of one more.
-use Rattle.std.proofs.Common.{◌≡◌, ◌+◌, ◌++◌, ℕ, zero, suc, List, [], ◌∷◌, Some, length, slice_get, take, subst, arith}
+-- The facts of a stack, of threads and of waits, with those of one more.
+use Rattle.std.proofs.Common.{if◌then◌else◌, ◌≡◌, ◌∙◌, ◌+◌, ◌++◌, ℕ, zero, suc, true, false, List, [], ◌∷◌, Some, length, slice_get, take, ap, subst, sym, arith}
+use Rattle.std.proofs.lemmas.List.{map-append}
+use Rattle.std.proofs.lemmas.List.Elements.{All-push}
 use Rattle.std.proofs.lemmas.Option.{slice_get_within}
 use Rattle.bp_tree.specs.Ast.{Program}
-use Rattle.bp_code.specs.Configurations.{Frame}
+use Rattle.bp_code.specs.Configurations.{Configuration, Frame}
 use Rattle.bp_machine.specs.declared.calls.Call.{Call}
 use Rattle.bp_machine.specs.Setups.{SetupOf}
+use Rattle.bp_machine.specs.Waiting.{waits}
+use Rattle.bp_view.specs.FootFacts.{waiting, AreStandingFacts, AreWaitsFacts, ShownCondition}
 use Rattle.bp_view.specs.StateFacts.{AreFrameFacts, AreStackFacts, AreThreadFacts, AreThreadsFacts, ShownFrame, ShownThread}
 
 pub one_frame_more : (text : List ℕ) (n k m : ℕ) → m ≡ n + k → (stack : List Frame) (xs : List ShownFrame) (f : Frame) (x : ShownFrame)
@@ -26,3 +30,22 @@ one_thread_more t text s h i m [] x count are is =
     let first : m ≡ i = omega (arith, count) in
     (subst (λ k. AreThreadFacts t text s h k x) first is, tt)
 one_thread_more t text s h i m (y ∷ ys) x count are is = (are.0, one_thread_more t text s h (suc i) m ys x (omega (arith, count)) are.1 is)
+
+module _ (t : Program) (text : List ℕ) (c : Configuration) (n : ℕ) (xs : List ShownCondition) (are : AreWaitsFacts text c (waiting t c n) xs) where
+  pub no_wait_more : waits t c n ≡ false → AreWaitsFacts text c (waiting t c (suc n)) xs
+  no_wait_more none = record {
+    each = are.each;
+    of = are.of ∙ sym (ap (λ b. if b then waiting t c n ++ n ∷ [] else waiting t c n) none);
+  }
+
+  pub one_wait_more : waits t c n ≡ true → (x : ShownCondition) → x.thread ≡ n → AreStandingFacts text c x
+      → AreWaitsFacts text c (waiting t c (suc n)) (xs ++ x ∷ [])
+  one_wait_more does x same is = record {
+    each = All-push (AreStandingFacts text c) xs x are.each is;
+    of =
+        let thread = λ (y : ShownCondition). y.thread in
+        map-append thread xs (x ∷ [])
+        ∙ ap (λ ks. ks ++ x.thread ∷ []) are.of
+        ∙ ap (λ k. waiting t c n ++ k ∷ []) same
+        ∙ sym (ap (λ b. if b then waiting t c n ++ n ∷ [] else waiting t c n) does);
+  }

@@ -4,10 +4,10 @@ use Rattle.std.proofs.lemmas.List.{take_all}
 use Rattle.std.proofs.lemmas.List.Folds.{flat_map-map}
 use Rattle.std.specs.List.{concat}
 use Rattle.bp_text.proofs.PiecesInTurn.{all_added}
-use Rattle.bp_view.specs.Conditions.{condition_text, values_line}
+use Rattle.bp_view.specs.Conditions.{condition_lines, values_line}
 
--- the texts of all values are those of what the values say
-pub all_mapped : {X Y : Type 0} (f : Y → List ℕ) (said : X → Y) (xs : List X) (n : ℕ) → length xs ≤ n
+-- what follows from all values is what follows from what they say
+pub all_mapped : {X Y Z : Type 0} (f : Y → List Z) (said : X → Y) (xs : List X) (n : ℕ) → length xs ≤ n
     → flat_map (λ x. f (said x)) (take n xs) ≡ flat_map f (map said xs)
 all_mapped f said xs n all = ap (flat_map (λ x. f (said x))) (take_all n xs all) ∙ sym (flat_map-map f said xs)
 
@@ -47,19 +47,28 @@ setup_joined old ts us vs =
 condition_parts : (a b c d l v : List ℕ) → concat (a ∷ b ∷ c ∷ d ∷ l ∷ v ∷ []) ≡ concat (concat (a ∷ b ∷ c ∷ d ∷ []) ∷ (l ++ v) ∷ [])
 condition_parts a b c d l v = simp (append_assoc, append-nil)
 
-pub condition_joined : (place words lead values : List ℕ) → lead ++ values ≡ values_line values → concat (codes " at " ∷ place ∷ codes ": " ∷ words ∷ lead ∷ values ∷ []) ≡ condition_text place words values
-condition_joined place words lead values line =
+statement_joined : (place words lead values : List ℕ) → lead ++ values ≡ values_line values
+    → concat (codes " at " ∷ place ∷ codes ": " ∷ words ∷ lead ∷ values ∷ []) ≡ condition_lines place words values
+statement_joined place words lead values line =
     condition_parts (codes " at ") place (codes ": ") words lead values
     ∙ ap (λ x. concat (concat (codes " at " ∷ place ∷ codes ": " ∷ words ∷ []) ∷ x ∷ [])) line
+
+place_parts : (a l b c d e f g : List ℕ) → concat (a ∷ l ∷ b ∷ c ∷ d ∷ e ∷ f ∷ g ∷ []) ≡ concat (a ∷ (l ++ b ++ c) ∷ d ∷ e ∷ f ∷ g ∷ [])
+place_parts a l b c d e f g = simp (append_assoc, append-nil)
+
+pub condition_joined : (line column words lead values : List ℕ) → lead ++ values ≡ values_line values
+    → concat (codes " at " ∷ line ∷ codes ":" ∷ column ∷ codes ": " ∷ words ∷ lead ∷ values ∷ []) ≡ condition_lines (line ++ codes ":" ++ column) words values
+condition_joined line column words lead values is =
+    place_parts (codes " at ") line (codes ":") column (codes ": ") words lead values ∙ statement_joined (line ++ codes ":" ++ column) words lead values is
 
 frame_parts : (a b c d e f g h z : List ℕ) → concat (a ∷ b ∷ c ∷ d ∷ e ∷ f ∷ g ∷ h ∷ z ∷ []) ≡ concat (concat (a ∷ b ∷ []) ∷ concat (c ∷ d ∷ e ∷ f ∷ g ∷ h ∷ []) ∷ z ∷ [])
 frame_parts a b c d e f g h z = simp (append_assoc, append-nil)
 
 pub frame_joined : (lead name place words line values : List ℕ) → line ++ values ≡ values_line values
-    → concat (lead ∷ name ∷ codes " at " ∷ place ∷ codes ": " ∷ words ∷ line ∷ values ∷ codes "\n" ∷ []) ≡ concat (concat (lead ∷ name ∷ []) ∷ condition_text place words values ∷ codes "\n" ∷ [])
+    → concat (lead ∷ name ∷ codes " at " ∷ place ∷ codes ": " ∷ words ∷ line ∷ values ∷ codes "\n" ∷ []) ≡ concat (concat (lead ∷ name ∷ []) ∷ condition_lines place words values ∷ codes "\n" ∷ [])
 frame_joined lead name place words line values is =
     frame_parts lead name (codes " at ") place (codes ": ") words line values (codes "\n")
-    ∙ ap (λ x. concat (concat (lead ∷ name ∷ []) ∷ x ∷ codes "\n" ∷ [])) (condition_joined place words line values is)
+    ∙ ap (λ x. concat (concat (lead ∷ name ∷ []) ∷ x ∷ codes "\n" ∷ [])) (statement_joined place words line values is)
 
 pub foot_joined : (a b c d e f g o w z : List ℕ) → concat (a ∷ b ∷ c ∷ d ∷ e ∷ f ∷ g ∷ o ∷ w ∷ z ∷ []) ≡ concat (a ∷ b ∷ c ∷ d ∷ e ∷ f ∷ g ∷ []) ++ o ++ w ++ z
 foot_joined a b c d e f g o w z = simp (append_assoc, append-nil)

@@ -5,7 +5,6 @@ pub mod ChangedEntries
 pub mod ChangedVariables
 pub mod ChangesOfFrames
 pub mod ChangesReplay
-pub mod ConditionTexts
 pub mod CutLines
 pub mod DecidedDeadlocks
 pub mod EqualWaits
@@ -33,6 +32,7 @@ pub mod QualifiedNames
 pub mod RecordedCalls
 pub mod ShownLines
 pub mod SpansOfHistories
+pub mod StandingThreads
 pub mod StepsInContexts
 pub mod ViewableSettings
 pub mod WaitingConditions

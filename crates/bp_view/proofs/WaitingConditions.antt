@@ -10,7 +10,7 @@ use Rattle.bp_machine.specs.declared.calls.Reply.TheVariants.{Full}
 use Rattle.bp_machine.specs.Answers.{is_full, reply_on_stack, reply_to_effect, stack_of}
 use Rattle.bp_machine.specs.Waiting.{finds_zero, is_blocked, waits}
 use Rattle.bp_source.specs.Assertions.{next_decision}
-use Rattle.bp_view.specs.Conditions.{IsAtCondition}
+use Rattle.bp_view.specs.FootFacts.{IsAtCondition}
 
 abbrev blocks : StatementEffect → Bool
 blocks e = is_blocked (reply_to_effect e)

@@ -99,6 +99,6 @@ module _ (c : Flat) (t : Program) (code : StandsFor c t) (text : List ℕ) (scen
 
   pub some_end : (o : ViewOptions) (h : List Call) → IsLegal t s h → (r : Report) → r.outcome ≡ outcome_of h → (end : List ℕ) × IsEnd o t text s h r end
   some_end o h legal r is =
-      let (foot, foot_is) = some_foot c t code text scenes are s o.format h legal r is in
+      let (foot, foot_is) = some_foot c t code text scenes are s h o.format legal r is in
       let (state, state_is) = state_if h o.format o.has_state in
       (foot ++ state, record { foot = foot; foot_is = foot_is; state = state; state_is = state_is; is = refl })

@@ -1,6 +1,7 @@
 -- Each history of a program has a view, and what was written of one goes on to a whole one.
-use Rattle.std.proofs.Common.{◌≡◌, ◌<◌, slice_get, take, ℕ, suc, Bool, true, false, List, [], ◌∷◌, ◌++◌, Option, None, Some, length, drop, ap, sym, refl, subst}
+use Rattle.std.proofs.Common.{if◌then◌else◌, ◌≡◌, ◌<◌, slice_get, take, ℕ, zero, suc, Bool, true, false, List, [], ◌∷◌, ◌++◌, Option, None, Some, length, drop, sym, refl, subst}
 use Rattle.std.specs.Prelude.{option_map}
+use Rattle.std.proofs.lemmas.List.Elements.{All-nil}
 use Rattle.bp_tree.specs.Ast.{Program}
 use Rattle.bp_code.specs.Configurations.{Frame}
 use Rattle.bp_code.specs.Flat.{Flat}
@@ -31,13 +32,14 @@ use Rattle.bp_view.specs.declared.options.ViewOptions.{ViewOptions}
 use Rattle.bp_view.specs.declared.settings.Widths.{Widths}
 use Rattle.bp_view.specs.CallFacts.{changes_by, nothing_next, printed_in, AreCallFacts, ShownCall, IsNextOf, Next}
 use Rattle.bp_view.specs.Moments.{is_switch, IsContext}
-use Rattle.bp_view.specs.Conditions.{condition_in, named_values, IsAtCondition, IsConditionText}
-use Rattle.bp_view.specs.Deadlocks.{wait_in, AreWaits, IsWait}
-use Rattle.bp_view.specs.Outcomes.{clean_in, failure_in, foot_text, IsAssertionText, IsFoot, IsOutcomeText}
+use Rattle.bp_view.specs.FootFacts.{named_entries, waiting, AreFailureFacts, AreStandingFacts, AreWaitsFacts, IsAtCondition, ShownCondition, ShownFoot}
+use Rattle.bp_view.specs.Outcomes.{foot_text, IsFoot}
 use Rattle.bp_view.specs.Options.{calls_of}
 use Rattle.bp_view.specs.Views.{has_line, line_in, IsShownLine, IsViewLine, IsViewLineIf}
-use Rattle.bp_view.proofs.PartsOfTexts.{part_of_each, some_parts}
 use Rattle.bp_view.proofs.DecidedDeadlocks.{decided}
+use Rattle.bp_view.proofs.FailedConditions.{assertion_facts, at_assertion}
+use Rattle.bp_view.proofs.FilledFacts.{no_wait_more, one_wait_more}
+use Rattle.bp_view.proofs.PartsOfTexts.{part_of_each}
 use Rattle.bp_view.proofs.PlacedStacks.{stack_placed, ArePlaced, IsPlaced}
 use Rattle.bp_view.proofs.WaitingConditions.{at_assumption}
 
@@ -100,33 +102,9 @@ module _ (c : Flat) (t : Program) (code : StandsFor c t) (text : List ℕ) (scen
         → (line : List ℕ) × ((x : Call) → slice_get whole k ≡ Some x → IsShownLine t text s o w whole (take k whole) x line)
     each_line = part_of_each (λ k x line. IsShownLine t text s o w whole (take k whole) x line) whole (λ k x at. shown_line (take k whole) x)
 
-  module _ (format : ViewFormat) where
-    some_assertion : (h : List Call) (i : ℕ) → IsRealFailure t s h i → (said : List ℕ) × IsAssertionText format t text s h i said
-    some_assertion h i failure =
-        let frame = failure.stands.frame in
-        let before = configuration_after t s failure.before in
-        let placed : ArePlaced t (frame ∷ failure.stands.below) = subst (ArePlaced t) failure.stands.stack (stack_placed c t code s failure.before i) in
-        let (n, found) = scene_of frame placed.0 in
-        let words = found.scene.excerpt.words.items in
-        let begins : start_of_block frame.left ≡ Some failure.stands.at = ap start_of_block failure.stands.asserts in
-        let own : IsStatement (drop failure.stands.at text) words found.scene.excerpt.reads_choice =
-        subst (λ at. IsStatementAt text frame.procedure at words found.scene.excerpt.reads_choice) begins found.is.statement
-        in (
-          condition_in format (position_at text failure.stands.at) words
-              (named_values format frame.procedure (frame_store before.globals frame) (variables_read failure.stands.decision)),
-          record { failure = failure; words = words; reads = found.scene.excerpt.reads_choice; words_are = own; is = refl },
-        )
-
-    some_outcome : (h : List Call) → IsLegal t s h → (deadlocked : Bool) → (outcome : Outcome) → outcome ≡ outcome_of h
-        → (said : List ℕ) × IsOutcomeText format t text s h deadlocked outcome said
-    some_outcome h legal deadlocked Clean is = (clean_in format deadlocked, refl)
-    some_outcome h legal deadlocked (Failed i) is =
-        let (said, said_is) = some_assertion h i (real t s h i legal (sym is)) in
-        (failure_in format i said, (said, refl, said_is))
-
-    some_condition : (h : List Call) (i : ℕ) → IsAtCondition (configuration_after t s h) i
-        → (said : List ℕ) × IsConditionText format text (configuration_after t s h) i said
-    some_condition h i stands =
+  module _ (h : List Call) where
+    some_condition : (i : ℕ) → IsAtCondition (configuration_after t s h) i → (x : ShownCondition) × (x.thread ≡ i) × AreStandingFacts text (configuration_after t s h) x
+    some_condition i stands =
         let frame = stands.frame in
         let now = configuration_after t s h in
         let placed : ArePlaced t (frame ∷ stands.below) = subst (ArePlaced t) stands.stack (stack_placed c t code s h i) in
@@ -135,29 +113,48 @@ module _ (c : Flat) (t : Program) (code : StandsFor c t) (text : List ℕ) (scen
         let own : IsStatement (drop stands.at text) words found.scene.excerpt.reads_choice =
         subst (λ at. IsStatementAt text frame.procedure at words found.scene.excerpt.reads_choice) stands.begins found.is.statement
         in (
-          condition_in format (position_at text stands.at) words (named_values format frame.procedure (frame_store now.globals frame) (variables_read stands.decision)),
-          record { stands = stands; words = words; reads = found.scene.excerpt.reads_choice; words_are = own; is = refl },
+          record {
+            thread = i;
+            position = position_at text stands.at;
+            words = words;
+            values = named_entries frame.procedure (frame_store now.globals frame) (variables_read stands.decision);
+          },
+          refl,
+          record { stands = stands; are = record { position = refl; reads = found.scene.excerpt.reads_choice; words = own; values = refl } },
         )
 
-    some_wait : (h : List Call) (i : ℕ) (does : Bool) → waits t (configuration_after t s h) i ≡ does
-        → (part : List ℕ) × IsWait format t text (configuration_after t s h) i does part
-    some_wait h i false e = ([], refl)
-    some_wait h i true e =
-        let (said, said_is) = some_condition h i (at_assumption t (configuration_after t s h) i e) in
-        (wait_in format i said, (said, refl, said_is))
+    some_failure : IsLegal t s h → (o : Outcome) → o ≡ outcome_of h → (x : Option ShownCondition) × AreFailureFacts t text s h o x
+    some_failure legal Clean is = (None, refl)
+    some_failure legal (Failed i) is =
+        let failure = real t s h i legal (sym is) in
+        let (x, same, facts) = some_condition i (at_assertion t s h i failure) in
+        (Some x, (same, assertion_facts t s h text x (subst (IsRealFailure t s h) (sym same) failure) facts))
 
-    some_waits : (h : List Call) (deadlocked : Bool)
-        → (said : List ℕ) × AreWaits format t text (configuration_after t s h) (threads s) deadlocked said
-    some_waits h false = ([], refl)
-    some_waits h true =
+    -- the threads below n that wait have facts
+    abbrev Waits : ℕ → Type 0
+    Waits n = (xs : List ShownCondition) × AreWaitsFacts text (configuration_after t s h) (waiting t (configuration_after t s h) n) xs
+
+    one_more : (n : ℕ) → Waits n → (b : Bool) → waits t (configuration_after t s h) n ≡ b → Waits (suc n)
+    one_more n (xs, are) false none = (xs, no_wait_more t text (configuration_after t s h) n xs are none)
+    one_more n (xs, are) true does =
         let now = configuration_after t s h in
-        some_parts (λ i part. IsWait format t text now i (waits t now i) part) (threads s) (λ i within. some_wait h i (waits t now i) refl)
+        let (x, same, facts) = some_condition n (at_assumption t now n does) in
+        (xs ++ x ∷ [], one_wait_more t text now n xs are does x same facts)
 
-    pub some_foot : (h : List Call) → IsLegal t s h → (r : Report) → r.outcome ≡ outcome_of h → (foot : List ℕ) × IsFoot format t text s h r foot
-    some_foot h legal r is =
+    some_waits : (n : ℕ) → Waits n
+    some_waits zero = ([], record { each = All-nil _; of = refl })
+    some_waits (suc n) = one_more n (some_waits n) (waits t (configuration_after t s h) n) refl
+
+    some_stuck : (deadlocked : Bool)
+        → (xs : List ShownCondition)
+        × AreWaitsFacts text (configuration_after t s h) (if deadlocked then waiting t (configuration_after t s h) (threads s) else []) xs
+    some_stuck true = some_waits (threads s)
+    some_stuck false = ([], record { each = All-nil _; of = refl })
+
+    pub some_foot : (format : ViewFormat) → IsLegal t s h → (r : Report) → r.outcome ≡ outcome_of h → (foot : List ℕ) × IsFoot format t text s h r foot
+    some_foot format legal r is =
         let (deadlocked, decides) = decided t (configuration_after t s h) in
-        let (said, said_is) = some_outcome h legal deadlocked r.outcome is in
-        let (waiting, waiting_are) = some_waits h deadlocked in (
-          foot_text format r said waiting,
-          record { deadlocked = deadlocked; decides = decides; outcome = said; waits = waiting; is = refl; outcome_is = said_is; waits_are = waiting_are },
-        )
+        let (failure, failure_is) = some_failure legal r.outcome is in
+        let (stuck, stuck_are) = some_stuck deadlocked in
+        let x : ShownFoot = record { report = r; deadlocked = deadlocked; failure = failure; waits = stuck } in
+        (foot_text format x, record { facts = x; facts_are = record { report = refl; decides = decides; failure = failure_is; waits_are = stuck_are }; is = refl })

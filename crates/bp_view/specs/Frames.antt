@@ -8,7 +8,7 @@ use Rattle.bp_source.specs.JsonPlaces.{column_of, line_of}
 use Rattle.bp_view.specs.declared.options.ViewFormat.{ViewFormat}
 use Rattle.bp_view.specs.declared.options.ViewFormat.TheVariants.{Columns, Json}
 use Rattle.bp_view.specs.Changes.{variables_text}
-use Rattle.bp_view.specs.Conditions.{condition_text}
+use Rattle.bp_view.specs.Conditions.{condition_lines}
 use Rattle.bp_view.specs.StateFacts.{ShownFrame}
 
 -- what comes before the procedure of a frame below n others: those below the top go on after
@@ -26,7 +26,7 @@ abbrev pub frame_lines : ShownFrame → (values : List ℕ) → List ℕ
 frame_lines x values =
     concat (
     concat (lead x.above ∷ map on_one_line x.procedure.name.text ∷ [])
-    ∷ condition_text x.place x.words values
+    ∷ condition_lines x.place x.words values
     ∷ codes "\n" ∷ [])
 
 -- the same as an object of JSON after a comma

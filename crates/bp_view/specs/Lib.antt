@@ -4,8 +4,8 @@ pub mod Changes
 pub mod Colours
 pub mod Conditions
 pub mod ContextLines
-pub mod Deadlocks
 pub mod Ends
+pub mod FootFacts
 pub mod Frames
 pub mod Headings
 pub mod Heads

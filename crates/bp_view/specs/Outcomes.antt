@@ -1,24 +1,15 @@
--- The foot of a view: the report of its history.
-use Rattle.std.specs.Prelude.{◌≡◌, ◌↔◌, IsTrue, ℕ, Bool, true, false, List, [], ◌∷◌, ◌++◌, codes, decimal, drop}
+-- The text of the foot of a view, from its facts: the report of the history.
+use Rattle.std.specs.Prelude.{◌≡◌, ℕ, Bool, true, false, List, [], ◌∷◌, ◌++◌, Option, None, Some, codes, decimal, flat_map}
 use Rattle.std.specs.List.{concat}
 use Rattle.bp_tree.specs.Ast.{Program}
-use Rattle.bp_code.specs.Moves.{frame_store}
 use Rattle.bp_machine.specs.declared.calls.Call.{Call}
-use Rattle.bp_machine.specs.declared.reports.Outcome.{Outcome}
-use Rattle.bp_machine.specs.declared.reports.Outcome.TheVariants.{Clean, Failed}
 use Rattle.bp_machine.specs.declared.reports.Report.{Report}
-use Rattle.bp_machine.specs.Deadlocks.{IsDeadlocked}
-use Rattle.bp_machine.specs.Histories.{configuration_after}
-use Rattle.bp_machine.specs.Reports.{IsRealFailure}
-use Rattle.bp_machine.specs.Setups.{SetupOf, threads}
-use Rattle.bp_source.specs.Assertions.{variables_read}
-use Rattle.bp_source.specs.Statements.{IsStatement}
+use Rattle.bp_machine.specs.Setups.{SetupOf}
+use Rattle.bp_text.specs.Pieces.{key_text, list_text}
 use Rattle.bp_view.specs.declared.options.ViewFormat.{ViewFormat}
 use Rattle.bp_view.specs.declared.options.ViewFormat.TheVariants.{Columns, Json}
-use Rattle.bp_view.specs.Conditions.{condition_in, named_values, thread_object}
-use Rattle.bp_view.specs.Deadlocks.{AreWaits}
-use Rattle.bp_text.specs.Pieces.{key_text, list_text}
-use Rattle.bp_text.specs.Positions.{position_at}
+use Rattle.bp_view.specs.Conditions.{condition_object, condition_text}
+use Rattle.bp_view.specs.FootFacts.{AreFootFacts, ShownCondition, ShownFoot}
 
 -- the calls of a history, the contexts of its steps, and the threads that may continue
 abbrev pub counts_line : Report → List ℕ
@@ -30,53 +21,39 @@ counts_line r =
     ∷ codes "\n" ∷ [])
 
 -- the thread whose assertion failed, and what is said of the assertion
-abbrev pub failure_text : ℕ → List ℕ → List ℕ
-failure_text i assertion =
+abbrev pub failure_text : ViewFormat → ShownCondition → List ℕ
+failure_text Columns x =
     concat (
-    codes "an assertion of thread " ∷ decimal i
-    ∷ codes " failed" ∷ assertion ∷ [])
-
--- What is said of the assertion of thread i that failed in a history: its place in the text, its
--- words, and the values that the variables which it reads had when it failed.
-pub record IsAssertionText
-    (format : ViewFormat)
-    (t : Program) (text : List ℕ) (s : SetupOf) (h : List Call) (i : ℕ) (said : List ℕ)
-    : Type 0 where
-  pub failure : IsRealFailure t s h i
-  pub words : List ℕ
-  pub reads : Bool
-  pub words_are : IsStatement (drop failure.stands.at text) words reads
-  pub is :
-      let before = configuration_after t s failure.before in
-      let frame = failure.stands.frame in
-      let store = frame_store before.globals frame in
-      let names = variables_read failure.stands.decision in
-      let position = position_at text failure.stands.at in
-      said ≡ condition_in format position words (named_values format frame.procedure store names)
-
-abbrev pub failure_in : ViewFormat → ℕ → List ℕ → List ℕ
-failure_in Columns i assertion = failure_text i assertion
-failure_in Json i assertion = thread_object i assertion
+    concat (codes "an assertion of thread " ∷ decimal x.thread ∷ codes " failed" ∷ [])
+    ∷ condition_text Columns x ∷ [])
+failure_text Json x = condition_object x
 
 -- what is said where no assertion failed, and the threads are deadlocked or not
-abbrev pub clean_in : ViewFormat → (deadlocked : Bool) → List ℕ
-clean_in Columns true = codes "deadlock"
-clean_in Columns false = codes "no assertion failed"
-clean_in Json deadlocked = codes "null"
+abbrev pub clean_text : ViewFormat → (deadlocked : Bool) → List ℕ
+clean_text Columns true = codes "deadlock"
+clean_text Columns false = codes "no assertion failed"
+clean_text Json deadlocked = codes "null"
 
-abbrev pub IsOutcomeText
-    : ViewFormat → Program → List ℕ → SetupOf → List Call → (deadlocked : Bool) → Outcome
-    → List ℕ → Type 0
-IsOutcomeText format t text s h deadlocked Clean outcome = outcome ≡ clean_in format deadlocked
-IsOutcomeText format t text s h deadlocked (Failed i) outcome =
-    (said : List ℕ)
-    × (outcome ≡ failure_in format i said)
-    × IsAssertionText format t text s h i said
+abbrev pub outcome_text
+    : ViewFormat → (deadlocked : Bool) → (failure : Option ShownCondition) → List ℕ
+outcome_text format deadlocked None = clean_text format deadlocked
+outcome_text format deadlocked (Some x) = failure_text format x
 
--- the counts of a report, the text of its outcome, and the threads that wait in a deadlock
-abbrev pub foot_text : ViewFormat → Report → (outcome waits : List ℕ) → List ℕ
-foot_text Columns r outcome waits = counts_line r ++ outcome ++ waits ++ codes "\n"
-foot_text Json r outcome waits =
+-- a thread that waits, after a line feed or a comma, and what is said of its assumption
+abbrev pub wait_text : ViewFormat → ShownCondition → List ℕ
+wait_text Columns x =
+    concat (
+    concat (codes "\nthread " ∷ decimal x.thread ∷ codes " waits" ∷ [])
+    ∷ condition_text Columns x ∷ [])
+wait_text Json x = codes "," ++ condition_object x
+
+abbrev pub waits_text : ViewFormat → List ShownCondition → List ℕ
+waits_text format xs = flat_map (wait_text format) xs
+
+-- the counts of a report, this text of its outcome, and this one of the threads that wait
+abbrev pub foot_in_format : ViewFormat → Report → (outcome waits : List ℕ) → List ℕ
+foot_in_format Columns r outcome waits = counts_line r ++ outcome ++ waits ++ codes "\n"
+foot_in_format Json r outcome waits =
     concat (
     codes "{\"kind\":\"end\""
     ∷ key_text (codes "calls") ∷ decimal r.calls
@@ -86,16 +63,16 @@ foot_text Json r outcome waits =
     ∷ key_text (codes "deadlock") ∷ list_text waits
     ∷ codes "}\n" ∷ [])
 
--- the counts of the report of a history, and its outcome
+abbrev pub foot_text : ViewFormat → ShownFoot → List ℕ
+foot_text format x =
+    let outcome = outcome_text format x.deadlocked x.failure in
+    foot_in_format format x.report outcome (waits_text format x.waits)
+
+-- of a program and its text, in a setup: the foot at the end of the history h, with its report
 pub record IsFoot
     (format : ViewFormat)
     (t : Program) (text : List ℕ) (s : SetupOf) (h : List Call) (r : Report) (foot : List ℕ)
     : Type 0 where
-  pub deadlocked : Bool
-  pub decides : IsTrue deadlocked ↔ IsDeadlocked t (configuration_after t s h)
-  pub outcome : List ℕ
-  pub waits : List ℕ
-  pub is : foot ≡ foot_text format r outcome waits
-  pub outcome_is : IsOutcomeText format t text s h deadlocked r.outcome outcome
-  pub waits_are :
-      AreWaits format t text (configuration_after t s h) (threads s) deadlocked waits
+  pub facts : ShownFoot
+  pub facts_are : AreFootFacts t text s h r facts
+  pub is : foot ≡ foot_text format facts

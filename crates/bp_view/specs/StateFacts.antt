@@ -89,7 +89,7 @@ module _ (text : List ℕ) where
     pub words : IsStatementAt text f.procedure (start_of_block f.left) x.words reads
     pub locals : x.locals ≡ f.locals
 
-  -- these are those of the frames below n others, one for each
+  -- these are the facts of the frames below n others, one for each
   abbrev pub AreStackFacts : ℕ → List Frame → List ShownFrame → Type 0
   AreStackFacts n [] [] = Unit {0}
   AreStackFacts n (f ∷ fs) (x ∷ xs) = AreFrameFacts n f x × AreStackFacts (suc n) fs xs
@@ -103,12 +103,12 @@ module _ (t : Program) (text : List ℕ) (s : SetupOf) (h : List Call) where
     pub standing_is : x.standing ≡ standing t s h i
     pub frames : AreStackFacts text 0 (stack_of (configuration_after t s h) i) x.frames
 
-  -- these are those of the threads from thread i on
+  -- these are the facts of the threads from thread i on
   abbrev pub AreThreadsFacts : ℕ → List ShownThread → Type 0
   AreThreadsFacts i [] = Unit {0}
   AreThreadsFacts i (x ∷ xs) = AreThreadFacts i x × AreThreadsFacts (suc i) xs
 
-  -- these are those of the state, where the whole history has so many calls
+  -- these are the facts of the state, where the whole history has this many calls
   pub record AreStateFacts (count : ℕ) (x : ShownState) : Type 0 where
     pub number : x.number ≡ length h
     pub count_is : x.count ≡ count

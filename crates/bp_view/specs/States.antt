@@ -87,7 +87,8 @@ abbrev pub state_text : ViewFormat → ShownState → List ℕ
 state_text Columns x = state_lines x (threads_text Columns x.threads)
 state_text Json x = state_object x (threads_text Json x.threads)
 
--- of a program and its text, in a setup: the state after the calls h, the first of so many
+-- Of a program and its text, in a setup: the state after the calls h, which begin a history of this
+-- many calls.
 pub record IsStateText
     (format : ViewFormat)
     (t : Program) (text : List ℕ) (s : SetupOf) (h : List Call) (count : ℕ) (said : List ℕ)

@@ -1,58 +1,53 @@
-//! The end of a view: the report of the history.
-ghost use Rattle.std.specs.Prelude.{◌≡◌, ◌++◌, ℕ, List, OnOk, IfOk};
+//! The text of the foot of a view, from its facts: the report of the history.
+ghost use Rattle.std.specs.Prelude.{◌≡◌, ◌++◌, ℕ, List, map, option_map, OnOk, IfOk};
 ghost use Rattle.bp_tree.specs.Ast.{Program};
 ghost use Rattle.bp_code.specs.StandsFor.{StandsFor};
 ghost use Rattle.bp_machine.specs.declared.calls.Call.{Call as Answered};
 ghost use Rattle.bp_machine.specs.Reports.{outcome_of};
 ghost use Rattle.bp_machine.specs.Sessions.{Stands};
-ghost use Rattle.bp_view.specs.Moments.{IsSettingOf};
 ghost use Rattle.bp_view.specs.declared.options.ViewFormat.TheVariants.{Columns, Json};
-ghost use Rattle.bp_view.specs.Outcomes.{clean_in, failure_in, failure_text, foot_text, IsFoot, IsOutcomeText};
+ghost use Rattle.bp_view.specs.FootFacts.{condition_in, foot_in};
+ghost use Rattle.bp_view.specs.Moments.{IsSettingOf};
+ghost use Rattle.bp_view.specs.Outcomes.{clean_text, failure_text, foot_in_format, foot_text, outcome_text, wait_text, waits_text, IsFoot};
 
-use crate::conditions::{condition_of, push_thread_object};
-use crate::deadlocks::waits_of;
+use crate::conditions::{push_condition, push_condition_object};
+use crate::foot_facts::{ConditionFacts, FootFacts, foot_facts};
 use crate::options::ViewFormat;
 use crate::settings::Setting;
-use bp_machine::{Outcome, Report, Session};
+use bp_machine::{Report, Session};
+use bp_source::push_three;
 use bp_text::Piece::{Bytes, Key, List, Number};
 use bp_text::{push_bytes, push_pieces};
 use std::alloc::{AllocError, Global};
 
-/// Adds that an assertion of a thread failed, and what is said of it.
-fn push_failure_text(view: &mut Vec<u8>, thread: u32, assertion: &[u8]) -> Result<(), AllocError>
-    ensures { OnOk result
-        (view.new.items ≡ view.old.items ++ failure_text thread assertion.now) }
-{
-    push_pieces(
-        view,
-        &[
-            Bytes(b"an assertion of thread "),
-            Number(u64::from(thread)),
-            Bytes(b" failed"),
-            Bytes(assertion),
-        ],
-    )
-}
-
-/// Adds that an assertion of a thread failed, in this format.
-fn push_failed(
+/// Adds the thread whose assertion failed, and what is said of the assertion. `note` is room for
+/// its values.
+fn push_failure(
     view: &mut Vec<u8>,
+    note: &mut Vec<u8>,
     format: ViewFormat,
-    thread: u32,
-    assertion: &[u8],
+    assertion: &ConditionFacts<'_>,
 ) -> Result<(), AllocError>
-    ensures { OnOk result
-        (view.new.items ≡ view.old.items ++ failure_in format thread assertion.now) }
+    ensures { let text = failure_text format (condition_in assertion.now) in
+        OnOk result (view.new.items ≡ view.old.items ++ text) }
 {
     match format {
-        ViewFormat::Columns => push_failure_text(view, thread, assertion),
-        ViewFormat::Json => push_thread_object(view, thread, assertion),
+        ViewFormat::Columns => {
+            push_three(
+                view,
+                Bytes(b"an assertion of thread "),
+                Number(u64::from(assertion.thread)),
+                Bytes(b" failed"),
+            )?;
+            push_condition(view, note, format, assertion)
+        }
+        ViewFormat::Json => push_condition_object(view, note, assertion),
     }
 }
 
 /// What is said where no assertion failed, and the threads are deadlocked or not.
-fn clean_in(format: ViewFormat, deadlocked: bool) -> &'static [u8]
-    ensures { result.now ≡ clean_in format deadlocked }
+fn clean_text(format: ViewFormat, deadlocked: bool) -> &'static [u8]
+    ensures { result.now ≡ clean_text format deadlocked }
 {
     match format {
         ViewFormat::Columns if deadlocked => b"deadlock",
@@ -61,32 +56,63 @@ fn clean_in(format: ViewFormat, deadlocked: bool) -> &'static [u8]
     }
 }
 
-/// The outcome; that of a failed assertion with its place, its words and its values.
+/// The text of the outcome.
 fn outcome_text(
     alloc: Global,
-    setting: &Setting<'_>,
-    session: &Session,
+    format: ViewFormat,
     deadlocked: bool,
-    outcome: Outcome,
+    failure: Option<&ConditionFacts<'_>>,
 ) -> Result<Vec<u8>, AllocError>
-    ensures { (t : Program) (text : List ℕ) (h : List Answered)
-        → IsSettingOf t text setting.now
-        → StandsFor session.now.code t
-        → Stands t session.now h
-        → outcome ≡ outcome_of h
-        → let format = setting.now.options.format in
-        let s = session.now.setup in
-        IfOk result (λ v. IsOutcomeText format t text s h deadlocked outcome v.items) }
+    ensures { let failure = option_map (λ x. condition_in x.now) failure.entry in
+        IfOk result (λ v. v.items ≡ outcome_text format deadlocked failure) }
 {
-    let format = setting.options.format;
-    let mut words = Vec::new(alloc);
-    let Outcome::Failed { thread } = outcome else {
-        push_bytes(&mut words, clean_in(format, deadlocked))?;
-        return Ok(words);
+    let mut view = Vec::new(alloc);
+    let Some(assertion) = failure else {
+        push_bytes(&mut view, clean_text(format, deadlocked))?;
+        return Ok(view);
     };
-    let assertion = condition_of(alloc, setting, session, thread)?;
-    push_failed(&mut words, format, thread, &assertion)?;
-    Ok(words)
+    let mut note = Vec::new(alloc);
+    push_failure(&mut view, &mut note, format, assertion)?;
+    Ok(view)
+}
+
+/// Adds a thread that waits, and what is said of its assumption. `note` is room for its values.
+fn push_wait(
+    view: &mut Vec<u8>,
+    note: &mut Vec<u8>,
+    format: ViewFormat,
+    assumption: &ConditionFacts<'_>,
+) -> Result<(), AllocError>
+    ensures { let text = wait_text format (condition_in assumption.now) in
+        OnOk result (view.new.items ≡ view.old.items ++ text) }
+{
+    match format {
+        ViewFormat::Columns => {
+            let thread = u64::from(assumption.thread);
+            push_three(view, Bytes(b"\nthread "), Number(thread), Bytes(b" waits"))?;
+            push_condition(view, note, format, assumption)
+        }
+        ViewFormat::Json => {
+            push_bytes(view, b",")?;
+            push_condition_object(view, note, assumption)
+        }
+    }
+}
+
+/// The text of the threads that wait.
+fn waits_text(
+    alloc: Global,
+    format: ViewFormat,
+    waits: &[ConditionFacts<'_>],
+) -> Result<Vec<u8>, AllocError>
+    ensures { IfOk result (λ v. v.items ≡ waits_text format (map condition_in waits.now)) }
+{
+    let mut view = Vec::new(alloc);
+    let mut note = Vec::new(alloc);
+    for wait in waits {
+        push_wait(&mut view, &mut note, format, wait)?;
+    }
+    Ok(view)
 }
 
 /// Adds the counts of a report after an empty line, its outcome and the threads that wait, for
@@ -97,7 +123,7 @@ fn push_foot_lines<'a>(
     outcome: &'a [u8],
     waits: &'a [u8],
 ) -> Result<(), AllocError>
-    ensures { let foot = foot_text Columns report outcome.entry.now waits.entry.now in
+    ensures { let foot = foot_in_format Columns report outcome.entry.now waits.entry.now in
         OnOk result (view.new.items ≡ view.old.items ++ foot) }
 {
     push_pieces(
@@ -124,7 +150,7 @@ fn push_foot_object<'a>(
     outcome: &'a [u8],
     waits: &'a [u8],
 ) -> Result<(), AllocError>
-    ensures { let foot = foot_text Json report outcome.entry.now waits.entry.now in
+    ensures { let foot = foot_in_format Json report outcome.entry.now waits.entry.now in
         OnOk result (view.new.items ≡ view.old.items ++ foot) }
 {
     push_pieces(
@@ -147,14 +173,14 @@ fn push_foot_object<'a>(
 }
 
 /// The foot of a view in this format: a report, its outcome and the threads that wait.
-fn foot_in(
+fn foot_in_format(
     alloc: Global,
     format: ViewFormat,
     report: Report,
     outcome: &[u8],
     waits: &[u8],
 ) -> Result<Vec<u8>, AllocError>
-    ensures { IfOk result (λ v. v.items ≡ foot_text format report outcome.now waits.now) }
+    ensures { IfOk result (λ v. v.items ≡ foot_in_format format report outcome.now waits.now) }
 {
     let mut foot = Vec::new(alloc);
     match format {
@@ -162,6 +188,15 @@ fn foot_in(
         ViewFormat::Json => push_foot_object(&mut foot, report, outcome, waits)?,
     }
     Ok(foot)
+}
+
+/// The text of a foot.
+fn foot_text(alloc: Global, format: ViewFormat, foot: &FootFacts<'_>) -> Result<Vec<u8>, AllocError>
+    ensures { IfOk result (λ v. v.items ≡ foot_text format (foot_in foot.now)) }
+{
+    let outcome = outcome_text(alloc, format, foot.deadlocked, foot.failure.as_ref())?;
+    let waits = waits_text(alloc, format, foot.waits.as_slice())?;
+    foot_in_format(alloc, format, foot.report, &outcome, &waits)
 }
 
 /// The report of the history after which the session stands, and what is said of an assertion
@@ -181,8 +216,6 @@ pub(crate) fn foot_of(
         let s = session.now.setup in
         IfOk result (λ v. IsFoot format t text s h report v.items) }
 {
-    let deadlocked = session.is_deadlocked();
-    let outcome = outcome_text(alloc, setting, session, deadlocked, report.outcome)?;
-    let waits = waits_of(alloc, setting, session, deadlocked)?;
-    foot_in(alloc, setting.options.format, report, &outcome, &waits)
+    let facts = foot_facts(alloc, setting, session, report)?;
+    foot_text(alloc, setting.options.format, &facts)
 }

@@ -58,7 +58,7 @@ pub(crate) struct StateFacts<'a> {
     pub(crate) threads: Vec<ThreadFacts<'a>>,
 }
 
-/// The frame of a thread's stack that has so many others above it.
+/// The frame of a thread's stack with this many others above it.
 fn frame_below<'a>(
     setting: &Setting<'a>,
     session: &Session,

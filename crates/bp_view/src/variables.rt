@@ -1,13 +1,12 @@
 //! The names of the bits of a store, and their values.
 ghost use Rattle.std.specs.Prelude.{◌≡◌, ◌<◌, ◌+◌, ◌^◌, ◌++◌, flat_map, length, option_map, OnOk};
-ghost use Rattle.bp_code.specs.Bits.{bits_of, store_of};
-ghost use Rattle.bp_code.specs.StandsFor.{named_store, valuation_of};
+ghost use Rattle.bp_code.specs.Bits.{bits_of};
+ghost use Rattle.bp_code.specs.StandsFor.{valuation_of};
 ghost use Rattle.bp_view.specs.Changes.{owner_text, variable_object, variable_text, variable_words, variables_text};
 ghost use Rattle.bp_text.specs.Pieces.{piece_text};
-ghost use Rattle.bp_view.specs.Conditions.{named_value};
 
 use crate::options::ViewFormat;
-use bp_code::{Store, bit_of, local_slot_of, slot_of};
+use bp_code::bit_of;
 use bp_source::{push_four, push_three, push_two};
 use bp_text::Piece;
 use bp_text::Piece::{Bit, Bytes, Key, OneLine, Text, TextOrNull};
@@ -106,28 +105,6 @@ pub(crate) fn push_values(
     for (n, name) in names.iter().enumerate() {
         let bit = bit_of(word, first + n);
         push_value(line, format, owner, name.text().as_bytes(), bit)?;
-    }
-    Ok(())
-}
-
-/// Adds a variable and its value, where the name is that of one: a local hides a global.
-pub(crate) fn push_variable(
-    line: &mut Vec<u8>,
-    format: ViewFormat,
-    globals: &[Name],
-    proc: &Proc,
-    store: Store,
-    name: &[u8],
-) -> Result<(), AllocError>
-    ensures { let values = named_store globals.now proc.now (store_of store) in
-        OnOk result
-        (line.new.items ≡ line.old.items ++ named_value format proc.now values name.now) }
-{
-    if let Some(slot) = local_slot_of(proc, name) {
-        return push_value(line, format, Some(proc), name, bit_of(store.locals, slot));
-    }
-    if let Some(slot) = slot_of(globals, name) {
-        return push_value(line, format, None, name, bit_of(store.globals, slot));
     }
     Ok(())
 }

@@ -1,4 +1,4 @@
-use Rattle.std.proofs.Common.{◌≡◌, ◌∙◌, ◌++◌, Some, ap, is_some, sym}
+use Rattle.std.proofs.Common.{◌≡◌, ◌∙◌, Some, ap, is_some, refl, sym}
 use Rattle.std.proofs.lemmas.Bool.{false≢true}
 use Rattle.bp_tree.specs.Views.{decision_of}
 use Rattle.bp_code.specs.StandsFor.{place}
@@ -6,9 +6,8 @@ use Rattle.bp_machine.specs.Answers.{stack_of}
 use Rattle.bp_machine.specs.Histories.{configuration_after}
 use Rattle.bp_machine.specs.Tops.{IsTop}
 use Rattle.bp_source.specs.Assertions.{next_decision}
-use Rattle.bp_view.specs.Conditions.{condition_in}
-use Rattle.bp_view.proofs.ConditionTexts.{condition_said, decision_is, place_is, position_is}
-use Rattle.bp_view.proofs.conditions.condition_of.Goals as goal
+use Rattle.bp_view.proofs.StandingThreads.{decision_is, position_is, standing_facts}
+use Rattle.bp_view.proofs.foot_facts.condition_of.Goals as goal
 
 pub returns-in_default : goal.returns-in_default
 returns-in_default c = λ t text h set is stands at.
@@ -57,9 +56,4 @@ returns c = λ t text h set is stands at.
     let placed = rw set.procedures at c.in_ok-decider.ensures (place top.frame.procedure top.frame.left) in
     let decides : next_decision top.frame.left ≡ Some (decision_of c.in-Some-2.decider.now) = sym (rw c.in-Some-2.is at placed top.next) in
     let values = c.in_ok-values.ensures t text now i set top in
-    let format = c.args.setting.now.options.format in
-    let position = c.in-Some-position.position in
-    let there = place_is t text now i at x top scene shown position c.in-Some-position.is in
-    let said = c.in_ok-push_condition.ensures there ∙ ap (λ y. y ++ condition_in format position scene.excerpt.words.items c.deref.result.now) c.new-said.ensures.items in
-    let found = condition_said t text now i at x top scene shown format position _ c.deref.result.now c.push_condition.new.view.items in
-    found c.in-Some-position.is decides (c.deref.ensures.value ∙ values) said
+    (refl, rw c.as_slice-words.ensures.value (standing_facts t text now i at x top scene shown c.in-Some-position.position _ _ c.in-Some-position.is decides values))

@@ -1,0 +1,11 @@
+use Rattle.std.proofs.Common.{◌++◌, ap, decimal}
+use Rattle.bp_source.proofs.JoinedPieces.{when_ok}
+use Rattle.bp_view.proofs.JoinedTexts.{condition_joined}
+use Rattle.bp_view.proofs.conditions.push_condition_lines.Goals as goal
+
+pub returns : goal.returns
+returns c =
+    let x = c.args.condition.now in
+    let old = c.args.view.now.items in
+    let joined = condition_joined (decimal x.position.line) (decimal x.position.column) x.words.now c.values_lead.result.now c.args.values.now c.values_lead.ensures in
+    when_ok c.push_pieces.result c.push_pieces.ensures (λ added. rw added (ap (λ y. old ++ y) joined))

@@ -1,0 +1,22 @@
+use Rattle.std.proofs.Common.{◌≡◌, ◌∙◌, ◌++◌, ◌∷◌, [], ap, codes, decimal, sym}
+use Rattle.std.specs.List.{concat}
+use Rattle.bp_text.proofs.PiecesInTurn.{all_added}
+use Rattle.bp_source.proofs.JoinedPieces.{when_ok}
+use Rattle.bp_view.specs.declared.options.ViewFormat.TheVariants.{Columns}
+use Rattle.bp_view.specs.Conditions.{condition_text}
+use Rattle.bp_view.specs.FootFacts.{condition_in}
+use Rattle.bp_view.specs.Outcomes.{failure_text}
+use Rattle.bp_view.proofs.outcomes.push_failure.Goals as goal
+
+pub returns-in_ok-push_three-in-Columns : goal.returns-in_ok-push_three-in-Columns
+returns-in_ok-push_three-in-Columns c =
+    let x = condition_in c.args.assertion.now in
+    let old = c.args.view.now.items in
+    let lead = codes "an assertion of thread " ∷ decimal x.thread ∷ codes " failed" ∷ [] in
+    let three : c.push_three.new.line.items ≡ old ++ concat lead = rw (c.in_ok-push_three-in-Columns.ensures, c.from.ensures) (all_added old lead) in
+    when_ok c.push_condition.result c.push_condition.ensures (λ added.
+    added
+    ∙ ap (λ f. c.push_three.new.line.items ++ condition_text f x) c.in-Columns.is
+    ∙ ap (λ y. y ++ condition_text Columns x) three
+    ∙ all_added old (concat lead ∷ condition_text Columns x ∷ [])
+    ∙ ap (λ f. old ++ failure_text f x) (sym c.in-Columns.is))
