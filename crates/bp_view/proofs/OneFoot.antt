@@ -31,7 +31,8 @@ module _ (text : List ℕ) (c : Configuration) where
       let frame = one_frame c x.thread y.thread same a.stands b.stands in
       one_condition text _ _ _ _ x y same (same_condition text _ _ _ _ _ _ _ _ x place decision frame refl a.are) b.are
 
-  one_list : (xs ys : List ShownCondition) → map (λ x. x.thread) xs ≡ map (λ y. y.thread) ys → All (AreStandingFacts text c) xs → All (AreStandingFacts text c) ys → xs ≡ ys
+  one_list : (xs ys : List ShownCondition) → map (λ x. x.thread) xs ≡ map (λ y. y.thread) ys
+      → All (AreStandingFacts text c) xs → All (AreStandingFacts text c) ys → xs ≡ ys
   one_list [] [] same a b = refl
   one_list [] (y ∷ ys) same a b = absurd cc
   one_list (x ∷ xs) [] same a b = absurd cc
@@ -39,7 +40,8 @@ module _ (text : List ℕ) (c : Configuration) where
       let first : x.thread ≡ y.thread = cc in
       let others : map (λ (z : ShownCondition). z.thread) xs ≡ map (λ (z : ShownCondition). z.thread) ys = cc in
       let P = AreStandingFacts text c in
-      ap₂ (λ z (zs : List ShownCondition). z ∷ zs) (one_standing x y first (All-head P x xs a) (All-head P y ys b)) (one_list xs ys others (All-tail P x xs a) (All-tail P y ys b))
+      ap₂ (λ z (zs : List ShownCondition). z ∷ zs) (one_standing x y first (All-head P x xs a) (All-head P y ys b))
+      (one_list xs ys others (All-tail P x xs a) (All-tail P y ys b))
 
 module _ (t : Program) (text : List ℕ) (s : SetupOf) (h : List Call) where
   one_failure : (o : Outcome) (x y : Option ShownCondition) → AreFailureFacts t text s h o x → AreFailureFacts t text s h o y → x ≡ y

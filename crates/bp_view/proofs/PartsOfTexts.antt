@@ -89,9 +89,6 @@ module _ (IsPart : ℕ → List ℕ → Type 0) where
       let (rest, whole) = parts_go_on all each more (suc n) (omega (arith, count)) (text ++ part) (parts_then n text are part is) in
       (part ++ rest, subst (IsInParts IsPart all) (append_assoc text part rest) whole)
 
-  pub some_parts : (all : ℕ) → ((k : ℕ) → k < all → (part : List ℕ) × IsPart k part) → (said : List ℕ) × IsInParts IsPart all said
-  some_parts all each = parts_go_on all each all 0 (omega arith) [] no_parts
-
   -- where each part has one text, so have n parts
   pub one_of_parts : (n : ℕ) → ((k : ℕ) (p q : List ℕ) → k < n → IsPart k p → IsPart k q → p ≡ q) → (a b : List ℕ) → IsInParts IsPart n a
       → IsInParts IsPart n b → a ≡ b

@@ -3,9 +3,9 @@ use Rattle.std.proofs.Common.{◌≡◌, ◌∙◌, ℕ, suc, List, ◌∷◌, S
 use Rattle.std.specs.Prelude.{option_map}
 use Rattle.std.proofs.lemmas.Option.{slice_get_within, get_or_from_slice_get}
 use Rattle.bp_tree.specs.Ast.{Procedure, Program}
-use Rattle.bp_code.specs.Bits.{bits_of}
 use Rattle.bp_code.specs.Configurations.{Configuration, Frame}
-use Rattle.bp_code.specs.StandsFor.{place, valuation_of, variables}
+use Rattle.bp_code.specs.StandsFor.{place}
+use Rattle.bp_code.specs.Values.{Valuation}
 use Rattle.bp_machine.specs.declared.tops.Top.{Top}
 use Rattle.bp_machine.specs.Tops.{IsTopOf}
 use Rattle.bp_source.specs.declared.scenes.Scene.{Scene}
@@ -30,17 +30,29 @@ next_at ps scene x =
       reads = scene.excerpt.reads_choice;
     }
 
--- what it shows of the frame at this top, which is of this procedure
-abbrev pub frame_at : (above : ℕ) → Procedure → Scene → Top → ShownFrame
-frame_at n p scene x =
+-- what it shows of a frame of this procedure, with these values
+abbrev pub frame_with : (above : ℕ) → Procedure → Valuation → Scene → ShownFrame
+frame_with n p values scene =
     record {
       above = n;
       procedure = p;
       place = scene.place.items;
       position = scene.position;
       words = scene.excerpt.words.items;
-      locals = valuation_of (variables p) (bits_of x.store.locals);
+      locals = values;
     }
+
+pub frame_facts : (text : List ℕ) (ps : List Procedure) (n : ℕ) (f : Frame) (scene : Scene) → IsScene text ps (place f.procedure f.left) scene
+    → AreFrameFacts text n f (frame_with n f.procedure f.locals scene)
+frame_facts text ps n f scene shows = record {
+  above = refl;
+  procedure = refl;
+  place = shows.place;
+  position = shows.position;
+  reads = scene.excerpt.reads_choice;
+  words = shows.statement;
+  locals = refl;
+}
 
 module _
     (t : Program) (text : List ℕ) (c : Configuration) (frames : List Frame) (x : Top) (is : IsTopOf t c frames x)
@@ -59,14 +71,3 @@ module _
       } in
       let on_frames : IsNextOf text (is.frame ∷ is.below) (next_at t.procedures scene x) = own in
       subst (λ s. IsNextOf text s (next_at t.procedures scene x)) (sym is.stack) on_frames
-
-  pub frame_of_top : (n : ℕ) (p : Procedure) → p ≡ is.frame.procedure → AreFrameFacts text n is.frame (frame_at n p scene x)
-  frame_of_top n p own = record {
-    above = refl;
-    procedure = own;
-    place = shows.place;
-    position = shows.position;
-    reads = scene.excerpt.reads_choice;
-    words = shows.statement;
-    locals = ap (λ (q : Procedure). valuation_of (variables q) (bits_of x.store.locals)) own ∙ sym is.locals;
-  }

@@ -1,20 +1,16 @@
 -- Each state has facts, and so each history has an end of a view.
 use Rattle.std.proofs.Common.{◌≡◌, ℕ, zero, suc, Bool, true, false, List, [], ◌∷◌, ◌++◌, length, ap, refl}
-use Rattle.std.specs.Prelude.{option_map}
 use Rattle.bp_tree.specs.Ast.{Program}
 use Rattle.bp_code.specs.Configurations.{Frame}
 use Rattle.bp_code.specs.Flat.{Flat}
 use Rattle.bp_code.specs.StandsFor.{StandsFor, place, places_of}
-use Rattle.bp_code.specs.Starts.{start_of_block}
 use Rattle.bp_machine.specs.declared.calls.Call.{Call}
 use Rattle.bp_machine.specs.declared.reports.Report.{Report}
 use Rattle.bp_machine.specs.Answers.{stack_of}
 use Rattle.bp_machine.specs.Histories.{configuration_after, IsLegal}
 use Rattle.bp_machine.specs.Reports.{outcome_of}
 use Rattle.bp_machine.specs.Setups.{SetupOf, threads}
-use Rattle.bp_text.specs.Positions.{position_at}
 use Rattle.bp_source.specs.declared.scenes.Scene.{Scene}
-use Rattle.bp_source.specs.Places.{place_text}
 use Rattle.bp_source.specs.Scenes.{AreScenes}
 use Rattle.bp_source.proofs.SceneLists.{scene_at}
 use Rattle.bp_view.specs.declared.options.ViewFormat.{ViewFormat}
@@ -23,6 +19,7 @@ use Rattle.bp_view.specs.Ends.{after_foot, IsEnd, IsStateIf}
 use Rattle.bp_view.specs.Standings.{standing}
 use Rattle.bp_view.specs.StateFacts.{AreStackFacts, AreThreadFacts, AreThreadsFacts, ShownFrame, ShownState, ShownThread}
 use Rattle.bp_view.specs.States.{state_text, IsStateText}
+use Rattle.bp_view.proofs.PlacesOfTops.{frame_facts, frame_with}
 use Rattle.bp_view.proofs.PlacedStacks.{stack_placed, ArePlaced}
 use Rattle.bp_view.proofs.WholeViews.{some_foot}
 
@@ -32,28 +29,7 @@ module _ (c : Flat) (t : Program) (code : StandsFor c t) (text : List ℕ) (scen
   some_stack n (f ∷ fs) (here, below) =
       let found = scene_at text t.procedures (places_of t.procedures) scenes here.number (place f.procedure f.left) are here.at in
       let (xs, xs_are) = some_stack (suc n) fs below in
-      let x : ShownFrame = record {
-        above = n;
-        procedure = f.procedure;
-        place = place_text text (start_of_block f.left);
-        position = option_map (position_at text) (start_of_block f.left);
-        words = found.scene.excerpt.words.items;
-        locals = f.locals;
-      } in (
-        x ∷ xs,
-        (
-          record {
-            above = refl;
-            procedure = refl;
-            place = refl;
-            position = refl;
-            reads = found.scene.excerpt.reads_choice;
-            words = found.is.statement;
-            locals = refl;
-          },
-          xs_are,
-        ),
-      )
+      (frame_with n f.procedure f.locals found.scene ∷ xs, (frame_facts text t.procedures n f found.scene found.is, xs_are))
 
   module _ (h : List Call) where
     some_thread : (i : ℕ) → (x : ShownThread) × AreThreadFacts t text s h i x

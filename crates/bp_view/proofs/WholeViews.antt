@@ -32,7 +32,7 @@ use Rattle.bp_view.specs.declared.options.ViewOptions.{ViewOptions}
 use Rattle.bp_view.specs.declared.settings.Widths.{Widths}
 use Rattle.bp_view.specs.CallFacts.{changes_by, nothing_next, printed_in, AreCallFacts, ShownCall, IsNextOf, Next}
 use Rattle.bp_view.specs.Moments.{is_switch, IsContext}
-use Rattle.bp_view.specs.FootFacts.{named_entries, waiting, AreFailureFacts, AreStandingFacts, AreWaitsFacts, IsAtCondition, ShownCondition, ShownFoot}
+use Rattle.bp_view.specs.FootFacts.{named_entries, waiting, AreFailureFacts, AreFootFacts, AreStandingFacts, AreWaitsFacts, IsAtCondition, ShownCondition, ShownFoot}
 use Rattle.bp_view.specs.Outcomes.{foot_text, IsFoot}
 use Rattle.bp_view.specs.Options.{calls_of}
 use Rattle.bp_view.specs.Views.{has_line, line_in, IsShownLine, IsViewLine, IsViewLineIf}
@@ -157,4 +157,5 @@ module _ (c : Flat) (t : Program) (code : StandsFor c t) (text : List ℕ) (scen
         let (failure, failure_is) = some_failure legal r.outcome is in
         let (stuck, stuck_are) = some_stuck deadlocked in
         let x : ShownFoot = record { report = r; deadlocked = deadlocked; failure = failure; waits = stuck } in
-        (foot_text format x, record { facts = x; facts_are = record { report = refl; decides = decides; failure = failure_is; waits_are = stuck_are }; is = refl })
+        let x_are : AreFootFacts t text s h r x = record { report = refl; decides = decides; failure = failure_is; waits_are = stuck_are } in
+        (foot_text format x, record { facts = x; facts_are = x_are; is = refl })

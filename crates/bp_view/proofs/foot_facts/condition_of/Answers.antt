@@ -4,7 +4,6 @@ use Rattle.bp_tree.specs.Views.{decision_of}
 use Rattle.bp_code.specs.StandsFor.{place}
 use Rattle.bp_machine.specs.Answers.{stack_of}
 use Rattle.bp_machine.specs.Histories.{configuration_after}
-use Rattle.bp_machine.specs.Tops.{IsTop}
 use Rattle.bp_source.specs.Assertions.{next_decision}
 use Rattle.bp_view.proofs.StandingThreads.{decision_is, position_is, standing_facts}
 use Rattle.bp_view.proofs.foot_facts.condition_of.Goals as goal
@@ -12,35 +11,30 @@ use Rattle.bp_view.proofs.foot_facts.condition_of.Goals as goal
 pub returns-in_default : goal.returns-in_default
 returns-in_default c = λ t text h set is stands at.
     let stack = at.stack in
-    let none = rw c.in_default.is at c.top.ensures t h is stands in
+    let none = c.in_default.ensures t h is stands in
     absurd cc
 
 pub returns-in_default-scene_of : goal.returns-in_default-scene_of
 returns-in_default-scene_of c = λ t text h set is stands at.
     let now = configuration_after t c.args.session.now.setup h in
-    let top : IsTop t now c.args.thread c.in-Some.top = rw c.in-Some.is at c.top.ensures t h is stands in
-    absurd (rw c.in_default-scene_of.is at c.scene_of.ensures t text now (stack_of now c.args.thread) set top)
+    absurd (c.in_default-scene_of.ensures t text now (stack_of now c.args.thread) set (c.in-Some.ensures t h is stands))
 
 pub returns-in_default-position : goal.returns-in_default-position
 returns-in_default-position c = λ t text h set is stands at.
     let i = c.args.thread in
     let now = configuration_after t c.args.session.now.setup h in
-    let x = c.in-Some.top in
-    let scene = c.in-Some-scene_of.scene.now in
-    let top : IsTop t now i x = rw c.in-Some.is at c.top.ensures t h is stands in
-    let shown = rw c.in-Some-scene_of.is at c.scene_of.ensures t text now (stack_of now i) set top in
-    let some = position_is t text now i at x top scene shown in
+    let top = c.in-Some.ensures t h is stands in
+    let shown = c.in-Some-scene_of.ensures t text now (stack_of now i) set top in
+    let some = position_is t text now i at c.in-Some.top top c.in-Some-scene_of.scene.now shown in
     absurd (false≢true (ap is_some (sym c.in_default-position.is ∙ some)))
 
 pub returns-in_default-2 : goal.returns-in_default-2
 returns-in_default-2 c = λ t text h set is stands at.
     let i = c.args.thread in
     let now = configuration_after t c.args.session.now.setup h in
-    let x = c.in-Some.top in
-    let scene = c.in-Some-scene_of.scene.now in
-    let top : IsTop t now i x = rw c.in-Some.is at c.top.ensures t h is stands in
-    let shown = rw c.in-Some-scene_of.is at c.scene_of.ensures t text now (stack_of now i) set top in
-    let some = decision_is t text now i at x top scene shown in
+    let top = c.in-Some.ensures t h is stands in
+    let shown = c.in-Some-scene_of.ensures t text now (stack_of now i) set top in
+    let some = decision_is t text now i at c.in-Some.top top c.in-Some-scene_of.scene.now shown in
     let placed = rw set.procedures at c.in_ok-decider.ensures (place top.frame.procedure top.frame.left) in
     let none = rw c.in_default-2.is at placed top.next in
     absurd (false≢true (ap is_some (none ∙ some)))
@@ -49,11 +43,11 @@ pub returns : goal.returns
 returns c = λ t text h set is stands at.
     let i = c.args.thread in
     let now = configuration_after t c.args.session.now.setup h in
-    let x = c.in-Some.top in
+    let top = c.in-Some.ensures t h is stands in
     let scene = c.in-Some-scene_of.scene.now in
-    let top : IsTop t now i x = rw c.in-Some.is at c.top.ensures t h is stands in
-    let shown = rw c.in-Some-scene_of.is at c.scene_of.ensures t text now (stack_of now i) set top in
+    let shown = c.in-Some-scene_of.ensures t text now (stack_of now i) set top in
     let placed = rw set.procedures at c.in_ok-decider.ensures (place top.frame.procedure top.frame.left) in
     let decides : next_decision top.frame.left ≡ Some (decision_of c.in-Some-2.decider.now) = sym (rw c.in-Some-2.is at placed top.next) in
     let values = c.in_ok-values.ensures t text now i set top in
-    (refl, rw c.as_slice-words.ensures.value (standing_facts t text now i at x top scene shown c.in-Some-position.position _ _ c.in-Some-position.is decides values))
+    let facts = standing_facts t text now i at c.in-Some.top top scene shown c.in-Some-position.position _ _ c.in-Some-position.is decides values in
+    (refl, rw c.as_slice-words.ensures.value facts)

@@ -14,7 +14,8 @@ use Rattle.bp_view.proofs.FailedConditions.{assertion_facts, at_assertion}
 use Rattle.bp_view.proofs.foot_facts.failure_of.Goals as goal
 
 shown_failure : (t : Program) (text : List ℕ) (s : SetupOf) (h : List Call) (i : ℕ) → IsRealFailure t s h i → (o : Option ConditionFacts)
-    → IsSomeAnd o (λ x. (x.thread ≡ i) × AreStandingFacts text (configuration_after t s h) (condition_in x)) → AreFailureFacts t text s h (Failed i) (option_map condition_in o)
+    → IsSomeAnd o (λ x. (x.thread ≡ i) × AreStandingFacts text (configuration_after t s h) (condition_in x))
+    → AreFailureFacts t text s h (Failed i) (option_map condition_in o)
 shown_failure t text s h i failure None is = absurd is
 shown_failure t text s h i failure (Some x) is =
     (is.0, assertion_facts t s h text (condition_in x) (subst (IsRealFailure t s h) (sym is.0) failure) is.1)

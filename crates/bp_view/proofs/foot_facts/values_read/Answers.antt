@@ -7,11 +7,6 @@ use Rattle.bp_source.specs.Assertions.{variables_read}
 use Rattle.bp_view.specs.FootFacts.{named_entries}
 use Rattle.bp_view.proofs.foot_facts.values_read.Goals as goal
 
-pub returns-in_default : goal.returns-in_default
-returns-in_default c = λ t text now i set is.
-    let own = rw c.in_default.is at c.procedure_at.ensures t text (place is.frame.procedure is.frame.left) set.scenes set.procedures is.next in
-    absurd cc
-
 pub returns : goal.returns
 returns c = λ t text now i set is.
     let x = c.args.setting.now in

@@ -10,11 +10,6 @@ returns-then-not-deadlocked c = λ t text h set is stands.
     let none = ap (map condition_in) c.new-waits.ensures.items in
     rw (c.if-not-deadlocked.true, none) (record { each = All-nil _; of = refl })
 
-pub loop-thread-init : goal.loop-thread-init
-loop-thread-init c = λ t text h set is stands.
-    let none = ap (map condition_in) c.new-waits.ensures.items in
-    rw none (record { each = All-nil _; of = refl })
-
 pub loop-thread-preserved : goal.loop-thread-preserved
 loop-thread-preserved c = λ t text h set is stands.
     let now = configuration_after t c.args.session.now.setup h in
