@@ -65,7 +65,8 @@ frame_parts : (a b c d e f g h z : List ℕ) → concat (a ∷ b ∷ c ∷ d ∷
 frame_parts a b c d e f g h z = simp (append_assoc, append-nil)
 
 pub frame_joined : (lead name place words line values : List ℕ) → line ++ values ≡ values_line values
-    → concat (lead ∷ name ∷ codes " at " ∷ place ∷ codes ": " ∷ words ∷ line ∷ values ∷ codes "\n" ∷ []) ≡ concat (concat (lead ∷ name ∷ []) ∷ condition_lines place words values ∷ codes "\n" ∷ [])
+    → concat (lead ∷ name ∷ codes " at " ∷ place ∷ codes ": " ∷ words ∷ line ∷ values ∷ codes "\n" ∷ [])
+    ≡ concat (concat (lead ∷ name ∷ []) ∷ condition_lines place words values ∷ codes "\n" ∷ [])
 frame_joined lead name place words line values is =
     frame_parts lead name (codes " at ") place (codes ": ") words line values (codes "\n")
     ∙ ap (λ x. concat (concat (lead ∷ name ∷ []) ∷ x ∷ codes "\n" ∷ [])) (statement_joined place words line values is)

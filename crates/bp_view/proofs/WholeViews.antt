@@ -103,7 +103,8 @@ module _ (c : Flat) (t : Program) (code : StandsFor c t) (text : List ℕ) (scen
     each_line = part_of_each (λ k x line. IsShownLine t text s o w whole (take k whole) x line) whole (λ k x at. shown_line (take k whole) x)
 
   module _ (h : List Call) where
-    some_condition : (i : ℕ) → IsAtCondition (configuration_after t s h) i → (x : ShownCondition) × (x.thread ≡ i) × AreStandingFacts text (configuration_after t s h) x
+    some_condition : (i : ℕ) → IsAtCondition (configuration_after t s h) i
+        → (x : ShownCondition) × (x.thread ≡ i) × AreStandingFacts text (configuration_after t s h) x
     some_condition i stands =
         let frame = stands.frame in
         let now = configuration_after t s h in

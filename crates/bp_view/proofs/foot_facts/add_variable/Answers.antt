@@ -12,7 +12,8 @@ use Rattle.bp_view.specs.FootFacts.{named_entry, resolved}
 use Rattle.bp_view.proofs.foot_facts.add_variable.Goals as goal
 
 -- what a name means, by the slots of the local and of the global of that name
-by_slots : (globals : List Name) (p : Procedure) (a b : Bits) (name : List ℕ) (l g : Option ℕ) → l ≡ first_index (variables p) name → g ≡ first_index globals name
+by_slots : (globals : List Name) (p : Procedure) (a b : Bits) (name : List ℕ) (l g : Option ℕ)
+    → l ≡ first_index (variables p) name → g ≡ first_index globals name
     → resolved p name (option_map b l) (option_map a g) ≡ named_entry p (named_store globals p (record { globals = a; locals = b })) name
 by_slots globals p a b name l g local global =
     ap₂ (resolved p name) (ap (option_map b) local ∙ value_of_slot (variables p) b name) (ap (option_map a) global ∙ value_of_slot globals a name)

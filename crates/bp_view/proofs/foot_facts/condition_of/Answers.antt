@@ -8,12 +8,6 @@ use Rattle.bp_source.specs.Assertions.{next_decision}
 use Rattle.bp_view.proofs.StandingThreads.{decision_is, position_is, standing_facts}
 use Rattle.bp_view.proofs.foot_facts.condition_of.Goals as goal
 
-pub returns-in_default : goal.returns-in_default
-returns-in_default c = λ t text h set is stands at.
-    let stack = at.stack in
-    let none = c.in_default.ensures t h is stands in
-    absurd cc
-
 pub returns-in_default-scene_of : goal.returns-in_default-scene_of
 returns-in_default-scene_of c = λ t text h set is stands at.
     let now = configuration_after t c.args.session.now.setup h in

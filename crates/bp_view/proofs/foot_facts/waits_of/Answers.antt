@@ -1,14 +1,8 @@
-use Rattle.std.proofs.Common.{◌≡◌, ◌∙◌, map, refl, subst, sym, ap, add-one, arith}
-use Rattle.std.proofs.lemmas.List.Elements.{All-nil}
+use Rattle.std.proofs.Common.{◌≡◌, ◌∙◌, map, subst, sym, ap, add-one, arith}
 use Rattle.bp_machine.specs.Histories.{configuration_after}
 use Rattle.bp_machine.specs.Setups.{threads}
 use Rattle.bp_view.specs.FootFacts.{condition_in, waiting, AreWaitsFacts}
 use Rattle.bp_view.proofs.foot_facts.waits_of.Goals as goal
-
-pub returns-then-not-deadlocked : goal.returns-then-not-deadlocked
-returns-then-not-deadlocked c = λ t text h set is stands.
-    let none = ap (map condition_in) c.new-waits.ensures.items in
-    rw (c.if-not-deadlocked.true, none) (record { each = All-nil _; of = refl })
 
 pub loop-thread-preserved : goal.loop-thread-preserved
 loop-thread-preserved c = λ t text h set is stands.

@@ -21,12 +21,6 @@ returns-in_err-scene c = λ t text h f set is stands at.
     let now = configuration_after t c.args.session.now.setup h in
     absurd (c.in_err-scene.ensures t text now (drop c.args.above (stack_of now c.args.thread)) set (c.in_ok-top.ensures t h is stands))
 
-pub returns-in_err-proc : goal.returns-in_err-proc
-returns-in_err-proc c = λ t text h f set is stands at.
-    let top = c.in_ok-top.ensures t h is stands in
-    let none = c.in_err-proc.ensures t text (place top.frame.procedure top.frame.left) set.scenes set.procedures top.next in
-    absurd cc
-
 pub returns : goal.returns
 returns c = λ t text h f set is stands at.
     let now = configuration_after t c.args.session.now.setup h in

@@ -24,4 +24,5 @@ returns c =
     in
     when_ok c.push_four.result c.push_four.ensures (λ added.
     rw (added, c.in_ok-push_state_members.ensures, note)
-    (all_added c.args.view.now.items (state_members (state_in state) ∷ list_text values ∷ key_text (codes "threads") ∷ list_text c.args.threads.now ∷ codes "}\n" ∷ [])))
+    (all_added c.args.view.now.items
+    (state_members (state_in state) ∷ list_text values ∷ key_text (codes "threads") ∷ list_text c.args.threads.now ∷ codes "}\n" ∷ [])))
