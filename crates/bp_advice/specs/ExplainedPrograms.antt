@@ -1,11 +1,12 @@
 -- What explains a fault of a program.
-use Rattle.std.specs.Prelude.{◌≡◌, ◌⊎◌, ◌≤◌, ℕ, List, [], ◌∷◌, Option, Some, take, drop}
+use Rattle.std.specs.Prelude.{◌≡◌, ◌⊎◌, ◌≤◌, ℕ, List, [], ◌∷◌, Some, take, drop}
 use Rattle.bp_syntax.specs.Cut.{HasTokens}
 use Rattle.bp_syntax.specs.declared.faults.ReadFault.TheVariants as read
 use Rattle.bp_check.specs.declared.faults.CheckFault.TheVariants as check
 use Rattle.bp_code.specs.LawfulTexts.{program_fault_place}
 use Rattle.bp_code.specs.declared.texts.ProgramFault.{ProgramFault}
 use Rattle.bp_code.specs.declared.texts.ProgramFault.TheVariants.{Read, Check}
+use Rattle.bp_advice.specs.declared.explanations.Explanation.{Explanation}
 use Rattle.bp_advice.specs.Explanations.{ExplainsPlace}
 use Rattle.bp_advice.specs.Followers.{MayFollow}
 
@@ -18,15 +19,14 @@ pub record MissesSemicolon (text : List ℕ) (at place : ℕ) : Type 0 where
 
 -- the explanation names this place of a token that cannot come there, or one where a semicolon is
 -- missing, and shows its line with a caret
-abbrev pub ExplainsSyntax : List ℕ → List ℕ → ℕ → List ℕ → Type 0
-ExplainsSyntax name text at explained =
+abbrev pub ExplainsSyntax : List ℕ → List ℕ → ℕ → Explanation → Type 0
+ExplainsSyntax file text at e =
     (place : ℕ) × ((place ≡ at) ⊎ MissesSemicolon text at place)
-    × ExplainsPlace name text (Some place) explained
+    × ExplainsPlace file text (Some place) e
 
 -- the explanation of a fault of a program's text: none of refused memory
-abbrev pub ExplainsProgram : List ℕ → List ℕ → ProgramFault → List ℕ → Type 0
-ExplainsProgram name text (Read read.Memory) explained = explained ≡ []
-ExplainsProgram name text (Read (read.Syntax at)) explained = ExplainsSyntax name text at explained
-ExplainsProgram name text (Check check.Memory at) explained = explained ≡ []
-ExplainsProgram name text fault explained =
-    ExplainsPlace name text (program_fault_place fault) explained
+abbrev pub ExplainsProgram : List ℕ → List ℕ → ProgramFault → Explanation → Type 0
+ExplainsProgram file text (Read read.Memory) e = ⊥
+ExplainsProgram file text (Read (read.Syntax at)) e = ExplainsSyntax file text at e
+ExplainsProgram file text (Check check.Memory at) e = ⊥
+ExplainsProgram file text fault e = ExplainsPlace file text (program_fault_place fault) e

@@ -1,9 +1,49 @@
--- The parts of an explanation, and which bytes it has.
+-- The parts of an explanation, and the lines that show it.
 use Rattle.std.specs.Prelude.{if◌then◌else◌, ◌≡◌, ◌==◌, ◌||◌, ◌&&◌, nat_le, ℕ, Bool, true, List, [], ◌∷◌, ◌++◌, Option, None, Some, All, map, decimal}
-use Rattle.bp_text.specs.declared.positions.Position.{Position}
 use Rattle.bp_text.specs.Excerpts.{excerpt_of_fault, excerpt_of_line}
 use Rattle.bp_text.specs.OneLine.{IsOneLine, on_one_line}
 use Rattle.bp_text.specs.Positions.{position_at}
+use Rattle.bp_advice.specs.declared.explanations.Explanation.{Explanation}
+use Rattle.bp_advice.specs.declared.explanations.Place.{Place}
+use Rattle.bp_advice.specs.declared.explanations.Place.TheVariants.{Whole, Line, At}
+
+-- the explanation is of this place of a file, by a sentence on one line
+pub record IsAt (file : List ℕ) (place : Place) (e : Explanation) : Type 0 where
+  pub file_is : e.file.now ≡ file
+  pub place_is : e.place ≡ place
+  pub one_line : IsOneLine e.sentence.items
+
+-- the same, and it shows this excerpt
+pub record IsExplanation (file : List ℕ) (place : Place) (excerpt : List ℕ) (e : Explanation)
+    : Type 0 where
+  pub at : IsAt file place e
+  pub excerpt_is : e.excerpt.items ≡ excerpt
+
+-- the place of a byte of a text, or the whole text
+abbrev pub place_of : List ℕ → Option ℕ → Place
+place_of text None = Whole
+place_of text (Some at) = At (position_at text at)
+
+-- the explanation names this place of a text, where there is one, and shows its line with a caret
+abbrev pub ExplainsPlace : List ℕ → List ℕ → Option ℕ → Explanation → Type 0
+ExplainsPlace file text at e = IsExplanation file (place_of text at) (excerpt_of_fault text at) e
+
+-- the explanation says that a text is too long, and shows none of it
+abbrev pub ExplainsLength : List ℕ → Explanation → Type 0
+ExplainsLength file e = IsExplanation file Whole [] e
+
+-- the explanation names this line of the text, and shows it
+abbrev pub ExplainsLine : List ℕ → List ℕ → ℕ → Explanation → Type 0
+ExplainsLine file text n e = IsExplanation file (Line n) (excerpt_of_line text n) e
+
+-- nothing explains a fault
+abbrev pub IsUnexplained : (Explanation → Type 0) → Type 0
+IsUnexplained Explains = (e : Explanation) → Explains e → ⊥
+
+-- this explains a fault; there is none where nothing does
+abbrev pub IsExplanationOf : (Explanation → Type 0) → Option Explanation → Type 0
+IsExplanationOf Explains (Some e) = Explains e
+IsExplanationOf Explains None = IsUnexplained Explains
 
 -- the byte is a line feed, or a character that a terminal shows in one column
 abbrev pub is_plain : ℕ → Bool
@@ -21,44 +61,25 @@ IsPlain text = All (λ b. is_plain b ≡ true) text
 abbrev pub after_colon : ℕ → List ℕ
 after_colon n = 58 ∷ decimal n
 
+-- the numbers of a place
+abbrev pub numbers_of : Place → List ℕ
+numbers_of Whole = []
+numbers_of (Line n) = after_colon n
+numbers_of (At p) = after_colon p.line ++ after_colon p.column
+
 -- what stands between a place and a sentence on it: a colon and a space
 abbrev pub separator : List ℕ
 separator = 58 ∷ 32 ∷ []
 
--- the head that names a file
-abbrev pub file_head : List ℕ → List ℕ
-file_head name = map on_one_line name ++ separator
+-- the head that names a file and a place in it
+abbrev pub head_of : List ℕ → Place → List ℕ
+head_of file place = map on_one_line file ++ numbers_of place ++ separator
 
--- the head that names a file and a line of it
-abbrev pub line_head : List ℕ → ℕ → List ℕ
-line_head name n = map on_one_line name ++ after_colon n ++ separator
+-- the sentence of an explanation, as it is shown
+abbrev pub sentence_of : Explanation → List ℕ
+sentence_of e = map shown e.sentence.items
 
--- the head that names a file, a line of it and a column
-abbrev pub position_head : List ℕ → Position → List ℕ
-position_head name p =
-    map on_one_line name ++ after_colon p.line ++ after_colon p.column ++ separator
-
--- the head that names a file, and the position of a byte of its text where one is to be named
-abbrev pub place_head : List ℕ → List ℕ → Option ℕ → List ℕ
-place_head name text None = file_head name
-place_head name text (Some at) = position_head name (position_at text at)
-
--- the text is a line of this head and a sentence, and then this excerpt, as they are shown
-pub record IsExplanation (head excerpt text : List ℕ) : Type 0 where
-  pub sentence : List ℕ
-  pub one_line : IsOneLine sentence
-  pub is : text ≡ map shown (head ++ sentence ++ 10 ∷ excerpt)
-
--- the explanation names this place of a text, where there is one, and shows its line with a caret
-abbrev pub ExplainsPlace : List ℕ → List ℕ → Option ℕ → List ℕ → Type 0
-ExplainsPlace name text place explained =
-    IsExplanation (place_head name text place) (excerpt_of_fault text place) explained
-
--- the explanation says that a text is too long, and shows none of it
-abbrev pub ExplainsLength : List ℕ → List ℕ → Type 0
-ExplainsLength name explained = IsExplanation (file_head name) [] explained
-
--- the explanation names this line of the text, and shows it
-abbrev pub ExplainsLine : List ℕ → List ℕ → ℕ → List ℕ → Type 0
-ExplainsLine name text n explained =
-    IsExplanation (line_head name n) (excerpt_of_line text n) explained
+-- the lines of an explanation, as they are shown: its head and its sentence, and then its excerpt
+abbrev pub lines_of : Explanation → List ℕ
+lines_of e =
+    map shown (head_of e.file.now e.place ++ e.sentence.items ++ 10 ∷ e.excerpt.items)

@@ -1,11 +1,11 @@
 //! Sentences on faults of a program whose text is in order.
 ghost use Rattle.std.specs.Prelude.{◌≡◌, IfOk};
 ghost use Rattle.bp_check.specs.Faults.{check_fault_place};
-ghost use Rattle.bp_advice.specs.Explanations.{ExplainsPlace, IsPlain};
+ghost use Rattle.bp_advice.specs.Explanations.{ExplainsPlace};
 
 use crate::counts::{argument_count, side_counts};
 use crate::declared::{Role, first_named, first_procedure, procedure_around, role_at, tree_of};
-use crate::explanations::about_place;
+use crate::explanations::{Explanation, about_place};
 use crate::guesses::{push_near_label, push_near_procedure, push_near_variable};
 use crate::sentences::Part::{Count, Number, Place, Quoted, Words};
 use crate::sentences::{Part, push_all, push_parts};
@@ -243,20 +243,19 @@ fn place_of(fault: CheckFault, at: u32) -> Option<u32>
 }
 
 /// Explains why the program of a text is not lawful.
-pub(crate) fn explain_check(
+pub(crate) fn explain_check<'a>(
     alloc: Global,
-    name: &str,
+    file: &'a str,
     text: &[u8],
     fault: CheckFault,
     at: u32,
-) -> Result<Vec<u8>, AllocError>
-    ensures is { IfOk result (λ v.
-        ExplainsPlace name.now text.now (check_fault_place fault at) v.items) }
-    ensures plain { IfOk result (λ v. IsPlain v.items) }
+) -> Result<Explanation<'a>, AllocError>
+    ensures { IfOk result (λ e.
+        ExplainsPlace file.now text.now (check_fault_place fault at) e) }
 {
     let mut sentence = Vec::new(alloc);
     if let Some(tree) = &tree_of(alloc, text)? {
         push_sentence(&mut sentence, text, tree, fault, at as usize)?;
     }
-    about_place(alloc, name, text, place_of(fault, at), sentence.as_slice())
+    about_place(alloc, file, text, place_of(fault, at), sentence.as_slice())
 }

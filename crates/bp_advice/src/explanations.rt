@@ -1,121 +1,116 @@
-//! Explanations put together: a line that names the place and has the sentence, and then the
-//! excerpt. They have only characters that a terminal shows, and line ends.
-ghost use Rattle.std.specs.Prelude.{◌≡◌, ◌++◌, map, IfOk, OnOk};
-ghost use Rattle.bp_advice.specs.Explanations.{ExplainsLength, ExplainsLine, ExplainsPlace, line_head, is_plain, shown, IsExplanation, IsPlain};
+//! Explanations of faults: where in a file, what is wrong there, and the lines that show the place.
+ghost use Rattle.std.specs.Prelude.{◌≡◌, [], IfOk};
+ghost use Rattle.bp_advice.specs.Explanations.{ExplainsLength, ExplainsLine, ExplainsPlace, IsExplanation, place_of};
 
-use crate::heads::{head_of_file, head_of_line, head_of_place};
 use crate::sentences::Part::{Number, Words};
 use crate::sentences::push_parts;
-use bp_text::{excerpt_of, first_line, push_line};
+use bp_text::{Position, excerpt_of, first_line, position_of, push_line};
 use std::alloc::{AllocError, Global};
 
-/// Whether the byte is a line feed, or a character that a terminal shows in one column.
-fn is_plain(byte: u8) -> bool
-    ensures { result ≡ is_plain byte }
-{
-    byte == b'\n' || b' ' <= byte && byte <= b'~'
+/// A place of a file.
+#[derive(Clone, Copy)]
+pub enum Place {
+    /// The file as a whole.
+    Whole,
+    /// The line of this number.
+    Line(usize),
+    /// This line and column.
+    At(Position),
 }
 
-/// How a byte is shown: a column stays a column.
-fn shown(byte: u8) -> u8
-    ensures { result ≡ shown byte }
-{
-    if is_plain(byte) {
-        byte
-    } else if byte == b'\t' || byte == b'\r' {
-        b' '
-    } else {
-        b'?'
-    }
+/// An explanation of a fault of a file.
+#[derive(Drop)]
+pub struct Explanation<'a> {
+    /// The name of the file.
+    pub file: &'a str,
+    /// Where in the file the fault is.
+    pub place: Place,
+    /// What is wrong there, on one line.
+    pub sentence: Vec<u8>,
+    /// The lines that show the place. It is empty where nothing is to be shown.
+    pub excerpt: Vec<u8>,
 }
 
-/// Adds the bytes as they are shown.
-fn push_shown(out: &mut Vec<u8>, bytes: &[u8]) -> Result<(), AllocError>
-    ensures { OnOk result (out.new.items ≡ out.old.items ++ map shown bytes.now) }
-{
-    for byte in bytes {
-        out.push(shown(*byte))?;
-    }
-    Ok(())
-}
-
-/// The explanation with this head, this excerpt and the first line of this sentence.
-fn explanation(
+/// The explanation of this place of a file, with this excerpt and the first line of this sentence.
+fn explained<'a>(
     alloc: Global,
-    head: &[u8],
-    excerpt: &[u8],
-    sentence: &[u8],
-) -> Result<Vec<u8>, AllocError>
-    ensures is { IfOk result (λ v. IsExplanation head.now excerpt.now v.items) }
-    ensures plain { IfOk result (λ v. IsPlain v.items) }
+    file: &'a str,
+    place: Place,
+    excerpt: Vec<u8>,
+    words: &[u8],
+) -> Result<Explanation<'a>, AllocError>
+    ensures { IfOk result (λ e. IsExplanation file.now place excerpt.items e) }
 {
-    let mut lines = Vec::new(alloc);
-    lines.extend_from_slice(head)?;
-    lines.extend_from_slice(first_line(sentence))?;
-    lines.push(b'\n')?;
-    lines.extend_from_slice(excerpt)?;
-    let mut out = Vec::new(alloc);
-    push_shown(&mut out, lines.as_slice())?;
-    Ok(out)
+    let mut sentence = Vec::new(alloc);
+    sentence.extend_from_slice(first_line(words))?;
+    Ok(Explanation {
+        file,
+        place,
+        sentence,
+        excerpt,
+    })
+}
+
+/// The place of a byte of a text, or the whole text.
+fn place_of(text: &[u8], at: Option<u32>) -> Place
+    ensures { result ≡ place_of text.now at }
+{
+    match at {
+        None => Place::Whole,
+        Some(at) => Place::At(position_of(text, at as usize)),
+    }
 }
 
 /// The explanation of a place of a text, or of the whole text where there is none.
-pub(crate) fn about_place(
+pub(crate) fn about_place<'a>(
     alloc: Global,
-    name: &str,
+    file: &'a str,
     text: &[u8],
-    place: Option<u32>,
+    at: Option<u32>,
     sentence: &[u8],
-) -> Result<Vec<u8>, AllocError>
-    ensures is { IfOk result (λ v. ExplainsPlace name.now text.now place v.items) }
-    ensures plain { IfOk result (λ v. IsPlain v.items) }
+) -> Result<Explanation<'a>, AllocError>
+    ensures { IfOk result (λ e. ExplainsPlace file.now text.now at e) }
 {
-    let head = head_of_place(alloc, name, text, place)?;
-    let excerpt = excerpt_of(alloc, text, place)?;
-    explanation(alloc, head.as_slice(), excerpt.as_slice(), sentence)
+    let excerpt = excerpt_of(alloc, text, at)?;
+    explained(alloc, file, place_of(text, at), excerpt, sentence)
 }
 
 /// The explanation of a line of a text, which has this number and is shown with this excerpt.
-pub fn about_excerpt(
+pub fn about_excerpt<'a>(
     alloc: Global,
-    name: &str,
+    file: &'a str,
     number: usize,
-    excerpt: &[u8],
+    excerpt: Vec<u8>,
     sentence: &[u8],
-) -> Result<Vec<u8>, AllocError>
-    ensures is { IfOk result (λ v.
-        IsExplanation (line_head name.now number) excerpt.now v.items) }
-    ensures plain { IfOk result (λ v. IsPlain v.items) }
+) -> Result<Explanation<'a>, AllocError>
+    ensures { IfOk result (λ e. IsExplanation file.now (Place.Line number) excerpt.items e) }
 {
-    let head = head_of_line(alloc, name, number)?;
-    explanation(alloc, head.as_slice(), excerpt, sentence)
+    explained(alloc, file, Place::Line(number), excerpt, sentence)
 }
 
 /// The explanation of a line of a text, which has this number and is shown without a caret.
-pub fn about_line(
+pub fn about_line<'a>(
     alloc: Global,
-    name: &str,
+    file: &'a str,
     text: &[u8],
     number: usize,
     sentence: &[u8],
-) -> Result<Vec<u8>, AllocError>
-    ensures is { IfOk result (λ v. ExplainsLine name.now text.now number v.items) }
-    ensures plain { IfOk result (λ v. IsPlain v.items) }
+) -> Result<Explanation<'a>, AllocError>
+    ensures { IfOk result (λ e. ExplainsLine file.now text.now number e) }
 {
     let mut excerpt = Vec::new(alloc);
     push_line(&mut excerpt, text, number)?;
-    about_excerpt(alloc, name, number, excerpt.as_slice(), sentence)
+    about_excerpt(alloc, file, number, excerpt, sentence)
 }
 
 /// Explains that a text of this kind is longer than the limit.
-pub fn explain_too_long(
+pub fn explain_too_long<'a>(
     alloc: Global,
-    name: &str,
+    file: &'a str,
     kind: &[u8],
     limit: usize,
-) -> Result<Vec<u8>, AllocError>
-    ensures is { IfOk result (λ v. ExplainsLength name.now v.items) }
-    ensures plain { IfOk result (λ v. IsPlain v.items) }
+) -> Result<Explanation<'a>, AllocError>
+    ensures { IfOk result (λ e. ExplainsLength file.now e) }
 {
     let mut sentence = Vec::new(alloc);
     push_parts(
@@ -128,6 +123,6 @@ pub fn explain_too_long(
             Words(b" bytes"),
         ],
     )?;
-    let head = head_of_file(alloc, name)?;
-    explanation(alloc, head.as_slice(), b"", sentence.as_slice())
+    let nothing = Vec::new(alloc);
+    explained(alloc, file, Place::Whole, nothing, sentence.as_slice())
 }

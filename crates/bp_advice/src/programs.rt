@@ -1,9 +1,10 @@
 //! Explanations of the faults of programs.
 ghost use Rattle.std.specs.Prelude.{IfOk};
-ghost use Rattle.bp_advice.specs.Explanations.{IsPlain};
+ghost use Rattle.bp_advice.specs.Explanations.{IsExplanationOf};
 ghost use Rattle.bp_advice.specs.ExplainedPrograms.{ExplainsProgram};
 
 use crate::check_sentences::explain_check;
+use crate::explanations::Explanation;
 use crate::read_sentences::explain_read;
 use crate::syntax_sentences::explain_syntax;
 use bp_check::CheckFault;
@@ -11,24 +12,24 @@ use bp_code::ProgramFault;
 use bp_syntax::ReadFault;
 use std::alloc::{AllocError, Global};
 
-/// Explains this fault of a program's text: a line `NAME:LINE:COLUMN: ` and a sentence, and the
-/// line of the text with a caret below the place. A missing semicolon is placed at the end of the
-/// statement before. A fault without a place has the line `NAME: ` and a sentence. Nothing is said
-/// of refused memory. The only error is refused memory.
-pub fn explain_program(
+/// Explains this fault of a program's text, at its line and column. A missing semicolon is placed
+/// at the end of the statement before. A fault without a place is one of the whole text. Nothing
+/// explains refused memory. The only error is refused memory.
+pub fn explain_program<'a>(
     alloc: Global,
-    name: &str,
+    file: &'a str,
     text: &[u8],
     fault: &ProgramFault,
-) -> Result<Vec<u8>, AllocError>
-    ensures explains { IfOk result (λ v. ExplainsProgram name.now text.now fault.now v.items) }
-    ensures plain { IfOk result (λ v. IsPlain v.items) }
+) -> Result<Option<Explanation<'a>>, AllocError>
+    ensures { let Explains = ExplainsProgram file.now text.now fault.now in
+        IfOk result (IsExplanationOf Explains) }
 {
-    match fault {
-        ProgramFault::Read(ReadFault::Memory) => Ok(Vec::new(alloc)),
-        ProgramFault::Read(ReadFault::Syntax(at)) => explain_syntax(alloc, name, text, *at),
-        ProgramFault::Read(fault) => explain_read(alloc, name, text, fault),
-        ProgramFault::Check(CheckFault::Memory, _) => Ok(Vec::new(alloc)),
-        ProgramFault::Check(fault, at) => explain_check(alloc, name, text, *fault, *at),
-    }
+    let explanation = match fault {
+        ProgramFault::Read(ReadFault::Memory) => return Ok(None),
+        ProgramFault::Read(ReadFault::Syntax(at)) => explain_syntax(alloc, file, text, *at)?,
+        ProgramFault::Read(fault) => explain_read(alloc, file, text, fault)?,
+        ProgramFault::Check(CheckFault::Memory, _) => return Ok(None),
+        ProgramFault::Check(fault, at) => explain_check(alloc, file, text, *fault, *at)?,
+    };
+    Ok(Some(explanation))
 }

@@ -1,10 +1,10 @@
 //! Sentences on faults of a text: what is wrong before the text is a tree.
 ghost use Rattle.std.specs.Prelude.{IfOk};
 ghost use Rattle.bp_syntax.specs.Faults.{read_fault_place};
-ghost use Rattle.bp_advice.specs.Explanations.{ExplainsPlace, IsPlain};
+ghost use Rattle.bp_advice.specs.Explanations.{ExplainsPlace};
 
 use crate::around::{is_name, tokens_around};
-use crate::explanations::about_place;
+use crate::explanations::{Explanation, about_place};
 use crate::other_texts::other_than_program;
 use crate::sentences::Part::{Number, Quoted, Words};
 use crate::sentences::{push_all, push_parts};
@@ -140,17 +140,16 @@ fn push_sentence(out: &mut Vec<u8>, text: &[u8], fault: &ReadFault) -> Result<()
 }
 
 /// Explains why a text is not that of a tree, where no token is out of place.
-pub(crate) fn explain_read(
+pub(crate) fn explain_read<'a>(
     alloc: Global,
-    name: &str,
+    file: &'a str,
     text: &[u8],
     fault: &ReadFault,
-) -> Result<Vec<u8>, AllocError>
-    ensures is { IfOk result (λ v.
-        ExplainsPlace name.now text.now (read_fault_place fault.now) v.items) }
-    ensures plain { IfOk result (λ v. IsPlain v.items) }
+) -> Result<Explanation<'a>, AllocError>
+    ensures { IfOk result (λ e.
+        ExplainsPlace file.now text.now (read_fault_place fault.now) e) }
 {
     let mut sentence = Vec::new(alloc);
     push_sentence(&mut sentence, text, fault)?;
-    about_place(alloc, name, text, fault.place(), sentence.as_slice())
+    about_place(alloc, file, text, fault.place(), sentence.as_slice())
 }

@@ -1,12 +1,11 @@
 //! The explanation of a token that cannot come there in a program.
 ghost use Rattle.std.specs.Prelude.{◌≡◌, ◌⊎◌, IfOk, IfSome};
 ghost use Rattle.bp_advice.specs.ExplainedPrograms.{ExplainsSyntax, MissesSemicolon};
-ghost use Rattle.bp_advice.specs.Explanations.{IsPlain};
 
 use crate::advice::push_advice;
 use crate::around::{Around, is_gap, size_to_last_token, tokens_around};
 use crate::candidates::may_follow;
-use crate::explanations::about_place;
+use crate::explanations::{Explanation, about_place};
 use crate::mistakes::{misses_semicolon, mistake_at};
 use crate::offers::{Offer, offers_after, push_offers};
 use crate::other_texts::other_than_program;
@@ -76,22 +75,21 @@ fn semicolon_place(
 
 /// Explains a token that cannot come at this place of a text. A missing semicolon is explained at
 /// the end of the statement before.
-pub(crate) fn explain_syntax(
+pub(crate) fn explain_syntax<'a>(
     alloc: Global,
-    name: &str,
+    file: &'a str,
     text: &[u8],
     at: u32,
-) -> Result<Vec<u8>, AllocError>
-    ensures is { IfOk result (λ v. ExplainsSyntax name.now text.now at v.items) }
-    ensures plain { IfOk result (λ v. IsPlain v.items) }
+) -> Result<Explanation<'a>, AllocError>
+    ensures { IfOk result (λ e. ExplainsSyntax file.now text.now at e) }
 {
     let offers = offers_after(alloc, part_before(text, at as usize))?;
     let around = tokens_around(text, at as usize);
     let mut sentence = Vec::new(alloc);
     if let Some(place) = semicolon_place(alloc, text, at, offers.as_slice(), &around)? {
         push_missing(&mut sentence, &around)?;
-        return about_place(alloc, name, text, Some(place), sentence.as_slice());
+        return about_place(alloc, file, text, Some(place), sentence.as_slice());
     }
     push_misplaced(&mut sentence, text, offers.as_slice(), &around)?;
-    about_place(alloc, name, text, Some(at), sentence.as_slice())
+    about_place(alloc, file, text, Some(at), sentence.as_slice())
 }

@@ -2,6 +2,7 @@
 use Rattle.std.proofs.Common.{◌≡◌, ◌⊎◌, ℕ, List, Bool, true, false, Option, Result, Ok, Err, refl, subst, sym, inl, inr}
 use Rattle.bp_commands.specs.declared.fault_formats.FaultFormat.{FaultFormat}
 use Rattle.bp_commands.specs.declared.fault_formats.FaultFormat.TheVariants as format
+use Rattle.bp_advice.specs.declared.explanations.Explanation.{Explanation}
 use Rattle.bp_messages.specs.declared.faults.Fault.{Fault}
 use Rattle.bp_text.specs.declared.writing.WriteFault.{WriteFault}
 use Rattle.bp_commands.specs.declared.ends.Explained.{Explained}
@@ -39,7 +40,7 @@ module _ {X R : Type 0} (inputs : Inputs X) (given : X) where
     ends_read ending kind done (Err f) held now e old new read flushed (status_is, reported) =
         (status_is, reports inputs given IsObject kind f old new e.told (read_or_why done (Err f) held now f read flushed refl) reported)
 
-  module _ (Explains : X → Fault → List ℕ → Type 0) where
+  module _ (Explains : X → Fault → Explanation → Type 0) where
     tells : (asked : Bool) (done final : Result R Fault) (held now : Option (List ℕ)) (e : Explained) (old new : Option (List ℕ)) → AreReadOr inputs given done → IsFlushed done held final now
         → IsTold asked (λ f. IsSaid (Explains given f)) final e old new → IsTold asked (IsSaidOfRead inputs Explains) final e old new
     tells false done final held now e old new read flushed is = is
@@ -48,7 +49,7 @@ module _ {X R : Type 0} (inputs : Inputs X) (given : X) where
         (said, record { given = given; read = read_or_why done (Err f) held now f read flushed refl; is = is }, written)
 
   -- so a run ends as it is concluded of what was read
-  pub concluded_read : (IsObject : X → Fault → List ℕ → Type 0) (Explains : X → Fault → List ℕ → Type 0)
+  pub concluded_read : (IsObject : X → Fault → List ℕ → Type 0) (Explains : X → Fault → Explanation → Type 0)
       (ending : Ending R) (kind : FaultFormat) (done final : Result R Fault) (held now : Option (List ℕ)) (e : RunEnd) (old new : Option (List ℕ))
       → AreReadOr inputs given done → IsFlushed done held final now
       → IsConcluded ending kind (IsObject given) (λ f. IsSaid (Explains given f)) final e old new

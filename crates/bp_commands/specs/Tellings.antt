@@ -2,6 +2,7 @@
 use Rattle.std.specs.Prelude.{◌≡◌, ◌⊎◌, ℕ, List, Option, None, Some, Result, Bool, true, false}
 use Rattle.bp_text.specs.Writing.{Writes}
 use Rattle.bp_text.specs.declared.writing.WriteFault.{WriteFault}
+use Rattle.bp_advice.specs.declared.explanations.Explanation.{Explanation}
 use Rattle.bp_commands.specs.declared.explanations.Beside.{Beside}
 use Rattle.bp_commands.specs.declared.explanations.Beside.TheVariants as beside
 use Rattle.bp_commands.specs.declared.fault_formats.FaultFormat.{FaultFormat}
@@ -60,9 +61,9 @@ module _ (IsIn : Fault → Option (List ℕ) → Type 0) (given : Pair) where
     pub message : List ℕ
     pub is : object ≡ fault_object f file given.text value message
 
--- what is told of faults of these inputs: the lines that explain one, and its object
+-- what is told of faults of these inputs: what explains one, and its object
 pub record Telling (X : Type 0) : Type 1 where
-  pub Explains : X → Fault → List ℕ → Type 0
+  pub Explains : X → Fault → Explanation → Type 0
   pub IsObject : X → Fault → List ℕ → Type 0
 
 abbrev pub on_text : List ℕ → Telling (List ℕ)

@@ -1,17 +1,16 @@
 //! What `--explain` adds after the line of a fault, for people.
-ghost use Rattle.std.specs.Prelude.{◌≡◌, ◌++◌, ◌∷◌, [], ℕ, List, IfOk};
-ghost use Rattle.bp_explain.specs.Explained.{ExplainsSchedule, ExplainsSteps};
+ghost use Rattle.std.specs.Prelude.{ℕ, List, IfOk};
+ghost use Rattle.bp_advice.specs.Explanations.{IsExplanationOf};
 ghost use Rattle.bp_text.specs.Writing.{Writes};
-ghost use Rattle.bp_commands.specs.Explanations.{ExplainsInput, ExplainsPair, ExplainsText, IsExplanationOf, IsInWords, IsSaidFor};
+ghost use Rattle.bp_commands.specs.Explanations.{ExplainsInput, ExplainsPair, ExplainsText, IsInWords, IsSaidFor};
 ghost use Rattle.bp_commands.specs.Given.{Pair};
 
 use crate::ends::Explained;
 use crate::hints::Hints;
 use crate::messages::shown_sentence;
 use crate::named_starts::start_of_run;
-use bp_advice::explain_program;
+use bp_advice::{Explanation, explain_program};
 use bp_code::ProgramFault;
-use bp_confirm::ConfirmFault;
 use bp_explain::{explain_schedule, explain_steps, explain_trace};
 use bp_init::{NamedBits, NamedStart};
 use bp_machine::Start;
@@ -19,7 +18,7 @@ use bp_messages::Fault;
 use bp_syntax::ReadFault;
 use bp_text::Piece::Bytes;
 use bp_text::{WriteFault, first_line, put, put_pieces};
-use bp_trace::{DriveFault, ReplayFault};
+use bp_trace::ReplayFault;
 use std::alloc::{AllocError, Global};
 use std::io::Write;
 
@@ -38,118 +37,80 @@ pub enum Beside {
     Trace,
 }
 
-/// The explanation of a fault of a program. It is empty where there is none.
-pub(crate) fn of_program(
+/// What explains a fault of a program, where anything does.
+pub(crate) fn of_program<'a>(
     alloc: Global,
     fault: &Fault,
-    program: Named<'_>,
-) -> Result<Vec<u8>, AllocError>
+    program: Named<'a>,
+) -> Result<Option<Explanation<'a>>, AllocError>
     ensures { let Explains = ExplainsText program.entry.name.now program.entry.text.now in
-        IfOk result (λ v. IsExplanationOf (Explains fault.now) v.items) }
+        IfOk result (IsExplanationOf (Explains fault.now)) }
 {
     match fault {
         // Such a text was not read whole.
-        Fault::Program(ProgramFault::Read(ReadFault::TooLong)) => Ok(Vec::new(alloc)),
+        Fault::Program(ProgramFault::Read(ReadFault::TooLong)) => Ok(None),
         Fault::Program(fault) => explain_program(alloc, program.name, program.text, fault),
-        _ => Ok(Vec::new(alloc)),
+        _ => Ok(None),
     }
 }
 
-/// The explanation of a fault of a schedule. Without a start, the defaults apply.
-fn of_schedule(
-    alloc: Global,
-    fault: &DriveFault,
-    start: Option<NamedStart<'_>>,
-    program: Named<'_>,
-    schedule: Named<'_>,
-) -> Result<Vec<u8>, AllocError>
-    ensures { IfOk result (λ v. ExplainsSchedule
-        schedule.entry.name.now schedule.entry.text.now fault.now v.items) }
-{
-    let (text, name, lines) = (program.text, schedule.name, schedule.text);
-    let (defaults, none) = (Start::defaults(alloc)?, NamedBits::none(alloc));
-    let asked = start.unwrap_or(NamedStart {
-        start: &defaults,
-        named: &none,
-    });
-    match &start_of_run(alloc, text, asked)? {
-        Some(start) => explain_schedule(alloc, text, start, name, lines, fault),
-        None => explain_schedule(alloc, text, asked.start, name, lines, fault),
-    }
-}
-
-/// The explanation of a fault of reported steps. Without a start, the defaults apply.
-fn of_steps(
-    alloc: Global,
-    fault: &ConfirmFault,
-    start: Option<NamedStart<'_>>,
-    program: Named<'_>,
-    steps: Named<'_>,
-) -> Result<Vec<u8>, AllocError>
-    ensures { IfOk result (λ v. ExplainsSteps
-        steps.entry.name.now steps.entry.text.now fault.now v.items) }
-{
-    let (text, name, lines) = (program.text, steps.name, steps.text);
-    let (defaults, none) = (Start::defaults(alloc)?, NamedBits::none(alloc));
-    let asked = start.unwrap_or(NamedStart {
-        start: &defaults,
-        named: &none,
-    });
-    match &start_of_run(alloc, text, asked)? {
-        Some(start) => explain_steps(alloc, text, start, name, lines, fault),
-        None => explain_steps(alloc, text, asked.start, name, lines, fault),
-    }
-}
-
-/// The explanation of a fault of the schedule, the steps or the trace beside a program. It is empty
-/// where there is none.
-fn of_input(
+/// What explains a fault of the schedule, the steps or the trace beside a program, where anything
+/// does. A schedule and steps are of a run from this start.
+fn of_input<'a>(
     alloc: Global,
     beside: Beside,
     fault: &Fault,
-    start: Option<NamedStart<'_>>,
+    start: &Start,
     program: Named<'_>,
-    input: Named<'_>,
-) -> Result<Vec<u8>, AllocError>
+    input: Named<'a>,
+) -> Result<Option<Explanation<'a>>, AllocError>
     ensures { let Explains = ExplainsInput beside input.entry.name.now input.entry.text.now in
-        IfOk result (λ v. IsExplanationOf (Explains fault.now) v.items) }
+        IfOk result (IsExplanationOf (Explains fault.now)) }
 {
+    let (text, name, lines) = (program.text, input.name, input.text);
     match (beside, fault) {
         (Beside::Schedule, Fault::Schedule(fault)) => {
-            of_schedule(alloc, fault, start, program, input)
+            explain_schedule(alloc, text, start, name, lines, fault)
         }
-        (Beside::Steps, Fault::Steps(fault)) => of_steps(alloc, fault, start, program, input),
-        (Beside::Trace, Fault::Trace(fault)) => {
-            explain_trace(alloc, program.text, input.name, input.text, fault)
+        (Beside::Steps, Fault::Steps(fault)) => {
+            explain_steps(alloc, text, start, name, lines, fault)
         }
+        (Beside::Trace, Fault::Trace(fault)) => explain_trace(alloc, text, name, lines, fault),
         (Beside::Trace, Fault::Setup(fault)) => {
             let fault = ReplayFault::Setup(*fault);
-            explain_trace(alloc, program.text, input.name, input.text, &fault)
+            explain_trace(alloc, text, name, lines, &fault)
         }
-        _ => Ok(Vec::new(alloc)),
+        _ => Ok(None),
     }
 }
 
-/// The explanation of a fault of a program or of what stands beside it. It is empty where there is
-/// none.
-pub(crate) fn of_pair(
+/// What explains a fault of a program or of what stands beside it, where anything does. Without a
+/// start, the defaults apply.
+pub(crate) fn of_pair<'a>(
     alloc: Global,
     beside: Beside,
     fault: &Fault,
     start: Option<NamedStart<'_>>,
-    program: Named<'_>,
-    input: Named<'_>,
-) -> Result<Vec<u8>, AllocError>
+    program: Named<'a>,
+    input: Named<'a>,
+) -> Result<Option<Explanation<'a>>, AllocError>
     ensures { let given : Pair =
         record { text = program.entry.text.now; input = input.entry.text.now } in
         let Explains = ExplainsPair beside program.entry.name.now input.entry.name.now given in
-        IfOk result (λ v. IsExplanationOf (Explains fault.now) v.items) }
+        IfOk result (IsExplanationOf (Explains fault.now)) }
 {
-    let lines = of_program(alloc, fault, program)?;
-    if !lines.is_empty() {
-        return Ok(lines);
+    if let Fault::Program(_) = fault {
+        return of_program(alloc, fault, program);
     }
-    of_input(alloc, beside, fault, start, program, input)
+    let (defaults, none) = (Start::defaults(alloc)?, NamedBits::none(alloc));
+    let asked = start.unwrap_or(NamedStart {
+        start: &defaults,
+        named: &none,
+    });
+    match &start_of_run(alloc, program.text, asked)? {
+        Some(start) => of_input(alloc, beside, fault, start, program, input),
+        None => of_input(alloc, beside, fault, asked.start, program, input),
+    }
 }
 
 /// Writes a fault in its words, on one line.
@@ -176,11 +137,11 @@ fn put_sentence<E: Write>(
     }
 }
 
-/// Writes the explanation of a fault; or else the fault in a sentence, where there is none or no
-/// memory for it.
+/// Writes the lines that explain a fault; or else the fault in a sentence, where there are none or
+/// no memory for them.
 pub(crate) fn put_explanation<E: Write>(
     alloc: Global,
-    lines: &Result<Vec<u8>, AllocError>,
+    lines: &Result<Option<Vec<u8>>, AllocError>,
     fault: &Fault,
     hints: Hints<'_, '_>,
     errors: &mut E,
@@ -189,11 +150,11 @@ pub(crate) fn put_explanation<E: Write>(
         × Writes (E.contents errors.old) (E.contents errors.new) said result.told }
 {
     match lines {
-        Ok(lines) if !lines.is_empty() => Explained {
+        Ok(Some(lines)) => Explained {
             lines: Ok(()),
             told: put(errors, lines),
         },
-        Ok(_) => Explained {
+        Ok(None) => Explained {
             lines: Ok(()),
             told: put_sentence(alloc, fault, hints, errors),
         },

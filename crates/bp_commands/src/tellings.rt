@@ -2,7 +2,9 @@
 ghost use Rattle.std.specs.Prelude.{◌≡◌, ℕ, List, Option, IfOk};
 ghost use Rattle.bp_text.specs.Writing.{Writes};
 ghost use Rattle.bp_commands.specs.Ends.{Ends};
-ghost use Rattle.bp_commands.specs.Explanations.{ExplainsPair, ExplainsText, IsExplanationOf, IsSaid, IsTold};
+ghost use Rattle.bp_advice.specs.declared.explanations.Explanation.{Explanation as SomeExplanation};
+ghost use Rattle.bp_advice.specs.Explanations.{IsExplanationOf};
+ghost use Rattle.bp_commands.specs.Explanations.{AreLinesOf, ExplainsPair, ExplainsText, IsSaid, IsTold};
 ghost use Rattle.bp_messages.specs.FaultObjects.{name_in};
 ghost use Rattle.bp_messages.specs.FaultTable.{status_of};
 ghost use Rattle.bp_commands.specs.Given.{text_alone_of, Pair};
@@ -14,6 +16,7 @@ use crate::explanations::{Beside, Named, of_pair, of_program, put_explanation};
 use crate::fault_formats::FaultFormat;
 use crate::hints::Hints;
 use crate::messages::message;
+use bp_advice::{Explanation, lines_of};
 use bp_init::NamedStart;
 use bp_messages::{Fault, put_fault_object, value_in};
 use std::alloc::{AllocError, Global};
@@ -21,15 +24,19 @@ use std::io::Write;
 
 /// The texts that a command was given.
 pub(crate) trait Texts {
-    ghost explains: { Self → SomeFault → List ℕ → Type 0 };
+    ghost explains: { Self → SomeFault → SomeExplanation → Type 0 };
 
     ghost is_in: { Self → SomeFault → Option (List ℕ) → Type 0 };
 
     ghost given: { Self → Pair };
 
-    /// The lines that explain a fault of the texts; none where nothing does.
-    fn explanation(&self, alloc: Global, fault: &Fault) -> Result<Vec<u8>, AllocError>
-        ensures { IfOk result (λ v. IsExplanationOf (explains self.now fault.now) v.items) };
+    /// What explains a fault of the texts, where anything does.
+    fn explanation(
+        &self,
+        alloc: Global,
+        fault: &Fault,
+    ) -> Result<Option<Explanation<'_>>, AllocError>
+        ensures { IfOk result (IsExplanationOf (explains self.now fault.now)) };
 
     /// The name of the file that a fault is in.
     fn file(&self, fault: &Fault, hints: Hints<'_, '_>) -> Option<&str>
@@ -51,7 +58,11 @@ impl Texts for Named<'_> {
 
     ghost given = { λ t. text_alone_of t.text.now };
 
-    fn explanation(&self, alloc: Global, fault: &Fault) -> Result<Vec<u8>, AllocError> {
+    fn explanation(
+        &self,
+        alloc: Global,
+        fault: &Fault,
+    ) -> Result<Option<Explanation<'_>>, AllocError> {
         of_program(alloc, fault, *self)
     }
 
@@ -90,7 +101,11 @@ impl Texts for NamedPair<'_> {
 
     ghost given = { λ t. record { text = t.program.text.now; input = t.input.text.now } };
 
-    fn explanation(&self, alloc: Global, fault: &Fault) -> Result<Vec<u8>, AllocError> {
+    fn explanation(
+        &self,
+        alloc: Global,
+        fault: &Fault,
+    ) -> Result<Option<Explanation<'_>>, AllocError> {
         of_pair(
             alloc,
             self.beside,
@@ -139,10 +154,10 @@ fn end_by_object<G: Texts, E: Write>(
         × IsObjectIn (G.is_in given.now) (G.given given.now) fault.now object
         × Writes (E.contents errors.old) (E.contents errors.new) object result.told }
 {
-    let lines = given.explanation(alloc, fault);
+    let explanation = given.explanation(alloc, fault);
     let file = given.file(fault, hints);
     let value = value_in(given.input(), fault.row().detail);
-    let message = message(alloc, lines, file, fault, hints);
+    let message = message(alloc, &explanation, fault, hints);
     let words = match &message {
         Ok(message) => message.as_slice(),
         Err(_) => b"out of memory",
@@ -173,6 +188,20 @@ fn report<G: Texts, T: Ended, E: Write>(
     }
 }
 
+/// The lines of what explains a fault, where anything does.
+fn explaining_lines<G: Texts>(
+    alloc: Global,
+    given: &G,
+    fault: &Fault,
+) -> Result<Option<Vec<u8>>, AllocError>
+    ensures { IfOk result (AreLinesOf (G.explains given.now fault.now)) }
+{
+    match &given.explanation(alloc, fault)? {
+        Some(explanation) => Ok(Some(lines_of(alloc, explanation)?)),
+        None => Ok(None),
+    }
+}
+
 /// Explains a refusal, where the format has an explanation.
 fn explain<G: Texts, T, E: Write>(
     alloc: Global,
@@ -187,7 +216,7 @@ fn explain<G: Texts, T, E: Write>(
 {
     match (format.is_explained(), done) {
         (true, Err(fault)) => {
-            let lines = given.explanation(alloc, fault);
+            let lines = explaining_lines(alloc, given, fault);
             put_explanation(alloc, &lines, fault, hints, errors)
         }
         _ => Explained::NOTHING,

@@ -9,7 +9,9 @@ use Rattle.bp_trace.specs.declared.faults.DriveFault.{DriveFault}
 use Rattle.bp_trace.specs.declared.faults.DriveFault.TheVariants as drive
 use Rattle.bp_trace.specs.declared.replay_faults.ReplayFault.{ReplayFault}
 use Rattle.bp_trace.specs.declared.replay_faults.ReplayFault.TheVariants as replay
-use Rattle.bp_advice.specs.Explanations.{line_head, ExplainsLength, ExplainsLine, IsExplanation}
+use Rattle.bp_advice.specs.declared.explanations.Explanation.{Explanation}
+use Rattle.bp_advice.specs.declared.explanations.Place.TheVariants.{Line}
+use Rattle.bp_advice.specs.Explanations.{ExplainsLength, ExplainsLine, IsAt, IsExplanation}
 use Rattle.bp_explain.specs.TraceParts.{IsSetupLine, IsWrongByte}
 
 -- this byte of the text is on this line
@@ -24,59 +26,53 @@ ShowsLine text n excerpt =
 
 -- the explanation names this line of the trace, and shows it: with a caret below what is wrong in
 -- its call, where that is on the line
-pub record ExplainsCall (name trace : List ℕ) (n : ℕ) (fault : ReplayFault) (explained : List ℕ)
+pub record ExplainsCall (file trace : List ℕ) (n : ℕ) (fault : ReplayFault) (e : Explanation)
     : Type 0 where
-  pub excerpt : List ℕ
-  pub shows : ShowsLine trace n excerpt
+  pub at : IsAt file (Line n) e
+  pub shows : ShowsLine trace n e.excerpt.items
   pub caret : (at : ℕ)
       → IsWrongByte trace fault at
       → IsOnLine trace n at
-      → excerpt ≡ excerpt_of_place trace at
-  pub is : IsExplanation (line_head name n) excerpt explained
+      → e.excerpt.items ≡ excerpt_of_place trace at
 
 -- the explanation of a fault of a setup that a trace says
-abbrev pub ExplainsSetup : List ℕ → List ℕ → SetupFault → List ℕ → Type 0
-ExplainsSetup name trace fault explained =
-    (n : ℕ) × IsSetupLine trace fault n × ExplainsLine name trace n explained
+abbrev pub ExplainsSetup : List ℕ → List ℕ → SetupFault → Explanation → Type 0
+ExplainsSetup file trace fault e =
+    (n : ℕ) × IsSetupLine trace fault n × ExplainsLine file trace n e
 
 -- the explanation names the line after a trace, where its end is due, and shows nothing
-abbrev pub ExplainsNoEnd : List ℕ → List ℕ → List ℕ → Type 0
-ExplainsNoEnd name trace explained =
-    let last = position_at trace (length trace) in
-    IsExplanation (line_head name last.line) [] explained
+abbrev pub ExplainsNoEnd : List ℕ → List ℕ → Explanation → Type 0
+ExplainsNoEnd file trace e =
+    let last = position_at trace (length trace) in IsExplanation file (Line last.line) [] e
 
 -- the explanation of a fault of a trace: none of refused memory
-abbrev pub ExplainsTrace : List ℕ → List ℕ → ReplayFault → List ℕ → Type 0
-ExplainsTrace name trace replay.TooLong explained = ExplainsLength name explained
-ExplainsTrace name trace replay.Memory explained = explained ≡ []
-ExplainsTrace name trace (replay.Setup fault) explained = ExplainsSetup name trace fault explained
-ExplainsTrace name trace (replay.NoEnd counts) explained = ExplainsNoEnd name trace explained
-ExplainsTrace name trace (replay.Head n) explained = ExplainsLine name trace n explained
-ExplainsTrace name trace (replay.Line n) explained = ExplainsLine name trace n explained
-ExplainsTrace name trace (replay.EndCount n counts) explained = ExplainsLine name trace n explained
-ExplainsTrace name trace (replay.AfterFinish n made) explained =
-    ExplainsCall name trace n (replay.AfterFinish n made) explained
-ExplainsTrace name trace (replay.Bit n due) explained =
-    ExplainsCall name trace n (replay.Bit n due) explained
-ExplainsTrace name trace (replay.Reply n due) explained =
-    ExplainsCall name trace n (replay.Reply n due) explained
+abbrev pub ExplainsTrace : List ℕ → List ℕ → ReplayFault → Explanation → Type 0
+ExplainsTrace file trace replay.TooLong e = ExplainsLength file e
+ExplainsTrace file trace replay.Memory e = ⊥
+ExplainsTrace file trace (replay.Setup fault) e = ExplainsSetup file trace fault e
+ExplainsTrace file trace (replay.NoEnd counts) e = ExplainsNoEnd file trace e
+ExplainsTrace file trace (replay.Head n) e = ExplainsLine file trace n e
+ExplainsTrace file trace (replay.Line n) e = ExplainsLine file trace n e
+ExplainsTrace file trace (replay.EndCount n counts) e = ExplainsLine file trace n e
+ExplainsTrace file trace (replay.AfterFinish n made) e =
+    ExplainsCall file trace n (replay.AfterFinish n made) e
+ExplainsTrace file trace (replay.Bit n due) e = ExplainsCall file trace n (replay.Bit n due) e
+ExplainsTrace file trace (replay.Reply n due) e = ExplainsCall file trace n (replay.Reply n due) e
 
 -- the explanation of a fault of a schedule: none of refused memory and of an output that failed
-abbrev pub ExplainsSchedule : List ℕ → List ℕ → DriveFault → List ℕ → Type 0
-ExplainsSchedule name schedule drive.TooLong explained = ExplainsLength name explained
-ExplainsSchedule name schedule (drive.Line n) explained = ExplainsLine name schedule n explained
-ExplainsSchedule name schedule (drive.AfterFinish n) explained =
-    ExplainsLine name schedule n explained
-ExplainsSchedule name schedule drive.Memory explained = explained ≡ []
-ExplainsSchedule name schedule drive.Write explained = explained ≡ []
+abbrev pub ExplainsSchedule : List ℕ → List ℕ → DriveFault → Explanation → Type 0
+ExplainsSchedule file schedule drive.TooLong e = ExplainsLength file e
+ExplainsSchedule file schedule (drive.Line n) e = ExplainsLine file schedule n e
+ExplainsSchedule file schedule (drive.AfterFinish n) e = ExplainsLine file schedule n e
+ExplainsSchedule file schedule drive.Memory e = ⊥
+ExplainsSchedule file schedule drive.Write e = ⊥
 
 -- the explanation of a fault of reported steps: none of refused memory and of an output that failed
-abbrev pub ExplainsSteps : List ℕ → List ℕ → ConfirmFault → List ℕ → Type 0
-ExplainsSteps name steps confirm.TooLong explained = ExplainsLength name explained
-ExplainsSteps name steps (confirm.Line n) explained = ExplainsLine name steps n explained
-ExplainsSteps name steps (confirm.NoThread n thread) explained = ExplainsLine name steps n explained
-ExplainsSteps name steps (confirm.NoVariable n value) explained =
-    ExplainsLine name steps n explained
-ExplainsSteps name steps (confirm.Step r) explained = ExplainsLine name steps r.line explained
-ExplainsSteps name steps confirm.Memory explained = explained ≡ []
-ExplainsSteps name steps confirm.Write explained = explained ≡ []
+abbrev pub ExplainsSteps : List ℕ → List ℕ → ConfirmFault → Explanation → Type 0
+ExplainsSteps file steps confirm.TooLong e = ExplainsLength file e
+ExplainsSteps file steps (confirm.Line n) e = ExplainsLine file steps n e
+ExplainsSteps file steps (confirm.NoThread n thread) e = ExplainsLine file steps n e
+ExplainsSteps file steps (confirm.NoVariable n value) e = ExplainsLine file steps n e
+ExplainsSteps file steps (confirm.Step r) e = ExplainsLine file steps r.line e
+ExplainsSteps file steps confirm.Memory e = ⊥
+ExplainsSteps file steps confirm.Write e = ⊥

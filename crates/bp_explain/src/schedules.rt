@@ -1,13 +1,13 @@
 //! Explanations of the faults of schedules.
 ghost use Rattle.std.specs.Prelude.{IfOk};
 ghost use Rattle.bp_explain.specs.Explained.{ExplainsSchedule};
-ghost use Rattle.bp_advice.specs.Explanations.{ExplainsLine, IsPlain};
+ghost use Rattle.bp_advice.specs.Explanations.{ExplainsLine, IsExplanationOf};
 
 use crate::last_calls::{last_call, push_last_call};
 use bp_advice::Part::{Number, Words};
 use bp_advice::{
-    ENDS_IN_CR_LF, about_line, ends_in_cr_lf, explain_too_long, number_at_front, push_all,
-    push_parts,
+    ENDS_IN_CR_LF, Explanation, about_line, ends_in_cr_lf, explain_too_long, number_at_front,
+    push_all, push_parts,
 };
 use bp_machine::Start;
 use bp_text::{Line, line_of};
@@ -57,62 +57,60 @@ fn push_finished(
 }
 
 /// Explains that this line is none of a schedule.
-fn explain_line(
+fn explain_line<'a>(
     alloc: Global,
-    name: &str,
+    file: &'a str,
     schedule: &[u8],
     number: u32,
-) -> Result<Vec<u8>, AllocError>
-    ensures is { IfOk result (λ v. ExplainsLine name.now schedule.now number v.items) }
-    ensures plain { IfOk result (λ v. IsPlain v.items) }
+) -> Result<Explanation<'a>, AllocError>
+    ensures { IfOk result (λ e. ExplainsLine file.now schedule.now number e) }
 {
     let mut sentence = Vec::new(alloc);
     if let Some(line) = line_of(schedule, number as usize) {
         push_line_sentence(&mut sentence, line)?;
     }
-    about_line(alloc, name, schedule, number as usize, sentence.as_slice())
+    about_line(alloc, file, schedule, number as usize, sentence.as_slice())
 }
 
 /// Explains that the thread of this line of a schedule has made its last call before.
-fn explain_finished(
+fn explain_finished<'a>(
     alloc: Global,
     program: &[u8],
     start: &Start,
-    name: &str,
+    file: &'a str,
     schedule: &[u8],
     number: u32,
-) -> Result<Vec<u8>, AllocError>
-    ensures is { IfOk result (λ v. ExplainsLine name.now schedule.now number v.items) }
-    ensures plain { IfOk result (λ v. IsPlain v.items) }
+) -> Result<Explanation<'a>, AllocError>
+    ensures { IfOk result (λ e. ExplainsLine file.now schedule.now number e) }
 {
     let number = number as usize;
     let mut sentence = Vec::new(alloc);
     push_finished(&mut sentence, program, start, schedule, number)?;
-    about_line(alloc, name, schedule, number, sentence.as_slice())
+    about_line(alloc, file, schedule, number, sentence.as_slice())
 }
 
-/// Explains this fault of a schedule of the program of a text, which runs from this start: a line
-/// `NAME:LINE: ` and a sentence, and that line of the schedule. For a thread that has made its last
-/// call the schedule is played up to that line. A schedule that is too long has the line `NAME: `
-/// and a sentence. Nothing is said of refused memory and of an output that failed. The only error
-/// is refused memory.
-pub fn explain_schedule(
+/// Explains this fault of a schedule of the program of a text, which runs from this start, at its
+/// line. For a thread that has made its last call the schedule is played up to that line. A
+/// schedule that is too long is explained as a whole. Nothing explains refused memory and an output
+/// that failed. The only error is refused memory.
+pub fn explain_schedule<'a>(
     alloc: Global,
     program: &[u8],
     start: &Start,
-    name: &str,
+    file: &'a str,
     schedule: &[u8],
     fault: &DriveFault,
-) -> Result<Vec<u8>, AllocError>
-    ensures explains { IfOk result (λ v. ExplainsSchedule name.now schedule.now fault.now v.items) }
-    ensures plain { IfOk result (λ v. IsPlain v.items) }
+) -> Result<Option<Explanation<'a>>, AllocError>
+    ensures { let Explains = ExplainsSchedule file.now schedule.now fault.now in
+        IfOk result (IsExplanationOf Explains) }
 {
-    match fault {
-        DriveFault::TooLong => explain_too_long(alloc, name, b"schedule", MAX_SCHEDULE),
-        DriveFault::Line(number) => explain_line(alloc, name, schedule, *number),
+    let explanation = match fault {
+        DriveFault::TooLong => explain_too_long(alloc, file, b"schedule", MAX_SCHEDULE)?,
+        DriveFault::Line(number) => explain_line(alloc, file, schedule, *number)?,
         DriveFault::AfterFinish(number) => {
-            explain_finished(alloc, program, start, name, schedule, *number)
+            explain_finished(alloc, program, start, file, schedule, *number)?
         }
-        DriveFault::Memory | DriveFault::Write => Ok(Vec::new(alloc)),
-    }
+        DriveFault::Memory | DriveFault::Write => return Ok(None),
+    };
+    Ok(Some(explanation))
 }

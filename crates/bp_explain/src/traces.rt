@@ -1,7 +1,7 @@
 //! Explanations of the faults of traces.
 ghost use Rattle.std.specs.Prelude.{IfOk};
 ghost use Rattle.bp_explain.specs.Explained.{ExplainsCall, ExplainsNoEnd, ExplainsSetup, ExplainsTrace};
-ghost use Rattle.bp_advice.specs.Explanations.{ExplainsLine, IsPlain};
+ghost use Rattle.bp_advice.specs.Explanations.{ExplainsLine, IsExplanationOf};
 
 use crate::call_excerpts::excerpt_in_line;
 use crate::call_sentences::{
@@ -10,7 +10,7 @@ use crate::call_sentences::{
 use crate::head_sentences::push_head;
 use crate::line_sentences::push_body_line;
 use crate::setup_sentences::{line_of_setup, push_setup};
-use bp_advice::{about_excerpt, about_line, explain_too_long, tree_of};
+use bp_advice::{Explanation, about_excerpt, about_line, explain_too_long, tree_of};
 use bp_machine::SetupFault;
 use bp_text::position_of;
 use bp_trace::limits::MAX_TRACE;
@@ -18,37 +18,36 @@ use bp_trace::{Counts, ReplayFault};
 use std::alloc::{AllocError, Global};
 
 /// Explains that the head of a trace says no setup of the program of a text.
-fn explain_setup(
+fn explain_setup<'a>(
     alloc: Global,
     program: &[u8],
-    name: &str,
+    file: &'a str,
     trace: &[u8],
     fault: SetupFault,
-) -> Result<Vec<u8>, AllocError>
-    ensures is { IfOk result (λ v. ExplainsSetup name.now trace.now fault v.items) }
-    ensures plain { IfOk result (λ v. IsPlain v.items) }
+) -> Result<Explanation<'a>, AllocError>
+    ensures { IfOk result (λ e. ExplainsSetup file.now trace.now fault e) }
 {
     let mut sentence = Vec::new(alloc);
     if let Some(tree) = &tree_of(alloc, program)? {
         push_setup(&mut sentence, tree, trace, fault)?;
     }
     let number = line_of_setup(trace, fault);
-    about_line(alloc, name, trace, number, sentence.as_slice())
+    about_line(alloc, file, trace, number, sentence.as_slice())
 }
 
-fn explain_no_end(
+fn explain_no_end<'a>(
     alloc: Global,
-    name: &str,
+    file: &'a str,
     trace: &[u8],
     counts: Counts,
-) -> Result<Vec<u8>, AllocError>
-    ensures is { IfOk result (λ v. ExplainsNoEnd name.now trace.now v.items) }
-    ensures plain { IfOk result (λ v. IsPlain v.items) }
+) -> Result<Explanation<'a>, AllocError>
+    ensures { IfOk result (λ e. ExplainsNoEnd file.now trace.now e) }
 {
     let mut sentence = Vec::new(alloc);
     push_no_end(&mut sentence, counts)?;
     let last = position_of(trace, trace.len());
-    about_excerpt(alloc, name, last.line, b"", sentence.as_slice())
+    let nothing = Vec::new(alloc);
+    about_excerpt(alloc, file, last.line, nothing, sentence.as_slice())
 }
 
 /// Adds what is wrong with the line of a trace that the fault names.
@@ -62,19 +61,18 @@ fn push_line_fault(out: &mut Vec<u8>, trace: &[u8], fault: &ReplayFault) -> Resu
 }
 
 /// Explains what is wrong with this line of a trace.
-fn explain_line(
+fn explain_line<'a>(
     alloc: Global,
-    name: &str,
+    file: &'a str,
     trace: &[u8],
     fault: &ReplayFault,
     number: u32,
-) -> Result<Vec<u8>, AllocError>
-    ensures is { IfOk result (λ v. ExplainsLine name.now trace.now number v.items) }
-    ensures plain { IfOk result (λ v. IsPlain v.items) }
+) -> Result<Explanation<'a>, AllocError>
+    ensures { IfOk result (λ e. ExplainsLine file.now trace.now number e) }
 {
     let mut sentence = Vec::new(alloc);
     push_line_fault(&mut sentence, trace, fault)?;
-    about_line(alloc, name, trace, number as usize, sentence.as_slice())
+    about_line(alloc, file, trace, number as usize, sentence.as_slice())
 }
 
 /// Adds what is wrong with the call of a trace that the fault names.
@@ -88,52 +86,45 @@ fn push_call_fault(out: &mut Vec<u8>, trace: &[u8], fault: &ReplayFault) -> Resu
 }
 
 /// Explains what is wrong with a call on this line of a trace.
-fn explain_call(
+fn explain_call<'a>(
     alloc: Global,
-    name: &str,
+    file: &'a str,
     trace: &[u8],
     fault: &ReplayFault,
     number: u32,
-) -> Result<Vec<u8>, AllocError>
-    ensures is { IfOk result (λ v. ExplainsCall name.now trace.now number fault.now v.items) }
-    ensures plain { IfOk result (λ v. IsPlain v.items) }
+) -> Result<Explanation<'a>, AllocError>
+    ensures { IfOk result (λ e. ExplainsCall file.now trace.now number fault.now e) }
 {
     let mut sentence = Vec::new(alloc);
     push_call_fault(&mut sentence, trace, fault)?;
     let excerpt = excerpt_in_line(alloc, trace, number as usize, fault)?;
-    about_excerpt(
-        alloc,
-        name,
-        number as usize,
-        excerpt.as_slice(),
-        sentence.as_slice(),
-    )
+    about_excerpt(alloc, file, number as usize, excerpt, sentence.as_slice())
 }
 
-/// Explains this fault of a trace of the program of a text: a line `NAME:LINE: ` and a sentence,
-/// and that line of the trace, with a caret below the place in a call that is not the machine's
-/// own. A trace that is too long has the line `NAME: ` and a sentence. Nothing is said of refused
-/// memory. The only error is refused memory.
-pub fn explain_trace(
+/// Explains this fault of a trace of the program of a text, at its line, with a caret below the
+/// place in a call that is not the machine's own. A trace that is too long is explained as a whole.
+/// Nothing explains refused memory. The only error is refused memory.
+pub fn explain_trace<'a>(
     alloc: Global,
     program: &[u8],
-    name: &str,
+    file: &'a str,
     trace: &[u8],
     fault: &ReplayFault,
-) -> Result<Vec<u8>, AllocError>
-    ensures explains { IfOk result (λ v. ExplainsTrace name.now trace.now fault.now v.items) }
-    ensures plain { IfOk result (λ v. IsPlain v.items) }
+) -> Result<Option<Explanation<'a>>, AllocError>
+    ensures { let Explains = ExplainsTrace file.now trace.now fault.now in
+        IfOk result (IsExplanationOf Explains) }
 {
-    match fault {
-        ReplayFault::TooLong => explain_too_long(alloc, name, b"trace", MAX_TRACE),
-        ReplayFault::Setup(fault) => explain_setup(alloc, program, name, trace, *fault),
-        ReplayFault::NoEnd(counts) => explain_no_end(alloc, name, trace, *counts),
+    let explanation = match fault {
+        ReplayFault::TooLong => explain_too_long(alloc, file, b"trace", MAX_TRACE)?,
+        ReplayFault::Setup(fault) => explain_setup(alloc, program, file, trace, *fault)?,
+        ReplayFault::NoEnd(counts) => explain_no_end(alloc, file, trace, *counts)?,
         ReplayFault::Head(line) | ReplayFault::Line(line) | ReplayFault::EndCount(line, _) => {
-            explain_line(alloc, name, trace, fault, *line)
+            explain_line(alloc, file, trace, fault, *line)?
         }
         ReplayFault::AfterFinish(line, _)
         | ReplayFault::Bit(line, _)
-        | ReplayFault::Reply(line, _) => explain_call(alloc, name, trace, fault, *line),
-        ReplayFault::Memory => Ok(Vec::new(alloc)),
-    }
+        | ReplayFault::Reply(line, _) => explain_call(alloc, file, trace, fault, *line)?,
+        ReplayFault::Memory => return Ok(None),
+    };
+    Ok(Some(explanation))
 }

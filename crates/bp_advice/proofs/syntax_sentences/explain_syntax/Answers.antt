@@ -5,6 +5,6 @@ if_ok : {A E : Type 0} {P Q : A → Type 0} (r : Result A E) → ((a : A) → P 
 if_ok (Ok a) f p = f a p
 if_ok (Err e) f p = p
 
-pub returns-in-Some-clause-is : goal.returns-in-Some-clause-is
-returns-in-Some-clause-is c =
-    if_ok c.about_place.result (λ v explains. (c.in-Some.place, inr (rw c.in-Some.is at c.in_ok-place.ensures), explains)) c.about_place.ensures.is
+pub returns-in-Some : goal.returns-in-Some
+returns-in-Some c =
+    if_ok c.about_place.result (λ v explains. (c.in-Some.place, inr (rw c.in-Some.is at c.in_ok-place.ensures), explains)) c.about_place.ensures
