@@ -4,12 +4,16 @@ ghost use Rattle.bp_commands.specs.Commands.{Answers, AnswersOf, Command};
 ghost use Rattle.bp_commands.specs.declared.explanations.Beside.{Beside};
 ghost use Rattle.bp_commands.specs.Explanations.{AreReadOr};
 ghost use Rattle.bp_commands.specs.Given.{text_alone, text_and, Pair};
+ghost use Rattle.bp_machine.specs.declared.reports.Report.{Report as Reported};
+ghost use Rattle.bp_trace.specs.declared.limits.TheConstants.{MAX_TRACE};
 
 use crate::ends::Ended;
 use crate::explanations::Beside;
 use crate::inputs::{Source, read_pair, read_text};
 use bp_init::NamedStart;
+use bp_machine::Report;
 use bp_messages::Fault;
+use bp_trace::limits::MAX_TRACE;
 use std::alloc::Global;
 use std::io::{Read, Write};
 
@@ -77,6 +81,59 @@ pub trait PairCommand {
     /// The names of variables that are watched, with commas between them.
     fn watch(&self) -> Option<&str> {
         None
+    }
+}
+
+/// A command on a program and a trace of it.
+pub trait TraceCommand {
+    ghost command: { Self → Command Pair Reported };
+
+    /// Does the command on the text of a program and a trace, and answers the trace's report.
+    fn apply_to_trace<W: Write>(
+        &self,
+        alloc: Global,
+        text: &[u8],
+        trace: &[u8],
+        out: &mut W,
+    ) -> Result<Report, Fault>
+        ensures { let given : Pair = record { text = text.now; input = trace.now } in
+            AnswersOf (command self.now) given (W.contents out.old) (W.contents out.new) result };
+
+    /// The names of variables that are watched, with commas between them.
+    fn watched(&self) -> Option<&str> {
+        None
+    }
+}
+
+impl<C: TraceCommand> PairCommand for C {
+    type Answer = Report;
+
+    ghost command = { λ c. C.command c };
+
+    ghost limit = { λ _. MAX_TRACE };
+
+    ghost beside = { λ _. Beside.Trace };
+
+    fn limit(&self) -> usize {
+        MAX_TRACE
+    }
+
+    fn apply<W: Write>(
+        &self,
+        alloc: Global,
+        text: &[u8],
+        trace: &[u8],
+        out: &mut W,
+    ) -> Result<Report, Fault> {
+        self.apply_to_trace(alloc, text, trace, out)
+    }
+
+    fn beside(&self) -> Beside {
+        Beside::Trace
+    }
+
+    fn watch(&self) -> Option<&str> {
+        self.watched()
     }
 }
 

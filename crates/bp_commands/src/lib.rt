@@ -34,7 +34,7 @@ mod testing;
 pub use bundles::{BundleFault, drive_bundle};
 pub use checking::{Check, show_check};
 pub use coding::{Code, ListingForm};
-pub use commands::{PairCommand, ProgramCommand, do_on_pair, do_on_program};
+pub use commands::{PairCommand, ProgramCommand, TraceCommand, do_on_pair, do_on_program};
 pub use confirming::Confirm;
 pub use driving::Drive;
 pub use ends::{Ended, Explained, RunEnd, end};

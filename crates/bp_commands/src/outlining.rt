@@ -1,11 +1,9 @@
 //! The command `show --contexts`.
-use crate::commands::PairCommand;
-use crate::explanations::Beside;
+use crate::commands::TraceCommand;
 use crate::showing::program_of;
 use bp_machine::Report;
 use bp_messages::Fault;
 use bp_text::put;
-use bp_trace::limits::MAX_TRACE;
 use bp_view::{ViewFormat, contexts_of};
 use std::alloc::Global;
 use std::io::Write;
@@ -18,24 +16,12 @@ pub struct ShowContexts {
     pub format: ViewFormat,
 }
 
-impl PairCommand for ShowContexts {
-    ghost use Rattle.bp_commands.specs.declared.explanations.Beside.{Beside};
-    ghost use Rattle.bp_trace.specs.declared.limits.TheConstants.{MAX_TRACE};
+impl TraceCommand for ShowContexts {
     ghost use Rattle.bp_commands.specs.Traces.{lists_contexts};
-
-    type Answer = Report;
 
     ghost command = { λ s. lists_contexts s.format };
 
-    ghost limit = { λ _. MAX_TRACE };
-
-    ghost beside = { λ _. Beside.Trace };
-
-    fn limit(&self) -> usize {
-        MAX_TRACE
-    }
-
-    fn apply<W: Write>(
+    fn apply_to_trace<W: Write>(
         &self,
         alloc: Global,
         text: &[u8],
@@ -46,9 +32,5 @@ impl PairCommand for ShowContexts {
         let (lines, report) = contexts_of(alloc, text, &checked, &code, trace, self.format)?;
         put(out, &lines)?;
         Ok(report)
-    }
-
-    fn beside(&self) -> Beside {
-        Beside::Trace
     }
 }

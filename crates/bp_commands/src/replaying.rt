@@ -1,10 +1,8 @@
 //! The command `replay`.
-use crate::commands::PairCommand;
-use crate::explanations::Beside;
+use crate::commands::TraceCommand;
 use bp_code::code_of;
 use bp_machine::Report;
 use bp_messages::{Fault, show_replay};
-use bp_trace::limits::MAX_TRACE;
 use bp_trace::replay;
 use std::alloc::Global;
 use std::io::Write;
@@ -13,24 +11,12 @@ use std::io::Write;
 #[derive(Clone, Copy)]
 pub struct Replay;
 
-impl PairCommand for Replay {
-    ghost use Rattle.bp_commands.specs.declared.explanations.Beside.{Beside};
-    ghost use Rattle.bp_trace.specs.declared.limits.TheConstants.{MAX_TRACE};
+impl TraceCommand for Replay {
     ghost use Rattle.bp_commands.specs.Traces.{replays};
-
-    type Answer = Report;
 
     ghost command = { λ _. replays };
 
-    ghost limit = { λ _. MAX_TRACE };
-
-    ghost beside = { λ _. Beside.Trace };
-
-    fn limit(&self) -> usize {
-        MAX_TRACE
-    }
-
-    fn apply<W: Write>(
+    fn apply_to_trace<W: Write>(
         &self,
         alloc: Global,
         text: &[u8],
@@ -41,9 +27,5 @@ impl PairCommand for Replay {
         let replayed = replay(alloc, &code, trace)?;
         show_replay(&replayed, out)?;
         Ok(replayed.report)
-    }
-
-    fn beside(&self) -> Beside {
-        Beside::Trace
     }
 }

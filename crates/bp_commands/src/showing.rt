@@ -3,13 +3,11 @@ ghost use Rattle.std.specs.Prelude.{MatchResult};
 ghost use Rattle.bp_code.specs.LawfulTexts.{IsCodeRefusal, IsLawfulText};
 ghost use Rattle.bp_code.specs.StandsFor.{StandsFor};
 
-use crate::commands::PairCommand;
-use crate::explanations::Beside;
+use crate::commands::TraceCommand;
 use bp_check::Checked;
 use bp_code::{Code, CodeFault, compile, lawful_program};
 use bp_machine::Report;
 use bp_messages::Fault;
-use bp_trace::limits::MAX_TRACE;
 use bp_view::{ViewOptions, view};
 use std::alloc::Global;
 use std::io::Write;
@@ -33,24 +31,12 @@ pub struct Show<'a> {
     pub options: ViewOptions<'a>,
 }
 
-impl PairCommand for Show<'_> {
-    ghost use Rattle.bp_commands.specs.declared.explanations.Beside.{Beside};
-    ghost use Rattle.bp_trace.specs.declared.limits.TheConstants.{MAX_TRACE};
+impl TraceCommand for Show<'_> {
     ghost use Rattle.bp_commands.specs.Traces.{shows};
-
-    type Answer = Report;
 
     ghost command = { λ s. shows s.options };
 
-    ghost limit = { λ _. MAX_TRACE };
-
-    ghost beside = { λ _. Beside.Trace };
-
-    fn limit(&self) -> usize {
-        MAX_TRACE
-    }
-
-    fn apply<W: Write>(
+    fn apply_to_trace<W: Write>(
         &self,
         alloc: Global,
         text: &[u8],
@@ -62,11 +48,7 @@ impl PairCommand for Show<'_> {
         Ok(report)
     }
 
-    fn beside(&self) -> Beside {
-        Beside::Trace
-    }
-
-    fn watch(&self) -> Option<&str> {
+    fn watched(&self) -> Option<&str> {
         self.options.watch
     }
 }

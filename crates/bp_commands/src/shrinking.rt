@@ -7,13 +7,11 @@ ghost use Rattle.bp_machine.specs.Sessions.{Stands};
 ghost use Rattle.bp_test.specs.HistoryEnds.{EndsIn};
 ghost use Rattle.bp_commands.specs.Shrinks.{IsEndRefusal};
 
-use crate::commands::PairCommand;
-use crate::explanations::Beside;
+use crate::commands::TraceCommand;
 use bp_code::code_of;
 use bp_machine::{Report, Session};
 use bp_messages::Fault;
 use bp_test::{HistoryEnd, history_end, shrink};
-use bp_trace::limits::MAX_TRACE;
 use bp_trace::{Unwatched, replay_watched, write_trace};
 use std::alloc::Global;
 use std::io::Write;
@@ -40,24 +38,12 @@ fn kept_end(alloc: Global, session: &Session) -> Result<HistoryEnd, Fault>
 #[derive(Clone, Copy)]
 pub struct Shrink;
 
-impl PairCommand for Shrink {
-    ghost use Rattle.bp_commands.specs.declared.explanations.Beside.{Beside};
-    ghost use Rattle.bp_trace.specs.declared.limits.TheConstants.{MAX_TRACE};
+impl TraceCommand for Shrink {
     ghost use Rattle.bp_commands.specs.Shrinks.{shrinks};
-
-    type Answer = Report;
 
     ghost command = { λ _. shrinks };
 
-    ghost limit = { λ _. MAX_TRACE };
-
-    ghost beside = { λ _. Beside.Trace };
-
-    fn limit(&self) -> usize {
-        MAX_TRACE
-    }
-
-    fn apply<W: Write>(
+    fn apply_to_trace<W: Write>(
         &self,
         alloc: Global,
         text: &[u8],
@@ -72,9 +58,5 @@ impl PairCommand for Shrink {
         let shrunk = shrink(alloc, &code, &replayed.setup, history, &report, end)?;
         write_trace(&shrunk.setup, shrunk.history.as_slice(), out)?;
         Ok(report)
-    }
-
-    fn beside(&self) -> Beside {
-        Beside::Trace
     }
 }

@@ -1,11 +1,9 @@
 //! The command `show --at`.
-use crate::commands::PairCommand;
-use crate::explanations::Beside;
+use crate::commands::TraceCommand;
 use crate::showing::program_of;
 use bp_machine::Report;
 use bp_messages::Fault;
 use bp_text::put;
-use bp_trace::limits::MAX_TRACE;
 use bp_view::{ViewFormat, state_at};
 use std::alloc::Global;
 use std::io::Write;
@@ -20,24 +18,12 @@ pub struct ShowState {
     pub format: ViewFormat,
 }
 
-impl PairCommand for ShowState {
-    ghost use Rattle.bp_commands.specs.declared.explanations.Beside.{Beside};
-    ghost use Rattle.bp_trace.specs.declared.limits.TheConstants.{MAX_TRACE};
+impl TraceCommand for ShowState {
     ghost use Rattle.bp_commands.specs.Traces.{states};
-
-    type Answer = Report;
 
     ghost command = { λ s. states s.format s.number };
 
-    ghost limit = { λ _. MAX_TRACE };
-
-    ghost beside = { λ _. Beside.Trace };
-
-    fn limit(&self) -> usize {
-        MAX_TRACE
-    }
-
-    fn apply<W: Write>(
+    fn apply_to_trace<W: Write>(
         &self,
         alloc: Global,
         text: &[u8],
@@ -49,9 +35,5 @@ impl PairCommand for ShowState {
         let (state, report) = state_at(alloc, text, &checked, &code, trace, format, number)?;
         put(out, &state)?;
         Ok(report)
-    }
-
-    fn beside(&self) -> Beside {
-        Beside::Trace
     }
 }

@@ -1,11 +1,9 @@
 //! The command `show --steps`.
-use crate::commands::PairCommand;
-use crate::explanations::Beside;
+use crate::commands::TraceCommand;
 use crate::showing::program_of;
 use bp_confirm::{own_steps, put_steps};
 use bp_machine::Report;
 use bp_messages::Fault;
-use bp_trace::limits::MAX_TRACE;
 use std::alloc::Global;
 use std::io::Write;
 
@@ -14,24 +12,12 @@ use std::io::Write;
 #[derive(Clone, Copy)]
 pub struct ShowSteps;
 
-impl PairCommand for ShowSteps {
-    ghost use Rattle.bp_commands.specs.declared.explanations.Beside.{Beside};
-    ghost use Rattle.bp_trace.specs.declared.limits.TheConstants.{MAX_TRACE};
+impl TraceCommand for ShowSteps {
     ghost use Rattle.bp_commands.specs.Traces.{lists_steps};
-
-    type Answer = Report;
 
     ghost command = { λ _. lists_steps };
 
-    ghost limit = { λ _. MAX_TRACE };
-
-    ghost beside = { λ _. Beside.Trace };
-
-    fn limit(&self) -> usize {
-        MAX_TRACE
-    }
-
-    fn apply<W: Write>(
+    fn apply_to_trace<W: Write>(
         &self,
         alloc: Global,
         text: &[u8],
@@ -42,9 +28,5 @@ impl PairCommand for ShowSteps {
         let found = own_steps(alloc, text, &checked, &code, trace)?;
         put_steps(found.steps.as_slice(), out)?;
         Ok(found.report)
-    }
-
-    fn beside(&self) -> Beside {
-        Beside::Trace
     }
 }

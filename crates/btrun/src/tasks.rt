@@ -1,12 +1,15 @@
 //! What each task does, over any files and streams.
 ghost use Rattle.std.specs.Io.Buffered.{writer_contents};
 ghost use Rattle.std.specs.Prelude.{◌≡◌, false};
+ghost use Rattle.bp_commands.specs.Ends.{of_report};
 ghost use Rattle.bp_commands.specs.Jobs.{on_files, streams, IsRun};
+ghost use Rattle.bp_commands.specs.declared.explanations.Beside.{Beside};
+ghost use Rattle.bp_trace.specs.declared.limits.TheConstants.{MAX_TRACE};
 ghost use Rattle.btrun.specs.Tasks.{bound_of, confirm_job, fault_format, format_of, job_of, listing_form, run_job, show_job, test_job, test_options, view_options};
 
 use bp_commands::{
-    Check, Code, Confirm, Drive, FaultFormat, Files, ListingForm, Migrate, PairCommand, Replay,
-    RunEnd, Show, ShowContexts, ShowState, ShowSteps, Shrink, Test, Workers, run_by_workers,
+    Check, Code, Confirm, Drive, FaultFormat, Files, ListingForm, Migrate, Replay, RunEnd, Show,
+    ShowContexts, ShowState, ShowSteps, Shrink, Test, TraceCommand, Workers, run_by_workers,
     run_on_bundle, run_on_pair, run_on_program,
 };
 use bp_confirm::ContextBound;
@@ -194,7 +197,7 @@ fn listing_form(words: &CodeWords<'_>) -> ListingForm
 }
 
 /// Does a command on the program of a file and a trace of it.
-fn on_trace<C: PairCommand, F: Files, W: Write + Drop, E: Write>(
+fn on_trace<C: TraceCommand, F: Files, W: Write + Drop, E: Write>(
     io: Io<'_, F>,
     command: &C,
     words: &TraceWords<'_>,
@@ -206,8 +209,7 @@ fn on_trace<C: PairCommand, F: Files, W: Write + Drop, E: Write>(
         (E.contents errors.old) (E.contents errors.new) in
         let format = fault_format false words.now.explain io.entry.on_terminal in
         let job = on_files (F.bytes io.entry.files.now) format (C.command command.now)
-        C.Answer.ending (C.limit command.now) (C.beside command.now)
-        words.now.program.now words.now.trace.now in
+        of_report MAX_TRACE Beside.Trace words.now.program.now words.now.trace.now in
         IsRun job written result.0 }
 {
     let (path, trace) = (words.program, words.trace);

@@ -1,6 +1,6 @@
 use Rattle.std.proofs.lemmas.Result.{err_from_is_err_and}
 use Rattle.bp_commands.proofs.Migrated.{migrated, not_migrated}
-use Rattle.bp_commands.proofs.migrating.MigratePairCommand.apply.Goals as goal
+use Rattle.bp_commands.proofs.migrating.MigrateTraceCommand.apply_to_trace.Goals as goal
 
 pub returns-in_err-migrate : goal.returns-in_err-migrate
 returns-in_err-migrate g c =

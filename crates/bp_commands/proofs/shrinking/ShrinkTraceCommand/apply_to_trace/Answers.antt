@@ -7,7 +7,7 @@ use Rattle.bp_commands.specs.Given.{Pair}
 use Rattle.bp_commands.specs.Shrinks.{shrinks, IsEndRefusal}
 use Rattle.bp_commands.proofs.Answered.{refused_with, cut_short}
 use Rattle.bp_commands.proofs.ShrunkTraces.{end_refuses, memory_refuses, written, reported}
-use Rattle.bp_commands.proofs.shrinking.ShrinkPairCommand.apply.Goals as goal
+use Rattle.bp_commands.proofs.shrinking.ShrinkTraceCommand.apply_to_trace.Goals as goal
 
 pub returns-in_err-watched : goal.returns-in_err-watched
 returns-in_err-watched g c =

@@ -4,7 +4,7 @@ use Rattle.bp_trace.specs.Replayed.{row_of}
 use Rattle.bp_messages.specs.ReplayLines.{shown_text}
 use Rattle.bp_commands.specs.Traces.{replays}
 use Rattle.bp_commands.proofs.Answered.{refused_with}
-use Rattle.bp_commands.proofs.replaying.ReplayPairCommand.apply.Goals as goal
+use Rattle.bp_commands.proofs.replaying.ReplayTraceCommand.apply_to_trace.Goals as goal
 
 pub returns-in_err-replayed : goal.returns-in_err-replayed
 returns-in_err-replayed g c =

@@ -9,7 +9,7 @@ use Rattle.bp_view.specs.States.{IsStateOfTrace}
 use Rattle.bp_commands.specs.Given.{Pair}
 use Rattle.bp_commands.specs.Traces.{states, IsOfTrace, IsStateOf, IsTraceReport}
 use Rattle.bp_commands.proofs.Answered.{refused_with, cut_short}
-use Rattle.bp_commands.proofs.stating.ShowStatePairCommand.apply.Goals as goal
+use Rattle.bp_commands.proofs.stating.ShowStateTraceCommand.apply_to_trace.Goals as goal
 
 -- the state after calls of a trace is what the command writes and reports
 module _ (format : ViewFormat) (n : ℕ) (given : Pair) (t : Program) (of : IsLawfulText given.text t) (written : List ℕ) (r : Report) (is : IsStateOfTrace format n t given.text given.input written r) where

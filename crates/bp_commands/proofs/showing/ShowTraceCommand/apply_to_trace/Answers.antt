@@ -4,7 +4,7 @@ use Rattle.bp_commands.specs.Given.{Pair}
 use Rattle.bp_commands.specs.Traces.{shows}
 use Rattle.bp_commands.proofs.Answered.{refused_with}
 use Rattle.bp_commands.proofs.ViewedTraces.{not_viewed, viewed}
-use Rattle.bp_commands.proofs.showing.ShowPairCommand.apply.Goals as goal
+use Rattle.bp_commands.proofs.showing.ShowTraceCommand.apply_to_trace.Goals as goal
 
 pub returns-in_err-checked : goal.returns-in_err-checked
 returns-in_err-checked g c =
