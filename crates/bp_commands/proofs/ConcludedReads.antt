@@ -1,5 +1,5 @@
 -- What a run tells of a fault is of the inputs that were read, or of why they were not.
-use Rattle.std.proofs.Common.{◌≡◌, ◌⊎◌, ℕ, List, Bool, true, false, Option, Result, Ok, Err, refl, subst, sym, inl, inr}
+use Rattle.std.proofs.Common.{◌≡◌, ◌⊎◌, ℕ, List, Option, Result, Ok, Err, refl, subst, sym, inl, inr}
 use Rattle.bp_commands.specs.declared.fault_formats.FaultFormat.{FaultFormat}
 use Rattle.bp_commands.specs.declared.fault_formats.FaultFormat.TheVariants as format
 use Rattle.bp_advice.specs.declared.explanations.Explanation.{Explanation}
@@ -11,11 +11,11 @@ use Rattle.bp_commands.specs.Ends.{Ending, Ends}
 use Rattle.bp_commands.specs.Explanations.{AreReadOr, IsSaid, IsSaidOfRead, IsTold}
 use Rattle.bp_commands.specs.Flushes.{IsFlushed}
 use Rattle.bp_commands.specs.Given.{Inputs}
-use Rattle.bp_commands.specs.Tellings.{is_explained, IsConcluded, IsObjectRead, IsReported}
+use Rattle.bp_commands.specs.Tellings.{IsConcluded, IsObjectRead, IsReported}
 
-module _ {X : Type 0} (inputs : Inputs X) (given : X) (IsObject : X → Fault → List ℕ → Type 0) where
+module _ {X : Type 0} (inputs : Inputs X) (given : X) (IsObject : X → Explained → Fault → List ℕ → Type 0) (e : Explained) where
   reports : (kind : FaultFormat) (f : Fault) (old new : Option (List ℕ)) (told : Result (Unit {0}) WriteFault) → inputs.Holds given ⊎ inputs.Unread f
-      → IsReported kind (IsObject given) f old new told → IsReported kind (IsObjectRead inputs IsObject) f old new told
+      → IsReported kind (IsObject given e) f old new told → IsReported kind (IsObjectRead inputs IsObject e) f old new told
   reports format.Line f old new told read reported = reported
   reports format.Explained f old new told read reported = reported
   reports format.Json f old new told read (object, of, written) = (object, record { given = given; read = read; is = of }, written)
@@ -32,37 +32,32 @@ module _ {X R : Type 0} (inputs : Inputs X) (given : X) where
   read_or_why (Ok r) final held now f (inr never) flushed is = absurd never
   read_or_why (Err g) final held now f (inr why) flushed is = inr (subst inputs.Unread (sym (same_fault f g final held now flushed is)) why)
 
-  module _ (IsObject : X → Fault → List ℕ → Type 0) where
+  module _ (IsObject : X → Explained → Fault → List ℕ → Type 0) (x : Explained) where
     ends_read : (ending : Ending R) (kind : FaultFormat) (done final : Result R Fault) (held now : Option (List ℕ)) (e : RunEnd) (old new : Option (List ℕ))
         → AreReadOr inputs given done → IsFlushed done held final now
-        → Ends ending (IsReported kind (IsObject given)) final e old new → Ends ending (IsReported kind (IsObjectRead inputs IsObject)) final e old new
+        → Ends ending (IsReported kind (IsObject given x)) final e old new → Ends ending (IsReported kind (IsObjectRead inputs IsObject x)) final e old new
     ends_read ending kind done (Ok r) held now e old new read flushed ends = ends
     ends_read ending kind done (Err f) held now e old new read flushed (status_is, reported) =
-        (status_is, reports inputs given IsObject kind f old new e.told (read_or_why done (Err f) held now f read flushed refl) reported)
+        (status_is, reports inputs given IsObject x kind f old new e.told (read_or_why done (Err f) held now f read flushed refl) reported)
 
   module _ (Explains : X → Fault → Explanation → Type 0) where
-    tells : (asked : Bool) (done final : Result R Fault) (held now : Option (List ℕ)) (e : Explained) (old new : Option (List ℕ)) → AreReadOr inputs given done → IsFlushed done held final now
-        → IsTold asked (λ f. IsSaid (Explains given f)) final e old new → IsTold asked (IsSaidOfRead inputs Explains) final e old new
-    tells false done final held now e old new read flushed is = is
-    tells true done (Ok r) held now e old new read flushed is = is
-    tells true done (Err f) held now e old new read flushed (said, is, written) =
+    tells : (kind : FaultFormat) (done final : Result R Fault) (held now : Option (List ℕ)) (e : Explained) (old new : Option (List ℕ))
+        → AreReadOr inputs given done → IsFlushed done held final now
+        → IsTold kind (λ f. IsSaid (Explains given f)) final e old new → IsTold kind (IsSaidOfRead inputs Explains) final e old new
+    tells format.Explained done (Err f) held now e old new read flushed (said, is, written) =
         (said, record { given = given; read = read_or_why done (Err f) held now f read flushed refl; is = is }, written)
+    tells format.Explained done (Ok r) held now e old new read flushed is = is
+    tells format.Line done final held now e old new read flushed is = is
+    tells format.Json done final held now e old new read flushed is = is
 
   -- so a run ends as it is concluded of what was read
-  pub concluded_read : (IsObject : X → Fault → List ℕ → Type 0) (Explains : X → Fault → Explanation → Type 0)
+  pub concluded_read : (IsObject : X → Explained → Fault → List ℕ → Type 0) (Explains : X → Fault → Explanation → Type 0)
       (ending : Ending R) (kind : FaultFormat) (done final : Result R Fault) (held now : Option (List ℕ)) (e : RunEnd) (old new : Option (List ℕ))
       → AreReadOr inputs given done → IsFlushed done held final now
       → IsConcluded ending kind (IsObject given) (λ f. IsSaid (Explains given f)) final e old new
       → IsConcluded ending kind (IsObjectRead inputs IsObject) (IsSaidOfRead inputs Explains) final e old new
   concluded_read IsObject Explains ending kind done final held now e old new read flushed (between, ends, told) = (
     between,
-    ends_read IsObject ending kind done final held now e old between read flushed ends,
-    tells Explains (is_explained kind) done final held now e.explained between new read flushed told,
+    ends_read IsObject e.explained ending kind done final held now e old between read flushed ends,
+    tells Explains kind done final held now e.explained between new read flushed told,
   )
-
--- how a run ends says nothing of what explains its refusal
-pub with_explained : {R : Type 0} (ending : Ending R) (IsReported : Fault → Option (List ℕ) → Option (List ℕ) → Result (Unit {0}) WriteFault → Type 0)
-    (done : Result R Fault) (e : RunEnd) (x : Explained) (old new : Option (List ℕ))
-    → Ends ending IsReported done e old new → Ends ending IsReported done (record { status = e.status; told = e.told; explained = x }) old new
-with_explained ending IsReported (Ok r) e x old new ends = ends
-with_explained ending IsReported (Err f) e x old new ends = ends

@@ -2,21 +2,35 @@
 use Rattle.std.specs.declared.alloc.AllocError.{AllocError}
 use Rattle.std.specs.declared.alloc.Global.{Global}
 use Rattle.bp_text.specs.Writing.{Writes}
-use Rattle.std.proofs.Common.{◌≡◌, ℕ, List, Bool, true, Option, None, Some, Result, Ok, Err, IfOk, Vec, sym, ◌∙◌, subst, inl, inr}
+use Rattle.std.proofs.Common.{◌≡◌, ℕ, List, true, Option, None, Some, Result, Ok, Err, IfOk, Vec, ◌∙◌, subst, inl, inr}
 use Rattle.bp_advice.specs.declared.explanations.Explanation.{Explanation}
+use Rattle.bp_advice.specs.Explanations.{lines_of}
 use Rattle.bp_messages.specs.declared.faults.Fault.{Fault}
 use Rattle.bp_commands.specs.declared.ends.Explained.{Explained}
-use Rattle.bp_commands.specs.Explanations.{AreLinesOf, IsSaid, IsSaidFor, IsTold}
+use Rattle.bp_commands.specs.declared.ends.RunEnd.{RunEnd}
+use Rattle.bp_commands.specs.declared.fault_formats.FaultFormat.{FaultFormat}
+use Rattle.bp_commands.specs.declared.fault_formats.FaultFormat.TheVariants as format
+use Rattle.bp_commands.specs.Ends.{Ending, Ends}
+use Rattle.bp_commands.specs.Explanations.{IsSaid, IsSaidFor, IsTextOf}
+use Rattle.bp_commands.specs.Tellings.{is_explained, IsConcluded, IsReported}
 
 -- what is said of a fault, where its lines were made or memory for them was refused
-module _ (Explains : Fault → Explanation → Type 0) (f : Fault) (e : Explained) (old new : Option (List ℕ)) where
-  says : (r : Result (Option (Vec ℕ Global)) AllocError) (said : List ℕ) → IfOk r (AreLinesOf (Explains f)) → IsSaidFor r e said → IsSaid (Explains f) e said
-  says (Ok (Some lines)) said (x, is, lines_are) (made, same) = inl (made, (x, is, same ∙ lines_are))
-  says (Ok None) said none (made, words) = inr (inl none, words)
-  says (Err x) said made (refused, words) = inr (inr refused, words)
+pub says : (Explains : Explanation → Type 0) (e : Explained) (r : Result (Option (Vec ℕ Global)) AllocError) (said : List ℕ)
+    → IfOk r (IsTextOf lines_of Explains) → IsSaidFor r e said → IsSaid Explains e said
+says Explains e (Ok (Some lines)) said (x, is, lines_are) (made, same) = inl (made, (x, is, same ∙ lines_are))
+says Explains e (Ok None) said none (made, words) = inr (inl none, words)
+says Explains e (Err x) said made (refused, words) = inr (inr refused, words)
 
-  pub told_so : {R : Type 0} → (r : Result (Option (Vec ℕ Global)) AllocError) → IfOk r (AreLinesOf (Explains f)) → (said : List ℕ) × IsSaidFor r e said × Writes old new said e.told
-      → (asked : Bool) (done : Result R Fault) → asked ≡ true → done ≡ Err f → IsTold asked (λ g. IsSaid (Explains g)) done e old new
-  told_so r made (said, for, written) asked done on is =
-      subst (λ a. IsTold a (λ g. IsSaid (Explains g)) done e old new) (sym on)
-      (subst (λ d. IsTold true (λ g. IsSaid (Explains g)) d e old new) (sym is) (said, says r said made for, written))
+-- a run whose refusal is explained by lines is concluded by how it ends and by what is said then
+module _ {R : Type 0} (ending : Ending R) (IsObject : Explained → Fault → List ℕ → Type 0) (Explains : Fault → Explanation → Type 0)
+    (e : RunEnd) (old between new : Option (List ℕ)) where
+  pub by_lines : (x : Explained) (f : Fault) (kind : FaultFormat) (done : Result R Fault) → is_explained kind ≡ true → done ≡ Err f
+      → Ends ending (IsReported kind (IsObject e.explained)) done e old between
+      → (said : List ℕ) × IsSaid (Explains f) x said × Writes between new said x.told
+      → IsConcluded ending kind IsObject (λ g. IsSaid (Explains g)) done (record { status = e.status; told = e.told; explained = x }) old new
+  by_lines x f format.Explained (Err g) on is ends (said, saying, written) =
+      let same : f ≡ g = cc in
+      (between, ends, (said, subst (λ h. IsSaid (Explains h) x said) same saying, written))
+  by_lines x f format.Explained (Ok r) on is ends said = cc
+  by_lines x f format.Line done on is ends said = cc
+  by_lines x f format.Json done on is ends said = cc

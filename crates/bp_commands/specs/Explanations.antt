@@ -1,6 +1,6 @@
 -- What `--explain` adds after the line of a fault: the explanation of that fault in the text that
 -- was read, or else its words.
-use Rattle.std.specs.Prelude.{◌≡◌, ◌⊎◌, ℕ, List, [], ◌∷◌, ◌++◌, Option, None, Some, Result, Bool, true, Ok, Err, IsErr, IsErrAnd, Vec}
+use Rattle.std.specs.Prelude.{◌≡◌, ◌⊎◌, ℕ, List, [], ◌∷◌, ◌++◌, Option, None, Some, Result, Ok, Err, IsErr, IsErrAnd, Vec}
 use Rattle.std.specs.declared.alloc.AllocError.{AllocError}
 use Rattle.std.specs.declared.alloc.Global.{Global}
 use Rattle.bp_syntax.specs.declared.faults.ReadFault.TheVariants as read
@@ -10,7 +10,7 @@ use Rattle.bp_text.specs.Writing.{Writes}
 use Rattle.bp_trace.specs.declared.replay_faults.ReplayFault.TheVariants as replay
 use Rattle.bp_advice.specs.declared.explanations.Explanation.{Explanation}
 use Rattle.bp_advice.specs.ExplainedPrograms.{ExplainsProgram}
-use Rattle.bp_advice.specs.Explanations.{lines_of, IsUnexplained}
+use Rattle.bp_advice.specs.Explanations.{lines_of, sentence_of, IsUnexplained}
 use Rattle.bp_explain.specs.Explained.{ExplainsTrace, ExplainsSchedule, ExplainsSteps}
 use Rattle.bp_commands.specs.declared.explanations.Beside.{Beside}
 use Rattle.bp_commands.specs.declared.explanations.Beside.TheVariants as beside
@@ -18,6 +18,8 @@ use Rattle.bp_messages.specs.declared.faults.Fault.{Fault}
 use Rattle.bp_messages.specs.declared.faults.Fault.TheVariants.{Program, Setup, Schedule, Steps, Trace}
 use Rattle.bp_commands.specs.declared.ends.Explained.{Explained}
 use Rattle.bp_commands.specs.Ends.{nothing_explained}
+use Rattle.bp_commands.specs.declared.fault_formats.FaultFormat.{FaultFormat}
+use Rattle.bp_commands.specs.declared.fault_formats.FaultFormat.TheVariants as format
 use Rattle.bp_commands.specs.Given.{Inputs, Pair}
 
 -- this explains a fault of the program's text in the file of this name: nothing explains that the
@@ -46,10 +48,22 @@ pub record IsInWords (said : List ℕ) : Type 0 where
   pub one_line : IsOneLine words
   pub is : said ≡ words ++ 10 ∷ []
 
--- the lines are those of what explains a fault; there are none where nothing does
-abbrev pub AreLinesOf : (Explanation → Type 0) → Option (Vec ℕ Global) → Type 0
-AreLinesOf Explains (Some lines) = (e : Explanation) × Explains e × (lines.items ≡ lines_of e)
-AreLinesOf Explains None = IsUnexplained Explains
+-- the text is this one of what explains a fault; there is none where nothing does
+abbrev pub IsTextOf
+    : (Explanation → List ℕ) → (Explanation → Type 0) → Option (Vec ℕ Global) → Type 0
+IsTextOf text_of Explains (Some text) =
+    (e : Explanation) × Explains e × (text.items ≡ text_of e)
+IsTextOf text_of Explains None = IsUnexplained Explains
+
+-- the message is the sentence of what explains a fault, where anything does
+abbrev pub IsSentence : (Explanation → Type 0) → List ℕ → Type 0
+IsSentence Explains message =
+    ((e : Explanation) × Explains e × (message ≡ sentence_of e)) ⊎ IsUnexplained Explains
+
+-- the same, or memory for the sentence was refused
+abbrev pub IsMessage : (Explanation → Type 0) → Explained → List ℕ → Type 0
+IsMessage Explains told message =
+    ((told.lines ≡ Ok tt) × IsSentence Explains message) ⊎ IsErr told.lines
 
 -- What is said of a fault: the lines of what explains it; or its words, where nothing does or
 -- memory for the lines was refused.
@@ -65,15 +79,21 @@ IsSaidFor (Ok (Some lines)) told said = (told.lines ≡ Ok tt) × (said ≡ line
 IsSaidFor (Ok None) told said = (told.lines ≡ Ok tt) × IsInWords said
 IsSaidFor (Err refused) told said = IsErr told.lines × IsInWords said
 
--- Standard error has these bytes before and after what is added. After a refusal that is to be
--- explained that is what is said of it, and whether it was written whole was told. Otherwise
--- nothing is added.
+-- No line of an explanation was to be written. In JSON its sentence is in the object, and otherwise
+-- nothing was to be explained.
+abbrev pub IsUntold : {R : Type 0} → FaultFormat → Result R Fault → Explained → Type 0
+IsUntold format.Json (Err f) e = e.told ≡ Ok tt
+IsUntold other done e = e ≡ nothing_explained
+
+-- Standard error has these bytes before and after what is added. After a refusal that this format
+-- explains by lines that is what is said of it, and whether it was written whole was told.
+-- Otherwise nothing is added.
 abbrev pub IsTold
-    : {R : Type 0} → Bool → (Fault → Explained → List ℕ → Type 0) → Result R Fault → Explained
-    → Option (List ℕ) → Option (List ℕ) → Type 0
-IsTold true IsSaid (Err f) e old new =
+    : {R : Type 0} → FaultFormat → (Fault → Explained → List ℕ → Type 0) → Result R Fault
+    → Explained → Option (List ℕ) → Option (List ℕ) → Type 0
+IsTold format.Explained IsSaid (Err f) e old new =
     (said : List ℕ) × IsSaid f e said × Writes old new said e.told
-IsTold asked IsSaid done e old new = (new ≡ old) × (e ≡ nothing_explained)
+IsTold other IsSaid done e old new = (new ≡ old) × IsUntold other done e
 
 -- these inputs were read, or the answer is why they were not
 abbrev pub AreReadOr : {X R : Type 0} → Inputs X → X → Result R Fault → Type 0

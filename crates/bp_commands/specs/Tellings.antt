@@ -12,7 +12,7 @@ use Rattle.bp_messages.specs.declared.faults.Fault.TheVariants.{Device, TooLong,
 use Rattle.bp_commands.specs.declared.ends.Explained.{Explained}
 use Rattle.bp_commands.specs.declared.ends.RunEnd.{RunEnd}
 use Rattle.bp_commands.specs.Ends.{Ending, Ends, HasFaultLine}
-use Rattle.bp_commands.specs.Explanations.{ExplainsPair, ExplainsText, IsTold}
+use Rattle.bp_commands.specs.Explanations.{ExplainsPair, ExplainsText, IsMessage, IsTold}
 use Rattle.bp_messages.specs.FaultObjects.{fault_object}
 use Rattle.bp_messages.specs.FaultTable.{fault_row}
 use Rattle.bp_commands.specs.Given.{text_alone_of, Inputs, Pair}
@@ -51,51 +51,61 @@ IsFileOfPair kind name input_name NoFailure file = file ≡ Some input_name
 IsFileOfPair beside.Trace name input_name (Setup f) file = file ≡ Some input_name
 IsFileOfPair kind name input_name f file = file ≡ None
 
--- the object of a fault that is in such a file, of these inputs
+-- a fault is in such a file, of these inputs
 module _ (IsIn : Fault → Option (List ℕ) → Type 0) (given : Pair) where
-  pub record IsObjectIn (f : Fault) (object : List ℕ) : Type 0 where
+  -- its object with this message
+  pub record IsObjectWith (f : Fault) (message object : List ℕ) : Type 0 where
     pub file : Option (List ℕ)
     pub named : IsIn f file
     pub value : Option (List ℕ × Bool)
     pub value_is : let r = fault_row f in IsValueIn given.input r.detail value
-    pub message : List ℕ
     pub is : object ≡ fault_object f file given.text value message
+
+  -- its object, whose message is the sentence of what explains it
+  module _ (Explains : Fault → Explanation → Type 0) where
+    pub record IsObjectIn (e : Explained) (f : Fault) (object : List ℕ) : Type 0 where
+      pub message : List ℕ
+      pub said : IsMessage (Explains f) e message
+      pub is : IsObjectWith f message object
 
 -- what is told of faults of these inputs: what explains one, and its object
 pub record Telling (X : Type 0) : Type 1 where
   pub Explains : X → Fault → Explanation → Type 0
-  pub IsObject : X → Fault → List ℕ → Type 0
+  pub IsObject : X → Explained → Fault → List ℕ → Type 0
 
 abbrev pub on_text : List ℕ → Telling (List ℕ)
 on_text name = record {
   Explains = ExplainsText name;
-  IsObject = λ text. IsObjectIn (IsFileOfText name) (text_alone_of text);
+  IsObject = λ text. IsObjectIn (IsFileOfText name) (text_alone_of text) (ExplainsText name text);
 }
 
 abbrev pub on_pair : Beside → List ℕ → List ℕ → Telling Pair
 on_pair kind name input_name = record {
   Explains = ExplainsPair kind name input_name;
-  IsObject = λ given. IsObjectIn (IsFileOfPair kind name input_name) given;
+  IsObject = λ given.
+      let Explains = ExplainsPair kind name input_name given in
+      IsObjectIn (IsFileOfPair kind name input_name) given Explains;
 }
 
 -- nothing is explained, and no fault has an object
 abbrev pub on_nothing : {X : Type 0} → Telling X
-on_nothing = record { Explains = λ _ _ _. ⊥; IsObject = λ _ _ _. ⊥ }
+on_nothing = record { Explains = λ _ _ _. ⊥; IsObject = λ _ _ _ _. ⊥ }
 
 -- the object of a fault of the inputs that were read, or of why they were not
-module _ {X : Type 0} (inputs : Inputs X) (IsObject : X → Fault → List ℕ → Type 0) where
-  pub record IsObjectRead (f : Fault) (object : List ℕ) : Type 0 where
+module _
+    {X : Type 0} (inputs : Inputs X) (IsObject : X → Explained → Fault → List ℕ → Type 0) where
+  pub record IsObjectRead (e : Explained) (f : Fault) (object : List ℕ) : Type 0 where
     pub given : X
     pub read : inputs.Holds given ⊎ inputs.Unread f
-    pub is : IsObject given f object
+    pub is : IsObject given e f object
 
 -- A run ended so: its summary was written, or its refusal in this format, by an object in JSON.
--- Then what is said of the refusal was, where the format explains it.
+-- Then what is said of the refusal was, where the format explains it by lines.
 abbrev pub IsConcluded
-    : {R : Type 0} → Ending R → FaultFormat → (Fault → List ℕ → Type 0)
+    : {R : Type 0} → Ending R → FaultFormat → (Explained → Fault → List ℕ → Type 0)
     → (Fault → Explained → List ℕ → Type 0) → Result R Fault → RunEnd
     → Option (List ℕ) → Option (List ℕ) → Type 0
 IsConcluded ending format IsObject IsSaid done end old new =
     (between : Option (List ℕ))
-    × Ends ending (IsReported format IsObject) done end old between
-    × IsTold (is_explained format) IsSaid done end.explained between new
+    × Ends ending (IsReported format (IsObject end.explained)) done end old between
+    × IsTold format IsSaid done end.explained between new

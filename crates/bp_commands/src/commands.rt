@@ -4,7 +4,7 @@ ghost use Rattle.bp_commands.specs.Commands.{Answers, AnswersOf, Command};
 ghost use Rattle.bp_commands.specs.declared.explanations.Beside.{Beside};
 ghost use Rattle.bp_commands.specs.Explanations.{AreReadOr};
 ghost use Rattle.bp_commands.specs.Given.{text_alone, text_and, Pair};
-ghost use Rattle.bp_machine.specs.declared.reports.Report.{Report as Reported};
+ghost use Rattle.bp_machine.specs.declared.reports.Report.{Report};
 ghost use Rattle.bp_trace.specs.declared.limits.TheConstants.{MAX_TRACE};
 
 use crate::ends::Ended;
@@ -86,7 +86,7 @@ pub trait PairCommand {
 
 /// A command on a program and a trace of it.
 pub trait TraceCommand {
-    ghost command: { Self → Command Pair Reported };
+    ghost command: { Self → Command Pair Report };
 
     /// Does the command on the text of a program and a trace, and answers the trace's report.
     fn apply_to_trace<W: Write>(
@@ -105,6 +105,7 @@ pub trait TraceCommand {
     }
 }
 
+/// The input beside the program is the trace.
 impl<C: TraceCommand> PairCommand for C {
     type Answer = Report;
 

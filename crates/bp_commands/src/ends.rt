@@ -62,7 +62,8 @@ impl Ended for RunReport {
 /// What became of the explanation of a refusal.
 #[derive(Clone, Copy, Debug, PartialEq, Eq)]
 pub struct Explained {
-    /// Whether memory was there for it. Else the words of the fault stand in its place.
+    /// Whether memory was there for its lines, or for its sentence in an object. Else the words of
+    /// the fault stand in its place.
     pub lines: Result<(), AllocError>,
     /// Whether standard error took all of it.
     pub told: Result<(), WriteFault>,

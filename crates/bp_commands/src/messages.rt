@@ -1,13 +1,16 @@
 //! The sentence that says what a fault is, alone.
 
 use crate::hints::Hints;
-use bp_advice::{Explanation, sentence_of};
 use bp_messages::Fault;
 use bp_text::push_bytes;
 use std::alloc::{AllocError, Global};
 
 /// The fault in a sentence, which says what is known of the command line.
-fn sentence(alloc: Global, fault: &Fault, hints: Hints<'_, '_>) -> Result<Vec<u8>, AllocError> {
+pub(crate) fn sentence(
+    alloc: Global,
+    fault: &Fault,
+    hints: Hints<'_, '_>,
+) -> Result<Vec<u8>, AllocError> {
     if let Some(words) = hints.words(alloc, fault) {
         return Ok(words);
     }
@@ -29,17 +32,4 @@ pub(crate) fn shown_sentence(
         shown.push(if byte.is_ascii_control() { b'?' } else { *byte })?;
     }
     Ok(shown)
-}
-
-/// The sentence of what explains a fault; else the fault in a sentence.
-pub(crate) fn message(
-    alloc: Global,
-    explanation: &Result<Option<Explanation<'_>>, AllocError>,
-    fault: &Fault,
-    hints: Hints<'_, '_>,
-) -> Result<Vec<u8>, AllocError> {
-    match explanation {
-        Ok(Some(explanation)) => sentence_of(alloc, explanation),
-        _ => sentence(alloc, fault, hints),
-    }
 }

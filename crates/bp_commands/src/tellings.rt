@@ -1,30 +1,31 @@
 //! What is told of the faults of the texts that a command was given.
-ghost use Rattle.std.specs.Prelude.{◌≡◌, ℕ, List, Option, IfOk};
+ghost use Rattle.std.specs.Prelude.{◌≡◌, ℕ, List, Option, Result, IfOk};
 ghost use Rattle.bp_text.specs.Writing.{Writes};
 ghost use Rattle.bp_commands.specs.Ends.{Ends};
-ghost use Rattle.bp_advice.specs.declared.explanations.Explanation.{Explanation as SomeExplanation};
-ghost use Rattle.bp_advice.specs.Explanations.{IsExplanationOf};
-ghost use Rattle.bp_commands.specs.Explanations.{AreLinesOf, ExplainsPair, ExplainsText, IsSaid, IsTold};
+ghost use Rattle.bp_advice.specs.declared.explanations.Explanation.{Explanation};
+ghost use Rattle.bp_advice.specs.Explanations.{lines_of, sentence_of, IsExplanationOf};
+ghost use Rattle.bp_commands.specs.Explanations.{ExplainsPair, ExplainsText, IsSaid, IsTextOf, IsUntold};
 ghost use Rattle.bp_messages.specs.FaultObjects.{name_in};
 ghost use Rattle.bp_messages.specs.FaultTable.{status_of};
 ghost use Rattle.bp_commands.specs.Given.{text_alone_of, Pair};
-ghost use Rattle.bp_commands.specs.Tellings.{is_explained, IsConcluded, IsFileOfPair, IsFileOfText, IsObjectIn, IsReported};
+ghost use Rattle.bp_commands.specs.Tellings.{IsConcluded, IsFileOfPair, IsFileOfText, IsObjectIn, IsObjectWith, IsReported};
 ghost use Rattle.bp_messages.specs.declared.faults.Fault.{Fault as SomeFault};
 
 use crate::ends::{Ended, Explained, RunEnd, end};
 use crate::explanations::{Beside, Named, of_pair, of_program, put_explanation};
 use crate::fault_formats::FaultFormat;
 use crate::hints::Hints;
-use crate::messages::message;
-use bp_advice::{Explanation, lines_of};
+use crate::messages::sentence;
+use bp_advice::{Explanation, lines_of, sentence_of};
 use bp_init::NamedStart;
 use bp_messages::{Fault, put_fault_object, value_in};
+use bp_text::WriteFault;
 use std::alloc::{AllocError, Global};
 use std::io::Write;
 
 /// The texts that a command was given.
 pub(crate) trait Texts {
-    ghost explains: { Self → SomeFault → SomeExplanation → Type 0 };
+    ghost explains: { Self → SomeFault → Explanation → Type 0 };
 
     ghost is_in: { Self → SomeFault → Option (List ℕ) → Type 0 };
 
@@ -141,6 +142,91 @@ impl Texts for NamedPair<'_> {
     }
 }
 
+/// The sentence of what explains a fault, where anything does.
+fn explaining_sentence<G: Texts>(
+    alloc: Global,
+    given: &G,
+    fault: &Fault,
+) -> Result<Option<Vec<u8>>, AllocError>
+    ensures { IfOk result (IsTextOf sentence_of (G.explains given.now fault.now)) }
+{
+    match &given.explanation(alloc, fault)? {
+        Some(explanation) => Ok(Some(sentence_of(alloc, explanation)?)),
+        None => Ok(None),
+    }
+}
+
+/// The lines of what explains a fault, where anything does.
+fn explaining_lines<G: Texts>(
+    alloc: Global,
+    given: &G,
+    fault: &Fault,
+) -> Result<Option<Vec<u8>>, AllocError>
+    ensures { IfOk result (IsTextOf lines_of (G.explains given.now fault.now)) }
+{
+    match &given.explanation(alloc, fault)? {
+        Some(explanation) => Ok(Some(lines_of(alloc, explanation)?)),
+        None => Ok(None),
+    }
+}
+
+/// Writes the object of a fault with this message.
+fn put_object<G: Texts, E: Write>(
+    given: &G,
+    fault: &Fault,
+    hints: Hints<'_, '_>,
+    message: &[u8],
+    errors: &mut E,
+) -> Result<(), WriteFault>
+    ensures { (object : List ℕ)
+        × IsObjectWith (G.is_in given.now) (G.given given.now) fault.now message.now object
+        × Writes (E.contents errors.old) (E.contents errors.new) object result }
+{
+    let file = given.file(fault, hints);
+    let value = value_in(given.input(), fault.row().detail);
+    put_fault_object(fault, file, given.program(), value, message, errors)
+}
+
+/// Writes the object of a fault with the fault in a sentence as its message.
+fn put_object_in_words<G: Texts, E: Write>(
+    alloc: Global,
+    given: &G,
+    fault: &Fault,
+    hints: Hints<'_, '_>,
+    errors: &mut E,
+) -> Result<(), WriteFault>
+    ensures { (message : List ℕ) × (object : List ℕ)
+        × IsObjectWith (G.is_in given.now) (G.given given.now) fault.now message object
+        × Writes (E.contents errors.old) (E.contents errors.new) object result }
+{
+    match sentence(alloc, fault, hints) {
+        Ok(words) => put_object(given, fault, hints, words.as_slice(), errors),
+        Err(_) => put_object(given, fault, hints, b"out of memory", errors),
+    }
+}
+
+/// How a fault ends a run that tells its object.
+fn told_by_object(
+    fault: &Fault,
+    lines: Result<(), AllocError>,
+    told: Result<(), WriteFault>,
+) -> RunEnd
+    ensures { result ≡ record {
+      status = status_of fault.now;
+      told = told;
+      explained = record { lines = lines; told = Result.Ok tt };
+    } }
+{
+    RunEnd {
+        status: fault.status(),
+        told,
+        explained: Explained {
+            lines,
+            told: Ok(()),
+        },
+    }
+}
+
 /// Writes the object of a fault, and answers how it ends a run.
 fn end_by_object<G: Texts, E: Write>(
     alloc: Global,
@@ -150,22 +236,25 @@ fn end_by_object<G: Texts, E: Write>(
     errors: &mut E,
 ) -> RunEnd
     ensures status { result.status ≡ status_of fault.now }
-    ensures object { (object : List ℕ)
-        × IsObjectIn (G.is_in given.now) (G.given given.now) fault.now object
+    ensures untold { result.explained.told ≡ Result.Ok tt }
+    ensures object { let IsObject =
+        IsObjectIn (G.is_in given.now) (G.given given.now) (G.explains given.now) in
+        (object : List ℕ) × IsObject result.explained fault.now object
         × Writes (E.contents errors.old) (E.contents errors.new) object result.told }
 {
-    let explanation = given.explanation(alloc, fault);
-    let file = given.file(fault, hints);
-    let value = value_in(given.input(), fault.row().detail);
-    let message = message(alloc, &explanation, fault, hints);
-    let words = match &message {
-        Ok(message) => message.as_slice(),
-        Err(_) => b"out of memory",
-    };
-    RunEnd {
-        status: fault.status(),
-        told: put_fault_object(fault, file, given.program(), value, words, errors),
-        explained: Explained::NOTHING,
+    match explaining_sentence(alloc, given, fault) {
+        Ok(Some(sentence)) => {
+            let told = put_object(given, fault, hints, sentence.as_slice(), errors);
+            told_by_object(fault, Ok(()), told)
+        }
+        Ok(None) => {
+            let told = put_object_in_words(alloc, given, fault, hints, errors);
+            told_by_object(fault, Ok(()), told)
+        }
+        Err(refused) => {
+            let told = put_object_in_words(alloc, given, fault, hints, errors);
+            told_by_object(fault, Err(refused), told)
+        }
     }
 }
 
@@ -178,9 +267,11 @@ fn report<G: Texts, T: Ended, E: Write>(
     hints: Hints<'_, '_>,
     errors: &mut E,
 ) -> RunEnd
-    ensures { let IsObject = IsObjectIn (G.is_in given.now) (G.given given.now) in
-        Ends T.ending (IsReported format IsObject) done.now result
+    ensures ends { let IsObject =
+        IsObjectIn (G.is_in given.now) (G.given given.now) (G.explains given.now) in
+        Ends T.ending (IsReported format (IsObject result.explained)) done.now result
         (E.contents errors.old) (E.contents errors.new) }
+    ensures untold { IsUntold format done.now result.explained }
 {
     match (format, done) {
         (FaultFormat::Json, Err(fault)) => end_by_object(alloc, given, fault, hints, errors),
@@ -188,39 +279,19 @@ fn report<G: Texts, T: Ended, E: Write>(
     }
 }
 
-/// The lines of what explains a fault, where anything does.
-fn explaining_lines<G: Texts>(
+/// Explains a fault by lines, or else tells it in a sentence.
+fn explain<G: Texts, E: Write>(
     alloc: Global,
     given: &G,
     fault: &Fault,
-) -> Result<Option<Vec<u8>>, AllocError>
-    ensures { IfOk result (AreLinesOf (G.explains given.now fault.now)) }
-{
-    match &given.explanation(alloc, fault)? {
-        Some(explanation) => Ok(Some(lines_of(alloc, explanation)?)),
-        None => Ok(None),
-    }
-}
-
-/// Explains a refusal, where the format has an explanation.
-fn explain<G: Texts, T, E: Write>(
-    alloc: Global,
-    format: FaultFormat,
-    given: &G,
-    done: &Result<T, Fault>,
     hints: Hints<'_, '_>,
     errors: &mut E,
 ) -> Explained
-    ensures { IsTold (is_explained format) (λ f. IsSaid (G.explains given.now f)) done.now result
-        (E.contents errors.old) (E.contents errors.new) }
+    ensures { (said : List ℕ) × IsSaid (G.explains given.now fault.now) result said
+        × Writes (E.contents errors.old) (E.contents errors.new) said result.told }
 {
-    match (format.is_explained(), done) {
-        (true, Err(fault)) => {
-            let lines = explaining_lines(alloc, given, fault);
-            put_explanation(alloc, &lines, fault, hints, errors)
-        }
-        _ => Explained::NOTHING,
-    }
+    let lines = explaining_lines(alloc, given, fault);
+    put_explanation(alloc, &lines, fault, hints, errors)
 }
 
 /// Ends a run by what its command answered: writes its summary, or its refusal in this format and
@@ -233,11 +304,17 @@ pub(crate) fn conclude<G: Texts, T: Ended, E: Write>(
     hints: Hints<'_, '_>,
     errors: &mut E,
 ) -> RunEnd
-    ensures { let IsObject = IsObjectIn (G.is_in given.now) (G.given given.now) in
+    ensures { let IsObject =
+        IsObjectIn (G.is_in given.now) (G.given given.now) (G.explains given.now) in
         IsConcluded T.ending format IsObject (λ f. IsSaid (G.explains given.now f)) done.now result
         (E.contents errors.old) (E.contents errors.new) }
 {
     let end = report(alloc, format, given, done, hints, errors);
-    let explained = explain(alloc, format, given, done, hints, errors);
-    RunEnd { explained, ..end }
+    match (format.is_explained(), done) {
+        (true, Err(fault)) => {
+            let explained = explain(alloc, given, fault, hints, errors);
+            RunEnd { explained, ..end }
+        }
+        _ => end,
+    }
 }

@@ -29,6 +29,8 @@ returns g c =
       final = c.flushed-done.result.0;
       flushed = c.flushed-done.ensures;
       concluded =
-          concluded_read inputs given (λ (x : Pair). IsObjectIn (IsFileOfPair kind path input_path) x) (ExplainsPair kind path input_path) g.C.Answer.Ended.ending c.args.format _ _ _ _ _ _ _
+          concluded_read inputs given
+          (λ (x : Pair). IsObjectIn (IsFileOfPair kind path input_path) x (ExplainsPair kind path input_path x)) (ExplainsPair kind path input_path)
+          g.C.Answer.Ended.ending c.args.format _ _ _ _ _ _ _
           holds c.flushed-done.ensures (rw (c.beside.ensures, c.deref.ensures.value, c.deref-2.ensures.value) at c.conclude-end.ensures);
     }

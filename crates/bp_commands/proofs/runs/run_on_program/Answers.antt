@@ -22,6 +22,7 @@ returns g c =
       final = c.flushed-done.result.0;
       flushed = c.flushed-done.ensures;
       concluded =
-          concluded_read inputs text (λ t. IsObjectIn (IsFileOfText path) (text_alone_of t)) (ExplainsText path) g.C.Answer.Ended.ending c.args.format _ _ _ _ _ _ _
+          concluded_read inputs text (λ t. IsObjectIn (IsFileOfText path) (text_alone_of t) (ExplainsText path t)) (ExplainsText path)
+          g.C.Answer.Ended.ending c.args.format _ _ _ _ _ _ _
           holds c.flushed-done.ensures (rw c.deref.ensures.value at c.conclude-end.ensures);
     }

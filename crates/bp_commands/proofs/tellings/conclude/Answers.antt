@@ -1,9 +1,12 @@
-use Rattle.bp_commands.specs.Tellings.{IsObjectIn, IsReported}
-use Rattle.bp_commands.proofs.ConcludedReads.{with_explained}
+use Rattle.std.proofs.Common.{sym}
+use Rattle.bp_commands.specs.Tellings.{IsObjectIn}
+use Rattle.bp_commands.proofs.ExplainedRuns.{by_lines}
 use Rattle.bp_commands.proofs.tellings.conclude.Goals as goal
 
-pub returns : goal.returns
-returns g c =
-    let IsObject = IsObjectIn (g.G.Texts.is_in c.args.given.now) (g.G.Texts.given c.args.given.now) in
-    let ends = with_explained g.T.Ended.ending (IsReported c.args.format IsObject) c.args.done.now c.report-end.result c.explain-explained.result _ _ c.report-end.ensures in
-    (g.E.Write.contents c.report-end.new.errors, ends, c.explain-explained.ensures)
+pub returns-in-true-Err : goal.returns-in-true-Err
+returns-in-true-Err g c =
+    let given = c.args.given.now in
+    let Explains = g.G.Texts.explains given in
+    by_lines g.T.Ended.ending (IsObjectIn (g.G.Texts.is_in given) (g.G.Texts.given given) Explains) Explains c.report-end.result _ _ _
+    c.explain-explained.result c.in-true-Err.fault c.args.format c.args.done.now (sym c.in-true-Err.ensures) c.in-true-Err.is-1
+    c.report-end.ensures.ends c.explain-explained.ensures

@@ -1,19 +1,13 @@
-use Rattle.std.proofs.Common.{refl, option_map, subst}
-use Rattle.bp_confirm.specs.StepLines.{value_of}
-use Rattle.bp_messages.specs.FaultObjects.{fault_object, name_in}
-use Rattle.bp_messages.specs.StepObjects.{IsValueIn}
-use Rattle.bp_commands.specs.Tellings.{IsObjectIn}
+use Rattle.std.proofs.Common.{Some, ◌∙◌, refl, inl}
+use Rattle.bp_advice.specs.Explanations.{sentence_of}
+use Rattle.bp_commands.specs.Explanations.{IsTextOf}
 use Rattle.bp_commands.proofs.tellings.end_by_object.Goals as goal
 
-pub returns-clause-object : goal.returns-clause-object
-returns-clause-object g c =
-    let given = c.args.given.now in
-    let texts = g.G.Texts.given given in
-    let message = c.match-message.words.now in
-    let value = option_map value_of c.value_in-value.result in
-    let value_is = subst (λ r. IsValueIn texts.input r.detail value) c.row.ensures
-    (subst (λ t. IsValueIn t c.row.result.detail value) c.input.ensures c.value_in-value.ensures) in
-    let object = fault_object c.args.fault.now (name_in c.file-file.result) texts.text value message in
-    let is : IsObjectIn (g.G.Texts.is_in given) texts c.args.fault.now object =
-    record { file = name_in c.file-file.result; named = c.file-file.ensures; value = value; value_is = value_is; message = message; is = refl } in
-    (object, is, rw c.program.ensures at c.put_fault_object.ensures)
+pub returns-in-Ok-Some-clause-object : goal.returns-in-Ok-Some-clause-object
+returns-in-Ok-Some-clause-object g c =
+    let Explains = g.G.Texts.explains c.args.given.now c.args.fault.now in
+    let of : IsTextOf sentence_of Explains (Some c.in-Ok-Some.sentence) = rw c.in-Ok-Some.field-0-is at c.in-Ok-Some.ensures in
+    let (e, explains, same) = of in
+    let (object, is, written) = c.put_object-told.ensures in
+    let said = inl (refl, inl (e, explains, c.as_slice.ensures.value ∙ same)) in
+    rw c.told_by_object.ensures (object, record { message = c.as_slice.result.now; said = said; is = is }, written)
