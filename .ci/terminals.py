@@ -27,12 +27,13 @@ CLEAN = "main() begin skip; end\n"
 # A body has a statement at least.
 EMPTY = "main() begin end\n"
 
-# A test of 10,000 runs has two blocks, and each of them ends with a line of progress.
 # A statement of more than 60 bytes, and a note of more than 30.
 WIDE = "decl left_of_the_bridge, right_of_the_bridge;\nmain() begin left_of_the_bridge, right_of_the_bridge := 1, !right_of_the_bridge; end\n"
 WIDE_TRACE = "btrace 1\nentry main\ninit 00\ncontexts 2\ncalls 9\nseed none\n0 0 s\nend 1 1\n"
 
 CLEARED = r"\r\x1b\[K"
+
+# A test of 10,000 runs has two blocks, and each of them ends with a line of progress.
 PROGRESS = re.compile(
     CLEARED + r"5000 of 10000 runs, \d+ a second, \d+ s left"
     + CLEARED + r"10000 of 10000 runs, \d+ a second, 0 s left" + CLEARED
@@ -88,6 +89,9 @@ def test_progress(report, words, bare):
         shown = PROGRESS.match(said)
         is_fine = bool(shown) == has_progress and said[shown.end() if shown else 0 :] == told
         report.tell("progress " + name, "" if is_fine else "said %r" % said)
+    said = shown_on_terminal([*words, "--runs", "1000000000000", "--time", "1"], bare)
+    left = [int(seconds) for seconds in re.findall(r"(\d+) s left", said)]
+    report.tell("progress with --time", "" if left and max(left) <= 1 else "said %r" % said[-200:])
 
 
 def test_explanations(report, words):

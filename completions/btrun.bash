@@ -43,7 +43,7 @@ _btrun_options() {
         drive) echo "$common $start" ;;
         confirm) echo "$common $start --json" ;;
         run) echo "$common $start --seed --turn --ring --spread" ;;
-        test) echo "$common $start --seed --runs --jobs --deadlock --unreached --json" ;;
+        test) echo "$common $start --seed --runs --time --jobs --deadlock --unreached --json" ;;
         show) echo "$common --thread --last --from --to --watch --fold --state --brief --at --contexts --steps --json" ;;
     esac
 }
@@ -64,7 +64,7 @@ _btrun() {
             fi
             return
             ;;
-        *--contexts | *--calls | *--seed | *--turn | *--ring | *--runs | *--jobs | *--thread | *--last | *--from | *--to | *--at) return ;;
+        *--contexts | *--calls | *--seed | *--turn | *--ring | *--runs | *--time | *--jobs | *--thread | *--last | *--from | *--to | *--at) return ;;
     esac
     if ((COMP_CWORD == 1)); then
         words="check code drive confirm run test replay show migrate shrink help --help --version"

@@ -16,7 +16,7 @@ use bp_init::NamedStart;
 use bp_machine::Start;
 use bp_messages::{Fault, Notes, Tested, notes_of, put_summary, put_summary_objects};
 use bp_source::{statement_lines, statement_positions, statement_texts, unreached_objects};
-use bp_test::{Counts, Found, Progress, TestOptions, Waiting, test};
+use bp_test::{Counts, Found, Progress, Runtimes, TestOptions, Waiting, test};
 use bp_text::{Position, WriteFault};
 use std::alloc::{AllocError, Global};
 use std::io::Write;
@@ -27,7 +27,9 @@ use std::thread::Threads;
 #[derive(Drop)]
 pub struct Test<'a, R, P> {
     /// What starts the threads of the test.
-    pub runtime: &'a R,
+    pub threads: &'a R,
+    /// What tells the time.
+    pub clock: &'a HostRuntime,
     /// Who is told how far the test is.
     pub progress: &'a P,
     /// What each run starts from.
@@ -132,8 +134,12 @@ fn test_from<R: Threads + Sync, P: Progress, W: Write>(
     let setup = start.setup(alloc, &code, None)?;
     let described = description_of(alloc, asked.json, asked.listed, text, &checked)?;
     let options = asked.options;
-    let (runtime, progress) = (asked.runtime, asked.progress);
-    let tested = test(runtime, alloc, &code, &setup, &options, progress, out)?;
+    let runtimes = Runtimes {
+        threads: asked.threads,
+        clock: asked.clock,
+    };
+    let progress = asked.progress;
+    let tested = test(&runtimes, alloc, &code, &setup, &options, progress, out)?;
     let counts = tested.tally.counts(&code);
     let notes = notes_of(tested.found, setup.contexts(), &counts);
     Ok(Tested {

@@ -1,5 +1,5 @@
 -- What a user reads of a test while it is made, on a terminal.
-use Rattle.std.specs.Prelude.{ℕ, List, [], ◌∷◌, ◌*◌, ◌-◌, ◌/◌, ◌^◌, min, max, codes, decimal}
+use Rattle.std.specs.Prelude.{ℕ, Option, None, Some, List, [], ◌∷◌, ◌*◌, ◌-◌, ◌/◌, ◌^◌, min, max, codes, decimal}
 use Rattle.std.specs.List.{concat}
 
 -- what puts the cursor of a terminal at the beginning of the line and clears it
@@ -14,13 +14,19 @@ rate_of done millis = min (done * 1000) (2 ^ 64 - 1) / max millis 1
 abbrev pub seconds_left : (done runs rate : ℕ) → ℕ
 seconds_left done runs rate = (runs - done) / max rate 1
 
+-- these seconds, and no more than are left of a time, where that is limited
+abbrev pub within_time : (millis : ℕ) → (seconds : Option ℕ) → ℕ → ℕ
+within_time millis None left = left
+within_time millis (Some seconds) left = min left (seconds - millis / 1000)
+
 -- a line over the one before
-abbrev pub progress_text : (done runs millis : ℕ) → List ℕ
-progress_text done runs millis =
+abbrev pub progress_text : (done runs millis : ℕ) → (seconds : Option ℕ) → List ℕ
+progress_text done runs millis seconds =
     let rate = rate_of done millis in
+    let left = within_time millis seconds (seconds_left done runs rate) in
     concat (
     cleared ∷ decimal done
     ∷ codes " of " ∷ decimal runs
     ∷ codes " runs, " ∷ decimal rate
-    ∷ codes " a second, " ∷ decimal (seconds_left done runs rate)
+    ∷ codes " a second, " ∷ decimal left
     ∷ codes " s left" ∷ [])

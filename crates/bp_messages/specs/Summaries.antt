@@ -1,5 +1,5 @@
 -- What a user reads of a test on standard error.
-use Rattle.std.specs.Prelude.{ℕ, Bool, true, false, List, [], ◌∷◌, ◌++◌, Vec, codes, decimal}
+use Rattle.std.specs.Prelude.{if◌then◌else◌, ◌==◌, ℕ, Bool, true, false, List, [], ◌∷◌, ◌++◌, Vec, codes, decimal}
 use Rattle.std.specs.declared.alloc.Global.{Global}
 use Rattle.std.specs.List.{concat}
 use Rattle.bp_test.specs.declared.counts.Counts.{Counts}
@@ -20,8 +20,16 @@ deadlock_text x run =
     found_words (codes "deadlock") run x.options.runs
     ++ (waits_text x.positions.items x.waiting.items ++ codes "\n")
 
-abbrev pub nothing_text : List ℕ → (runs : ℕ) → List ℕ
-nothing_text words runs = concat (words ∷ codes " in " ∷ decimal runs ∷ codes " runs\n" ∷ [])
+-- nothing was found in the runs that were made; if they are not all, the time was over
+abbrev pub nothing_text : List ℕ → (made runs : ℕ) → List ℕ
+nothing_text words made runs =
+    if made == runs then concat (words ∷ codes " in " ∷ decimal runs ∷ codes " runs\n" ∷ [])
+    else
+    concat (
+    words
+    ∷ codes " in " ∷ decimal made
+    ∷ codes " of " ∷ decimal runs
+    ∷ codes " runs: the time is over\n" ∷ [])
 
 -- what was looked for and not found
 abbrev pub nothing_words : Bool → List ℕ
@@ -30,7 +38,8 @@ nothing_words true = codes "no assertion failed and no deadlock"
 
 -- the first line: what was found
 abbrev pub finding_text : Tested → Found → List ℕ
-finding_text x Nothing = nothing_text (nothing_words x.options.with_deadlock) x.options.runs
+finding_text x Nothing =
+    nothing_text (nothing_words x.options.with_deadlock) x.counts.runs x.options.runs
 finding_text x (Failed run report) =
     let failure = failed_assertion x in
     failure_text failure (statement_of x.statements.items failure) run x.options.runs

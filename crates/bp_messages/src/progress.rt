@@ -1,7 +1,7 @@
 //! The line of progress of a test.
 ghost use Rattle.std.specs.Prelude.{◌≡◌};
 ghost use Rattle.bp_text.specs.Writing.{Writes};
-ghost use Rattle.bp_messages.specs.ProgressTexts.{cleared, progress_text, rate_of, seconds_left};
+ghost use Rattle.bp_messages.specs.ProgressTexts.{cleared, progress_text, rate_of, seconds_left, within_time};
 
 use bp_text::Piece::{Bytes, Number};
 use bp_text::{WriteFault, put, put_pieces};
@@ -28,18 +28,30 @@ fn seconds_left(done: u64, runs: u64, rate: u64) -> u64
     runs.saturating_sub(done) / rate.max(1)
 }
 
+/// These seconds, and no more than are left of the time of a test, where that is limited.
+fn within_time(millis: u64, seconds: Option<u64>, left: u64) -> u64
+    ensures { result ≡ within_time millis seconds left }
+{
+    match seconds {
+        Some(seconds) => left.min(seconds.saturating_sub(millis / 1000)),
+        None => left,
+    }
+}
+
 /// Writes a line over the one before: how many runs of all are done, how many are made in a second,
-/// and how many seconds are left.
+/// and how many seconds are left of a test that has this time, where that is limited.
 pub fn put_progress<W: Write>(
     done: u64,
     runs: u64,
     millis: u64,
+    seconds: Option<u64>,
     out: &mut W,
 ) -> Result<(), WriteFault>
-    ensures { let text = progress_text done runs millis in
+    ensures { let text = progress_text done runs millis seconds in
         Writes (W.contents out.old) (W.contents out.new) text result }
 {
     let rate = rate_of(done, millis);
+    let left = within_time(millis, seconds, seconds_left(done, runs, rate));
     put_pieces(
         out,
         &[
@@ -50,7 +62,7 @@ pub fn put_progress<W: Write>(
             Bytes(b" runs, "),
             Number(rate),
             Bytes(b" a second, "),
-            Number(seconds_left(done, runs, rate)),
+            Number(left),
             Bytes(b" s left"),
         ],
     )

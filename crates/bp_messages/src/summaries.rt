@@ -51,11 +51,24 @@ fn nothing_words(with_deadlock: bool) -> &'static [u8]
     }
 }
 
-/// Writes that nothing was found in this many runs.
-fn put_nothing<W: Write>(words: &[u8], runs: u64, out: &mut W) -> Result<(), WriteFault>
-    ensures { let text = nothing_text words.now runs in
+/// Writes that nothing was found in the runs that were made, and how many were to be made.
+fn put_nothing<W: Write>(words: &[u8], made: u64, runs: u64, out: &mut W) -> Result<(), WriteFault>
+    ensures { let text = nothing_text words.now made runs in
         Writes (W.contents out.old) (W.contents out.new) text result }
 {
+    if made != runs {
+        return put_pieces(
+            out,
+            &[
+                Bytes(words),
+                Bytes(b" in "),
+                Number(made),
+                Bytes(b" of "),
+                Number(runs),
+                Bytes(b" runs: the time is over\n"),
+            ],
+        );
+    }
     put_pieces(
         out,
         &[
@@ -74,7 +87,10 @@ fn put_finding<W: Write>(tested: &Tested, out: &mut W) -> Result<(), WriteFault>
 {
     let runs = tested.options.runs;
     match tested.found {
-        Found::Nothing => put_nothing(nothing_words(tested.options.with_deadlock), runs, out),
+        Found::Nothing => {
+            let words = nothing_words(tested.options.with_deadlock);
+            put_nothing(words, tested.counts.runs, runs, out)
+        }
         Found::Failed { run, .. } => {
             let failure = failed_assertion(tested);
             let statement = statement_of(tested.statements.as_slice(), failure);

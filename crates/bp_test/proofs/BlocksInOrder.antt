@@ -1,6 +1,6 @@
 -- What the blocks of a wave say one after the other.
-use Rattle.std.proofs.Common.{◌≡◌, ℕ, suc, ◌+◌, ◌-◌, ◌≤◌, Bool, true, false, List, [], ◌∷◌, ◌++◌, length, append_assoc, append-nil, Option, None, Some, Result, Ok, refl, sym, subst, arith}
-use Rattle.std.specs.Prelude.{slice_index_or, is_some}
+use Rattle.std.proofs.Common.{◌≡◌, ℕ, suc, ◌+◌, ◌-◌, ◌≤◌, Bool, true, false, List, [], ◌∷◌, ◌++◌, length, append_assoc, append-nil, Option, None, Some, Result, Ok, refl, sym, ◌∙◌, subst, arith}
+use Rattle.std.specs.Prelude.{max, slice_index_or, is_some}
 use Rattle.bp_tree.specs.Ast.{Program}
 use Rattle.bp_code.specs.Flat.{Flat}
 use Rattle.bp_code.specs.StandsFor.{StandsFor}
@@ -9,17 +9,21 @@ use Rattle.bp_test.specs.declared.blocks.Block.{Block}
 use Rattle.bp_test.specs.declared.blocks.FoundRun.{FoundRun}
 use Rattle.bp_test.specs.declared.plans.Plan.{Plan}
 use Rattle.bp_test.specs.declared.tallies.Tally.{Tally}
-use Rattle.bp_test.specs.Blocks.{start_of_block, IsBlock, AreBlocks, IsTalliedAfter}
+use Rattle.bp_test.specs.Blocks.{start_of_block, IsBlock, IsEnd, AreBlocks, IsTalliedAfter}
 use Rattle.bp_test.specs.Tallies.{MadeRun, IsTally}
 use Rattle.bp_test.specs.Tests.{AreCleanRuns, IsFirstFound, IsTallied}
-use Rattle.bp_test.proofs.FirstFound.{found_later, found_among_more}
+use Rattle.bp_test.proofs.FirstFound.{found_later}
 
-pub starts_rise : (from a b runs : ℕ) → a ≤ b → start_of_block from a runs ≤ start_of_block from b runs
+starts_rise : (from a b runs : ℕ) → a ≤ b → start_of_block from a runs ≤ start_of_block from b runs
 starts_rise from a b runs le = omega (arith, le)
 
-none_of : (o : Option FoundRun) → is_some o ≡ false → o ≡ None
+pub none_of : (o : Option FoundRun) → is_some o ≡ false → o ≡ None
 none_of None e = refl
 none_of (Some f) e = absurd cc
+
+pub some_of : (o : Option FoundRun) → is_some o ≡ true → o ≡ None → ⊥
+some_of None some none = absurd cc
+some_of (Some f) some none = absurd cc
 
 -- what the tallies say after another one was added
 abbrev pub Adds : Tally → Tally → Tally → Type 0
@@ -27,98 +31,113 @@ Adds old other new = (t : Program) (s : SetupOf) (runs more : List MadeRun) → 
 
 module _ {E : Type 0} (k : Flat) (s : SetupOf) (p : Plan) (from runs : ℕ) (t : Program) (is : StandsFor k t) (earlier : List MadeRun) where
   -- the runs of the blocks before these, which are the rest of all, are not looked for, and are
-  -- counted
-  pub record IsBefore (all rest : List (Result Block E)) (tally : Tally) : Type 0 where
+  -- counted; the last of them is before this one
+  pub record IsBefore (all rest : List (Result Block E)) (end : ℕ) (tally : Tally) : Type 0 where
     pub before : ℕ
     pub count : before + length rest ≡ length all
     pub blocks : AreBlocks k s p from runs before rest
     pub made : List MadeRun
-    pub size : start_of_block from 0 runs + length made ≡ start_of_block from before runs
+    pub size : start_of_block from 0 runs + length made ≡ end
+    pub ends : IsEnd p.deadline (start_of_block from 0 runs) (start_of_block from before runs) None end
     pub clean : AreCleanRuns t s p.with_deadlock p.seed (start_of_block from 0 runs) made
     pub tallied : IsTally t s (earlier ++ made) tally
 
-  pub before_all : (all : List (Result Block E)) (tally : Tally) → AreBlocks k s p from runs 0 all → IsTally t s earlier tally → IsBefore all all tally
-  before_all all tally are tallied = record {
+  pub before_all : (all : List (Result Block E)) (tally : Tally) → AreBlocks k s p from runs 0 all → (end : ℕ) → end ≡ start_of_block from 0 runs → IsTally t s earlier tally → IsBefore all all end tally
+  before_all all tally are end same tallied = record {
     before = 0;
     count = omega arith;
     blocks = are;
     made = [];
-    size = omega arith;
+    size = omega (arith, same);
+    ends = (omega (arith, same), omega (arith, same), λ untimed none. omega (arith, same));
     clean = tt;
     tallied = subst (λ rs. IsTally t s rs tally) (sym (append-nil earlier)) tallied;
   }
 
-  module _ (all rest : List (Result Block E)) (block : Block) (old new : Tally) (was : IsBefore all (Ok block ∷ rest) old) (adds : Adds old block.tally new) where
-    this : IsTallied t s p.with_deadlock p.seed (start_of_block from was.before runs) (start_of_block from (was.before + 1) runs) block.found block.tally
-    this = let same : was.before + 0 ≡ was.before = omega arith in subst (λ n. IsTallied t s p.with_deadlock p.seed (start_of_block from n runs) (start_of_block from (n + 1) runs) block.found block.tally) same (was.blocks 0 (Ok block) (omega arith) t is)
-
-    abbrev both : List MadeRun
-    both = was.made ++ this.runs
-
-    tallied_both : IsTally t s (earlier ++ both) new
-    tallied_both = subst (λ rs. IsTally t s rs new) (append_assoc earlier was.made this.runs) (adds t s (earlier ++ was.made) this.runs was.tallied this.tallied)
-
-    both_first : IsFirstFound t s p.with_deadlock p.seed (start_of_block from 0 runs) (start_of_block from (was.before + 1) runs) block.found both
-    both_first = found_later t s p.with_deadlock p.seed (start_of_block from 0 runs) (start_of_block from was.before runs) (start_of_block from (was.before + 1) runs) was.made was.size was.clean
-        (starts_rise from was.before (was.before + 1) runs (omega arith)) block.found this.runs this.first
-
-    pub before_rest : is_some block.found ≡ false → IsBefore all rest new
-    before_rest e =
-        let none = subst (λ o. IsFirstFound t s p.with_deadlock p.seed (start_of_block from 0 runs) (start_of_block from (was.before + 1) runs) o both) (none_of block.found e) both_first in record {
-          before = was.before + 1;
-          count = let e = was.count in omega (arith, e);
-          blocks = λ n d l. let more : was.before + suc n ≡ was.before + 1 + n = omega arith in subst (λ m. IsBlock k s p from runs m (slice_index_or rest n d)) more (was.blocks (suc n) d (omega (arith, l)));
-          made = both;
-          size = let rise = starts_rise from 0 (was.before + 1) runs (omega arith) in let size = none.0 in omega (arith, rise, size);
-          clean = none.1;
-          tallied = tallied_both;
-        }
-
-    found_first : (o : Option FoundRun) → is_some o ≡ true → IsFirstFound t s p.with_deadlock p.seed (start_of_block from 0 runs) (start_of_block from (was.before + 1) runs) o both → IsFirstFound t s p.with_deadlock p.seed (start_of_block from 0 runs) (start_of_block from (length all) runs) o both
-    found_first None some first = absurd cc
-    found_first (Some f) some first = found_among_more t s p.with_deadlock p.seed (start_of_block from 0 runs) (start_of_block from (was.before + 1) runs) (start_of_block from (length all) runs) (starts_rise from (was.before + 1) (length all) runs (let e = was.count in omega (arith, e))) f both first
-
-    pub found_any : is_some block.found ≡ true → IsTalliedAfter earlier t s p.with_deadlock p.seed (start_of_block from 0 runs) (start_of_block from (length all) runs) block.found new
-    found_any e = record { runs = both; first = found_first block.found e both_first; tallied = tallied_both }
-
-  pub after_all : (all rest : List (Result Block E)) (tally : Tally) → length rest ≡ 0 → IsBefore all rest tally → IsTalliedAfter earlier t s p.with_deadlock p.seed (start_of_block from 0 runs) (start_of_block from (length all) runs) None tally
-  after_all all rest tally none was = record {
+  -- the runs before some blocks are those of the wave, as far as they were made
+  pub after_made : (all rest : List (Result Block E)) (end : ℕ) (tally : Tally) → IsBefore all rest end tally → IsTalliedAfter earlier t s p.with_deadlock p.seed (start_of_block from 0 runs) end None tally
+  after_made all rest end tally was = record {
     runs = was.made;
-    first = (
-      (let e = was.count in
-          let same : was.before ≡ length all = omega (arith, none, e) in
-          let size = subst (λ n. start_of_block from 0 runs + length was.made ≡ start_of_block from n runs) same was.size in omega (arith, size)),
-      was.clean,
-    );
+    first = ((let size = was.size in omega (arith, size)), was.clean);
     tallied = was.tallied;
   }
 
+  pub ends_all : (all rest : List (Result Block E)) (end : ℕ) (tally : Tally) → length rest ≡ 0 → IsBefore all rest end tally → IsEnd p.deadline (start_of_block from 0 runs) (start_of_block from (length all) runs) None end
+  ends_all all rest end tally none was =
+      let same : was.before ≡ length all = let count = was.count in omega (arith, none, count) in
+      subst (λ n. IsEnd p.deadline (start_of_block from 0 runs) (start_of_block from n runs) None end) same was.ends
+
+  module _ (all rest : List (Result Block E)) (block : Block) (end : ℕ) (old : Tally) (was : IsBefore all (Ok block ∷ rest) end old) where
+    this : IsBlock {E = E} k s p from runs was.before (Ok block)
+    this = let same : was.before + 0 ≡ was.before = omega arith in subst (λ n. IsBlock {E = E} k s p from runs n (Ok block)) same (was.blocks 0 (Ok block) (omega arith))
+
+    rise : start_of_block from 0 runs ≤ start_of_block from was.before runs
+    rise = starts_rise from 0 was.before runs (omega arith)
+
+    next_rise : start_of_block from was.before runs ≤ start_of_block from (was.before + 1) runs
+    next_rise = starts_rise from was.before (was.before + 1) runs (omega arith)
+
+    last_rise : start_of_block from (was.before + 1) runs ≤ start_of_block from (length all) runs
+    last_rise = starts_rise from (was.before + 1) (length all) runs (let count = was.count in omega (arith, count))
+
+    -- the block before this one was cut off
+    pub ends_cut : (block.from ≡ end → ⊥) → IsEnd p.deadline (start_of_block from 0 runs) (start_of_block from (length all) runs) None end
+    ends_cut cut =
+        let low = was.ends.0 in
+        let high = was.ends.1 in (
+          low,
+          omega (arith, high, rise, next_rise, last_rise),
+          λ untimed none.
+              absurd (cut (let here = this.0 in let same = was.ends.2 untimed none in omega (arith, here, same, rise))),
+        )
+
+    module _ (new : Tally) (adds : Adds old block.tally new) (here : block.from ≡ end) where
+      tallied : IsTallied t s p.with_deadlock p.seed end block.end block.found block.tally
+      tallied = subst (λ n. IsTallied t s p.with_deadlock p.seed n block.end block.found block.tally) (sym this.0 ∙ here) (this.2 t is)
+
+      abbrev both : List MadeRun
+      both = was.made ++ tallied.runs
+
+      tallied_both : IsTally t s (earlier ++ both) new
+      tallied_both = subst (λ rs. IsTally t s rs new) (append_assoc earlier was.made tallied.runs) (adds t s (earlier ++ was.made) tallied.runs was.tallied tallied.tallied)
+
+      below : end ≤ block.end
+      below = let starts = this.0 in let low = this.1.0 in omega (arith, starts, low, here)
+
+      both_first : IsFirstFound t s p.with_deadlock p.seed (start_of_block from 0 runs) block.end block.found both
+      both_first = found_later t s p.with_deadlock p.seed (start_of_block from 0 runs) end block.end was.made was.size was.clean below block.found tallied.runs tallied.first
+
+      -- where the wave ends, if this block is the last of it
+      ends_here : (n : ℕ) → start_of_block from (was.before + 1) runs ≤ start_of_block from n runs → (o : Option FoundRun) → (p.deadline ≡ None → o ≡ None → block.end ≡ max (start_of_block from 0 runs) (start_of_block from n runs)) → IsEnd p.deadline (start_of_block from 0 runs) (start_of_block from n runs) o block.end
+      ends_here n le o untimed =
+          let low = was.ends.0 in
+          let high = this.1.1 in
+          (omega (arith, low, below), omega (arith, high, le, next_rise), untimed)
+
+      pub before_rest : is_some block.found ≡ false → IsBefore all rest block.end new
+      before_rest e =
+          let none = subst (λ o. IsFirstFound t s p.with_deadlock p.seed (start_of_block from 0 runs) block.end o both) (none_of block.found e) both_first in record {
+            before = was.before + 1;
+            count = let e = was.count in omega (arith, e);
+            blocks = λ n d l. let more : was.before + suc n ≡ was.before + 1 + n = omega arith in subst (λ m. IsBlock {E = E} k s p from runs m (slice_index_or rest n d)) more (was.blocks (suc n) d (omega (arith, l)));
+            made = both;
+            size = let low = was.ends.0 in let size = none.0 in omega (arith, low, below, size);
+            ends = ends_here (was.before + 1) (omega arith) None (λ untimed o. let same = this.1.2 untimed (none_of block.found e) in omega (arith, same, rise, next_rise));
+            clean = none.1;
+            tallied = tallied_both;
+          }
+
+      pub ends_found : is_some block.found ≡ true → IsEnd p.deadline (start_of_block from 0 runs) (start_of_block from (length all) runs) block.found block.end
+      ends_found e = ends_here (length all) last_rise block.found (λ untimed none. absurd (some_of block.found e none))
+
+      pub found_any : IsTalliedAfter earlier t s p.with_deadlock p.seed (start_of_block from 0 runs) block.end block.found new
+      found_any = record { runs = both; first = both_first; tallied = tallied_both }
+
 -- a wave after runs that are not looked for
-module _ (t : Program) (s : SetupOf) (with_deadlock : Bool) (seed from runs n : ℕ) (within : from ≤ runs) (before : List MadeRun) (count : length before ≡ from - 0) (clean : AreCleanRuns t s with_deadlock seed 0 before) (tally : Tally) where
-  here : start_of_block from 0 runs ≡ from
-  here = omega (arith, within)
-
-  from_zero : 0 + length before ≡ from
-  from_zero = omega (arith, count)
-
-  all_first : (o : Option FoundRun) (made : List MadeRun) → IsFirstFound t s with_deadlock seed (start_of_block from 0 runs) (start_of_block from n runs) o made → IsFirstFound t s with_deadlock seed 0 (start_of_block from n runs) o (before ++ made)
-  all_first o made first = found_later t s with_deadlock seed 0 from (start_of_block from n runs) before from_zero clean (omega (arith, within)) o made (subst (λ b. IsFirstFound t s with_deadlock seed b (start_of_block from n runs) o made) here first)
-
-  more_first : (o : Option FoundRun) → is_some o ≡ true → (made : List MadeRun) → IsFirstFound t s with_deadlock seed 0 (start_of_block from n runs) o made → IsFirstFound t s with_deadlock seed 0 runs o made
-  more_first None some made first = absurd cc
-  more_first (Some f) some made first = found_among_more t s with_deadlock seed 0 (start_of_block from n runs) runs (omega arith) f made first
-
-  pub found_in_wave : (o : Option FoundRun) → is_some o ≡ true → IsTalliedAfter before t s with_deadlock seed (start_of_block from 0 runs) (start_of_block from n runs) o tally → IsTallied t s with_deadlock seed 0 runs o tally
-  found_in_wave o some wave = record {
-    runs = before ++ wave.runs;
-    first = more_first o some (before ++ wave.runs) (all_first o wave.runs wave.first);
-    tallied = wave.tallied;
-  }
-
-  -- the runs up to the end of the wave, where nothing was found
-  pub clean_after_wave : (o : Option FoundRun) → is_some o ≡ false → IsTalliedAfter before t s with_deadlock seed (start_of_block from 0 runs) (start_of_block from n runs) o tally → IsTallied t s with_deadlock seed 0 (start_of_block from n runs) None tally
-  clean_after_wave o none wave = record {
-    runs = before ++ wave.runs;
-    first = subst (λ p. IsFirstFound t s with_deadlock seed 0 (start_of_block from n runs) p (before ++ wave.runs)) (none_of o none) (all_first o wave.runs wave.first);
-    tallied = wave.tallied;
-  }
+pub after_wave : (t : Program) (s : SetupOf) (with_deadlock : Bool) (seed from end : ℕ) → from ≤ end → (before : List MadeRun) → length before ≡ from - 0 → AreCleanRuns t s with_deadlock seed 0 before → (o : Option FoundRun) (tally : Tally)
+    → IsTalliedAfter before t s with_deadlock seed from end o tally → IsTallied t s with_deadlock seed 0 end o tally
+after_wave t s with_deadlock seed from end le before count clean o tally wave = record {
+  runs = before ++ wave.runs;
+  first = found_later t s with_deadlock seed 0 from end before (omega (arith, count)) clean le o wave.runs wave.first;
+  tallied = wave.tallied;
+}

@@ -64,9 +64,9 @@ module _ (t : Program) (s : SetupOf) (with_deadlock : Bool) (seed : ℕ) where
   }
 
 -- what was found by a plan of a test is what the test asks for
-pub as_asked : (t : Program) (s : SetupOf) (x : TestOptions) (seed : ℕ) → seed ≡ x.seed → (with_deadlock : Bool) → with_deadlock ≡ x.with_deadlock → (o found : Option FoundRun) → o ≡ found → (runs : List MadeRun)
-    → IsFirstFound t s with_deadlock seed 0 x.runs o runs → IsFirstFound t s x.with_deadlock x.seed 0 x.runs found runs
-as_asked t s x seed seed_is with_deadlock deadlock_is o found same runs first = rw⁻¹ seed_is (rw⁻¹ deadlock_is (subst (λ p. IsFirstFound t s with_deadlock seed 0 x.runs p runs) same first))
+pub as_asked : (t : Program) (s : SetupOf) (x : TestOptions) (end seed : ℕ) → seed ≡ x.seed → (with_deadlock : Bool) → with_deadlock ≡ x.with_deadlock → (o found : Option FoundRun) → o ≡ found → (runs : List MadeRun)
+    → IsFirstFound t s with_deadlock seed 0 end o runs → IsFirstFound t s x.with_deadlock x.seed 0 end found runs
+as_asked t s x end seed seed_is with_deadlock deadlock_is o found same runs first = rw⁻¹ seed_is (rw⁻¹ deadlock_is (subst (λ p. IsFirstFound t s with_deadlock seed 0 end p runs) same first))
 
 -- there are no more runs than were asked for
 pub few_with : (t : Program) (s : SetupOf) (with_deadlock : Bool) (seed count : ℕ) → count < 2 ^ 64 → (f : FoundRun) (runs : List MadeRun) → IsFoundRun t s with_deadlock seed 0 count f runs → length runs < 2 ^ 64

@@ -1,5 +1,5 @@
 -- Blocks of runs that are made side by side.
-use Rattle.std.specs.Prelude.{◌+◌, ◌*◌, ◌++◌, ◌<◌, ℕ, min, Bool, ◌||◌, ◌&&◌, List, Option, Result, length, slice_index_or, IfOk}
+use Rattle.std.specs.Prelude.{◌≡◌, ◌+◌, ◌*◌, ◌++◌, ◌<◌, ◌≤◌, ℕ, max, min, Bool, ◌||◌, ◌&&◌, List, Option, None, Result, length, slice_index_or, IfOk}
 use Rattle.bp_tree.specs.Ast.{Program}
 use Rattle.bp_code.specs.Flat.{Flat}
 use Rattle.bp_code.specs.StandsFor.{StandsFor}
@@ -22,16 +22,26 @@ is_sought with_deadlock r deadlocked = is_failure r.outcome || (with_deadlock &&
 abbrev pub start_of_block : (from n runs : ℕ) → ℕ
 start_of_block from n runs = min (from + n * BLOCK) runs
 
+-- Runs were to be made from one number to before another, and were made to before this one: all of
+-- them, if there is no deadline and none was found.
+abbrev pub IsEnd : (deadline : Option ℕ) → (from to : ℕ) → Option FoundRun → (end : ℕ) → Type 0
+IsEnd deadline from to found end =
+    (from ≤ end)
+    × (end ≤ max from to)
+    × (deadline ≡ None → found ≡ None → end ≡ max from to)
+
 module _ {E : Type 0} (k : Flat) (s : SetupOf) (p : Plan) (from runs : ℕ) where
   -- what block n of a wave came to
   abbrev pub IsBlock : ℕ → Result Block E → Type 0
   IsBlock n r =
-      IfOk r (λ block.
-      (t : Program)
-      → StandsFor k t
-      → let start = start_of_block from n runs in
+      let start = start_of_block from n runs in
       let end = start_of_block from (n + 1) runs in
-      IsTallied t s p.with_deadlock p.seed start end block.found block.tally)
+      IfOk r (λ block.
+      (block.from ≡ start)
+      × IsEnd p.deadline start end block.found block.end
+      × ((t : Program)
+      → StandsFor k t
+      → IsTallied t s p.with_deadlock p.seed start block.end block.found block.tally))
 
   -- the blocks of a wave, from block m on
   abbrev pub AreBlocks : ℕ → List (Result Block E) → Type 0

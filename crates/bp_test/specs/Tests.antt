@@ -1,5 +1,5 @@
 -- What a test of a program finds.
-use Rattle.std.specs.Prelude.{◌≡◌, ◌⊎◌, ◌↔◌, ◌<◌, ◌+◌, ◌-◌, ◌%◌, ◌^◌, ℕ, suc, Bool, true, List, [], ◌∷◌, ◌++◌, Option, None, Some, length, IsTrue, MatchOption}
+use Rattle.std.specs.Prelude.{◌≡◌, ◌⊎◌, ◌↔◌, ◌<◌, ◌≤◌, ◌+◌, ◌-◌, ◌%◌, ◌^◌, ℕ, suc, Bool, true, List, [], ◌∷◌, ◌++◌, Option, None, Some, length, IsTrue, MatchOption}
 use Rattle.bp_tree.specs.Ast.{Program}
 use Rattle.bp_text.specs.Writing.{AppendsAll, AppendsPart}
 use Rattle.bp_machine.specs.declared.calls.Call.{Call}
@@ -152,6 +152,10 @@ module _ (t : Program) (s : SetupOf) (x : TestOptions) (old new : Option (List �
     pub holds : Holds (setup_of_run s x.seed run) history
     pub written : AppendsAll old new (trace_text (setup_of_run s x.seed run) history)
 
+  -- all runs were made, or the time was over before that
+  abbrev pub AreAll : List MadeRun → Type 0
+  AreAll runs = (length runs ≤ x.runs) × (x.seconds ≡ None → length runs ≡ x.runs)
+
   -- what was found, at which instruction an assertion failed, if one did, the threads that wait
   -- then, and the runs up to it
   abbrev pub IsFound : Found → Option ℕ → List Waiting → List MadeRun → Type 0
@@ -159,7 +163,7 @@ module _ (t : Program) (s : SetupOf) (x : TestOptions) (old new : Option (List �
       (new ≡ old)
       × (failed ≡ None)
       × (waiting ≡ [])
-      × (length runs ≡ x.runs)
+      × AreAll runs
       × AreCleanRuns t s x.with_deadlock x.seed 0 runs
   IsFound (found.Failed run report) failed waiting runs =
       IsWrittenRun (λ z h. HasFailed t z h failed × Wait t z h waiting) run report runs

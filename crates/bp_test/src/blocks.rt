@@ -3,9 +3,10 @@ ghost use Rattle.std.specs.Prelude.{◌≡◌, IfOk};
 ghost use Rattle.bp_tree.specs.Ast.{Program};
 ghost use Rattle.bp_code.specs.StandsFor.{StandsFor};
 ghost use Rattle.bp_machine.specs.Setups.{FitsCode};
-ghost use Rattle.bp_test.specs.Blocks.{is_sought};
+ghost use Rattle.bp_test.specs.Blocks.{is_sought, IsEnd};
 ghost use Rattle.bp_test.specs.Tests.{IsTallied};
 
+use crate::deadlines::is_over;
 use crate::failing::failed_instruction;
 use crate::plans::Plan;
 use crate::runs::run_once;
@@ -14,6 +15,7 @@ use crate::waiting::{Waiting, waiting_threads};
 use bp_code::Code;
 use bp_machine::{Call, Outcome, Report, Session, Setup};
 use std::alloc::{AllocError, Global};
+use std::time::Clock;
 
 /// A run that a test looks for.
 #[derive(Drop)]
@@ -33,6 +35,10 @@ pub struct FoundRun {
 /// What a block of runs came to.
 #[derive(Drop)]
 pub struct Block {
+    /// The number of its first run.
+    pub from: u64,
+    /// The number of the run after its last.
+    pub end: u64,
     /// The first run that was looked for. It is the last of the block.
     pub found: Option<FoundRun>,
     pub tally: Tally,
@@ -49,9 +55,10 @@ fn is_sought(report: &Report, is_deadlocked: bool, with_deadlock: bool) -> bool
     }
 }
 
-/// Makes the runs of a plan from `from` to before `to`, until one is found. Blocks of runs stand
-/// apart: none needs another one's memory or answer.
-pub fn first_found(
+/// Makes the runs of a plan from `from` to before `to`, until one is found or the time is over.
+/// Blocks of runs stand apart: none needs another one's memory or answer.
+pub fn first_found<C: Clock>(
+    clock: &C,
     alloc: Global,
     code: &Code,
     setup: &Setup,
@@ -60,16 +67,26 @@ pub fn first_found(
     to: u64,
 ) -> Result<Block, AllocError>
     requires { FitsCode code.now setup.now }
-    ensures { IfOk result (λ block.
+    ensures from { IfOk result (λ block. block.from ≡ from) }
+    ensures end { IfOk result (λ block. IsEnd plan.now.deadline from to block.found block.end) }
+    ensures tallied { IfOk result (λ block.
         (t : Program)
         → StandsFor code.now t
         → let p = plan.now in
-        IsTallied t setup.now p.with_deadlock p.seed from to block.found block.tally) }
+        IsTallied t setup.now p.with_deadlock p.seed from block.end block.found block.tally) }
 {
     let mut session = Session::new(alloc, code, setup)?;
     let mut history = Vec::new(alloc);
     let mut tally = Tally::new(alloc, code, setup)?;
     for run in from..to {
+        if is_over(clock, plan.deadline) {
+            return Ok(Block {
+                from,
+                end: run,
+                found: None,
+                tally,
+            });
+        }
         let seed = plan.seed.wrapping_add(run);
         let lengths = plan.lengths.as_slice();
         session = run_once(session, seed, lengths, &mut history, &mut tally.reached)?;
@@ -86,8 +103,18 @@ pub fn first_found(
                 number,
                 waiting,
             });
-            return Ok(Block { found, tally });
+            return Ok(Block {
+                from,
+                end: run + 1,
+                found,
+                tally,
+            });
         }
     }
-    Ok(Block { found: None, tally })
+    Ok(Block {
+        from,
+        end: from.max(to),
+        found: None,
+        tally,
+    })
 }

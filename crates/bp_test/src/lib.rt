@@ -5,6 +5,7 @@ mod blocks;
 mod candidates;
 mod changes;
 mod counts;
+mod deadlines;
 mod driving;
 mod erasing;
 mod failing;
@@ -25,6 +26,7 @@ mod waves;
 
 pub use blocks::{Block, FoundRun, first_found};
 pub use counts::{Counts, Share};
+pub use deadlines::Runtimes;
 pub use failing::failed_instruction;
 pub use faults::TestFault;
 pub use history_ends::{HistoryEnd, history_end};

@@ -7,6 +7,8 @@ pub struct TestOptions {
     pub seed: u64,
     /// How many runs there are at most.
     pub runs: u64,
+    /// After how many seconds no run begins. Where that is not said, all runs are made.
+    pub seconds: Option<u64>,
     /// How many blocks of runs are made side by side, each in a thread of its own. What is found
     /// does not depend on it. It counts as 1 where it is 0, and as `MAX_JOBS` where it is greater.
     pub jobs: u32,

@@ -7,8 +7,11 @@ use bp_code::Code;
 use bp_machine::{Session, Setup};
 use std::alloc::{AllocError, Global};
 
-/// How many pilots there are.
+/// How many pilots there are at most.
 const PILOTS: u64 = 64;
+
+/// After how many calls no pilot begins, so that long ones do not hold up a test.
+const PILOT_CALLS: u64 = 1_000_000;
 
 /// The first seed, and how many calls runs of the program make.
 #[derive(Drop)]
@@ -17,6 +20,8 @@ pub struct Plan {
     pub seed: u64,
     /// Whether the test also looks for runs that end in a deadlock.
     pub with_deadlock: bool,
+    /// What the clock shows, in milliseconds, when no more run begins.
+    pub deadline: Option<u64>,
     /// The lengths of pilots, over which the switches of runs are spread.
     pub lengths: Vec<u64>,
 }
@@ -35,7 +40,7 @@ fn is_cut_off(session: &Session) -> bool {
 impl Plan {
     /// The plan of a test that begins with this seed. It makes pilots: runs with the first 64 of
     /// its seeds, whose switches are spread over powers of two. The lengths of those that were cut
-    /// off by the allowed calls are not kept. A plan does not depend on the number of runs or of
+    /// off by the allowed calls are not kept. After a million calls no pilot begins. A plan does not depend on the number of runs or of
     /// jobs.
     pub fn new(
         alloc: Global,
@@ -43,25 +48,34 @@ impl Plan {
         setup: &Setup,
         seed: u64,
         with_deadlock: bool,
+        deadline: Option<u64>,
     ) -> Result<Plan, AllocError>
         requires { FitsCode code.now setup.now }
         ensures seed { IfOk result (λ p. p.seed ≡ seed) }
         ensures deadlock { IfOk result (λ p. p.with_deadlock ≡ with_deadlock) }
+        ensures deadline { IfOk result (λ p. p.deadline ≡ deadline) }
     {
         let mut session = Session::new(alloc, code, setup)?;
         let mut history = Vec::new(alloc);
         let mut reached = Vec::new(alloc);
         let mut lengths = Vec::new(alloc);
+        let mut calls: u64 = 0;
         for pilot in 0..PILOTS {
+            if calls >= PILOT_CALLS {
+                break;
+            }
             let own = seed.wrapping_add(pilot);
             session = run_once(session, own, &[], &mut history, &mut reached)?;
+            let length = history.len() as u64;
+            calls = calls.saturating_add(length);
             if !is_cut_off(&session) {
-                lengths.push(history.len() as u64)?;
+                lengths.push(length)?;
             }
         }
         Ok(Plan {
             seed,
             with_deadlock,
+            deadline,
             lengths,
         })
     }

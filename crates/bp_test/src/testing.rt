@@ -6,6 +6,7 @@ ghost use Rattle.bp_machine.specs.Setups.{FitsCode};
 ghost use Rattle.bp_test.specs.Tests.{found_in, IsTest, IsTestRefusal};
 
 use crate::blocks::Block;
+use crate::deadlines::{Runtimes, deadline_after};
 use crate::faults::TestFault;
 use crate::limits::MAX_JOBS;
 use crate::options::TestOptions;
@@ -20,6 +21,7 @@ use bp_trace::write_trace;
 use std::alloc::Global;
 use std::io::Write;
 use std::thread::Threads;
+use std::time::Clock;
 
 /// What a test found.
 #[derive(Clone, Copy, Debug, PartialEq, Eq)]
@@ -56,10 +58,11 @@ fn found_in(run: u64, report: Report) -> Found
 
 /// Makes runs, each with the seed after that of the one before, until an assertion fails, or a run
 /// ends in a deadlock where that is looked for, and then writes the trace of that run. Where none
-/// is found nothing is written. At a refusal nothing is written, but for a writer that refuses: it
+/// is found nothing is written. No run begins after the seconds of the options. The runs that were
+/// made are then the first of those that would have been made without a limit. At a refusal nothing is written, but for a writer that refuses: it
 /// then has a proper prefix of the trace. What `progress` is told changes nothing of that.
-pub fn test<R: Threads + Sync, P: Progress, W: Write>(
-    rt: &R,
+pub fn test<R: Threads + Sync, C: Clock + Sync, P: Progress, W: Write>(
+    rt: &Runtimes<'_, R, C>,
     alloc: Global,
     code: &Code,
     setup: &Setup,
@@ -76,11 +79,13 @@ pub fn test<R: Threads + Sync, P: Progress, W: Write>(
         (IsTest t setup.now options.now old new)
         (IsTestRefusal t setup.now options.now old new) }
 {
-    let plan = Plan::new(alloc, code, setup, options.seed, options.with_deadlock)?;
+    let deadline = deadline_after(rt.clock, options.seconds);
+    let (seed, with_deadlock) = (options.seed, options.with_deadlock);
+    let plan = Plan::new(alloc, code, setup, seed, with_deadlock, deadline)?;
     let jobs = options.jobs.clamp(1, MAX_JOBS) as usize;
     let made = search(rt, alloc, code, setup, &plan, options.runs, jobs, progress);
     progress.end();
-    let Block { found, tally } = made?;
+    let Block { found, tally, .. } = made?;
     let Some(found) = found else {
         return Ok(Tested {
             found: Found::Nothing,
@@ -89,7 +94,7 @@ pub fn test<R: Threads + Sync, P: Progress, W: Write>(
             tally,
         });
     };
-    let seed = options.seed.wrapping_add(found.run);
+    let seed = seed.wrapping_add(found.run);
     let setup = setup.try_copy()?.with_seed(Some(seed));
     write_trace(&setup, found.history.as_slice(), out)?;
     Ok(Tested {

@@ -1,15 +1,16 @@
 //! Waves: blocks of runs that are made side by side.
-ghost use Rattle.std.specs.Prelude.{◌≡◌, ◌<◌, ℕ, List, length, IfOk};
+ghost use Rattle.std.specs.Prelude.{◌≡◌, ◌<◌, ◌+◌, ◌^◌, ℕ, List, length, IfOk};
 ghost use Rattle.bp_tree.specs.Ast.{Program};
 ghost use Rattle.bp_code.specs.Flat.{Flat};
 ghost use Rattle.bp_code.specs.StandsFor.{StandsFor};
 ghost use Rattle.bp_machine.specs.Setups.{SetupOf, FitsCode};
 ghost use Rattle.bp_test.specs.declared.plans.Plan.{Plan as PlanOf};
-ghost use Rattle.bp_test.specs.Blocks.{start_of_block, AreBlocks, IsTalliedAfter};
+ghost use Rattle.bp_test.specs.Blocks.{start_of_block, AreBlocks, IsBlock, IsEnd, IsTalliedAfter};
 ghost use Rattle.bp_test.specs.Tallies.{MadeRun, IsTally};
 ghost use Rattle.bp_test.specs.Tests.{IsTallied};
 
 use crate::blocks::{Block, FoundRun, first_found};
+use crate::deadlines::Runtimes;
 use crate::limits::BLOCK;
 use crate::plans::Plan;
 use crate::progress::Progress;
@@ -19,6 +20,7 @@ use bp_machine::Setup;
 use std::alloc::{AllocError, Global};
 use std::thread;
 use std::thread::Threads;
+use std::time::Clock;
 
 /// Where a block of a wave begins, in a test of this many runs.
 fn start_of_block(from: u64, block: u64, runs: u64) -> u64
@@ -28,8 +30,8 @@ fn start_of_block(from: u64, block: u64, runs: u64) -> u64
 }
 
 /// Makes this many blocks of runs side by side.
-fn wave<R: Threads + Sync>(
-    rt: &R,
+fn wave<R: Threads + Sync, C: Clock + Sync>(
+    rt: &Runtimes<'_, R, C>,
     alloc: Global,
     code: &Code,
     setup: &Setup,
@@ -43,49 +45,72 @@ fn wave<R: Threads + Sync>(
     ensures blocks { IfOk result (λ blocks.
         AreBlocks code.now setup.now plan.now from runs 0 blocks.items) }
 {
+    let clock = rt.clock;
     thread::map_indices(
-        rt,
+        rt.threads,
         alloc,
         jobs,
-        &|n| {
+        &|n: usize| -> Result<Block, AllocError>
+            requires few { n + 1 < 2 ^ 64 }
+            requires fits { FitsCode code.now setup.now }
+            ensures { let k = code.entry.now in let s = setup.entry.now in let p = plan.entry.now in
+                IsBlock k s p from runs n result }
+        {
             let start = start_of_block(from, n as u64, runs);
             let end = start_of_block(from, n as u64 + 1, runs);
-            first_found(alloc, code, setup, plan, start, end)
+            first_found(clock, alloc, code, setup, plan, start, end)
         },
     )
 }
 
-/// The run that was found in the first of these blocks that found one. The runs of the blocks up to
-/// that one are added to the tally.
+/// What a wave came to.
+#[derive(Drop)]
+struct WaveEnd {
+    /// The number of the run after its last.
+    end: u64,
+    found: Option<FoundRun>,
+}
+
+/// What these blocks came to, up to the first that found a run or was cut off by the deadline. The
+/// first run has this number. The runs up to the last that counts are added to the tally.
 fn first_of(
+    start: u64,
     blocks: Vec<Result<Block, AllocError>>,
     tally: &mut Tally,
-) -> Result<Option<FoundRun>, AllocError>
+) -> Result<WaveEnd, AllocError>
     ensures { (k : Flat) (s : SetupOf) (p : PlanOf) (from runs : ℕ)
         → AreBlocks k s p from runs 0 blocks.items
-        → IfOk result (λ found.
+        → start ≡ start_of_block from 0 runs
+        → let last = start_of_block from (length blocks.items) runs in
+        IfOk result (λ wave.
         (t : Program)
         → StandsFor k t
         → (before : List MadeRun)
         → IsTally t s before tally.old
-        → let start = start_of_block from 0 runs in
-        let end = start_of_block from (length blocks.items) runs in
-        IsTalliedAfter before t s p.with_deadlock p.seed start end found tally.new) }
+        → let found = wave.found in
+        IsEnd p.deadline start last found wave.end
+        × IsTalliedAfter before t s p.with_deadlock p.seed start wave.end found tally.new) }
 {
+    let mut end = start;
     for block in blocks {
         let block = block?;
+        if block.from != end {
+            return Ok(WaveEnd { end, found: None });
+        }
         tally.add(&block.tally)?;
+        end = block.end;
         if block.found.is_some() {
-            return Ok(block.found);
+            let found = block.found;
+            return Ok(WaveEnd { end, found });
         }
     }
-    Ok(None)
+    Ok(WaveEnd { end, found: None })
 }
 
-/// Makes this many runs of a plan, in waves of this many blocks, until one is found. After each
-/// wave that found none, `progress` is told.
-pub(crate) fn search<R: Threads + Sync, P: Progress>(
-    rt: &R,
+/// Makes this many runs of a plan, in waves of this many blocks, until one is found or the time is
+/// over. After each wave that found none, `progress` is told.
+pub(crate) fn search<R: Threads + Sync, C: Clock + Sync, P: Progress>(
+    rt: &Runtimes<'_, R, C>,
     alloc: Global,
     code: &Code,
     setup: &Setup,
@@ -100,18 +125,30 @@ pub(crate) fn search<R: Threads + Sync, P: Progress>(
         (t : Program)
         → StandsFor code.now t
         → let p = plan.now in
-        IsTallied t setup.now p.with_deadlock p.seed 0 runs block.found block.tally) }
+        IsEnd p.deadline 0 runs block.found block.end
+        × IsTallied t setup.now p.with_deadlock p.seed 0 block.end block.found block.tally) }
 {
     let mut tally = Tally::new(alloc, code, setup)?;
     let mut from = 0;
     while from < runs {
         let blocks = wave(rt, alloc, code, setup, plan, from, runs, jobs)?;
-        let found = first_of(blocks, &mut tally)?;
-        if found.is_some() {
-            return Ok(Block { found, tally });
+        let WaveEnd { end, found } = first_of(from, blocks, &mut tally)?;
+        let next = start_of_block(from, jobs as u64, runs);
+        if found.is_some() || end != next {
+            return Ok(Block {
+                from: 0,
+                end,
+                found,
+                tally,
+            });
         }
-        from = start_of_block(from, jobs as u64, runs);
+        from = next;
         progress.tell(from, runs);
     }
-    Ok(Block { found: None, tally })
+    Ok(Block {
+        from: 0,
+        end: from,
+        found: None,
+        tally,
+    })
 }

@@ -124,8 +124,8 @@ run_rules =
     ∷ option_rule (codes "init")
     ∷ []
 
--- `[ENTRY].. [--seed N] [--contexts N] [--calls N] [--init BITS] [--runs N] [--jobs N]
--- [--deadlock] [--unreached] [--json]`
+-- `[ENTRY].. [--seed N] [--contexts N] [--calls N] [--init BITS] [--runs N] [--time N]
+-- [--jobs N] [--deadlock] [--unreached] [--json]`
 abbrev pub test_rules : List Rule
 test_rules =
     values_rule (codes "ENTRY")
@@ -134,6 +134,7 @@ test_rules =
     ∷ number_rule (codes "calls")
     ∷ option_rule (codes "init")
     ∷ long_number_rule (codes "runs")
+    ∷ long_number_rule (codes "time")
     ∷ number_rule (codes "jobs")
     ∷ flag_rule (codes "deadlock")
     ∷ flag_rule (codes "unreached")

@@ -115,6 +115,7 @@ IsPlainTestOf file (task.Test words) =
     × (words.named ≡ [])
     × (words.seed ≡ DEFAULT_SEED)
     × (words.runs ≡ DEFAULT_RUNS)
+    × (words.seconds ≡ None)
     × (words.jobs ≡ DEFAULT_JOBS)
     × (words.deadlock ≡ false)
     × (words.unreached ≡ false)

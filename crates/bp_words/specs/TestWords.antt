@@ -4,7 +4,7 @@ use Rattle.clap.specs.Walk.{Row, one_of}
 use Rattle.bp_machine.specs.declared.limits.TheConstants.{DEFAULT_CALLS, MAX_THREADS}
 use Rattle.bp_run.specs.declared.limits.TheConstants.{DEFAULT_SEED}
 use Rattle.bp_test.specs.declared.limits.TheConstants.{DEFAULT_JOBS, DEFAULT_RUNS}
-use Rattle.bp_words.specs.Values.{entries_in, init_in, named_in, value_of, IsFlagOf, IsNumberOf}
+use Rattle.bp_words.specs.Values.{entries_in, init_in, named_in, value_of, IsFlagOf, IsNumberIn, IsNumberOf}
 use Rattle.bp_words.specs.ExplainWords.{IsExplainOf}
 use Rattle.bp_words.specs.declared.test.TestWords.{TestWords}
 
@@ -24,6 +24,7 @@ pub record IsTestOf (rows : List Row) (words : TestWords) : Type 0 where
   pub calls : IsNumberOf 32 DEFAULT_CALLS (one_of (codes "calls") rows) words.start.calls
   pub seed : IsNumberOf 64 DEFAULT_SEED (one_of (codes "seed") rows) words.seed
   pub runs : IsNumberOf 64 DEFAULT_RUNS (one_of (codes "runs") rows) words.runs
+  pub time : IsNumberIn 64 (one_of (codes "time") rows) words.seconds
   pub jobs : IsNumberOf 32 DEFAULT_JOBS (one_of (codes "jobs") rows) words.jobs
   pub deadlock : IsFlagOf (one_of (codes "deadlock") rows) words.deadlock
   pub unreached : IsFlagOf (one_of (codes "unreached") rows) words.unreached

@@ -6,7 +6,7 @@ ghost use Rattle.bp_words.specs.TestWords.{contexts_for, IsTestOf};
 use crate::arguments::{Row, Takes};
 use crate::explain::{ExplainWords, explain_words};
 use crate::rows::{CALLS, ENTRY, INIT};
-use crate::values::{entries, init, is_given, long_number, named, number};
+use crate::values::{entries, given_long_number, init, is_given, long_number, named, number};
 use bp_init::NamedBits;
 use bp_machine::Start;
 use bp_machine::limits::{DEFAULT_CALLS, MAX_THREADS};
@@ -30,6 +30,8 @@ pub struct TestWords<'a> {
     pub seed: u64,
     /// How many runs there are at most.
     pub runs: u64,
+    /// After how many seconds no run begins, if that is said.
+    pub seconds: Option<u64>,
     /// How many blocks of runs are made side by side.
     pub jobs: u32,
     /// Whether `--deadlock` was given: the test then also looks for a run that ends in a deadlock.
@@ -52,7 +54,8 @@ pub const NOTES: &str = "\
     which an assertion failed is printed, and 'btrun replay' takes it. A summary on standard\n\
     error says what was found, and what the runs reached. The first fault is one line there.\n\
     With --json each line on standard error is a JSON object.\n\
-    What is found and printed does not depend on the number of jobs.\n\n\
+    What is found and printed does not depend on the number of jobs. With --time the runs are the\n\
+    first of those that would be made without it.\n\n\
     Example:\n  btrun test race.bp writer reader --contexts 4 --runs 100000\n\n\
     Exit status:\n  0  nothing was found in any run\n  \
     1  an assertion failed, or a run ended in a deadlock\n  \
@@ -60,7 +63,7 @@ pub const NOTES: &str = "\
     3  memory, a device or the output failed";
 
 /// The arguments of the command after its file.
-pub static ROWS: [Row<'static>; 10] = [
+pub static ROWS: [Row<'static>; 11] = [
     ENTRY,
     Row {
         name: "seed",
@@ -78,6 +81,11 @@ pub static ROWS: [Row<'static>; 10] = [
         name: "runs",
         takes: Takes::LongNumber,
         help: "Make at most N runs [default: 10000]",
+    },
+    Row {
+        name: "time",
+        takes: Takes::LongNumber,
+        help: "Begin no run after N seconds",
     },
     Row {
         name: "jobs",
@@ -129,6 +137,7 @@ pub fn test_words<'a>(alloc: Global, words: &ArgMatches<'a>) -> Result<TestWords
         named: named(alloc, words)?,
         seed: long_number(words, "seed", DEFAULT_SEED),
         runs: long_number(words, "runs", DEFAULT_RUNS),
+        seconds: given_long_number(words, "time"),
         jobs: number(words, "jobs", DEFAULT_JOBS),
         deadlock: is_given(words, "deadlock"),
         unreached: is_given(words, "unreached"),

@@ -72,6 +72,7 @@ abbrev pub test_options : TestWords → TestOptions
 test_options words = record {
   seed = words.seed;
   runs = words.runs;
+  seconds = words.seconds;
   jobs = words.jobs;
   with_deadlock = words.deadlock;
 }

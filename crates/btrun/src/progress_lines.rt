@@ -10,6 +10,8 @@ use std::time::Instant;
 pub struct ProgressLine<'a> {
     pub rt: &'a HostRuntime,
     pub start: Option<Instant>,
+    /// The seconds that the test has, where they are limited.
+    pub seconds: Option<u64>,
 }
 
 impl Progress for ProgressLine<'_> {
@@ -22,7 +24,7 @@ impl Progress for ProgressLine<'_> {
         };
         let millis = u64::try_from(passed.as_millis()).unwrap_or(u64::MAX);
         // Where standard error fails, the test goes on.
-        let _ = put_progress(done, runs, millis, &mut self.rt.stderr());
+        let _ = put_progress(done, runs, millis, self.seconds, &mut self.rt.stderr());
     }
 
     fn end(&self) {

@@ -68,6 +68,14 @@ fn has_json(task: &Task<'_>) -> bool {
     }
 }
 
+/// The seconds that a task has, where they are limited.
+fn seconds_of(task: &Task<'_>) -> Option<u64> {
+    match task {
+        Task::Test(words) => words.seconds,
+        _ => None,
+    }
+}
+
 /// The line of progress of a test that starts now.
 fn progress_line<'a>(rt: &'a HostRuntime, task: &Task<'_>) -> ProgressLine<'a> {
     let is_asked_not_to = has_json(task) || is_set(rt, "NO_PROGRESS");
@@ -77,7 +85,11 @@ fn progress_line<'a>(rt: &'a HostRuntime, task: &Task<'_>) -> ProgressLine<'a> {
     } else {
         None
     };
-    ProgressLine { rt, start }
+    ProgressLine {
+        rt,
+        start,
+        seconds: seconds_of(task),
+    }
 }
 
 /// What is said where nobody gave a command, and standard input is a terminal.
@@ -109,6 +121,7 @@ fn do_on_host<T: Threads + Wait + Clock + Sync>(
     let io = Io {
         alloc,
         files: &files,
+        clock: rt,
         screen: screen(rt),
         on_terminal: explains_faults(rt),
     };

@@ -40,6 +40,8 @@ pub struct Screen {
 pub struct Io<'a, F> {
     pub alloc: Global,
     pub files: &'a F,
+    /// What tells the time.
+    pub clock: &'a HostRuntime,
     /// How lines are shown on standard output.
     pub screen: Screen,
     /// Whether faults are explained if no option says so, as on a terminal.
@@ -102,6 +104,7 @@ fn test_options(words: &TestWords<'_>) -> TestOptions
     TestOptions {
         seed: words.seed,
         runs: words.runs,
+        seconds: words.seconds,
         jobs: words.jobs,
         with_deadlock: words.deadlock,
     }
@@ -124,7 +127,8 @@ fn test_as_asked<F: Files, T: Threads + Sync, P: Progress, W: Write + Drop, E: W
         IsRun job written result.0 }
 {
     let test = Test {
-        runtime: threads,
+        threads,
+        clock: io.clock,
         progress,
         start: NamedStart {
             start: &words.start,

@@ -3,16 +3,17 @@ use Rattle.std.proofs.lemmas.List.{length_push}
 use Rattle.bp_machine.specs.Setups.{SetupOf}
 use Rattle.bp_test.specs.Tallies.{made}
 use Rattle.bp_test.specs.Tests.{setup_of_run, IsCleanRun}
+use Rattle.bp_test.proofs.BlocksInOrder.{some_of}
 use Rattle.bp_test.proofs.FirstFound.{clean_one}
 use Rattle.bp_test.proofs.RunsOfTests.{fits_again, reseeded, clean_run, reaches_is, sought_run, waits_there, fails_there}
 use Rattle.bp_test.proofs.TallyLemmas.{same_counts, tally_run}
 use Rattle.bp_test.proofs.blocks.first_found.Goals as goal
 
 pub run_once-requires : goal.run_once-requires
-run_once-requires c = fits_again c.args.code.now c.loop-run.session.code c.loop-run.session.setup c.args.setup.now c.loop-run.invariant.code c.loop-run.invariant.setup c.requires
+run_once-requires g c = fits_again c.args.code.now c.loop-run.session.code c.loop-run.session.setup c.args.setup.now c.loop-run.invariant.code c.loop-run.invariant.setup c.requires
 
 pub loop-run-init : goal.loop-run-init
-loop-run-init c = record {
+loop-run-init g c = record {
   code = c.in_ok-session.ensures.kept.0;
   setup = λ n. ap {A = SetupOf} (λ y. record y { seed = Some n }) c.in_ok-session.ensures.kept.1;
   earlier = [];
@@ -22,8 +23,25 @@ loop-run-init c = record {
   tallied = c.in_ok-tally.ensures;
 }
 
-pub returns-then-is_sought : goal.returns-then-is_sought
-returns-then-is_sought c = λ t is.
+pub returns-then-is_over-clause-end : goal.returns-then-is_over-clause-end
+returns-then-is_over-clause-end g c =
+    let low = c.loop-run.auto.run in
+    let high = c.loop-run.invariant.ahead in
+    (omega (arith, low), high, λ untimed none. absurd (let over = sym (c.is_over.ensures untimed) ∙ c.if-is_over.true in cc))
+
+pub returns-then-is_over-clause-tallied : goal.returns-then-is_over-clause-tallied
+returns-then-is_over-clause-tallied g c = λ t is.
+    let before = c.loop-run.invariant in
+    record { runs = before.earlier; first = (before.count, before.clean t is); tallied = before.tallied t is }
+
+pub returns-then-is_sought-clause-end : goal.returns-then-is_sought-clause-end
+returns-then-is_sought-clause-end g c =
+    let low = c.loop-run.auto.run in
+    let high = c.loop-run-test.true in
+    (omega (arith, low), omega (arith, high), λ untimed none. absurd (some_of (Some _) refl none))
+
+pub returns-then-is_sought-clause-tallied : goal.returns-then-is_sought-clause-tallied
+returns-then-is_sought-clause-tallied g c = λ t is.
     let before = c.loop-run.invariant in
     let now = c.in_ok-session-2 in
     let run = made c.run_once.new.history.items c.report-report.result c.is_deadlocked-is_deadlocked.result in
@@ -34,7 +52,7 @@ returns-then-is_sought c = λ t is.
         deadlocked = c.is_deadlocked-is_deadlocked.result;
         whole = refl;
         number = let count = before.count in let after = c.loop-run.auto.run in omega (arith, count, after);
-        below = c.loop-run-test.true;
+        below = omega arith;
         clean = before.clean t is;
         found = sought_run c.args.code.now c.args.setup.now c.args.plan.now.with_deadlock c.args.plan.now.seed c.loop-run.run c.loop-run.session now.session c.run_once.new.history.items _ refl before.code before.setup now.ensures.code now.ensures.setup
             now.ensures.stands now.ensures.over c.report-report.result c.report-report.ensures c.is_deadlocked-is_deadlocked.result c.is_deadlocked-is_deadlocked.ensures (sym c.is_sought.ensures ∙ c.if-is_sought.true) t is;
@@ -51,7 +69,7 @@ returns-then-is_sought c = λ t is.
     }
 
 pub loop-run-preserved : goal.loop-run-preserved
-loop-run-preserved c =
+loop-run-preserved g c =
     let before = c.loop-run.invariant in
     let now = c.in_ok-session-2 in
     let run = made c.run_once.new.history.items c.report-report.result c.is_deadlocked-is_deadlocked.result in
@@ -74,8 +92,11 @@ loop-run-preserved c =
           (rw c.as_slice.ensures.value at (c.in_ok-add_run.ensures.counted c.args.setup.now before.earlier (same_counts c.args.setup.now before.earlier c.loop-run.tally _ refl refl refl refl refl refl (before.tallied t is).counted)));
     }
 
-pub returns : goal.returns
-returns c = λ t is.
+pub returns-clause-end : goal.returns-clause-end
+returns-clause-end g c = let most = c.max.ensures in (omega (arith, most), omega (arith, most), λ untimed none. most)
+
+pub returns-clause-tallied : goal.returns-clause-tallied
+returns-clause-tallied g c = λ t is.
     let before = c.loop-run.invariant in
     record {
       runs = before.earlier;
@@ -83,7 +104,8 @@ returns c = λ t is.
         (let count = before.count in
             let ahead = before.ahead in
             let past = c.loop-run-test.false in
-            let after = c.loop-run.auto.run in omega (arith, count, ahead, past, after)),
+            let after = c.loop-run.auto.run in
+            let most = c.max.ensures in omega (arith, count, ahead, past, after, most)),
         before.clean t is,
       );
       tallied = before.tallied t is;

@@ -7,7 +7,7 @@ use Rattle.bp_test.proofs.RunsOfTests.{IsReseeded}
 use Rattle.bp_test.proofs.blocks.first_found.Given as goal
 
 abbrev pub invariant-loop-run : goal.invariant-loop-run
-invariant-loop-run l = record {
+invariant-loop-run g l = record {
   code : l.session.code ≡ l.fn.code;
   setup : IsReseeded l.session.setup l.fn.setup;
   earlier : List MadeRun;

@@ -5,7 +5,7 @@ use Rattle.bp_code.specs.Flat.{Flat}
 use Rattle.bp_code.specs.StandsFor.{StandsFor}
 use Rattle.bp_machine.specs.Setups.{SetupOf}
 use Rattle.bp_test.specs.declared.plans.Plan.{Plan}
-use Rattle.bp_test.specs.Blocks.{AreBlocks}
+use Rattle.bp_test.specs.Blocks.{start_of_block, AreBlocks}
 use Rattle.bp_test.specs.Tallies.{MadeRun, IsTally}
 use Rattle.bp_test.proofs.BlocksInOrder.{IsBefore}
 use Rattle.bp_test.proofs.waves.first_of.Given as goal
@@ -17,7 +17,8 @@ invariant-loop-block l = record {
   count : into_iter_len l.block-iterator ≡ length (into_iter_items l.block-iterator);
   before : (k : Flat) (s : SetupOf) (p : Plan) (from runs : ℕ)
       → AreBlocks k s p from runs 0 l.fn.blocks.items
+      → l.fn.start ≡ start_of_block from 0 runs
       → (t : Program) (is : StandsFor k t) (earlier : List MadeRun)
       → IsTally t s earlier l.fn.tally
-      → IsBefore k s p from runs t is earlier l.fn.blocks.items (into_iter_items l.block-iterator) l.tally;
+      → IsBefore k s p from runs t is earlier l.fn.blocks.items (into_iter_items l.block-iterator) l.end l.tally;
 }

@@ -1,26 +1,48 @@
-use Rattle.std.proofs.Common.{None, sym, ◌∙◌, subst, arith}
+use Rattle.std.proofs.Common.{None, sym, ◌≡◌, ◌∙◌, subst, arith}
 use Rattle.bp_test.specs.Blocks.{start_of_block}
 use Rattle.bp_test.specs.Tests.{IsTallied}
-use Rattle.bp_test.proofs.BlocksInOrder.{found_in_wave, clean_after_wave}
+use Rattle.bp_test.proofs.BlocksInOrder.{none_of, some_of, after_wave}
+use Rattle.bp_test.proofs.waves.search.Goals.{then-is_some-via-then-is_some, then-is_some-via-else-is_some+then-end-next}
 use Rattle.bp_test.proofs.waves.search.Goals as goal
 
 pub returns-then-is_some : goal.returns-then-is_some
 returns-then-is_some g c = λ t is.
     let s = c.args.setup.now in
     let p = c.args.plan.now in
+    let from = c.loop-from.from in
+    let within = c.loop-from.invariant.within in
     let was = c.loop-from.invariant.tallied t is in
-    let wave = c.in_ok-found.ensures c.args.code.now s p c.loop-from.from c.args.runs c.in_ok-blocks.ensures.blocks t is was.runs was.tallied in
-    found_in_wave t s p.with_deadlock p.seed c.loop-from.from c.args.runs _ c.loop-from.invariant.within was.runs was.first.0 was.first.1 _ c.in_ok-found.found (sym c.is_some.ensures ∙ c.if-is_some.true) wave
+    let here : from ≡ start_of_block from 0 c.args.runs = omega (arith, within) in
+    let wave = c.in_ok-end.ensures c.args.code.now s p from c.args.runs c.in_ok-blocks.ensures.blocks here t is was.runs was.tallied in
+    let high = wave.0.1 in
+    let next = c.start_of_block-next.ensures in
+    let count = c.in_ok-blocks.ensures.count in (
+      (
+        omega arith,
+        omega (arith, high, within),
+        λ untimed none. let same = wave.0.2 untimed none in elim c.then-is_some.branch [
+          | then-is_some-via-then-is_some w ↦ absurd (some_of _ (sym c.is_some.ensures ∙ w.if-is_some.true) none)
+          | then-is_some-via-else-is_some+then-end-next w ↦ absurd (w.if-end-next.true (omega (arith, same, next, count, within)))
+        ],
+      ),
+      after_wave t s p.with_deadlock p.seed from _ wave.0.0 was.runs was.first.0 was.first.1 _ _ wave.1,
+    )
 
 pub loop-from-preserved : goal.loop-from-preserved
-loop-from-preserved g c =
-    let s = c.args.setup.now in
-    let p = c.args.plan.now in
-    let next = c.start_of_block-from.ensures in record {
-      within = grind (arith, next);
-      tallied = λ t is.
-          let was = c.loop-from.invariant.tallied t is in
-          let wave = c.in_ok-found.ensures c.args.code.now s p c.loop-from.from c.args.runs c.in_ok-blocks.ensures.blocks t is was.runs was.tallied in
-          let after = clean_after_wave t s p.with_deadlock p.seed c.loop-from.from c.args.runs _ c.loop-from.invariant.within was.runs was.first.0 was.first.1 _ c.in_ok-found.found (sym c.is_some.ensures ∙ c.if-is_some.false) wave in
-          subst (λ n. IsTallied t s p.with_deadlock p.seed 0 n None c.first_of.new.tally) (sym next) (subst (λ n. IsTallied t s p.with_deadlock p.seed 0 (start_of_block c.loop-from.from n c.args.runs) None c.first_of.new.tally) c.in_ok-blocks.ensures.count after);
-    }
+loop-from-preserved g c = record {
+  within = let next = c.start_of_block-next.ensures in omega (arith, next);
+  tallied = λ t is.
+      let s = c.args.setup.now in
+      let p = c.args.plan.now in
+      let from = c.loop-from.from in
+      let within = c.loop-from.invariant.within in
+      let was = c.loop-from.invariant.tallied t is in
+      let here : from ≡ start_of_block from 0 c.args.runs = omega (arith, within) in
+      let wave = c.in_ok-end.ensures c.args.code.now s p from c.args.runs c.in_ok-blocks.ensures.blocks here t is was.runs was.tallied in
+      let end = c.in_ok-end.field-0.end in
+      let found = c.in_ok-end.field-0.found in
+      let tally = c.first_of.new.tally in
+      let after = after_wave t s p.with_deadlock p.seed from end wave.0.0 was.runs was.first.0 was.first.1 found tally wave.1 in
+      let none = none_of found (sym c.is_some.ensures ∙ c.if-is_some.false) in
+      subst (λ n. IsTallied t s p.with_deadlock p.seed 0 n None tally) c.if-end-next.false (subst (λ o. IsTallied t s p.with_deadlock p.seed 0 end o tally) none after);
+}

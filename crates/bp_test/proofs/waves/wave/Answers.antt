@@ -1,11 +1,14 @@
 use Rattle.std.proofs.Common.{rules}
-use denote.Param.Send.{sendable}
+use denote.Param.{param}
+use denote.Param.Send.{sendable, IsSync}
 use Rattle.std.proofs.Crossing.{crosses}
 use Rattle.bp_test.proofs.CodesShared.{code_sync, setup_sync, plan_sync}
 use Rattle.bp_test.proofs.waves.wave.Goals as goal
 
 pub map_indices-requires-sync-F : goal.map_indices-requires-sync-F
-map_indices-requires-sync-F g c κs within = search (sendable, crosses, code_sync, setup_sync, plan_sync) depth 40 fits 10000
+map_indices-requires-sync-F g c κs within =
+    let clock : IsSync (param 1 g.row.C) = c.type_bounds.sync-C in
+    search (sendable, crosses, code_sync, setup_sync, plan_sync) depth 40 fits 100000
 
 pub returns-clause-blocks : goal.returns-clause-blocks
 returns-clause-blocks g c = search rules depth 1

@@ -26,6 +26,7 @@ returns c =
       calls = c.number-2.ensures;
       seed = c.long_number.ensures;
       runs = c.long_number-2.ensures;
+      time = c.given_long_number.ensures;
       jobs = c.number-3.ensures;
       deadlock = c.is_given.ensures;
       unreached = c.is_given-2.ensures;
