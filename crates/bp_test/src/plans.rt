@@ -40,8 +40,8 @@ fn is_cut_off(session: &Session) -> bool {
 impl Plan {
     /// The plan of a test that begins with this seed. It makes pilots: runs with the first 64 of
     /// its seeds, whose switches are spread over powers of two. The lengths of those that were cut
-    /// off by the allowed calls are not kept. After a million calls no pilot begins. A plan does not depend on the number of runs or of
-    /// jobs.
+    /// off by the allowed calls are not kept. After a million calls no pilot begins. A plan does
+    /// not depend on the number of runs or of jobs.
     pub fn new(
         alloc: Global,
         code: &Code,

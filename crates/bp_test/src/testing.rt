@@ -59,8 +59,9 @@ fn found_in(run: u64, report: Report) -> Found
 /// Makes runs, each with the seed after that of the one before, until an assertion fails, or a run
 /// ends in a deadlock where that is looked for, and then writes the trace of that run. Where none
 /// is found nothing is written. No run begins after the seconds of the options. The runs that were
-/// made are then the first of those that would have been made without a limit. At a refusal nothing is written, but for a writer that refuses: it
-/// then has a proper prefix of the trace. What `progress` is told changes nothing of that.
+/// made are then the first of those that would have been made without a limit. At a refusal nothing
+/// is written, but for a writer that refuses: it then has a proper prefix of the trace. What
+/// `progress` is told changes nothing of that.
 pub fn test<R: Threads + Sync, C: Clock + Sync, P: Progress, W: Write>(
     rt: &Runtimes<'_, R, C>,
     alloc: Global,
