@@ -4,6 +4,8 @@
 //!
 //! Usage: test RUNS CONTEXTS CALLS SEED
 const PILOTS: u64 = 64;
+const COMPARED: usize = 1 << 20;
+const NOWHERE: u32 = 1 << 20;
 const POWERS: u32 = 14;
 const FEW: u32 = 2;
 const SCHEDULE_STREAM: u64 = 118;
@@ -150,6 +152,13 @@ struct Test<'a> {
     used: u32,
     last: Option<u32>,
     history: Vec<Call>,
+    /// Of the threads and instructions of the steps.
+    key: u64,
+}
+
+/// Any number that mixes well will do.
+fn mixed(key: u64, thread: u32, number: u32) -> u64 {
+    (key.rotate_left(5) ^ u64::from(number << 6 | thread)).wrapping_mul(0x517c_c1b7_2722_0a95)
 }
 
 impl Test<'_> {
@@ -158,6 +167,7 @@ impl Test<'_> {
         self.used = 0;
         self.last = None;
         self.history.clear();
+        self.key = 1;
         for (number, thread) in self.threads.iter_mut().enumerate() {
             thread.frames.clear();
             thread.frames.push(ENTRIES[number]);
@@ -205,6 +215,12 @@ impl Test<'_> {
         reply
     }
 
+    /// The key of the steps, and of where the threads stand in the end.
+    fn end_key(&self) -> u64 {
+        let stands = self.threads.iter().map(|guest| *guest.frames.last().unwrap_or(&NOWHERE));
+        stands.enumerate().fold(self.key, |key, (thread, number)| mixed(key, thread as u32, number))
+    }
+
     fn reply_to(&mut self, thread: u32) -> Reply {
         let guest = &mut self.threads[thread as usize];
         let Some(number) = guest.frames.last_mut() else {
@@ -218,6 +234,7 @@ impl Test<'_> {
         }
         self.used = used;
         self.last = Some(thread);
+        self.key = mixed(self.key, thread, *number);
         match &self.code[*number as usize] {
             Instr::Skip(next) | Instr::Assume(_, next) => *number = *next,
             Instr::Call(callee, next) => {
@@ -343,6 +360,7 @@ struct Tally {
     deadlocked: u64,
     contexts: Vec<u64>,
     stepped: [bool; 2],
+    keys: Vec<u64>,
 }
 
 impl Tally {
@@ -355,6 +373,9 @@ impl Tally {
             self.contexts.push(0);
         }
         self.contexts[test.used as usize] += 1;
+        if self.keys.len() < COMPARED {
+            self.keys.push(test.end_key());
+        }
         let (mut refused, mut ended, mut has_failed) = (false, 0, false);
         for call in &test.history {
             match call.reply {
@@ -381,6 +402,13 @@ impl Tally {
         }
     }
 
+    /// How many runs were different, and how many no other one was like.
+    fn distinct(&mut self) -> (usize, usize) {
+        self.keys.sort_unstable();
+        let runs = self.keys.chunk_by(|a, b| a == b);
+        runs.fold((0, 0), |(all, once), like| (all + 1, once + usize::from(like.len() == 1)))
+    }
+
     /// The least, the middle and the greatest number of contexts.
     fn contexts_used(&self) -> (usize, usize, usize) {
         let (half, mut before, mut used) = (self.runs.div_ceil(2), 0, (0, 0, 0));
@@ -405,7 +433,7 @@ fn main() {
     let code = program();
     let thread = |_| Thread { frames: Vec::new(), calls: 0, is_ended: false, choices: Generator::new(0, 0), word: 0, place: 0 };
     let threads = (0..ENTRIES.len()).map(thread).collect();
-    let mut test = Test { code: &code, contexts, calls, globals: 0, threads, used: 0, last: None, history: Vec::new() };
+    let mut test = Test { code: &code, contexts, calls, globals: 0, threads, used: 0, last: None, history: Vec::new(), key: 1 };
     let mut lengths = Vec::new();
     let mut reached = vec![false; code.len()];
     for pilot in 0..PILOTS {
@@ -442,6 +470,9 @@ fn main() {
     );
     eprintln!("contexts: least {least}, middle {middle}, most {most}");
     eprintln!("reached: statements {tried} of {statements}, assertions {asserted} of 1, threads {stepped} of 2");
+    let compared = tally.keys.len();
+    let (different, once) = tally.distinct();
+    eprintln!("distinct: runs {different} of {compared}, seen once {once}");
     let notes = [
         (test.contexts < 2, "fewer contexts than threads; raise --contexts"),
         (tally.runs > 0 && asserted == 0, "no run reached an assertion"),

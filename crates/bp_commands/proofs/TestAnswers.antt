@@ -20,6 +20,7 @@ use Rattle.bp_test.specs.declared.testing.Found.TheVariants.{Nothing, Failed, De
 use Rattle.bp_test.specs.declared.testing.Tested.{Tested as Made}
 use Rattle.bp_test.specs.declared.waiting.Waiting.{Waiting}
 use Rattle.bp_test.specs.Counts.{AreCounts}
+use Rattle.bp_test.specs.Distinct.{AreDistinct}
 use Rattle.bp_test.specs.Tallies.{MadeRun, made as made_of, HasReached, IsCounted}
 use Rattle.bp_test.specs.Tests.{setup_of_run, IsFound, IsTest, IsTestRefusal, IsWrittenRun}
 use Rattle.bp_commands.specs.Commands.{IsDoneWith, IsRefusedWith}
@@ -79,11 +80,12 @@ module _ (start : StartOf) (x : TestOptions) (listed : Option (List ℕ)) (json 
     }
 
     pub done : (made : Made) → IsTest t s x old new made → (tested : Tested) → tested.found ≡ made.found → tested.failed ≡ made.failed → tested.waiting ≡ made.waiting → tested.positions.items ≡ positions_of text t → AreStatements text (places_of t.procedures) (map (λ v. v.items) tested.statements.items) → tested.reached ≡ made.tally.reached
+        → AreDistinct made.tally.keys.items tested.distinct
         → ((z : SetupOf) (runs : List MadeRun) → length runs < 2 ^ 64 → IsCounted z runs made.tally → AreCounts z runs tested.counts)
         → tested.notes ≡ notes_of tested.found s.contexts tested.counts
         → tested.options ≡ x → tested.json ≡ json → AreListed json listed text t (map (λ v. v.items) tested.lines.items)
         → IsDoneWith (tests start x listed json) old new text tested
-    done made test tested found_is failed_is waiting_is positions statements reached_is counts notes options form lines =
+    done made test tested found_is failed_is waiting_is positions statements reached_is distinct counts notes options form lines =
         let of_setup = subst (λ y. IsTest t y x old new made) setup test in
         let found = alone tested.found tested.failed tested.waiting.items of_setup.runs (subst (λ v. IsFound t taken x old new tested.found tested.failed v.items of_setup.runs) (sym waiting_is) (subst (λ n. IsFound t taken x old new tested.found n made.waiting.items of_setup.runs) (sym failed_is) (subst (λ f. IsFound t taken x old new f made.failed made.waiting.items of_setup.runs) (sym found_is) of_setup.found))) in record {
           text = found.text_is;
@@ -93,6 +95,7 @@ module _ (start : StartOf) (x : TestOptions) (listed : Option (List ℕ)) (json 
             found = found.found;
             counted = counts taken of_setup.runs of_setup.few of_setup.tallied.counted;
             reached = subst (λ v. HasReached t taken of_setup.runs v.items) (sym reached_is) of_setup.tallied.reached;
+            distinct = record { keys = made.tally.keys.items; are = of_setup.tallied.keys; distinct = distinct };
             positions_are = positions;
             statements_are = statements;
             notes_are = notes ∙ ap (λ z. notes_of tested.found z.contexts tested.counts) setup;

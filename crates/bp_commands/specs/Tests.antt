@@ -12,6 +12,7 @@ use Rattle.bp_test.specs.declared.options.TestOptions.{TestOptions}
 use Rattle.bp_test.specs.declared.testing.Found.{Found}
 use Rattle.bp_test.specs.declared.testing.Found.TheVariants.{Nothing, Failed, Deadlock}
 use Rattle.bp_test.specs.Counts.{AreCounts}
+use Rattle.bp_test.specs.Distinct.{AreDistinctRuns}
 use Rattle.bp_test.specs.Tallies.{MadeRun, HasReached}
 use Rattle.bp_test.specs.Tests.{IsFound, IsSought, IsWrittenRun}
 use Rattle.bp_messages.specs.declared.faults.Fault.{Fault}
@@ -89,6 +90,9 @@ module _
     pub counted :
         let t = testable.program in
         AreCounts (setup_from start None t) runs tested.counts
+    pub distinct :
+        let t = testable.program in
+        AreDistinctRuns t (setup_from start None t) runs tested.distinct
     pub reached :
         let t = testable.program in
         HasReached t (setup_from start None t) runs tested.reached.items

@@ -16,7 +16,9 @@ use bp_init::NamedStart;
 use bp_machine::Start;
 use bp_messages::{Fault, Notes, Tested, notes_of, put_summary, put_summary_objects};
 use bp_source::{statement_lines, statement_positions, statement_texts, unreached_objects};
-use bp_test::{Counts, Found, Progress, Runtimes, TestOptions, Waiting, test};
+use bp_test::{
+    Counts, Distinct, Found, Progress, Runtimes, Tally, TestOptions, Waiting, distinct_of, test,
+};
 use bp_text::{Position, WriteFault};
 use std::alloc::{AllocError, Global};
 use std::io::Write;
@@ -142,17 +144,25 @@ fn test_from<R: Threads + Sync, P: Progress, W: Write>(
     let tested = test(&runtimes, alloc, &code, &setup, &options, progress, out)?;
     let counts = tested.tally.counts(&code);
     let notes = notes_of(tested.found, setup.contexts(), &counts);
+    let bp_test::Tested {
+        found,
+        failed,
+        waiting,
+        tally,
+    } = tested;
+    let Tally { reached, keys, .. } = tally;
     Ok(Tested {
         options,
-        found: tested.found,
-        failed: tested.failed,
-        waiting: tested.waiting,
+        found,
+        failed,
+        waiting,
         positions: described.positions,
         statements: described.statements,
         counts,
+        distinct: distinct_of(keys),
         notes,
         lines: described.lines,
-        reached: tested.tally.reached,
+        reached,
         json: asked.json,
     })
 }

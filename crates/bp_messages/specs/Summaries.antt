@@ -3,6 +3,7 @@ use Rattle.std.specs.Prelude.{if◌then◌else◌, ◌==◌, ℕ, Bool, true, fa
 use Rattle.std.specs.declared.alloc.Global.{Global}
 use Rattle.std.specs.List.{concat}
 use Rattle.bp_test.specs.declared.counts.Counts.{Counts}
+use Rattle.bp_test.specs.declared.distinct.Distinct.{Distinct}
 use Rattle.bp_test.specs.declared.testing.Found.{Found}
 use Rattle.bp_test.specs.declared.testing.Found.TheVariants.{Nothing, Failed, Deadlock}
 use Rattle.bp_messages.specs.declared.tested.Tested.{Tested}
@@ -68,6 +69,15 @@ counts_text x =
     ∷ codes " of " ∷ decimal x.threads.all
     ∷ codes "\n" ∷ [])
 
+-- how many of the runs were different
+abbrev pub distinct_text : Distinct → List ℕ
+distinct_text x =
+    concat (
+    codes "distinct: runs " ∷ decimal x.runs
+    ∷ codes " of " ∷ decimal x.of
+    ∷ codes ", seen once " ∷ decimal x.once
+    ∷ codes "\n" ∷ [])
+
 -- the line of a statement that was not reached
 abbrev pub line_unless : Bool → Vec ℕ Global → List ℕ
 line_unless true line = []
@@ -84,4 +94,5 @@ abbrev pub summary_text : Tested → List ℕ
 summary_text x =
     finding_text x x.found
     ++ (counts_text x.counts
-    ++ (notes_text x.notes ++ unreached_text x.lines.items x.reached.items))
+    ++ (distinct_text x.distinct
+    ++ (notes_text x.notes ++ unreached_text x.lines.items x.reached.items)))

@@ -3,6 +3,7 @@
 use Rattle.std.specs.Prelude.{ℕ, List, [], ◌∷◌, ◌++◌, Option, None, Some, codes, decimal}
 use Rattle.std.specs.List.{concat}
 use Rattle.bp_test.specs.declared.counts.Counts.{Counts}
+use Rattle.bp_test.specs.declared.distinct.Distinct.{Distinct}
 use Rattle.bp_test.specs.declared.testing.Found.{Found}
 use Rattle.bp_test.specs.declared.testing.Found.TheVariants.{Nothing, Failed, Deadlock}
 use Rattle.bp_text.specs.JsonStrings.{string_text}
@@ -56,13 +57,23 @@ counts_members x =
     ∷ key_text (codes "all") ∷ decimal x.threads.all
     ∷ codes "}" ∷ [])
 
+-- how many of the runs were different
+abbrev pub distinct_member : Distinct → List ℕ
+distinct_member x =
+    concat (
+    codes ",\"distinct\":{\"runs\":" ∷ decimal x.runs
+    ∷ key_text (codes "of") ∷ decimal x.of
+    ∷ key_text (codes "once") ∷ decimal x.once
+    ∷ codes "}" ∷ [])
+
 abbrev pub summary_object : Tested → List ℕ
 summary_object x =
     let failure = failed_assertion x in
     finding_members x.found x.options.runs
     ++ (failure_member failure (statement_of x.statements.items failure)
     ++ (waits_member x.positions.items x.waiting.items
-    ++ (counts_members x.counts ++ notes_members x.notes)))
+    ++ (counts_members x.counts
+    ++ (distinct_member x.distinct ++ notes_members x.notes))))
 
 -- the summary, and the objects of the statements that were not reached
 abbrev pub summary_objects : Tested → List ℕ

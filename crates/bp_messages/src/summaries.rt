@@ -1,14 +1,14 @@
 //! The summary of a test: what was found, and how well the program was tested.
 ghost use Rattle.std.specs.Prelude.{◌≡◌};
 ghost use Rattle.bp_text.specs.Writing.{Writes};
-ghost use Rattle.bp_messages.specs.Summaries.{counts_text, deadlock_text, finding_text, found_words};
+ghost use Rattle.bp_messages.specs.Summaries.{counts_text, deadlock_text, distinct_text, finding_text, found_words};
 ghost use Rattle.bp_messages.specs.Summaries.{line_unless, nothing_text, nothing_words, summary_text, unreached_text};
 
 use crate::failures::{failed_assertion, put_failure, statement_of};
 use crate::notes::put_notes;
 use crate::tested::Tested;
 use crate::waits::put_waits;
-use bp_test::{Counts, Found};
+use bp_test::{Counts, Distinct, Found};
 use bp_text::Piece::{Bytes, Number};
 use bp_text::{WriteFault, put, put_pieces};
 use std::io::Write;
@@ -147,6 +147,25 @@ fn put_counts<W: Write>(counts: &Counts, out: &mut W) -> Result<(), WriteFault>
     )
 }
 
+/// Writes how many of the runs were different.
+fn put_distinct<W: Write>(distinct: Distinct, out: &mut W) -> Result<(), WriteFault>
+    ensures { let text = distinct_text distinct in
+        Writes (W.contents out.old) (W.contents out.new) text result }
+{
+    put_pieces(
+        out,
+        &[
+            Bytes(b"distinct: runs "),
+            Number(distinct.runs),
+            Bytes(b" of "),
+            Number(distinct.of),
+            Bytes(b", seen once "),
+            Number(distinct.once),
+            Bytes(b"\n"),
+        ],
+    )
+}
+
 /// The line of a statement that was not reached.
 fn line_unless(is_reached: bool, line: &Vec<u8>) -> &[u8]
     ensures { result.now ≡ line_unless is_reached line.now }
@@ -183,6 +202,7 @@ pub fn put_summary<W: Write>(tested: &Tested, out: &mut W) -> Result<(), WriteFa
 {
     put_finding(tested, out)?;
     put_counts(&tested.counts, out)?;
+    put_distinct(tested.distinct, out)?;
     put_notes(tested.notes, out)?;
     put_unreached(tested.lines.as_slice(), tested.reached.as_slice(), out)
 }

@@ -2,14 +2,14 @@
 //! for each statement that no run reached. It is written without memory.
 ghost use Rattle.std.specs.Prelude.{◌≡◌};
 ghost use Rattle.bp_text.specs.Writing.{Writes};
-ghost use Rattle.bp_messages.specs.SummaryObjects.{counts_members, finding_members, found_name, found_run, summary_object, summary_objects};
+ghost use Rattle.bp_messages.specs.SummaryObjects.{counts_members, distinct_member, finding_members, found_name, found_run, summary_object, summary_objects};
 
 use crate::failures::{failed_assertion, put_failure_member, statement_of};
 use crate::notes::put_notes_members;
 use crate::summaries::put_unreached;
 use crate::tested::Tested;
 use crate::waits::put_waits_member;
-use bp_test::{Counts, Found};
+use bp_test::{Counts, Distinct, Found};
 use bp_text::Piece::{Bytes, Key, Number, NumberOrNull, Text};
 use bp_text::{WriteFault, put_pieces};
 use std::io::Write;
@@ -101,6 +101,25 @@ fn put_counts_members<W: Write>(counts: &Counts, out: &mut W) -> Result<(), Writ
     )
 }
 
+/// Writes how many of the runs were different.
+fn put_distinct_member<W: Write>(distinct: Distinct, out: &mut W) -> Result<(), WriteFault>
+    ensures { let text = distinct_member distinct in
+        Writes (W.contents out.old) (W.contents out.new) text result }
+{
+    put_pieces(
+        out,
+        &[
+            Bytes(b",\"distinct\":{\"runs\":"),
+            Number(distinct.runs),
+            Key(b"of"),
+            Number(distinct.of),
+            Key(b"once"),
+            Number(distinct.once),
+            Bytes(b"}"),
+        ],
+    )
+}
+
 /// Writes the object of what was found and of what the runs reached.
 fn put_summary_object<W: Write>(tested: &Tested, out: &mut W) -> Result<(), WriteFault>
     ensures { let text = summary_object tested.now in
@@ -112,6 +131,7 @@ fn put_summary_object<W: Write>(tested: &Tested, out: &mut W) -> Result<(), Writ
     put_failure_member(failure, statement, out)?;
     put_waits_member(tested.positions.as_slice(), tested.waiting.as_slice(), out)?;
     put_counts_members(&tested.counts, out)?;
+    put_distinct_member(tested.distinct, out)?;
     put_notes_members(tested.notes, out)
 }
 

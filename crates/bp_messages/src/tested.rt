@@ -1,6 +1,6 @@
 //! What a test found, and how well the program was tested.
 use crate::notes::Notes;
-use bp_test::{Counts, Found, TestOptions, Waiting};
+use bp_test::{Counts, Distinct, Found, TestOptions, Waiting};
 use bp_text::Position;
 
 /// What a test found, and how well the program was tested.
@@ -18,6 +18,8 @@ pub struct Tested {
     /// The texts of the statements of the instructions.
     pub statements: Vec<Vec<u8>>,
     pub counts: Counts,
+    /// How many of the runs were different.
+    pub distinct: Distinct,
     /// Where that may mislead.
     pub notes: Notes,
     /// The lines of the program's statements, where those that no run reached are listed.

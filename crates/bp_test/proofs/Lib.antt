@@ -1,9 +1,11 @@
 pub mod BlocksInOrder
 pub mod CodesShared
 pub mod ContextLemmas
+pub mod DistinctKeys
 pub mod FirstFound
 pub mod FailedStacks
 pub mod GrantedCalls
+pub mod KeysOfRuns
 pub mod ListParts
 pub mod MarkLemmas
 pub mod Playing

@@ -15,6 +15,7 @@ use Rattle.bp_machine.specs.Reports.{outcome_of, is_failure, IsReport}
 use Rattle.bp_machine.specs.Sessions.{SessionOf, Stands, StandsForAll}
 use Rattle.bp_machine.proofs.GrantedSteps.{within as within_contexts}
 use Rattle.bp_test.specs.Failing.{FailsAt}
+use Rattle.bp_test.specs.Keys.{IsRunKey}
 use Rattle.bp_test.specs.Reached.{place_of, MarksGrow, Reaches}
 use Rattle.bp_test.specs.Resting.{IsOver}
 use Rattle.bp_test.specs.Blocks.{is_sought}
@@ -22,6 +23,7 @@ use Rattle.bp_test.specs.Tallies.{made}
 use Rattle.bp_test.specs.declared.waiting.Waiting.{Waiting}
 use Rattle.bp_test.specs.Waits.{AreWaiting}
 use Rattle.bp_test.specs.Tests.{setup_of_run, IsSought, IsMadeRun, IsCleanRun, IsSoughtRun, Wait}
+use Rattle.bp_test.proofs.KeysOfRuns.{run_key_without}
 use Rattle.bp_test.proofs.MarkLemmas.{same_marks}
 use Rattle.bp_test.proofs.ReachedPlaces.{reaches_with, reaches_without}
 
@@ -113,6 +115,10 @@ module _ (c : Flat) (s : SetupOf) (with_deadlock : Bool) (seed run : ℕ) (old x
       let own = subst (λ z. MarksGrow (place_of t) (Reaches t z h) marks new) setup_is (grow t (own_program t is)) in
       let seed_is : Option ℕ = Some ((seed + run) % 2 ^ 64) in
       same_marks (place_of t) (Reaches t (setup_of_run s seed run) h) (Reaches t s h) marks new own (reaches_with t s seed_is h) (reaches_without t s seed_is h)
+
+  -- and its key
+  pub key_is : (t : Program) → StandsFor c t → (key : ℕ) → ((u : Program) → StandsFor x.code u → IsRunKey u x.setup h key) → IsRunKey t s h key
+  key_is t is key keyed = run_key_without t s (Some ((seed + run) % 2 ^ 64)) h key (subst (λ z. IsRunKey t z h key) setup_is (keyed t (own_program t is)))
 
   fails_at : StandsForAll x h → (t : Program) → StandsFor c t → (number : Option ℕ) → ((u : Program) (g : List Call) → StandsFor x.code u → Stands u x g → IfSome number (FailsAt u x.setup g)) → IfSome number (FailsAt t (setup_of_run s seed run) h)
   fails_at stands t is number fails = subst (λ z. IfSome number (FailsAt t z h)) setup_is (fails t h (own_program t is) (stands t (own_program t is)))

@@ -1,5 +1,5 @@
 -- Counts of runs, and of more of them.
-use Rattle.std.proofs.Common.{◌≡◌, ◌≢◌, ◌⊎◌, ◌<◌, ◌≤◌, ℕ, ◌+◌, ◌^◌, ◌-◌, min, max, Bool, true, false, cond, List, [], ◌∷◌, ◌++◌, length, Some, refl, ap, sym, ◌∙◌, subst, arith, inl, inr, length-append}
+use Rattle.std.proofs.Common.{◌≡◌, ◌≢◌, ◌⊎◌, ◌<◌, ◌≤◌, ℕ, ◌+◌, ◌^◌, ◌-◌, min, max, Bool, true, false, cond, List, [], ◌∷◌, ◌++◌, length, take, Some, refl, ap, sym, ◌∙◌, subst, arith, inl, inr, length-append}
 use Rattle.std.specs.Prelude.{if◌then◌else◌, ◌==◌, fold, count_by, sum_by, slice_index_or, Any}
 use Rattle.std.proofs.lemmas.Bool.{cases_lt}
 use Rattle.std.proofs.lemmas.Bool.Decides.{nat_tests}
@@ -10,8 +10,11 @@ use Rattle.bp_tree.specs.Ast.{Program}
 use Rattle.bp_code.specs.StandsFor.{Place, places_of}
 use Rattle.bp_machine.specs.Setups.{SetupOf, threads}
 use Rattle.bp_test.specs.declared.tallies.Tally.{Tally}
+use Rattle.bp_test.specs.declared.limits.TheConstants.{MAX_KEYS}
+use Rattle.bp_test.specs.Keys.{IsRunKey}
 use Rattle.bp_test.specs.Reached.{is_marked, place_of, AreMarks, HasStep, MarksGrow, Reaches}
 use Rattle.bp_test.specs.Tallies.{MadeRun, capped, calls_of, longest_of, ends_of, ends_sum, using_contexts, count_with, IsCounted, IsTally}
+use Rattle.bp_test.proofs.KeysOfRuns.{keys_both, keys_with}
 use Rattle.bp_test.proofs.MarkLemmas.{other_marks, grown_marks, both_marks, any_first, any_later, any_of_both, any_one, one_of_any}
 
 -- a count of both is kept as the sum of what is kept of each
@@ -99,14 +102,17 @@ module _ (s : SetupOf) (runs : List MadeRun) (r : MadeRun) (old new : Tally) (wa
       (grown_marks (λ i. Some i) (SomeSteps runs) (HasStep r.history) (threads s) old.stepped.items new.stepped.items was.stepped stepped))
 
 -- a run whose marks were set before it was counted
-pub tally_run : (t : Program) (s : SetupOf) (runs : List MadeRun) (r : MadeRun) (old new : Tally) (cur : List Bool)
+pub tally_run : (t : Program) (s : SetupOf) (runs : List MadeRun) (r : MadeRun) (old new : Tally) (cur : List Bool) (key : ℕ)
     → IsTally t s runs old
+    → IsRunKey t s r.history key
+    → new.keys.items ≡ take MAX_KEYS (old.keys.items ++ key ∷ [])
     → MarksGrow (place_of t) (Reaches t s r.history) old.reached.items cur
     → new.reached.items ≡ cur
     → IsCounted s (runs ++ r ∷ []) new
     → IsTally t s (runs ++ r ∷ []) new
-tally_run t s runs r old new cur was grow same counted = record {
+tally_run t s runs r old new cur key was keyed keys grow same counted = record {
   counted = counted;
+  keys = keys_with t s runs r old.keys.items new.keys.items key keys was.keys keyed;
   reached = subst (λ marks. AreMarks (place_of t) (SomeReaches t s (runs ++ r ∷ [])) (length (places_of t.procedures)) marks) (sym same) (reached_both t s runs (r ∷ []) (length (places_of t.procedures)) cur
       (other_marks (place_of t) (λ p. SomeReaches t s runs p ⊎ Reaches t s r.history p) (λ p. SomeReaches t s runs p ⊎ SomeReaches t s (r ∷ []) p) (length (places_of t.procedures)) cur
       (λ p is. elim is [ inl one ↦ inl one | inr here ↦ inr (any_one (λ q. Reaches t s q.history p) r here) ])
@@ -135,10 +141,12 @@ pub tally_both : (t : Program) (s : SetupOf) (runs more : List MadeRun) (old oth
     → new.longest ≡ max old.longest other.longest
     → new.ends ≡ ends_sum old.ends other.ends
     → ((k : ℕ) → slice_index_or new.contexts.items k 0 ≡ capped (slice_index_or old.contexts.items k 0 + slice_index_or other.contexts.items k 0))
+    → new.keys.items ≡ take MAX_KEYS (old.keys.items ++ other.keys.items)
     → MarksGrow (λ i. Some i) (λ n. is_marked other.stepped.items n ≡ true) old.stepped.items new.stepped.items
     → MarksGrow (λ i. Some i) (λ n. is_marked other.reached.items n ≡ true) old.reached.items new.reached.items
     → IsTally t s (runs ++ more) new
-tally_both t s runs more old other new was also count calls longest ends contexts stepped reached = record {
+tally_both t s runs more old other new was also count calls longest ends contexts keys stepped reached = record {
+  keys = keys_both t s runs more old.keys.items other.keys.items new.keys.items keys was.keys also.keys;
   counted = counted_both s runs more old new was.counted
       (count ∙ ap (λ n. capped (old.runs + n)) also.counted.count)
       (calls ∙ ap (λ n. capped (old.calls + n)) also.counted.calls)

@@ -1,7 +1,9 @@
 pub mod Blocks
 pub mod Counts
+pub mod Distinct
 pub mod Failing
 pub mod HistoryEnds
+pub mod Keys
 pub mod Reached
 pub mod Resting
 pub mod Shrinks

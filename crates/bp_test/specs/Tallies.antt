@@ -1,5 +1,5 @@
 -- What the runs of a test came to, counted.
-use Rattle.std.specs.Prelude.{◌≡◌, ◌==◌, ◌^◌, ◌+◌, ◌-◌, if◌then◌else◌, ℕ, min, max, Bool, true, false, not, ◌&&◌, nat_le, List, Some, length, fold, count_by, sum_by, slice_index_or, Any}
+use Rattle.std.specs.Prelude.{◌≡◌, ◌==◌, ◌^◌, ◌+◌, ◌-◌, if◌then◌else◌, ℕ, min, max, Bool, true, false, not, ◌&&◌, nat_le, List, [], ◌∷◌, Some, length, take, fold, count_by, sum_by, slice_index_or, Any}
 use Rattle.bp_tree.specs.Ast.{Program}
 use Rattle.bp_code.specs.StandsFor.{places_of}
 use Rattle.bp_machine.specs.declared.calls.Call.{Call}
@@ -10,6 +10,8 @@ use Rattle.bp_machine.specs.Reports.{is_failure}
 use Rattle.bp_machine.specs.Setups.{SetupOf, threads}
 use Rattle.bp_test.specs.declared.tallies.Ends.{Ends}
 use Rattle.bp_test.specs.declared.tallies.Tally.{Tally}
+use Rattle.bp_test.specs.declared.limits.TheConstants.{MAX_KEYS}
+use Rattle.bp_test.specs.Keys.{IsRunKey}
 use Rattle.bp_test.specs.Reached.{refuses_context, place_of, AreMarks, HasStep, Reaches}
 
 -- a run that was made: its history, the report of that, and whether it ended in a deadlock
@@ -106,10 +108,18 @@ HasReached t s runs marks =
     (length (places_of t.procedures))
     marks
 
--- the tally of these runs
+-- the keys of these runs
+abbrev pub AreKeys : Program → SetupOf → List MadeRun → List ℕ → Type 0
+AreKeys t s [] [] = Unit {0}
+AreKeys t s [] (key ∷ keys) = ⊥
+AreKeys t s (run ∷ runs) [] = ⊥
+AreKeys t s (run ∷ runs) (key ∷ keys) = IsRunKey t s run.history key × AreKeys t s runs keys
+
+-- the tally of these runs, and the keys of the first of them
 pub record IsTally (t : Program) (s : SetupOf) (runs : List MadeRun) (x : Tally) : Type 0 where
   pub counted : IsCounted s runs x
   pub reached : HasReached t s runs x.reached.items
+  pub keys : AreKeys t s (take MAX_KEYS runs) x.keys.items
 
 -- What follows are devices of the proofs.
 

@@ -89,10 +89,11 @@ pub fn first_found<C: Clock>(
         }
         let seed = plan.seed.wrapping_add(run);
         let lengths = plan.lengths.as_slice();
-        session = run_once(session, seed, lengths, &mut history, &mut tally.reached)?;
+        let (next, key) = run_once(session, seed, lengths, &mut history, &mut tally.reached)?;
+        session = next;
         let report = session.report();
         let is_deadlocked = session.is_deadlocked();
-        tally.add_run(history.as_slice(), &report, is_deadlocked)?;
+        tally.add_run(history.as_slice(), &report, is_deadlocked, key)?;
         if is_sought(&report, is_deadlocked, plan.with_deadlock) {
             let number = failed_instruction(&session);
             let waiting = waiting_threads(alloc, &session)?;

@@ -65,7 +65,8 @@ impl Plan {
                 break;
             }
             let own = seed.wrapping_add(pilot);
-            session = run_once(session, own, &[], &mut history, &mut reached)?;
+            let (next, _) = run_once(session, own, &[], &mut history, &mut reached)?;
+            session = next;
             let length = history.len() as u64;
             calls = calls.saturating_add(length);
             if !is_cut_off(&session) {

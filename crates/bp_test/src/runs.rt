@@ -8,11 +8,13 @@ ghost use Rattle.bp_machine.specs.declared.calls.Call.{Call as Answered};
 ghost use Rattle.bp_machine.specs.Histories.{configuration_after};
 ghost use Rattle.bp_machine.specs.Reports.{outcome_of, is_failure};
 ghost use Rattle.bp_machine.specs.Sessions.{Stands, StandsForAll};
-ghost use Rattle.bp_machine.specs.Setups.{FitsCode};
+ghost use Rattle.bp_machine.specs.Setups.{threads, FitsCode};
+ghost use Rattle.bp_test.specs.Keys.{IsEndKey, IsKey, IsRunKey};
 ghost use Rattle.bp_test.specs.Reached.{next_place, marks_after, place_of, IsNumberOf};
 ghost use Rattle.bp_test.specs.Reached.{IsTried, IsWaitedAt, MarksGrow, Reaches};
 ghost use Rattle.bp_test.specs.Resting.{IsOver};
 
+use crate::keys::{FIRST_KEY, key_after, key_at_end};
 use crate::schedulers::Scheduler;
 use crate::tallies::mark;
 use bp_machine::{Call, Reply, Session};
@@ -79,6 +81,21 @@ fn reach_waiting(reached: &mut Vec<bool>, session: &Session)
     }
 }
 
+/// The key of a run with this key of its steps, at whose end the session stands.
+fn end_key(session: &Session, steps: u64) -> u64
+    ensures { (t : Program) (h : List Answered)
+        → StandsFor session.now.code t
+        → Stands t session.now h
+        → let s = session.now.setup in
+        IsEndKey t (configuration_after t s h) steps (threads s) result }
+{
+    let mut key = steps;
+    for thread in 0..session.setup().threads() {
+        key = key_at_end(key, thread, next_number(session, thread));
+    }
+    key
+}
+
 /// Makes calls by the schedule, on a session before any call, until an assertion fails or each
 /// thread rests. The instructions of the calls are marked.
 fn follow(
@@ -86,7 +103,7 @@ fn follow(
     scheduler: &mut Scheduler,
     history: &mut Vec<Call>,
     reached: &mut Vec<bool>,
-) -> Result<(), AllocError>
+) -> Result<u64, AllocError>
     requires program { IsOfProgram session.old.code }
     requires stands { StandsForAll session.old [] }
     ensures stands { OnOk result (StandsForAll session.new history.new.items) }
@@ -99,49 +116,61 @@ fn follow(
         → StandsFor session.new.code t
         → let tried = IsTried t session.new.setup history.new.items in
         MarksGrow (place_of t) tried reached.old.items reached.new.items) }
+    ensures key { IfOk result (λ key.
+        (t : Program)
+        → StandsFor session.new.code t
+        → IsKey t session.new.setup history.new.items key) }
     ensures kept { (session.new.code ≡ session.old.code) × (session.new.setup ≡ session.old.setup) }
 {
     history.clear();
+    let mut key = FIRST_KEY;
     loop {
         let Some(thread) = scheduler.next(session) else {
-            return Ok(());
+            return Ok(key);
         };
         let number = next_number(session, thread);
         let reply = play(session, history, thread)?;
         reach(reached, number, reply);
+        key = key_after(key, thread, number, reply);
         if reply == Reply::Failed {
-            return Ok(());
+            return Ok(key);
         }
     }
 }
 
-/// Makes a run with this seed, in the memory of an earlier one. The switches of its schedule are
-/// spread over one of these lengths. The instructions that are reached are marked.
+/// Makes a run with this seed, in the memory of an earlier one, and answers its key beside the
+/// session. The switches of its schedule are spread over one of these lengths. The instructions
+/// that are reached are marked.
 pub(crate) fn run_once(
     session: Session,
     seed: u64,
     lengths: &[u64],
     history: &mut Vec<Call>,
     reached: &mut Vec<bool>,
-) -> Result<Session, AllocError>
+) -> Result<(Session, u64), AllocError>
     requires { FitsCode session.code session.setup }
-    ensures stands { IfOk result (λ x. StandsForAll x history.new.items) }
+    ensures stands { IfOk result (λ x. StandsForAll x.0 history.new.items) }
     ensures over { IfOk result (λ x.
         (t : Program)
-        → StandsFor x.code t
-        → IsOver t x.setup history.new.items) }
+        → StandsFor x.0.code t
+        → IsOver t x.0.setup history.new.items) }
     ensures marks { IfOk result (λ x.
         (t : Program)
-        → StandsFor x.code t
-        → let reaches = Reaches t x.setup history.new.items in
+        → StandsFor x.0.code t
+        → let reaches = Reaches t x.0.setup history.new.items in
         MarksGrow (place_of t) reaches reached.old.items reached.new.items) }
-    ensures code { IfOk result (λ x. x.code ≡ session.code) }
-    ensures setup { IfOk result (λ x. x.setup ≡ record session.setup { seed = Some seed }) }
+    ensures key { IfOk result (λ x.
+        (t : Program)
+        → StandsFor x.0.code t
+        → IsRunKey t x.0.setup history.new.items x.1) }
+    ensures code { IfOk result (λ x. x.0.code ≡ session.code) }
+    ensures setup { IfOk result (λ x. x.0.setup ≡ record session.setup { seed = Some seed }) }
 {
     let mut session = session.restarted(Some(seed))?;
     session.code().is_of_a_program();
     let mut scheduler = Scheduler::new(seed, session.setup(), lengths);
-    follow(&mut session, &mut scheduler, history, reached)?;
+    let steps = follow(&mut session, &mut scheduler, history, reached)?;
     reach_waiting(reached, &session);
-    Ok(session)
+    let key = end_key(&session, steps);
+    Ok((session, key))
 }

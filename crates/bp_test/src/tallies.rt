@@ -1,15 +1,17 @@
 //! What runs of a test came to, counted.
 ghost use Rattle.std.specs.Prelude.{◌≡◌, ◌<◌, ◌^◌, ◌++◌, ◌∷◌, [], ℕ, true, false, List};
-ghost use Rattle.std.specs.Prelude.{length, count_by, slice_set, slice_index_or, IfOk, OnOk};
+ghost use Rattle.std.specs.Prelude.{length, count_by, take, slice_set, slice_index_or, IfOk, OnOk};
 ghost use Rattle.bp_tree.specs.Ast.{Program};
 ghost use Rattle.bp_code.specs.StandsFor.{StandsFor};
 ghost use Rattle.bp_machine.specs.Replies.{is_granted};
 ghost use Rattle.bp_machine.specs.Setups.{SetupOf};
 ghost use Rattle.bp_test.specs.Counts.{contexts_with, AreContextsUsed};
+ghost use Rattle.bp_test.specs.declared.limits.TheConstants.{MAX_KEYS};
 ghost use Rattle.bp_test.specs.Reached.{refuses_context, is_marked, HasStep, MarksGrow};
 ghost use Rattle.bp_test.specs.Tallies.{MadeRun, made, is_end, ends_of, ends_sum, count_with};
 ghost use Rattle.bp_test.specs.Tallies.{IsCounted, IsTally};
 
+use crate::keys::{push_key, push_keys};
 use bp_code::Code;
 use bp_machine::{Call, Outcome, Reply, Report, Setup};
 use std::alloc::{AllocError, Global};
@@ -48,6 +50,9 @@ pub struct Tally {
     pub reached: Vec<bool>,
     /// For each thread, whether it ever made a step.
     pub stepped: Vec<bool>,
+    /// For each of the first 2^20 runs, the key of its steps: runs with the same steps have the
+    /// same key.
+    pub keys: Vec<u64>,
 }
 
 /// The least, the middle and the greatest number of contexts that runs used.
@@ -225,15 +230,17 @@ impl Tally {
             contexts: Vec::new(alloc),
             reached: none_of(alloc, code.len())?,
             stepped: none_of(alloc, setup.threads() as usize)?,
+            keys: Vec::new(alloc),
         })
     }
 
-    /// Adds a run.
+    /// Adds a run with this key.
     pub(crate) fn add_run(
         &mut self,
         history: &[Call],
         report: &Report,
         is_deadlocked: bool,
+        key: u64,
     ) -> Result<(), AllocError>
         ensures counted { let run = made history.now report.now is_deadlocked in
             OnOk result
@@ -241,6 +248,8 @@ impl Tally {
             → IsCounted s runs self.old
             → IsCounted s (runs ++ run ∷ []) self.new) }
         ensures reached { OnOk result (self.new.reached.items ≡ self.old.reached.items) }
+        ensures keys { OnOk result
+            (self.new.keys.items ≡ take MAX_KEYS (self.old.keys.items ++ key ∷ [])) }
     {
         self.runs = self.runs.saturating_add(1);
         self.calls = self.calls.saturating_add(report.calls);
@@ -248,6 +257,7 @@ impl Tally {
         self.ends
             .add_run(history, report, is_deadlocked, self.stepped.len());
         note_steps(&mut self.stepped, history);
+        push_key(&mut self.keys, key)?;
         count_contexts(&mut self.contexts, report.contexts as usize, 1)
     }
 
@@ -265,6 +275,7 @@ impl Tally {
         self.ends.add(&other.ends);
         mark_all(&mut self.reached, other.reached.as_slice());
         mark_all(&mut self.stepped, other.stepped.as_slice());
+        push_keys(&mut self.keys, other.keys.as_slice())?;
         for (used, runs) in other.contexts.iter().enumerate() {
             count_contexts(&mut self.contexts, used, *runs)?;
         }

@@ -1,9 +1,24 @@
-use Rattle.std.proofs.Common.{rules, ◌∙◌, sym, subst, inr}
+use Rattle.std.proofs.Common.{◌≡◌, [], rules, refl, ◌∙◌, sym, subst, inr}
 use Rattle.bp_code.specs.Programs.{IsOfProgram}
 use Rattle.bp_code.specs.StandsFor.{StandsFor}
+use Rattle.bp_machine.specs.Sessions.{Stands}
+use Rattle.bp_test.specs.declared.keys.TheConstants.{FIRST_KEY}
+use Rattle.bp_test.specs.Keys.{no_call, IsKey}
+use Rattle.bp_test.specs.Reached.{place_of, IsTried, MarksGrow}
+use Rattle.bp_test.proofs.KeysOfRuns.{key_of_call}
 use Rattle.bp_test.proofs.Playing.{smaller}
-use Rattle.bp_test.proofs.ReachedPlaces.{marks_of_call}
+use Rattle.bp_test.proofs.ReachedPlaces.{marks_of_call, none_tried}
 use Rattle.bp_test.proofs.runs.follow.Goals as goal
+
+pub loop-thread-init : goal.loop-thread-init
+loop-thread-init c =
+    let none : [] ≡ c.clear.new.self.items = search rules in record {
+      stands = λ t is. subst (Stands t c.args.session.now) none (c.requires.stands t is);
+      code = refl;
+      setup = refl;
+      marks = λ t is. subst (λ h. MarksGrow (place_of t) (IsTried t c.args.session.now.setup h) c.args.reached.now.items c.args.reached.now.items) none (none_tried t c.args.session.now.setup c.args.reached.now.items);
+      key = λ t is. subst (λ h. IsKey t c.args.session.now.setup h FIRST_KEY) none no_call;
+    }
 
 pub returns-in_default-clause-over : goal.returns-in_default-clause-over
 returns-in_default-clause-over c = λ t is.
@@ -34,7 +49,21 @@ loop-thread-preserved c = record {
       c.play.ensures.kept.1 c.in_ok-reply.ensures.grown
       (c.next_number-number.ensures t c.loop-thread.history.items was (c.loop-thread.invariant.stands t was))
       c.reach.ensures (c.loop-thread.invariant.marks t was);
+  key = λ t is.
+      let was = subst (λ k. StandsFor k t) c.play.ensures.kept.0 is in
+      key_of_call t c.loop-thread.session.setup c.play.new.session.setup c.loop-thread.history.items c.play.new.history.items _ _ _ c.loop-thread.key _
+      c.play.ensures.kept.1 c.in_ok-reply.ensures.grown
+      (c.next_number-number.ensures t c.loop-thread.history.items was (c.loop-thread.invariant.stands t was))
+      c.key_after-key.ensures (c.loop-thread.invariant.key t was);
 }
 
 pub returns-then-eq-clause-over : goal.returns-then-eq-clause-over
 returns-then-eq-clause-over c = search rules depth 1
+
+pub returns-then-eq-clause-key : goal.returns-then-eq-clause-key
+returns-then-eq-clause-key c = λ t is.
+    let was = subst (λ k. StandsFor k t) c.play.ensures.kept.0 is in
+    key_of_call t c.loop-thread.session.setup c.play.new.session.setup c.loop-thread.history.items c.play.new.history.items _ _ _ c.loop-thread.key _
+    c.play.ensures.kept.1 c.in_ok-reply.ensures.grown
+    (c.next_number-number.ensures t c.loop-thread.history.items was (c.loop-thread.invariant.stands t was))
+    c.key_after-key.ensures (c.loop-thread.invariant.key t was)

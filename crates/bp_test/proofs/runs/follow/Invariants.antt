@@ -3,6 +3,7 @@ use Rattle.bp_tree.specs.Ast.{Program}
 use Rattle.bp_code.specs.StandsFor.{StandsFor}
 use Rattle.bp_machine.specs.Sessions.{StandsForAll}
 use Rattle.bp_machine.specs.Setups.{threads}
+use Rattle.bp_test.specs.Keys.{IsKey}
 use Rattle.bp_test.specs.Reached.{place_of, IsTried, MarksGrow}
 use Rattle.bp_test.proofs.runs.follow.Given as goal
 
@@ -14,6 +15,7 @@ invariant-loop-thread l = record {
   marks : (t : Program)
       → StandsFor l.session.code t
       → MarksGrow (place_of t) (IsTried t l.session.setup l.history.items) l.fn.reached.items l.reached.items;
+  key : (t : Program) → StandsFor l.session.code t → IsKey t l.session.setup l.history.items l.key;
 }
 
 abbrev pub decreases-loop-thread : goal.decreases-loop-thread

@@ -7,8 +7,8 @@ run_once-requires c = fits_again c.args.code.now c.loop-pilot.session.code c.loo
 
 pub loop-pilot-preserved : goal.loop-pilot-preserved
 loop-pilot-preserved c =
-    let now = c.in_ok-session-2 in
+    let now = c.in_ok-next in
     record {
       code = now.ensures.code ∙ c.loop-pilot.invariant.code;
-      setup = reseeded c.args.setup.now c.loop-pilot.session now.session _ c.loop-pilot.invariant.setup now.ensures.setup;
+      setup = reseeded c.args.setup.now c.loop-pilot.session now.next _ c.loop-pilot.invariant.setup now.ensures.setup;
     }

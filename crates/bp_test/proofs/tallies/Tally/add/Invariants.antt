@@ -1,5 +1,6 @@
-use Rattle.std.proofs.Common.{◌≡◌, ◌+◌, ◌-◌, ◌^◌, ◌<◌, ◌≤◌, ℕ, min, max, true, Some}
+use Rattle.std.proofs.Common.{◌≡◌, ◌+◌, ◌-◌, ◌^◌, ◌<◌, ◌≤◌, ℕ, min, max, true, take, ◌++◌, Some}
 use Rattle.std.specs.Prelude.{slice_index_or}
+use Rattle.bp_test.specs.declared.limits.TheConstants.{MAX_KEYS}
 use Rattle.bp_test.specs.Reached.{is_marked, MarksGrow}
 use Rattle.bp_test.specs.Tallies.{capped, ends_sum}
 use Rattle.bp_test.proofs.tallies.Tally.add.Given as goal
@@ -13,6 +14,7 @@ invariant-loop-used l = record {
   ends : l.self.ends ≡ ends_sum l.fn.self.ends l.other.ends;
   stepped : MarksGrow (λ i. Some i) (λ n. is_marked l.other.stepped.items n ≡ true) l.fn.self.stepped.items l.self.stepped.items;
   reached : MarksGrow (λ i. Some i) (λ n. is_marked l.other.reached.items n ≡ true) l.fn.self.reached.items l.self.reached.items;
+  keys : l.self.keys.items ≡ take MAX_KEYS (l.fn.self.keys.items ++ l.other.keys.items);
   below : (k : ℕ) → k < l.used → slice_index_or l.self.contexts.items k 0 ≡ capped (slice_index_or l.fn.self.contexts.items k 0 + slice_index_or l.other.contexts.items k 0);
   above : (k : ℕ) → l.used ≤ k → slice_index_or l.self.contexts.items k 0 ≡ slice_index_or l.fn.self.contexts.items k 0;
 }
