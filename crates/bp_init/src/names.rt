@@ -5,7 +5,7 @@ use std::alloc::Global;
 use std::marker::Model;
 
 /// A global, by its name, and the bit that it begins with.
-#[derive(Clone, Copy, Debug)]
+#[derive(Clone, Copy)]
 pub struct NamedBit<'a> {
     pub name: &'a [u8],
     pub bit: bool,
