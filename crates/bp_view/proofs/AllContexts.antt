@@ -5,12 +5,12 @@ use Rattle.bp_code.specs.StandsFor.{places_of}
 use Rattle.bp_machine.specs.declared.calls.Call.{Call}
 use Rattle.bp_machine.specs.Setups.{SetupOf}
 use Rattle.bp_source.proofs.WordsOfScenes.{words_are, words_items}
+use Rattle.bp_facts.specs.declared.spans.Span.{Span}
+use Rattle.bp_facts.specs.Spans.{AreSpans}
 use Rattle.bp_view.specs.declared.settings.Setting.{Setting}
-use Rattle.bp_view.specs.declared.spans.Span.{Span}
 use Rattle.bp_view.specs.ContextLines.{contexts_head, AreContextLines, IsContextLine}
-use Rattle.bp_view.specs.Moments.{IsSettingOf}
 use Rattle.bp_view.specs.Parts.{Adds, IsInParts}
-use Rattle.bp_view.specs.Spans.{AreSpans}
+use Rattle.bp_view.specs.Settings.{IsSettingOf}
 use Rattle.bp_view.specs.Widths.{extent_of, AreWidths}
 use Rattle.bp_view.proofs.LongestPlaces.{places_are}
 
@@ -26,9 +26,9 @@ module _ (t : Program) (text : List ℕ) (s : SetupOf) (h : List Call) (setting 
     count = length spans;
     count_is = are.count.used;
     widths = setting.widths;
-    statements = words_items setting.scenes.now;
-    statements_are = words_are text t.procedures (places_of t.procedures) setting.scenes.now known.scenes;
-    widths_are = rw (places_are text t.procedures (places_of t.procedures) setting.scenes.now known.scenes, count, known.procedures, columns) at widths;
+    statements = words_items setting.program.scenes.now;
+    statements_are = words_are text t.procedures (places_of t.procedures) setting.program.scenes.now known.program.scenes;
+    widths_are = rw (places_are text t.procedures (places_of t.procedures) setting.program.scenes.now known.program.scenes, count, known.program.procedures, columns) at widths;
     lines = lines.more;
     lines_are = lines.more_are;
     is = lines.is ∙ ap (λ n. contexts_head setting.options.format n (length spans) ++ lines.more) count;

@@ -17,15 +17,15 @@ use Rattle.bp_view.specs.declared.settings.Setting.{Setting}
 use Rattle.bp_view.specs.declared.writers.ViewWriter.{ViewWriter}
 use Rattle.bp_view.specs.Ends.{IsEnd}
 use Rattle.bp_view.specs.Heads.{view_head}
-use Rattle.bp_view.specs.Moments.{IsSettingOf}
 use Rattle.bp_view.specs.Parts.{IsInParts}
+use Rattle.bp_view.specs.Settings.{IsSettingOf}
 use Rattle.bp_view.specs.Views.{HasMade, IsShownLine, IsView, IsViewable}
 use Rattle.bp_view.specs.Writing.{IsBegun, IsCutShort, IsWritten}
 use Rattle.bp_view.proofs.LongestPlaces.{places_are}
-use Rattle.bp_view.proofs.WholeStates.{some_end}
+use Rattle.bp_view.proofs.WholeEnds.{some_end}
 use Rattle.bp_view.proofs.WholeViews.{each_line}
-use Rattle.bp_view.proofs.WrittenParts as parts
 use Rattle.bp_view.proofs.WrittenParts.{HasParts}
+use Rattle.bp_view.proofs.WrittenParts as parts
 
 module _ (t : Program) (text : List ℕ) (s : SetupOf) (x : Setting) where
   abbrev o : ViewOptions
@@ -35,7 +35,7 @@ module _ (t : Program) (text : List ℕ) (s : SetupOf) (x : Setting) where
   h = x.history.now
 
   abbrev head : List ℕ
-  head = view_head o x.globals.now s x.widths
+  head = view_head o x.program.globals.now s x.widths
 
   abbrev IsLine : ℕ → List ℕ → Type 0
   IsLine k line = (call : Call) → slice_get h k ≡ Some call → IsShownLine t text s o x.widths h (take k h) call line
@@ -65,21 +65,21 @@ module _ (t : Program) (text : List ℕ) (s : SetupOf) (x : Setting) where
     whole : (lines end : List ℕ) → IsInParts IsLine (length h) lines → IsEnd o t text s h r end → Whole (head ++ lines ++ end)
     whole lines end lines_are end_is = record {
       widths = x.widths;
-      statements = words_items x.scenes.now;
-      statements_are = words_are text t.procedures (places_of t.procedures) x.scenes.now can.known.scenes;
-      widths_are = rw (places_are text t.procedures (places_of t.procedures) x.scenes.now can.known.scenes, can.known.procedures) at can.widths;
+      statements = words_items x.program.scenes.now;
+      statements_are = words_are text t.procedures (places_of t.procedures) x.program.scenes.now can.known.program.scenes;
+      widths_are = rw (places_are text t.procedures (places_of t.procedures) x.program.scenes.now can.known.program.scenes, can.known.program.procedures) at can.widths;
       lines = lines;
       end = end;
-      is = ap (λ g. view_head o g s x.widths ++ lines ++ end) can.known.globals;
+      is = ap (λ g. view_head o g s x.widths ++ lines ++ end) can.known.program.globals;
       end_is = end_is;
       lines_are = lines_are;
     }
 
     each : (k : ℕ) → k < length h → (line : List ℕ) × IsLine k line
-    each = each_line c t can.code text x.scenes.now can.known.scenes s o x.widths h
+    each = each_line c t can.code text x.program.scenes.now can.known.program.scenes s o x.widths h
 
     last : (end : List ℕ) × IsEnd o t text s h r end
-    last = some_end c t can.code text x.scenes.now can.known.scenes s o h can.playable.legal r can.outcome
+    last = some_end c t can.code text x.program.scenes.now can.known.program.scenes s o h can.playable.legal r can.outcome
 
     pub none_begun : (a : Option (List ℕ)) → IsBegun Whole a a
     none_begun = parts.none_begun IsLine head (length h) (IsEnd o t text s h r) Whole whole each last

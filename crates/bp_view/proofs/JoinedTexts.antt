@@ -1,15 +1,8 @@
 -- Texts that are joined in one order are those that are joined in another.
-use Rattle.std.proofs.Common.{◌≡◌, ◌≤◌, ◌∙◌, ◌++◌, ℕ, List, [], ◌∷◌, ap, codes, flat_map, length, map, refl, sym, take, fold, append_assoc, append-nil}
-use Rattle.std.proofs.lemmas.List.{take_all}
-use Rattle.std.proofs.lemmas.List.Folds.{flat_map-map}
+use Rattle.std.proofs.Common.{◌≡◌, ◌∙◌, ◌++◌, ℕ, List, [], ◌∷◌, ap, codes, refl, sym, fold, append_assoc, append-nil}
 use Rattle.std.specs.List.{concat}
 use Rattle.bp_text.proofs.PiecesInTurn.{all_added}
 use Rattle.bp_view.specs.Conditions.{condition_lines, values_line}
-
--- what follows from all values is what follows from what they say
-pub all_mapped : {X Y Z : Type 0} (f : Y → List Z) (said : X → Y) (xs : List X) (n : ℕ) → length xs ≤ n
-    → flat_map (λ x. f (said x)) (take n xs) ≡ flat_map f (map said xs)
-all_mapped f said xs n all = ap (flat_map (λ x. f (said x))) (take_all n xs all) ∙ sym (flat_map-map f said xs)
 
 concat-last : (ts : List (List ℕ)) (t : List ℕ) → concat ts ++ t ≡ concat (ts ++ t ∷ [])
 concat-last [] t = simp append-nil

@@ -5,19 +5,24 @@ use Rattle.bp_code.specs.StandsFor.{places_of}
 use Rattle.bp_code.specs.Starts.{starts_of}
 use Rattle.bp_machine.specs.declared.calls.Call.{Call}
 use Rattle.bp_machine.specs.declared.reports.Report.{Report}
+use Rattle.bp_machine.specs.Histories.{configuration_after}
 use Rattle.bp_machine.specs.Setups.{SetupOf}
 use Rattle.bp_source.specs.Places.{place_text}
 use Rattle.bp_source.proofs.OneStatement.{one_list_of_statements}
+use Rattle.bp_facts.specs.CallFacts.{printed_by, ShownCall}
+use Rattle.bp_facts.specs.Filters.{calls_of}
+use Rattle.bp_facts.proofs.ItemsOfLists.{item_at}
+use Rattle.bp_facts.proofs.OneCall.{one_call}
 use Rattle.bp_view.specs.declared.options.ViewOptions.{ViewOptions}
 use Rattle.bp_view.specs.declared.settings.Widths.{Widths}
 use Rattle.bp_view.specs.Ends.{after_foot, IsEnd, IsStateIf}
 use Rattle.bp_view.specs.Heads.{view_head}
+use Rattle.bp_view.specs.Options.{filter_of}
 use Rattle.bp_view.specs.Views.{has_line, line_in, AreLines, IsShownLine, IsView, IsViewLineIf}
 use Rattle.bp_view.specs.Widths.{extent, AreWidths, Extent}
-use Rattle.bp_view.proofs.OneCall.{one_call}
-use Rattle.bp_view.proofs.OneFoot.{one_foot}
-use Rattle.bp_view.proofs.OneState.{one_state}
-use Rattle.bp_view.proofs.PartsOfTexts.{item_at, one_of_parts}
+use Rattle.bp_view.proofs.OneFootText.{one_foot}
+use Rattle.bp_view.proofs.OneStateText.{one_state}
+use Rattle.bp_view.proofs.PartsOfTexts.{one_of_parts}
 
 pub one_widths : (s : SetupOf) (e : Extent) (a b : Widths) → AreWidths s e a → AreWidths s e b → a ≡ b
 one_widths s e a b x y = λ i. record {
@@ -34,7 +39,9 @@ module _ (t : Program) (text : List ℕ) (s : SetupOf) (o : ViewOptions) (w : Wi
   line_if : (b : Bool) (h : List Call) (x : Call) (p q : List ℕ) → IsViewLineIf t text s o w whole b h x p → IsViewLineIf t text s o w whole b h x q → p ≡ q
   line_if false h x p q a b = a ∙ sym b
   line_if true h x p q a b =
-      a.is ∙ ap (line_in o.format o.has_colour w) (one_call t text s o whole h x a.facts b.facts a.facts_are b.facts_are) ∙ sym b.is
+      let printed = printed_by (configuration_after t s h) x in
+      let line : ShownCall → List ℕ = λ f. line_in o.format o.has_colour w f (calls_of (filter_of o) whole h x) printed in
+      a.is ∙ ap line (one_call t text s h x a.facts b.facts a.facts_are b.facts_are) ∙ sym b.is
 
   one_lines : (n : ℕ) → n ≡ length whole → (p q : List ℕ) → AreLines t text s o w whole n p → AreLines t text s o w whole n q → p ≡ q
   one_lines n count = one_of_parts _ n each

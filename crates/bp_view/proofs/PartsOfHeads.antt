@@ -4,9 +4,9 @@ use Rattle.bp_tree.specs.Ast.{Name}
 use Rattle.bp_code.specs.Values.{binding}
 use Rattle.bp_view.specs.declared.options.ViewFormat.{ViewFormat}
 use Rattle.bp_view.specs.declared.options.ViewFormat.TheVariants.{Columns}
-use Rattle.bp_view.specs.Changes.{variable_text, variables_text}
-use Rattle.bp_source.specs.Programs.{string_item}
 use Rattle.bp_view.specs.Heads.{globals_line, thread_line, thread_lines}
+use Rattle.bp_view.specs.Variables.{variable_text, variables_text}
+use Rattle.bp_source.specs.Programs.{string_item}
 
 pub thread_more : (i n : ℕ) (es : List (List ℕ)) → n < length es → thread_lines i (take (suc n) es) ≡ thread_lines i (take n es) ++ thread_line (i + n) (unwrap_or (slice_get es n) [])
 thread_more i n [] h = absurd (omega arith)

@@ -10,24 +10,26 @@ use Rattle.bp_trace.specs.declared.replaying.Replayed.{Replayed}
 use Rattle.bp_trace.specs.Replays.{IsPlayable}
 use Rattle.bp_source.specs.declared.scenes.Scene.{Scene}
 use Rattle.bp_source.specs.Scenes.{AreScenes}
+use Rattle.bp_facts.specs.Watches.{watched_names}
 use Rattle.bp_view.specs.declared.faults.ViewFault.{ViewFault}
 use Rattle.bp_view.specs.declared.options.ViewOptions.{ViewOptions}
 use Rattle.bp_view.specs.declared.settings.Setting.{Setting}
 use Rattle.bp_view.specs.Views.{IsView, IsViewable}
-use Rattle.bp_view.specs.Watches.{watched_names}
 use Rattle.bp_view.specs.Widths.{extent_of, AreWidths}
 use Rattle.bp_view.specs.Writing.{IsBegun, IsStopped, IsWritten}
 
 module _ (t : Program) (text : List ℕ) (r : Replayed) (x : Setting) (options : ViewOptions) (history : x.history.now ≡ r.history.items) (same : x.options ≡ options) where
   pub viewable : (c : Flat) (scenes : List Scene) (names : List (Bor (List ℕ))) → StandsFor c t → AreScenes text t scenes → IsPlayable t r.setup r.history.items
-      → IsReport r.setup r.history.items r.report → map (λ n. n.now) names ≡ watched_names options.watch → x.scenes.now ≡ scenes → x.globals.now ≡ t.globals
-      → x.procs.now ≡ t.procedures → x.names.now ≡ names → AreWidths r.setup (extent_of x) x.widths → IsViewable c t text r.setup r.report x
+      → IsReport r.setup r.history.items r.report → map (λ n. n.now) names ≡ watched_names options.watch → x.program.scenes.now ≡ scenes → x.program.globals.now ≡ t.globals
+      → x.program.procs.now ≡ t.procedures → x.names.now ≡ names → AreWidths r.setup (extent_of x) x.widths → IsViewable c t text r.setup r.report x
   viewable c scenes names code are playable report watched of_scenes globals procedures of_names widths = record {
     code = code;
     known = record {
-      scenes = subst (AreScenes text t) (sym of_scenes) are;
-      globals = globals;
-      procedures = procedures;
+      program = record {
+        scenes = subst (AreScenes text t) (sym of_scenes) are;
+        globals = globals;
+        procedures = procedures;
+      };
       names = ap (map (λ n. n.now)) of_names ∙ watched ∙ ap (λ (o : ViewOptions). watched_names o.watch) (sym same);
     };
     widths = widths;

@@ -1,94 +1,33 @@
 -- Each history of a program has a view, and what was written of one goes on to a whole one.
-use Rattle.std.proofs.Common.{if◌then◌else◌, ◌≡◌, ◌<◌, slice_get, take, ℕ, zero, suc, Bool, true, false, List, [], ◌∷◌, ◌++◌, Option, None, Some, length, drop, sym, refl, subst}
-use Rattle.std.specs.Prelude.{option_map}
-use Rattle.std.proofs.lemmas.List.Elements.{All-nil}
+use Rattle.std.proofs.Common.{◌≡◌, ◌<◌, slice_get, take, ℕ, Bool, true, false, List, [], Some, length, refl}
 use Rattle.bp_tree.specs.Ast.{Program}
-use Rattle.bp_code.specs.Configurations.{Frame}
 use Rattle.bp_code.specs.Flat.{Flat}
-use Rattle.bp_code.specs.Moves.{frame_store}
-use Rattle.bp_code.specs.StandsFor.{StandsFor, place, places_of}
-use Rattle.bp_code.specs.Starts.{start_of_block}
+use Rattle.bp_code.specs.StandsFor.{StandsFor}
 use Rattle.bp_machine.specs.declared.calls.Call.{Call}
-use Rattle.bp_machine.specs.declared.reports.Outcome.{Outcome}
-use Rattle.bp_machine.specs.declared.reports.Outcome.TheVariants.{Clean, Failed}
 use Rattle.bp_machine.specs.declared.reports.Report.{Report}
-use Rattle.bp_machine.specs.Answers.{stack_of}
-use Rattle.bp_machine.specs.Histories.{configuration_after, granted_threads, IsLegal}
-use Rattle.bp_machine.specs.Replies.{is_granted}
-use Rattle.bp_machine.specs.Reports.{outcome_of, IsRealFailure}
-use Rattle.bp_machine.specs.Setups.{SetupOf, threads}
-use Rattle.bp_machine.specs.Waiting.{waits}
-use Rattle.bp_machine.proofs.ContextCounts.{opened, opened_least}
-use Rattle.bp_machine.proofs.RealFailures.{real}
-use Rattle.bp_text.specs.Positions.{position_at}
+use Rattle.bp_machine.specs.Histories.{configuration_after, IsLegal}
+use Rattle.bp_machine.specs.Reports.{outcome_of}
+use Rattle.bp_machine.specs.Setups.{SetupOf}
 use Rattle.bp_source.specs.declared.scenes.Scene.{Scene}
-use Rattle.bp_source.specs.Assertions.{variables_read}
-use Rattle.bp_source.specs.Scenes.{AreScenes, IsStatementAt}
-use Rattle.bp_source.specs.Places.{place_text}
-use Rattle.bp_source.specs.Statements.{IsStatement}
-use Rattle.bp_source.proofs.SceneLists.{scene_at, SceneAt}
+use Rattle.bp_source.specs.Scenes.{AreScenes}
+use Rattle.bp_facts.specs.CallFacts.{printed_by}
+use Rattle.bp_facts.specs.Filters.{calls_of}
+use Rattle.bp_facts.proofs.WholeFacts as facts
 use Rattle.bp_view.specs.declared.options.ViewFormat.{ViewFormat}
 use Rattle.bp_view.specs.declared.options.ViewOptions.{ViewOptions}
 use Rattle.bp_view.specs.declared.settings.Widths.{Widths}
-use Rattle.bp_view.specs.CallFacts.{changes_by, nothing_next, printed_in, AreCallFacts, ShownCall, IsNextOf, Next}
-use Rattle.bp_view.specs.Moments.{is_switch, IsContext}
-use Rattle.bp_view.specs.FootFacts.{named_entries, waiting, AreFailureFacts, AreFootFacts, AreStandingFacts, AreWaitsFacts, IsAtCondition, ShownCondition, ShownFoot}
+use Rattle.bp_view.specs.Options.{filter_of}
 use Rattle.bp_view.specs.Outcomes.{foot_text, IsFoot}
-use Rattle.bp_view.specs.Options.{calls_of}
 use Rattle.bp_view.specs.Views.{has_line, line_in, IsShownLine, IsViewLine, IsViewLineIf}
-use Rattle.bp_view.proofs.DecidedDeadlocks.{decided}
-use Rattle.bp_view.proofs.FailedConditions.{assertion_facts, at_assertion}
-use Rattle.bp_view.proofs.FilledFacts.{no_wait_more, one_wait_more}
 use Rattle.bp_view.proofs.PartsOfTexts.{part_of_each}
-use Rattle.bp_view.proofs.PlacedStacks.{stack_placed, ArePlaced, IsPlaced}
-use Rattle.bp_view.proofs.WaitingConditions.{at_assumption}
 
 module _ (c : Flat) (t : Program) (code : StandsFor c t) (text : List ℕ) (scenes : List Scene) (are : AreScenes text t scenes) (s : SetupOf) where
-  -- the scene of a frame
-  scene_of : (f : Frame) → IsPlaced t f → (n : ℕ) × SceneAt text t.procedures (place f.procedure f.left) scenes n
-  scene_of f placed = (placed.number, scene_at text t.procedures (places_of t.procedures) scenes placed.number (place f.procedure f.left) are placed.at)
-
-  some_next : (stack : List Frame) → ArePlaced t stack → (next : Next) × IsNextOf text stack next
-  some_next [] placed = (nothing_next, refl)
-  some_next (f ∷ fs) (here, below) =
-      let (n, found) = scene_of f here in
-      let words = found.scene.excerpt.words.items in (
-        record {
-          place = place_text text (start_of_block f.left);
-          position = option_map (position_at text) (start_of_block f.left);
-          procedure = Some f.procedure.name.text;
-          depth = length (f ∷ fs);
-          words = Some words;
-          reads = found.scene.excerpt.reads_choice;
-        },
-        record { place = refl; position = refl; procedure = refl; depth_is = refl; words = words; said = refl; words_are = found.is.statement; one_line = found.is.words },
-      )
-
-  some_context : (h : List Call) (x : Call) (b : Bool) → is_granted x.reply ≡ b → (n : Option ℕ) × IsContext h x n
-  some_context h x true granted = (Some (opened None (granted_threads (h ++ x ∷ []))), (granted, opened_least (granted_threads (h ++ x ∷ []))))
-  some_context h x false none = (None, none)
-
   module _ (o : ViewOptions) (w : Widths) (whole : List Call) where
-    some_facts : (h : List Call) (x : Call) → (f : ShownCall) × AreCallFacts t text s o whole h x f
-    some_facts h x =
-        let now = configuration_after t s h in
-        let (n, is) = some_context h x (is_granted x.reply) refl in
-        let (next, next_is) = some_next (stack_of now x.thread) (stack_placed c t code s h x.thread) in (
-          record {
-            number = suc (length h);
-            call = x;
-            context = n;
-            switch = is_switch h x;
-            next = next;
-            calls = calls_of o whole h x;
-            changes = changes_by t s h x;
-            printed = printed_in o.format now x;
-          },
-          record { number = refl; call = refl; context = is; switch = refl; next = next_is; calls = refl; changes = refl; printed = refl },
-        )
-
     view_line : (h : List Call) (x : Call) → (line : List ℕ) × IsViewLine t text s o w whole h x line
-    view_line h x = let (f, are) = some_facts h x in (line_in o.format o.has_colour w f, record { facts = f; facts_are = are; is = refl })
+    view_line h x =
+        let (f, f_are) = facts.some_call c t code text scenes are s h x in
+        let printed = printed_by (configuration_after t s h) x in
+        (line_in o.format o.has_colour w f (calls_of (filter_of o) whole h x) printed, record { facts = f; facts_are = f_are; is = refl })
 
     shown_line : (h : List Call) (x : Call) → (line : List ℕ) × IsShownLine t text s o w whole h x line
     shown_line h x = by_shown (has_line t text s o w whole h x)
@@ -102,61 +41,7 @@ module _ (c : Flat) (t : Program) (code : StandsFor c t) (text : List ℕ) (scen
         → (line : List ℕ) × ((x : Call) → slice_get whole k ≡ Some x → IsShownLine t text s o w whole (take k whole) x line)
     each_line = part_of_each (λ k x line. IsShownLine t text s o w whole (take k whole) x line) whole (λ k x at. shown_line (take k whole) x)
 
-  module _ (h : List Call) where
-    some_condition : (i : ℕ) → IsAtCondition (configuration_after t s h) i
-        → (x : ShownCondition) × (x.thread ≡ i) × AreStandingFacts text (configuration_after t s h) x
-    some_condition i stands =
-        let frame = stands.frame in
-        let now = configuration_after t s h in
-        let placed : ArePlaced t (frame ∷ stands.below) = subst (ArePlaced t) stands.stack (stack_placed c t code s h i) in
-        let (n, found) = scene_of frame placed.0 in
-        let words = found.scene.excerpt.words.items in
-        let own : IsStatement (drop stands.at text) words found.scene.excerpt.reads_choice =
-        subst (λ at. IsStatementAt text frame.procedure at words found.scene.excerpt.reads_choice) stands.begins found.is.statement
-        in (
-          record {
-            thread = i;
-            position = position_at text stands.at;
-            words = words;
-            values = named_entries frame.procedure (frame_store now.globals frame) (variables_read stands.decision);
-          },
-          refl,
-          record { stands = stands; are = record { position = refl; reads = found.scene.excerpt.reads_choice; words = own; values = refl } },
-        )
-
-    some_failure : IsLegal t s h → (o : Outcome) → o ≡ outcome_of h → (x : Option ShownCondition) × AreFailureFacts t text s h o x
-    some_failure legal Clean is = (None, refl)
-    some_failure legal (Failed i) is =
-        let failure = real t s h i legal (sym is) in
-        let (x, same, facts) = some_condition i (at_assertion t s h i failure) in
-        (Some x, (same, assertion_facts t s h text x (subst (IsRealFailure t s h) (sym same) failure) facts))
-
-    -- the threads below n that wait have facts
-    abbrev Waits : ℕ → Type 0
-    Waits n = (xs : List ShownCondition) × AreWaitsFacts text (configuration_after t s h) (waiting t (configuration_after t s h) n) xs
-
-    one_more : (n : ℕ) → Waits n → (b : Bool) → waits t (configuration_after t s h) n ≡ b → Waits (suc n)
-    one_more n (xs, are) false none = (xs, no_wait_more t text (configuration_after t s h) n xs are none)
-    one_more n (xs, are) true does =
-        let now = configuration_after t s h in
-        let (x, same, facts) = some_condition n (at_assumption t now n does) in
-        (xs ++ x ∷ [], one_wait_more t text now n xs are does x same facts)
-
-    some_waits : (n : ℕ) → Waits n
-    some_waits zero = ([], record { each = All-nil _; of = refl })
-    some_waits (suc n) = one_more n (some_waits n) (waits t (configuration_after t s h) n) refl
-
-    some_stuck : (deadlocked : Bool)
-        → (xs : List ShownCondition)
-        × AreWaitsFacts text (configuration_after t s h) (if deadlocked then waiting t (configuration_after t s h) (threads s) else []) xs
-    some_stuck true = some_waits (threads s)
-    some_stuck false = ([], record { each = All-nil _; of = refl })
-
-    pub some_foot : (format : ViewFormat) → IsLegal t s h → (r : Report) → r.outcome ≡ outcome_of h → (foot : List ℕ) × IsFoot format t text s h r foot
-    some_foot format legal r is =
-        let (deadlocked, decides) = decided t (configuration_after t s h) in
-        let (failure, failure_is) = some_failure legal r.outcome is in
-        let (stuck, stuck_are) = some_stuck deadlocked in
-        let x : ShownFoot = record { report = r; deadlocked = deadlocked; failure = failure; waits = stuck } in
-        let x_are : AreFootFacts t text s h r x = record { report = refl; decides = decides; failure = failure_is; waits_are = stuck_are } in
-        (foot_text format x, record { facts = x; facts_are = x_are; is = refl })
+  pub some_foot : (h : List Call) (format : ViewFormat) → IsLegal t s h → (r : Report) → r.outcome ≡ outcome_of h → (foot : List ℕ) × IsFoot format t text s h r foot
+  some_foot h format legal r is =
+      let (x, x_are) = facts.some_foot c t code text scenes are s h legal r is in
+      (foot_text format x, record { facts = x; facts_are = x_are; is = refl })

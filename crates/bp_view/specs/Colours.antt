@@ -3,7 +3,7 @@ use Rattle.std.specs.Prelude.{if◌then◌else◌, ℕ, Bool, true, false, List,
 use Rattle.bp_machine.specs.declared.calls.Reply.{Reply}
 use Rattle.bp_machine.specs.declared.calls.Reply.TheVariants.{Failed}
 use Rattle.bp_view.specs.declared.colours.Colour.{Colour}
-use Rattle.bp_view.specs.declared.colours.Colour.TheVariants.{Red, Yellow, Plain}
+use Rattle.bp_view.specs.declared.colours.Colour.TheVariants.{Plain, Red, Yellow}
 
 -- a failure is red, another step after one of another thread is yellow; all lines are plain where
 -- no colours are wanted

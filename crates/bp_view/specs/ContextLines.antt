@@ -1,15 +1,14 @@
 -- The contexts of a history, a line for each: its thread, its first and its last call, where its
 -- thread stands before and after it, and the globals that it changed.
-use Rattle.std.specs.Prelude.{◌≡◌, ◌≤◌, ◌-◌, ℕ, suc, List, [], ◌∷◌, ◌++◌, Option, None, Some, codes, decimal, length, map, slice_get, take}
+use Rattle.std.specs.Prelude.{◌≡◌, ◌-◌, ℕ, suc, List, [], ◌∷◌, ◌++◌, Option, None, Some, codes, decimal, length, map}
 use Rattle.std.specs.List.{concat}
 use Rattle.bp_tree.specs.Ast.{Program}
 use Rattle.bp_code.specs.StandsFor.{places_of}
 use Rattle.bp_code.specs.Starts.{starts_of}
 use Rattle.bp_machine.specs.declared.calls.Call.{Call}
 use Rattle.bp_machine.specs.declared.reports.Report.{Report}
-use Rattle.bp_machine.specs.Answers.{stack_of}
 use Rattle.bp_machine.specs.Contexts.{IsLeastWithin}
-use Rattle.bp_machine.specs.Histories.{configuration_after, granted_threads}
+use Rattle.bp_machine.specs.Histories.{granted_threads}
 use Rattle.bp_machine.specs.Setups.{SetupOf}
 use Rattle.bp_text.specs.declared.positions.Position.{Position}
 use Rattle.bp_text.specs.Columns.{at_left, at_right}
@@ -18,55 +17,14 @@ use Rattle.bp_trace.specs.declared.replaying.Replayed.{Replayed}
 use Rattle.bp_trace.specs.Replayed.{IsReplayed}
 use Rattle.bp_source.specs.Scenes.{AreStatements}
 use Rattle.bp_source.specs.Places.{place_text}
-use Rattle.bp_view.specs.declared.contexts.ContextFacts.{ContextFacts}
+use Rattle.bp_facts.specs.ContextFacts.{AreContextFacts, ShownContext}
 use Rattle.bp_view.specs.declared.options.ViewFormat.{ViewFormat}
 use Rattle.bp_view.specs.declared.options.ViewFormat.TheVariants.{Columns, Json}
 use Rattle.bp_view.specs.declared.settings.Widths.{Widths}
-use Rattle.bp_view.specs.CallFacts.{next_in, IsNextOf, Next}
-use Rattle.bp_view.specs.ChangeFacts.{entries_text, entry_of, owned, Entry}
-use Rattle.bp_view.specs.Changes.{changed}
 use Rattle.bp_view.specs.Lines.{after_room}
-use Rattle.bp_view.specs.Moments.{IsContext}
 use Rattle.bp_view.specs.Parts.{IsInParts}
+use Rattle.bp_view.specs.Variables.{entries_text}
 use Rattle.bp_view.specs.Widths.{extent, AreWidths}
-
--- the call x, after k others, made a step in context n
-pub record IsStepIn (n : ℕ) (h : List Call) (k : ℕ) (x : Call) : Type 0 where
-  pub at : slice_get h k ≡ Some x
-  pub context : IsContext (take k h) x (Some n)
-
--- All steps in context n are of thread i. The first is that of the call after `first` others, and
--- the last that of the call after `last` others.
-pub record IsContextOf (n : ℕ) (h : List Call) (i first last : ℕ) : Type 0 where
-  pub begins : (x : Call) × IsStepIn n h first x
-  pub ends : (x : Call) × IsStepIn n h last x
-  pub each : (k : ℕ) (x : Call)
-      → IsStepIn n h k x
-      → (x.thread ≡ i) × (first ≤ k) × (k ≤ last)
-
--- What is shown of a context: its number, its thread, the numbers of its first and its last call,
--- what its thread had next before the first and after the last, and what it changed.
-pub record ShownContext : Type 0 where
-  pub number : ℕ
-  pub thread : ℕ
-  pub first : ℕ
-  pub last : ℕ
-  pub from : Next
-  pub to : Next
-  pub changes : List Entry
-
--- what the value of src/ says
-abbrev pub context_in : ContextFacts → ShownContext
-context_in x =
-    record {
-      number = x.number;
-      thread = x.thread;
-      first = x.first;
-      last = x.last;
-      from = next_in x.from;
-      to = next_in x.to;
-      changes = map entry_of x.changes.now;
-    }
 
 -- a context for people
 abbrev pub context_line : Widths → ShownContext → List ℕ
@@ -121,24 +79,6 @@ contexts_head Json calls contexts =
     ∷ key_text (codes "calls") ∷ decimal calls
     ∷ key_text (codes "contexts") ∷ decimal contexts
     ∷ codes "}\n" ∷ [])
-
--- The facts of context n of a history: its first and its last call, counted from 1; what its thread
--- had next before the first and after the last; and the globals whose values there differ.
-pub record AreContextFacts
-    (t : Program) (text : List ℕ) (s : SetupOf) (h : List Call) (n : ℕ) (f : ShownContext)
-    : Type 0 where
-  pub number : f.number ≡ n
-  pub first : ℕ
-  pub last : ℕ
-  pub context : IsContextOf n h f.thread first last
-  pub first_is : f.first ≡ suc first
-  pub last_is : f.last ≡ suc last
-  pub from : IsNextOf text (stack_of (configuration_after t s (take first h)) f.thread) f.from
-  pub to : IsNextOf text (stack_of (configuration_after t s (take (suc last) h)) f.thread) f.to
-  pub changes :
-      let before = configuration_after t s (take first h) in
-      let after = configuration_after t s (take (suc last) h) in
-      f.changes ≡ owned None (changed before.globals after.globals)
 
 -- Of a program and its text; after the history h in a setup.
 module _ (format : ViewFormat) (t : Program) (text : List ℕ) (s : SetupOf) (h : List Call) where

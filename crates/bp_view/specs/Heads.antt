@@ -10,8 +10,8 @@ use Rattle.bp_view.specs.declared.options.ViewFormat.{ViewFormat}
 use Rattle.bp_view.specs.declared.options.ViewFormat.TheVariants.{Columns, Json}
 use Rattle.bp_view.specs.declared.options.ViewOptions.{ViewOptions}
 use Rattle.bp_view.specs.declared.settings.Widths.{Widths}
-use Rattle.bp_view.specs.Changes.{variables_text}
 use Rattle.bp_view.specs.Headings.{headings_in}
+use Rattle.bp_view.specs.Variables.{variables_text}
 
 -- the number of a thread, and the procedure in which it begins
 abbrev pub thread_line : ℕ → List ℕ → List ℕ

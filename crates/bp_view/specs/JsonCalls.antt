@@ -6,9 +6,9 @@ use Rattle.bp_machine.specs.declared.calls.Reply.TheVariants.{Stopped, Ended, No
 use Rattle.bp_text.specs.JsonStrings.{string_text}
 use Rattle.bp_text.specs.Pieces.{bit_or_null, bit_text, key_text, list_text, number_or_null, string_or_null, truth_text}
 use Rattle.bp_source.specs.JsonPlaces.{column_of, line_of}
+use Rattle.bp_facts.specs.CallFacts.{choice_of, ShownCall}
 use Rattle.bp_view.specs.declared.options.ViewFormat.TheVariants.{Json}
-use Rattle.bp_view.specs.CallFacts.{choice_of, ShownCall}
-use Rattle.bp_view.specs.ChangeFacts.{entries_text}
+use Rattle.bp_view.specs.Variables.{entries_text}
 
 -- what is said of a reply
 abbrev pub reply_name : Reply → List ℕ
@@ -46,10 +46,10 @@ printed_text None = codes "null"
 printed_text (Some values) = list_text (flat_map bit_item values)
 
 -- a call: the members that have one value each, what it changed and what it printed
-abbrev pub call_object : ShownCall → List ℕ
-call_object f =
+abbrev pub call_object : ShownCall → (printed : Option (List Bool)) → List ℕ
+call_object f printed =
     concat (
     concat (member_texts f)
     ∷ key_text (codes "changes") ∷ list_text (entries_text Json f.changes)
-    ∷ key_text (codes "printed") ∷ printed_text f.printed
+    ∷ key_text (codes "printed") ∷ printed_text printed
     ∷ codes "}\n" ∷ [])

@@ -4,14 +4,14 @@ use Rattle.std.specs.List.{concat}
 use Rattle.bp_machine.specs.declared.calls.Reply.{Reply}
 use Rattle.bp_machine.specs.declared.calls.Reply.TheVariants.{Stopped, Ended, NoContexts, Full, Blocked, Failed, Stepped}
 use Rattle.bp_text.specs.Columns.{at_left, at_right, spaces}
+use Rattle.bp_facts.specs.CallFacts.{choice_of, ShownCall}
 use Rattle.bp_view.specs.declared.colours.Colour.{Colour}
 use Rattle.bp_view.specs.declared.options.ViewFormat.TheVariants.{Columns}
 use Rattle.bp_view.specs.declared.settings.TheConstants.{MAX_INDENTS}
 use Rattle.bp_view.specs.declared.settings.Widths.{Widths}
-use Rattle.bp_view.specs.CallFacts.{choice_of, ShownCall}
-use Rattle.bp_view.specs.ChangeFacts.{entries_text}
 use Rattle.bp_view.specs.Colours.{closing, colour_of, opening}
 use Rattle.bp_view.specs.StatementColumns.{shortened, within}
+use Rattle.bp_view.specs.Variables.{entries_text}
 
 -- what is said of a reply
 abbrev pub reply_words : Reply → List ℕ
@@ -60,12 +60,12 @@ times_text calls =
 
 -- the note of a call: its choice bit, the words of its reply, for how many calls the line stands,
 -- and what it changed
-abbrev pub note_text : ShownCall → List ℕ
-note_text f =
+abbrev pub note_text : ShownCall → (calls : ℕ) → List ℕ
+note_text f calls =
     concat (
     choice_text (choice_of f)
     ∷ reply_words f.call.reply
-    ∷ times_text f.calls
+    ∷ times_text calls
     ∷ entries_text Columns f.changes ∷ [])
 
 -- a note after this many spaces; no space is left where there is no note
@@ -74,24 +74,25 @@ after_room room [] = []
 after_room room (b ∷ bs) = concat (spaces room ∷ (b ∷ bs) ∷ [])
 
 -- the fields, the statement, and after its column the note
-abbrev pub call_text : Widths → ShownCall → List ℕ
-call_text w f =
+abbrev pub call_text : Widths → ShownCall → (calls : ℕ) → List ℕ
+call_text w f calls =
     let statement = indented w.statement f.next.depth f.next.words in
     concat (
     concat (field_texts w f)
     ∷ statement
-    ∷ after_room (w.words - length statement) (note_text f)
+    ∷ after_room (w.words - length statement) (note_text f calls)
     ∷ [])
 
 -- a line of at most so many columns, in a colour
-abbrev pub line_text : Widths → Colour → ShownCall → List ℕ
-line_text w colour f =
+abbrev pub line_text : Widths → Colour → ShownCall → (calls : ℕ) → List ℕ
+line_text w colour f calls =
     concat (
     opening colour
-    ∷ within w.line (call_text w f)
+    ∷ within w.line (call_text w f calls)
     ∷ closing colour
     ∷ codes "\n" ∷ [])
 
 -- in the colour of its reply, where colours are wanted
-abbrev pub column_line : (has_colour : Bool) → Widths → ShownCall → List ℕ
-column_line has_colour w f = line_text w (colour_of has_colour f.call.reply f.switch) f
+abbrev pub column_line : (has_colour : Bool) → Widths → ShownCall → (calls : ℕ) → List ℕ
+column_line has_colour w f calls =
+    line_text w (colour_of has_colour f.call.reply f.switch) f calls

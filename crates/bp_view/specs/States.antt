@@ -11,13 +11,36 @@ use Rattle.bp_text.specs.JsonStrings.{string_text}
 use Rattle.bp_text.specs.Pieces.{key_text, list_text, number_or_null}
 use Rattle.bp_trace.specs.declared.replaying.Replayed.{Replayed}
 use Rattle.bp_trace.specs.Replayed.{IsReplayed}
+use Rattle.bp_facts.specs.declared.standings.Standing.{Standing}
+use Rattle.bp_facts.specs.declared.standings.Standing.TheVariants as standing
+use Rattle.bp_facts.specs.StateFacts.{AreStateFacts, ShownState, ShownThread}
 use Rattle.bp_view.specs.declared.options.ViewFormat.{ViewFormat}
 use Rattle.bp_view.specs.declared.options.ViewFormat.TheVariants.{Columns, Json}
-use Rattle.bp_view.specs.Changes.{variables_text}
 use Rattle.bp_view.specs.Frames.{frames_text}
 use Rattle.bp_view.specs.Heads.{globals_line}
-use Rattle.bp_view.specs.Standings.{standing_name, standing_words}
-use Rattle.bp_view.specs.StateFacts.{AreStateFacts, ShownState, ShownThread}
+use Rattle.bp_view.specs.Variables.{variables_text}
+
+-- how a thread stands, for people
+abbrev pub standing_words : Standing → List ℕ
+standing_words standing.Finished = codes " is finished"
+standing_words standing.Failed = codes " failed"
+standing_words standing.OutOfContexts = codes " is out of contexts"
+standing_words standing.OutOfCalls = codes " is out of calls"
+standing_words standing.FullStack = codes " has a full stack"
+standing_words standing.Stopped = codes " is stopped"
+standing_words standing.Waiting = codes " waits"
+standing_words standing.Open = codes " goes on"
+
+-- and in JSON
+abbrev pub standing_name : Standing → List ℕ
+standing_name standing.Finished = codes "finished"
+standing_name standing.Failed = codes "failed"
+standing_name standing.OutOfContexts = codes "out_of_contexts"
+standing_name standing.OutOfCalls = codes "out_of_calls"
+standing_name standing.FullStack = codes "stack_full"
+standing_name standing.Stopped = codes "stopped"
+standing_name standing.Waiting = codes "waiting"
+standing_name standing.Open = codes "open"
 
 -- a thread for people, after an empty line, and the frames of its stack
 abbrev pub thread_lines : ShownThread → (frames : List ℕ) → List ℕ

@@ -1,13 +1,16 @@
 -- The view of a history of a program: a line for each of its calls that is shown.
 use Rattle.std.specs.Prelude.{◌≡◌, ◌<◌, ◌≤◌, ◌&&◌, ℕ, suc, Bool, true, false, nat_lt, List, [], ◌++◌, Option, None, Some, length, map, take, slice_get}
 use Rattle.bp_tree.specs.Ast.{Program}
+use Rattle.bp_code.specs.Configurations.{Configuration}
 use Rattle.bp_code.specs.Flat.{Flat}
 use Rattle.bp_code.specs.StandsFor.{places_of, StandsFor}
 use Rattle.bp_code.specs.Starts.{starts_of}
 use Rattle.bp_machine.specs.declared.calls.Call.{Call}
 use Rattle.bp_machine.specs.declared.reports.Report.{Report}
+use Rattle.bp_machine.specs.Answers.{stack_of}
 use Rattle.bp_machine.specs.ContextCounts.{last_thread}
-use Rattle.bp_machine.specs.Histories.{granted_threads}
+use Rattle.bp_machine.specs.Histories.{configuration_after, granted_threads}
+use Rattle.bp_machine.specs.PrintedRows.{values_printed}
 use Rattle.bp_machine.specs.Reports.{outcome_of}
 use Rattle.bp_machine.specs.Sessions.{Stands}
 use Rattle.bp_machine.specs.Setups.{SetupOf, threads}
@@ -16,25 +19,25 @@ use Rattle.bp_trace.specs.Replayed.{IsReplayed}
 use Rattle.bp_trace.specs.Replays.{IsPlayable, IsReplayRefusal}
 use Rattle.bp_source.specs.Places.{place_text}
 use Rattle.bp_source.specs.Scenes.{AreStatements}
+use Rattle.bp_facts.specs.CallFacts.{changes_by, printed_by, AreCallFacts, ShownCall}
+use Rattle.bp_facts.specs.Filters.{calls_of, is_asked}
+use Rattle.bp_facts.specs.Watches.{is_seen, watched_names, AreDeclared, IsUndeclared}
 use Rattle.bp_view.specs.declared.faults.ViewFault.{ViewFault}
 use Rattle.bp_view.specs.declared.faults.ViewFault.TheVariants.{NoThread, NoVariable, Replay}
-use Rattle.bp_view.specs.declared.settings.Setting.{Setting}
-use Rattle.bp_view.specs.declared.settings.Widths.{Widths}
-use Rattle.bp_view.specs.declared.writers.ViewWriter.{ViewWriter}
 use Rattle.bp_view.specs.declared.options.ViewFormat.{ViewFormat}
 use Rattle.bp_view.specs.declared.options.ViewFormat.TheVariants.{Columns, Json}
 use Rattle.bp_view.specs.declared.options.ViewOptions.{ViewOptions}
-use Rattle.bp_view.specs.CallFacts.{changes_by, AreCallFacts, ShownCall}
-use Rattle.bp_view.specs.ChangeFacts.{is_seen}
+use Rattle.bp_view.specs.declared.settings.Setting.{Setting}
+use Rattle.bp_view.specs.declared.settings.Widths.{Widths}
+use Rattle.bp_view.specs.declared.writers.ViewWriter.{ViewWriter}
 use Rattle.bp_view.specs.Ends.{IsEnd}
 use Rattle.bp_view.specs.Headings.{under_headings}
 use Rattle.bp_view.specs.Heads.{view_head}
 use Rattle.bp_view.specs.JsonCalls.{call_object}
 use Rattle.bp_view.specs.Lines.{column_line}
-use Rattle.bp_view.specs.Moments.{IsSettingOf}
-use Rattle.bp_view.specs.Options.{calls_of, is_shown}
+use Rattle.bp_view.specs.Options.{filter_of}
 use Rattle.bp_view.specs.Parts.{IsInParts}
-use Rattle.bp_view.specs.Watches.{watched_names, AreDeclared, IsUndeclared}
+use Rattle.bp_view.specs.Settings.{IsSettingOf}
 use Rattle.bp_view.specs.Widths.{extent, extent_of, AreWidths}
 use Rattle.bp_view.specs.Writing.{IsStopped, IsWritten}
 
@@ -43,10 +46,13 @@ abbrev pub IsThere : Option ℕ → (n : ℕ) → Type 0
 IsThere None n = Unit {0}
 IsThere (Some i) n = i < n
 
--- what a line of this format shows of a call
-abbrev pub line_in : ViewFormat → (has_colour : Bool) → Widths → ShownCall → List ℕ
-line_in Columns has_colour w f = column_line has_colour (under_headings w) f
-line_in Json has_colour w f = call_object f
+-- the line of a call in this format, where it stands for this many calls: columns show no printed
+-- values, and objects no calls
+abbrev pub line_in
+    : ViewFormat → (has_colour : Bool) → Widths → ShownCall → (calls : ℕ)
+    → (printed : Option (List Bool)) → List ℕ
+line_in Columns has_colour w f calls printed = column_line has_colour (under_headings w) f calls
+line_in Json has_colour w f calls printed = call_object f printed
 
 -- Of a program and its text, in a setup; the columns have these widths, and this is the whole
 -- history.
@@ -56,8 +62,11 @@ module _
   -- the line of the call x after the history h
   pub record IsViewLine (h : List Call) (x : Call) (line : List ℕ) : Type 0 where
     pub facts : ShownCall
-    pub facts_are : AreCallFacts t text s o whole h x facts
-    pub is : line ≡ line_in o.format o.has_colour w facts
+    pub facts_are : AreCallFacts t text s h x facts
+    pub is :
+        let calls = calls_of (filter_of o) whole h x in
+        let printed = printed_by (configuration_after t s h) x in
+        line ≡ line_in o.format o.has_colour w facts calls printed
 
   -- that line where it is shown, else nothing
   abbrev pub IsViewLineIf : Bool → List Call → Call → List ℕ → Type 0
@@ -67,9 +76,9 @@ module _
   -- that call has a line: it is asked for, it changed what is watched, and the line stands for it
   abbrev pub has_line : List Call → Call → Bool
   has_line h x =
-      is_shown o (length whole) (suc (length h)) x.thread
+      is_asked (filter_of o) (length whole) (suc (length h)) x.thread
       && (is_seen (watched_names o.watch) (changes_by t s h x)
-      && nat_lt 0 (calls_of o whole h x))
+      && nat_lt 0 (calls_of (filter_of o) whole h x))
 
   abbrev pub IsShownLine : List Call → Call → List ℕ → Type 0
   IsShownLine h x line = IsViewLineIf (has_line h x) h x line
@@ -144,6 +153,20 @@ module _ (t : Program) (text trace : List ℕ) (o : ViewOptions) (old new : Opti
 -- A device: thread i is to be shown alone, and is none of n threads.
 abbrev pub IsMissing : Option ℕ → (n : ℕ) → ViewFault → Type 0
 IsMissing only n f = (i : ℕ) × (only ≡ Some i) × (n ≤ i) × (f ≡ NoThread i)
+
+-- A device: name n of these is why a view is refused.
+abbrev pub IsNameFault : Program → List (List ℕ) → ViewFault → Type 0
+IsNameFault t names f = (n : ℕ) × (f ≡ NoVariable n) × IsUndeclared t names n
+
+-- A device: the printed values that a view of this format shows of a call.
+abbrev pub printed_in : ViewFormat → Configuration → Call → Option (List Bool)
+printed_in Columns c x = None
+printed_in Json c x = printed_by c x
+
+-- A device: those that it shows of the next step of thread i.
+abbrev pub next_print_in : ViewFormat → Configuration → ℕ → Option (List Bool)
+next_print_in Columns c i = None
+next_print_in Json c i = values_printed c.globals (stack_of c i)
 
 -- A device: the writer's session stands after a history of the program, and the writer has the
 -- thread of its last step and its length.

@@ -48,6 +48,6 @@ pub record AreWidths (s : SetupOf) (e : Extent) (w : Widths) : Type 0 where
 -- a device: the extent that the code reads from its setting
 abbrev pub extent_of : Setting → Extent
 extent_of x =
-    let places = map (λ s. s.place.items) x.scenes.now in
-    let statements = map (λ s. s.excerpt.words.items) x.scenes.now in
-    extent (length x.history.now) places statements (length x.procs.now) x.options.columns
+    let places = map (λ s. s.place.items) x.program.scenes.now in
+    let statements = map (λ s. s.excerpt.words.items) x.program.scenes.now in
+    extent (length x.history.now) places statements (length x.program.procs.now) x.options.columns

@@ -1,6 +1,6 @@
 //! The colours of a view's lines.
 ghost use Rattle.std.specs.Prelude.{◌≡◌};
-ghost use Rattle.bp_view.specs.Colours.{colour_of, opening, closing};
+ghost use Rattle.bp_view.specs.Colours.{closing, colour_of, opening};
 
 use bp_machine::Reply;
 

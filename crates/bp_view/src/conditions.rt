@@ -1,12 +1,12 @@
 //! The text of an assertion or an assumption at which a thread stands, from its facts.
 ghost use Rattle.std.specs.Prelude.{◌≡◌, ◌++◌, OnOk};
 ghost use Rattle.bp_source.specs.Places.{position_text};
+ghost use Rattle.bp_facts.specs.FootFacts.{condition_in};
 ghost use Rattle.bp_view.specs.Conditions.{condition_lines, condition_members, condition_object, condition_text, values_line};
-ghost use Rattle.bp_view.specs.FootFacts.{condition_in};
 
-use crate::foot_facts::ConditionFacts;
 use crate::lines::push_changed;
 use crate::options::ViewFormat;
+use bp_facts::ConditionFacts;
 use bp_source::push_two;
 use bp_text::Piece::{Bytes, Key, List, Number, Text};
 use bp_text::{push_bytes, push_pieces};

@@ -1,81 +1,34 @@
 //! The contexts of a history, a line for each.
-ghost use Rattle.std.specs.Prelude.{◌≡◌, ◌++◌, ℕ, suc, List, None, length, map, take, MatchResult, IfOk, OnOk};
+ghost use Rattle.std.specs.Prelude.{◌≡◌, ◌++◌, ℕ, suc, List, length, map, MatchResult, IfOk, OnOk};
 ghost use Rattle.bp_tree.specs.Ast.{Program};
 ghost use Rattle.bp_code.specs.StandsFor.{StandsFor};
 ghost use Rattle.bp_machine.specs.declared.calls.Call.{Call as Answered};
-ghost use Rattle.bp_machine.specs.Histories.{configuration_after};
 ghost use Rattle.bp_machine.specs.Setups.{FitsCode, SetupOf};
 ghost use Rattle.bp_trace.specs.Replays.{IsPlayable, IsReplayRefusal};
 ghost use Rattle.bp_text.specs.Pieces.{key_text};
 ghost use Rattle.bp_source.specs.Scenes.{AreScenes};
-ghost use Rattle.bp_view.specs.ChangeFacts.{entries_text, entry_of, owned};
-ghost use Rattle.bp_view.specs.Changes.{changed};
-ghost use Rattle.bp_view.specs.ContextLines.{context_in, context_line, context_object, context_text, contexts_head, position_or_null, AreContextFacts, AreContextLines, AreContextsOfTrace, IsContextLine};
+ghost use Rattle.bp_facts.specs.ChangeFacts.{entry_of};
+ghost use Rattle.bp_facts.specs.ContextFacts.{context_in};
+ghost use Rattle.bp_facts.specs.Spans.{AreSpans, IsSpan};
 ghost use Rattle.bp_view.specs.declared.options.ViewFormat.TheVariants.{Columns, Json};
-ghost use Rattle.bp_view.specs.Moments.{IsSettingOf};
+ghost use Rattle.bp_view.specs.ContextLines.{context_line, context_object, context_text, contexts_head, position_or_null, AreContextLines, AreContextsOfTrace, IsContextLine};
 ghost use Rattle.bp_view.specs.Parts.{Adds, IsInParts};
-ghost use Rattle.bp_view.specs.Spans.{AreSpans, IsSpan};
+ghost use Rattle.bp_view.specs.Settings.{IsSettingOf};
+ghost use Rattle.bp_view.specs.Variables.{entries_text};
 
-use crate::call_facts::{Next, next_of};
-use crate::change_facts::{Change, add_differing};
 use crate::lines::{push_changed, spaces_before};
 use crate::options::ViewFormat;
 use crate::settings::{Setting, Widths};
 use crate::shown_traces::{ShownTrace, shown_trace_of};
-use crate::spans::{Span, spans_of};
 use bp_check::Checked;
 use bp_code::Code;
+use bp_facts::{Change, ContextFacts, Span, facts_of_context, fill_changes_within, spans_of};
 use bp_machine::Report;
 use bp_source::{push_three, push_two};
 use bp_text::Piece::{Bytes, Key, Left, List, Number, NumberRight, Spaces};
 use bp_text::{Position, push_pieces};
 use bp_trace::ReplayFault;
 use std::alloc::{AllocError, Global};
-
-/// What is shown of a context.
-#[derive(Clone, Copy)]
-pub(crate) struct ContextFacts<'a> {
-    /// Its number, from 1.
-    pub(crate) number: u64,
-    pub(crate) thread: u32,
-    /// The number of its first call, from 1.
-    pub(crate) first: u64,
-    /// The number of its last call, from 1.
-    pub(crate) last: u64,
-    /// What its thread had next before the first of them.
-    pub(crate) from: Next<'a>,
-    /// What it had next after the last of them.
-    pub(crate) to: Next<'a>,
-    /// The globals whose values then differ.
-    pub(crate) changes: &'a [Change<'a>],
-}
-
-/// The facts of a span that is the context of this number, and that changed this.
-fn context_facts<'a>(
-    setting: &Setting<'a>,
-    number: u64,
-    span: &Span,
-    changes: &'a [Change<'a>],
-) -> ContextFacts<'a>
-    ensures facts { (t : Program) (text : List ℕ) (s : SetupOf) (h : List Answered)
-        → IsSettingOf t text setting.now
-        → (is : IsSpan t s h number span.now)
-        → let first = configuration_after t s (take is.first h) in
-        let last = configuration_after t s (take (suc is.last) h) in
-        map entry_of changes.entry.now ≡ owned None (changed first.globals last.globals)
-        → AreContextFacts t text s h number (context_in result) }
-    ensures changes { result.changes.now ≡ changes.entry.now }
-{
-    ContextFacts {
-        number,
-        thread: span.thread,
-        first: span.first,
-        last: span.last,
-        from: next_of(setting, span.before.top),
-        to: next_of(setting, span.after.top),
-        changes,
-    }
-}
 
 /// Adds a context for people. `note` is what it changed.
 fn push_context_line<'a>(
@@ -200,12 +153,10 @@ fn push_context<'a>(
         let line = IsContextLine format t text s h setting.now.widths number in
         OnOk result (Adds line view.old.items view.new.items) }
 {
-    changes.clear();
-    let (before, after) = (span.before.globals, span.after.globals);
-    add_differing(changes, None, setting.globals, 0, before, after)?;
+    fill_changes_within(changes, &setting.program, span)?;
     note.clear();
     push_changed(note, setting.options.format, changes)?;
-    let facts = context_facts(setting, number, span, changes);
+    let facts = facts_of_context(&setting.program, number, span, changes);
     push_context_in(view, note, setting, &facts)
 }
 

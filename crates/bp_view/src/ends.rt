@@ -6,8 +6,8 @@ ghost use Rattle.bp_machine.specs.declared.calls.Call.{Call as Answered};
 ghost use Rattle.bp_machine.specs.Reports.{outcome_of};
 ghost use Rattle.bp_machine.specs.Sessions.{Stands};
 ghost use Rattle.bp_view.specs.Ends.{after_foot, IsEnd, IsStateIf};
-ghost use Rattle.bp_view.specs.Moments.{IsSettingOf};
 ghost use Rattle.bp_view.specs.Parts.{Adds};
+ghost use Rattle.bp_view.specs.Settings.{IsSettingOf};
 
 use crate::options::ViewFormat;
 use crate::outcomes::foot_of;

@@ -1,12 +1,12 @@
 //! The text of a frame of a stack, from its facts.
 ghost use Rattle.std.specs.Prelude.{◌≡◌, ◌++◌, map, OnOk};
+ghost use Rattle.bp_facts.specs.StateFacts.{frame_in};
 ghost use Rattle.bp_view.specs.Frames.{frame_lines, frame_object, frame_text, frames_text, lead, locals_text};
-ghost use Rattle.bp_view.specs.StateFacts.{frame_in};
 
 use crate::conditions::values_lead;
 use crate::options::ViewFormat;
-use crate::state_facts::FrameFacts;
 use crate::variables::push_values;
+use bp_facts::FrameFacts;
 use bp_source::{column_of, line_of};
 use bp_text::Piece::{Bytes, Key, List, NumberOrNull, OneLine, Text};
 use bp_text::push_pieces;

@@ -2,8 +2,8 @@
 ghost use Rattle.std.specs.Prelude.{◌≡◌, ◌++◌, [], None, codes, false, flat_map, slice_get, unwrap_or, OnOk, IfOk};
 ghost use Rattle.bp_code.specs.Values.{binding};
 ghost use Rattle.bp_source.specs.Programs.{string_item};
-ghost use Rattle.bp_view.specs.Changes.{variables_text};
-ghost use Rattle.bp_view.specs.Heads.{globals_line, head_lines, head_object, number_line, seed_line, thread_line, thread_lines, setup_head, view_head};
+ghost use Rattle.bp_view.specs.Heads.{globals_line, head_lines, head_object, number_line, seed_line, setup_head, thread_line, thread_lines, view_head};
+ghost use Rattle.bp_view.specs.Variables.{variables_text};
 
 use crate::headings::push_headings;
 use crate::options::{ViewFormat, ViewOptions};
@@ -208,11 +208,11 @@ pub(crate) fn head_of(
     setup: &Setup,
 ) -> Result<Vec<u8>, AllocError>
     ensures { let x = setting.now in
-        let head = view_head x.options x.globals.now setup.now x.widths in
+        let head = view_head x.options x.program.globals.now setup.now x.widths in
         IfOk result (λ v. v.items ≡ head) }
 {
     let options = setting.options;
-    let mut head = setup_head(alloc, options, setup, setting.globals)?;
+    let mut head = setup_head(alloc, options, setup, setting.program.globals)?;
     push_headings(&mut head, options.format, setting.widths)?;
     Ok(head)
 }

@@ -1,15 +1,13 @@
 //! The object of a call in JSON, from its facts.
-ghost use Rattle.std.specs.Prelude.{◌≡◌, ◌++◌, flat_map, map, option_map, OnOk};
+ghost use Rattle.std.specs.Prelude.{◌≡◌, ◌++◌, flat_map, option_map, OnOk};
 ghost use Rattle.std.specs.List.{concat};
-ghost use Rattle.bp_text.specs.Pieces.{list_text};
-ghost use Rattle.bp_view.specs.CallFacts.{facts_in};
-ghost use Rattle.bp_view.specs.ChangeFacts.{entries_text, entry_of};
-ghost use Rattle.bp_view.specs.JsonCalls.{bit_item, call_object, member_texts, printed_text, reply_name};
+ghost use Rattle.bp_facts.specs.CallFacts.{facts_in};
 ghost use Rattle.bp_view.specs.declared.options.ViewFormat.TheVariants.{Json};
+ghost use Rattle.bp_view.specs.JsonCalls.{bit_item, call_object, member_texts, printed_text, reply_name};
 
-use crate::call_facts::CallFacts;
 use crate::lines::push_changed;
 use crate::options::ViewFormat;
+use bp_facts::CallFacts;
 use bp_machine::Reply;
 use bp_source::{column_of, line_of, push_four, push_three, push_two, wide};
 use bp_text::Piece::{
@@ -110,19 +108,21 @@ fn push_printed(
     }
 }
 
-/// Adds the object of a call. `note` is room for its lists.
+/// Adds the object of a call that printed these values, if any. `note` is room for its lists.
 pub(crate) fn push_object(
     line: &mut Vec<u8>,
     note: &mut Vec<u8>,
     facts: &CallFacts<'_>,
+    printed: Option<&[bool]>,
 ) -> Result<(), AllocError>
-    ensures { OnOk result
-        (line.new.items ≡ line.old.items ++ call_object (facts_in facts.now)) }
+    ensures { let printed = option_map (λ v. v.now) printed.entry in
+        OnOk result
+        (line.new.items ≡ line.old.items ++ call_object (facts_in facts.now) printed) }
 {
     push_members(line, facts)?;
     note.clear();
     push_changed(note, ViewFormat::Json, facts.changes)?;
     push_three(line, Key(b"changes"), List(note), Key(b"printed"))?;
-    push_printed(line, note, facts.printed)?;
+    push_printed(line, note, printed)?;
     push_piece(line, Bytes(b"}\n"))
 }

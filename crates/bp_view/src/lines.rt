@@ -1,19 +1,19 @@
 //! The line of a call in columns, from its facts.
-ghost use Rattle.std.specs.Prelude.{◌≡◌, ◌++◌, flat_map, map, option_map, OnOk};
+ghost use Rattle.std.specs.Prelude.{◌≡◌, ◌++◌, ℕ, map, OnOk};
 ghost use Rattle.std.specs.List.{concat};
 ghost use Rattle.bp_text.specs.Columns.{at_right, spaces};
 ghost use Rattle.bp_text.specs.Pieces.{piece_text};
-ghost use Rattle.bp_view.specs.CallFacts.{facts_in, next_in};
-ghost use Rattle.bp_view.specs.ChangeFacts.{entries_text, entry_of};
+ghost use Rattle.bp_facts.specs.CallFacts.{facts_in, next_in};
+ghost use Rattle.bp_facts.specs.ChangeFacts.{entry_of};
 ghost use Rattle.bp_view.specs.Lines.{after_room, call_text, choice_text, column_line, context_text, field_texts, indented, mark_text, note_text, reply_words, times_text};
+ghost use Rattle.bp_view.specs.Variables.{entries_text};
 
-use crate::call_facts::{CallFacts, Next};
-use crate::change_facts::Change;
 use crate::colours::Colour;
 use crate::options::ViewFormat;
 use crate::settings::{MAX_INDENTS, Widths};
 use crate::statement_columns::{cut_after, in_column};
 use crate::variables::push_value;
+use bp_facts::{CallFacts, Change, Next};
 use bp_machine::Reply;
 use bp_source::{push_four, push_three, push_two};
 use bp_text::Piece::{Bytes, Left, Number, NumberRight, Right, Spaces};
@@ -128,13 +128,13 @@ fn push_times(note: &mut Vec<u8>, calls: usize) -> Result<(), AllocError>
 
 /// Writes the note of a call: the choice bit where it is read, the reply where it is no step, for
 /// how many calls the line stands, and the variables that the step changed.
-fn write_note(note: &mut Vec<u8>, facts: &CallFacts<'_>) -> Result<(), AllocError>
-    ensures { OnOk result (note.new.items ≡ note_text (facts_in facts.now)) }
+fn write_note(note: &mut Vec<u8>, facts: &CallFacts<'_>, calls: usize) -> Result<(), AllocError>
+    ensures { OnOk result (note.new.items ≡ note_text (facts_in facts.now) calls) }
 {
     note.clear();
     let (choice, reply) = (choice_words(facts.choice()), reply_words(facts.call.reply));
     push_two(note, Bytes(choice), Bytes(reply))?;
-    push_times(note, facts.calls)?;
+    push_times(note, calls)?;
     push_changed(note, ViewFormat::Columns, facts.changes)
 }
 
@@ -152,9 +152,10 @@ fn push_call(
     widths: Widths,
     facts: &CallFacts<'_>,
 ) -> Result<(), AllocError>
-    ensures { let f = facts_in facts.now in
-        note.now ≡ note_text f
-        → OnOk result (line.new.items ≡ line.old.items ++ call_text widths f) }
+    ensures { (calls : ℕ)
+        → let f = facts_in facts.now in
+        note.now ≡ note_text f calls
+        → OnOk result (line.new.items ≡ line.old.items ++ call_text widths f calls) }
 {
     push_fields(line, widths, facts)?;
     let start = line.len();
@@ -164,20 +165,21 @@ fn push_call(
     push_two(line, Spaces(room), Bytes(note))
 }
 
-/// Adds the line of a call. It is in colour where that is wanted and the call is a failure or a
-/// switch. `note` is room for the call's note.
+/// Adds the line of a call, which stands for this many calls. It is in colour where that is wanted
+/// and the call is a failure or a switch. `note` is room for the call's note.
 pub(crate) fn push_line(
     line: &mut Vec<u8>,
     note: &mut Vec<u8>,
     widths: Widths,
     has_colour: bool,
     facts: &CallFacts<'_>,
+    calls: usize,
 ) -> Result<(), AllocError>
-    ensures { let text = column_line has_colour widths (facts_in facts.now) in
+    ensures { let text = column_line has_colour widths (facts_in facts.now) calls in
         OnOk result (line.new.items ≡ line.old.items ++ text) }
 {
     let colour = Colour::of(has_colour, facts.call.reply, facts.is_switch);
-    write_note(note, facts)?;
+    write_note(note, facts, calls)?;
     push_piece(line, Bytes(colour.opening()))?;
     let start = line.len();
     push_call(line, note, widths, facts)?;

@@ -1,6 +1,8 @@
 //! What a view shows.
 ghost use Rattle.std.specs.Prelude.{◌≡◌, None};
-ghost use Rattle.bp_view.specs.Options.{is_shown};
+ghost use Rattle.bp_view.specs.Options.{filter_of, folds_in};
+
+use bp_facts::CallFilter;
 
 /// How a view is written.
 #[derive(Clone, Copy)]
@@ -41,8 +43,6 @@ pub struct ViewOptions<'a> {
 }
 
 impl ViewOptions<'_> {
-    ghost use Rattle.bp_view.specs.Options.{before_last, folds, is_between, is_late, is_of_thread, last_number, skipped};
-
     /// All calls, without colours.
     pub(crate) fn all<'a>(format: ViewFormat) -> ViewOptions<'a>
         ensures { (result.format ≡ format) × (result.watch ≡ None) × (result.columns ≡ None) }
@@ -62,69 +62,23 @@ impl ViewOptions<'_> {
         }
     }
 
-    /// Whether the calls of the thread are shown.
-    fn shows_thread(&self, thread: u32) -> bool
-        ensures { result ≡ is_of_thread self.now.thread thread }
-    {
-        match self.thread {
-            Some(only) => thread == only,
-            None => true,
-        }
-    }
-
-    /// Whether the call of this number is among the last that are shown.
-    fn shows_last(&self, number: u64, count: u64) -> bool
-        ensures { result ≡ is_late self.now.last count number }
-    {
-        match self.last {
-            Some(last) => count.saturating_sub(number) < last,
-            None => true,
-        }
-    }
-
-    /// Whether the call of this number is between the first and the last that are shown.
-    fn shows_between(&self, number: u64) -> bool
-        ensures { result ≡ is_between self.now.from self.now.to number }
-    {
-        self.from.unwrap_or(0) <= number && number <= self.to.unwrap_or(number)
-    }
-
-    /// How many of `count` calls are before the last ones that are asked for.
-    fn before_last(&self, count: u64) -> u64
-        ensures { result ≡ before_last self.now.last count }
-    {
-        match self.last {
-            Some(last) => count.saturating_sub(last),
-            None => 0,
-        }
-    }
-
-    /// How many of `count` calls are before all those whose numbers are asked for.
-    pub(crate) fn skipped(&self, count: u64) -> u64
-        ensures { result ≡ skipped self.now count }
-    {
-        let before_first = self.from.unwrap_or(0).saturating_sub(1);
-        before_first.max(self.before_last(count))
-    }
-
-    /// The number of the last of `count` calls that is asked for.
-    pub(crate) fn last_number(&self, count: u64) -> u64
-        ensures { result ≡ last_number self.now count }
-    {
-        self.to.unwrap_or(count)
-    }
-
     /// Whether equal waits have one line.
-    pub(crate) fn folds(&self) -> bool
-        ensures { result ≡ folds self.now }
+    fn folds(&self) -> bool
+        ensures { result ≡ folds_in self.now.format self.now.fold }
     {
         self.fold && matches!(self.format, ViewFormat::Columns)
     }
 
-    /// Whether the call of this number is shown, where there are `count` calls.
-    pub(crate) fn shows(&self, thread: u32, number: u64, count: u64) -> bool
-        ensures { result ≡ is_shown self.now count number thread }
+    /// The calls that are asked for.
+    pub(crate) fn filter(&self) -> CallFilter
+        ensures { result ≡ filter_of self.now }
     {
-        self.shows_thread(thread) && self.shows_last(number, count) && self.shows_between(number)
+        CallFilter {
+            thread: self.thread,
+            last: self.last,
+            from: self.from,
+            to: self.to,
+            folds: self.folds(),
+        }
     }
 }

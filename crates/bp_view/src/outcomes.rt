@@ -5,15 +5,15 @@ ghost use Rattle.bp_code.specs.StandsFor.{StandsFor};
 ghost use Rattle.bp_machine.specs.declared.calls.Call.{Call as Answered};
 ghost use Rattle.bp_machine.specs.Reports.{outcome_of};
 ghost use Rattle.bp_machine.specs.Sessions.{Stands};
+ghost use Rattle.bp_facts.specs.FootFacts.{condition_in, foot_in};
 ghost use Rattle.bp_view.specs.declared.options.ViewFormat.TheVariants.{Columns, Json};
-ghost use Rattle.bp_view.specs.FootFacts.{condition_in, foot_in};
-ghost use Rattle.bp_view.specs.Moments.{IsSettingOf};
 ghost use Rattle.bp_view.specs.Outcomes.{clean_text, failure_text, foot_in_format, foot_text, outcome_text, wait_text, waits_text, IsFoot};
+ghost use Rattle.bp_view.specs.Settings.{IsSettingOf};
 
 use crate::conditions::{push_condition, push_condition_object};
-use crate::foot_facts::{ConditionFacts, FootFacts, foot_facts};
 use crate::options::ViewFormat;
 use crate::settings::Setting;
+use bp_facts::{ConditionFacts, FootFacts, facts_of_foot};
 use bp_machine::{Report, Session};
 use bp_source::push_three;
 use bp_text::Piece::{Bytes, Key, List, Number};
@@ -216,6 +216,6 @@ pub(crate) fn foot_of(
         let s = session.now.setup in
         IfOk result (λ v. IsFoot format t text s h report v.items) }
 {
-    let facts = foot_facts(alloc, setting, session, report)?;
+    let facts = facts_of_foot(alloc, &setting.program, session, report)?;
     foot_text(alloc, setting.options.format, &facts)
 }

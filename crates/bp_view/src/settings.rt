@@ -1,24 +1,17 @@
-//! What the lines of a view have in common: the program's scenes and names, and the widths of the
+//! What the lines of a view have in common: the facts of the program, and the widths of the
 //! columns.
-ghost use Rattle.std.specs.Prelude.{◌≡◌, ◌<◌, ◌≤◌, ◌^◌, ℕ, List, drop, length, map, max, take, IsSomeAnd};
-ghost use Rattle.bp_tree.specs.Ast.{Program};
-ghost use Rattle.bp_code.specs.Configurations.{Configuration, Frame};
-ghost use Rattle.bp_code.specs.StandsFor.{place};
-ghost use Rattle.bp_machine.specs.Tops.{IsTopOf};
-ghost use Rattle.bp_source.specs.Scenes.{IsScene};
-ghost use Rattle.bp_view.specs.Moments.{IsSettingOf};
-ghost use Rattle.bp_view.specs.Options.{calls_at, is_shown};
+ghost use Rattle.std.specs.Prelude.{◌≡◌, ◌<◌, ◌≤◌, ◌^◌, drop, length, map, max, take};
 ghost use Rattle.bp_view.specs.StatementColumns.{shortened};
 ghost use Rattle.bp_view.specs.Widths.{extent, extent_of, longest, AreWidths};
 
 use crate::options::ViewOptions;
 use crate::statement_columns::statement_room;
-use crate::waits::calls_in_line;
 use bp_check::Checked;
-use bp_machine::{Call, Setup, Top};
+use bp_facts::{ProgramFacts, facts_of_program};
+use bp_machine::{Call, Setup};
 use bp_source::Scene;
 use bp_text::digits;
-use bp_tree::{Name, Proc};
+use bp_tree::Proc;
 
 /// A statement is moved to the right by two columns for each frame of the stack, for this many
 /// frames at most.
@@ -38,28 +31,10 @@ pub(crate) struct Widths {
     pub(crate) line: Option<usize>,
 }
 
-/// The first calls, this many, or all where there are fewer.
-pub(crate) fn calls_to(calls: &[Call], count: u64) -> &[Call]
-    ensures { result.now ≡ take count calls.now }
-{
-    let end = count.min(calls.len() as u64) as usize;
-    &calls[..end]
-}
-
-/// The calls after the first ones, this many.
-fn calls_from(calls: &[Call], count: u64) -> &[Call]
-    ensures { result.now ≡ drop count calls.now }
-{
-    let start = count.min(calls.len() as u64) as usize;
-    &calls[start..]
-}
-
 /// What a view shows its calls of.
 #[derive(Clone, Copy)]
 pub(crate) struct Setting<'a> {
-    pub(crate) scenes: &'a [Scene],
-    pub(crate) globals: &'a [Name],
-    pub(crate) procs: &'a [Proc],
+    pub(crate) program: ProgramFacts<'a>,
     pub(crate) widths: Widths,
     /// The whole history.
     pub(crate) history: &'a [Call],
@@ -126,41 +101,6 @@ impl Setting<'_> {
     {
         self.history.len() as u64
     }
-
-    /// Whether the call of this number is one of those that are asked for.
-    pub(crate) fn shows(&self, thread: u32, number: u64) -> bool
-        ensures { let count = length self.now.history.now in
-            result ≡ is_shown self.now.options count number thread }
-    {
-        self.options.shows(thread, number, self.count())
-    }
-
-    /// For how many calls the line of the call with this number stands.
-    pub(crate) fn calls_in_line(&self, call: &Call, number: u64) -> usize
-        ensures { let whole = self.now.history.now in
-            result ≡ calls_at self.now.options whole number call.now }
-    {
-        let count = self.count();
-        let earlier = calls_to(self.history, number.saturating_sub(1));
-        let before = calls_from(earlier, self.options.skipped(count));
-        let later = calls_from(self.history, number);
-        let after = calls_to(
-            later,
-            self.options.last_number(count).saturating_sub(number),
-        );
-        calls_in_line(self.options.folds(), call, before, after)
-    }
-}
-
-/// What is shown of the next statement at this top of a stack.
-pub(crate) fn scene_of<'a>(setting: &Setting<'a>, top: Top) -> Option<&'a Scene>
-    ensures { (t : Program) (text : List ℕ) (c : Configuration) (frames : List Frame)
-        → IsSettingOf t text setting.now
-        → (is : IsTopOf t c frames top)
-        → let next = place is.frame.procedure is.frame.left in
-        IsSomeAnd result (λ scene. IsScene text t.procedures next scene.now) }
-{
-    setting.scenes.get(top.number as usize)
 }
 
 /// The setting of a view of a history in this setup.
@@ -172,22 +112,20 @@ pub(crate) fn setting_of<'a>(
     options: ViewOptions<'a>,
     names: &'a [&'a [u8]],
 ) -> Setting<'a>
-    ensures scenes { result.scenes.now ≡ scenes.now }
-    ensures globals { result.globals.now ≡ checked.now.globals }
-    ensures procedures { result.procs.now ≡ checked.now.procedures }
+    ensures scenes { result.program.scenes.now ≡ scenes.now }
+    ensures globals { result.program.globals.now ≡ checked.now.globals }
+    ensures procedures { result.program.procs.now ≡ checked.now.procedures }
     ensures widths { AreWidths setup.now (extent_of result) result.widths }
     ensures history { result.history.now ≡ history.now }
     ensures options { result.options ≡ options.entry }
     ensures names { result.names.now ≡ names.now }
 {
-    let tree = checked.tree();
+    let program = facts_of_program(scenes, checked);
     Setting {
-        scenes,
-        globals: tree.globals(),
-        procs: tree.procs(),
+        program,
         widths: widths_of(
             scenes,
-            tree.procs(),
+            program.procs,
             history.len() as u64,
             setup,
             options.columns,

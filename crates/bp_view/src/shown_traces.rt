@@ -4,7 +4,7 @@ ghost use Rattle.bp_tree.specs.Ast.{Program};
 ghost use Rattle.bp_code.specs.StandsFor.{StandsFor};
 ghost use Rattle.bp_trace.specs.Replays.{IsReplayRefusal};
 ghost use Rattle.bp_source.specs.Scenes.{AreScenes};
-ghost use Rattle.bp_view.specs.Moments.{IsSettingOf};
+ghost use Rattle.bp_view.specs.Settings.{IsSettingOf};
 ghost use Rattle.bp_view.specs.ShownTraces.{IsShownTrace};
 ghost use Rattle.bp_view.specs.Widths.{extent_of, AreWidths};
 

@@ -7,20 +7,19 @@ ghost use Rattle.bp_machine.specs.Sessions.{Stands};
 ghost use Rattle.bp_machine.specs.Setups.{FitsCode};
 ghost use Rattle.bp_trace.specs.Replays.{IsPlayable, IsReplayRefusal};
 ghost use Rattle.bp_source.specs.Scenes.{AreScenes};
+ghost use Rattle.bp_facts.specs.StateFacts.{state_in, thread_in};
 ghost use Rattle.bp_view.specs.Heads.{globals_line};
-ghost use Rattle.bp_view.specs.Moments.{IsSettingOf};
-ghost use Rattle.bp_view.specs.StateFacts.{state_in, thread_in};
-ghost use Rattle.bp_view.specs.States.{failed_line, failed_thread, state_lines, state_members, state_object, state_text, thread_lines, thread_object, thread_text, threads_text, IsStateOfTrace, IsStateText};
+ghost use Rattle.bp_view.specs.Settings.{IsSettingOf};
+ghost use Rattle.bp_view.specs.States.{failed_line, failed_thread, standing_name, standing_words, state_lines, state_members, state_object, state_text, thread_lines, thread_object, thread_text, threads_text, IsStateOfTrace, IsStateText};
 
 use crate::frames::push_frames;
 use crate::options::ViewFormat;
-use crate::played_again::session_after;
-use crate::settings::{Setting, calls_to};
+use crate::settings::Setting;
 use crate::shown_traces::{ShownTrace, shown_trace_of};
-use crate::state_facts::{StateFacts, ThreadFacts, state_facts};
 use crate::variables::push_values;
 use bp_check::Checked;
 use bp_code::Code;
+use bp_facts::{Standing, StateFacts, ThreadFacts, calls_to, facts_of_state, session_after};
 use bp_machine::{Call, Outcome, Report, Session};
 use bp_source::push_four;
 use bp_text::Piece::{Bytes, Key, List, Number, NumberOrNull, Text};
@@ -28,6 +27,38 @@ use bp_text::{push_bytes, push_pieces};
 use bp_trace::ReplayFault;
 use bp_tree::Name;
 use std::alloc::{AllocError, Global};
+
+/// How a thread stands, for people.
+fn standing_words(standing: Standing) -> &'static [u8]
+    ensures { result.now ≡ standing_words standing }
+{
+    match standing {
+        Standing::Finished => b" is finished",
+        Standing::Failed => b" failed",
+        Standing::OutOfContexts => b" is out of contexts",
+        Standing::OutOfCalls => b" is out of calls",
+        Standing::FullStack => b" has a full stack",
+        Standing::Stopped => b" is stopped",
+        Standing::Waiting => b" waits",
+        Standing::Open => b" goes on",
+    }
+}
+
+/// And in JSON.
+fn standing_name(standing: Standing) -> &'static [u8]
+    ensures { result.now ≡ standing_name standing }
+{
+    match standing {
+        Standing::Finished => b"finished",
+        Standing::Failed => b"failed",
+        Standing::OutOfContexts => b"out_of_contexts",
+        Standing::OutOfCalls => b"out_of_calls",
+        Standing::FullStack => b"stack_full",
+        Standing::Stopped => b"stopped",
+        Standing::Waiting => b"waiting",
+        Standing::Open => b"open",
+    }
+}
 
 /// Adds a thread with these frames, for people.
 fn push_thread_lines(
@@ -43,7 +74,7 @@ fn push_thread_lines(
         &[
             Bytes(b"\nthread "),
             Number(u64::from(thread.thread)),
-            Bytes(thread.standing.words()),
+            Bytes(standing_words(thread.standing)),
             Bytes(b"\n"),
             Bytes(frames),
         ],
@@ -65,7 +96,7 @@ fn push_thread_object(
             Bytes(b",{\"thread\":"),
             Number(u64::from(thread.thread)),
             Key(b"standing"),
-            Text(thread.standing.name()),
+            Text(standing_name(thread.standing)),
             Key(b"frames"),
             List(frames),
             Bytes(b"}"),
@@ -265,7 +296,7 @@ pub(crate) fn state_of(
         let s = session.now.setup in
         IfOk result (λ v. IsStateText format t text s history.now count v.items) }
 {
-    let facts = state_facts(alloc, setting, session, history, count)?;
+    let facts = facts_of_state(alloc, &setting.program, session, history, count)?;
     state_text(alloc, setting.options.format, &facts)
 }
 

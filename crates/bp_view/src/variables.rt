@@ -2,7 +2,7 @@
 ghost use Rattle.std.specs.Prelude.{◌≡◌, ◌<◌, ◌+◌, ◌^◌, ◌++◌, flat_map, length, option_map, OnOk};
 ghost use Rattle.bp_code.specs.Bits.{bits_of};
 ghost use Rattle.bp_code.specs.StandsFor.{valuation_of};
-ghost use Rattle.bp_view.specs.Changes.{owner_text, variable_object, variable_text, variable_words, variables_text};
+ghost use Rattle.bp_view.specs.Variables.{owner_text, variable_object, variable_text, variable_words, variables_text};
 ghost use Rattle.bp_text.specs.Pieces.{piece_text};
 
 use crate::options::ViewFormat;

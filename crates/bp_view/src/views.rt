@@ -3,10 +3,10 @@ ghost use Rattle.std.specs.Prelude.{◌≡◌, [], ℕ, List, map, MatchResult};
 ghost use Rattle.bp_tree.specs.Ast.{Program};
 ghost use Rattle.bp_code.specs.StandsFor.{StandsFor};
 ghost use Rattle.bp_machine.specs.Setups.{threads, FitsCode};
+ghost use Rattle.bp_facts.specs.Watches.{watched_names, AreDeclared};
 ghost use Rattle.bp_view.specs.Heads.{view_head};
 ghost use Rattle.bp_view.specs.ShownTraces.{IsShownTrace};
-ghost use Rattle.bp_view.specs.Views.{IsThere, HasMade, IsMissing, IsView, IsViewRefusal, IsViewable, IsViewed};
-ghost use Rattle.bp_view.specs.Watches.{watched_names};
+ghost use Rattle.bp_view.specs.Views.{HasMade, IsMissing, IsNameFault, IsThere, IsView, IsViewRefusal, IsViewable, IsViewed};
 ghost use Rattle.bp_view.specs.Writing.{IsStopped, IsWritten};
 
 use crate::ends::end_of;
@@ -15,10 +15,10 @@ use crate::heads::head_of;
 use crate::options::ViewOptions;
 use crate::settings::setting_of;
 use crate::shown_traces::{ShownTrace, shown_trace_of};
-use crate::watches::{check_names, watched_names};
 use crate::writers::ViewWriter;
 use bp_check::Checked;
 use bp_code::Code;
+use bp_facts::{undeclared, watched_names};
 use bp_machine::{AskFault, Report, Session, Setup};
 use bp_text::put;
 use bp_trace::ReplayFault;
@@ -45,6 +45,17 @@ fn check_thread(options: ViewOptions<'_>, setup: &Setup) -> Result<(), ViewFault
     }
 }
 
+/// Refuses the first of these names that no variable has.
+fn check_names(checked: &Checked, names: &[&[u8]]) -> Result<(), ViewFault>
+    ensures { let names = map (λ n. n.now) names.now in
+        MatchResult result (λ _. AreDeclared checked.now names) (IsNameFault checked.now names) }
+{
+    match undeclared(checked, names) {
+        Some(n) => Err(ViewFault::NoVariable(n)),
+        None => Ok(()),
+    }
+}
+
 /// Writes the head of a view, the line of each call, and the end. Each line is written before the
 /// next call is made.
 fn write_parts<W: Write>(
@@ -59,7 +70,7 @@ fn write_parts<W: Write>(
         let x = writer.old.setting in
         IsViewable writer.old.session.code t text s report x
         → HasMade t [] writer.old
-        → head.now ≡ view_head x.options x.globals.now s x.widths
+        → head.now ≡ view_head x.options x.program.globals.now s x.widths
         → let is_view = IsView t text s x.history.now report x.options in
         MatchResult result
         (λ _. IsWritten is_view (W.contents out.old) (W.contents out.new))

@@ -1,15 +1,42 @@
 //! The lines of a view, each made by a session that plays the history once more.
-ghost use Rattle.std.specs.Prelude.{◌≡◌, ◌++◌, ◌∷◌, [], ℕ, List, MatchResult, OnOk};
+ghost use Rattle.std.specs.Prelude.{◌≡◌, ◌++◌, ◌∷◌, [], ℕ, List, option_map, MatchResult, OnOk};
 ghost use Rattle.bp_tree.specs.Ast.{Program};
+ghost use Rattle.bp_code.specs.StandsFor.{StandsFor};
 ghost use Rattle.bp_machine.specs.declared.calls.Call.{Call as Answered};
+ghost use Rattle.bp_machine.specs.Answers.{stack_of};
+ghost use Rattle.bp_machine.specs.Histories.{configuration_after};
+ghost use Rattle.bp_machine.specs.PrintedRows.{values_printed};
+ghost use Rattle.bp_machine.specs.Sessions.{Stands, IsPrintRefusal};
 ghost use Rattle.bp_trace.specs.Replays.{IsPlayable};
-ghost use Rattle.bp_view.specs.Moments.{IsSettingOf};
+ghost use Rattle.bp_view.specs.Settings.{IsSettingOf};
+ghost use Rattle.bp_view.specs.Views.{next_print_in};
 
-use crate::change_facts::Change;
-use crate::moments::{last_step, moment_of, next_print, printed_by};
+use crate::options::ViewFormat;
 use crate::settings::Setting;
 use crate::shown::push_shown;
+use bp_facts::{Change, last_step, moment_of, printed_by};
 use bp_machine::{AskFault, Call, Session};
+
+/// The values that the next statement of a thread prints, where a view of this format shows them.
+fn next_print(
+    session: &Session,
+    format: ViewFormat,
+    thread: u32,
+) -> Result<Option<Vec<bool>>, AskFault>
+    ensures { (t : Program) (h : List Answered)
+        → StandsFor session.now.code t
+        → Stands t session.now h
+        → let now = configuration_after t session.now.setup h in
+        MatchResult result
+        (λ values. option_map (λ v. v.items) values ≡ next_print_in format now thread)
+        (IsPrintRefusal session.now.setup thread
+        (values_printed now.globals (stack_of now thread))) }
+{
+    match format {
+        ViewFormat::Columns => Ok(None),
+        ViewFormat::Json => session.next_print(thread),
+    }
+}
 
 /// Who makes the lines of a view, one for each call of its history.
 #[derive(Drop)]

@@ -1,8 +1,8 @@
 use Rattle.std.proofs.Common.{ap, length, subst, sym}
 use Rattle.std.proofs.lemmas.Result.{IfOk-weaker}
 use Rattle.bp_trace.specs.Replays.{IsPlayable}
+use Rattle.bp_facts.specs.Spans.{AreSpans}
 use Rattle.bp_view.specs.ContextLines.{AreContextLines}
-use Rattle.bp_view.specs.Spans.{AreSpans}
 use Rattle.bp_view.proofs.AllContexts.{all_contexts}
 use Rattle.bp_view.proofs.contexts.contexts_in.Goals as goal
 

@@ -1,8 +1,8 @@
 use Rattle.std.proofs.Common.{◌≡◌, ◌<◌, ℕ, List, suc, length, subst, sym, add-one, arith}
+use Rattle.bp_facts.proofs.SpansOfHistories.{span_of}
 use Rattle.bp_view.specs.ContextLines.{IsContextLine}
 use Rattle.bp_view.specs.Parts.{Adds, IsInParts}
 use Rattle.bp_view.proofs.PartsOfTexts.{none_added, one_added}
-use Rattle.bp_view.proofs.SpansOfHistories.{span_of}
 use Rattle.bp_view.proofs.contexts.push_contexts.Goals as goal
 
 pub loop-n-init : goal.loop-n-init

@@ -4,8 +4,9 @@ use Rattle.bp_tree.specs.Ast.{Name}
 use Rattle.bp_code.specs.Bits.{bits_of}
 use Rattle.bp_code.specs.Steps.{Bits}
 use Rattle.bp_code.specs.StandsFor.{valuation_of}
-use Rattle.bp_view.specs.Changes.{variables_text}
-use Rattle.bp_view.proofs.ChangedVariables.{from_first, values_append}
+use Rattle.bp_facts.proofs.ChangedVariables.{from_first}
+use Rattle.bp_view.specs.Variables.{variables_text}
+use Rattle.bp_view.proofs.TextsOfVariables.{values_append}
 use Rattle.bp_view.proofs.frames.push_locals.Goals as goal
 
 pub returns : goal.returns

@@ -2,7 +2,7 @@ use Rattle.std.proofs.Common.{◌≡◌, ◌∙◌, ◌++◌, ◌<◌, ℕ, List
 use Rattle.std.proofs.lemmas.Result.{on_ok_weaker}
 use Rattle.bp_code.specs.Values.{binding}
 use Rattle.bp_view.specs.declared.options.ViewFormat.TheVariants.{Columns}
-use Rattle.bp_view.specs.Changes.{variables_text}
+use Rattle.bp_view.specs.Variables.{variables_text}
 use Rattle.bp_view.proofs.PartsOfHeads.{line_of_some}
 use Rattle.bp_view.proofs.heads.push_globals.Goals as goal
 

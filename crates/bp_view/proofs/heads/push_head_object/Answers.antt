@@ -3,10 +3,10 @@ use Rattle.bp_code.specs.Values.{binding}
 use Rattle.bp_text.specs.Pieces.{key_text, list_text, number_or_null}
 use Rattle.bp_source.specs.Programs.{string_item}
 use Rattle.bp_view.specs.declared.options.ViewFormat.TheVariants.{Json}
-use Rattle.bp_view.specs.Changes.{variables_text}
-use Rattle.bp_source.proofs.JoinedPieces.{when_ok}
+use Rattle.bp_view.specs.Variables.{variables_text}
 use Rattle.bp_view.proofs.JoinedTexts.{setup_joined}
 use Rattle.bp_view.proofs.heads.push_head_object.Goals as goal
+use Rattle.bp_source.proofs.JoinedPieces.{when_ok}
 
 pub returns : goal.returns
 returns c =

@@ -1,6 +1,6 @@
 use Rattle.std.proofs.Common.{◌≡◌, ◌∙◌, ◌++◌, ◌<◌, None, false, length, take, get_or, slice_get, unwrap_or, ap, sym, append_assoc, add-one, arith}
 use Rattle.bp_code.specs.Values.{binding}
-use Rattle.bp_view.specs.Changes.{variable_text, variables_text}
+use Rattle.bp_view.specs.Variables.{variable_text, variables_text}
 use Rattle.bp_view.proofs.PartsOfHeads.{value_more}
 use Rattle.bp_view.proofs.heads.push_values.Goals as goal
 

@@ -1,6 +1,6 @@
 use Rattle.std.proofs.Common.{◌≡◌, ◌++◌, None, take}
 use Rattle.bp_code.specs.Values.{binding}
-use Rattle.bp_view.specs.Changes.{variables_text}
+use Rattle.bp_view.specs.Variables.{variables_text}
 use Rattle.bp_view.proofs.heads.push_values.Given as goal
 
 abbrev pub invariant-loop-n : goal.invariant-loop-n

@@ -1,8 +1,8 @@
 use Rattle.bp_text.proofs.PiecesInTurn.{all_added}
-use Rattle.bp_view.specs.CallFacts.{facts_in}
+use Rattle.bp_facts.specs.CallFacts.{facts_in}
 use Rattle.bp_view.specs.JsonCalls.{member_texts}
-use Rattle.bp_source.proofs.JoinedPieces.{when_ok}
 use Rattle.bp_view.proofs.json_calls.push_members.Goals as goal
+use Rattle.bp_source.proofs.JoinedPieces.{when_ok}
 
 pub returns : goal.returns
 returns c =

@@ -1,18 +1,20 @@
-use Rattle.std.proofs.Common.{[], ◌∷◌, codes}
+use Rattle.std.proofs.Common.{[], ◌∷◌, codes, Bool, Bor, List}
+use Rattle.std.specs.Prelude.{option_map}
 use Rattle.std.specs.List.{concat}
 use Rattle.bp_text.proofs.PiecesInTurn.{all_added}
 use Rattle.bp_text.specs.Pieces.{key_text, list_text}
-use Rattle.bp_view.specs.CallFacts.{facts_in}
-use Rattle.bp_view.specs.ChangeFacts.{entries_text}
+use Rattle.bp_facts.specs.CallFacts.{facts_in}
 use Rattle.bp_view.specs.declared.options.ViewFormat.TheVariants.{Json}
 use Rattle.bp_view.specs.JsonCalls.{member_texts, printed_text}
-use Rattle.bp_source.proofs.JoinedPieces.{when_ok}
+use Rattle.bp_view.specs.Variables.{entries_text}
 use Rattle.bp_view.proofs.json_calls.push_object.Goals as goal
+use Rattle.bp_source.proofs.JoinedPieces.{when_ok}
 
 pub returns : goal.returns
 returns c =
     let f = facts_in c.args.facts.now in
-    let lists = key_text (codes "changes") ∷ list_text (entries_text Json f.changes) ∷ key_text (codes "printed") ∷ printed_text f.printed ∷ codes "}\n" ∷ [] in
+    let printed = option_map (λ (v : Bor (List Bool)). v.now) c.args.printed in
+    let lists = key_text (codes "changes") ∷ list_text (entries_text Json f.changes) ∷ key_text (codes "printed") ∷ printed_text printed ∷ codes "}\n" ∷ [] in
     when_ok c.push_piece.result c.push_piece.ensures (λ added.
     rw (
       added,

@@ -1,5 +1,5 @@
-use Rattle.bp_view.proofs.OneContext.{one_list}
-use Rattle.bp_view.proofs.OneState.{one_state}
+use Rattle.bp_view.proofs.OneContextList.{one_list}
+use Rattle.bp_view.proofs.OneStateText.{one_state}
 use Rattle.bp_view.proofs.OneView.{one_view}
 use Rattle.bp_view.proofs.laws.views_are_single.Goals as goal
 

@@ -1,11 +1,11 @@
 use Rattle.std.proofs.Common.{[], ◌∷◌}
 use Rattle.bp_text.proofs.PiecesInTurn.{all_added}
-use Rattle.bp_view.specs.CallFacts.{choice_of, facts_in}
-use Rattle.bp_view.specs.ChangeFacts.{entries_text}
+use Rattle.bp_facts.specs.CallFacts.{choice_of, facts_in}
 use Rattle.bp_view.specs.declared.options.ViewFormat.TheVariants.{Columns}
 use Rattle.bp_view.specs.Lines.{choice_text, reply_words, times_text}
-use Rattle.bp_source.proofs.JoinedPieces.{when_ok}
+use Rattle.bp_view.specs.Variables.{entries_text}
 use Rattle.bp_view.proofs.lines.write_note.Goals as goal
+use Rattle.bp_source.proofs.JoinedPieces.{when_ok}
 
 pub returns : goal.returns
 returns c =
@@ -20,4 +20,4 @@ returns c =
       c.choice.ensures,
       c.reply_words-reply.ensures,
     )
-    (all_added [] (choice_text (choice_of f) ∷ reply_words f.call.reply ∷ times_text f.calls ∷ entries_text Columns f.changes ∷ [])))
+    (all_added [] (choice_text (choice_of f) ∷ reply_words f.call.reply ∷ times_text c.args.calls ∷ entries_text Columns f.changes ∷ [])))

@@ -1,5 +1,5 @@
 use Rattle.std.proofs.Common.{◌≡◌, flat_map, take}
-use Rattle.bp_view.specs.FootFacts.{condition_in}
+use Rattle.bp_facts.specs.FootFacts.{condition_in}
 use Rattle.bp_view.specs.Outcomes.{wait_text}
 use Rattle.bp_view.proofs.outcomes.waits_text.Given as goal
 

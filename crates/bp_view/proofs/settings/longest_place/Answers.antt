@@ -1,6 +1,6 @@
 use Rattle.std.proofs.Common.{◌≡◌, ◌+◌, ◌<◌, take, length, max, ap, add-one, arith}
 use Rattle.bp_view.specs.Widths.{longest}
-use Rattle.bp_view.proofs.LongestPlaces.{place_items, longest_more}
+use Rattle.bp_view.proofs.LongestPlaces.{longest_more, place_items}
 use Rattle.bp_view.proofs.settings.longest_place.Goals as goal
 
 pub loop-scene-preserved : goal.loop-scene-preserved

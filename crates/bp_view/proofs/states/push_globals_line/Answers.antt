@@ -4,10 +4,10 @@ use Rattle.bp_tree.specs.Ast.{Name}
 use Rattle.bp_code.specs.Bits.{bits_of}
 use Rattle.bp_code.specs.Steps.{Bits}
 use Rattle.bp_code.specs.StandsFor.{valuation_of}
+use Rattle.bp_facts.proofs.ChangedVariables.{from_first}
 use Rattle.bp_view.specs.declared.options.ViewFormat.TheVariants.{Columns}
-use Rattle.bp_view.specs.Changes.{variables_text}
 use Rattle.bp_view.specs.Heads.{globals_line}
-use Rattle.bp_view.proofs.ChangedVariables.{from_first}
+use Rattle.bp_view.specs.Variables.{variables_text}
 use Rattle.bp_view.proofs.states.push_globals_line.Goals as goal
 
 regrouped : (a b c d : List ℕ) → ((a ++ b) ++ c) ++ d ≡ a ++ ((b ++ c) ++ d)

@@ -1,7 +1,7 @@
 use Rattle.std.proofs.Common.{◌∙◌, ap, length, subst, sym, take}
 use Rattle.bp_code.specs.StandsFor.{StandsFor}
 use Rattle.bp_trace.specs.Replays.{IsPlayable}
-use Rattle.bp_view.proofs.PlayedFronts.{front_playable}
+use Rattle.bp_facts.proofs.PlayedFronts.{front_playable}
 use Rattle.bp_view.proofs.states.state_after.Goals as goal
 
 pub session_after-requires-clause-playable : goal.session_after-requires-clause-playable

@@ -3,8 +3,8 @@ use Rattle.std.specs.Prelude.{option_map}
 use Rattle.bp_code.specs.Bits.{bits_of}
 use Rattle.bp_code.specs.StandsFor.{valuation_of}
 use Rattle.bp_code.specs.Steps.{Bits}
-use Rattle.bp_view.specs.Changes.{variable_text, variables_text}
-use Rattle.bp_view.proofs.ChangedVariables.{values_more}
+use Rattle.bp_view.specs.Variables.{variable_text, variables_text}
+use Rattle.bp_view.proofs.TextsOfVariables.{values_more}
 use Rattle.bp_view.proofs.variables.push_values.Goals as goal
 
 pub loop-n-preserved : goal.loop-n-preserved

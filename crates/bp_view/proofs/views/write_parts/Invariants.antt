@@ -10,5 +10,5 @@ invariant-loop-recorded g l =
     let w = l.fn.writer in
     let s = w.session.setup in
     (t : Program) (text : List ℕ) → IsViewable w.session.code t text s l.report w.setting → HasMade t [] w
-    → l.head ≡ view_head w.setting.options w.setting.globals.now s w.setting.widths
+    → l.head ≡ view_head w.setting.options w.setting.program.globals.now s w.setting.widths
     → HasWritten t text s w.setting l.recorded-index l.writer (g.W.Write.contents l.fn.out) (g.W.Write.contents l.out)

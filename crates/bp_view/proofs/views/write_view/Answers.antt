@@ -5,11 +5,11 @@ use Rattle.bp_code.specs.StandsFor.{StandsFor}
 use Rattle.bp_machine.specs.Setups.{threads}
 use Rattle.bp_trace.specs.declared.replaying.Replayed.{Replayed}
 use Rattle.bp_trace.specs.Replayed.{IsReplayed}
+use Rattle.bp_facts.specs.Watches.{watched_names, AreDeclared}
 use Rattle.bp_view.specs.declared.faults.ViewFault.{ViewFault}
 use Rattle.bp_view.specs.declared.faults.ViewFault.TheVariants.{Memory, NoThread, NoVariable, Replay, Write}
 use Rattle.bp_view.specs.declared.options.ViewOptions.{ViewOptions}
-use Rattle.bp_view.specs.Views.{IsThere, IsMissing, IsView, IsViewable, IsViewed, IsViewOfTrace, IsViewRefusal}
-use Rattle.bp_view.specs.Watches.{watched_names, AreDeclared, IsNameFault}
+use Rattle.bp_view.specs.Views.{IsMissing, IsNameFault, IsThere, IsView, IsViewOfTrace, IsViewRefusal, IsViewable, IsViewed}
 use Rattle.bp_view.specs.Writing.{IsStopped, IsWritten}
 use Rattle.bp_view.proofs.BegunViews.{none_begun}
 use Rattle.bp_view.proofs.ViewableSettings.{begun_of_trace, viewable, written_of_trace}

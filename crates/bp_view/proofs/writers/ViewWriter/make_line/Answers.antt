@@ -7,10 +7,9 @@ use Rattle.bp_machine.specs.Sessions.{Stands}
 use Rattle.bp_machine.specs.Histories.{configuration_after, granted_threads}
 use Rattle.bp_machine.specs.Replies.{is_granted}
 use Rattle.bp_trace.proofs.PlayableFronts.{own_is}
-use Rattle.bp_view.specs.CallFacts.{next_print_in}
-use Rattle.bp_view.specs.Views.{IsShownLine}
+use Rattle.bp_facts.proofs.RecordedCalls.{next_number, own_refused, print_refused}
+use Rattle.bp_view.specs.Views.{next_print_in, IsShownLine}
 use Rattle.bp_view.proofs.PrintedValues.{printed_of}
-use Rattle.bp_view.proofs.RecordedCalls.{next_number, own_refused, print_refused}
 use Rattle.bp_view.proofs.writers.ViewWriter.make_line.Goals as goal
 
 pub returns-clause-made : goal.returns-clause-made

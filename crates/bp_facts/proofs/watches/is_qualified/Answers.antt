@@ -1,0 +1,29 @@
+use Rattle.std.proofs.Common.{◌≡◌, ◌∙◌, ◌&&◌, ◌++◌, Bool, false, bytes_eq, codes, drop, length, ap, sym, append_assoc}
+use Rattle.bp_facts.specs.Watches.{qualified}
+use Rattle.bp_facts.proofs.QualifiedNames.{both_parts}
+use Rattle.bp_facts.proofs.watches.is_qualified.Goals as goal
+
+pub returns-then-eq : goal.returns-then-eq
+returns-then-eq c =
+    let text = c.args.text.now in
+    let own = c.args.procedure.now in
+    let name = c.args.name.now in
+    let first = sym c.if-eq.true ∙ c.eq.ensures ∙ ap (λ t. bytes_eq t own) c.part_before.ensures in
+    c.is_after_dot.ensures
+    ∙ ap (λ t. bytes_eq t (codes "." ++ name)) c.part_from.ensures
+    ∙ ap (λ (b : Bool). b && bytes_eq (drop (length own) text) (codes "." ++ name)) first
+    ∙ both_parts text own (codes "." ++ name)
+    ∙ ap (bytes_eq text) (sym (append_assoc own (codes ".") name))
+
+pub returns-else-eq : goal.returns-else-eq
+returns-else-eq c =
+    let text = c.args.text.now in
+    let own = c.args.procedure.now in
+    let name = c.args.name.now in
+    let first = sym (ap (λ t. bytes_eq t own) c.part_before.ensures) ∙ sym c.eq.ensures ∙ c.if-eq.false in
+    let whole : bytes_eq text (qualified own name) ≡ false =
+    ap (bytes_eq text) (append_assoc own (codes ".") name)
+    ∙ sym (both_parts text own (codes "." ++ name))
+    ∙ ap (λ (b : Bool). b && bytes_eq (drop (length own) text) (codes "." ++ name)) first
+    in
+    c.if-eq.false ∙ sym whole

@@ -1,0 +1,16 @@
+pub mod CallFacts
+pub mod ChangeFacts
+pub mod Changes
+pub mod ContextFacts
+pub mod Filters
+pub mod FootFacts
+pub mod Laws
+pub mod Moments
+pub mod NameLists
+pub mod ProgramFacts
+pub mod ReplayedChanges
+pub mod Spans
+pub mod Standings
+pub mod StateFacts
+pub mod Waits
+pub mod Watches

@@ -1,0 +1,118 @@
+-- What is shown of a state, as plain facts.
+use Rattle.std.specs.Prelude.{◌≡◌, ℕ, suc, Bool, List, [], ◌∷◌, Option, length, map, option_map}
+use Rattle.bp_tree.specs.Ast.{Procedure, Program}
+use Rattle.bp_code.specs.Bits.{bits_of}
+use Rattle.bp_code.specs.Configurations.{Frame}
+use Rattle.bp_code.specs.StandsFor.{valuation_of, variables}
+use Rattle.bp_code.specs.Starts.{start_of_block}
+use Rattle.bp_code.specs.Values.{Valuation}
+use Rattle.bp_machine.specs.declared.calls.Call.{Call}
+use Rattle.bp_machine.specs.declared.reports.Outcome.{Outcome}
+use Rattle.bp_machine.specs.Answers.{stack_of}
+use Rattle.bp_machine.specs.Histories.{configuration_after}
+use Rattle.bp_machine.specs.Reports.{outcome_of}
+use Rattle.bp_machine.specs.Setups.{SetupOf, threads}
+use Rattle.bp_text.specs.declared.positions.Position.{Position}
+use Rattle.bp_text.specs.Positions.{position_at}
+use Rattle.bp_source.specs.Places.{place_text}
+use Rattle.bp_source.specs.Scenes.{IsStatementAt}
+use Rattle.bp_facts.specs.declared.standings.Standing.{Standing}
+use Rattle.bp_facts.specs.declared.state_facts.FrameFacts.{FrameFacts}
+use Rattle.bp_facts.specs.declared.state_facts.StateFacts.{StateFacts}
+use Rattle.bp_facts.specs.declared.state_facts.ThreadFacts.{ThreadFacts}
+use Rattle.bp_facts.specs.Standings.{standing}
+
+-- What is shown of a frame: how many frames are above it; its procedure; where its next statement
+-- begins, as it is printed and as a line and a column; the words of that statement; and its
+-- variables with their values.
+pub record ShownFrame : Type 0 where
+  pub above : ℕ
+  pub procedure : Procedure
+  pub place : List ℕ
+  pub position : Option Position
+  pub words : List ℕ
+  pub locals : Valuation
+
+-- what is shown of a thread: its number, how it stands, and the frames of its stack from the top
+pub record ShownThread : Type 0 where
+  pub thread : ℕ
+  pub standing : Standing
+  pub frames : List ShownFrame
+
+-- What is shown of a state: how many calls were made, and how many the history has; whether an
+-- assertion failed; the globals with their values; and the threads.
+pub record ShownState : Type 0 where
+  pub number : ℕ
+  pub count : ℕ
+  pub outcome : Outcome
+  pub globals : Valuation
+  pub threads : List ShownThread
+
+-- what the values of src/ say
+abbrev pub frame_in : FrameFacts → ShownFrame
+frame_in x =
+    record {
+      above = x.above;
+      procedure = x.proc.now;
+      place = x.place.now;
+      position = x.position;
+      words = x.words.now;
+      locals = valuation_of (variables x.proc.now) (bits_of x.locals);
+    }
+
+abbrev pub thread_in : ThreadFacts → ShownThread
+thread_in x =
+    record {
+      thread = x.thread;
+      standing = x.standing;
+      frames = map frame_in x.frames.items;
+    }
+
+abbrev pub state_in : StateFacts → ShownState
+state_in x =
+    record {
+      number = x.number;
+      count = x.count;
+      outcome = x.outcome;
+      globals = valuation_of x.globals.now (bits_of x.values);
+      threads = map thread_in x.threads.items;
+    }
+
+module _ (text : List ℕ) where
+  -- these are the facts of a frame that has n others above it
+  pub record AreFrameFacts (n : ℕ) (f : Frame) (x : ShownFrame) : Type 0 where
+    pub above : x.above ≡ n
+    pub procedure : x.procedure ≡ f.procedure
+    pub place : x.place ≡ place_text text (start_of_block f.left)
+    pub position : x.position ≡ option_map (position_at text) (start_of_block f.left)
+    pub reads : Bool
+    pub words : IsStatementAt text f.procedure (start_of_block f.left) x.words reads
+    pub locals : x.locals ≡ f.locals
+
+  -- these are the facts of the frames below n others, one for each
+  abbrev pub AreStackFacts : ℕ → List Frame → List ShownFrame → Type 0
+  AreStackFacts n [] [] = Unit {0}
+  AreStackFacts n (f ∷ fs) (x ∷ xs) = AreFrameFacts n f x × AreStackFacts (suc n) fs xs
+  AreStackFacts n fs xs = ⊥
+
+-- Of a program and its text, in a setup; after the history h.
+module _ (t : Program) (text : List ℕ) (s : SetupOf) (h : List Call) where
+  -- these are the facts of thread i
+  pub record AreThreadFacts (i : ℕ) (x : ShownThread) : Type 0 where
+    pub thread : x.thread ≡ i
+    pub standing_is : x.standing ≡ standing t s h i
+    pub frames : AreStackFacts text 0 (stack_of (configuration_after t s h) i) x.frames
+
+  -- these are the facts of the threads from thread i on
+  abbrev pub AreThreadsFacts : ℕ → List ShownThread → Type 0
+  AreThreadsFacts i [] = Unit {0}
+  AreThreadsFacts i (x ∷ xs) = AreThreadFacts i x × AreThreadsFacts (suc i) xs
+
+  -- these are the facts of the state, where the whole history has this many calls
+  pub record AreStateFacts (count : ℕ) (x : ShownState) : Type 0 where
+    pub number : x.number ≡ length h
+    pub count_is : x.count ≡ count
+    pub outcome : x.outcome ≡ outcome_of h
+    pub globals : x.globals ≡ (configuration_after t s h).globals
+    pub all_threads : length x.threads ≡ threads s
+    pub threads_are : AreThreadsFacts 0 x.threads

@@ -1,0 +1,110 @@
+//! Which calls of a history are asked for, and for how many calls a line stands.
+ghost use Rattle.std.specs.Prelude.{◌≡◌, drop, take};
+ghost use Rattle.bp_facts.specs.Filters.{before_last, calls_at, is_asked, is_between, is_late, is_of_thread, last_number, skipped};
+
+use crate::waits::calls_in_line;
+use bp_machine::Call;
+
+/// The first calls, this many, or all where there are fewer.
+pub fn calls_to(calls: &[Call], count: u64) -> &[Call]
+    ensures { result.now ≡ take count calls.now }
+{
+    let end = count.min(calls.len() as u64) as usize;
+    &calls[..end]
+}
+
+/// The calls after the first ones, this many.
+fn calls_from(calls: &[Call], count: u64) -> &[Call]
+    ensures { result.now ≡ drop count calls.now }
+{
+    let start = count.min(calls.len() as u64) as usize;
+    &calls[start..]
+}
+
+/// Which calls of a history are asked for.
+#[derive(Clone, Copy)]
+pub struct CallFilter {
+    /// Those of this thread alone.
+    pub thread: Option<u32>,
+    /// How many of the last calls.
+    pub last: Option<u64>,
+    /// The number of the first call, from 1.
+    pub from: Option<u64>,
+    /// The number of the last call, from 1.
+    pub to: Option<u64>,
+    /// Whether more than three equal waits of a thread in succession have one line.
+    pub folds: bool,
+}
+
+impl CallFilter {
+    /// Whether the calls of the thread are asked for.
+    fn has_thread(&self, thread: u32) -> bool
+        ensures { result ≡ is_of_thread self.now.thread thread }
+    {
+        match self.thread {
+            Some(only) => thread == only,
+            None => true,
+        }
+    }
+
+    /// Whether the call of this number is among the last that are asked for.
+    fn is_late(&self, number: u64, count: u64) -> bool
+        ensures { result ≡ is_late self.now.last count number }
+    {
+        match self.last {
+            Some(last) => count.saturating_sub(number) < last,
+            None => true,
+        }
+    }
+
+    /// Whether the call of this number is between the first and the last that are asked for.
+    fn is_between(&self, number: u64) -> bool
+        ensures { result ≡ is_between self.now.from self.now.to number }
+    {
+        self.from.unwrap_or(0) <= number && number <= self.to.unwrap_or(number)
+    }
+
+    /// How many of `count` calls are before the last ones that are asked for.
+    fn before_last(&self, count: u64) -> u64
+        ensures { result ≡ before_last self.now.last count }
+    {
+        match self.last {
+            Some(last) => count.saturating_sub(last),
+            None => 0,
+        }
+    }
+
+    /// How many of `count` calls are before all those whose numbers are asked for.
+    fn skipped(&self, count: u64) -> u64
+        ensures { result ≡ skipped self.now count }
+    {
+        let before_first = self.from.unwrap_or(0).saturating_sub(1);
+        before_first.max(self.before_last(count))
+    }
+
+    /// The number of the last of `count` calls that is asked for.
+    fn last_number(&self, count: u64) -> u64
+        ensures { result ≡ last_number self.now count }
+    {
+        self.to.unwrap_or(count)
+    }
+
+    /// Whether the call of this number is asked for, where there are `count` calls.
+    pub fn asks_for(&self, thread: u32, number: u64, count: u64) -> bool
+        ensures { result ≡ is_asked self.now count number thread }
+    {
+        self.has_thread(thread) && self.is_late(number, count) && self.is_between(number)
+    }
+
+    /// For how many calls the line of the call with this number stands, in this whole history.
+    pub fn calls_in_line(&self, history: &[Call], call: &Call, number: u64) -> usize
+        ensures { result ≡ calls_at self.now history.now number call.now }
+    {
+        let count = history.len() as u64;
+        let earlier = calls_to(history, number.saturating_sub(1));
+        let before = calls_from(earlier, self.skipped(count));
+        let later = calls_from(history, number);
+        let after = calls_to(later, self.last_number(count).saturating_sub(number));
+        calls_in_line(self.folds, call, before, after)
+    }
+}

@@ -1,0 +1,32 @@
+//! What a history did, as plain values: facts of calls, changes, contexts, states and ends, and
+//! which of the calls are asked for. No text of a view is in them.
+#![tactic(auto)]
+
+mod call_facts;
+mod change_facts;
+mod context_facts;
+mod filters;
+mod foot_facts;
+mod laws;
+mod moments;
+mod played_again;
+mod program_facts;
+mod spans;
+mod standings;
+mod state_facts;
+mod waits;
+mod watches;
+
+pub use call_facts::{CallFacts, Next, facts_of_call};
+pub use change_facts::{Change, fill_changes};
+pub use context_facts::{ContextFacts, facts_of_context, fill_changes_within};
+pub use filters::{CallFilter, calls_to};
+pub use foot_facts::{ConditionFacts, FootFacts, facts_of_foot};
+pub use laws::{changes_replay, lines_stand_for_each_call_once, listed_names_are_watched};
+pub use moments::{Moment, last_step, moment_of, printed_by};
+pub use played_again::session_after;
+pub use program_facts::{ProgramFacts, facts_of_program};
+pub use spans::{Span, Spot, spans_of};
+pub use standings::Standing;
+pub use state_facts::{FrameFacts, StateFacts, ThreadFacts, facts_of_state};
+pub use watches::{has_watched, undeclared, watched_names};

@@ -1,0 +1,193 @@
+//! The names of the watched variables.
+ghost use Rattle.std.specs.Prelude.{◌≡◌, ◌==◌, ◌++◌, ◌-◌, bytes_eq, codes, false, length, map, option_map, IfOk, MatchOption};
+ghost use Rattle.std.specs.List.{list_any, prefix_len, suffix_len};
+ghost use Rattle.bp_code.specs.StandsFor.{variables};
+ghost use Rattle.bp_source.specs.Lists.{pieces};
+ghost use Rattle.bp_facts.specs.ChangeFacts.{entry_of};
+ghost use Rattle.bp_facts.specs.Watches.{declares, has_local, has_qualified, is_of, is_seen, owner_name, qualified, trimmed, watched_names, AreDeclared, IsUndeclared};
+
+use crate::change_facts::Change;
+use bp_check::Checked;
+use bp_code::{local_slot_of, slot_of};
+use bp_source::piece_size;
+use bp_text::{part_before, part_from};
+use bp_tree::{Name, Proc};
+use std::alloc::{AllocError, Global};
+
+/// How many spaces a text begins with.
+fn spaces_before(text: &[u8]) -> usize
+    ensures { result ≡ prefix_len (λ b. b == 32) text.now }
+{
+    for (i, byte) in text.iter().enumerate() {
+        if *byte != b' ' {
+            return i;
+        }
+    }
+    text.len()
+}
+
+/// How many bytes are before the spaces that a text ends with.
+fn size_before_spaces(text: &[u8]) -> usize
+    ensures { result ≡ length text.now - suffix_len (λ b. b == 32) text.now }
+{
+    let mut size = text.len();
+    while size > 0 {
+        if text[size - 1] != b' ' {
+            return size;
+        }
+        size -= 1;
+    }
+    size
+}
+
+/// A text without the spaces that it begins with, and those that it ends with.
+fn trimmed(text: &[u8]) -> &[u8]
+    ensures { result.now ≡ trimmed text.now }
+{
+    let rest = part_from(text, spaces_before(text));
+    part_before(rest, size_before_spaces(rest))
+}
+
+/// The names that a list has between its commas outside braces, each without the spaces around it.
+fn names_in<'a>(alloc: Global, list: &'a [u8]) -> Result<Vec<&'a [u8]>, AllocError>
+    ensures { IfOk result
+        (λ v. map (λ n. n.now) v.items ≡ map trimmed (pieces false list.now)) }
+{
+    let mut names = Vec::new(alloc);
+    let mut rest = list;
+    let mut size = piece_size(rest);
+    while size < rest.len() {
+        names.push(trimmed(part_before(rest, size)))?;
+        rest = part_from(rest, size + 1);
+        size = piece_size(rest);
+    }
+    names.push(trimmed(rest))?;
+    Ok(names)
+}
+
+/// The names that are watched; none without a list of them. They are separated by commas, which a
+/// name in braces may have too, and may have spaces around them. The only error is refused memory.
+pub fn watched_names<'a>(alloc: Global, list: Option<&'a str>) -> Result<Vec<&'a [u8]>, AllocError>
+    ensures { IfOk result (λ v. map (λ n. n.now) v.items ≡ watched_names list.entry) }
+{
+    match list {
+        Some(list) => names_in(alloc, list.as_bytes()),
+        None => Ok(Vec::new(alloc)),
+    }
+}
+
+/// Whether a procedure has a variable of this name.
+fn is_local(procs: &[Proc], name: &[u8]) -> bool
+    ensures { result ≡ has_local procs.now name.now }
+{
+    procs.iter().any(|proc| local_slot_of(proc, name).is_some())
+}
+
+/// Whether a text is a dot and a name.
+fn is_after_dot(text: &[u8], name: &[u8]) -> bool
+    ensures { result ≡ bytes_eq text.now (codes "." ++ name.now) }
+{
+    match text.split_first() {
+        Some((first, rest)) => *first == b'.' && rest == name,
+        None => false,
+    }
+}
+
+/// Whether a text is the name of a procedure, a dot, and this name.
+fn is_qualified(text: &[u8], procedure: &[u8], name: &[u8]) -> bool
+    ensures { result ≡ bytes_eq text.now (qualified procedure.now name.now) }
+{
+    let size = procedure.len();
+    part_before(text, size) == procedure && is_after_dot(part_from(text, size), name)
+}
+
+/// Whether a text says which variable is meant, which is a local of the procedure or a global.
+fn is_of(text: &[u8], owner: Option<&Proc>, name: &[u8]) -> bool
+    ensures { let procedure = option_map (λ p. p.now.name.text) owner.entry in
+        result ≡ is_of text.now procedure name.now }
+{
+    match owner {
+        Some(proc) => text == name || is_qualified(text, proc.name().text().as_bytes(), name),
+        None => text == name,
+    }
+}
+
+/// Whether one of these texts says which variable is meant.
+fn is_watched(texts: &[&[u8]], owner: Option<&Proc>, name: &[u8]) -> bool
+    ensures { let procedure = option_map (λ p. p.now.name.text) owner.entry in
+        result ≡ list_any (λ text. is_of text.now procedure name.now) texts.now }
+{
+    texts.iter().any(|text| is_of(text, owner, name))
+}
+
+/// Whether a text says which of these variables of a procedure is meant, with the name of that.
+fn is_qualified_among(names: &[Name], procedure: &[u8], text: &[u8]) -> bool
+    ensures { let own = procedure.now in
+        result ≡ list_any (λ v. bytes_eq text.now (qualified own v.text)) names.now }
+{
+    names.iter().any(|name| is_qualified(text, procedure, name.text().as_bytes()))
+}
+
+/// Whether a text says which variable of a procedure is meant, with the name of that.
+fn qualifies(proc: &Proc, text: &[u8]) -> bool
+    ensures { let own = proc.now.name.text in
+        result ≡ list_any (λ v. bytes_eq text.now (qualified own v.text)) (variables proc.now) }
+{
+    let own = proc.name().text().as_bytes();
+    is_qualified_among(proc.formals(), own, text) || is_qualified_among(proc.locals(), own, text)
+}
+
+/// Whether a text says which local is meant, with the name of its procedure.
+fn is_qualified_local(procs: &[Proc], text: &[u8]) -> bool
+    ensures { result ≡ has_qualified procs.now text.now }
+{
+    procs.iter().any(|proc| qualifies(proc, text))
+}
+
+/// Whether a text says which variable of the program is meant.
+fn declares(checked: &Checked, text: &[u8]) -> bool
+    ensures { result ≡ declares checked.now text.now }
+{
+    let tree = checked.tree();
+    let procs = tree.procs();
+    slot_of(tree.globals(), text).is_some()
+        || is_local(procs, text)
+        || is_qualified_local(procs, text)
+}
+
+/// The number, from 1, of the first of these names that no variable has; none where each is that of
+/// a variable.
+pub fn undeclared(checked: &Checked, names: &[&[u8]]) -> Option<u64>
+    ensures { let t = checked.now in
+        let names = map (λ n. n.now) names.now in
+        MatchOption result (AreDeclared t names) (IsUndeclared t names) }
+{
+    for (n, name) in names.iter().enumerate() {
+        if !declares(checked, name) {
+            return Some(n as u64 + 1);
+        }
+    }
+    None
+}
+
+/// Whether one of the changed variables has such a name.
+fn has_named(names: &[&[u8]], changes: &[Change<'_>]) -> bool
+    ensures { let texts = names.now in
+        result ≡ list_any
+        (λ x. list_any (λ text. is_of text.now (owner_name (entry_of x)) x.name.now) texts)
+        changes.now }
+{
+    changes
+        .iter()
+        .any(|change| is_watched(names, change.owner, change.name))
+}
+
+/// Whether one of the changed variables has such a name, or no name is watched.
+pub fn has_watched(names: &[&[u8]], changes: &[Change<'_>]) -> bool
+    ensures { result ≡ is_seen (map (λ n. n.now) names.now) (map entry_of changes.now) }
+{
+    if names.is_empty() {
+        return true;
+    }
+    has_named(names, changes)
+}

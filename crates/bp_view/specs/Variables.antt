@@ -1,0 +1,50 @@
+-- The texts of variables with their values.
+use Rattle.std.specs.Prelude.{ℕ, Bool, List, [], ◌∷◌, ◌++◌, Option, None, Some, codes, flat_map, map, option_map}
+use Rattle.std.specs.List.{concat}
+use Rattle.bp_tree.specs.Ast.{Procedure}
+use Rattle.bp_code.specs.Values.{Valuation}
+use Rattle.bp_text.specs.JsonStrings.{string_text}
+use Rattle.bp_text.specs.OneLine.{on_one_line}
+use Rattle.bp_text.specs.Pieces.{bit_text, key_text, string_or_null}
+use Rattle.bp_facts.specs.ChangeFacts.{Entry}
+use Rattle.bp_view.specs.declared.options.ViewFormat.{ViewFormat}
+use Rattle.bp_view.specs.declared.options.ViewFormat.TheVariants.{Columns, Json}
+
+-- the procedure of a local, and a dot; a global has none
+abbrev pub owner_text : Option Procedure → List ℕ
+owner_text None = []
+owner_text (Some p) = concat (map on_one_line p.name.text ∷ codes "." ∷ [])
+
+-- a variable with its value, for people
+abbrev pub variable_words : Option Procedure → List ℕ → Bool → List ℕ
+variable_words owner name value =
+    concat (
+    codes " " ∷ owner_text owner
+    ∷ map on_one_line name ∷ codes "=" ∷ bit_text value ∷ [])
+
+-- the same as an object of JSON after a comma
+abbrev pub variable_object : Option Procedure → List ℕ → Bool → List ℕ
+variable_object owner name value =
+    concat (
+    codes ",{\"procedure\":" ∷ string_or_null (option_map (λ p. p.name.text) owner)
+    ∷ key_text (codes "name") ∷ string_text name
+    ∷ key_text (codes "value") ∷ bit_text value
+    ∷ codes "}" ∷ [])
+
+-- the same in a view of this format
+abbrev pub variable_text : ViewFormat → Option Procedure → List ℕ → Bool → List ℕ
+variable_text Columns owner name value = variable_words owner name value
+variable_text Json owner name value = variable_object owner name value
+
+module _ (format : ViewFormat) where
+  -- these variables of an owner, one after the other
+  abbrev pub variables_text : Option Procedure → Valuation → List ℕ
+  variables_text owner [] = []
+  variables_text owner (x ∷ xs) = variable_text format owner x.0 x.1 ++ variables_text owner xs
+
+-- the same of an entry, and of several
+abbrev pub entry_text : ViewFormat → Entry → List ℕ
+entry_text format x = variable_text format x.owner x.name x.value
+
+abbrev pub entries_text : ViewFormat → List Entry → List ℕ
+entries_text format xs = flat_map (entry_text format) xs
