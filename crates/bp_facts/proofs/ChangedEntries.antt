@@ -9,25 +9,26 @@ use Rattle.bp_machine.specs.Answers.{stack_of}
 use Rattle.bp_facts.specs.ChangeFacts.{changes_between, owned, slot_entry, stack_entries, Entry}
 use Rattle.bp_facts.specs.Changes.{changed, IsNext}
 use Rattle.bp_facts.proofs.ChangedVariables.{from_first, none_changed}
+use Rattle.bp_facts.proofs.OwnedEntries.{owned_append}
 use Rattle.bp_facts.proofs.WatchedVariables.{both_changed}
 
 -- those of these names whose bits differ, where the first has this slot
 abbrev pub differing : Option Procedure → ℕ → List Name → (before after : Bits) → List Entry
 differing owner first xs a b = owned owner (changed (valuation_of xs (λ k. a (first + k))) (valuation_of xs (λ k. b (first + k))))
 
-pub differing_all : (owner : Option Procedure) (xs : List Name) (a b : Bits) → differing owner 0 xs a b ≡ owned owner (changed (valuation_of xs a) (valuation_of xs b))
+pub differing_all : (owner : Option Procedure) (xs : List Name) (a b : Bits)
+    → differing owner 0 xs a b ≡ owned owner (changed (valuation_of xs a) (valuation_of xs b))
 differing_all owner xs a b = ap₂ (λ f g. owned owner (changed (valuation_of xs f) (valuation_of xs g))) (from_first a) (from_first b)
-
-owned_append : (owner : Option Procedure) (m n : Valuation) → owned owner (m ++ n) ≡ owned owner m ++ owned owner n
-owned_append owner [] n = refl
-owned_append owner (v ∷ m) n = ap (λ (es : List Entry). record { owner = owner; name = v.0; value = v.1 } ∷ es) (owned_append owner m n)
 
 -- the variables of two lists
 pub differing_both : (owner : Option Procedure) (xs ys : List Name) (a b : Bits)
     → differing owner 0 xs a b ++ differing owner (length xs) ys a b ≡ owned owner (changed (valuation_of (xs ++ ys) a) (valuation_of (xs ++ ys) b))
 differing_both owner xs ys a b =
+    let later : Bits → Bits = λ bits k. bits (length xs + k) in
+    let first = changed (valuation_of xs a) (valuation_of xs b) in
+    let second = changed (valuation_of ys (later a)) (valuation_of ys (later b)) in
     ap (λ (es : List Entry). es ++ differing owner (length xs) ys a b) (differing_all owner xs a b)
-    ∙ sym (owned_append owner (changed (valuation_of xs a) (valuation_of xs b)) (changed (valuation_of ys (λ k. a (length xs + k))) (valuation_of ys (λ k. b (length xs + k)))))
+    ∙ sym (owned_append owner first second)
     ∙ ap (owned owner) (sym (both_changed xs ys a b))
 
 -- the names up to one more
@@ -45,8 +46,10 @@ changes_more owner (y ∷ xs) zero a b x h = first (a 0) (b 0)
 changes_more owner (y ∷ xs) (suc n) a b x h =
     let a' : Bits = λ k. a (suc k) in
     let b' : Bits = λ k. b (suc k) in
-    behind (a 0) (b 0) (valuation_of (take (suc n) xs) a') (valuation_of (take (suc n) xs) b') (valuation_of (take n xs) a') (valuation_of (take n xs) b') (slot_entry owner (get_or xs n x).text (a (suc n)) (b (suc n)))
-    (changes_more owner xs n a' b' x (omega (arith, h)))
+    let longer : Bits → Valuation = valuation_of (take (suc n) xs) in
+    let shorter : Bits → Valuation = valuation_of (take n xs) in
+    let more = slot_entry owner (get_or xs n x).text (a (suc n)) (b (suc n)) in
+    behind (a 0) (b 0) (longer a') (longer b') (shorter a') (shorter b') more (changes_more owner xs n a' b' x (omega (arith, h)))
   where
     behind : (p q : Bool) (m l k j : Valuation) (more : List Entry) → owned owner (changed m l) ≡ owned owner (changed k j) ++ more
         → owned owner (changed ((y.text, p) ∷ m) ((y.text, q) ∷ l)) ≡ owned owner (changed ((y.text, p) ∷ k) ((y.text, q) ∷ j)) ++ more
@@ -54,13 +57,6 @@ changes_more owner (y ∷ xs) (suc n) a b x h =
     behind false false m l k j more is = is
     behind true false m l k j more is = ap (λ (es : List Entry). record { owner = owner; name = y.text; value = false } ∷ es) is
     behind false true m l k j more is = ap (λ (es : List Entry). record { owner = owner; name = y.text; value = true } ∷ es) is
-
-pub values_more : (owner : Option Procedure) (xs : List Name) (n : ℕ) (bits : Bits) (x : Name) → n < length xs
-    → owned owner (valuation_of (take (suc n) xs) bits)
-    ≡ owned owner (valuation_of (take n xs) bits) ++ record { owner = owner; name = (get_or xs n x).text; value = bits n } ∷ []
-values_more owner [] n bits x h = absurd (omega (arith, h))
-values_more owner (y ∷ xs) zero bits x h = refl
-values_more owner (y ∷ xs) (suc n) bits x h = ap (λ (es : List Entry). record { owner = owner; name = y.text; value = bits 0 } ∷ es) (values_more owner xs n (λ k. bits (suc k)) x (omega (arith, h)))
 
 -- a call with no stack before or after it changes nothing
 none_after : (fs : List Frame) → stack_entries fs [] ≡ []

@@ -128,7 +128,8 @@ all_changed (v ∷ vs) (w ∷ ws) alike once = by_bit (same_bit v.1 w.1) refl (a
     by_bit true is others = rest v refl others ∙ (λ j. (alike.0 j, same_true v.1 w.1 is j) ∷ ws)
     by_bit false is others =
         let here : bytes_eq v.0 w.0 ≡ true = (bytes_eq-Decides v.0 w.0).1 alike.0 in
-        ap (λ b. with_values (if b then (v.0, w.1) ∷ vs else v ∷ update vs w.0 w.1) (changed vs ws)) here ∙ rest (v.0, w.1) refl others ∙ (λ j. (alike.0 j, w.1) ∷ ws)
+        let changed_here = ap (λ b. with_values (if b then (v.0, w.1) ∷ vs else v ∷ update vs w.0 w.1) (changed vs ws)) here in
+        changed_here ∙ rest (v.0, w.1) refl others ∙ (λ j. (alike.0 j, w.1) ∷ ws)
 
 -- changes of one owner, and then others
 globals_first : (g vs : Valuation) (es : List Entry) → globals_with g (owned None vs ++ es) ≡ globals_with (with_values g vs) es
@@ -234,7 +235,8 @@ module _ (ps : List Procedure) (g : Valuation) (f : Frame) (fs : List Frame) (bi
   written : (s : Store Valuation) (x : List ℕ) (b : Bool) → Alike s.globals (after_write s x b).globals × Alike s.locals (after_write s x b).locals
   written s x b = by_local (is_some (lookup s.locals x))
     where
-      by_local : (local : Bool) → Alike s.globals (if local then record s { locals = update s.locals x b } else record s { globals = update s.globals x b }).globals
+      by_local : (local : Bool)
+          → Alike s.globals (if local then record s { locals = update s.locals x b } else record s { globals = update s.globals x b }).globals
           × Alike s.locals (if local then record s { locals = update s.locals x b } else record s { globals = update s.globals x b }).locals
       by_local true = (alike_self s.globals, alike_update s.locals x b)
       by_local false = (alike_update s.globals x b, alike_self s.locals)
@@ -342,7 +344,8 @@ module _ (t : Program) (c : Configuration) (i : ℕ) (bit : Bool) (once : IsOnce
   all_globals d alike =
       let vs = changed c.globals d.globals in
       let es = stack_entries (stack_of c i) (stack_of d i) in
-      sym (globals_first c.globals vs es ∙ globals_of_stack (with_values c.globals vs) (stack_of c i) (stack_of d i) ∙ all_changed c.globals d.globals alike once.globals)
+      let of_stack = globals_of_stack (with_values c.globals vs) (stack_of c i) (stack_of d i) in
+      sym (globals_first c.globals vs es ∙ of_stack ∙ all_changed c.globals d.globals alike once.globals)
 
   of_turn : (d : Configuration) (f : Frame) (fs : List Frame) → stack_of c i ≡ f ∷ fs → Alike c.globals d.globals → Turn t.procedures f fs (stack_of d i)
       → ((j : ℕ) → j ≢ i → stack_of d j ≡ stack_of c j) → AreReplayed c d i (changes_between c d i)
@@ -359,14 +362,16 @@ module _ (t : Program) (c : Configuration) (i : ℕ) (bit : Bool) (once : IsOnce
   unmoved : (failed : Bool) → AreReplayed c (record c { failed = failed }) i (changes_between c (record c { failed = failed }) i)
   unmoved failed = by_stack (stack_of c i) refl
     where
-      by_stack : (stack : List Frame) → stack_of c i ≡ stack → AreReplayed c (record c { failed = failed }) i (changes_between c (record c { failed = failed }) i)
+      by_stack : (stack : List Frame) → stack_of c i ≡ stack
+          → AreReplayed c (record c { failed = failed }) i (changes_between c (record c { failed = failed }) i)
       by_stack [] is = record {
         globals = all_globals (record c { failed = failed }) (alike_self c.globals);
         own = subst (λ stack. AreVariablesWith stack (stack_of c i) (changes_between c (record c { failed = failed }) i)) (sym is) is;
         others = λ j other. refl;
       }
       by_stack (f ∷ fs) is =
-          of_turn (record c { failed = failed }) f fs is (alike_self c.globals) (subst (Turn t.procedures f fs) (sym is) (keeps f refl (alike_self f.locals))) (λ j other. refl)
+          let turn = subst (Turn t.procedures f fs) (sym is) (keeps f refl (alike_self f.locals)) in
+          of_turn (record c { failed = failed }) f fs is (alike_self c.globals) turn (λ j other. refl)
 
   of_effect : (f : Frame) (fs : List Frame) → stack_of c i ≡ f ∷ fs → (e : StatementEffect) → Turns t.procedures c.globals f fs e
       → AreReplayed c (unwrap_or (after_effect c i e) c) i (changes_between c (unwrap_or (after_effect c i e) c) i)
@@ -439,4 +444,5 @@ pub changes_replay : (t : Program) (s : SetupOf) (h : List Call) (x : Call) → 
     → AreReplayed (configuration_after t s h) (configuration_after t s (h ++ x ∷ [])) x.thread (changes_by t s h x)
 changes_replay t s h x names =
     let now = configuration_after t s h in
-    subst (λ d. AreReplayed now d x.thread (changes_between now d x.thread)) (sym (calls_append t (start t s) h (x ∷ []))) (of_call t now x.thread x.bit (once_after t names s h) x.reply)
+    let whole = calls_append t (start t s) h (x ∷ []) in
+    subst (λ d. AreReplayed now d x.thread (changes_between now d x.thread)) (sym whole) (of_call t now x.thread x.bit (once_after t names s h) x.reply)

@@ -27,7 +27,8 @@ module _ (t : Program) where
   same_without_steps c [] none = refl
   same_without_steps c (x ∷ xs) none =
       let next = unwrap_or (configuration_after_step t c x.thread x.bit (stack_of c x.thread)) c in
-      (elim (is_granted x.reply) as (λ b. cond b (x.thread ∷ granted_threads xs) (granted_threads xs) ≡ [] → configuration_after_calls t (cond b next c) xs ≡ c) [
+      (elim (is_granted x.reply)
+      as (λ b. cond b (x.thread ∷ granted_threads xs) (granted_threads xs) ≡ [] → configuration_after_calls t (cond b next c) xs ≡ c) [
         | true ↦ λ e. absurd cc
         | false ↦ λ e. same_without_steps c xs e
       ]) none

@@ -8,6 +8,7 @@ pub mod EqualWaits
 pub mod FailedConditions
 pub mod FailedStatements
 pub mod FilledFacts
+pub mod GrownLists
 pub mod ItemsOfLists
 pub mod LastReplies
 pub mod LastSteps
@@ -18,6 +19,7 @@ pub mod OneCall
 pub mod OneContext
 pub mod OneFoot
 pub mod OneState
+pub mod OwnedEntries
 pub mod PlacedStacks
 pub mod PlacesOfTops
 pub mod PlayedFronts

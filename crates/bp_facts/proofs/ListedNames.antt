@@ -161,8 +161,11 @@ module _ (first : ℕ) (others : List ℕ) (after : ℕ) where
       let last : length name - 1 ≡ length others = omega (arith, long) in
       let less : length others < length name = omega (arith, long) in
       let spaced : (k : ℕ) → length name ≤ k → k < length (name ++ spaces) → (get_or (name ++ spaces) k 0 == 32) ≡ true =
-      λ k from to. ap (λ b. b == 32) (get_or-append_right name spaces (length name) k 0 refl from ∙ get_or-replicate after (k - length name) 32 0 (omega (arith, size, count, from, to))) in
-      suffix_len_is (λ b. b == 32) (name ++ spaces) (length name) 0 within spaced (λ _. ap (λ k. get_or (name ++ spaces) k 0 == 32) last ∙ ap (λ b. b == 32) (get_or_append_left name spaces 0 (length others) less) ∙ ends)
+      λ k from to.
+      let among : k - length name < after = omega (arith, size, count, from, to) in
+      ap (λ b. b == 32) (get_or-append_right name spaces (length name) k 0 refl from ∙ get_or-replicate after (k - length name) 32 0 among) in
+      let at_last = ap (λ k. get_or (name ++ spaces) k 0 == 32) last ∙ ap (λ b. b == 32) (get_or_append_left name spaces 0 (length others) less) ∙ ends in
+      suffix_len_is (λ b. b == 32) (name ++ spaces) (length name) 0 within spaced (λ _. at_last)
 
   trimmed_is : (before : ℕ) → (first == 32) ≡ false → (get_or name (length others) 0 == 32) ≡ false → trimmed (replicate before 32 ++ (name ++ spaces)) ≡ name
   trimmed_is before begins ends =
@@ -187,8 +190,11 @@ module _ (name text : List ℕ) (spaced : SpacedName name text) where
 
   one_piece : is_piece false text ≡ true
   one_piece =
-      ap (is_piece false) text_is
-      ∙ joined false (replicate spaced.before 32) ((known.first ∷ known.others) ++ replicate spaced.after 32) (spaces_are_piece spaced.before) (joined false (known.first ∷ known.others) (replicate spaced.after 32) known.piece (spaces_are_piece spaced.after))
+      let own = known.first ∷ known.others in
+      let before = replicate spaced.before 32 in
+      let after = replicate spaced.after 32 in
+      let ended = joined false own after known.piece (spaces_are_piece spaced.after) in
+      ap (is_piece false) text_is ∙ joined false before (own ++ after) (spaces_are_piece spaced.before) ended
 
 -- the pieces of a list without their spaces are its names
 names_of : (names : List (List ℕ)) (list : List ℕ) → IsListOf names list → map trimmed (pieces false list) ≡ names

@@ -74,7 +74,8 @@ module _ (t : Program) (c : Configuration) (i : ℕ) (bit : Bool) where
   next_of_effect : (f : Frame) (fs : List Frame) → stack_of c i ≡ f ∷ fs → (e : StatementEffect) → Keeps c.globals (f ∷ fs) e
       → IsNext c (unwrap_or (after_effect c i e) c) i
   next_of_effect f fs is (Leaves h after) kept =
-      let set : stack_of (record { globals = h; stacks = slice_set c.stacks i after; failed = false }) i ≡ after = get_or-set_same c.stacks i after [] (there f fs is) in
+      let later : Configuration = record { globals = h; stacks = slice_set c.stacks i after; failed = false } in
+      let set : stack_of later i ≡ after = get_or-set_same c.stacks i after [] (there f fs is) in
       record {
         call = rw (is, set) kept.0;
         idle = λ e. cc;

@@ -85,9 +85,11 @@ module _ (t : Program) (f : Frame) (fs : List Frame) (below : ArePlaced t fs) wh
   statement_placed g bit (Assumes d) label at r i is = tested g r is.next is.next_is Blocks tt (decision_value (frame_store g f) bit d)
   statement_placed g bit (Prints es) label at r i is = goes_on g r is.next is.next_is
   statement_placed g bit (Calls x es) label at r i is =
-      calls g r (expression_values (frame_store g f) es) x is.next is.callee is.procedure is.next_is is.callee_is (procedure_named t.procedures x.text) is.procedure_is
+      let arguments = expression_values (frame_store g f) es in
+      calls g r arguments x is.next is.callee is.procedure is.next_is is.callee_is (procedure_named t.procedures x.text) is.procedure_is
 
-  effect_placed : (g : Valuation) (bit : Bool) (left : Block) (i : Instruction) → Does t table f.procedure left i → LeavesPlaced t (effect t.procedures left g f fs bit)
+  effect_placed : (g : Valuation) (bit : Bool) (left : Block) (i : Instruction)
+      → Does t table f.procedure left i → LeavesPlaced t (effect t.procedures left g f fs bit)
   effect_placed g bit Done i is = below
   effect_placed g bit (Then label at s r) i is = statement_placed g bit s label at r i is
 

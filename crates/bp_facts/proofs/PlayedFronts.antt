@@ -19,7 +19,8 @@ module _ (t : Program) (s : SetupOf) (h : List Call) (playable : IsPlayable t s 
   playable_here i d inside = subst (IsPlayable t s) (take_more h i d inside) (front_playable (i + 1))
 
 -- a recorded call is refused for memory alone
-pub asked_refused : (t : Program) (s : SetupOf) (h : List Call) (x : Call) → IsPlayable t s (h ++ x ∷ []) → (f : AskFault) → IsAskRefusal t s h x.thread (given_bit s x.bit) f → f ≡ fault.Memory
+pub asked_refused : (t : Program) (s : SetupOf) (h : List Call) (x : Call) → IsPlayable t s (h ++ x ∷ [])
+    → (f : AskFault) → IsAskRefusal t s h x.thread (given_bit s x.bit) f → f ≡ fault.Memory
 asked_refused t s h x playable fault.Memory is = refl
 asked_refused t s h x playable fault.Finished is = own_refused t s h x playable fault.Finished is
 asked_refused t s h x playable fault.NoThread is = own_refused t s h x playable fault.NoThread is

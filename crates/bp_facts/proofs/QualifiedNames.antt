@@ -5,7 +5,8 @@ and_assoc : (a b c : Bool) → ((a && b) && c) ≡ (a && (b && c))
 and_assoc true b c = refl
 and_assoc false b c = refl
 
-pub both_parts : (text first second : List ℕ) → (bytes_eq (take (length first) text) first && bytes_eq (drop (length first) text) second) ≡ bytes_eq text (first ++ second)
+pub both_parts : (text first second : List ℕ)
+    → (bytes_eq (take (length first) text) first && bytes_eq (drop (length first) text) second) ≡ bytes_eq text (first ++ second)
 both_parts text [] second = refl
 both_parts [] (c ∷ cs) second = refl
 both_parts (b ∷ bs) (c ∷ cs) second =

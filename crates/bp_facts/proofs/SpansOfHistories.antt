@@ -135,13 +135,16 @@ module _ (t : Program) (s : SetupOf) where
         context = subst (λ i. IsContextOf n (h ++ x ∷ []) i (length h) (length h)) (sym own.thread) (context_new h x n here none);
         first_is = own.first;
         last_is = own.last;
-        before = subst (λ g. IsSpot t (configuration_after t s g) step.thread step.before) (sym (take_front h x (length h) (omega arith) ∙ front_all h)) own.before;
+        before = subst (λ g. IsSpot t (configuration_after t s g) step.thread step.before) (sym before_whole) own.before;
         after = after_whole;
       }
         where
           front_all : (g : List Call) → take (length g) g ≡ g
           front_all [] = refl
           front_all (y ∷ g) = ap (λ k. y ∷ k) (front_all g)
+
+          before_whole : take (length h) (h ++ x ∷ []) ≡ h
+          before_whole = take_front h x (length h) (omega arith) ∙ front_all h
 
       -- the step is in context m, which is the last one or the next one
       all_with : (n : ℕ) (ys : List Span) (m : ℕ) → IsContext h x (Some m) → m + 1 ≡ n + length ys + contexts_opened (last_thread (threads_of ys)) step.thread
@@ -183,10 +186,14 @@ module _ (t : Program) (s : SetupOf) where
           ∙ ap (λ j. granted_threads h ++ j ∷ []) (sym own.thread) in
           let here : IsContext h x (Some m) = (granted, subst (IsLeastWithin m) (sym steps) counts.used) in
           let place : m + 1 ≡ 1 + length xs + contexts_opened (last_thread (threads_of xs)) i = omega arith in
+          let used = subst (λ n. IsLeastWithin n (granted_threads h ++ i ∷ [])) (sym (length_with step xs)) counts.used in
           record {
             count = record {
-              used = subst (IsLeastWithin (length (with_step xs step))) (sym steps) (subst (λ n. IsLeastWithin n (granted_threads h ++ i ∷ [])) (sym (length_with step xs)) counts.used);
+              used = subst (IsLeastWithin (length (with_step xs step))) (sym steps) used;
               last = last_with step xs ∙ counts.last ∙ ap last_thread (sym steps);
             };
-            each = all_with 1 xs m here place (λ k y is. let few = steps_within h (length xs) (1 + length xs) k y are.count.used is in absurd (omega (arith, few))) are.each;
+            each = all_with 1 xs m here place past are.each;
           }
+        where
+          past : (k : ℕ) (y : Call) → IsStepIn (1 + length xs) h k y → ⊥
+          past k y is = let few = steps_within h (length xs) (1 + length xs) k y are.count.used is in absurd (omega (arith, few))

@@ -19,7 +19,8 @@ granted-append [] h = refl
 granted-append (x ∷ xs) h = more (is_granted x.reply) (granted-append xs h)
   where
     more : (b : Bool) → granted_threads (xs ++ h) ≡ granted_threads xs ++ granted_threads h
-        → (if b then x.thread ∷ granted_threads (xs ++ h) else granted_threads (xs ++ h)) ≡ (if b then x.thread ∷ granted_threads xs else granted_threads xs) ++ granted_threads h
+        → (if b then x.thread ∷ granted_threads (xs ++ h) else granted_threads (xs ++ h))
+        ≡ (if b then x.thread ∷ granted_threads xs else granted_threads xs) ++ granted_threads h
     more true e = ap (λ ts. x.thread ∷ ts) e
     more false e = e
 

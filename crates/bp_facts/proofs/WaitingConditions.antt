@@ -35,7 +35,8 @@ module _ (ps : List Procedure) (g : Valuation) (f : Frame) (fs : List Frame) (bi
   no_assertion true left x none e = absurd cc
   no_assertion false left x none e = absurd cc
 
-  in_statement : (s : Statement) (label : Option Name) (at : ℕ) (r : Block) → blocks (statement_effect ps g f fs bit s label at r) ≡ true → IsDecided (Then label at s r)
+  in_statement : (s : Statement) (label : Option Name) (at : ℕ) (r : Block)
+      → blocks (statement_effect ps g f fs bit s label at r) ≡ true → IsDecided (Then label at s r)
   in_statement Skips label at r e = absurd cc
   in_statement (GoesTo x) label at r e = no_jump (from_label f.procedure.body Done x.text) _ e
   in_statement Returns label at r e = absurd cc

@@ -23,6 +23,10 @@ both_changed [] ys a b =
     ap₂ (λ f g. changed (valuation_of ys f) (valuation_of ys g)) (same a) (same b)
 both_changed (x ∷ xs) ys a b =
     let shifted : (bits : Bits) → (λ k. bits (suc (length xs + k))) ≡ (λ k. bits (suc (length xs) + k)) = λ bits. fun_ext (λ k. ap bits (omega arith)) in
-    first_then x.text (a 0) (b 0) (valuation_of (xs ++ ys) (λ k. a (suc k))) (valuation_of (xs ++ ys) (λ k. b (suc k)))
-    (valuation_of xs (λ k. a (suc k))) (valuation_of xs (λ k. b (suc k))) (changed (valuation_of ys (λ k. a (length (x ∷ xs) + k))) (valuation_of ys (λ k. b (length (x ∷ xs) + k))))
-    (both_changed xs ys (λ k. a (suc k)) (λ k. b (suc k)) ∙ ap₂ (λ f g. changed (valuation_of xs (λ k. a (suc k))) (valuation_of xs (λ k. b (suc k))) ++ changed (valuation_of ys f) (valuation_of ys g)) (shifted a) (shifted b))
+    let next : Bits → Bits = λ bits k. bits (suc k) in
+    let past : Bits → Bits = λ bits k. bits (length (x ∷ xs) + k) in
+    let both : Bits → Valuation = λ bits. valuation_of (xs ++ ys) (next bits) in
+    let first : Bits → Valuation = λ bits. valuation_of xs (next bits) in
+    let others = changed (valuation_of ys (past a)) (valuation_of ys (past b)) in
+    let moved = ap₂ (λ f g. changed (first a) (first b) ++ changed (valuation_of ys f) (valuation_of ys g)) (shifted a) (shifted b) in
+    first_then x.text (a 0) (b 0) (both a) (both b) (first a) (first b) others (both_changed xs ys (next a) (next b) ∙ moved)

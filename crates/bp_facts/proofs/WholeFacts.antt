@@ -54,7 +54,16 @@ module _ (c : Flat) (t : Program) (code : StandsFor c t) (text : List ℕ) (scen
           words = Some words;
           reads = found.scene.excerpt.reads_choice;
         },
-        record { place = refl; position = refl; procedure = refl; depth_is = refl; words = words; said = refl; words_are = found.is.statement; one_line = found.is.words },
+        record {
+          place = refl;
+          position = refl;
+          procedure = refl;
+          depth_is = refl;
+          words = words;
+          said = refl;
+          words_are = found.is.statement;
+          one_line = found.is.words;
+        },
       )
 
   some_context : (h : List Call) (x : Call) (b : Bool) → is_granted x.reply ≡ b → (n : Option ℕ) × IsContext h x n

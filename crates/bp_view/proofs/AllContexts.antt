@@ -18,7 +18,8 @@ module _ (t : Program) (text : List ℕ) (s : SetupOf) (h : List Call) (setting 
   abbrev Lines : ℕ → List ℕ → Type 0
   Lines n said = IsInParts (λ k part. IsContextLine setting.options.format t text s h setting.widths (suc k) part) n said
 
-  pub all_contexts : IsSettingOf t text setting → AreWidths s (extent_of setting) setting.widths → setting.options.columns ≡ None → length setting.history.now ≡ length h
+  pub all_contexts : IsSettingOf t text setting → AreWidths s (extent_of setting) setting.widths → setting.options.columns ≡ None
+      → length setting.history.now ≡ length h
       → (spans : List Span) → AreSpans t s h spans → (said : List ℕ)
       → Adds (Lines (length spans)) (contexts_head setting.options.format (length setting.history.now) (length spans)) said
       → AreContextLines setting.options.format t text s h said
@@ -28,7 +29,9 @@ module _ (t : Program) (text : List ℕ) (s : SetupOf) (h : List Call) (setting 
     widths = setting.widths;
     statements = words_items setting.program.scenes.now;
     statements_are = words_are text t.procedures (places_of t.procedures) setting.program.scenes.now known.program.scenes;
-    widths_are = rw (places_are text t.procedures (places_of t.procedures) setting.program.scenes.now known.program.scenes, count, known.program.procedures, columns) at widths;
+    widths_are =
+        let places = places_are text t.procedures (places_of t.procedures) setting.program.scenes.now known.program.scenes in
+        rw (places, count, known.program.procedures, columns) at widths;
     lines = lines.more;
     lines_are = lines.more_are;
     is = lines.is ∙ ap (λ n. contexts_head setting.options.format n (length spans) ++ lines.more) count;

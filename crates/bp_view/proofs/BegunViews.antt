@@ -1,5 +1,5 @@
 -- What was written of a view, call by call, is the beginning of a whole one.
-use Rattle.std.proofs.Common.{◌≡◌, ◌∙◌, ◌<◌, ◌≤◌, ◌+◌, ℕ, suc, List, [], ◌∷◌, ◌++◌, Option, Some, length, drop, take, get_or, slice_get, add-one, ap, sym, subst, append_assoc, drop-cons, take-append-drop, arith}
+use Rattle.std.proofs.Common.{◌≡◌, ◌∙◌, ◌<◌, ◌≤◌, ◌+◌, ℕ, suc, List, [], ◌∷◌, ◌++◌, Option, Some, length, drop, take, get_or, slice_get, add-one, ap, sym, refl, subst, drop-cons, take-append-drop, arith}
 use Rattle.std.proofs.lemmas.List.{take_all, take_more}
 use Rattle.std.proofs.lemmas.Option.{slice_get-get_or}
 use Rattle.bp_tree.specs.Ast.{Program}
@@ -12,6 +12,7 @@ use Rattle.bp_trace.specs.Replays.{IsPlayable}
 use Rattle.bp_trace.proofs.PlayableFronts.{front}
 use Rattle.bp_text.specs.Writing.{AppendsAll, AppendsPart}
 use Rattle.bp_source.proofs.WordsOfScenes.{words_are, words_items}
+use Rattle.bp_facts.proofs.GrownLists.{both_added}
 use Rattle.bp_view.specs.declared.options.ViewOptions.{ViewOptions}
 use Rattle.bp_view.specs.declared.settings.Setting.{Setting}
 use Rattle.bp_view.specs.declared.writers.ViewWriter.{ViewWriter}
@@ -67,7 +68,9 @@ module _ (t : Program) (text : List ℕ) (s : SetupOf) (x : Setting) where
       widths = x.widths;
       statements = words_items x.program.scenes.now;
       statements_are = words_are text t.procedures (places_of t.procedures) x.program.scenes.now can.known.program.scenes;
-      widths_are = rw (places_are text t.procedures (places_of t.procedures) x.program.scenes.now can.known.program.scenes, can.known.program.procedures) at can.widths;
+      widths_are =
+          let places = places_are text t.procedures (places_of t.procedures) x.program.scenes.now can.known.program.scenes in
+          rw (places, can.known.program.procedures) at can.widths;
       lines = lines;
       end = end;
       is = ap (λ g. view_head o g s x.widths ++ lines ++ end) can.known.program.globals;
@@ -99,7 +102,7 @@ module _ (t : Program) (text : List ℕ) (s : SetupOf) (x : Setting) where
         -- the calls up to the next one may be played
         pub playable_next : IsPlayable t w.session.setup (take i h ++ get_or h i d ∷ [])
         playable_next =
-            let all = append_assoc (take i h) (get_or h i d ∷ []) (drop (suc i) h) ∙ ap (λ xs. take i h ++ xs) (sym (drop-cons h i d within)) ∙ take-append-drop i h in
+            let all = both_added (take i h) _ _ (get_or h i d ∷ []) (drop (suc i) h) _ refl refl (sym (drop-cons h i d within)) ∙ take-append-drop i h in
             subst (λ y. IsPlayable t y (take i h ++ get_or h i d ∷ [])) (sym has.setup)
             (front t s (take i h ++ get_or h i d ∷ []) (drop (suc i) h) (subst (IsPlayable t s) (sym all) can.playable))
 
@@ -114,7 +117,8 @@ module _ (t : Program) (text : List ℕ) (s : SetupOf) (x : Setting) where
 
           pub line_cut : (e : Option (List ℕ)) → AppendsPart b e given → IsCutShort Whole a e
           line_cut e part =
-              parts.part_cut IsLine head (length h) (IsEnd o t text s h r) Whole whole each last i a b has.parts within line line_is e (subst (AppendsPart b e) same part)
+              let own = subst (AppendsPart b e) same part in
+              parts.part_cut IsLine head (length h) (IsEnd o t text s h r) Whole whole each last i a b has.parts within line line_is e own
 
           pub line_written : (v : ViewWriter) (e : Option (List ℕ)) → HasMade t (take i h ++ get_or h i d ∷ []) v → v.session.setup ≡ w.session.setup
               → v.setting ≡ w.setting → AppendsAll b e given → HasWritten (i + 1) v a e
@@ -123,7 +127,9 @@ module _ (t : Program) (text : List ℕ) (s : SetupOf) (x : Setting) where
             setup = setup ∙ has.setup;
             setting = setting ∙ has.setting;
             few = omega (arith, within);
-            parts = let next = parts.part_written IsLine head a b i has.parts line line_is e (subst (AppendsAll b e) same all) in subst (λ k. HasParts IsLine head k a e) (sym (add-one i)) next;
+            parts =
+                let next = parts.part_written IsLine head a b i has.parts line line_is e (subst (AppendsAll b e) same all) in
+                subst (λ k. HasParts IsLine head k a e) (sym (add-one i)) next;
           }
 
       -- all calls were made
@@ -131,7 +137,9 @@ module _ (t : Program) (text : List ℕ) (s : SetupOf) (x : Setting) where
       made_all past = subst (λ g. HasMade t g w) (take_all i h past) has.made
 
       -- all lines were written
-      module _ (past : length h ≤ i) (end given : List ℕ) (same : given ≡ end) (is : IsEnd w.setting.options t text w.session.setup h r end) (e : Option (List ℕ)) where
+      module _
+          (past : length h ≤ i) (end given : List ℕ) (same : given ≡ end) (is : IsEnd w.setting.options t text w.session.setup h r end)
+          (e : Option (List ℕ)) where
         all : i ≡ length h
         all = omega (arith, past, has.few)
 
@@ -141,8 +149,10 @@ module _ (t : Program) (text : List ℕ) (s : SetupOf) (x : Setting) where
 
         pub end_cut : AppendsPart b e given → IsCutShort Whole a e
         end_cut part =
-            parts.end_cut IsLine head (length h) (IsEnd o t text s h r) Whole whole each last i a b has.parts all end end_is e (subst (AppendsPart b e) same part)
+            let own = subst (AppendsPart b e) same part in
+            parts.end_cut IsLine head (length h) (IsEnd o t text s h r) Whole whole each last i a b has.parts all end end_is e own
 
         pub end_written : AppendsAll b e given → IsWritten Whole a e
         end_written done =
-            parts.end_written IsLine head (length h) (IsEnd o t text s h r) Whole whole each last i a b has.parts all end end_is e (subst (AppendsAll b e) same done)
+            let own = subst (AppendsAll b e) same done in
+            parts.end_written IsLine head (length h) (IsEnd o t text s h r) Whole whole each last i a b has.parts all end end_is e own

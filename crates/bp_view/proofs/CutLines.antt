@@ -1,6 +1,7 @@
 -- What is after the first bytes of a line, cut.
-use Rattle.std.proofs.Common.{if◌then◌else◌, ◌≡◌, ◌∙◌, ◌+◌, ◌-◌, ◌<◌, ◌≤◌, ◌++◌, ℕ, zero, suc, true, List, [], ◌∷◌, Option, codes, nat_lt, take, drop, length, length-drop, ap, ap₂, refl, sym, append_assoc, arith}
+use Rattle.std.proofs.Common.{if◌then◌else◌, ◌≡◌, ◌∙◌, ◌+◌, ◌-◌, ◌<◌, ◌≤◌, ◌++◌, ℕ, zero, suc, true, List, [], ◌∷◌, Option, codes, nat_lt, take, drop, length, length-drop, ap, ap₂, refl, sym, arith}
 use Rattle.std.proofs.lemmas.Bool.Decides.{nat_tests}
+use Rattle.bp_facts.proofs.GrownLists.{both_added}
 use Rattle.bp_view.specs.StatementColumns.{shortened, within}
 
 abbrev nothing : List ℕ
@@ -31,9 +32,8 @@ pub cut : (columns start : ℕ) (line : List ℕ) → columns < length line - st
 cut columns start line more =
     let rest = drop start line in
     let long : nat_lt columns (length rest) ≡ true = let size = length-drop start line in grind (arith, nat_tests, size, more) in
-    ap (λ y. y ++ codes "..") (taken_both start (columns - 2) line)
-    ∙ append_assoc (take start line) (take (columns - 2) rest) (codes "..")
-    ∙ ap (λ b. take start line ++ (if b then take (columns - 2) rest ++ codes ".." else rest)) (sym long)
+    let own = ap (λ b. if b then take (columns - 2) rest ++ codes ".." else rest) (sym long) in
+    both_added (take start line) _ _ (take (columns - 2) rest) (codes "..") _ refl (taken_both start (columns - 2) line) own
 
 -- one that is not
 pub uncut : (columns start : ℕ) (line : List ℕ) → length line - start ≤ columns → line ≡ take start line ++ shortened columns (drop start line)

@@ -1,6 +1,7 @@
 -- Texts that are joined in one order are those that are joined in another.
-use Rattle.std.proofs.Common.{◌≡◌, ◌∙◌, ◌++◌, ℕ, List, [], ◌∷◌, ap, codes, refl, sym, fold, append_assoc, append-nil}
+use Rattle.std.proofs.Common.{◌≡◌, ◌∙◌, ◌++◌, ℕ, List, [], ◌∷◌, ap, codes, sym, fold, append_assoc, append-nil}
 use Rattle.std.specs.List.{concat}
+use Rattle.std.proofs.lemmas.List.Folds.{concat-append}
 use Rattle.bp_text.proofs.PiecesInTurn.{all_added}
 use Rattle.bp_view.specs.Conditions.{condition_lines, values_line}
 
@@ -9,14 +10,11 @@ concat-last [] t = simp append-nil
 concat-last (x ∷ ts) t = append_assoc x (concat ts) t ∙ ap (λ y. x ++ y) (concat-last ts t)
 
 -- one more text and others after some texts that are one
-pub all_joined : (old : List ℕ) (ts : List (List ℕ)) (t : List ℕ) (us : List (List ℕ)) → fold (λ a u. a ++ u) ((old ++ concat ts) ++ t) us ≡ old ++ concat (concat (ts ++ t ∷ []) ∷ us)
+pub all_joined : (old : List ℕ) (ts : List (List ℕ)) (t : List ℕ) (us : List (List ℕ))
+    → fold (λ a u. a ++ u) ((old ++ concat ts) ++ t) us ≡ old ++ concat (concat (ts ++ t ∷ []) ∷ us)
 all_joined old ts t us =
     ap (λ x. fold (λ a u. a ++ u) x us) (append_assoc old (concat ts) t ∙ ap (λ y. old ++ y) (concat-last ts t))
     ∙ all_added old (concat (ts ++ t ∷ []) ∷ us)
-
-concat-append : (ts us : List (List ℕ)) → concat (ts ++ us) ≡ concat ts ++ concat us
-concat-append [] us = refl
-concat-append (t ∷ ts) us = ap (λ x. t ++ x) (concat-append ts us) ∙ sym (append_assoc t (concat ts) (concat us))
 
 -- two times some texts that are one, and others
 pub two_joined : (ts us vs : List (List ℕ)) → concat (ts ++ us ++ vs) ≡ concat (concat ts ∷ concat us ∷ vs)
@@ -31,7 +29,8 @@ pub pair_added : (old a b c : List ℕ) → a ++ b ≡ c → old ++ a ++ b ≡ o
 pair_added old a b c is = append_assoc old a b ∙ ap (λ x. old ++ x) is
 
 -- three times some texts that are one
-pub setup_joined : (old : List ℕ) (ts us vs : List (List ℕ)) → fold (λ a u. a ++ u) old ts ++ concat (us ++ vs) ≡ old ++ concat (concat ts ∷ concat us ∷ concat vs ∷ [])
+pub setup_joined : (old : List ℕ) (ts us vs : List (List ℕ))
+    → fold (λ a u. a ++ u) old ts ++ concat (us ++ vs) ≡ old ++ concat (concat ts ∷ concat us ∷ concat vs ∷ [])
 setup_joined old ts us vs =
     ap (λ x. x ++ concat (us ++ vs)) (all_added old ts)
     ∙ append_assoc old (concat ts) (concat (us ++ vs))
@@ -54,7 +53,8 @@ pub condition_joined : (line column words lead values : List ℕ) → lead ++ va
 condition_joined line column words lead values is =
     place_parts (codes " at ") line (codes ":") column (codes ": ") words lead values ∙ statement_joined (line ++ codes ":" ++ column) words lead values is
 
-frame_parts : (a b c d e f g h z : List ℕ) → concat (a ∷ b ∷ c ∷ d ∷ e ∷ f ∷ g ∷ h ∷ z ∷ []) ≡ concat (concat (a ∷ b ∷ []) ∷ concat (c ∷ d ∷ e ∷ f ∷ g ∷ h ∷ []) ∷ z ∷ [])
+frame_parts : (a b c d e f g h z : List ℕ)
+    → concat (a ∷ b ∷ c ∷ d ∷ e ∷ f ∷ g ∷ h ∷ z ∷ []) ≡ concat (concat (a ∷ b ∷ []) ∷ concat (c ∷ d ∷ e ∷ f ∷ g ∷ h ∷ []) ∷ z ∷ [])
 frame_parts a b c d e f g h z = simp (append_assoc, append-nil)
 
 pub frame_joined : (lead name place words line values : List ℕ) → line ++ values ≡ values_line values

@@ -11,7 +11,6 @@ pub mod PartsOfHeads
 pub mod PartsOfTexts
 pub mod PrintedValues
 pub mod ShownLines
-pub mod TextsOfVariables
 pub mod ViewableSettings
 pub mod WholeEnds
 pub mod WholeViews

@@ -16,7 +16,8 @@ use Rattle.bp_code.proofs.ProceduresOfPlaces.{starts}
 abbrev pub place_items : List Scene → List (List ℕ)
 place_items scenes = map (λ s. s.place.items) scenes
 
-pub longest_more : (n : ℕ) (scenes : List Scene) (x : Scene) → n < length scenes → longest (place_items (take (suc n) scenes)) ≡ max (longest (place_items (take n scenes))) (length (get_or scenes n x).place.items)
+pub longest_more : (n : ℕ) (scenes : List Scene) (x : Scene) → n < length scenes
+    → longest (place_items (take (suc n) scenes)) ≡ max (longest (place_items (take n scenes))) (length (get_or scenes n x).place.items)
 longest_more n [] x h = absurd (omega arith)
 longest_more zero (y ∷ scenes) x h = omega arith
 longest_more (suc n) (y ∷ scenes) x h =
@@ -37,7 +38,8 @@ shortened_length room words least = by_size (nat_lt room (length words)) refl
     by_size false short = let most : length words ≤ room = grind (arith, nat_tests, short) in omega (arith, most)
 
 pub longest_words_more : (room n : ℕ) (scenes : List Scene) (x : Scene) → n < length scenes
-    → longest (map (shortened room) (words_items (take (suc n) scenes))) ≡ max (longest (map (shortened room) (words_items (take n scenes)))) (length (shortened room (get_or scenes n x).excerpt.words.items))
+    → longest (map (shortened room) (words_items (take (suc n) scenes)))
+    ≡ max (longest (map (shortened room) (words_items (take n scenes)))) (length (shortened room (get_or scenes n x).excerpt.words.items))
 longest_words_more room n [] x h = absurd (omega arith)
 longest_words_more room zero (y ∷ scenes) x h = omega arith
 longest_words_more room (suc n) (y ∷ scenes) x h =
@@ -46,7 +48,8 @@ longest_words_more room (suc n) (y ∷ scenes) x h =
     omega (arith, here)
 
 -- the places of the scenes are those of the statements
-pub places_are : (text : List ℕ) (ps : List Procedure) (xs : List Place) (scenes : List Scene) → AreScenesAt text ps xs scenes → place_items scenes ≡ map (place_text text) (starts xs)
+pub places_are : (text : List ℕ) (ps : List Procedure) (xs : List Place) (scenes : List Scene) → AreScenesAt text ps xs scenes
+    → place_items scenes ≡ map (place_text text) (starts xs)
 places_are text ps [] [] are = refl
 places_are text ps [] (x ∷ scenes) are = elim are [ ]
 places_are text ps (s ∷ xs) [] are = elim are [ ]

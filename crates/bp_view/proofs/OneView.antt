@@ -59,7 +59,8 @@ module _ (t : Program) (text : List ℕ) (s : SetupOf) (h : List Call) (r : Repo
 
   one_end : (v w : List ℕ) → IsEnd o t text s h r v → IsEnd o t text s h r w → v ≡ w
   one_end v w x y =
-      x.is ∙ ap₂ (λ a b. a ++ b) (one_foot o.format t text s h r x.foot y.foot x.foot_is y.foot_is) (state_if o.has_state x.state y.state x.state_is y.state_is) ∙ sym y.is
+      let foot = one_foot o.format t text s h r x.foot y.foot x.foot_is y.foot_is in
+      x.is ∙ ap₂ (λ a b. a ++ b) foot (state_if o.has_state x.state y.state x.state_is y.state_is) ∙ sym y.is
 
 pub one_view : (t : Program) (text : List ℕ) (s : SetupOf) (h : List Call) (r : Report) (o : ViewOptions) (v w : List ℕ)
     → IsView t text s h r o v → IsView t text s h r o w → v ≡ w
@@ -71,4 +72,8 @@ one_view t text s h r o v w x y =
     let widths = one_widths s (extent_of_y y.statements) x.widths y.widths widths_are y.widths_are in
     let lines_are = subst (λ z. AreLines t text s o z h (length h) x.lines) widths x.lines_are in
     let lines = one_lines t text s o y.widths h (length h) refl x.lines y.lines lines_are y.lines_are in
-    x.is ∙ ap (λ z. view_head o t.globals s z ++ x.lines ++ x.end) widths ∙ ap₂ (λ a b. view_head o t.globals s y.widths ++ a ++ b) lines (one_end t text s h r o x.end y.end x.end_is y.end_is) ∙ sym y.is
+    let end = one_end t text s h r o x.end y.end x.end_is y.end_is in
+    x.is
+    ∙ ap (λ z. view_head o t.globals s z ++ x.lines ++ x.end) widths
+    ∙ ap₂ (λ a b. view_head o t.globals s y.widths ++ a ++ b) lines end
+    ∙ sym y.is

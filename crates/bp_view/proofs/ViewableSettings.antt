@@ -14,15 +14,20 @@ use Rattle.bp_facts.specs.Watches.{watched_names}
 use Rattle.bp_view.specs.declared.faults.ViewFault.{ViewFault}
 use Rattle.bp_view.specs.declared.options.ViewOptions.{ViewOptions}
 use Rattle.bp_view.specs.declared.settings.Setting.{Setting}
+use Rattle.bp_view.specs.Options.{filter_of}
 use Rattle.bp_view.specs.Views.{IsView, IsViewable}
 use Rattle.bp_view.specs.Widths.{extent_of, AreWidths}
 use Rattle.bp_view.specs.Writing.{IsBegun, IsStopped, IsWritten}
 
-module _ (t : Program) (text : List ℕ) (r : Replayed) (x : Setting) (options : ViewOptions) (history : x.history.now ≡ r.history.items) (same : x.options ≡ options) where
+module _
+    (t : Program) (text : List ℕ) (r : Replayed) (x : Setting) (options : ViewOptions) (history : x.history.now ≡ r.history.items)
+    (same : x.options ≡ options) where
   pub viewable : (c : Flat) (scenes : List Scene) (names : List (Bor (List ℕ))) → StandsFor c t → AreScenes text t scenes → IsPlayable t r.setup r.history.items
-      → IsReport r.setup r.history.items r.report → map (λ n. n.now) names ≡ watched_names options.watch → x.program.scenes.now ≡ scenes → x.program.globals.now ≡ t.globals
-      → x.program.procs.now ≡ t.procedures → x.names.now ≡ names → AreWidths r.setup (extent_of x) x.widths → IsViewable c t text r.setup r.report x
-  viewable c scenes names code are playable report watched of_scenes globals procedures of_names widths = record {
+      → IsReport r.setup r.history.items r.report → map (λ n. n.now) names ≡ watched_names options.watch
+      → x.program.scenes.now ≡ scenes → x.program.globals.now ≡ t.globals
+      → x.program.procs.now ≡ t.procedures → x.names.now ≡ names → x.filter ≡ filter_of x.options
+      → AreWidths r.setup (extent_of x) x.widths → IsViewable c t text r.setup r.report x
+  viewable c scenes names code are playable report watched of_scenes globals procedures of_names filter widths = record {
     code = code;
     known = record {
       program = record {
@@ -30,6 +35,7 @@ module _ (t : Program) (text : List ℕ) (r : Replayed) (x : Setting) (options :
         globals = globals;
         procedures = procedures;
       };
+      filter = filter;
       names = ap (map (λ n. n.now)) of_names ∙ watched ∙ ap (λ (o : ViewOptions). watched_names o.watch) (sym same);
     };
     widths = widths;
@@ -48,6 +54,6 @@ module _ (t : Program) (text : List ℕ) (r : Replayed) (x : Setting) (options :
 
     pub written_of_trace
         : {T : Type 0} (a b : Option (List ℕ)) (result : Result T ViewFault)
-        → MatchResult result (λ _. IsWritten (IsView t text s x.history.now r.report x.options) a b) (IsStopped (IsView t text s x.history.now r.report x.options) a b)
-        → MatchResult result (λ _. IsWritten (IsView t text r.setup r.history.items r.report options) a b) (IsStopped (IsView t text r.setup r.history.items r.report options) a b)
+        → (let view = IsView t text s x.history.now r.report x.options in MatchResult result (λ _. IsWritten view a b) (IsStopped view a b))
+        → (let view = IsView t text r.setup r.history.items r.report options in MatchResult result (λ _. IsWritten view a b) (IsStopped view a b))
     written_of_trace a b result is = subst (λ view. MatchResult result (λ _. IsWritten view a b) (IsStopped view a b)) same_view is

@@ -1,12 +1,12 @@
 -- The texts of variables with their values.
-use Rattle.std.specs.Prelude.{ℕ, Bool, List, [], ◌∷◌, ◌++◌, Option, None, Some, codes, flat_map, map, option_map}
+use Rattle.std.specs.Prelude.{ℕ, Bool, List, [], ◌∷◌, Option, None, Some, codes, flat_map, map, option_map}
 use Rattle.std.specs.List.{concat}
 use Rattle.bp_tree.specs.Ast.{Procedure}
 use Rattle.bp_code.specs.Values.{Valuation}
 use Rattle.bp_text.specs.JsonStrings.{string_text}
 use Rattle.bp_text.specs.OneLine.{on_one_line}
 use Rattle.bp_text.specs.Pieces.{bit_text, key_text, string_or_null}
-use Rattle.bp_facts.specs.ChangeFacts.{Entry}
+use Rattle.bp_facts.specs.ChangeFacts.{owned, Entry}
 use Rattle.bp_view.specs.declared.options.ViewFormat.{ViewFormat}
 use Rattle.bp_view.specs.declared.options.ViewFormat.TheVariants.{Columns, Json}
 
@@ -36,15 +36,13 @@ abbrev pub variable_text : ViewFormat → Option Procedure → List ℕ → Bool
 variable_text Columns owner name value = variable_words owner name value
 variable_text Json owner name value = variable_object owner name value
 
-module _ (format : ViewFormat) where
-  -- these variables of an owner, one after the other
-  abbrev pub variables_text : Option Procedure → Valuation → List ℕ
-  variables_text owner [] = []
-  variables_text owner (x ∷ xs) = variable_text format owner x.0 x.1 ++ variables_text owner xs
-
 -- the same of an entry, and of several
 abbrev pub entry_text : ViewFormat → Entry → List ℕ
 entry_text format x = variable_text format x.owner x.name x.value
 
 abbrev pub entries_text : ViewFormat → List Entry → List ℕ
 entries_text format xs = flat_map (entry_text format) xs
+
+-- the same of the variables of an owner
+abbrev pub variables_text : ViewFormat → Option Procedure → Valuation → List ℕ
+variables_text format owner values = entries_text format (owned owner values)

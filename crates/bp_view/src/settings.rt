@@ -1,13 +1,14 @@
 //! What the lines of a view have in common: the facts of the program, and the widths of the
 //! columns.
-ghost use Rattle.std.specs.Prelude.{◌≡◌, ◌<◌, ◌≤◌, ◌^◌, drop, length, map, max, take};
+ghost use Rattle.std.specs.Prelude.{◌≡◌, ◌<◌, ◌≤◌, ◌^◌, length, map, max};
+ghost use Rattle.bp_view.specs.Options.{filter_of};
 ghost use Rattle.bp_view.specs.StatementColumns.{shortened};
 ghost use Rattle.bp_view.specs.Widths.{extent, extent_of, longest, AreWidths};
 
 use crate::options::ViewOptions;
 use crate::statement_columns::statement_room;
 use bp_check::Checked;
-use bp_facts::{ProgramFacts, facts_of_program};
+use bp_facts::{CallFilter, ProgramFacts, facts_of_program};
 use bp_machine::{Call, Setup};
 use bp_source::Scene;
 use bp_text::digits;
@@ -39,6 +40,8 @@ pub(crate) struct Setting<'a> {
     /// The whole history.
     pub(crate) history: &'a [Call],
     pub(crate) options: ViewOptions<'a>,
+    /// The calls that are asked for, by the options.
+    pub(crate) filter: CallFilter,
     /// The names of the watched variables, or none.
     pub(crate) names: &'a [&'a [u8]],
 }
@@ -118,6 +121,7 @@ pub(crate) fn setting_of<'a>(
     ensures widths { AreWidths setup.now (extent_of result) result.widths }
     ensures history { result.history.now ≡ history.now }
     ensures options { result.options ≡ options.entry }
+    ensures filter { result.filter ≡ filter_of result.options }
     ensures names { result.names.now ≡ names.now }
 {
     let program = facts_of_program(scenes, checked);
@@ -132,6 +136,7 @@ pub(crate) fn setting_of<'a>(
         ),
         history,
         options,
+        filter: options.filter(),
         names,
     }
 }

@@ -61,15 +61,19 @@ pub(crate) fn push_shown<'a>(
         → let line = IsShownLine t text s o setting.now.widths setting.now.history.now h x in
         OnOk result (Adds line view.old.items view.new.items) }
 {
-    let filter = setting.options.filter();
-    if !filter.asks_for(moment.call.thread, moment.number, setting.count()) {
+    if !setting
+        .filter
+        .asks_for(moment.call.thread, moment.number, setting.count())
+    {
         return Ok(());
     }
     fill_changes(changes, &setting.program, moment)?;
     if !has_watched(setting.names, changes) {
         return Ok(());
     }
-    let calls = filter.calls_in_line(setting.history, &moment.call, moment.number);
+    let calls = setting
+        .filter
+        .calls_in_line(setting.history, &moment.call, moment.number);
     if calls > 0 {
         let facts = facts_of_call(&setting.program, moment, changes);
         push_line_in(view, note, setting, &facts, calls, printed)?;

@@ -1,4 +1,4 @@
-use Rattle.std.proofs.Common.{◌≡◌, ◌∙◌, ◌++◌, ◌+◌, ◌<◌, ◌≤◌, ℕ, List, length, take, get_or, map, ap, ap₂, sym, append_assoc, append-nil, add-one, arith}
+use Rattle.std.proofs.Common.{◌≡◌, ◌∙◌, ◌++◌, ◌+◌, ◌<◌, ◌≤◌, ℕ, List, length, take, get_or, map, ap, ap₂, sym, append-nil, add-one, arith}
 use Rattle.std.specs.Prelude.{option_map}
 use Rattle.std.proofs.lemmas.List.{take_all}
 use Rattle.bp_tree.specs.Ast.{Name}
@@ -6,10 +6,11 @@ use Rattle.bp_code.specs.Bits.{bits_of}
 use Rattle.bp_code.specs.Steps.{Bits}
 use Rattle.bp_code.specs.StandsFor.{valuation_of}
 use Rattle.bp_code.specs.Values.{Valuation}
-use Rattle.bp_facts.specs.ChangeFacts.{entry_of, owned, slot_entry, Entry}
+use Rattle.bp_facts.specs.ChangeFacts.{entry_of, owned, slot_entry}
 use Rattle.bp_facts.specs.Changes.{changed}
 use Rattle.bp_facts.proofs.ChangedEntries.{changes_more, differing}
 use Rattle.bp_facts.proofs.ChangedVariables.{none_changed}
+use Rattle.bp_facts.proofs.GrownLists.{both_added}
 use Rattle.bp_facts.proofs.change_facts.add_differing.Goals as goal
 
 pub loop-n-preserved : goal.loop-n-preserved
@@ -24,20 +25,22 @@ loop-n-preserved c =
     let so_far = owned owner (changed (valuation_of (take n xs) a) (valuation_of (take n xs) b)) in
     let within : n < length xs = omega arith in
     let name : c.as_bytes-text.result.now ≡ (get_or xs n x).text = c.as_bytes-text.ensures.value ∙ c.text.ensures ∙ ap (λ y. y.text) c.index-names-n.is in
-    c.in_ok-add_slot.ensures
-    ∙ ap (λ (es : List Entry). es ++ slot_entry owner c.as_bytes-text.result.now c.bit_of.result c.bit_of-in-loop-n.result) c.loop-n.invariant
-    ∙ append_assoc old so_far (slot_entry owner c.as_bytes-text.result.now c.bit_of.result c.bit_of-in-loop-n.result)
-    ∙ ap (λ y. old ++ (so_far ++ slot_entry owner y c.bit_of.result c.bit_of-in-loop-n.result)) name
-    ∙ ap₂ (λ p q. old ++ (so_far ++ slot_entry owner (get_or xs n x).text p q)) c.bit_of.ensures c.bit_of-in-loop-n.ensures
-    ∙ ap (λ (es : List Entry). old ++ es) (sym (changes_more owner xs n a b x within))
-    ∙ ap (λ k. old ++ owned owner (changed (valuation_of (take k xs) a) (valuation_of (take k xs) b))) (sym (add-one n))
+    let more = slot_entry owner c.as_bytes-text.result.now c.bit_of.result c.bit_of-in-loop-n.result in
+    let own =
+    ap (λ y. so_far ++ slot_entry owner y c.bit_of.result c.bit_of-in-loop-n.result) name
+    ∙ ap₂ (λ p q. so_far ++ slot_entry owner (get_or xs n x).text p q) c.bit_of.ensures c.bit_of-in-loop-n.ensures
+    ∙ sym (changes_more owner xs n a b x within) in
+    both_added old _ _ so_far more _ c.in_ok-add_slot.ensures c.loop-n.invariant
+    (own ∙ ap (λ k. owned owner (changed (valuation_of (take k xs) a) (valuation_of (take k xs) b))) (sym (add-one n)))
 
 pub returns : goal.returns
 returns c =
     let names = c.args.names.now in
+    let old = map entry_of c.args.changes.now.items in
+    let owner = option_map (λ p. p.now) c.args.owner in
     let all : length names ≤ c.loop-n.n = omega arith in
     c.loop-n.invariant
-    ∙ ap (λ (xs : List Name). map entry_of c.args.changes.now.items ++ differing (option_map (λ p. p.now) c.args.owner) c.args.first xs (bits_of c.args.before) (bits_of c.args.after)) (take_all c.loop-n.n names all)
+    ∙ ap (λ (xs : List Name). old ++ differing owner c.args.first xs (bits_of c.args.before) (bits_of c.args.after)) (take_all c.loop-n.n names all)
 
 -- no bit of a word differs from its own
 pub returns-then-before-after : goal.returns-then-before-after

@@ -1,5 +1,6 @@
 use Rattle.std.proofs.Common.{◌≡◌, ◌++◌, ◌∷◌, [], ℕ, List, Option, None, Some, true, false, refl, subst, sym}
 use Rattle.std.specs.Prelude.{MatchOption}
+use Rattle.bp_code.specs.Configurations.{Configuration}
 use Rattle.bp_code.specs.StandsFor.{StandsFor}
 use Rattle.bp_machine.specs.declared.calls.Call.{Call as Answered}
 use Rattle.bp_machine.specs.Answers.{stack_of}
@@ -34,7 +35,9 @@ returns-clause-is c = λ t h is stands last number.
       switch = c.is_switch.ensures h last;
       leads = record {
         before = subst (λ i. MatchOption c.top-before.result (stack_of now i ≡ []) (IsTop t now i)) (sym asked.asked.0) (c.top-before.ensures t h is stands);
-        after = subst (λ k. MatchOption c.top.result (stack_of (configuration_after t k (h ++ x ∷ [])) x.thread ≡ []) (IsTop t (configuration_after t k (h ++ x ∷ [])) x.thread)) asked.kept.1 (c.top.ensures t (h ++ x ∷ []) code after);
+        after =
+            let is_top : Configuration → Type 0 = λ d. MatchOption c.top.result (stack_of d x.thread ≡ []) (IsTop t d x.thread) in
+            subst (λ k. is_top (configuration_after t k (h ++ x ∷ []))) asked.kept.1 (c.top.ensures t (h ++ x ∷ []) code after);
         next = subst (λ d. IsNext now d x.thread) (sym (configuration_after-append t s h x)) (next_of_call t now x.thread x.bit x.reply);
       };
     }

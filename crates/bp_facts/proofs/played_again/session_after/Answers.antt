@@ -16,7 +16,8 @@ returns-in_err-ask_as_recorded-clause-stands c = λ t is.
     let before = c.loop-call.invariant in
     let is_kept = subst (λ k. StandsFor k t) (sym before.code) is in
     let refused = rw before.setup at (c.in_err-ask_as_recorded.ensures.answer t (take i h) is_kept (before.stands t is)) in
-    rw (p.1, p.2) (asked_refused t s (take i h) _ (playable_here t s h (c.requires.playable t is) i _ c.loop-call-test.true) c.in_err-ask_as_recorded.field-0.0 refused)
+    let playable = playable_here t s h (c.requires.playable t is) i _ c.loop-call-test.true in
+    rw (p.1, p.2) (asked_refused t s (take i h) _ playable c.in_err-ask_as_recorded.field-0.0 refused)
 
 pub loop-call-preserved : goal.loop-call-preserved
 loop-call-preserved c =
@@ -30,8 +31,10 @@ loop-call-preserved c =
           let is_kept = subst (λ k. StandsFor k t) (sym before.code) is in
           let old = before.stands t is in
           let answer = rw before.setup at (after.answer t (take i h) is_kept old) in
-          let own = own_is t s (take i h) _ [] (playable_here t s h (c.requires.playable t is) i _ c.loop-call-test.true) c.in_ok-ask_as_recorded.field-0 answer in
-          subst (Stands t c.ask_as_recorded.new.self) (ap (λ y. take i h ++ y ∷ []) own ∙ sym (take_more h i _ c.loop-call-test.true)) (after.stands t (take i h) is_kept old);
+          let playable = playable_here t s h (c.requires.playable t is) i _ c.loop-call-test.true in
+          let own = own_is t s (take i h) _ [] playable c.in_ok-ask_as_recorded.field-0 answer in
+          let longer = ap (λ y. take i h ++ y ∷ []) own ∙ sym (take_more h i _ c.loop-call-test.true) in
+          subst (Stands t c.ask_as_recorded.new.self) longer (after.stands t (take i h) is_kept old);
       code = after.kept.0 ∙ before.code;
       setup = after.kept.1 ∙ before.setup;
     }

@@ -1,7 +1,8 @@
-use Rattle.std.proofs.Common.{if◌then◌else◌, ◌≡◌, ◌∙◌, ◌++◌, ◌∷◌, [], ◌==◌, false, true, ap, sym, append_assoc, arith}
+use Rattle.std.proofs.Common.{if◌then◌else◌, ◌≡◌, ◌∙◌, ◌++◌, ◌∷◌, [], ◌==◌, false, true, ap, refl, sym, arith}
 use Rattle.std.specs.Option.{option_to_list}
 use Rattle.std.proofs.lemmas.Bool.Decides.{nat_tests}
 use Rattle.bp_facts.specs.Spans.{joined, with_step}
+use Rattle.bp_facts.proofs.GrownLists.{both_added}
 use Rattle.bp_facts.proofs.SpansOfHistories.{with_step_after}
 use Rattle.bp_facts.proofs.spans.push_step.Goals as goal
 
@@ -24,8 +25,7 @@ returns c =
     let rest = c.pop.new.self.items in
     let was = c.pop.ensures.items ∙ ap (λ o. rest ++ option_to_list o) c.in-Some.is in
     let other : (y.thread == step.thread) ≡ false = (let own = c.if-span-step.false in grind (arith, nat_tests)) in
-    c.in_ok-push-4.ensures.items
-    ∙ ap (λ xs. xs ++ step ∷ []) c.in_ok-push-3.ensures.items
-    ∙ append_assoc rest (y ∷ []) (step ∷ [])
-    ∙ ap (λ b. rest ++ (if b then joined y step ∷ [] else y ∷ step ∷ [])) (sym other)
-    ∙ sym (ap (λ xs. with_step xs step) was ∙ with_step_after step rest y)
+    let own =
+    ap (λ b. rest ++ (if b then joined y step ∷ [] else y ∷ step ∷ [])) (sym other)
+    ∙ sym (ap (λ xs. with_step xs step) was ∙ with_step_after step rest y) in
+    both_added rest _ _ (y ∷ []) (step ∷ []) _ c.in_ok-push-4.ensures.items c.in_ok-push-3.ensures.items refl ∙ own

@@ -33,7 +33,8 @@ loop-n-preserved c =
       spans = λ t is.
           let code = subst (λ k. StandsFor k t) (sym before.code) is in
           let are = subst (λ k. AreSpans t k (take i h) c.loop-n.spans.items) (sym before.setup) (before.spans t is) in
-          let more = after.spans t (take i h) code (before.stands t is) (rw before.setup (playable_here t s h (c.requires.playable t is) i _ inside)) count are in
+          let playable = playable_here t s h (c.requires.playable t is) i _ inside in
+          let more = after.spans t (take i h) code (before.stands t is) (rw before.setup playable) count are in
           subst (λ g. AreSpans t s g c.play_call.new.spans.items) (sym (take_more h i _ inside)) (rw before.setup at more);
       code = after.kept.0 ∙ before.code;
       setup = after.kept.1 ∙ before.setup;
@@ -48,7 +49,8 @@ returns-in_err-play_call c = λ t is.
     let before = c.loop-n.invariant in
     let inside : i < length h = c.loop-n-test.true in
     let code = subst (λ k. StandsFor k t) (sym before.code) is in
-    let why = c.in_err-play_call.ensures.stands t (take i h) code (before.stands t is) (rw before.setup (playable_here t s h (c.requires.playable t is) i _ inside)) in
+    let playable = playable_here t s h (c.requires.playable t is) i _ inside in
+    let why = c.in_err-play_call.ensures.stands t (take i h) code (before.stands t is) (rw before.setup playable) in
     rw (p.1, p.2) why
 
 pub returns : goal.returns

@@ -5,7 +5,11 @@ use Rattle.bp_facts.proofs.standings.last_reply.Goals.{then-call-thread, else-ca
 
 pub loop-call-preserved : goal.loop-call-preserved
 loop-call-preserved c =
+    let h = c.args.history.now in
+    let n = c.loop-call.call-index in
+    let i = c.args.thread in
+    let within = c.loop-call-test.true in
     elim c.if-call-thread.branch [
-      | then-call-thread w ↦ w.last-is ∙ reply_same c.args.history.now c.loop-call.call-index c.args.thread _ c.loop-call-test.true w.if-call-thread.true
-      | else-call-thread w ↦ w.last-is ∙ (c.loop-call.invariant ∙ reply_other c.args.history.now c.loop-call.call-index c.args.thread _ c.loop-call-test.true w.if-call-thread.false)
+      | then-call-thread w ↦ w.last-is ∙ reply_same h n i _ within w.if-call-thread.true
+      | else-call-thread w ↦ w.last-is ∙ (c.loop-call.invariant ∙ reply_other h n i _ within w.if-call-thread.false)
     ]

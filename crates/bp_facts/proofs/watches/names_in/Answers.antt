@@ -1,7 +1,8 @@
-use Rattle.std.proofs.Common.{◌≡◌, ◌∙◌, ◌+◌, ◌<◌, ◌≤◌, ◌++◌, ◌∷◌, [], false, length, map, take, drop, ap, sym, append_assoc, arith}
+use Rattle.std.proofs.Common.{◌≡◌, ◌∙◌, ◌+◌, ◌<◌, ◌≤◌, ◌++◌, ◌∷◌, [], false, length, map, take, drop, ap, refl, sym, arith}
 use Rattle.std.proofs.lemmas.List.{map-append}
 use Rattle.bp_source.specs.Lists.{piece_size, pieces}
 use Rattle.bp_facts.specs.Watches.{trimmed}
+use Rattle.bp_facts.proofs.GrownLists.{both_added}
 use Rattle.bp_facts.proofs.watches.names_in.Goals as goal
 use Rattle.bp_source.proofs.FirstPieces.{first_piece, one_piece}
 
@@ -24,8 +25,7 @@ loop-size-preserved c =
       is =
           has.is
           ∙ ap (λ parts. known ++ map trimmed parts) (first_piece false rest some)
-          ∙ sym (append_assoc known (name ∷ []) others)
-          ∙ ap (λ xs. xs ++ others) (sym more)
+          ∙ sym (both_added known _ _ (name ∷ []) others _ refl more refl)
           ∙ ap (λ xs. map (λ n. n.now) c.push.new.self.items ++ map trimmed (pieces false xs)) (sym after);
       size_is = c.piece_size-size-in-loop-size.ensures;
     }

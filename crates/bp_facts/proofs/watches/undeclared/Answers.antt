@@ -12,5 +12,6 @@ loop-n-preserved c =
     let texts = map (λ x. x.now) names in
     let within : n < length texts = omega (arith, c.loop-n-test.true, length-map names (λ x. x.now)) in
     let here : declares t (get_or texts n []) ≡ true =
-    ap (declares t) (get_or-map (λ x. x.now) names n (record { ref_ptr = (0, 0); now = [] }) [] c.loop-n-test.true) ∙ sym c.declares.ensures ∙ c.if-not-declares.false in
+    let there = get_or-map (λ x. x.now) names n (record { ref_ptr = (0, 0); now = [] }) [] c.loop-n-test.true in
+    ap (declares t) there ∙ sym c.declares.ensures ∙ c.if-not-declares.false in
     list_all_more (declares t) texts n [] within ∙ ap₂ (λ p q. p && q) c.loop-n.invariant here

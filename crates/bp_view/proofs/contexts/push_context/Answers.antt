@@ -15,11 +15,12 @@ returns c = λ t text s h set is.
     let shown_changes = ap (λ (xs : List Change). map entry_of xs) c.deref-2.ensures.value ∙ filled in
     let facts = context_in c.facts_of_context-facts.result in
     let facts_are = c.facts_of_context-facts.ensures.facts t text s h set.program is shown_changes in
+    let same = c.deref.ensures.value ∙ sym c.deref-2.ensures.value ∙ sym c.facts_of_context-facts.ensures.changes in
     let noted =
     c.deref-3.ensures.value
     ∙ c.in_ok-push_changed.ensures
     ∙ ap (λ y. y ++ entries_text format (map entry_of c.deref.result.now)) c.clear.ensures.items
-    ∙ ap (λ (xs : List Change). entries_text format (map entry_of xs)) (c.deref.ensures.value ∙ sym c.deref-2.ensures.value ∙ sym c.facts_of_context-facts.ensures.changes) in
+    ∙ ap (λ (xs : List Change). entries_text format (map entry_of xs)) same in
     on_ok_weaker c.push_context_in.result (λ added. record {
       more = context_text format setting.widths facts;
       is = added;

@@ -1,12 +1,15 @@
-use Rattle.std.proofs.Common.{◌∙◌, ◌++◌, ◌+◌, ℕ, List, Some, ap, sym, append_assoc, length}
+use Rattle.std.proofs.Common.{◌∙◌, ◌++◌, ◌+◌, ℕ, List, Some, ap, sym, length}
+use Rattle.std.proofs.lemmas.Grind.{flat_map-append}
 use Rattle.std.proofs.lemmas.Result.{on_ok_weaker}
 use Rattle.bp_tree.specs.Ast.{Name}
 use Rattle.bp_code.specs.Bits.{bits_of}
 use Rattle.bp_code.specs.Steps.{Bits}
 use Rattle.bp_code.specs.StandsFor.{valuation_of}
+use Rattle.bp_facts.specs.ChangeFacts.{owned, Entry}
 use Rattle.bp_facts.proofs.ChangedVariables.{from_first}
-use Rattle.bp_view.specs.Variables.{variables_text}
-use Rattle.bp_view.proofs.TextsOfVariables.{values_append}
+use Rattle.bp_facts.proofs.GrownLists.{both_added}
+use Rattle.bp_facts.proofs.OwnedEntries.{values_both}
+use Rattle.bp_view.specs.Variables.{entries_text, entry_text, variables_text}
 use Rattle.bp_view.proofs.frames.push_locals.Goals as goal
 
 pub returns : goal.returns
@@ -18,11 +21,15 @@ returns c =
     let later : ℕ → Bits = λ n k. bits (n + k) in
     let first = said p.formals bits in
     let first_is = ap (λ xs. said xs (later 0)) c.formals-formals.ensures ∙ ap (λ f. said p.formals f) (from_first bits) in
-    let rest_is = ap (λ xs. said xs (later (length c.formals-formals.result.now))) c.locals.ensures ∙ ap (λ xs. said p.locals (later (length xs))) c.formals-formals.ensures in
+    let rest_is =
+    ap (λ xs. said xs (later (length c.formals-formals.result.now))) c.locals.ensures
+    ∙ ap (λ xs. said p.locals (later (length xs))) c.formals-formals.ensures in
+    let rest = said p.locals (later (length p.formals)) in
+    let entries : (xs : List Name) → Bits → List Entry = λ xs f. owned (Some p) (valuation_of xs f) in
+    let both =
+    sym (flat_map-append (entry_text c.args.format) (entries p.formals bits) (entries p.locals (later (length p.formals))))
+    ∙ ap (entries_text c.args.format) (sym (values_both (Some p) p.formals p.locals bits)) in
+    let begun = c.in_ok-push_values.ensures ∙ ap (λ x. old ++ x) first_is in
     on_ok_weaker c.push_values-2.result (λ added.
-    added
-    ∙ ap (λ x. x ++ said c.locals.result.now (later (length c.formals-formals.result.now))) (c.in_ok-push_values.ensures ∙ ap (λ x. old ++ x) first_is)
-    ∙ ap (λ x. (old ++ first) ++ x) rest_is
-    ∙ append_assoc old first (said p.locals (later (length p.formals)))
-    ∙ ap (λ x. old ++ x) (sym (values_append c.args.format (Some p) p.formals p.locals bits)))
+    both_added old _ _ first rest _ (added ∙ ap (λ x. c.push_values.new.line.items ++ x) rest_is) begun both)
     c.push_values-2.ensures

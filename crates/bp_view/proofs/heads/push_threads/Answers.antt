@@ -1,4 +1,5 @@
-use Rattle.std.proofs.Common.{◌∙◌, ◌++◌, ◌<◌, [], length, take, slice_get, unwrap_or, ap, sym, append_assoc, add-one, arith}
+use Rattle.std.proofs.Common.{◌∙◌, ◌++◌, ◌<◌, [], length, take, slice_get, unwrap_or, ap, sym, add-one, arith}
+use Rattle.bp_facts.proofs.GrownLists.{both_added}
 use Rattle.bp_view.specs.Heads.{thread_line, thread_lines}
 use Rattle.bp_view.proofs.PartsOfHeads.{thread_more}
 use Rattle.bp_view.proofs.heads.push_threads.Goals as goal
@@ -9,10 +10,10 @@ loop-thread-preserved c =
     let n = c.loop-thread.thread in
     let old = c.args.view.now.items in
     let within : n < length es = omega arith in
-    c.in_ok-push_thread.ensures
-    ∙ ap (λ y. y ++ thread_line n c.entry_of.result.now) c.loop-thread.invariant
-    ∙ append_assoc old (thread_lines 0 (take n es)) (thread_line n c.entry_of.result.now)
-    ∙ ap (λ y. old ++ (thread_lines 0 (take n es) ++ thread_line n y)) c.entry_of.ensures
-    ∙ ap (λ k. old ++ (thread_lines 0 (take n es) ++ thread_line k (unwrap_or (slice_get es n) []))) (omega arith)
-    ∙ ap (λ y. old ++ y) (sym (thread_more 0 n es within))
-    ∙ ap (λ k. old ++ thread_lines 0 (take k es)) (sym (add-one n))
+    let so_far = thread_lines 0 (take n es) in
+    let own =
+    ap (λ y. so_far ++ thread_line n y) c.entry_of.ensures
+    ∙ ap (λ k. so_far ++ thread_line k (unwrap_or (slice_get es n) [])) (omega arith)
+    ∙ sym (thread_more 0 n es within)
+    ∙ ap (λ k. thread_lines 0 (take k es)) (sym (add-one n)) in
+    both_added old _ _ so_far (thread_line n c.entry_of.result.now) _ c.in_ok-push_thread.ensures c.loop-thread.invariant own

@@ -1,19 +1,18 @@
-use Rattle.std.proofs.Common.{◌≡◌, ◌∙◌, ◌++◌, ◌<◌, ℕ, List, [], ◌∷◌, None, length, codes, ap, sym, refl, append_assoc, arith}
+use Rattle.std.proofs.Common.{◌≡◌, ◌∙◌, ◌++◌, ◌<◌, List, [], ◌∷◌, None, length, codes, ap, sym, refl, arith}
 use Rattle.std.proofs.lemmas.Result.{on_ok_weaker}
 use Rattle.bp_tree.specs.Ast.{Name}
 use Rattle.bp_code.specs.Bits.{bits_of}
 use Rattle.bp_code.specs.Steps.{Bits}
 use Rattle.bp_code.specs.StandsFor.{valuation_of}
 use Rattle.bp_facts.proofs.ChangedVariables.{from_first}
+use Rattle.bp_facts.proofs.GrownLists.{both_added}
 use Rattle.bp_view.specs.declared.options.ViewFormat.TheVariants.{Columns}
 use Rattle.bp_view.specs.Heads.{globals_line}
 use Rattle.bp_view.specs.Variables.{variables_text}
 use Rattle.bp_view.proofs.states.push_globals_line.Goals as goal
 
-regrouped : (a b c d : List ℕ) → ((a ++ b) ++ c) ++ d ≡ a ++ ((b ++ c) ++ d)
-regrouped a b c d = simp append_assoc
-
-line_of_some : (xs : List Name) (bits : Bits) → 0 < length xs → globals_line (valuation_of xs bits) ≡ (codes "globals" ++ variables_text Columns None (valuation_of xs bits)) ++ codes "\n"
+line_of_some : (xs : List Name) (bits : Bits) → 0 < length xs
+    → globals_line (valuation_of xs bits) ≡ (codes "globals" ++ variables_text Columns None (valuation_of xs bits)) ++ codes "\n"
 line_of_some [] bits some = absurd (omega (arith, some))
 line_of_some (x ∷ xs) bits some = refl
 
@@ -24,11 +23,8 @@ returns c =
     let old = c.args.view.now.items in
     let values = variables_text Columns None (valuation_of xs bits) in
     let some : 0 < length xs = grind arith in
+    let said = c.in_ok-push_values.ensures ∙ ap (λ f. c.push_bytes.new.line.items ++ variables_text Columns None (valuation_of xs f)) (from_first bits) in
+    let begun = both_added old _ _ (codes "globals") values _ said c.in_ok-push_bytes.ensures refl in
     on_ok_weaker c.push_bytes-2.result (λ added.
-    added
-    ∙ ap (λ y. y ++ codes "\n") (c.in_ok-push_values.ensures
-    ∙ ap (λ f. c.push_bytes.new.line.items ++ variables_text Columns None (valuation_of xs f)) (from_first bits)
-    ∙ ap (λ y. y ++ values) c.in_ok-push_bytes.ensures)
-    ∙ regrouped old (codes "globals") values (codes "\n")
-    ∙ ap (λ y. old ++ y) (sym (line_of_some xs bits some)))
+    both_added old _ _ (codes "globals" ++ values) (codes "\n") _ added begun (sym (line_of_some xs bits some)))
     c.push_bytes-2.ensures

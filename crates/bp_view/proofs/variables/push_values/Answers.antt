@@ -1,10 +1,12 @@
-use Rattle.std.proofs.Common.{◌≡◌, ◌∙◌, ◌++◌, ◌+◌, ◌<◌, length, take, get_or, ap, ap₂, sym, append_assoc, add-one, arith}
+use Rattle.std.proofs.Common.{◌≡◌, ◌∙◌, ◌++◌, ◌+◌, ◌<◌, ℕ, Bool, List, length, take, get_or, ap, ap₂, sym, add-one, arith}
 use Rattle.std.specs.Prelude.{option_map}
+use Rattle.std.proofs.lemmas.List.{flat_map_more}
 use Rattle.bp_code.specs.Bits.{bits_of}
 use Rattle.bp_code.specs.StandsFor.{valuation_of}
 use Rattle.bp_code.specs.Steps.{Bits}
-use Rattle.bp_view.specs.Variables.{variable_text, variables_text}
-use Rattle.bp_view.proofs.TextsOfVariables.{values_more}
+use Rattle.bp_facts.specs.ChangeFacts.{owned, Entry}
+use Rattle.bp_facts.proofs.OwnedEntries.{values_more}
+use Rattle.bp_view.specs.Variables.{entries_text, entry_text, variables_text}
 use Rattle.bp_view.proofs.variables.push_values.Goals as goal
 
 pub loop-n-preserved : goal.loop-n-preserved
@@ -15,12 +17,14 @@ loop-n-preserved c =
     let x = c.index-names-n.result in
     let old = c.args.line.now.items in
     let owner = option_map (λ p. p.now) c.args.owner in
-    let values = variables_text c.args.format owner (valuation_of (take n xs) bits) in
+    let text = entry_text c.args.format in
+    let entry : List ℕ → Bool → Entry = λ y v. record { owner = owner; name = y; value = v } in
+    let next = entry (get_or xs n x).text (bits n) in
     let within : n < length xs = omega arith in
     let name : c.as_bytes.result.now ≡ (get_or xs n x).text = c.as_bytes.ensures.value ∙ c.text.ensures ∙ ap (λ y. y.text) c.index-names-n.is in
     c.in_ok-push_value.ensures
-    ∙ ap (λ y. y ++ variable_text c.args.format owner c.as_bytes.result.now c.bit_of-bit.result) c.loop-n.invariant
-    ∙ append_assoc old values (variable_text c.args.format owner c.as_bytes.result.now c.bit_of-bit.result)
-    ∙ ap₂ (λ y v. old ++ (values ++ variable_text c.args.format owner y v)) name c.bit_of-bit.ensures
-    ∙ ap (λ y. old ++ y) (sym (values_more c.args.format owner xs n bits x within))
+    ∙ ap₂ (λ y v. c.loop-n.line.items ++ text (entry y v)) name c.bit_of-bit.ensures
+    ∙ ap (λ y. y ++ text next) c.loop-n.invariant
+    ∙ flat_map_more text old (owned owner (valuation_of (take n xs) bits)) next
+    ∙ ap (λ es. old ++ entries_text c.args.format es) (sym (values_more owner xs n bits x within))
     ∙ ap (λ k. old ++ variables_text c.args.format owner (valuation_of (take k xs) bits)) (sym (add-one n))

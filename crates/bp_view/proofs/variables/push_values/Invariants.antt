@@ -6,4 +6,6 @@ use Rattle.bp_view.specs.Variables.{variables_text}
 use Rattle.bp_view.proofs.variables.push_values.Given as goal
 
 abbrev pub invariant-loop-n : goal.invariant-loop-n
-invariant-loop-n l = l.line.items ≡ l.initial.line.items ++ variables_text l.format (option_map (λ p. p.now) l.owner) (valuation_of (take l.n l.names) (λ k. bits_of l.word (l.first + k)))
+invariant-loop-n l =
+    let values = valuation_of (take l.n l.names) (λ k. bits_of l.word (l.first + k)) in
+    l.line.items ≡ l.initial.line.items ++ variables_text l.format (option_map (λ p. p.now) l.owner) values

@@ -36,10 +36,9 @@ returns-in_err-put-2 g c = λ t text can made same.
     let playable = playable_next t text w.session.setup w.setting w.session.code c.args.report can i now _ _ has _ within in
     let known = known_there t text w.session.setup w.setting w.session.code c.args.report can i now _ _ has in
     let line = c.in_default.ensures.line t text (take i w.setting.history.now) has.made playable known in
-    rw (
-      p.1,
-      p.2,
-    ) (line_cut t text w.session.setup w.setting w.session.code c.args.report can i now _ _ has _ within _ _ c.deref.ensures.value line _ c.in_err-put-2.ensures)
+    let put = c.in_err-put-2.ensures in
+    rw (p.1, p.2)
+    (line_cut t text w.session.setup w.setting w.session.code c.args.report can i now _ _ has _ within _ _ c.deref.ensures.value line _ put)
 
 pub loop-recorded-preserved : goal.loop-recorded-preserved
 loop-recorded-preserved g c = λ t text can made same.
@@ -54,7 +53,10 @@ loop-recorded-preserved g c = λ t text can made same.
     let line = c.in_default.ensures.line t text h has.made playable known in
     let after = c.in_default.ensures.made t h has.made playable in
     let kept = c.in_default.ensures.kept in
-    line_written t text w.session.setup w.setting w.session.code c.args.report can i now _ _ has _ within _ _ c.deref.ensures.value line c.make_line.new.self _ after kept.0 kept.1 c.in_ok-put-2.ensures
+    let same = c.deref.ensures.value in
+    let made_by = c.make_line.new.self in
+    let put = c.in_ok-put-2.ensures in
+    line_written t text w.session.setup w.setting w.session.code c.args.report can i now _ _ has _ within _ _ same line made_by _ after kept.0 kept.1 put
 
 pub returns-in_err-end : goal.returns-in_err-end
 returns-in_err-end g c = λ t text can made same.
@@ -74,10 +76,8 @@ returns-in_err-put-3 g c = λ t text can made same.
     let known = known_there t text w.session.setup w.setting w.session.code c.args.report can i now _ _ has in
     let done = made_all t text w.session.setup w.setting w.session.code c.args.report can i now _ _ has past in
     let end = c.in_ok-end.ensures t text w.setting.history.now known done.code done.stands (ap (λ (y : Setting). y.history.now) has.setting) can.outcome in
-    rw (
-      p.1,
-      p.2,
-    ) (end_cut t text w.session.setup w.setting w.session.code c.args.report can i now _ _ has past _ _ c.deref-2.ensures.value end _ c.in_err-put-3.ensures)
+    rw (p.1, p.2)
+    (end_cut t text w.session.setup w.setting w.session.code c.args.report can i now _ _ has past _ _ c.deref-2.ensures.value end _ c.in_err-put-3.ensures)
 
 pub returns : goal.returns
 returns g c = λ t text can made same.

@@ -25,7 +25,9 @@ module _ (t : Program) (text trace : List ℕ) (o : ViewOptions) (r : Replayed) 
   unnamed a f (n, same, undeclared) =
       subst (IsViewRefusal t text trace o a a) (sym same) (refl, record { replayed = r; is = is; there = there; undeclared = undeclared })
 
-module _ (t : Program) (text trace : List ℕ) (o : ViewOptions) (r : Replayed) (is : IsReplayed t trace r) (there : IsThere o.thread (threads r.setup)) (declared : AreDeclared t (watched_names o.watch)) where
+module _
+    (t : Program) (text trace : List ℕ) (o : ViewOptions) (r : Replayed) (is : IsReplayed t trace r) (there : IsThere o.thread (threads r.setup))
+    (declared : AreDeclared t (watched_names o.watch)) where
   of_trace : (view : List ℕ) → IsView t text r.setup r.history.items r.report o view → IsViewOfTrace t text trace o view r.report
   of_trace view view_is = record { replayed = r; is = is; view_is = view_is; report_is = refl; there = there; declared = declared }
 
@@ -42,7 +44,8 @@ module _ (t : Program) (text trace : List ℕ) (o : ViewOptions) (r : Replayed) 
 pub returns-in_err-check_thread : goal.returns-in_err-check_thread
 returns-in_err-check_thread g c = λ text trace shown names.
     let p = err_from_is_err_and c.from_residual.result c.from_residual.ensures.1 in
-    rw (p.1, p.2) (missing c.args.checked.now text trace c.args.options c.args.shown.now.replayed shown.is _ c.in_err-check_thread.field-0.0 c.in_err-check_thread.ensures)
+    let f = c.in_err-check_thread.field-0.0 in
+    rw (p.1, p.2) (missing c.args.checked.now text trace c.args.options c.args.shown.now.replayed shown.is _ f c.in_err-check_thread.ensures)
 
 pub returns-in_err-check_names : goal.returns-in_err-check_names
 returns-in_err-check_names g c = λ text trace shown names.
@@ -60,7 +63,10 @@ returns-in_err-head g c = λ text trace shown names.
     let is = c.setting_of-setting.ensures in
     let history = is.history ∙ c.as_slice-history.ensures.value in
     let declared = subst (AreDeclared t) names c.in_ok-check_names.ensures in
-    let can = viewable t text r x c.args.options history is.options c.args.code.now _ _ c.requires.code shown.scenes shown.is.trace.playable shown.is.report names (is.scenes ∙ c.deref.ensures.value) is.globals is.procedures is.names is.widths in
+    let scenes = is.scenes ∙ c.deref.ensures.value in
+    let can =
+    viewable t text r x c.args.options history is.options c.args.code.now _ _ c.requires.code shown.scenes shown.is.trace.playable
+    shown.is.report names scenes is.globals is.procedures is.names is.filter is.widths in
     let begun = begun_of_trace t text r x c.args.options history is.options r.setup refl _ _ (none_begun t text r.setup x c.args.code.now r.report can _) in
     rw (p.1, p.2) (stopped t text trace c.args.options r shown.is c.in_ok-check_thread.ensures declared _ _ Memory begun)
 
@@ -73,7 +79,10 @@ returns-in_err-session g c = λ text trace shown names.
     let is = c.setting_of-setting.ensures in
     let history = is.history ∙ c.as_slice-history.ensures.value in
     let declared = subst (AreDeclared t) names c.in_ok-check_names.ensures in
-    let can = viewable t text r x c.args.options history is.options c.args.code.now _ _ c.requires.code shown.scenes shown.is.trace.playable shown.is.report names (is.scenes ∙ c.deref.ensures.value) is.globals is.procedures is.names is.widths in
+    let scenes = is.scenes ∙ c.deref.ensures.value in
+    let can =
+    viewable t text r x c.args.options history is.options c.args.code.now _ _ c.requires.code shown.scenes shown.is.trace.playable
+    shown.is.report names scenes is.globals is.procedures is.names is.filter is.widths in
     let begun = begun_of_trace t text r x c.args.options history is.options r.setup refl _ _ (none_begun t text r.setup x c.args.code.now r.report can _) in
     rw (p.1, p.2) (stopped t text trace c.args.options r shown.is c.in_ok-check_thread.ensures declared _ _ Memory begun)
 
@@ -88,11 +97,17 @@ returns g c = λ text trace shown names.
     let history = is.history ∙ c.as_slice-history.ensures.value in
     let there = c.in_ok-check_thread.ensures in
     let declared = subst (AreDeclared t) names c.in_ok-check_names.ensures in
-    let can = viewable t text r x c.args.options history is.options c.args.code.now _ _ c.requires.code shown.scenes shown.is.trace.playable shown.is.report names (is.scenes ∙ c.deref.ensures.value) is.globals is.procedures is.names is.widths in
-    let own = subst (λ s. IsViewable c.in_ok-session.session.code t text s r.report x) (sym session.kept.1) (subst (λ k. IsViewable k t text r.setup r.report x) (sym session.kept.0) can) in
+    let scenes = is.scenes ∙ c.deref.ensures.value in
+    let can =
+    viewable t text r x c.args.options history is.options c.args.code.now _ _ c.requires.code shown.scenes shown.is.trace.playable
+    shown.is.report names scenes is.globals is.procedures is.names is.filter is.widths in
+    let by_code = subst (λ k. IsViewable k t text r.setup r.report x) (sym session.kept.0) can in
+    let own = subst (λ s. IsViewable c.in_ok-session.session.code t text s r.report x) (sym session.kept.1) by_code in
     let code = subst (λ k. StandsFor k t) (sym session.kept.0) c.requires.code in
     let head = c.deref-2.ensures.value ∙ c.in_ok-head.ensures in
-    let done = c.write_parts.ensures t text own (record { code = code; stands = session.stands t c.requires.code; last = refl; made = refl }) (rw session.kept.1 head) in
+    let stands = session.stands t c.requires.code in
+    let done =
+    c.write_parts.ensures t text own (record { code = code; stands = stands; last = refl; made = refl }) (rw session.kept.1 head) in
     MatchResult-weaker c.write_parts.result (written_of_trace t text r x o history is.options _ session.kept.1 _ _ _ done)
     (λ _ written. viewed t text trace o r shown.is there declared _ _ written)
     (λ f why. stopped t text trace o r shown.is there declared _ _ f why)

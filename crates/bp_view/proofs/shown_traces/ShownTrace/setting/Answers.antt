@@ -11,6 +11,7 @@ returns-clause-known c = λ text are. record {
     globals = c.setting_of.ensures.globals;
     procedures = c.setting_of.ensures.procedures;
   };
+  filter = c.setting_of.ensures.filter;
   names =
       ap (map (λ n. n.now)) c.setting_of.ensures.names
       ∙ ap watched_names (sym (ap (λ (o : ViewOptions). o.watch) c.setting_of.ensures.options ∙ c.all.ensures.1));
