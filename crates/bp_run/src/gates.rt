@@ -17,6 +17,13 @@ pub trait Gate: Sync {
     fn finished(&self, _thread: u32) {}
 }
 
+/// How workers take turns: how many calls each has at most, and the gate around it.
+#[derive(Clone, Copy)]
+pub struct Turns<'a, G> {
+    pub calls: u32,
+    pub gate: &'a G,
+}
+
 /// A gate that does nothing.
 #[derive(Clone, Copy, Debug)]
 pub struct Open;
@@ -25,4 +32,25 @@ impl Gate for Open {
     fn before<R: Wait + Clock>(&self, _rt: &R, _thread: u32, _call: u64) {}
 
     fn after(&self, _thread: u32, _reply: Reply) {}
+}
+
+/// Without a gate it does nothing.
+impl<G: Gate> Gate for Option<G> {
+    fn before<R: Wait + Clock>(&self, rt: &R, thread: u32, call: u64) {
+        if let Some(gate) = self {
+            gate.before(rt, thread, call);
+        }
+    }
+
+    fn after(&self, thread: u32, reply: Reply) {
+        if let Some(gate) = self {
+            gate.after(thread, reply);
+        }
+    }
+
+    fn finished(&self, thread: u32) {
+        if let Some(gate) = self {
+            gate.finished(thread);
+        }
+    }
 }

@@ -18,8 +18,8 @@ mod stages;
 mod workers;
 
 pub use answers::{RunReport, WorkerCount};
-pub use gates::{Gate, Open};
-pub use playing::{PlayedBoard, play};
+pub use gates::{Gate, Open, Turns};
+pub use playing::{OpenedBoard, PlayedBoard, play};
 pub use run_faults::RunFault;
 pub use run_options::RunOptions;
 pub use runner::run;

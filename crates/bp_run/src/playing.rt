@@ -9,11 +9,11 @@ ghost use Rattle.bp_board.specs.Gatherings.{AreOnePerThread};
 ghost use Rattle.bp_run.specs.Played.{IsPlayedFrom, IsPlayRefusal};
 ghost use Rattle.bp_run.specs.Works.{TellsShut};
 
-use crate::gates::Gate;
+use crate::gates::{Gate, Turns};
 use crate::pens::Pen;
 use crate::run_faults::RunFault;
 use crate::scribes::write_rest;
-use crate::stages::{Staged, stage};
+use crate::stages::{Crew, Staged, stage};
 use bp_board::{Board, Calls, Gathered, Seat, Tap, gather};
 use bp_code::Code;
 use bp_machine::{Report, Setup, failures_are_real, steps_are_a_run, steps_are_within};
@@ -23,6 +23,16 @@ use std::sync::Wait;
 use std::sync::ledger::Ledger;
 use std::thread::Threads;
 use std::time::Clock;
+
+/// A board that was opened for this code and setup, with its seats and its tap.
+#[derive(Drop)]
+pub struct OpenedBoard<'a, C: Calls, O: Ledger> {
+    pub code: &'a Code,
+    pub setup: &'a Setup,
+    pub board: Board<C, O>,
+    pub seats: Vec<Seat<C, O>>,
+    pub tap: Tap<C>,
+}
 
 /// The result of playing a board: the seats that came back, and the report of its history, or why
 /// there is none. With a report it is said whether all workers have done their work, and whether
@@ -82,34 +92,38 @@ fn play_with<
 >(
     rt: &R,
     alloc: Global,
-    board: Board<C, O>,
-    seats: Vec<Seat<C, O>>,
-    tap: Tap<C>,
-    code: &Code,
-    setup: &Setup,
-    turn: u32,
-    gate: &G,
+    opened: OpenedBoard<'_, C, O>,
+    turns: Turns<'_, G>,
     back: &mut Vec<Seat<C, O>>,
     pen: Pen<'a, W>,
 ) -> Finished<'a, W>
-    requires code { code.now ≡ C.code }
-    requires setup { setup.now ≡ C.setup }
-    requires seats { AreOnePerThread (threads setup.now) seats.items }
-    requires untaken { tap.taken ≡ [] }
-    requires turn { (0 < turn) × (turn ≤ MAX_TURN) }
+    requires code { opened.code.now ≡ C.code }
+    requires setup { opened.setup.now ≡ C.setup }
+    requires seats { AreOnePerThread (threads opened.setup.now) opened.seats.items }
+    requires untaken { opened.tap.taken ≡ [] }
+    requires turn { (0 < turns.calls) × (turns.calls ≤ MAX_TURN) }
     requires fresh { pen.failed ≡ false }
     ensures same_reference { result.pen.out.ghost_name ≡ pen.entry.out.ghost_name }
-    ensures answer { let old = W.contents pen.entry.out.now in
+    ensures answer { let setup = opened.entry.setup.now in
+        let old = W.contents pen.entry.out.now in
         let new = W.contents result.pen.out.now in
         (t : Program)
-        → StandsFor code.now t
+        → StandsFor opened.entry.code.now t
         → MatchResult result.answer
-        (IsPlayedFrom t setup.now old new back.new.items result.agree)
-        (IsPlayRefusal t setup.now old new) }
-    ensures seats { OnOk result.answer (AreOnePerThread (threads setup.now) back.new.items) }
+        (IsPlayedFrom t setup old new back.new.items result.agree)
+        (IsPlayRefusal t setup old new) }
+    ensures seats { OnOk result.answer
+        (AreOnePerThread (threads opened.entry.setup.now) back.new.items) }
     ensures done { OnOk result.answer (TellsShut result.all_done back.new.items) }
 {
     histories_keep_their_laws();
+    let OpenedBoard {
+        code,
+        setup,
+        board,
+        seats,
+        tap,
+    } = opened;
     code.is_of_a_program();
     setup.is_in_range();
     let (Ok(room), Ok(handles)) = (
@@ -118,15 +132,18 @@ fn play_with<
     ) else {
         return refused(pen, RunFault::Memory);
     };
+    let crew = Crew {
+        seats,
+        back: room,
+        handles,
+    };
     let Staged {
         mut pen,
         tap,
         seats,
         all_started,
         all_done,
-    } = stage(
-        rt, setup, &board, seats, room, handles, tap, pen, turn, gate,
-    );
+    } = stage(rt, setup, &board, crew, tap, pen, turns);
     if !all_started {
         return refused(pen, RunFault::Start);
     }
@@ -174,28 +191,25 @@ pub fn play<
 >(
     rt: &R,
     alloc: Global,
-    board: Board<C, O>,
-    seats: Vec<Seat<C, O>>,
-    tap: Tap<C>,
-    code: &Code,
-    setup: &Setup,
-    turn: u32,
-    gate: &G,
+    opened: OpenedBoard<'_, C, O>,
+    turns: Turns<'_, G>,
     out: &mut W,
 ) -> PlayedBoard<C, O>
-    requires code { code.now ≡ C.code }
-    requires setup { setup.now ≡ C.setup }
-    requires seats { AreOnePerThread (threads setup.now) seats.items }
-    requires untaken { tap.taken ≡ [] }
-    requires turn { (0 < turn) × (turn ≤ MAX_TURN) }
-    ensures answer { let old = W.contents out.old in
+    requires code { opened.code.now ≡ C.code }
+    requires setup { opened.setup.now ≡ C.setup }
+    requires seats { AreOnePerThread (threads opened.setup.now) opened.seats.items }
+    requires untaken { opened.tap.taken ≡ [] }
+    requires turn { (0 < turns.calls) × (turns.calls ≤ MAX_TURN) }
+    ensures answer { let setup = opened.entry.setup.now in
+        let old = W.contents out.old in
         let new = W.contents out.new in
         (t : Program)
-        → StandsFor code.now t
+        → StandsFor opened.entry.code.now t
         → MatchResult result.answer
-        (IsPlayedFrom t setup.now old new result.seats.items result.agree)
-        (IsPlayRefusal t setup.now old new) }
-    ensures seats { OnOk result.answer (AreOnePerThread (threads setup.now) result.seats.items) }
+        (IsPlayedFrom t setup old new result.seats.items result.agree)
+        (IsPlayRefusal t setup old new) }
+    ensures seats { OnOk result.answer
+        (AreOnePerThread (threads opened.entry.setup.now) result.seats.items) }
     ensures done { OnOk result.answer (TellsShut result.all_done result.seats.items) }
 {
     let pen = Pen::new(out);
@@ -205,9 +219,7 @@ pub fn play<
         agree,
         answer,
         pen: _,
-    } = play_with(
-        rt, alloc, board, seats, tap, code, setup, turn, gate, &mut back, pen,
-    );
+    } = play_with(rt, alloc, opened, turns, &mut back, pen);
     PlayedBoard {
         seats: back,
         all_done,

@@ -10,8 +10,8 @@ ghost use Rattle.bp_run.specs.Played.{IsPlayedFrom, IsPlayRefusal};
 ghost use Rattle.bp_run.specs.Runs.{IsTracedRun, IsRunRefusal};
 
 use crate::answers::{RunReport, counts_of};
-use crate::gates::Gate;
-use crate::playing::play;
+use crate::gates::{Gate, Turns};
+use crate::playing::{OpenedBoard, play};
 use crate::run_faults::RunFault;
 use crate::run_options::RunOptions;
 use bp_board::{Board, Calls, Kit};
@@ -49,8 +49,7 @@ fn open_and_play<
     kit: Kit,
     code: &Code,
     setup: &Setup,
-    turn: u32,
-    gate: &G,
+    turns: Turns<'_, G>,
     out: &mut W,
 ) -> Result<RunReport, RunFault>
     requires named { IsNamed kit C.name C.parts O.name O.parts C.ring }
@@ -59,7 +58,7 @@ fn open_and_play<
     requires threads { kit.threads ≡ threads setup.now }
     requires fits { FitsCode code.now setup.now }
     requires seeded { is_some setup.now.seed ≡ true }
-    requires turn { (0 < turn) × (turn ≤ MAX_TURN) }
+    requires turn { (0 < turns.calls) × (turns.calls ≤ MAX_TURN) }
     ensures { let old = W.contents out.old in
         let new = W.contents out.new in
         (t : Program)
@@ -71,7 +70,14 @@ fn open_and_play<
 {
     let room = Vec::with_capacity(alloc, setup.threads() as usize)?;
     let (board, seats, tap) = Board::<C, O>::open(alloc, kit, code, setup)?;
-    let played = play(rt, alloc, board, seats, tap, code, setup, turn, gate, out);
+    let opened = OpenedBoard {
+        code,
+        setup,
+        board,
+        seats,
+        tap,
+    };
+    let played = play(rt, alloc, opened, turns, out);
     let report = played.answer?;
     Ok(RunReport {
         report,
@@ -106,6 +112,7 @@ pub fn run<G: Gate, W: Write, R: Threads + Wait + Clock + Sync>(
     let code = code_of(alloc, text)?;
     let setup = options.setup(alloc, &code)?;
     let kit = kit_of(alloc, &setup, options)?;
-    let turn = options.turn;
-    open_and_play::<Brand, Brand, G, W, R>(rt, alloc, kit, &code, &setup, turn, gate, out)
+    let calls = options.turn;
+    let turns = Turns { calls, gate };
+    open_and_play::<Brand, Brand, G, W, R>(rt, alloc, kit, &code, &setup, turns, out)
 }

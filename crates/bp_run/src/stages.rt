@@ -6,7 +6,7 @@ ghost use Rattle.bp_machine.specs.declared.limits.TheConstants.{MAX_THREADS};
 ghost use Rattle.bp_run.specs.Scribing.{IsStaged};
 ghost use Rattle.bp_run.specs.Works.{IsWorked, TellsShut};
 
-use crate::gates::Gate;
+use crate::gates::{Gate, Turns};
 use crate::pens::Pen;
 use crate::scribes::write_running;
 use crate::signals::Signals;
@@ -62,12 +62,11 @@ fn start_workers<
     signals: &'s Signals,
     seats: Vec<Seat<C, O>>,
     handles: &mut Vec<Handle<C, O>>,
-    turn: u32,
-    gate: &'s G,
+    turns: Turns<'s, G>,
 ) -> bool
     requires shared { IsSync R.row × IsSync G.row }
-    requires some { 0 < turn }
-    requires few { turn ≤ MAX_TURN }
+    requires some { 0 < turns.calls }
+    requires few { turns.calls ≤ MAX_TURN }
     requires no_handle { vec_len handles.old ≡ 0 }
     requires room { vec_len seats ≤ vec_capacity handles.old }
     ensures count { vec_len handles.new ≤ vec_len seats }
@@ -75,6 +74,7 @@ fn start_workers<
         → map (λ handle. handle.promise.thread) handles.new.items
         ≡ map (λ seat. seat.thread) seats.items }
 {
+    let Turns { calls, gate } = turns;
     let mut all_started = true;
     for seat in seats {
         let thread = seat.thread();
@@ -85,10 +85,10 @@ fn start_workers<
         match scope.spawn_with(
             OfThread { thread },
             move || -> Worked<C, O>
-                requires some { 0 < turn }
-                requires few { turn ≤ MAX_TURN }
+                requires some { 0 < calls }
+                requires few { calls ≤ MAX_TURN }
                 ensures { IsWorked seat.thread result.seat result.done }
-            { worker(rt, board, signals, seat, turn, gate) },
+            { worker(rt, board, signals, seat, calls, gate) },
         ) {
             Ok(handle) => handles.push_reserved(handle),
             Err(_) => {
@@ -122,6 +122,15 @@ fn join_workers<C: Calls + Send, O: Ledger + Send, R: Threads>(
     (back, all_done)
 }
 
+/// The seats of the workers that are to be started, and room for their handles and for the seats
+/// that they give back.
+#[derive(Drop)]
+pub(crate) struct Crew<C: Calls, O: Ledger> {
+    pub seats: Vec<Seat<C, O>>,
+    pub back: Vec<Seat<C, O>>,
+    pub handles: Vec<Handle<C, O>>,
+}
+
 /// Starts a worker for each seat, takes and writes calls while they run, and joins them.
 pub(crate) fn stage<
     'a,
@@ -134,30 +143,32 @@ pub(crate) fn stage<
     rt: &R,
     setup: &Setup,
     board: &Board<C, O>,
-    seats: Vec<Seat<C, O>>,
-    back: Vec<Seat<C, O>>,
-    handles: Vec<Handle<C, O>>,
+    crew: Crew<C, O>,
     tap: Tap<C>,
     pen: Pen<'a, W>,
-    turn: u32,
-    gate: &G,
+    turns: Turns<'_, G>,
 ) -> Staged<'a, W, C, O>
-    requires some { 0 < turn }
-    requires few { turn ≤ MAX_TURN }
-    requires threads { vec_len seats ≤ MAX_THREADS }
-    requires no_seat { vec_len back ≡ 0 }
-    requires no_handle { vec_len handles ≡ 0 }
-    requires room_back { vec_len seats ≤ vec_capacity back }
-    requires room_handles { vec_len seats ≤ vec_capacity handles }
+    requires some { 0 < turns.calls }
+    requires few { turns.calls ≤ MAX_TURN }
+    requires threads { vec_len crew.seats ≤ MAX_THREADS }
+    requires no_seat { vec_len crew.back ≡ 0 }
+    requires no_handle { vec_len crew.handles ≡ 0 }
+    requires room_back { vec_len crew.seats ≤ vec_capacity crew.back }
+    requires room_handles { vec_len crew.seats ≤ vec_capacity crew.handles }
     requires fine { pen.failed ≡ false }
     requires untaken { tap.taken ≡ [] }
     ensures same_reference { result.pen.out.ghost_name ≡ pen.entry.out.ghost_name }
     ensures written { IsStaged setup.now (W.contents pen.entry.out.now)
         (W.contents result.pen.out.now) result.pen.failed result.tap.taken result.all_started }
     ensures seats { result.all_started ≡ true
-        → map (λ s. s.thread) result.seats.items ≡ map (λ s. s.thread) seats.items }
+        → map (λ s. s.thread) result.seats.items ≡ map (λ s. s.thread) crew.seats.items }
     ensures done { TellsShut result.all_done result.seats.items }
 {
+    let Crew {
+        seats,
+        back,
+        handles,
+    } = crew;
     let signals = Signals::new();
     let signals = &signals;
     thread::scope(
@@ -165,8 +176,8 @@ pub(crate) fn stage<
         rt,
         move |scope| -> Staged<'_, W, C, O>
             requires shared { IsSync R.row × IsSync G.row }
-            requires some { 0 < turn }
-            requires few { turn ≤ MAX_TURN }
+            requires some { 0 < turns.calls }
+            requires few { turns.calls ≤ MAX_TURN }
             requires threads { vec_len seats ≤ MAX_THREADS }
             requires no_seat { vec_len back ≡ 0 }
             requires no_handle { vec_len handles ≡ 0 }
@@ -186,16 +197,7 @@ pub(crate) fn stage<
             let mut handles = handles;
             let mut pen = pen;
             let mut tap = tap;
-            let all_started = start_workers(
-                scope,
-                rt,
-                board,
-                signals,
-                seats,
-                &mut handles,
-                turn,
-                gate,
-            );
+            let all_started = start_workers(scope, rt, board, signals, seats, &mut handles, turns);
             let started = handles.len() as u32;
             write_running(rt, setup, &mut pen, &mut tap, signals, started, all_started);
             let (seats, all_done) = join_workers(rt, handles, back);
