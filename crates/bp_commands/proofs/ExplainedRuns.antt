@@ -4,7 +4,6 @@ use Rattle.std.specs.declared.alloc.Global.{Global}
 use Rattle.bp_text.specs.Writing.{Writes}
 use Rattle.std.proofs.Common.{◌≡◌, ℕ, List, true, Option, None, Some, Result, Ok, Err, IfOk, Vec, ◌∙◌, subst, inl, inr}
 use Rattle.bp_advice.specs.declared.explanations.Explanation.{Explanation}
-use Rattle.bp_advice.specs.Explanations.{lines_of}
 use Rattle.bp_messages.specs.declared.faults.Fault.{Fault}
 use Rattle.bp_commands.specs.declared.ends.Explained.{Explained}
 use Rattle.bp_commands.specs.declared.ends.RunEnd.{RunEnd}
@@ -16,7 +15,7 @@ use Rattle.bp_commands.specs.Tellings.{is_explained, IsConcluded, IsReported}
 
 -- what is said of a fault, where its lines were made or memory for them was refused
 pub says : (Explains : Explanation → Type 0) (e : Explained) (r : Result (Option (Vec ℕ Global)) AllocError) (said : List ℕ)
-    → IfOk r (IsTextOf lines_of Explains) → IsSaidFor r e said → IsSaid Explains e said
+    → IfOk r (IsTextOf true Explains) → IsSaidFor r e said → IsSaid Explains e said
 says Explains e (Ok (Some lines)) said (x, is, lines_are) (made, same) = inl (made, (x, is, same ∙ lines_are))
 says Explains e (Ok None) said none (made, words) = inr (inl none, words)
 says Explains e (Err x) said made (refused, words) = inr (inr refused, words)

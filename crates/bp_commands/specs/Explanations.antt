@@ -1,6 +1,6 @@
 -- What `--explain` adds after the line of a fault: the explanation of that fault in the text that
 -- was read, or else its words.
-use Rattle.std.specs.Prelude.{◌≡◌, ◌⊎◌, ℕ, List, [], ◌∷◌, ◌++◌, Option, None, Some, Result, Ok, Err, IsErr, IsErrAnd, Vec}
+use Rattle.std.specs.Prelude.{if◌then◌else◌, ◌≡◌, ◌⊎◌, ℕ, Bool, List, [], ◌∷◌, ◌++◌, Option, None, Some, Result, Ok, Err, IsErr, IsErrAnd, Vec}
 use Rattle.std.specs.declared.alloc.AllocError.{AllocError}
 use Rattle.std.specs.declared.alloc.Global.{Global}
 use Rattle.bp_syntax.specs.declared.faults.ReadFault.TheVariants as read
@@ -48,12 +48,13 @@ pub record IsInWords (said : List ℕ) : Type 0 where
   pub one_line : IsOneLine words
   pub is : said ≡ words ++ 10 ∷ []
 
--- the text is this one of what explains a fault; there is none where nothing does
+-- the text is the lines of what explains a fault, or its sentence; there is none where nothing does
 abbrev pub IsTextOf
-    : (Explanation → List ℕ) → (Explanation → Type 0) → Option (Vec ℕ Global) → Type 0
-IsTextOf text_of Explains (Some text) =
-    (e : Explanation) × Explains e × (text.items ≡ text_of e)
-IsTextOf text_of Explains None = IsUnexplained Explains
+    : (in_lines : Bool) → (Explanation → Type 0) → Option (Vec ℕ Global) → Type 0
+IsTextOf in_lines Explains (Some text) =
+    (e : Explanation) × Explains e
+    × (text.items ≡ (if in_lines then lines_of e else sentence_of e))
+IsTextOf in_lines Explains None = IsUnexplained Explains
 
 -- the message is the sentence of what explains a fault, where anything does
 abbrev pub IsSentence : (Explanation → Type 0) → List ℕ → Type 0

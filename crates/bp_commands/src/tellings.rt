@@ -3,7 +3,7 @@ ghost use Rattle.std.specs.Prelude.{◌≡◌, ℕ, List, Option, Result, IfOk};
 ghost use Rattle.bp_text.specs.Writing.{Writes};
 ghost use Rattle.bp_commands.specs.Ends.{Ends};
 ghost use Rattle.bp_advice.specs.declared.explanations.Explanation.{Explanation};
-ghost use Rattle.bp_advice.specs.Explanations.{lines_of, sentence_of, IsExplanationOf};
+ghost use Rattle.bp_advice.specs.Explanations.{IsExplanationOf};
 ghost use Rattle.bp_commands.specs.Explanations.{ExplainsPair, ExplainsText, IsSaid, IsTextOf, IsUntold};
 ghost use Rattle.bp_messages.specs.FaultObjects.{name_in};
 ghost use Rattle.bp_messages.specs.FaultTable.{status_of};
@@ -142,30 +142,18 @@ impl Texts for NamedPair<'_> {
     }
 }
 
-/// The sentence of what explains a fault, where anything does.
-fn explaining_sentence<G: Texts>(
+/// The lines or the sentence of what explains a fault, where anything does.
+fn explaining_text<G: Texts>(
     alloc: Global,
     given: &G,
     fault: &Fault,
+    in_lines: bool,
 ) -> Result<Option<Vec<u8>>, AllocError>
-    ensures { IfOk result (IsTextOf sentence_of (G.explains given.now fault.now)) }
+    ensures { IfOk result (IsTextOf in_lines (G.explains given.now fault.now)) }
 {
     match &given.explanation(alloc, fault)? {
+        Some(explanation) if in_lines => Ok(Some(lines_of(alloc, explanation)?)),
         Some(explanation) => Ok(Some(sentence_of(alloc, explanation)?)),
-        None => Ok(None),
-    }
-}
-
-/// The lines of what explains a fault, where anything does.
-fn explaining_lines<G: Texts>(
-    alloc: Global,
-    given: &G,
-    fault: &Fault,
-) -> Result<Option<Vec<u8>>, AllocError>
-    ensures { IfOk result (IsTextOf lines_of (G.explains given.now fault.now)) }
-{
-    match &given.explanation(alloc, fault)? {
-        Some(explanation) => Ok(Some(lines_of(alloc, explanation)?)),
         None => Ok(None),
     }
 }
@@ -242,7 +230,7 @@ fn end_by_object<G: Texts, E: Write>(
         (object : List ℕ) × IsObject result.explained fault.now object
         × Writes (E.contents errors.old) (E.contents errors.new) object result.told }
 {
-    match explaining_sentence(alloc, given, fault) {
+    match explaining_text(alloc, given, fault, false) {
         Ok(Some(sentence)) => {
             let told = put_object(given, fault, hints, sentence.as_slice(), errors);
             told_by_object(fault, Ok(()), told)
@@ -290,7 +278,7 @@ fn explain<G: Texts, E: Write>(
     ensures { (said : List ℕ) × IsSaid (G.explains given.now fault.now) result said
         × Writes (E.contents errors.old) (E.contents errors.new) said result.told }
 {
-    let lines = explaining_lines(alloc, given, fault);
+    let lines = explaining_text(alloc, given, fault, true);
     put_explanation(alloc, &lines, fault, hints, errors)
 }
 

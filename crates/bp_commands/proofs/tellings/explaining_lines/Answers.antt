@@ -1,6 +1,0 @@
-use Rattle.bp_commands.proofs.tellings.explaining_lines.Goals as goal
-
-pub returns-in-Some : goal.returns-in-Some
-returns-in-Some g c =
-    let explains : g.G.Texts.explains c.args.given.now c.args.fault.now c.in-Some.explanation = rw c.in-Some.is at c.in_ok-explanation.ensures in
-    (c.in-Some.explanation, explains, c.in_ok-lines_of-in-Some.ensures.is)
