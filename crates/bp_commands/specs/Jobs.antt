@@ -27,34 +27,28 @@ pub record Job : Type 1 where
   pub telling : Telling Given
   pub format : FaultFormat
 
--- what the output and standard error held before and after a run
-pub record Streams : Type 0 where
-  pub output_before : Option (List ℕ)
-  pub output_after : Option (List ℕ)
-  pub errors_before : Option (List ℕ)
-  pub errors_after : Option (List ℕ)
+-- what the output and standard error hold
+pub record Held : Type 0 where
+  pub output : Option (List ℕ)
+  pub errors : Option (List ℕ)
 
-abbrev pub streams : (old new errors_old errors_new : Option (List ℕ)) → Streams
-streams old new errors_old errors_new = record {
-  output_before = old;
-  output_after = new;
-  errors_before = errors_old;
-  errors_after = errors_new;
-}
+abbrev pub held : (output errors : Option (List ℕ)) → Held
+held output errors = record { output = output; errors = errors }
 
--- The job was done: its command answered of the inputs; the output took what it wrote, or not all
--- of its end; and standard error has its summary, or its refusal, which names the inputs read.
-pub record IsRun (job : Job) (s : Streams) (end : RunEnd) : Type 0 where
+-- The streams held this before and after the job was done: its command answered of the inputs; the
+-- output took what it wrote, or not all of its end; and standard error has its summary, or its
+-- refusal, which names the inputs read.
+pub record IsRun (job : Job) (before after : Held) (end : RunEnd) : Type 0 where
   pub left : job.Left
-  pub held : Option (List ℕ)
+  pub buffered : Option (List ℕ)
   pub done : Result job.Answer Fault
-  pub answers : Answers job.command (job.inputs left) s.output_before held done
+  pub answers : Answers job.command (job.inputs left) before.output buffered done
   pub final : Result job.Answer Fault
-  pub flushed : IsFlushed done held final s.output_after
+  pub flushed : IsFlushed done buffered final after.output
   pub concluded :
       let IsObject = IsObjectRead (job.inputs left) job.telling.IsObject in
       let IsSaid = IsSaidOfRead (job.inputs left) job.telling.Explains in
-      IsConcluded job.ending job.format IsObject IsSaid final end s.errors_before s.errors_after
+      IsConcluded job.ending job.format IsObject IsSaid final end before.errors after.errors
 
 module _ (bytes : List ℕ → Option (List ℕ)) (format : FaultFormat) where
   -- a command on the program of a file

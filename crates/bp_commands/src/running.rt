@@ -1,5 +1,5 @@
-//! The command `run`. It is no `ProgramCommand`, since what starts threads is known of a function's
-//! own parameters alone.
+//! The command `run`. It is no `ProgramCommand`: what starts threads and the gate of a run are
+//! known in its workers as a function's own parameters alone.
 ghost use Rattle.bp_commands.specs.Commands.{Answers, AnswersOf};
 ghost use Rattle.bp_commands.specs.Explanations.{AreReadOr};
 ghost use Rattle.bp_commands.specs.Given.{text_alone};
@@ -16,37 +16,45 @@ use std::sync::Wait;
 use std::thread::Threads;
 use std::time::Clock;
 
-/// Runs the program of a text under these options, with a worker for each guest thread, and writes
-/// the trace of the history that the workers make, while it grows.
-fn run_under<G: Gate, W: Write, T: Threads + Wait + Clock + Sync>(
+/// A run by real workers, one for each guest thread.
+#[derive(Drop)]
+pub struct Run<'a, T, G> {
+    /// What starts the workers.
+    pub threads: &'a T,
+    /// The gate at which they wait.
+    pub gate: &'a G,
+    pub options: &'a RunOptions,
+    /// The globals in the start of the options that have their bits by name.
+    pub named: &'a NamedBits<'a>,
+}
+
+/// Runs the program of a text under these options, and writes the trace of the history that the
+/// workers make, while it grows.
+fn run_under<T: Threads + Wait + Clock + Sync, G: Gate, W: Write>(
     alloc: Global,
-    threads: &T,
+    asked: &Run<'_, T, G>,
     options: &RunOptions,
-    gate: &G,
     text: &[u8],
     out: &mut W,
 ) -> Result<RunReport, Fault>
     ensures { AnswersOf (runs options.now) text.now
         (W.contents out.old) (W.contents out.new) result }
 {
-    Ok(run(threads, alloc, text, options, gate, out)?)
+    Ok(run(asked.threads, alloc, text, options, asked.gate, out)?)
 }
 
-/// Runs the program of a text under these options, in whose start these globals have their bits by
-/// name. A worker for each guest thread makes its calls. The trace of the history that the workers
-/// make is written while it grows.
-pub fn run_text<G: Gate, W: Write, T: Threads + Wait + Clock + Sync>(
+/// Runs the program of a text as it is asked. The trace of the history that the workers make is
+/// written while it grows.
+pub fn run_text<T: Threads + Wait + Clock + Sync, G: Gate, W: Write>(
     alloc: Global,
-    threads: &T,
-    options: &RunOptions,
-    named: &NamedBits<'_>,
-    gate: &G,
+    asked: &Run<'_, T, G>,
     text: &[u8],
     out: &mut W,
 ) -> Result<RunReport, Fault>
-    ensures { AnswersOf (runs_by_names options.now named.now) text.now
+    ensures { AnswersOf (runs_by_names asked.now.options.now asked.now.named.now) text.now
         (W.contents out.old) (W.contents out.new) result }
 {
+    let (options, named) = (asked.options, asked.named);
     let start = &options.start;
     let found = start_by_names(alloc, text, NamedStart { start, named })?;
     match found {
@@ -58,30 +66,27 @@ pub fn run_text<G: Gate, W: Write, T: Threads + Wait + Clock + Sync>(
                 seed,
                 ring,
             };
-            run_under(alloc, threads, &options, gate, text, out)
+            run_under(alloc, asked, &options, text, out)
         }
-        None => run_under(alloc, threads, options, gate, text, out),
+        None => run_under(alloc, asked, options, text, out),
     }
 }
 
 /// Reads a program text, and runs its program as `run_text` does. At most 65,537 bytes are read.
-pub fn run_program<G: Gate, R: Read, W: Write, T: Threads + Wait + Clock + Sync>(
+pub fn run_program<T: Threads + Wait + Clock + Sync, G: Gate, R: Read, W: Write>(
     alloc: Global,
-    threads: &T,
-    options: &RunOptions,
-    named: &NamedBits<'_>,
-    gate: &G,
+    asked: &Run<'_, T, G>,
     program: &mut Source<R>,
     out: &mut W,
 ) -> Result<RunReport, Fault>
     ensures answers { let inputs = text_alone
         (R.remaining program.old.reader) (R.remaining program.new.reader) in
-        Answers (runs_by_names options.now named.now) inputs
+        Answers (runs_by_names asked.now.options.now asked.now.named.now) inputs
         (W.contents out.old) (W.contents out.new) result }
     ensures holds { let inputs = text_alone
         (R.remaining program.old.reader) (R.remaining program.new.reader) in
         AreReadOr inputs program.new.bytes.items result }
 {
     read_text(alloc, program)?;
-    run_text(alloc, threads, options, named, gate, &program.bytes, out)
+    run_text(alloc, asked, &program.bytes, out)
 }

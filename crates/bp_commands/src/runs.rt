@@ -1,7 +1,7 @@
 //! Runs of the commands, from the paths of their files to the exit status.
 ghost use Rattle.std.specs.Io.Buffered.{writer_contents};
 ghost use Rattle.bp_commands.specs.Ends.{of_run};
-ghost use Rattle.bp_commands.specs.Jobs.{on_bundle, on_file, on_files, streams, IsRun};
+ghost use Rattle.bp_commands.specs.Jobs.{held, on_bundle, on_file, on_files, IsRun};
 ghost use Rattle.bp_commands.specs.Runs.{runs_by_names};
 
 use crate::bundles::drive_bundle;
@@ -11,17 +11,32 @@ use crate::explanations::Named;
 use crate::fault_formats::FaultFormat;
 use crate::files::{Files, InputFile};
 use crate::flushes::flushed;
-use crate::hints::{Asked, Hints, Limited, Numbers};
+use crate::hints::{Asked, Hints, Limited, Numbers, Unread};
 use crate::inputs::Source;
-use crate::running::run_program;
+use crate::running::{Run, run_program};
 use crate::tellings::{NamedPair, conclude};
-use bp_init::{NamedBits, NamedStart};
-use bp_run::{Gate, RunOptions};
+use bp_init::NamedStart;
+use bp_run::Gate;
 use std::alloc::Global;
 use std::io::{BufWriter, Read, Write};
 use std::sync::Wait;
 use std::thread::Threads;
 use std::time::Clock;
+
+/// Where a command is run: with this memory, on these files, and with faults in this form.
+#[derive(Clone, Copy)]
+pub struct Io<'a, F> {
+    pub alloc: Global,
+    pub files: &'a F,
+    pub format: FaultFormat,
+}
+
+/// Standard output and standard error.
+#[derive(Drop)]
+pub struct Streams<O: Write + Drop, E: Write + Drop> {
+    pub output: O,
+    pub errors: E,
+}
 
 /// The numbers of what a run starts from, where there is such a start.
 fn numbers_of(asked: Option<NamedStart<'_>>) -> Option<Numbers> {
@@ -29,24 +44,50 @@ fn numbers_of(asked: Option<NamedStart<'_>>) -> Option<Numbers> {
     Some(Numbers::of_start(asked.start))
 }
 
-/// Does a command on the program of a file, and answers how it ends and the output.
-pub fn run_on_program<'a, C: ProgramCommand, F: Files, W: Write + Drop, E: Write>(
-    alloc: Global,
-    files: &'a F,
+/// What is known of the command line of a run on a program alone.
+fn hints_on<'a>(
+    program: Named<'a>,
+    unread: Option<Unread<'a>>,
+    numbers: Option<Numbers>,
+    start: Option<NamedStart<'a>>,
+) -> Hints<'a, 'a> {
+    Hints {
+        unread,
+        numbers,
+        asked: Asked {
+            program: program.text,
+            start,
+            watch: None,
+        },
+        program: program.name,
+        input: None,
+    }
+}
+
+/// Does a command on the program of a file, and answers how it ends and the streams.
+pub fn run_on_program<'a, C: ProgramCommand, F: Files, W: Write + Drop, E: Write + Drop>(
+    io: Io<'a, F>,
     command: &'a C,
     path: &'a str,
-    format: FaultFormat,
-    mut out: BufWriter<W>,
-    errors: &mut E,
-) -> (RunEnd, W)
+    streams: Streams<BufWriter<W>, E>,
+) -> (RunEnd, Streams<W, E>)
     requires { C.allowed command.now }
-    ensures { let old = writer_contents W.contents out in
-        let job = on_file (F.bytes files.now) format (C.command command.now)
+    ensures { let before =
+        held (writer_contents W.contents streams.output) (E.contents streams.errors) in
+        let after = held (W.contents result.1.output) (E.contents result.1.errors) in
+        let job = on_file (F.bytes io.entry.files.now) io.entry.format (C.command command.now)
         C.Answer.ending path.now in
-        let written = streams old (W.contents result.1)
-        (E.contents errors.old) (E.contents errors.new) in
-        IsRun job written result.0 }
+        IsRun job before after result.0 }
 {
+    let Io {
+        alloc,
+        files,
+        format,
+    } = io;
+    let Streams {
+        output: mut out,
+        mut errors,
+    } = streams;
     let mut program = InputFile::source(alloc, files, path);
     let done = do_on_program(alloc, command, &mut program, &mut out);
     let (done, output) = flushed(done, out);
@@ -55,101 +96,83 @@ pub fn run_on_program<'a, C: ProgramCommand, F: Files, W: Write + Drop, E: Write
         name: path,
         text: &program.bytes,
     };
-    let hints = Hints {
-        unread,
-        numbers: numbers_of(command.start()),
-        asked: Asked {
-            program: given.text,
-            start: command.start(),
-            watch: None,
-        },
-        program: path,
-        input: None,
-    };
-    let end = conclude(alloc, format, &given, &done, hints, errors);
-    (end, output)
+    let start = command.start();
+    let hints = hints_on(given, unread, numbers_of(start), start);
+    let end = conclude(alloc, format, &given, &done, hints, &mut errors);
+    (end, Streams { output, errors })
 }
 
-/// A run by real workers: its options, and the gate at which they wait.
-#[derive(Drop)]
-pub struct Workers<'a, G> {
-    pub options: &'a RunOptions,
-    /// The globals in the start of the options that have their bits by name.
-    pub named: &'a NamedBits<'a>,
-    pub gate: &'a G,
-}
-
-/// Runs the program of a file by real workers, and answers how it ends and the output.
+/// Runs the program of a file by real workers, and answers how it ends and the streams.
 pub fn run_by_workers<
     'a,
     F: Files,
-    G: Gate,
     T: Threads + Wait + Clock + Sync,
+    G: Gate,
     W: Write + Drop,
-    E: Write,
+    E: Write + Drop,
 >(
-    alloc: Global,
-    files: &'a F,
-    threads: &T,
-    workers: &Workers<'a, G>,
+    io: Io<'a, F>,
+    asked: &Run<'a, T, G>,
     path: &'a str,
-    format: FaultFormat,
-    mut out: BufWriter<W>,
-    errors: &mut E,
-) -> (RunEnd, W)
-    ensures { let old = writer_contents W.contents out in
-        let command = runs_by_names workers.now.options.now workers.now.named.now in
-        let job = on_file (F.bytes files.now) format command of_run path.now in
-        let written = streams old (W.contents result.1)
-        (E.contents errors.old) (E.contents errors.new) in
-        IsRun job written result.0 }
+    streams: Streams<BufWriter<W>, E>,
+) -> (RunEnd, Streams<W, E>)
+    ensures { let before =
+        held (writer_contents W.contents streams.output) (E.contents streams.errors) in
+        let after = held (W.contents result.1.output) (E.contents result.1.errors) in
+        let command = runs_by_names asked.now.options.now asked.now.named.now in
+        let job = on_file (F.bytes io.entry.files.now) io.entry.format command of_run path.now in
+        IsRun job before after result.0 }
 {
+    let Io {
+        alloc,
+        files,
+        format,
+    } = io;
+    let Streams {
+        output: mut out,
+        mut errors,
+    } = streams;
     let mut program = InputFile::source(alloc, files, path);
-    let (options, named, gate) = (workers.options, workers.named, workers.gate);
-    let done = run_program(alloc, threads, options, named, gate, &mut program, &mut out);
+    let done = run_program(alloc, asked, &mut program, &mut out);
     let (done, output) = flushed(done, out);
     let unread = program.reader.unread();
     let given = Named {
         name: path,
         text: &program.bytes,
     };
-    let hints = Hints {
-        unread,
-        numbers: Some(Numbers::of_run(options)),
-        asked: Asked {
-            program: given.text,
-            start: Some(NamedStart {
-                start: &options.start,
-                named,
-            }),
-            watch: None,
-        },
-        program: path,
-        input: None,
-    };
-    let end = conclude(alloc, format, &given, &done, hints, errors);
-    (end, output)
+    let (options, named) = (asked.options, asked.named);
+    let start = &options.start;
+    let start = Some(NamedStart { start, named });
+    let hints = hints_on(given, unread, Some(Numbers::of_run(options)), start);
+    let end = conclude(alloc, format, &given, &done, hints, &mut errors);
+    (end, Streams { output, errors })
 }
 
 /// Does a command on the program of a file and the input that another file has, and answers how
-/// it ends and the output.
-pub fn run_on_pair<'a, C: PairCommand, F: Files, W: Write + Drop, E: Write>(
-    alloc: Global,
-    files: &'a F,
+/// it ends and the streams.
+pub fn run_on_pair<'a, C: PairCommand, F: Files, W: Write + Drop, E: Write + Drop>(
+    io: Io<'a, F>,
     command: &'a C,
     path: &'a str,
     input_path: &'a str,
-    format: FaultFormat,
-    mut out: BufWriter<W>,
-    errors: &mut E,
-) -> (RunEnd, W)
-    ensures { let old = writer_contents W.contents out in
-        let job = on_files (F.bytes files.now) format (C.command command.now) C.Answer.ending
-        (C.limit command.now) (C.beside command.now) path.now input_path.now in
-        let written = streams old (W.contents result.1)
-        (E.contents errors.old) (E.contents errors.new) in
-        IsRun job written result.0 }
+    streams: Streams<BufWriter<W>, E>,
+) -> (RunEnd, Streams<W, E>)
+    ensures { let before =
+        held (writer_contents W.contents streams.output) (E.contents streams.errors) in
+        let after = held (W.contents result.1.output) (E.contents result.1.errors) in
+        let job = on_files (F.bytes io.entry.files.now) io.entry.format (C.command command.now)
+        C.Answer.ending (C.limit command.now) (C.beside command.now) path.now input_path.now in
+        IsRun job before after result.0 }
 {
+    let Io {
+        alloc,
+        files,
+        format,
+    } = io;
+    let Streams {
+        output: mut out,
+        mut errors,
+    } = streams;
     let mut program = InputFile::source(alloc, files, path);
     let mut input = InputFile::source(alloc, files, input_path);
     let done = do_on_pair(alloc, command, &mut program, &mut input, &mut out);
@@ -181,24 +204,28 @@ pub fn run_on_pair<'a, C: PairCommand, F: Files, W: Write + Drop, E: Write>(
             limit: command.limit(),
         }),
     };
-    let end = conclude(alloc, format, &given, &done, hints, errors);
-    (end, output)
+    let end = conclude(alloc, format, &given, &done, hints, &mut errors);
+    (end, Streams { output, errors })
 }
 
-/// Drives the bundle of a reader, and answers how it ends and the output.
-pub fn run_on_bundle<R: Read + Drop, W: Write + Drop, E: Write>(
+/// Drives the bundle of a reader, and answers how it ends and the streams.
+pub fn run_on_bundle<R: Read + Drop, W: Write + Drop, E: Write + Drop>(
     alloc: Global,
     reader: R,
-    mut out: BufWriter<W>,
-    errors: &mut E,
-) -> (RunEnd, W)
-    ensures { let old = writer_contents W.contents out in
-        let written = streams old (W.contents result.1)
-        (E.contents errors.old) (E.contents errors.new) in
-        IsRun (on_bundle (R.remaining reader)) written result.0 }
+    streams: Streams<BufWriter<W>, E>,
+) -> (RunEnd, Streams<W, E>)
+    ensures { let before =
+        held (writer_contents W.contents streams.output) (E.contents streams.errors) in
+        let after = held (W.contents result.1.output) (E.contents result.1.errors) in
+        IsRun (on_bundle (R.remaining reader)) before after result.0 }
 {
+    let Streams {
+        output: mut out,
+        mut errors,
+    } = streams;
     let mut bundle = Source::new(alloc, reader);
     let done = drive_bundle(alloc, &mut bundle, &mut out);
     let (done, output) = flushed(done, out);
-    (end(&done, errors), output)
+    let end = end(&done, &mut errors);
+    (end, Streams { output, errors })
 }

@@ -6,7 +6,7 @@ use Rattle.bp_text.specs.Writing.{Writes}
 use Rattle.bp_text.specs.declared.writing.WriteFault.{WriteFault}
 use Rattle.bp_text.specs.declared.writing.WriteFault.TheVariants as write
 use Rattle.bp_commands.specs.Ends.{HasFaultLine}
-use Rattle.bp_commands.specs.Jobs.{Streams}
+use Rattle.bp_commands.specs.Jobs.{Held}
 use Rattle.bp_commands.specs.declared.ends.RunEnd.{RunEnd}
 use Rattle.bp_messages.specs.declared.faults.Fault.TheVariants as fault
 use Rattle.bp_words.specs.declared.no_tasks.NoTask.{NoTask}
@@ -33,19 +33,20 @@ abbrev in_part : Result (Unit {0}) WriteFault
 in_part = Err write.Write
 
 -- the text was printed, and nothing else
-pub record IsPrintedWhole (text : List ℕ) (s : Streams) (end : RunEnd) : Type 0 where
-  pub printed : Writes s.output_before s.output_after text whole
+pub record IsPrintedWhole (text : List ℕ) (before after : Held) (end : RunEnd) : Type 0 where
+  pub printed : Writes before.output after.output text whole
   pub status : end.status ≡ 0
-  pub silent : s.errors_after ≡ s.errors_before
+  pub silent : after.errors ≡ before.errors
 
 -- the output refused a part of the text, which a line says
-pub record IsPrintedInPart (text : List ℕ) (s : Streams) (end : RunEnd) : Type 0 where
-  pub printed : Writes s.output_before s.output_after text in_part
+pub record IsPrintedInPart (text : List ℕ) (before after : Held) (end : RunEnd) : Type 0 where
+  pub printed : Writes before.output after.output text in_part
   pub status : end.status ≡ 3
-  pub line : HasFaultLine fault.Write s.errors_before s.errors_after end.told
+  pub line : HasFaultLine fault.Write before.errors after.errors end.told
 
-abbrev pub IsPrintedEnd : List ℕ → Streams → RunEnd → Type 0
-IsPrintedEnd text s end = IsPrintedWhole text s end ⊎ IsPrintedInPart text s end
+abbrev pub IsPrintedEnd : List ℕ → Held → Held → RunEnd → Type 0
+IsPrintedEnd text before after end =
+    IsPrintedWhole text before after end ⊎ IsPrintedInPart text before after end
 
 -- why words are refused: for programs an object, and else a text
 abbrev pub refusal_text : (json : Bool) → Refusal → List ℕ
@@ -53,14 +54,16 @@ refusal_text true refusal = refusal_object (string_bytes refusal.message)
 refusal_text false refusal = string_bytes refusal.text
 
 -- why the words are refused was told, and nothing was printed
-pub record IsRefusalEnd (text : List ℕ) (s : Streams) (end : RunEnd) : Type 0 where
-  pub printed : s.output_after ≡ s.output_before
+pub record IsRefusalEnd (text : List ℕ) (before after : Held) (end : RunEnd) : Type 0 where
+  pub printed : after.output ≡ before.output
   pub status : end.status ≡ 2
-  pub line : Writes s.errors_before s.errors_after text end.told
+  pub line : Writes before.errors after.errors text end.told
 
 -- the run of words that ask for no task ended
-abbrev pub IsEndWithout : (json : Bool) → NoTask → Streams → RunEnd → Type 0
-IsEndWithout json Memory s end =
-    (s.output_after ≡ s.output_before) × IsLackOfMemory s.errors_before s.errors_after end
-IsEndWithout json (Printed text) s end = IsPrintedEnd (string_bytes text) s end
-IsEndWithout json (Refused refusal) s end = IsRefusalEnd (refusal_text json refusal) s end
+abbrev pub IsEndWithout : (json : Bool) → NoTask → Held → Held → RunEnd → Type 0
+IsEndWithout json Memory before after end =
+    (after.output ≡ before.output) × IsLackOfMemory before.errors after.errors end
+IsEndWithout json (Printed text) before after end =
+    IsPrintedEnd (string_bytes text) before after end
+IsEndWithout json (Refused refusal) before after end =
+    IsRefusalEnd (refusal_text json refusal) before after end

@@ -2,8 +2,9 @@
 
 use crate::host_files::HostFiles;
 use crate::progress_lines::ProgressLine;
-use crate::tasks::{Io, Screen, do_task};
+use crate::tasks::{Host, Screen, carry_out, reporting};
 use crate::usage::{end_without_task, refuse_memory, unread};
+use bp_commands::Streams;
 use bp_text::{number_of, put};
 use bp_words::{NoTask, Task, asks_for_json, read_words};
 use std::env;
@@ -60,14 +61,6 @@ fn explains_faults(rt: &HostRuntime) -> bool {
     is_set(rt, "BTRUN_EXPLAIN") || rt.stderr().is_terminal()
 }
 
-/// Whether what the task writes on standard error is JSON.
-fn has_json(task: &Task<'_>) -> bool {
-    match task {
-        Task::Test(words) => words.json,
-        _ => false,
-    }
-}
-
 /// The seconds that a task has, where they are limited.
 fn seconds_of(task: &Task<'_>) -> Option<u64> {
     match task {
@@ -78,7 +71,7 @@ fn seconds_of(task: &Task<'_>) -> Option<u64> {
 
 /// The line of progress of a test that starts now.
 fn progress_line<'a>(rt: &'a HostRuntime, task: &Task<'_>) -> ProgressLine<'a> {
-    let is_asked_not_to = has_json(task) || is_set(rt, "NO_PROGRESS");
+    let is_asked_not_to = reporting(task).0 || is_set(rt, "NO_PROGRESS");
     let is_wanted = !is_asked_not_to && rt.stderr().is_terminal();
     let start = if is_wanted {
         Instant::now(rt).ok()
@@ -114,19 +107,22 @@ fn do_on_host<T: Threads + Wait + Clock + Sync>(
 ) -> u8 {
     let (alloc, files) = (rt.alloc(), HostFiles::new(rt, words));
     let mut errors = rt.stderr();
-    let Ok(out) = BufWriter::new(alloc, rt.stdout()) else {
+    let Ok(output) = BufWriter::new(alloc, rt.stdout()) else {
         return refuse_memory(&mut errors).status;
     };
     say_that_it_waits(rt, task);
-    let io = Io {
+    let progress = progress_line(rt, task);
+    let host = Host {
         alloc,
         files: &files,
+        threads,
         clock: rt,
+        progress: &progress,
         screen: screen(rt),
         on_terminal: explains_faults(rt),
     };
-    let progress = progress_line(rt, task);
-    let (end, _output) = do_task(io, threads, &progress, rt.stdin(), task, out, &mut errors);
+    let streams = Streams { output, errors };
+    let (end, _) = carry_out(host, rt.stdin(), task, streams);
     // What standard error refused can be told nowhere else.
     end.status
 }

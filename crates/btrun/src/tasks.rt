@@ -1,25 +1,22 @@
 //! What each task does, over any files and streams.
 ghost use Rattle.std.specs.Io.Buffered.{writer_contents};
-ghost use Rattle.std.specs.Prelude.{◌≡◌, false};
-ghost use Rattle.bp_commands.specs.Ends.{of_report};
-ghost use Rattle.bp_commands.specs.Jobs.{on_files, streams, IsRun};
-ghost use Rattle.bp_commands.specs.declared.explanations.Beside.{Beside};
-ghost use Rattle.bp_trace.specs.declared.limits.TheConstants.{MAX_TRACE};
-ghost use Rattle.btrun.specs.Tasks.{bound_of, confirm_job, fault_format, format_of, job_of, listing_form, run_job, show_job, test_job, test_options, view_options};
+ghost use Rattle.std.specs.Prelude.{◌≡◌};
+ghost use Rattle.bp_commands.specs.Jobs.{held, IsRun};
+ghost use Rattle.bp_commands.specs.Tests.{name_of};
+ghost use Rattle.btrun.specs.Tasks.{bound_of, fault_format, format_of, job_of, listed_if, listing_form, reporting, show_job, test_options, view_options};
 
 use bp_commands::{
-    Check, Code, Confirm, Drive, FaultFormat, Files, ListingForm, Migrate, Replay, RunEnd, Show,
-    ShowContexts, ShowState, ShowSteps, Shrink, Test, TraceCommand, Workers, run_by_workers,
-    run_on_bundle, run_on_pair, run_on_program,
+    Check, Code, Confirm, Drive, FaultFormat, Files, Io, ListingForm, Migrate, Replay, Run, RunEnd,
+    Show, ShowContexts, ShowState, ShowSteps, Shrink, Streams, Test, run_by_workers, run_on_bundle,
+    run_on_pair, run_on_program,
 };
 use bp_confirm::ContextBound;
-use bp_init::NamedStart;
-use bp_run::{Open, Spread};
+use bp_init::{NamedBits, NamedStart};
+use bp_machine::Start;
+use bp_run::Spread;
 use bp_test::{Progress, TestOptions};
 use bp_view::{ViewFormat, ViewOptions};
-use bp_words::{
-    CodeWords, ConfirmWords, ExplainWords, RunWords, ShowWords, Task, TestWords, TraceWords,
-};
+use bp_words::{CodeWords, ConfirmWords, ExplainWords, RunWords, ShowWords, Task, TestWords};
 use std::alloc::Global;
 use std::io::{BufWriter, Read, Write};
 use std::sync::Wait;
@@ -35,23 +32,50 @@ pub struct Screen {
     pub columns: Option<usize>,
 }
 
-/// Where a task is done: the memory, the files, and what the streams are.
+/// Where a task is done: the memory, the files, what starts threads, and what the streams are.
 #[derive(Clone, Copy)]
-pub struct Io<'a, F> {
+pub struct Host<'a, F, T, P> {
     pub alloc: Global,
     pub files: &'a F,
+    pub threads: &'a T,
     /// What tells the time.
     pub clock: &'a HostRuntime,
+    /// Who is told how far a test is.
+    pub progress: &'a P,
     /// How lines are shown on standard output.
     pub screen: Screen,
     /// Whether faults are explained if no option says so, as on a terminal.
     pub on_terminal: bool,
 }
 
-/// In which form a fault is reported on a standard error that is a terminal or not.
-fn fault_format(json: bool, explain: ExplainWords, on_terminal: bool) -> FaultFormat
-    ensures { result ≡ fault_format json explain on_terminal }
+/// The words on explanations of a task that explains nothing.
+const NEVER: ExplainWords = ExplainWords {
+    always: false,
+    never: true,
+};
+
+/// Whether a task reports its faults as JSON, and when it explains them.
+pub fn reporting(task: &Task<'_>) -> (bool, ExplainWords)
+    ensures { result ≡ reporting task.now }
 {
+    match task {
+        Task::Bundle => (false, NEVER),
+        Task::Check(words) => (words.json, words.explain),
+        Task::Code(words) => (words.json, words.explain),
+        Task::Drive(words) => (false, words.explain),
+        Task::Confirm(words) => (words.json, words.explain),
+        Task::Run(words) => (false, words.explain),
+        Task::Test(words) => (words.json, words.explain),
+        Task::Show(words) => (words.json, words.explain),
+        Task::Replay(words) | Task::Migrate(words) | Task::Shrink(words) => (false, words.explain),
+    }
+}
+
+/// In which form a task reports its faults on a standard error that is a terminal or not.
+fn fault_format(task: &Task<'_>, on_terminal: bool) -> FaultFormat
+    ensures { result ≡ fault_format task.now on_terminal }
+{
+    let (json, explain) = reporting(task);
     if json {
         FaultFormat::Json
     } else if explain.is_explained(on_terminal) {
@@ -61,39 +85,26 @@ fn fault_format(json: bool, explain: ExplainWords, on_terminal: bool) -> FaultFo
     }
 }
 
-/// Runs the program of a file at the gate that the words ask for.
-fn run_as_asked<F: Files, T: Threads + Wait + Clock + Sync, W: Write + Drop, E: Write>(
-    io: Io<'_, F>,
-    threads: &T,
-    words: &RunWords<'_>,
-    out: BufWriter<W>,
-    errors: &mut E,
-) -> (RunEnd, W)
-    ensures { let old = writer_contents W.contents out in
-        let written = streams old (W.contents result.1)
-        (E.contents errors.old) (E.contents errors.new) in
-        let job = run_job (F.bytes io.entry.files.now)
-        io.entry.screen io.entry.on_terminal words.now in
-        IsRun job written result.0 }
+/// How the code of a program is listed. JSON has the source of each instruction too.
+fn listing_form(words: &CodeWords<'_>) -> ListingForm
+    ensures { result ≡ listing_form words.now }
 {
-    let Io { alloc, files, .. } = io;
-    let (options, named, path) = (&words.options, &words.named, words.program);
-    let format = fault_format(false, words.explain, io.on_terminal);
-    if words.spread {
-        let gate = &Spread::new(options.seed, options.start.entries.len());
-        let workers = Workers {
-            options,
-            named,
-            gate,
-        };
-        run_by_workers(alloc, files, threads, &workers, path, format, out, errors)
+    if words.json {
+        ListingForm::Json
+    } else if words.source {
+        ListingForm::Sourced
     } else {
-        let workers = Workers {
-            options,
-            named,
-            gate: &Open,
-        };
-        run_by_workers(alloc, files, threads, &workers, path, format, out, errors)
+        ListingForm::Lines
+    }
+}
+
+/// How many contexts are allowed to steps: as many as they use, unless a number is given.
+fn bound_of(words: &ConfirmWords<'_>) -> ContextBound
+    ensures { result ≡ bound_of words.now }
+{
+    match words.contexts {
+        Some(_) => ContextBound::Kept,
+        None => ContextBound::AsUsed,
     }
 }
 
@@ -110,117 +121,53 @@ fn test_options(words: &TestWords<'_>) -> TestOptions
     }
 }
 
-/// Tests the program of a file.
-fn test_as_asked<F: Files, T: Threads + Sync, P: Progress, W: Write + Drop, E: Write>(
-    io: Io<'_, F>,
-    threads: &T,
-    progress: &P,
-    words: &TestWords<'_>,
-    out: BufWriter<W>,
-    errors: &mut E,
-) -> (RunEnd, W)
-    ensures { let old = writer_contents W.contents out in
-        let written = streams old (W.contents result.1)
-        (E.contents errors.old) (E.contents errors.new) in
-        let job = test_job (F.bytes io.entry.files.now)
-        io.entry.screen io.entry.on_terminal words.now in
-        IsRun job written result.0 }
+/// The name of the text whose statements are listed, where that is asked for.
+fn listed<'a>(words: &TestWords<'a>) -> Option<&'a str>
+    ensures { name_of result ≡ listed_if words.now.unreached words.now.program.now }
 {
-    let test = Test {
-        threads,
-        clock: io.clock,
-        progress,
-        start: NamedStart {
-            start: &words.start,
-            named: &words.named,
-        },
-        options: test_options(words),
-        listed: words.unreached.then_some(words.program),
-        json: words.json,
-    };
-    let format = fault_format(words.json, words.explain, io.on_terminal);
-    run_on_program(
-        io.alloc,
-        io.files,
-        &test,
-        words.program,
-        format,
-        out,
-        errors,
-    )
-}
-
-/// How many contexts are allowed to steps: as many as they use, unless a number is given.
-fn bound_of(words: &ConfirmWords<'_>) -> ContextBound
-    ensures { result ≡ bound_of words.now }
-{
-    match words.contexts {
-        Some(_) => ContextBound::Kept,
-        None => ContextBound::AsUsed,
-    }
-}
-
-/// Confirms the steps of a file by the program of another one.
-fn confirm_as_asked<F: Files, W: Write + Drop, E: Write>(
-    io: Io<'_, F>,
-    words: &ConfirmWords<'_>,
-    out: BufWriter<W>,
-    errors: &mut E,
-) -> (RunEnd, W)
-    ensures { let old = writer_contents W.contents out in
-        let written = streams old (W.contents result.1)
-        (E.contents errors.old) (E.contents errors.new) in
-        let job = confirm_job (F.bytes io.entry.files.now)
-        io.entry.screen io.entry.on_terminal words.now in
-        IsRun job written result.0 }
-{
-    let Io { alloc, files, .. } = io;
-    let format = fault_format(words.json, words.explain, io.on_terminal);
-    let confirm = Confirm {
-        start: NamedStart {
-            start: &words.start,
-            named: &words.named,
-        },
-        bound: bound_of(words),
-    };
-    let (path, steps) = (words.program, words.steps);
-    run_on_pair(alloc, files, &confirm, path, steps, format, out, errors)
-}
-
-/// How the code of a program is listed. JSON has the source of each instruction too.
-fn listing_form(words: &CodeWords<'_>) -> ListingForm
-    ensures { result ≡ listing_form words.now }
-{
-    if words.json {
-        ListingForm::Json
-    } else if words.source {
-        ListingForm::Sourced
+    if words.unreached {
+        Some(words.program)
     } else {
-        ListingForm::Lines
+        None
     }
 }
 
-/// Does a command on the program of a file and a trace of it.
-fn on_trace<C: TraceCommand, F: Files, W: Write + Drop, E: Write>(
-    io: Io<'_, F>,
-    command: &C,
-    words: &TraceWords<'_>,
-    out: BufWriter<W>,
-    errors: &mut E,
-) -> (RunEnd, W)
-    ensures { let old = writer_contents W.contents out in
-        let written = streams old (W.contents result.1)
-        (E.contents errors.old) (E.contents errors.new) in
-        let format = fault_format false words.now.explain io.entry.on_terminal in
-        let job = on_files (F.bytes io.entry.files.now) format (C.command command.now)
-        of_report MAX_TRACE Beside.Trace words.now.program.now words.now.trace.now in
-        IsRun job written result.0 }
+/// A start with these globals named in it.
+fn start_of<'a>(start: &'a Start, named: &'a NamedBits<'a>) -> NamedStart<'a>
+    ensures start { result.start.now ≡ start.now }
+    ensures named { result.named.now ≡ named.now }
 {
-    let (path, trace) = (words.program, words.trace);
-    let format = fault_format(false, words.explain, io.on_terminal);
-    run_on_pair(
-        io.alloc, io.files, command, path, trace, format, out, errors,
-    )
+    NamedStart { start, named }
+}
+
+/// The test that the words ask for.
+fn test_of<'a, F, T, P>(host: Host<'a, F, T, P>, words: &'a TestWords<'a>) -> Test<'a, T, P>
+    ensures start { result.start.start.now ≡ words.now.start }
+    ensures named { result.start.named.now ≡ words.now.named }
+    ensures options { result.options ≡ test_options words.now }
+    ensures listed { name_of result.listed
+        ≡ listed_if words.now.unreached words.now.program.now }
+    ensures json { result.json ≡ words.now.json }
+{
+    Test {
+        threads: host.threads,
+        clock: host.clock,
+        progress: host.progress,
+        start: start_of(&words.start, &words.named),
+        options: test_options(words),
+        listed: listed(words),
+        json: words.json,
+    }
+}
+
+/// The gate that draws who takes each turn, where that is asked for.
+fn gate_of(words: &RunWords<'_>) -> Option<Spread> {
+    if words.spread {
+        let options = &words.options;
+        Some(Spread::new(options.seed, options.start.entries.len()))
+    } else {
+        None
+    }
 }
 
 /// How a view is written.
@@ -255,120 +202,94 @@ fn view_options<'a>(words: &ShowWords<'a>, screen: Screen) -> ViewOptions<'a>
 
 /// Shows the trace of a file: the state after a number of calls, its contexts, its steps, or its
 /// calls, by the first of these that is asked for.
-fn show_as_asked<F: Files, W: Write + Drop, E: Write>(
+fn show<F: Files, W: Write + Drop, E: Write + Drop>(
     io: Io<'_, F>,
+    screen: Screen,
     words: &ShowWords<'_>,
-    out: BufWriter<W>,
-    errors: &mut E,
-) -> (RunEnd, W)
-    ensures { let old = writer_contents W.contents out in
-        let written = streams old (W.contents result.1)
-        (E.contents errors.old) (E.contents errors.new) in
-        let job = show_job (F.bytes io.entry.files.now)
-        io.entry.screen io.entry.on_terminal words.now in
-        IsRun job written result.0 }
+    streams: Streams<BufWriter<W>, E>,
+) -> (RunEnd, Streams<W, E>)
+    ensures { let before =
+        held (writer_contents W.contents streams.output) (E.contents streams.errors) in
+        let after = held (W.contents result.1.output) (E.contents result.1.errors) in
+        let job = show_job (F.bytes io.entry.files.now) screen io.entry.format words.now in
+        IsRun job before after result.0 }
 {
-    let Io { alloc, files, .. } = io;
     let (path, trace) = (words.program, words.trace);
-    let told = fault_format(words.json, words.explain, io.on_terminal);
     let format = format_of(words);
     match words.at {
-        Some(number) => {
-            let state = ShowState { number, format };
-            run_on_pair(alloc, files, &state, path, trace, told, out, errors)
-        }
+        Some(number) => run_on_pair(io, &ShowState { number, format }, path, trace, streams),
         None if words.contexts => {
-            let contexts = ShowContexts { format };
-            run_on_pair(alloc, files, &contexts, path, trace, told, out, errors)
+            run_on_pair(io, &ShowContexts { format }, path, trace, streams)
         }
-        None if words.steps => {
-            run_on_pair(alloc, files, &ShowSteps, path, trace, told, out, errors)
-        }
+        None if words.steps => run_on_pair(io, &ShowSteps, path, trace, streams),
         None => {
-            let options = view_options(words, io.screen);
-            run_on_pair(
-                alloc,
-                files,
-                &Show { options },
-                path,
-                trace,
-                told,
-                out,
-                errors,
-            )
+            let options = view_options(words, screen);
+            run_on_pair(io, &Show { options }, path, trace, streams)
         }
     }
 }
 
-/// Does a task, and answers how it ends and the output.
-pub fn do_task<
+/// Carries out a task, and answers how it ends and the streams.
+pub fn carry_out<
     F: Files,
     T: Threads + Wait + Clock + Sync,
     P: Progress,
     R: Read + Drop,
     W: Write + Drop,
-    E: Write,
+    E: Write + Drop,
 >(
-    io: Io<'_, F>,
-    threads: &T,
-    progress: &P,
+    host: Host<'_, F, T, P>,
     input: R,
     task: &Task<'_>,
-    out: BufWriter<W>,
-    errors: &mut E,
-) -> (RunEnd, W)
-    ensures { let old = writer_contents W.contents out in
-        let written = streams old (W.contents result.1)
-        (E.contents errors.old) (E.contents errors.new) in
-        let job = job_of (F.bytes io.entry.files.now)
-        io.entry.screen io.entry.on_terminal (R.remaining input) task.now in
-        IsRun job written result.0 }
+    streams: Streams<BufWriter<W>, E>,
+) -> (RunEnd, Streams<W, E>)
+    ensures { let before =
+        held (writer_contents W.contents streams.output) (E.contents streams.errors) in
+        let after = held (W.contents result.1.output) (E.contents result.1.errors) in
+        let job = job_of (F.bytes host.entry.files.now)
+        host.entry.screen host.entry.on_terminal (R.remaining input) task.now in
+        IsRun job before after result.0 }
 {
-    let Io { alloc, files, .. } = io;
+    let io = Io {
+        alloc: host.alloc,
+        files: host.files,
+        format: fault_format(task, host.on_terminal),
+    };
     match task {
-        Task::Bundle => run_on_bundle(alloc, input, out, errors),
+        Task::Bundle => run_on_bundle(host.alloc, input, streams),
         Task::Check(words) => {
-            let format = fault_format(words.json, words.explain, io.on_terminal);
-            let check = Check { json: words.json };
-            run_on_program(alloc, files, &check, words.program, format, out, errors)
+            let json = words.json;
+            run_on_program(io, &Check { json }, words.program, streams)
         }
         Task::Code(words) => {
-            let format = fault_format(words.json, words.explain, io.on_terminal);
             let form = listing_form(words);
-            run_on_program(
-                alloc,
-                files,
-                &Code { form },
-                words.program,
-                format,
-                out,
-                errors,
-            )
+            run_on_program(io, &Code { form }, words.program, streams)
         }
         Task::Drive(words) => {
-            let format = fault_format(false, words.explain, io.on_terminal);
-            let (path, schedule) = (words.program, words.schedule);
-            let start = NamedStart {
-                start: &words.start,
+            let start = start_of(&words.start, &words.named);
+            run_on_pair(io, &Drive { start }, words.program, words.schedule, streams)
+        }
+        Task::Confirm(words) => {
+            let (start, bound) = (start_of(&words.start, &words.named), bound_of(words));
+            let confirm = Confirm { start, bound };
+            run_on_pair(io, &confirm, words.program, words.steps, streams)
+        }
+        Task::Run(words) => {
+            let run = Run {
+                threads: host.threads,
+                gate: &gate_of(words),
+                options: &words.options,
                 named: &words.named,
             };
-            run_on_pair(
-                alloc,
-                files,
-                &Drive { start },
-                path,
-                schedule,
-                format,
-                out,
-                errors,
-            )
+            run_by_workers(io, &run, words.program, streams)
         }
-        Task::Confirm(words) => confirm_as_asked(io, words, out, errors),
-        Task::Run(words) => run_as_asked(io, threads, words, out, errors),
-        Task::Test(words) => test_as_asked(io, threads, progress, words, out, errors),
-        Task::Show(words) => show_as_asked(io, words, out, errors),
-        Task::Replay(words) => on_trace(io, &Replay, words, out, errors),
-        Task::Migrate(words) => on_trace(io, &Migrate, words, out, errors),
-        Task::Shrink(words) => on_trace(io, &Shrink, words, out, errors),
+        Task::Test(words) => {
+            let test = test_of(host, words);
+            run_on_program(io, &test, words.program, streams)
+        }
+        Task::Show(words) => show(io, host.screen, words, streams),
+        Task::Replay(words) => run_on_pair(io, &Replay, words.program, words.trace, streams),
+        Task::Migrate(words) => run_on_pair(io, &Migrate, words.program, words.trace, streams),
+        Task::Shrink(words) => run_on_pair(io, &Shrink, words.program, words.trace, streams),
     }
 }

@@ -1,7 +1,7 @@
 //! A run whose words ask for no task: for help or the version, or for nothing that there is.
 ghost use Rattle.std.specs.IoError.{error_kind};
 ghost use Rattle.bp_text.specs.Writing.{Writes};
-ghost use Rattle.bp_commands.specs.Jobs.{streams};
+ghost use Rattle.bp_commands.specs.Jobs.{held};
 ghost use Rattle.btrun.specs.Statuses.{refusal_text, IsEndWithout, IsLackOfMemory, IsPrintedEnd, IsUnread};
 
 use crate::refusals::put_refusal;
@@ -34,9 +34,9 @@ pub fn refuse_memory<E: Write>(errors: &mut E) -> RunEnd
 
 /// Prints the help or the version.
 fn print_text<W: Write, E: Write>(text: &[u8], out: &mut W, errors: &mut E) -> RunEnd
-    ensures { let written = streams (W.contents out.old) (W.contents out.new)
-        (E.contents errors.old) (E.contents errors.new) in
-        IsPrintedEnd text.now written result }
+    ensures { let before = held (W.contents out.old) (E.contents errors.old) in
+        let after = held (W.contents out.new) (E.contents errors.new) in
+        IsPrintedEnd text.now before after result }
 {
     match put(out, text) {
         Ok(()) => end(&Ok::<(), Fault>(()), errors),
@@ -64,9 +64,9 @@ pub fn end_without_task<W: Write, E: Write>(
     out: &mut W,
     errors: &mut E,
 ) -> RunEnd
-    ensures { let written = streams (W.contents out.old) (W.contents out.new)
-        (E.contents errors.old) (E.contents errors.new) in
-        IsEndWithout json none.now written result }
+    ensures { let before = held (W.contents out.old) (E.contents errors.old) in
+        let after = held (W.contents out.new) (E.contents errors.new) in
+        IsEndWithout json none.now before after result }
 {
     match none {
         NoTask::Memory => refuse_memory(errors),

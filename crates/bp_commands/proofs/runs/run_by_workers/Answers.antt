@@ -13,17 +13,17 @@ returns g c =
     let path = c.args.path.now in
     let text = c.run_program-done.new.program.bytes.items in
     let left = rest_of (g.F.Files.bytes program.files.now program.path.now) g.F.Input.Read.remaining program.file in
-    let inputs = text_alone (g.F.Files.bytes c.args.files.now path) left in
+    let inputs = text_alone (g.F.Files.bytes c.args.io.files.now path) left in
     let holds : AreReadOr inputs text c.run_program-done.result = rw (← c.source-program.ensures) c.run_program-done.ensures.holds in
     record {
       left = left;
-      held = writer_contents g.W.Write.contents c.run_program-done.new.out;
+      buffered = writer_contents g.W.Write.contents c.run_program-done.new.out;
       done = c.run_program-done.result;
       answers = rw (← c.source-program.ensures) c.run_program-done.ensures.answers;
       final = c.flushed-done.result.0;
       flushed = c.flushed-done.ensures;
       concluded =
           concluded_read inputs text (λ t. IsObjectIn (IsFileOfText path) (text_alone_of t) (ExplainsText path t)) (ExplainsText path)
-          of_run c.args.format _ _ _ _ _ _ _
+          of_run c.args.io.format _ _ _ _ _ _ _
           holds c.flushed-done.ensures (rw c.deref.ensures.value at c.conclude-end.ensures);
     }

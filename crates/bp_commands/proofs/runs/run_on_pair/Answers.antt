@@ -19,11 +19,11 @@ returns g c =
     ) in
     let given : Pair = record { text = c.do_on_pair-done.new.program.bytes.items; input = c.do_on_pair-done.new.input.bytes.items } in
     let kind = g.C.PairCommand.beside c.args.command.now in
-    let inputs = pair_of_files (g.C.PairCommand.limit c.args.command.now) (g.F.Files.bytes c.args.files.now path) (g.F.Files.bytes c.args.files.now input_path) left in
+    let inputs = pair_of_files (g.C.PairCommand.limit c.args.command.now) (g.F.Files.bytes c.args.io.files.now path) (g.F.Files.bytes c.args.io.files.now input_path) left in
     let holds : AreReadOr inputs given c.do_on_pair-done.result = rw (← c.source-program.ensures, ← c.source-input.ensures) c.do_on_pair-done.ensures.holds in
     record {
       left = left;
-      held = writer_contents g.W.Write.contents c.do_on_pair-done.new.out;
+      buffered = writer_contents g.W.Write.contents c.do_on_pair-done.new.out;
       done = c.do_on_pair-done.result;
       answers = rw (← c.source-program.ensures, ← c.source-input.ensures) c.do_on_pair-done.ensures.answers;
       final = c.flushed-done.result.0;
@@ -31,6 +31,6 @@ returns g c =
       concluded =
           concluded_read inputs given
           (λ (x : Pair). IsObjectIn (IsFileOfPair kind path input_path) x (ExplainsPair kind path input_path x)) (ExplainsPair kind path input_path)
-          g.C.Answer.Ended.ending c.args.format _ _ _ _ _ _ _
+          g.C.Answer.Ended.ending c.args.io.format _ _ _ _ _ _ _
           holds c.flushed-done.ensures (rw (c.beside.ensures, c.deref.ensures.value, c.deref-2.ensures.value) at c.conclude-end.ensures);
     }
