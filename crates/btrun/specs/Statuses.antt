@@ -1,4 +1,4 @@
--- How runs end whose words ask for no task: the exit status, and what is left on both streams.
+-- How runs end whose arguments ask for no task: the exit status, and what is left on both streams.
 use Rattle.std.specs.Prelude.{◌≡◌, ◌⊎◌, ℕ, Bool, true, false, List, Option, Result, Ok, Err, string_bytes}
 use Rattle.std.specs.declared.io.ErrorKind.{ErrorKind as IoErrorKind}
 use Rattle.std.specs.declared.io.ErrorKind.TheVariants as io
@@ -9,13 +9,13 @@ use Rattle.bp_commands.specs.Ends.{HasFaultLine}
 use Rattle.bp_commands.specs.Jobs.{Held}
 use Rattle.bp_commands.specs.declared.ends.RunEnd.{RunEnd}
 use Rattle.bp_messages.specs.declared.faults.Fault.TheVariants as fault
-use Rattle.bp_words.specs.declared.no_tasks.NoTask.{NoTask}
-use Rattle.bp_words.specs.declared.no_tasks.NoTask.TheVariants.{Memory, Printed, Refused}
-use Rattle.bp_words.specs.declared.no_tasks.Refusal.{Refusal}
-use Rattle.bp_words.specs.NoTasks.{IsRefused}
+use Rattle.bp_arguments.specs.declared.no_tasks.NoTask.{NoTask}
+use Rattle.bp_arguments.specs.declared.no_tasks.NoTask.TheVariants.{Memory, Printed, Refused}
+use Rattle.bp_arguments.specs.declared.no_tasks.Refusal.{Refusal}
+use Rattle.bp_arguments.specs.NoTasks.{IsRefused}
 use Rattle.btrun.specs.Refusals.{refusal_object}
 
--- what is said of words that are not read; for a text on them there may be no memory
+-- what is said of arguments that are not read; for a text on them there may be no memory
 abbrev pub IsUnread : IoErrorKind → NoTask → Type 0
 IsUnread io.OutOfMemory none = none ≡ Memory
 IsUnread _ none = (none ≡ Memory) ⊎ IsRefused none
@@ -48,18 +48,18 @@ abbrev pub IsPrintedEnd : List ℕ → Held → Held → RunEnd → Type 0
 IsPrintedEnd text before after end =
     IsPrintedWhole text before after end ⊎ IsPrintedInPart text before after end
 
--- why words are refused: for programs an object, and else a text
+-- why arguments are refused: for programs an object, and else a text
 abbrev pub refusal_text : (json : Bool) → Refusal → List ℕ
 refusal_text true refusal = refusal_object (string_bytes refusal.message)
 refusal_text false refusal = string_bytes refusal.text
 
--- why the words are refused was told, and nothing was printed
+-- why the arguments are refused was told, and nothing was printed
 pub record IsRefusalEnd (text : List ℕ) (before after : Held) (end : RunEnd) : Type 0 where
   pub printed : after.output ≡ before.output
   pub status : end.status ≡ 2
   pub line : Writes before.errors after.errors text end.told
 
--- the run of words that ask for no task ended
+-- the run of arguments that ask for no task ended
 abbrev pub IsEndWithout : (json : Bool) → NoTask → Held → Held → RunEnd → Type 0
 IsEndWithout json Memory before after end =
     (after.output ≡ before.output) × IsLackOfMemory before.errors after.errors end

@@ -45,8 +45,8 @@ impl<'a> HostFiles<'a> {
     /// Where standard input is closed, the first file that is opened takes its number, and would be
     /// read in its place. So it is tried before. Without such a word it is not, since a process in
     /// the background is stopped when it reads from its terminal.
-    pub fn new(rt: &'a HostRuntime, words: &[String]) -> HostFiles<'a> {
-        let is_asked_for = words.iter().any(|word| word.as_str() == STANDARD_INPUT);
+    pub fn new(rt: &'a HostRuntime, arguments: &[String]) -> HostFiles<'a> {
+        let is_asked_for = arguments.iter().any(|word| word.as_str() == STANDARD_INPUT);
         HostFiles {
             rt,
             is_taken: AtomicBool::new(false),

@@ -1,4 +1,4 @@
-//! What is said of refused words to programs: one JSON object.
+//! What is said of refused arguments to programs: one JSON object.
 ghost use Rattle.bp_text.specs.Writing.{Writes};
 ghost use Rattle.btrun.specs.Refusals.{refusal_object};
 
@@ -6,7 +6,7 @@ use bp_text::Piece::{Bytes, Key, NumberOrNull, Text, TextOrNull};
 use bp_text::{WriteFault, put_pieces};
 use std::io::Write;
 
-/// Writes the object on refused words, which says what is wrong with them.
+/// Writes the object on refused arguments, which says what is wrong with them.
 pub(crate) fn put_refusal<W: Write>(message: &[u8], out: &mut W) -> Result<(), WriteFault>
     ensures { Writes (W.contents out.old) (W.contents out.new) (refusal_object message.now) result }
 {

@@ -1,12 +1,12 @@
-//! A run of the program, from its words to its exit status.
+//! A run of the program, from its arguments to its exit status.
 
 use crate::host_files::HostFiles;
 use crate::progress_lines::ProgressLine;
 use crate::tasks::{Host, Screen, carry_out, reporting};
 use crate::usage::{end_without_task, refuse_memory, unread};
+use bp_arguments::{NoTask, Task, asks_for_json, read_arguments};
 use bp_commands::Streams;
 use bp_text::{number_of, put};
-use bp_words::{NoTask, Task, asks_for_json, read_words};
 use std::env;
 use std::io::{self, BufWriter, IsTerminal};
 use std::sync::Wait;
@@ -14,7 +14,7 @@ use std::thread::Threads;
 use std::time::{Clock, Instant};
 
 /// The arguments of the command line. The first is the program's name.
-fn words(rt: &HostRuntime) -> io::Result<Vec<String>> {
+fn arguments(rt: &HostRuntime) -> io::Result<Vec<String>> {
     Ok(env::args(rt)?.collect(rt.alloc())?)
 }
 
@@ -64,7 +64,7 @@ fn explains_faults(rt: &HostRuntime) -> bool {
 /// The seconds that a task has, where they are limited.
 fn seconds_of(task: &Task<'_>) -> Option<u64> {
     match task {
-        Task::Test(words) => words.seconds,
+        Task::Test(arguments) => arguments.seconds,
         _ => None,
     }
 }
@@ -97,15 +97,15 @@ fn say_that_it_waits(rt: &HostRuntime, task: &Task<'_>) {
     }
 }
 
-/// Does the task that the words ask for on the files and the streams of the machine, and answers
+/// Does the task that the arguments ask for on the files and streams of the machine, and answers
 /// the exit status.
 fn do_on_host<T: Threads + Wait + Clock + Sync>(
     rt: &HostRuntime,
     threads: &T,
-    words: &[String],
+    arguments: &[String],
     task: &Task<'_>,
 ) -> u8 {
-    let (alloc, files) = (rt.alloc(), HostFiles::new(rt, words));
+    let (alloc, files) = (rt.alloc(), HostFiles::new(rt, arguments));
     let mut errors = rt.stderr();
     let Ok(output) = BufWriter::new(alloc, rt.stdout()) else {
         return refuse_memory(&mut errors).status;
@@ -127,27 +127,27 @@ fn do_on_host<T: Threads + Wait + Clock + Sync>(
     end.status
 }
 
-/// Does what the words ask for, and answers the exit status.
-fn run_words<T: Threads + Wait + Clock + Sync>(
+/// Does what the arguments ask for, and answers the exit status.
+fn run_arguments<T: Threads + Wait + Clock + Sync>(
     rt: &HostRuntime,
     threads: &T,
-    words: &[String],
+    arguments: &[String],
 ) -> u8 {
-    match read_words(rt.alloc(), words) {
-        Ok(task) => do_on_host(rt, threads, words, &task),
-        Err(none) => end_on_host(rt, &none, asks_for_json(words)),
+    match read_arguments(rt.alloc(), arguments) {
+        Ok(task) => do_on_host(rt, threads, arguments, &task),
+        Err(none) => end_on_host(rt, &none, asks_for_json(arguments)),
     }
 }
 
-/// Ends a run whose words ask for no task, and answers the exit status.
+/// Ends a run whose arguments ask for no task, and answers the exit status.
 fn end_on_host(rt: &HostRuntime, none: &NoTask, json: bool) -> u8 {
     end_without_task(none, json, &mut rt.stdout(), &mut rt.stderr()).status
 }
 
 /// Runs the program and answers its exit status. Workers are started by `threads`.
 pub fn run<T: Threads + Wait + Clock + Sync>(rt: &HostRuntime, threads: &T) -> u8 {
-    match words(rt) {
-        Ok(words) => run_words(rt, threads, &words),
+    match arguments(rt) {
+        Ok(arguments) => run_arguments(rt, threads, &arguments),
         // No word is known then, so none asks for JSON.
         Err(error) => end_on_host(rt, &unread(rt.alloc(), &error), false),
     }

@@ -5,6 +5,10 @@ ghost use Rattle.bp_commands.specs.Jobs.{held, IsRun};
 ghost use Rattle.bp_commands.specs.Tests.{name_of};
 ghost use Rattle.btrun.specs.Tasks.{bound_of, fault_format, format_of, job_of, listed_if, listing_form, reporting, show_job, test_options, view_options};
 
+use bp_arguments::{
+    CodeArguments, ConfirmArguments, ExplainArguments, RunArguments, ShowArguments, Task,
+    TestArguments,
+};
 use bp_commands::{
     Check, Code, Confirm, Drive, FaultFormat, Files, Io, ListingForm, Migrate, Replay, Run, RunEnd,
     Show, ShowContexts, ShowState, ShowSteps, Shrink, Streams, Test, run_by_workers, run_on_bundle,
@@ -16,7 +20,6 @@ use bp_machine::Start;
 use bp_run::Spread;
 use bp_test::{Progress, TestOptions};
 use bp_view::{ViewFormat, ViewOptions};
-use bp_words::{CodeWords, ConfirmWords, ExplainWords, RunWords, ShowWords, Task, TestWords};
 use std::alloc::Global;
 use std::io::{BufWriter, Read, Write};
 use std::sync::Wait;
@@ -48,26 +51,29 @@ pub struct Host<'a, F, T, P> {
     pub on_terminal: bool,
 }
 
-/// The words on explanations of a task that explains nothing.
-const NEVER: ExplainWords = ExplainWords {
+/// The arguments on explanations of a task that explains nothing.
+const NEVER: ExplainArguments = ExplainArguments {
     always: false,
     never: true,
 };
 
 /// Whether a task reports its faults as JSON, and when it explains them.
-pub fn reporting(task: &Task<'_>) -> (bool, ExplainWords)
+pub fn reporting(task: &Task<'_>) -> (bool, ExplainArguments)
     ensures { result ≡ reporting task.now }
 {
     match task {
         Task::Bundle => (false, NEVER),
-        Task::Check(words) => (words.json, words.explain),
-        Task::Code(words) => (words.json, words.explain),
-        Task::Drive(words) => (false, words.explain),
-        Task::Confirm(words) => (words.json, words.explain),
-        Task::Run(words) => (false, words.explain),
-        Task::Test(words) => (words.json, words.explain),
-        Task::Show(words) => (words.json, words.explain),
-        Task::Replay(words) | Task::Migrate(words) | Task::Shrink(words) => (false, words.explain),
+        Task::Check(arguments) => (arguments.json, arguments.explain),
+        Task::Code(arguments) => (arguments.json, arguments.explain),
+        Task::Drive(arguments) => (false, arguments.explain),
+        Task::Confirm(arguments) => (arguments.json, arguments.explain),
+        Task::Run(arguments) => (false, arguments.explain),
+        Task::Test(arguments) => (arguments.json, arguments.explain),
+        Task::Show(arguments) => (arguments.json, arguments.explain),
+        Task::Replay(arguments) | Task::Migrate(arguments) | Task::Shrink(arguments) => (
+            false,
+            arguments.explain,
+        ),
     }
 }
 
@@ -86,12 +92,12 @@ fn fault_format(task: &Task<'_>, on_terminal: bool) -> FaultFormat
 }
 
 /// How the code of a program is listed. JSON has the source of each instruction too.
-fn listing_form(words: &CodeWords<'_>) -> ListingForm
-    ensures { result ≡ listing_form words.now }
+fn listing_form(arguments: &CodeArguments<'_>) -> ListingForm
+    ensures { result ≡ listing_form arguments.now }
 {
-    if words.json {
+    if arguments.json {
         ListingForm::Json
-    } else if words.source {
+    } else if arguments.source {
         ListingForm::Sourced
     } else {
         ListingForm::Lines
@@ -99,34 +105,34 @@ fn listing_form(words: &CodeWords<'_>) -> ListingForm
 }
 
 /// How many contexts are allowed to steps: as many as they use, unless a number is given.
-fn bound_of(words: &ConfirmWords<'_>) -> ContextBound
-    ensures { result ≡ bound_of words.now }
+fn bound_of(arguments: &ConfirmArguments<'_>) -> ContextBound
+    ensures { result ≡ bound_of arguments.now }
 {
-    match words.contexts {
+    match arguments.contexts {
         Some(_) => ContextBound::Kept,
         None => ContextBound::AsUsed,
     }
 }
 
 /// What a test looks for, and among how many runs.
-fn test_options(words: &TestWords<'_>) -> TestOptions
-    ensures { result ≡ test_options words.now }
+fn test_options(arguments: &TestArguments<'_>) -> TestOptions
+    ensures { result ≡ test_options arguments.now }
 {
     TestOptions {
-        seed: words.seed,
-        runs: words.runs,
-        seconds: words.seconds,
-        jobs: words.jobs,
-        with_deadlock: words.deadlock,
+        seed: arguments.seed,
+        runs: arguments.runs,
+        seconds: arguments.seconds,
+        jobs: arguments.jobs,
+        with_deadlock: arguments.deadlock,
     }
 }
 
 /// The name of the text whose statements are listed, where that is asked for.
-fn listed<'a>(words: &TestWords<'a>) -> Option<&'a str>
-    ensures { name_of result ≡ listed_if words.now.unreached words.now.program.now }
+fn listed<'a>(arguments: &TestArguments<'a>) -> Option<&'a str>
+    ensures { name_of result ≡ listed_if arguments.now.unreached arguments.now.program.now }
 {
-    if words.unreached {
-        Some(words.program)
+    if arguments.unreached {
+        Some(arguments.program)
     } else {
         None
     }
@@ -140,30 +146,30 @@ fn start_of<'a>(start: &'a Start, named: &'a NamedBits<'a>) -> NamedStart<'a>
     NamedStart { start, named }
 }
 
-/// The test that the words ask for.
-fn test_of<'a, F, T, P>(host: Host<'a, F, T, P>, words: &'a TestWords<'a>) -> Test<'a, T, P>
-    ensures start { result.start.start.now ≡ words.now.start }
-    ensures named { result.start.named.now ≡ words.now.named }
-    ensures options { result.options ≡ test_options words.now }
+/// The test that the arguments ask for.
+fn test_of<'a, F, T, P>(host: Host<'a, F, T, P>, arguments: &'a TestArguments<'a>) -> Test<'a, T, P>
+    ensures start { result.start.start.now ≡ arguments.now.start }
+    ensures named { result.start.named.now ≡ arguments.now.named }
+    ensures options { result.options ≡ test_options arguments.now }
     ensures listed { name_of result.listed
-        ≡ listed_if words.now.unreached words.now.program.now }
-    ensures json { result.json ≡ words.now.json }
+        ≡ listed_if arguments.now.unreached arguments.now.program.now }
+    ensures json { result.json ≡ arguments.now.json }
 {
     Test {
         threads: host.threads,
         clock: host.clock,
         progress: host.progress,
-        start: start_of(&words.start, &words.named),
-        options: test_options(words),
-        listed: listed(words),
-        json: words.json,
+        start: start_of(&arguments.start, &arguments.named),
+        options: test_options(arguments),
+        listed: listed(arguments),
+        json: arguments.json,
     }
 }
 
 /// The gate that draws who takes each turn, where that is asked for.
-fn gate_of(words: &RunWords<'_>) -> Option<Spread> {
-    if words.spread {
-        let options = &words.options;
+fn gate_of(arguments: &RunArguments<'_>) -> Option<Spread> {
+    if arguments.spread {
+        let options = &arguments.options;
         Some(Spread::new(options.seed, options.start.entries.len()))
     } else {
         None
@@ -171,10 +177,10 @@ fn gate_of(words: &RunWords<'_>) -> Option<Spread> {
 }
 
 /// How a view is written.
-fn format_of(words: &ShowWords<'_>) -> ViewFormat
-    ensures { result ≡ format_of words.now }
+fn format_of(arguments: &ShowArguments<'_>) -> ViewFormat
+    ensures { result ≡ format_of arguments.now }
 {
-    if words.json {
+    if arguments.json {
         ViewFormat::Json
     } else {
         ViewFormat::Columns
@@ -182,21 +188,21 @@ fn format_of(words: &ShowWords<'_>) -> ViewFormat
 }
 
 /// Which calls are shown, and how.
-fn view_options<'a>(words: &ShowWords<'a>, screen: Screen) -> ViewOptions<'a>
-    ensures { result ≡ view_options words.now screen }
+fn view_options<'a>(arguments: &ShowArguments<'a>, screen: Screen) -> ViewOptions<'a>
+    ensures { result ≡ view_options arguments.now screen }
 {
     ViewOptions {
-        thread: words.thread,
-        last: words.last,
-        from: words.from,
-        to: words.to,
-        watch: words.watch,
-        fold: words.fold,
-        has_state: words.state,
-        is_brief: words.brief,
+        thread: arguments.thread,
+        last: arguments.last,
+        from: arguments.from,
+        to: arguments.to,
+        watch: arguments.watch,
+        fold: arguments.fold,
+        has_state: arguments.state,
+        is_brief: arguments.brief,
         has_colour: screen.has_colour,
         columns: screen.columns,
-        format: format_of(words),
+        format: format_of(arguments),
     }
 }
 
@@ -205,25 +211,25 @@ fn view_options<'a>(words: &ShowWords<'a>, screen: Screen) -> ViewOptions<'a>
 fn show<F: Files, W: Write + Drop, E: Write + Drop>(
     io: Io<'_, F>,
     screen: Screen,
-    words: &ShowWords<'_>,
+    arguments: &ShowArguments<'_>,
     streams: Streams<BufWriter<W>, E>,
 ) -> (RunEnd, Streams<W, E>)
     ensures { let before =
         held (writer_contents W.contents streams.output) (E.contents streams.errors) in
         let after = held (W.contents result.1.output) (E.contents result.1.errors) in
-        let job = show_job (F.bytes io.entry.files.now) screen io.entry.format words.now in
+        let job = show_job (F.bytes io.entry.files.now) screen io.entry.format arguments.now in
         IsRun job before after result.0 }
 {
-    let (path, trace) = (words.program, words.trace);
-    let format = format_of(words);
-    match words.at {
+    let (path, trace) = (arguments.program, arguments.trace);
+    let format = format_of(arguments);
+    match arguments.at {
         Some(number) => run_on_pair(io, &ShowState { number, format }, path, trace, streams),
-        None if words.contexts => {
+        None if arguments.contexts => {
             run_on_pair(io, &ShowContexts { format }, path, trace, streams)
         }
-        None if words.steps => run_on_pair(io, &ShowSteps, path, trace, streams),
+        None if arguments.steps => run_on_pair(io, &ShowSteps, path, trace, streams),
         None => {
-            let options = view_options(words, screen);
+            let options = view_options(arguments, screen);
             run_on_pair(io, &Show { options }, path, trace, streams)
         }
     }
@@ -257,39 +263,66 @@ pub fn carry_out<
     };
     match task {
         Task::Bundle => run_on_bundle(host.alloc, input, streams),
-        Task::Check(words) => {
-            let json = words.json;
-            run_on_program(io, &Check { json }, words.program, streams)
+        Task::Check(arguments) => {
+            let json = arguments.json;
+            run_on_program(io, &Check { json }, arguments.program, streams)
         }
-        Task::Code(words) => {
-            let form = listing_form(words);
-            run_on_program(io, &Code { form }, words.program, streams)
+        Task::Code(arguments) => {
+            let form = listing_form(arguments);
+            run_on_program(io, &Code { form }, arguments.program, streams)
         }
-        Task::Drive(words) => {
-            let start = start_of(&words.start, &words.named);
-            run_on_pair(io, &Drive { start }, words.program, words.schedule, streams)
+        Task::Drive(arguments) => {
+            let start = start_of(&arguments.start, &arguments.named);
+            run_on_pair(
+                io,
+                &Drive { start },
+                arguments.program,
+                arguments.schedule,
+                streams,
+            )
         }
-        Task::Confirm(words) => {
-            let (start, bound) = (start_of(&words.start, &words.named), bound_of(words));
+        Task::Confirm(arguments) => {
+            let (start, bound) = (
+                start_of(&arguments.start, &arguments.named),
+                bound_of(arguments),
+            );
             let confirm = Confirm { start, bound };
-            run_on_pair(io, &confirm, words.program, words.steps, streams)
+            run_on_pair(io, &confirm, arguments.program, arguments.steps, streams)
         }
-        Task::Run(words) => {
+        Task::Run(arguments) => {
             let run = Run {
                 threads: host.threads,
-                gate: &gate_of(words),
-                options: &words.options,
-                named: &words.named,
+                gate: &gate_of(arguments),
+                options: &arguments.options,
+                named: &arguments.named,
             };
-            run_by_workers(io, &run, words.program, streams)
+            run_by_workers(io, &run, arguments.program, streams)
         }
-        Task::Test(words) => {
-            let test = test_of(host, words);
-            run_on_program(io, &test, words.program, streams)
+        Task::Test(arguments) => {
+            let test = test_of(host, arguments);
+            run_on_program(io, &test, arguments.program, streams)
         }
-        Task::Show(words) => show(io, host.screen, words, streams),
-        Task::Replay(words) => run_on_pair(io, &Replay, words.program, words.trace, streams),
-        Task::Migrate(words) => run_on_pair(io, &Migrate, words.program, words.trace, streams),
-        Task::Shrink(words) => run_on_pair(io, &Shrink, words.program, words.trace, streams),
+        Task::Show(arguments) => show(io, host.screen, arguments, streams),
+        Task::Replay(arguments) => run_on_pair(
+            io,
+            &Replay,
+            arguments.program,
+            arguments.trace,
+            streams,
+        ),
+        Task::Migrate(arguments) => run_on_pair(
+            io,
+            &Migrate,
+            arguments.program,
+            arguments.trace,
+            streams,
+        ),
+        Task::Shrink(arguments) => run_on_pair(
+            io,
+            &Shrink,
+            arguments.program,
+            arguments.trace,
+            streams,
+        ),
     }
 }

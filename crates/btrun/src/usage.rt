@@ -1,21 +1,21 @@
-//! A run whose words ask for no task: for help or the version, or for nothing that there is.
+//! A run whose arguments ask for no task: for help or the version, or for nothing that there is.
 ghost use Rattle.std.specs.IoError.{error_kind};
 ghost use Rattle.bp_text.specs.Writing.{Writes};
 ghost use Rattle.bp_commands.specs.Jobs.{held};
 ghost use Rattle.btrun.specs.Statuses.{refusal_text, IsEndWithout, IsLackOfMemory, IsPrintedEnd, IsUnread};
 
 use crate::refusals::put_refusal;
+use bp_arguments::{NoTask, Refusal, not_text};
 use bp_commands::{Explained, RunEnd, end};
 use bp_messages::Fault;
 use bp_text::{WriteFault, put};
-use bp_words::{NoTask, Refusal, not_text};
 use std::alloc::Global;
 use std::io::{self, Write};
 
 /// The exit status of a fault in the use of the program.
 const USAGE_STATUS: u8 = 2;
 
-/// What is said of words that were not read: memory was refused, or one is not UTF-8.
+/// What is said of arguments that were not read: memory was refused, or one is not UTF-8.
 pub fn unread(alloc: Global, error: &io::Error) -> NoTask
     ensures { IsUnread (error_kind error.now) result }
 {
@@ -44,7 +44,7 @@ fn print_text<W: Write, E: Write>(text: &[u8], out: &mut W, errors: &mut E) -> R
     }
 }
 
-/// Tells why words are refused, with `json` as an object.
+/// Tells why arguments are refused, with `json` as an object.
 fn tell_refusal<E: Write>(refusal: &Refusal, json: bool, errors: &mut E) -> Result<(), WriteFault>
     ensures { Writes (E.contents errors.old) (E.contents errors.new)
         (refusal_text json refusal.now) result }
@@ -56,7 +56,7 @@ fn tell_refusal<E: Write>(refusal: &Refusal, json: bool, errors: &mut E) -> Resu
     }
 }
 
-/// Ends a run whose words ask for no task: prints the help or the version, or tells why they are
+/// Ends a run whose arguments ask for no task: prints help or version, or tells why they are
 /// refused, with `json` as an object.
 pub fn end_without_task<W: Write, E: Write>(
     none: &NoTask,

@@ -1,0 +1,61 @@
+-- Which kind of fault refuses arguments, from what a parse of them answers.
+use Rattle.std.proofs.Common.{◌≡◌, ◌∙◌, ap, ap₂, refl, sym, subst, inl, inr, true, List, Option, Some, None, [], ◌∷◌}
+use Rattle.std.specs.Option.{option_map_or}
+use Rattle.clap.specs.Kinds.{HasKind, Kinds, or_else}
+use Rattle.clap.specs.Simple.{HasMatchesOf, app_of, is_simple, subcommand_of, subcommand_rows_of}
+use Rattle.clap.specs.Faults.{fault_of, is_simple_and_free}
+use Rattle.clap.specs.Walk.{Row, Text}
+use Rattle.clap.specs.Values.{kind_of}
+use Rattle.clap.specs.declared.builder.command.Command.{Command}
+use Rattle.clap.specs.declared.error.Error.{Error}
+use Rattle.clap.specs.declared.error.kind.ErrorKind.TheVariants.{OutOfMemory}
+use Rattle.clap.specs.declared.parser.matches.ArgMatches.{ArgMatches}
+use Rattle.bp_arguments.specs.Commands.{btrun_app, arguments_fault}
+use Rattle.bp_arguments.specs.Misuses.{misuse_fault, misuse_kind, misuse_of}
+use Rattle.bp_arguments.specs.declared.misuses.Misuse.{Misuse}
+use Rattle.bp_arguments.proofs.PlainArguments.{only_memory}
+
+is_exact : is_simple_and_free btrun_app ≡ true
+is_exact = refl
+
+either_kind : (first next : Kinds) (e : Error) → HasKind first e → HasKind (or_else first next) e
+either_kind [] next e (inl memory) = inl memory
+either_kind [] next e (inr other) = absurd other
+either_kind (k ∷ ks) next e kind = kind
+
+module _ (command : Command) (arguments : List Text) (is : app_of command ≡ btrun_app) where
+  pub cleared : (is_simple_and_free (app_of command) ≡ true → fault_of (app_of command) arguments ≡ []) → fault_of btrun_app arguments ≡ []
+  cleared kinds = subst (λ a. fault_of a arguments ≡ []) is (kinds (ap is_simple_and_free is ∙ is_exact))
+
+  pub named : (m : ArgMatches) → HasMatchesOf (app_of command) arguments m → subcommand_rows_of m ≡ subcommand_of btrun_app arguments
+  named m matches = (matches (ap is_simple is ∙ refl)).1 ∙ ap (λ a. subcommand_of a arguments) is
+
+  pub refused : (e : Error) → (is_simple_and_free (app_of command) ≡ true → HasKind (fault_of (app_of command) arguments) e) → HasKind (arguments_fault arguments) e
+  refused e kinds =
+      either_kind (fault_of btrun_app arguments) _ e (subst (λ a. HasKind (fault_of a arguments) e) is (kinds (ap is_simple_and_free is ∙ is_exact)))
+
+  -- arguments without a fault are refused for want of memory alone
+  pub refused_for_memory : (e : Error) → (is_simple_and_free (app_of command) ≡ true → HasKind (fault_of (app_of command) arguments) e) → arguments_fault arguments ≡ [] → kind_of e ≡ OutOfMemory
+  refused_for_memory e kinds none = only_memory (arguments_fault arguments) e none (refused e kinds)
+
+abbrev kinds_of : Option Misuse → Kinds
+kinds_of m = option_map_or (λ m. misuse_kind m ∷ []) m []
+
+module _ (arguments : List Text) (command : Option (Text × List Row)) (clean : fault_of btrun_app arguments ≡ []) (is : command ≡ subcommand_of btrun_app arguments) where
+  pub faulty : arguments_fault arguments ≡ kinds_of (misuse_of command)
+  faulty = ap₂ (λ f c. or_else f (misuse_fault c)) clean (sym is)
+
+  pub misused : (e : Error) (m : Misuse) → misuse_of command ≡ Some m → kind_of e ≡ misuse_kind m → HasKind (arguments_fault arguments) e
+  misused e m bad kind = subst (λ kinds. HasKind kinds e) (sym (faulty ∙ ap kinds_of bad)) (inr (inl kind))
+
+  pub fine_faulty : misuse_of command ≡ None → arguments_fault arguments ≡ []
+  fine_faulty fine = faulty ∙ ap kinds_of fine
+
+  -- arguments that have no fault have no misuse
+  pub not_misused : (m : Misuse) → misuse_of command ≡ Some m → arguments_fault arguments ≡ [] → ⊥
+  not_misused m bad none =
+      let some : misuse_kind m ∷ [] ≡ [] = sym (faulty ∙ ap kinds_of bad) ∙ none in
+      no_kind some
+    where
+      no_kind : misuse_kind m ∷ [] ≡ [] → ⊥
+      no_kind same = cc

@@ -1,0 +1,9 @@
+mod CommandShapes
+mod GivenArguments
+mod NoHelpEntered
+mod NoTaskKinds
+mod NumberGiven
+mod NumberTexts
+mod OptionsGiven
+mod PlainArguments
+mod ArgumentFaults

@@ -1,0 +1,164 @@
+-- Where arguments have no fault, the command that they name is one of ours: at `help` a parse ends.
+use Rattle.std.proofs.Common.{refl, codes, not, ◌&&◌, ◌||◌, cond, option_map, inl, inr, ◌⊎◌, ℕ, Bool, true, false, List, Option, Some, None, is_some, [], ◌∷◌, ◌≡◌, arith}
+use Rattle.std.specs.List.{fold}
+use Rattle.std.specs.Prelude.{find}
+use Rattle.std.specs.Str.{bytes_eq}
+use Rattle.std.proofs.lemmas.Slice.Eq.{bytes_eq-Decides}
+use Rattle.clap.specs.Kinds.{Kinds, or_else}
+use Rattle.clap.specs.Faults.{other_fault, word_fault, step_fault, turn_fault, walk_fault, fault_of}
+use Rattle.clap.specs.Lexer.{long_of, short_of}
+use Rattle.clap.specs.Simple.{Shape, built, entered, names_of, label_of, rows_at, subcommand_of, argument_words}
+use Rattle.clap.specs.Walk.{Held, Names, Rule, Row, Step, next, trailing, subcommand, value, Text, Waiting, idle, option, positional, Walk, Outcome, done, waits, plain, refused, arg_by_long, arg_by_index, answers_to, plain_word, after_flag, long_met, bundle, short_or_plain, long_or_other, subcommand_met, subcommand_or_other, word_met, to_positional, after_step, walked, walked_from, walk_from, nothing_held, stop_after}
+use Rattle.clap.proofs.OnLiterals.{clap_on_literals}
+use Rattle.bp_arguments.specs.Commands.{btrun_app, IsOurs}
+use Rattle.bp_arguments.specs.declared.names.Named.TheVariants as name
+use Rattle.bp_arguments.specs.Names.{IsNamed}
+
+-- the step enters no `help`, and the walk did not stop there
+abbrev NoHelpStep : Step → Type 0
+NoHelpStep (subcommand name) = bytes_eq name (codes "help") ≡ false
+NoHelpStep s = Unit {0}
+
+abbrev NoHelp : Option (Text × List Text) → Type 0
+NoHelp None = Unit {0}
+NoHelp (Some p) = bytes_eq p.0 (codes "help") ≡ false
+
+or_left : (xs ys : Kinds) → or_else xs ys ≡ [] → xs ≡ []
+or_left [] ys e = refl
+or_left (k ∷ ks) ys e = e
+
+or_right : (xs ys : Kinds) → or_else xs ys ≡ [] → ys ≡ []
+or_right [] ys e = e
+or_right (k ∷ ks) ys e = absurd cc
+
+module _ (c : List Rule) (word : Text) where
+  plain_fine : (waiting : Waiting) (h : Held) → NoHelpStep (plain_word c waiting word h).1
+  plain_fine idle h = tt
+  plain_fine (option id) h = tt
+  plain_fine positional h = tt
+
+  flag_fine : (waiting : Waiting) (h : Held) (o : Outcome) → NoHelpStep (after_flag c waiting word h o).1
+  flag_fine waiting h done = tt
+  flag_fine waiting h (waits id) = tt
+  flag_fine waiting h plain = plain_fine waiting h
+  flag_fine waiting h refused = plain_fine waiting h
+
+  short_fine : (waiting : Waiting) (h : Held) (o : Option Text) → NoHelpStep (short_or_plain c waiting word o h).1
+  short_fine waiting h None = plain_fine waiting h
+  short_fine waiting h (Some flags) = flag_fine waiting (bundle c flags h).0 (bundle c flags h).1
+
+  other_fine : (waiting : Waiting) (h : Held) (o : Option (Text × Option Text)) → NoHelpStep (long_or_other c waiting word o h).1
+  other_fine waiting h None = short_fine waiting h (short_of word)
+  other_fine waiting h (Some p) = flag_fine waiting (long_met c (arg_by_long c p.0) p.1 h).0 (long_met c (arg_by_long c p.0) p.1 h).1
+
+module _ (s : Shape) (enabled : s.disable_help_subcommand ≡ false) (names : Names) where
+  named_fine : (d b : Bool) (ks : Kinds) → d ≡ false → (ks ≡ [] → ⊥) → cond (b && not d) ks [] ≡ [] → b ≡ false
+  named_fine true b ks on some e = absurd cc
+  named_fine false true ks on some e = absurd (some e)
+  named_fine false false ks on some e = refl
+
+  met_fine : (waiting : Waiting) (position : ℕ) (word : Text) (h : Held) (o : Option Text) → other_fault s o word h ≡ []
+      → NoHelpStep (subcommand_or_other s.rules o waiting position word h).1
+  met_fine waiting position word h (Some name) e = named_fine s.disable_help_subcommand (bytes_eq name (codes "help")) _ enabled (λ e. cc) e
+  met_fine waiting position word h None e = by_end (bytes_eq word (45 ∷ 45 ∷ []))
+    where
+      by_end : (b : Bool) → NoHelpStep (cond b (h, trailing position) (long_or_other s.rules waiting word (long_of word) h)).1
+      by_end true = tt
+      by_end false = other_fine s.rules word waiting h (long_of word)
+
+  word_fine : (is_trailing : Bool) (waiting : Waiting) (position : ℕ) (word : Text) (h : Held) → word_fault s names is_trailing waiting word h ≡ []
+      → NoHelpStep (word_met s.rules names is_trailing waiting position word h).1
+  word_fine true waiting position word h e = tt
+  word_fine false waiting position word h e = met_fine waiting position word h (subcommand_met names waiting word) e
+
+  after_fine : (word : Text) (w : Walk) (h : Held) (step : Step) → NoHelp w.stopped → NoHelpStep step → NoHelp (after_step s.rules word w h step).stopped
+  after_fine word w h (next waiting) before fine = before
+  after_fine word w h (trailing position) before fine = before
+  after_fine word w h (subcommand name) before fine = fine
+  after_fine word w h value before fine = to_fine (arg_by_index s.rules w.position)
+    where
+      to_fine : (o : Option Rule) → NoHelp (to_positional s.rules o word w h).stopped
+      to_fine None = before
+      to_fine (Some a) = tt
+
+  walked_fine : (w : Walk) (word : Text) → NoHelp w.stopped → turn_fault s names w word ≡ [] → NoHelp (walked s.rules names w word).stopped
+  unfolding walked
+  walked_fine w word before e = by_stop w.stopped before e
+    where
+      by_stop : (o : Option (Text × List Text)) → NoHelp o
+          → cond (is_some o) [] (or_else (word_fault s names w.is_trailing w.waiting word w.held) (step_fault s w.position (word_met s.rules names w.is_trailing w.waiting w.position word w.held).0 (word_met s.rules names w.is_trailing w.waiting w.position word w.held).1)) ≡ []
+          → NoHelp (walked_from s.rules names o w word).stopped
+      by_stop (Some p) fine e = fine
+      by_stop None fine e =
+          after_fine word w (word_met s.rules names w.is_trailing w.waiting w.position word w.held).0 (word_met s.rules names w.is_trailing w.waiting w.position word w.held).1 before
+          (word_fine w.is_trailing w.waiting w.position word w.held (or_left _ _ e))
+
+  all_fine : (arguments : List Text) (w : Walk) → NoHelp w.stopped → walk_fault s names w arguments ≡ [] → NoHelp (fold (walked s.rules names) w arguments).stopped
+  unfolding walk_fault
+  all_fine [] w before e = before
+  all_fine (word ∷ rest) w before e =
+      all_fine rest (walked s.rules names w word) (walked_fine w word before (or_left _ _ e)) (or_right (turn_fault s names w word) _ e)
+
+-- the subcommand that a stop enters
+module _ (p : Text × List Text) where
+  abbrev enter : Option Shape → Option (Text × List Row)
+  enter = option_map (λ s. rows_at s p.1)
+
+  abbrev IsOursOrNone : Shape → Type 0
+  IsOursOrNone s = (answers_to p.0 (label_of s) ≡ false) ⊎ IsNamed s.name
+
+  abbrev AllOurs : List Shape → Type 0
+  AllOurs [] = Unit {0}
+  AllOurs (s ∷ ss) = IsOursOrNone s × AllOurs ss
+
+  pick : (b : Bool) (s : Shape) (o : Option Shape) → (b ≡ false) ⊎ IsNamed s.name → IsOurs (enter o) → IsOurs (enter (cond b (Some s) o))
+  pick true s o (inl e) rest = absurd cc
+  pick true s o (inr ours) rest = ours
+  pick false s o either rest = rest
+
+  found_ours : (subs : List Shape) → AllOurs subs → IsOurs (enter (find (λ s. answers_to p.0 (label_of s)) subs))
+  found_ours [] ours = tt
+  found_ours (s ∷ ss) (first, others) = pick (answers_to p.0 (label_of s)) s _ first (found_ours ss others)
+
+other_way : (a b : Text) → bytes_eq a b ≡ false → (bytes_eq b a || false) ≡ false
+other_way a b e = grind (arith, bytes_eq-Decides a b, bytes_eq-Decides b a, e)
+
+entered_ours : (stop : Option (Text × List Text)) → NoHelp stop → IsOurs (entered (built btrun_app) stop)
+unfolding clap_on_literals
+entered_ours None fine = tt
+entered_ours (Some p) fine =
+    found_ours p (built btrun_app).subs (
+      inr (name.Check, refl),
+      (
+        inr (name.Code, refl),
+        (
+          inr (name.Drive, refl),
+          (
+            inr (name.Confirm, refl),
+            (
+              inr (name.Run, refl),
+              (
+                inr (name.Test, refl),
+                (
+                  inr (name.Replay, refl),
+                  (
+                    inr (name.Show, refl),
+                    (inr (name.Migrate, refl), (inr (name.Shrink, refl), (inl (other_way p.0 (codes "help") fine), tt))),
+                  ),
+                ),
+              ),
+            ),
+          ),
+        ),
+      ),
+    )
+
+enabled : (built btrun_app).top.disable_help_subcommand ≡ false
+unfolding clap_on_literals
+enabled = refl
+
+-- arguments without a fault name a command of ours, or nothing
+pub named_ours : (arguments : List Text) → fault_of btrun_app arguments ≡ [] → IsOurs (subcommand_of btrun_app arguments)
+named_ours arguments clean =
+    entered_ours (stop_after (built btrun_app).top.rules (names_of (built btrun_app)) (argument_words btrun_app arguments))
+    (all_fine (built btrun_app).top enabled (names_of (built btrun_app)) (argument_words btrun_app arguments) (walk_from nothing_held) tt (or_left _ _ clean))

@@ -1,0 +1,18 @@
+use Rattle.std.proofs.Common.{◌∙◌, ◌+◌, ap, drop, get_or, map, refl, sym}
+use Rattle.std.proofs.lemmas.List.{drop_more}
+use Rattle.clap.specs.Simple.{app_of}
+use Rattle.bp_arguments.specs.Commands.{command_app, with_commands}
+use Rattle.bp_arguments.specs.declared.names.Named.TheVariants.{Check}
+use Rattle.bp_arguments.specs.declared.names.TheConstants.{NAMED}
+use Rattle.bp_arguments.proofs.CommandShapes.{with_command}
+use Rattle.bp_arguments.proofs.commands.command.Goals as goal
+
+pub loop-command-preserved : goal.loop-command-preserved
+loop-command-preserved c =
+    let old = c.loop-command.program in
+    let i = c.loop-command.command-index in
+    let next = get_or NAMED i Check in
+    let grown = with_command old c.in_ok-program.program _ (app_of old) (command_app next) refl c.in_ok-with_help.ensures c.in_ok-program.ensures in
+    ap (λ a. with_commands a (map command_app (drop (i + 1) NAMED))) grown
+    ∙ ap (λ cs. with_commands (app_of old) (map command_app cs)) (sym (drop_more NAMED i Check c.loop-command-test.true))
+    ∙ c.loop-command.invariant

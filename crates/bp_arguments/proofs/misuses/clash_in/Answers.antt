@@ -1,0 +1,26 @@
+use Rattle.std.proofs.Common.{◌≡◌, ◌∙◌, ◌+◌, ap, drop, get_or, rules, sym, true, false}
+use Rattle.std.specs.Prelude.{find}
+use Rattle.std.proofs.lemmas.List.{drop_more}
+use Rattle.clap.specs.Matches.{found_of}
+use Rattle.clap.specs.Walk.{rows_of}
+use Rattle.bp_arguments.specs.Misuses.{are_on_line}
+use Rattle.bp_arguments.specs.declared.misuses.OptionName.TheVariants.{At}
+use Rattle.bp_arguments.specs.declared.misuses.TheConstants.{CLASHES}
+use Rattle.bp_arguments.proofs.OptionsGiven.{find_first, find_later}
+use Rattle.bp_arguments.proofs.misuses.clash_in.Goals as goal
+
+pub loop-pair-preserved : goal.loop-pair-preserved
+loop-pair-preserved c =
+    let given = are_on_line (rows_of (found_of c.args.arguments.now)) in
+    let i = c.loop-pair.pair-index in
+    let pair = get_or CLASHES i (At, At) in
+    let no : given pair ≡ false = search rules in
+    sym (ap (find given) (drop_more CLASHES i (At, At) c.loop-pair-test.true) ∙ find_later given pair (drop (i + 1) CLASHES) no) ∙ c.loop-pair.invariant
+
+pub returns-then-are_on_line : goal.returns-then-are_on_line
+returns-then-are_on_line c =
+    let given = are_on_line (rows_of (found_of c.args.arguments.now)) in
+    let i = c.loop-pair.pair-index in
+    let pair = get_or CLASHES i (At, At) in
+    let yes : given pair ≡ true = search rules in
+    sym (ap (find given) (drop_more CLASHES i (At, At) c.loop-pair-test.true) ∙ find_first given pair (drop (i + 1) CLASHES) yes) ∙ c.loop-pair.invariant

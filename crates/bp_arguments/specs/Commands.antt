@@ -1,0 +1,251 @@
+-- What the arguments of the command line ask for. The rules of `clap` say how they are told apart
+-- as commands, options and values.
+use Rattle.std.specs.Prelude.{◌≡◌, true, List, [], ◌∷◌, Option, Some, None, codes, map, pos}
+use Rattle.clap.specs.Faults.{fault_of}
+use Rattle.clap.specs.Kinds.{Kinds, or_else}
+use Rattle.clap.specs.Lexer.{usize_max}
+use Rattle.clap.specs.Walk.{Row, Rule, Text}
+use Rattle.clap.specs.Simple.{App, new_app, new_rule, on_top, subcommand_of, with_rule, with_subcommand}
+use Rattle.clap.specs.declared.builder.action.ArgAction.TheVariants.{SetTrue}
+use Rattle.clap.specs.declared.builder.value_parser.ValueParser.TheVariants as parser
+use Rattle.bp_arguments.specs.declared.arguments.Row.{Row as TableRow}
+use Rattle.bp_arguments.specs.declared.arguments.Takes.{Takes}
+use Rattle.bp_arguments.specs.declared.arguments.Takes.TheVariants as takes
+use Rattle.bp_arguments.specs.declared.names.Named.{Named}
+use Rattle.bp_arguments.specs.declared.names.Named.TheVariants as name
+use Rattle.bp_arguments.specs.declared.names.TheConstants.{NAMED}
+use Rattle.bp_arguments.specs.Names.{command_name, IsNamed}
+use Rattle.bp_arguments.specs.Misuses.{misuse_fault}
+use Rattle.bp_arguments.specs.CheckArguments.{IsCheckArgumentsOf}
+use Rattle.bp_arguments.specs.CodeArguments.{IsCodeArgumentsOf}
+use Rattle.bp_arguments.specs.ConfirmArguments.{IsConfirmOf}
+use Rattle.bp_arguments.specs.DriveArguments.{IsDriveOf}
+use Rattle.bp_arguments.specs.RunArguments.{IsRunOf}
+use Rattle.bp_arguments.specs.ShowArguments.{IsShowOf}
+use Rattle.bp_arguments.specs.TestArguments.{IsTestOf}
+use Rattle.bp_arguments.specs.TraceArguments.{IsTraceArgumentsOf}
+use Rattle.bp_arguments.specs.declared.commands.Task.{Task}
+use Rattle.bp_arguments.specs.declared.commands.Task.TheVariants.{Bundle, Check, Code, Drive, Confirm, Run, Test, Replay, Show, Migrate, Shrink}
+
+-- an argument that has to be there
+abbrev pub required_rule : Text → Rule
+required_rule name = record (new_rule name) { required = true }
+
+-- an option without a value
+abbrev pub flag_rule : Text → Rule
+flag_rule name = record (new_rule name) { long = Some name; action = Some SetTrue }
+
+-- an option that has a value
+abbrev pub option_rule : Text → Rule
+option_rule name = record (new_rule name) { long = Some name; value_names = 1 }
+
+-- an option whose value is a number of 32 bits
+abbrev pub number_rule : Text → Rule
+number_rule name =
+    record (option_rule name) { parser = Some (parser.Signed (pos 0) (pos 4294967295)) }
+
+-- an option whose value is a number of 64 bits
+abbrev pub long_number_rule : Text → Rule
+long_number_rule name =
+    record (option_rule name) { parser = Some (parser.Unsigned 0 18446744073709551615) }
+
+-- an argument with any number of values
+abbrev pub values_rule : Text → Rule
+values_rule name =
+    record (new_rule name) {
+      range = Some (record { start_inclusive = 0; end_inclusive = usize_max });
+    }
+
+-- the arguments in turn
+abbrev pub with_rules : App → List Rule → App
+with_rules a [] = a
+with_rules a (r ∷ rs) = with_rules (with_rule a r) rs
+
+-- an argument that takes this
+abbrev pub rule_taking : Takes → Text → Rule
+rule_taking takes.One = required_rule
+rule_taking takes.Any = values_rule
+rule_taking takes.Nothing = flag_rule
+rule_taking takes.Number = number_rule
+rule_taking takes.LongNumber = long_number_rule
+rule_taking (takes.Text value) = option_rule
+
+-- the argument of a row
+abbrev pub row_rule : TableRow → Rule
+row_rule row = rule_taking row.takes row.name.now
+
+-- what each command on a file takes first: `FILE [--explain] [--no-explain]`
+abbrev pub file_rules : List Rule
+file_rules =
+    required_rule (codes "FILE")
+    ∷ flag_rule (codes "explain")
+    ∷ flag_rule (codes "no-explain")
+    ∷ []
+
+-- `[--json]`
+abbrev pub check_rules : List Rule
+check_rules = flag_rule (codes "json") ∷ []
+
+-- `[--source] [--json]`
+abbrev pub code_rules : List Rule
+code_rules =
+    flag_rule (codes "source")
+    ∷ flag_rule (codes "json")
+    ∷ []
+
+-- `SCHEDULE [ENTRY].. [--contexts N] [--calls N] [--init BITS]`
+abbrev pub drive_rules : List Rule
+drive_rules =
+    required_rule (codes "SCHEDULE")
+    ∷ values_rule (codes "ENTRY")
+    ∷ number_rule (codes "contexts")
+    ∷ number_rule (codes "calls")
+    ∷ option_rule (codes "init")
+    ∷ []
+
+-- `STEPS [ENTRY].. [--contexts N] [--calls N] [--init BITS] [--json]`
+abbrev pub confirm_rules : List Rule
+confirm_rules =
+    required_rule (codes "STEPS")
+    ∷ values_rule (codes "ENTRY")
+    ∷ number_rule (codes "contexts")
+    ∷ number_rule (codes "calls")
+    ∷ option_rule (codes "init")
+    ∷ flag_rule (codes "json")
+    ∷ []
+
+-- `[ENTRY].. [--seed N] [--contexts N] [--calls N] [--init BITS]`
+abbrev pub run_rules : List Rule
+run_rules =
+    values_rule (codes "ENTRY")
+    ∷ long_number_rule (codes "seed")
+    ∷ number_rule (codes "contexts")
+    ∷ number_rule (codes "calls")
+    ∷ option_rule (codes "init")
+    ∷ []
+
+-- `[ENTRY].. [--seed N] [--contexts N] [--calls N] [--init BITS] [--runs N] [--time N]
+-- [--jobs N] [--deadlock] [--unreached] [--json]`
+abbrev pub test_rules : List Rule
+test_rules =
+    values_rule (codes "ENTRY")
+    ∷ long_number_rule (codes "seed")
+    ∷ number_rule (codes "contexts")
+    ∷ number_rule (codes "calls")
+    ∷ option_rule (codes "init")
+    ∷ long_number_rule (codes "runs")
+    ∷ long_number_rule (codes "time")
+    ∷ number_rule (codes "jobs")
+    ∷ flag_rule (codes "deadlock")
+    ∷ flag_rule (codes "unreached")
+    ∷ flag_rule (codes "json")
+    ∷ []
+
+-- `TRACE`
+abbrev pub trace_rules : List Rule
+trace_rules = required_rule (codes "TRACE") ∷ []
+
+-- `TRACE [--thread N] [--last N] [--from N] [--to N] [--watch NAMES] [--fold] [--state] [--brief]
+-- [--at N] [--contexts] [--steps] [--json]`
+abbrev pub show_rules : List Rule
+show_rules =
+    required_rule (codes "TRACE")
+    ∷ number_rule (codes "thread")
+    ∷ long_number_rule (codes "last")
+    ∷ long_number_rule (codes "from")
+    ∷ long_number_rule (codes "to")
+    ∷ option_rule (codes "watch")
+    ∷ flag_rule (codes "fold")
+    ∷ flag_rule (codes "state")
+    ∷ flag_rule (codes "brief")
+    ∷ long_number_rule (codes "at")
+    ∷ flag_rule (codes "contexts")
+    ∷ flag_rule (codes "steps")
+    ∷ flag_rule (codes "json")
+    ∷ []
+
+-- what each command takes after that
+abbrev pub command_rules : Named → List Rule
+command_rules name.Check = check_rules
+command_rules name.Code = code_rules
+command_rules name.Drive = drive_rules
+command_rules name.Confirm = confirm_rules
+command_rules name.Run = run_rules
+command_rules name.Test = test_rules
+command_rules name.Replay = trace_rules
+command_rules name.Show = show_rules
+command_rules name.Migrate = trace_rules
+command_rules name.Shrink = trace_rules
+
+-- what it takes under the heading 'Advanced'; `run`: `[--turn N] [--ring N] [--spread]`
+abbrev pub advanced_rules : Named → List Rule
+advanced_rules name.Run =
+    number_rule (codes "turn")
+    ∷ number_rule (codes "ring")
+    ∷ flag_rule (codes "spread")
+    ∷ []
+advanced_rules command = []
+
+-- a command of this name with its file
+abbrev pub file_app : Text → App
+file_app name = with_rules (new_app name) file_rules
+
+-- the command of each name
+abbrev pub command_app : Named → App
+command_app command =
+    with_rules (
+    with_rules (file_app (command_name command)) (command_rules command)) (
+    advanced_rules command)
+
+-- the program without a command
+abbrev pub program_app : App
+program_app = on_top (λ s. record s { has_version = true }) (new_app (codes "btrun"))
+
+-- the commands in turn
+abbrev pub with_commands : App → List App → App
+with_commands a [] = a
+with_commands a (c ∷ cs) = with_commands (with_subcommand a c.top) cs
+
+-- all commands
+abbrev pub btrun_app : App
+btrun_app = with_commands program_app (map command_app NAMED)
+
+-- the arguments name no command, or one of those that there are
+abbrev pub IsOurs : Option (Text × List Row) → Type 0
+IsOurs None = Unit {0}
+IsOurs (Some command) = IsNamed command.0
+
+-- what the command of this name asks for, with its arguments; a bundle is asked for without one
+abbrev pub IsTaskOfCommand : Text → List Row → Task → Type 0
+IsTaskOfCommand name rows Bundle = ⊥
+IsTaskOfCommand name rows (Check arguments) =
+    (name ≡ codes "check") × IsCheckArgumentsOf rows arguments
+IsTaskOfCommand name rows (Code arguments) =
+    (name ≡ codes "code") × IsCodeArgumentsOf rows arguments
+IsTaskOfCommand name rows (Drive arguments) =
+    (name ≡ codes "drive") × IsDriveOf rows arguments
+IsTaskOfCommand name rows (Confirm arguments) =
+    (name ≡ codes "confirm") × IsConfirmOf rows arguments
+IsTaskOfCommand name rows (Run arguments) =
+    (name ≡ codes "run") × IsRunOf rows arguments
+IsTaskOfCommand name rows (Test arguments) =
+    (name ≡ codes "test") × IsTestOf rows arguments
+IsTaskOfCommand name rows (Replay arguments) =
+    (name ≡ codes "replay") × IsTraceArgumentsOf rows arguments
+IsTaskOfCommand name rows (Show arguments) =
+    (name ≡ codes "show") × IsShowOf rows arguments
+IsTaskOfCommand name rows (Migrate arguments) =
+    (name ≡ codes "migrate") × IsTraceArgumentsOf rows arguments
+IsTaskOfCommand name rows (Shrink arguments) =
+    (name ≡ codes "shrink") × IsTraceArgumentsOf rows arguments
+
+-- what the arguments ask for, by the command that they name
+abbrev pub IsTaskOf : Option (Text × List Row) → Task → Type 0
+IsTaskOf None task = task ≡ Bundle
+IsTaskOf (Some command) task = IsTaskOfCommand command.0 command.1 task
+
+-- why arguments are refused: as `clap` says, or else for options that are wrong together or by
+-- value
+abbrev pub arguments_fault : List Text → Kinds
+arguments_fault arguments =
+    or_else (fault_of btrun_app arguments) (misuse_fault (subcommand_of btrun_app arguments))

@@ -1,0 +1,16 @@
+pub mod CheckArguments
+pub mod CodeArguments
+pub mod Commands
+pub mod ConfirmArguments
+pub mod DriveArguments
+pub mod ExplainArguments
+pub mod Misuses
+pub mod Names
+pub mod NoTasks
+pub mod PlainUses
+pub mod RunArguments
+pub mod ShowArguments
+pub mod TestArguments
+pub mod TraceArguments
+pub mod Usages
+pub mod Values

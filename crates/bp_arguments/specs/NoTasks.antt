@@ -1,0 +1,34 @@
+-- What is said where arguments ask for no task.
+use Rattle.std.specs.Prelude.{◌≡◌, ◌⊎◌, List, [], ◌∷◌, Result, MatchResult}
+use Rattle.clap.specs.Kinds.{Kinds}
+use Rattle.clap.specs.declared.error.kind.ErrorKind.{ErrorKind}
+use Rattle.clap.specs.declared.error.kind.ErrorKind.TheVariants.{OutOfMemory, DisplayHelp, DisplayVersion}
+use Rattle.bp_arguments.specs.declared.no_tasks.NoTask.{NoTask}
+use Rattle.bp_arguments.specs.declared.no_tasks.NoTask.TheVariants.{Memory, Printed, Refused}
+
+-- the arguments ask for help or the version
+abbrev pub IsPrinted : NoTask → Type 0
+IsPrinted (Printed text) = Unit {0}
+IsPrinted _ = ⊥
+
+-- the arguments are refused
+abbrev pub IsRefused : NoTask → Type 0
+IsRefused (Refused refusal) = Unit {0}
+IsRefused _ = ⊥
+
+-- what an error of `clap` of this kind comes to
+abbrev pub IsOfKind : ErrorKind → NoTask → Type 0
+IsOfKind OutOfMemory none = none ≡ Memory
+IsOfKind DisplayHelp none = IsPrinted none
+IsOfKind DisplayVersion none = IsPrinted none
+IsOfKind _ none = IsRefused none
+
+-- one of these kinds came
+abbrev pub IsOfOne : Kinds → NoTask → Type 0
+IsOfOne [] none = ⊥
+IsOfOne (k ∷ ks) none = IsOfKind k none ⊎ IsOfOne ks none
+
+-- A task is answered only where no kind comes. Else one of them came, or memory was refused.
+abbrev pub EndsBy : {T : Type 0} → Kinds → Result T NoTask → Type 0
+EndsBy kinds r =
+    MatchResult r (λ _. kinds ≡ []) (λ none. (none ≡ Memory) ⊎ IsOfOne kinds none)

@@ -1,0 +1,48 @@
+//! The arguments of `check`.
+ghost use Rattle.clap.specs.Words.{found_of, rows_of};
+ghost use Rattle.bp_arguments.specs.CheckArguments.{IsCheckArgumentsOf};
+
+use crate::arguments::{Row, Takes};
+use crate::explain::{ExplainArguments, explain_arguments};
+use crate::values::is_given;
+use clap::ArgMatches;
+
+/// A program that is checked.
+#[derive(Drop)]
+pub struct CheckArguments<'a> {
+    /// The path of the program's text.
+    pub program: &'a str,
+    /// Whether `--json` was given: what is printed is then a JSON object, and so is a fault.
+    pub json: bool,
+    /// When a fault is explained.
+    pub explain: ExplainArguments,
+}
+
+/// What help says of the command first.
+pub const ABOUT: &str = "Check a program and print 'ok' and its numbers of procedures and globals";
+
+/// What `check --help` says after the arguments.
+pub const NOTES: &str = "\
+    The first fault is one line on standard error, with the offset of its byte. With --json the\n\
+    names of procedures and variables are printed, and a fault is an object too.\n\n\
+    Example:\n  btrun check lock.bp\n\nExit status:\n  0  the program is lawful\n  \
+    2  it is refused, or the words were\n  3  memory, a device or the output failed";
+
+/// The arguments of the command after its file.
+pub static ROWS: [Row<'static>; 1] = [Row {
+    name: "json",
+    takes: Takes::Nothing,
+    help: "Print one JSON object, for programs",
+}];
+
+/// What the arguments after `check` ask for.
+pub fn check_arguments<'a>(arguments: &ArgMatches<'a>) -> CheckArguments<'a>
+    ensures { IsCheckArgumentsOf (rows_of (found_of arguments.now)) result }
+{
+    // FILE is required, so it is there.
+    CheckArguments {
+        program: arguments.get_str("FILE").unwrap_or(""),
+        json: is_given(arguments, "json"),
+        explain: explain_arguments(arguments),
+    }
+}

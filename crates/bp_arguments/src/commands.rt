@@ -1,0 +1,164 @@
+//! The arguments of the command line.
+ghost use Rattle.std.specs.Prelude.{◌≡◌, false, ℕ, List, ◌∷◌, map, string_bytes, IfOk, MatchResult};
+ghost use Rattle.clap.specs.Words.{FailsBy, app_of, found_of, kind_of, rows_of, subcommand_of, subcommand_rows_of};
+ghost use Rattle.bp_arguments.specs.Commands.{btrun_app, program_app, arguments_fault, IsOurs, IsTaskOf, IsTaskOfCommand};
+ghost use Rattle.bp_arguments.specs.Misuses.{misuse_kind};
+ghost use Rattle.bp_arguments.specs.Names.{command_name};
+ghost use Rattle.bp_arguments.specs.PlainUses.{PlainUse, arguments_of, HasPlainFiles, IsAskedBy};
+
+use crate::check::{CheckArguments, check_arguments};
+use crate::code::{CodeArguments, code_arguments};
+use crate::confirm::{ConfirmArguments, confirm_arguments};
+use crate::drive::{DriveArguments, drive_arguments};
+use crate::misuses::{Misuse, misuse_kind, misuse_of, misuse_text};
+use crate::names::{NAMED, Named, command_named};
+use crate::run::{RunArguments, run_arguments};
+use crate::show::{ShowArguments, show_arguments};
+use crate::table::with_help;
+use crate::test::{TestArguments, test_arguments};
+use crate::trace::{TraceArguments, trace_arguments};
+use crate::version::version;
+use clap::error::ErrorKind;
+use clap::{ArgMatches, Command, Error};
+use std::alloc::{AllocError, Global};
+
+/// What the user wants done.
+#[derive(Drop)]
+pub enum Task<'a> {
+    /// Drive the bundle that standard input has.
+    Bundle,
+    /// `check FILE`
+    Check(CheckArguments<'a>),
+    /// `code FILE`
+    Code(CodeArguments<'a>),
+    /// `drive FILE SCHEDULE [ENTRY]..`
+    Drive(DriveArguments<'a>),
+    /// `confirm FILE STEPS [ENTRY]..`
+    Confirm(ConfirmArguments<'a>),
+    /// `run FILE [ENTRY]..`
+    Run(RunArguments<'a>),
+    /// `test FILE [ENTRY]..`
+    Test(TestArguments<'a>),
+    /// `replay FILE TRACE`
+    Replay(TraceArguments<'a>),
+    /// `show FILE TRACE`
+    Show(ShowArguments<'a>),
+    /// `migrate FILE TRACE`
+    Migrate(TraceArguments<'a>),
+    /// `shrink FILE TRACE`
+    Shrink(TraceArguments<'a>),
+}
+
+/// What `--help` says after the commands.
+const NOTES: &str = "\
+    Without a command standard input is a bundle: a program, a line '%', and a schedule of lines\n\
+    'THREAD BIT'. One thread begins with 'main', all globals are 0, and at most 2 contexts and\n\
+    1000 calls are allowed. The trace of the run is printed. A FILE '-' is standard input.\n\n\
+    Examples:\n  btrun < FILE\n  btrun check FILE\n  btrun code FILE\n  \
+    btrun drive FILE SCHEDULE\n  btrun confirm FILE STEPS\n  btrun run FILE\n  btrun test FILE\n  \
+    btrun replay FILE TRACE\n  btrun show FILE TRACE\n  \
+    btrun migrate FILE TRACE\n  btrun shrink FILE TRACE\n\n\
+    Exit status:\n  0  done, and no assertion failed\n  1  an assertion failed\n  \
+    2  the input or the words were refused\n  3  memory, a device or the output failed";
+
+/// What stands before the commands.
+fn program<'a>(alloc: Global) -> Command<'a>
+    ensures { app_of result ≡ program_app }
+{
+    Command::new(alloc, "btrun")
+        .version(version())
+        .about(
+            "Run concurrent Boolean programs. \
+            Without a command, read a bundle from standard input and print its trace",
+        )
+        .after_help(NOTES)
+}
+
+/// The program with its commands.
+fn command<'a>(alloc: Global) -> Result<Command<'a>, AllocError>
+    ensures { IfOk result (λ c. app_of c ≡ btrun_app) }
+{
+    let mut program = program(alloc);
+    let all = NAMED;
+    for command in &all {
+        program = program.subcommand(with_help(alloc, *command)?)?;
+    }
+    Ok(program)
+}
+
+/// The task that the arguments of a command ask for.
+fn task_named<'a>(
+    alloc: Global,
+    command: Named,
+    arguments: &ArgMatches<'a>,
+) -> Result<Task<'a>, AllocError>
+    ensures { let rows = rows_of (found_of arguments.now) in
+        IfOk result (IsTaskOfCommand (command_name command) rows) }
+{
+    match command {
+        Named::Check => Ok(Task::Check(check_arguments(arguments))),
+        Named::Code => Ok(Task::Code(code_arguments(arguments))),
+        Named::Drive => Ok(Task::Drive(drive_arguments(alloc, arguments)?)),
+        Named::Confirm => Ok(Task::Confirm(confirm_arguments(alloc, arguments)?)),
+        Named::Run => Ok(Task::Run(run_arguments(alloc, arguments)?)),
+        Named::Test => Ok(Task::Test(test_arguments(alloc, arguments)?)),
+        Named::Replay => Ok(Task::Replay(trace_arguments(arguments))),
+        Named::Show => Ok(Task::Show(show_arguments(arguments))),
+        Named::Migrate => Ok(Task::Migrate(trace_arguments(arguments))),
+        Named::Shrink => Ok(Task::Shrink(trace_arguments(arguments))),
+    }
+}
+
+/// The task that the matched arguments name.
+fn task_of<'a>(alloc: Global, matches: &ArgMatches<'a>) -> Result<Task<'a>, AllocError>
+    requires { IsOurs (subcommand_rows_of matches.now) }
+    ensures { IfOk result (IsTaskOf (subcommand_rows_of matches.now)) }
+{
+    let Some((name, arguments)) = matches.subcommand() else {
+        return Ok(Task::Bundle);
+    };
+    match command_named(name) {
+        Some(command) => task_named(alloc, command, arguments),
+        None => Ok(Task::Bundle),
+    }
+}
+
+/// The task that the arguments ask for. The first argument is the program's name. The error also
+/// has the texts of help and version.
+pub(crate) fn task_of_arguments<'a>(
+    alloc: Global,
+    arguments: &'a [String],
+) -> Result<Task<'a>, Error>
+    ensures task { IfOk result
+        (λ t. IsTaskOf (subcommand_of btrun_app (map string_bytes arguments.now)) t) }
+    ensures refusal { FailsBy (arguments_fault (map string_bytes arguments.now)) result }
+    ensures plain { (usage : PlainUse) (program : List ℕ)
+        → HasPlainFiles usage
+        → map string_bytes arguments.now ≡ program ∷ arguments_of usage
+        → MatchResult result (IsAskedBy usage) (λ e. kind_of e ≡ ErrorKind.OutOfMemory) }
+{
+    let command = command(alloc)?;
+    let matches = command.try_get_matches_from(arguments)?;
+    if let Some(misuse) = misuse_of(&matches) {
+        return Err(misuse_error(alloc, misuse)?);
+    }
+    Ok(task_of(alloc, &matches)?)
+}
+
+/// The error of options that `clap` takes one by one.
+fn misuse_error(alloc: Global, misuse: Misuse) -> Result<Error, AllocError>
+    ensures { IfOk result (λ e. kind_of e ≡ misuse_kind misuse) }
+{
+    let text = misuse_text(alloc, misuse)?;
+    command(alloc)?.error(misuse_kind(misuse), text.as_str())
+}
+
+/// The error of a word that is no command.
+pub(crate) fn no_command(alloc: Global, message: &str) -> Result<Error, AllocError> {
+    command(alloc)?.error(ErrorKind::InvalidSubcommand, message)
+}
+
+/// The error of arguments that are not UTF-8.
+pub(crate) fn not_text_error(alloc: Global) -> Result<Error, AllocError> {
+    command(alloc)?.error(ErrorKind::InvalidValue, "a word is not UTF-8")
+}

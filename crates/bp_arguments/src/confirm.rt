@@ -1,0 +1,93 @@
+//! The arguments of `confirm`.
+ghost use Rattle.std.specs.Prelude.{IfOk};
+ghost use Rattle.clap.specs.Words.{found_of, rows_of};
+ghost use Rattle.bp_arguments.specs.ConfirmArguments.{IsConfirmOf};
+
+use crate::arguments::{Row, Takes};
+use crate::explain::{ExplainArguments, explain_arguments};
+use crate::rows::{CALLS, ENTRY, INIT};
+use crate::values::{entries, given_number, init, is_given, named, number};
+use bp_init::NamedBits;
+use bp_machine::Start;
+use bp_machine::limits::{DEFAULT_CALLS, DEFAULT_CONTEXTS};
+use clap::ArgMatches;
+use std::alloc::{AllocError, Global};
+
+/// A program and reported steps, and what they start from.
+#[derive(Drop)]
+pub struct ConfirmArguments<'a> {
+    /// The path of the program's text.
+    pub program: &'a str,
+    /// The path of the steps.
+    pub steps: &'a str,
+    /// Whether `--json` was given: a fault is then a JSON object.
+    pub json: bool,
+    /// When a fault is explained.
+    pub explain: ExplainArguments,
+    /// The number of contexts, if one is given.
+    pub contexts: Option<u32>,
+    pub start: Start,
+    /// The globals whose initial bits are given by name.
+    pub named: NamedBits<'a>,
+}
+
+/// What help says of the command first.
+pub const ABOUT: &str =
+    "Confirm the steps that a model checker reports and print the trace of the run";
+
+/// What `confirm --help` says after the arguments.
+pub const NOTES: &str = "\
+    A line of the steps is 'THREAD PLACE', and then any number of ' NAME=BIT'. The place is where\n\
+    the thread stands before the step: 'LINE', 'LINE:COLUMN', or '-' for a procedure's end. The\n\
+    values are those that the thread sees after the step. Choice bits are left out.\n\
+    The first fault is one line on standard error.\n\n\
+    Example:\n  btrun confirm race.bp steps.txt writer reader --init 00\n\n\
+    Exit status:\n  0  the steps are a run, and no assertion failed\n  \
+    1  an assertion failed at the last step\n  \
+    2  an input was refused, or the words were\n  3  memory, a device or the output failed";
+
+/// The arguments of the command after its file.
+pub static ROWS: [Row<'static>; 6] = [
+    Row {
+        name: "STEPS",
+        takes: Takes::One,
+        help: "The file of the steps",
+    },
+    ENTRY,
+    Row {
+        name: "contexts",
+        takes: Takes::Number,
+        help: "Allow N contexts [default: as many as the steps use]",
+    },
+    CALLS,
+    INIT,
+    Row {
+        name: "json",
+        takes: Takes::Nothing,
+        help: "Print a fault as one JSON object, for programs",
+    },
+];
+
+/// What the arguments after `confirm` ask for.
+pub fn confirm_arguments<'a>(
+    alloc: Global,
+    arguments: &ArgMatches<'a>,
+) -> Result<ConfirmArguments<'a>, AllocError>
+    ensures { IfOk result (IsConfirmOf (rows_of (found_of arguments.now))) }
+{
+    // FILE and STEPS are required, so they are there.
+    Ok(ConfirmArguments {
+        program: arguments.get_str("FILE").unwrap_or(""),
+        steps: arguments.get_str("STEPS").unwrap_or(""),
+        json: is_given(arguments, "json"),
+        explain: explain_arguments(arguments),
+        contexts: given_number(arguments, "contexts"),
+        start: Start {
+            entries: entries(alloc, arguments)?,
+            init: init(alloc, arguments)?,
+            contexts: number(arguments, "contexts", DEFAULT_CONTEXTS),
+            calls: number(arguments, "calls", DEFAULT_CALLS),
+        },
+        named: named(alloc, arguments)?,
+    })
+}

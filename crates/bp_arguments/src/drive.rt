@@ -1,0 +1,75 @@
+//! The arguments of `drive`.
+ghost use Rattle.std.specs.Prelude.{IfOk};
+ghost use Rattle.clap.specs.Words.{found_of, rows_of};
+ghost use Rattle.bp_arguments.specs.DriveArguments.{IsDriveOf};
+
+use crate::arguments::{Row, Takes};
+use crate::explain::{ExplainArguments, explain_arguments};
+use crate::rows::{CALLS, CONTEXTS, ENTRY, INIT};
+use crate::values::{entries, init, named, number};
+use bp_init::NamedBits;
+use bp_machine::Start;
+use bp_machine::limits::{DEFAULT_CALLS, DEFAULT_CONTEXTS};
+use clap::ArgMatches;
+use std::alloc::{AllocError, Global};
+
+/// A program and a schedule, and what driving starts from beside them.
+#[derive(Drop)]
+pub struct DriveArguments<'a> {
+    /// The path of the program's text.
+    pub program: &'a str,
+    /// The path of the schedule.
+    pub schedule: &'a str,
+    /// When a fault is explained.
+    pub explain: ExplainArguments,
+    pub start: Start,
+    /// The globals whose initial bits are given by name.
+    pub named: NamedBits<'a>,
+}
+
+/// What help says of the command first.
+pub const ABOUT: &str = "Drive a program by a schedule and print the trace of the run";
+
+/// What `drive --help` says after the arguments.
+pub const NOTES: &str = "\
+    A line of the schedule is 'THREAD BIT': the number of a thread, and the choice bit \
+    of its call.\n\
+    The first fault is one line on standard error.\n\n\
+    Example:\n  btrun drive race.bp race.txt writer reader --init 00\n\n\
+    Exit status:\n  0  done, and no assertion failed\n  1  an assertion failed\n  \
+    2  an input was refused, or the words were\n  3  memory, a device or the output failed";
+
+/// The arguments of the command after its file.
+pub static ROWS: [Row<'static>; 5] = [
+    Row {
+        name: "SCHEDULE",
+        takes: Takes::One,
+        help: "The file of the schedule",
+    },
+    ENTRY,
+    CONTEXTS,
+    CALLS,
+    INIT,
+];
+
+/// What the arguments after `drive` ask for.
+pub fn drive_arguments<'a>(
+    alloc: Global,
+    arguments: &ArgMatches<'a>,
+) -> Result<DriveArguments<'a>, AllocError>
+    ensures { IfOk result (IsDriveOf (rows_of (found_of arguments.now))) }
+{
+    // FILE and SCHEDULE are required, so they are there.
+    Ok(DriveArguments {
+        program: arguments.get_str("FILE").unwrap_or(""),
+        schedule: arguments.get_str("SCHEDULE").unwrap_or(""),
+        explain: explain_arguments(arguments),
+        start: Start {
+            entries: entries(alloc, arguments)?,
+            init: init(alloc, arguments)?,
+            contexts: number(arguments, "contexts", DEFAULT_CONTEXTS),
+            calls: number(arguments, "calls", DEFAULT_CALLS),
+        },
+        named: named(alloc, arguments)?,
+    })
+}

@@ -1,0 +1,38 @@
+//! The arguments of the command line: the command that they name, its files and its options.
+#![tactic(auto)]
+
+mod arguments;
+mod check;
+mod code;
+mod commands;
+mod confirm;
+mod drive;
+mod echoes;
+mod explain;
+mod files;
+mod meant;
+mod misuses;
+mod names;
+mod no_tasks;
+mod rows;
+mod run;
+mod show;
+mod table;
+mod test;
+mod trace;
+mod usages;
+mod values;
+mod version;
+
+pub use check::CheckArguments;
+pub use code::CodeArguments;
+pub use commands::Task;
+pub use confirm::ConfirmArguments;
+pub use drive::DriveArguments;
+pub use explain::ExplainArguments;
+pub use no_tasks::{NoTask, Refusal, not_text, read_arguments};
+pub use run::RunArguments;
+pub use show::ShowArguments;
+pub use test::TestArguments;
+pub use trace::TraceArguments;
+pub use usages::asks_for_json;

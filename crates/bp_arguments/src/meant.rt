@@ -1,0 +1,58 @@
+//! What was meant by arguments that are refused.
+
+use bp_machine::limits::{MAX_CALLS, MAX_CONTEXTS};
+use bp_test::limits::MAX_JOBS;
+use std::alloc::{AllocError, Global};
+
+/// What the name of a program's file ends with.
+const PROGRAM_ENDING: &str = ".bp";
+
+/// Whether the word is a number below 0.
+fn is_below_zero(word: &str) -> bool {
+    match word.strip_prefix("-") {
+        Some(digits) => {
+            !digits.is_empty()
+                && digits
+                    .as_bytes()
+                    .iter()
+                    .all(|byte| matches!(byte, b'0'..=b'9'))
+        }
+        None => false,
+    }
+}
+
+/// What is said of an option whose value is a number below 0.
+fn range_of(alloc: Global, option: &str) -> Result<String, AllocError> {
+    match option {
+        "--contexts" => format!(in alloc; "{option} takes 0 to {MAX_CONTEXTS}"),
+        "--calls" => format!(in alloc; "{option} takes 1 to {MAX_CALLS}"),
+        "--jobs" => format!(in alloc; "{option} takes 0 to {MAX_JOBS}"),
+        _ => format!(in alloc; "{option} takes a number from 0"),
+    }
+}
+
+/// What is said of the first option that has a number below 0 as its value.
+pub fn of_number(alloc: Global, arguments: &[String]) -> Result<Option<String>, AllocError> {
+    let mut last = "";
+    for word in arguments {
+        if last.starts_with("--") && is_below_zero(word.as_str()) {
+            return Ok(Some(range_of(alloc, last)?));
+        }
+        last = word.as_str();
+    }
+    Ok(None)
+}
+
+/// What is said of a file of a program that stands where a command is due.
+pub fn of_file(alloc: Global, arguments: &[String]) -> Result<Option<String>, AllocError> {
+    match arguments.get(1) {
+        Some(file) if file.as_str().ends_with(PROGRAM_ENDING) => {
+            let file = file.as_str();
+            let said = format!(in alloc;
+                "'{file}' is no command; did you mean 'btrun check {file}'?"
+            )?;
+            Ok(Some(said))
+        }
+        _ => Ok(None),
+    }
+}

@@ -1,0 +1,226 @@
+//! What is wrong with options that `clap` takes one by one.
+ghost use Rattle.std.specs.Prelude.{◌≡◌};
+ghost use Rattle.clap.specs.Words.{found_of, kind_of, rows_of, subcommand_rows_of};
+ghost use Rattle.bp_arguments.specs.Misuses.{are_on_line, are_many, backwards_in, clash_in, descending, has_many_jobs, is_from_line, is_on_line, misuse_in, misuse_kind, misuse_of, option_name};
+
+use crate::values::{given_long_number, given_number, has_bad_init};
+use bp_test::limits::MAX_JOBS;
+use clap::ArgMatches;
+use clap::error::ErrorKind;
+use clap::parser::ValueSource;
+use std::alloc::{AllocError, Global};
+
+/// An option that clashes with another one.
+#[derive(Clone, Copy, Debug, PartialEq, Eq)]
+pub enum OptionName {
+    At,
+    Contexts,
+    Steps,
+    Thread,
+    Last,
+    From,
+    To,
+    Watch,
+    Fold,
+    State,
+    Brief,
+    Json,
+    Explain,
+    NoExplain,
+}
+
+/// What is wrong with options that are lawful one by one.
+#[derive(Clone, Copy, Debug, PartialEq, Eq)]
+pub enum Misuse {
+    /// The initial bits are neither bits nor different names with bits.
+    BadInit,
+    /// More blocks of runs are to be made side by side than there may be.
+    ManyJobs,
+    /// Beside the first of these options, the second has no effect.
+    Together(OptionName, OptionName),
+    /// The first call that is to be shown, this one, comes after the last, that one.
+    Backwards(u64, u64),
+}
+
+/// How many pairs of options are refused.
+const PAIRS: usize = 29;
+
+/// The options that clash: beside the first of a pair, the second has no effect. Earlier pairs are
+/// reported first.
+pub const CLASHES: [(OptionName, OptionName); PAIRS] = [
+    (OptionName::At, OptionName::Contexts),
+    (OptionName::At, OptionName::Steps),
+    (OptionName::At, OptionName::Thread),
+    (OptionName::At, OptionName::Last),
+    (OptionName::At, OptionName::From),
+    (OptionName::At, OptionName::To),
+    (OptionName::At, OptionName::Watch),
+    (OptionName::At, OptionName::Fold),
+    (OptionName::At, OptionName::State),
+    (OptionName::At, OptionName::Brief),
+    (OptionName::Contexts, OptionName::Steps),
+    (OptionName::Contexts, OptionName::Thread),
+    (OptionName::Contexts, OptionName::Last),
+    (OptionName::Contexts, OptionName::From),
+    (OptionName::Contexts, OptionName::To),
+    (OptionName::Contexts, OptionName::Watch),
+    (OptionName::Contexts, OptionName::Fold),
+    (OptionName::Contexts, OptionName::State),
+    (OptionName::Contexts, OptionName::Brief),
+    (OptionName::Steps, OptionName::Thread),
+    (OptionName::Steps, OptionName::Last),
+    (OptionName::Steps, OptionName::From),
+    (OptionName::Steps, OptionName::To),
+    (OptionName::Steps, OptionName::Watch),
+    (OptionName::Steps, OptionName::Fold),
+    (OptionName::Steps, OptionName::State),
+    (OptionName::Steps, OptionName::Brief),
+    (OptionName::Json, OptionName::Fold),
+    (OptionName::Explain, OptionName::NoExplain),
+];
+
+/// The name of an option, without the dashes before it.
+fn option_name(option: OptionName) -> &'static str
+    ensures { result.now ≡ option_name option }
+{
+    match option {
+        OptionName::At => "at",
+        OptionName::Contexts => "contexts",
+        OptionName::Steps => "steps",
+        OptionName::Thread => "thread",
+        OptionName::Last => "last",
+        OptionName::From => "from",
+        OptionName::To => "to",
+        OptionName::Watch => "watch",
+        OptionName::Fold => "fold",
+        OptionName::State => "state",
+        OptionName::Brief => "brief",
+        OptionName::Json => "json",
+        OptionName::Explain => "explain",
+        OptionName::NoExplain => "no-explain",
+    }
+}
+
+fn is_from_line(source: Option<ValueSource>) -> bool
+    ensures { result ≡ is_from_line source }
+{
+    matches!(source, Some(ValueSource::CommandLine))
+}
+
+/// Whether the arguments gave an option. A default does not count.
+fn is_on_line(arguments: &ArgMatches<'_>, option: OptionName) -> bool
+    ensures { result ≡ is_on_line (rows_of (found_of arguments.now)) option }
+{
+    is_from_line(arguments.value_source(option_name(option)))
+}
+
+/// Whether the arguments gave both options.
+fn are_on_line(arguments: &ArgMatches<'_>, pair: (OptionName, OptionName)) -> bool
+    ensures { result ≡ are_on_line (rows_of (found_of arguments.now)) pair }
+{
+    is_on_line(arguments, pair.0) && is_on_line(arguments, pair.1)
+}
+
+/// The first pair of options that clash.
+fn clash_in(arguments: &ArgMatches<'_>) -> Option<(OptionName, OptionName)>
+    ensures { result ≡ clash_in (rows_of (found_of arguments.now)) }
+{
+    let all = CLASHES;
+    for pair in &all {
+        if are_on_line(arguments, *pair) {
+            return Some(*pair);
+        }
+    }
+    None
+}
+
+fn are_many(jobs: Option<u32>) -> bool
+    ensures { result ≡ are_many jobs }
+{
+    match jobs {
+        Some(jobs) => jobs > MAX_JOBS,
+        None => false,
+    }
+}
+
+/// Whether more blocks of runs are to be made side by side than there may be.
+fn has_many_jobs(arguments: &ArgMatches<'_>) -> bool
+    ensures { result ≡ has_many_jobs (rows_of (found_of arguments.now)) }
+{
+    are_many(given_number(arguments, "jobs"))
+}
+
+/// The numbers, where the first is the greater one.
+fn descending(from: Option<u64>, to: Option<u64>) -> Option<(u64, u64)>
+    ensures { result ≡ descending from to }
+{
+    match (from, to) {
+        (Some(from), Some(to)) => { if to < from { Some((from, to)) } else { None } }
+        _ => None,
+    }
+}
+
+/// The first and the last call that are to be shown, where the first comes after the last.
+fn backwards_in(arguments: &ArgMatches<'_>) -> Option<(u64, u64)>
+    ensures { result ≡ backwards_in (rows_of (found_of arguments.now)) }
+{
+    descending(
+        given_long_number(arguments, "from"),
+        given_long_number(arguments, "to"),
+    )
+}
+
+/// What is wrong with the options of a command: the first that applies.
+fn misuse_in(arguments: &ArgMatches<'_>) -> Option<Misuse>
+    ensures { result ≡ misuse_in (rows_of (found_of arguments.now)) }
+{
+    if has_bad_init(arguments) {
+        return Some(Misuse::BadInit);
+    }
+    if has_many_jobs(arguments) {
+        return Some(Misuse::ManyJobs);
+    }
+    if let Some((first, second)) = clash_in(arguments) {
+        return Some(Misuse::Together(first, second));
+    }
+    let (from, to) = backwards_in(arguments)?;
+    Some(Misuse::Backwards(from, to))
+}
+
+/// What is wrong with the options of the command that the arguments name.
+pub fn misuse_of(matches: &ArgMatches<'_>) -> Option<Misuse>
+    ensures { result ≡ misuse_of (subcommand_rows_of matches.now) }
+{
+    match matches.subcommand() {
+        Some((_, arguments)) => misuse_in(arguments),
+        None => None,
+    }
+}
+
+/// The kind of error that a misuse is.
+pub fn misuse_kind(misuse: Misuse) -> ErrorKind
+    ensures { result ≡ misuse_kind misuse }
+{
+    match misuse {
+        Misuse::Together(_, _) => ErrorKind::ArgumentConflict,
+        _ => ErrorKind::InvalidValue,
+    }
+}
+
+/// What is said of a misuse.
+pub fn misuse_text(alloc: Global, misuse: Misuse) -> Result<String, AllocError> {
+    match misuse {
+        Misuse::BadInit => {
+            format!(in alloc;
+                "the value of '--init' is neither bits, as 10, nor \
+                different globals with bits, as valid=1,freed=0"
+            )
+        }
+        Misuse::ManyJobs => format!(in alloc; "--jobs takes 0 to {MAX_JOBS}"),
+        Misuse::Together(first, second) => {
+            let (first, second) = (option_name(first), option_name(second));
+            format!(in alloc; "--{first} and --{second} cannot be used together")
+        }
+        Misuse::Backwards(from, to) => format!(in alloc; "--from {from} is after --to {to}"),
+    }
+}

@@ -1,0 +1,104 @@
+//! The arguments of `run`.
+ghost use Rattle.std.specs.Prelude.{IfOk};
+ghost use Rattle.clap.specs.Words.{found_of, rows_of};
+ghost use Rattle.bp_arguments.specs.RunArguments.{IsRunOf};
+
+use crate::arguments::{Row, Takes};
+use crate::explain::{ExplainArguments, explain_arguments};
+use crate::rows::{CALLS, CONTEXTS, ENTRY, INIT};
+use crate::values::{entries, init, is_given, long_number, named, number};
+use bp_init::NamedBits;
+use bp_machine::Start;
+use bp_machine::limits::{DEFAULT_CALLS, DEFAULT_CONTEXTS};
+use bp_run::RunOptions;
+use bp_run::limits::{DEFAULT_RING, DEFAULT_SEED, DEFAULT_TURN};
+use clap::ArgMatches;
+use std::alloc::{AllocError, Global};
+
+/// A program, and what its run starts from beside it.
+#[derive(Drop)]
+pub struct RunArguments<'a> {
+    /// The path of the program's text.
+    pub program: &'a str,
+    /// Whether the workers start together and take turns as they are drawn.
+    pub spread: bool,
+    /// When a fault is explained.
+    pub explain: ExplainArguments,
+    /// What the run starts from.
+    pub options: RunOptions,
+    /// The globals whose initial bits are given by name.
+    pub named: NamedBits<'a>,
+}
+
+/// What help says of the command first.
+pub const ABOUT: &str =
+    "Run a program by one worker for each thread and print the trace of the run";
+
+/// What `run --help` says after the arguments.
+pub const NOTES: &str = "\
+    The machine's scheduler decides who takes the next turn, so two runs may differ. Each\n\
+    trace is one of a run of the program, and 'btrun replay' takes it. It is printed while the\n\
+    run goes on. The first fault is one line on standard error.\n\n\
+    Example:\n  btrun run race.bp writer reader --contexts 4 --seed 7\n\n\
+    Exit status:\n  0  done, and no assertion failed\n  1  an assertion failed\n  \
+    2  the program was refused, or the words were\n  \
+    3  memory, a device, a thread or the output failed";
+
+/// The arguments of the command after its file.
+pub static ROWS: [Row<'static>; 5] = [
+    ENTRY,
+    Row {
+        name: "seed",
+        takes: Takes::LongNumber,
+        help: "Draw the choice bits by this seed [default: 42]",
+    },
+    CONTEXTS,
+    CALLS,
+    INIT,
+];
+
+/// The options under the heading 'Advanced'.
+pub static ADVANCED: [Row<'static>; 3] = [
+    Row {
+        name: "turn",
+        takes: Takes::Number,
+        help: "Let a worker make N calls in a turn, 1 to 64 [default: 1]",
+    },
+    Row {
+        name: "ring",
+        takes: Takes::Number,
+        help: "Let N calls wait to be printed, 1 to 65536 [default: 1024]",
+    },
+    Row {
+        name: "spread",
+        takes: Takes::Nothing,
+        help: "Start the workers together, and draw who takes each turn",
+    },
+];
+
+/// What the arguments after `run` ask for.
+pub fn run_arguments<'a>(
+    alloc: Global,
+    arguments: &ArgMatches<'a>,
+) -> Result<RunArguments<'a>, AllocError>
+    ensures { IfOk result (IsRunOf (rows_of (found_of arguments.now))) }
+{
+    // FILE is required, so it is there.
+    Ok(RunArguments {
+        program: arguments.get_str("FILE").unwrap_or(""),
+        spread: is_given(arguments, "spread"),
+        explain: explain_arguments(arguments),
+        options: RunOptions {
+            start: Start {
+                entries: entries(alloc, arguments)?,
+                init: init(alloc, arguments)?,
+                contexts: number(arguments, "contexts", DEFAULT_CONTEXTS),
+                calls: number(arguments, "calls", DEFAULT_CALLS),
+            },
+            turn: number(arguments, "turn", DEFAULT_TURN),
+            seed: long_number(arguments, "seed", DEFAULT_SEED),
+            ring: number(arguments, "ring", DEFAULT_RING),
+        },
+        named: named(alloc, arguments)?,
+    })
+}

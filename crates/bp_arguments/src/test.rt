@@ -1,0 +1,149 @@
+//! The arguments of `test`.
+ghost use Rattle.std.specs.Prelude.{◌≡◌, false, length, IfOk};
+ghost use Rattle.clap.specs.Words.{found_of, rows_of};
+ghost use Rattle.bp_arguments.specs.TestArguments.{contexts_for, IsTestOf};
+
+use crate::arguments::{Row, Takes};
+use crate::explain::{ExplainArguments, explain_arguments};
+use crate::rows::{CALLS, ENTRY, INIT};
+use crate::values::{entries, given_long_number, init, is_given, long_number, named, number};
+use bp_init::NamedBits;
+use bp_machine::Start;
+use bp_machine::limits::{DEFAULT_CALLS, MAX_THREADS};
+use bp_run::limits::DEFAULT_SEED;
+use bp_test::limits::{DEFAULT_JOBS, DEFAULT_RUNS};
+use clap::ArgMatches;
+use std::alloc::{AllocError, Global};
+
+/// A program, and by how many runs it is tested.
+#[derive(Drop)]
+pub struct TestArguments<'a> {
+    /// The path of the program's text.
+    pub program: &'a str,
+    /// When a fault is explained.
+    pub explain: ExplainArguments,
+    /// What each run starts from.
+    pub start: Start,
+    /// The globals whose initial bits are given by name.
+    pub named: NamedBits<'a>,
+    /// The seed of the first run. Each other run has the seed after that of the run before it.
+    pub seed: u64,
+    /// How many runs there are at most.
+    pub runs: u64,
+    /// After how many seconds no run begins, if that is said.
+    pub seconds: Option<u64>,
+    /// How many blocks of runs are made side by side.
+    pub jobs: u32,
+    /// Whether `--deadlock` was given: the test then also looks for a run that ends in a deadlock.
+    pub deadlock: bool,
+    /// Whether `--unreached` was given: the statements that no run reached are then listed.
+    pub unreached: bool,
+    /// Whether `--json` was given: the summary is then JSON objects, and so is a fault.
+    pub json: bool,
+}
+
+/// What help says of the command first.
+pub const ABOUT: &str =
+    "Test a program by runs with drawn schedules and print the first that fails";
+
+/// What `test --help` says after the arguments.
+pub const NOTES: &str = "\
+    Each run switches between the threads at places that are drawn by its seed, within the\n\
+    contexts that are allowed. The seed of run r, from 0, is r more than that of the first. A run\n\
+    ends where an assertion failed, or where no thread can go on. The trace of the first run in\n\
+    which an assertion failed is printed, and 'btrun replay' takes it. A summary on standard\n\
+    error says what was found, and what the runs reached. The first fault is one line there.\n\
+    With --json each line on standard error is a JSON object.\n\
+    What is found and printed does not depend on the number of jobs. With --time the runs are the\n\
+    first of those that would be made without it.\n\n\
+    Example:\n  btrun test race.bp writer reader --contexts 4 --runs 100000\n\n\
+    Exit status:\n  0  nothing was found in any run\n  \
+    1  an assertion failed, or a run ended in a deadlock\n  \
+    2  the program was refused, or the words were\n  \
+    3  memory, a device or the output failed";
+
+/// The arguments of the command after its file.
+pub static ROWS: [Row<'static>; 11] = [
+    ENTRY,
+    Row {
+        name: "seed",
+        takes: Takes::LongNumber,
+        help: "Begin with the run of this seed [default: 42]",
+    },
+    Row {
+        name: "contexts",
+        takes: Takes::Number,
+        help: "Allow N contexts [default: one more than there are threads]",
+    },
+    CALLS,
+    INIT,
+    Row {
+        name: "runs",
+        takes: Takes::LongNumber,
+        help: "Make at most N runs [default: 10000]",
+    },
+    Row {
+        name: "time",
+        takes: Takes::LongNumber,
+        help: "Begin no run after N seconds",
+    },
+    Row {
+        name: "jobs",
+        takes: Takes::Number,
+        help: "Make N blocks of runs side by side, at most 64 [default: 1]",
+    },
+    Row {
+        name: "deadlock",
+        takes: Takes::Nothing,
+        help: "Also stop at a run in which all threads that have not ended wait",
+    },
+    Row {
+        name: "unreached",
+        takes: Takes::Nothing,
+        help: "List the statements that no run reached, on standard error",
+    },
+    Row {
+        name: "json",
+        takes: Takes::Nothing,
+        help: "Write the summary as JSON objects, for programs",
+    },
+];
+
+/// How many contexts a test of these threads allows, where no other number is given: one more than
+/// there are threads, so that each may begin and one may go on.
+fn default_contexts(entries: &[String]) -> u32
+    ensures { result ≡ contexts_for (length entries.now) }
+{
+    // More threads than that are refused.
+    entries.len().min(MAX_THREADS) as u32 + 1
+}
+
+/// What the arguments after `test` ask for.
+pub fn test_arguments<'a>(
+    alloc: Global,
+    arguments: &ArgMatches<'a>,
+) -> Result<TestArguments<'a>, AllocError>
+    ensures { IfOk result (IsTestOf (rows_of (found_of arguments.now))) }
+{
+    let entries = entries(alloc, arguments)?;
+    let contexts = default_contexts(entries.as_slice());
+    // FILE is required, so it is there.
+    Ok(TestArguments {
+        program: arguments.get_str("FILE").unwrap_or(""),
+        explain: explain_arguments(arguments),
+        start: Start {
+            entries,
+            init: init(alloc, arguments)?,
+            contexts: number(arguments, "contexts", contexts),
+            calls: number(arguments, "calls", DEFAULT_CALLS),
+        },
+        named: named(alloc, arguments)?,
+        seed: long_number(arguments, "seed", DEFAULT_SEED),
+        runs: long_number(arguments, "runs", DEFAULT_RUNS),
+        seconds: given_long_number(arguments, "time"),
+        jobs: number(arguments, "jobs", DEFAULT_JOBS),
+        deadlock: is_given(arguments, "deadlock"),
+        unreached: is_given(arguments, "unreached"),
+        json: is_given(arguments, "json"),
+    })
+}

@@ -1,0 +1,70 @@
+//! The arguments of `replay`, `migrate` and `shrink`.
+ghost use Rattle.clap.specs.Words.{found_of, rows_of};
+ghost use Rattle.bp_arguments.specs.TraceArguments.{IsTraceArgumentsOf};
+
+use crate::arguments::Row;
+use crate::explain::{ExplainArguments, explain_arguments};
+use crate::rows::TRACE;
+use clap::ArgMatches;
+
+/// A program and a trace of it.
+#[derive(Drop)]
+pub struct TraceArguments<'a> {
+    /// The path of the program's text.
+    pub program: &'a str,
+    /// The path of the trace.
+    pub trace: &'a str,
+    /// When a fault is explained.
+    pub explain: ExplainArguments,
+}
+
+pub const REPLAY_ABOUT: &str = "Replay a trace and print what its steps printed, and the outcome";
+
+/// What `replay --help` says after the arguments.
+pub const REPLAY_NOTES: &str = "\
+    A step at a 'print' has a line 'print THREAD BITS'. The last line is 'outcome clean', or\n\
+    'outcome failed THREAD' with the thread whose assertion failed. The first fault is one \
+    line on\n\
+    standard error.\n\n\
+    Example:\n  btrun replay race.bp race.trace\n\n\
+    Exit status:\n  0  done, and no assertion failed\n  1  an assertion failed\n  \
+    2  an input was refused, or the words were\n  3  memory, a device or the output failed";
+
+pub const MIGRATE_ABOUT: &str = "Print a trace of either version in version 2";
+
+/// What `migrate --help` says after the arguments.
+pub const MIGRATE_NOTES: &str = "\
+    Version 2 has a line for each piece: the calls that a thread makes one after the other. \
+    The trace\n\
+    is replayed first. The first fault is one line on standard error.\n\n\
+    Example:\n  btrun migrate race.bp race.trace\n\n\
+    Exit status:\n  0  done, and no assertion failed\n  1  an assertion failed\n  \
+    2  an input was refused, or the words were\n  3  memory, a device or the output failed";
+
+pub const SHRINK_ABOUT: &str = "Print a smaller trace with the same failure or deadlock";
+
+/// What `shrink --help` says after the arguments.
+pub const SHRINK_NOTES: &str = "\
+    The trace is one that ends in a failed assertion or a deadlock. Contexts, loops and other\n\
+    calls are left out, and what is left is driven again: the same assertion of the same thread\n\
+    fails in it, or the same threads wait at the same assumptions, by no more calls and no more\n\
+    contexts. The first fault is one line on standard error.\n\n\
+    Example:\n  btrun shrink race.bp race.trace\n\n\
+    Exit status:\n  0  the trace of a deadlock is printed\n  \
+    1  an assertion failed, and the trace is printed\n  \
+    2  an input was refused, or the words were\n  3  memory, a device or the output failed";
+
+/// The arguments of the command after its file.
+pub static ROWS: [Row<'static>; 1] = [TRACE];
+
+/// What the arguments after `replay`, `migrate` or `shrink` ask for.
+pub fn trace_arguments<'a>(arguments: &ArgMatches<'a>) -> TraceArguments<'a>
+    ensures { IsTraceArgumentsOf (rows_of (found_of arguments.now)) result }
+{
+    // FILE and TRACE are required, so they are there.
+    TraceArguments {
+        program: arguments.get_str("FILE").unwrap_or(""),
+        trace: arguments.get_str("TRACE").unwrap_or(""),
+        explain: explain_arguments(arguments),
+    }
+}

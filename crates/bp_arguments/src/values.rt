@@ -1,0 +1,143 @@
+//! The values of arguments.
+ghost use Rattle.std.specs.Prelude.{◌≡◌, codes, map, string_bytes, option_map, IfOk};
+ghost use Rattle.clap.specs.Words.{first_of, found_of, one_of, rows_of};
+ghost use Rattle.bp_arguments.specs.Values.{bits_given, bits_in, entries_in, has_bad_init, init_in, is_bits, is_init, named_in, names_given, IsFlagOf, IsNumberIn, IsNumberOf};
+
+use bp_init::{NamedBits, are_named_bits, gives_names, named_bits};
+use bp_machine::limits::DEFAULT_ENTRY;
+use clap::ArgMatches;
+use std::alloc::{AllocError, Global};
+
+fn copies(alloc: Global, names: &[&str]) -> Result<Vec<String>, AllocError>
+    ensures { IfOk result (λ v. map string_bytes v.items ≡ map (λ n. n.now) names.now) }
+{
+    let mut items = Vec::new(alloc);
+    for name in names {
+        items.push(String::from_str(alloc, name)?)?;
+    }
+    Ok(items)
+}
+
+/// The entries of the threads.
+pub fn entries(alloc: Global, arguments: &ArgMatches<'_>) -> Result<Vec<String>, AllocError>
+    ensures { IfOk result
+        (λ v. map string_bytes v.items ≡ entries_in (rows_of (found_of arguments.now))) }
+{
+    match arguments.get_strs("ENTRY") {
+        Some(names) => copies(alloc, names),
+        None => copies(alloc, &[DEFAULT_ENTRY]),
+    }
+}
+
+fn is_bits(text: &str) -> bool
+    ensures { result ≡ is_bits text.now }
+{
+    text.as_bytes()
+        .iter()
+        .all(|byte| matches!(byte, b'0' | b'1'))
+}
+
+fn bits(alloc: Global, text: &str) -> Result<Vec<bool>, AllocError>
+    ensures { IfOk result (λ v. v.items ≡ bits_in text.now) }
+{
+    let mut bits = Vec::new(alloc);
+    for byte in text.as_bytes() {
+        bits.push(*byte == b'1')?;
+    }
+    Ok(bits)
+}
+
+/// The bits that a text gives in order of declaration, unless it gives them by name.
+fn bits_given(alloc: Global, text: &str) -> Result<Option<Vec<bool>>, AllocError>
+    ensures { IfOk result (λ o. option_map (λ v. v.items) o ≡ bits_given text.now) }
+{
+    if gives_names(text) {
+        return Ok(None);
+    }
+    Ok(Some(bits(alloc, text)?))
+}
+
+/// The initial bits, where they are given in order of declaration.
+pub fn init(alloc: Global, arguments: &ArgMatches<'_>) -> Result<Option<Vec<bool>>, AllocError>
+    ensures { IfOk result
+        (λ o. option_map (λ v. v.items) o ≡ init_in (rows_of (found_of arguments.now))) }
+{
+    match arguments.get_str("init") {
+        Some(text) => bits_given(alloc, text),
+        None => Ok(None),
+    }
+}
+
+/// The globals to which a text gives bits by name.
+fn names_given(alloc: Global, text: &str) -> Result<NamedBits<'_>, AllocError>
+    ensures { IfOk result (λ n. n ≡ names_given text.now) }
+{
+    if gives_names(text) {
+        return named_bits(alloc, text);
+    }
+    Ok(NamedBits::none(alloc))
+}
+
+/// The globals whose initial bits are given by name.
+pub fn named<'a>(alloc: Global, arguments: &ArgMatches<'a>) -> Result<NamedBits<'a>, AllocError>
+    ensures { IfOk result (λ n. n ≡ named_in (rows_of (found_of arguments.now))) }
+{
+    match arguments.get_str("init") {
+        Some(text) => names_given(alloc, text),
+        None => Ok(NamedBits::none(alloc)),
+    }
+}
+
+/// The number of an option, of 32 bits, and the default where none is given.
+pub fn number(arguments: &ArgMatches<'_>, name: &str, default: u32) -> u32
+    ensures { IsNumberOf 32 default (one_of name.now (rows_of (found_of arguments.now))) result }
+{
+    arguments.get_one(name).unwrap_or(default)
+}
+
+/// The number of an option, of 64 bits, and the default where none is given.
+pub fn long_number(arguments: &ArgMatches<'_>, name: &str, default: u64) -> u64
+    ensures { IsNumberOf 64 default (one_of name.now (rows_of (found_of arguments.now))) result }
+{
+    arguments.get_one(name).unwrap_or(default)
+}
+
+/// The number of an option, of 32 bits, where one is given.
+pub fn given_number(arguments: &ArgMatches<'_>, name: &str) -> Option<u32>
+    ensures { IsNumberIn 32 (one_of name.now (rows_of (found_of arguments.now))) result }
+{
+    arguments.get_one(name)
+}
+
+/// The number of an option, of 64 bits, where one is given.
+pub fn given_long_number(arguments: &ArgMatches<'_>, name: &str) -> Option<u64>
+    ensures { IsNumberIn 64 (one_of name.now (rows_of (found_of arguments.now))) result }
+{
+    arguments.get_one(name)
+}
+
+pub fn is_given(arguments: &ArgMatches<'_>, name: &str) -> bool
+    ensures { IsFlagOf (one_of name.now (rows_of (found_of arguments.now))) result }
+{
+    arguments.get_flag(name)
+}
+
+/// Whether a text is bits, or gives names bits.
+fn is_init(text: &str) -> bool
+    ensures { result ≡ is_init text.now }
+{
+    if gives_names(text) {
+        return are_named_bits(text);
+    }
+    is_bits(text)
+}
+
+/// Whether the initial bits are neither bits nor names with bits.
+pub fn has_bad_init(arguments: &ArgMatches<'_>) -> bool
+    ensures { result ≡ has_bad_init (rows_of (found_of arguments.now)) }
+{
+    match arguments.get_str("init") {
+        Some(text) => !is_init(text),
+        None => false,
+    }
+}

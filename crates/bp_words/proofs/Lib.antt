@@ -1,9 +1,0 @@
-mod CommandShapes
-mod GivenArguments
-mod NoHelpEntered
-mod NoTaskKinds
-mod NumberGiven
-mod NumberTexts
-mod OptionsGiven
-mod PlainWords
-mod WordsFaults

@@ -1,9 +1,0 @@
-use Rattle.std.proofs.Common.{◌∙◌}
-use Rattle.clap.specs.Matches.{found_of}
-use Rattle.bp_words.proofs.OptionsGiven.{given_is}
-use Rattle.bp_words.proofs.misuses.is_in_words.Goals as goal
-
-pub returns : goal.returns
-returns c =
-    c.is_from_words.ensures
-    ∙ given_is (found_of c.args.words.now) c.args.option c.option_name.result.now c.value_source.result c.option_name.ensures c.value_source.ensures

@@ -1,6 +1,0 @@
-use Rattle.std.proofs.Common.{◌≡◌, drop, map, string_bytes}
-use Rattle.bp_words.specs.Usages.{asks_for_json}
-use Rattle.bp_words.proofs.usages.asks_for_json.Given as goal
-
-abbrev pub invariant-loop-word : goal.invariant-loop-word
-invariant-loop-word l = asks_for_json (map string_bytes (drop l.word-index l.words)) ≡ asks_for_json (map string_bytes l.words)
