@@ -100,6 +100,9 @@ impl CallFilter {
     pub fn calls_in_line(&self, history: &[Call], call: &Call, number: u64) -> usize
         ensures { result ≡ calls_at self.now history.now number call.now }
     {
+        if !self.folds {
+            return 1;
+        }
         let count = history.len() as u64;
         let earlier = calls_to(history, number.saturating_sub(1));
         let before = calls_from(earlier, self.skipped(count));
