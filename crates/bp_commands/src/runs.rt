@@ -79,17 +79,12 @@ pub fn run_on_program<'a, C: ProgramCommand, F: Files, W: Write + Drop, E: Write
         C.Answer.ending path.now in
         IsRun job before after result.0 }
 {
-    let Io {
-        alloc,
-        files,
-        format,
-    } = io;
     let Streams {
         output: mut out,
         mut errors,
     } = streams;
-    let mut program = InputFile::source(alloc, files, path);
-    let done = do_on_program(alloc, command, &mut program, &mut out);
+    let mut program = InputFile::source(io.alloc, io.files, path);
+    let done = do_on_program(io.alloc, command, &mut program, &mut out);
     let (done, output) = flushed(done, out);
     let unread = program.reader.unread();
     let given = Named {
@@ -98,7 +93,7 @@ pub fn run_on_program<'a, C: ProgramCommand, F: Files, W: Write + Drop, E: Write
     };
     let start = command.start();
     let hints = hints_on(given, unread, numbers_of(start), start);
-    let end = conclude(alloc, format, &given, &done, hints, &mut errors);
+    let end = conclude(io.alloc, io.format, &given, &done, hints, &mut errors);
     (end, Streams { output, errors })
 }
 
@@ -123,17 +118,12 @@ pub fn run_by_workers<
         let job = on_file (F.bytes io.entry.files.now) io.entry.format command of_run path.now in
         IsRun job before after result.0 }
 {
-    let Io {
-        alloc,
-        files,
-        format,
-    } = io;
     let Streams {
         output: mut out,
         mut errors,
     } = streams;
-    let mut program = InputFile::source(alloc, files, path);
-    let done = run_program(alloc, asked, &mut program, &mut out);
+    let mut program = InputFile::source(io.alloc, io.files, path);
+    let done = run_program(io.alloc, asked, &mut program, &mut out);
     let (done, output) = flushed(done, out);
     let unread = program.reader.unread();
     let given = Named {
@@ -144,7 +134,7 @@ pub fn run_by_workers<
     let start = &options.start;
     let start = Some(NamedStart { start, named });
     let hints = hints_on(given, unread, Some(Numbers::of_run(options)), start);
-    let end = conclude(alloc, format, &given, &done, hints, &mut errors);
+    let end = conclude(io.alloc, io.format, &given, &done, hints, &mut errors);
     (end, Streams { output, errors })
 }
 
@@ -164,18 +154,13 @@ pub fn run_on_pair<'a, C: PairCommand, F: Files, W: Write + Drop, E: Write + Dro
         C.Answer.ending (C.limit command.now) (C.beside command.now) path.now input_path.now in
         IsRun job before after result.0 }
 {
-    let Io {
-        alloc,
-        files,
-        format,
-    } = io;
     let Streams {
         output: mut out,
         mut errors,
     } = streams;
-    let mut program = InputFile::source(alloc, files, path);
-    let mut input = InputFile::source(alloc, files, input_path);
-    let done = do_on_pair(alloc, command, &mut program, &mut input, &mut out);
+    let mut program = InputFile::source(io.alloc, io.files, path);
+    let mut input = InputFile::source(io.alloc, io.files, input_path);
+    let done = do_on_pair(io.alloc, command, &mut program, &mut input, &mut out);
     let (done, output) = flushed(done, out);
     let unread = program.reader.unread().or(input.reader.unread());
     let given = NamedPair {
@@ -204,7 +189,7 @@ pub fn run_on_pair<'a, C: PairCommand, F: Files, W: Write + Drop, E: Write + Dro
             limit: command.limit(),
         }),
     };
-    let end = conclude(alloc, format, &given, &done, hints, &mut errors);
+    let end = conclude(io.alloc, io.format, &given, &done, hints, &mut errors);
     (end, Streams { output, errors })
 }
 
