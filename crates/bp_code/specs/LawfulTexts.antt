@@ -4,8 +4,8 @@ use Rattle.bp_tree.specs.Ast.{Program}
 use Rattle.bp_code.specs.Flat.{Flat}
 use Rattle.bp_code.specs.StandsFor.{StandsFor}
 use Rattle.bp_syntax.specs.Texts.{IsTextOf, IsRefusal as IsReadRefusal}
-use Rattle.bp_syntax.specs.Faults.{read_fault_number, read_fault_place}
-use Rattle.bp_check.specs.Faults.{IsLawful, check_fault_number, check_fault_place}
+use Rattle.bp_syntax.specs.Faults.{read_fault_place}
+use Rattle.bp_check.specs.Faults.{IsLawful, check_fault_place}
 use Rattle.bp_check.specs.Refusals.{IsRefusal}
 use Rattle.bp_code.specs.declared.texts.ProgramFault.{ProgramFault}
 use Rattle.bp_code.specs.declared.texts.ProgramFault.TheVariants.{Read, Check}
@@ -32,11 +32,6 @@ pub record IsProgramCode (text : List ℕ) (c : Flat) : Type 0 where
 abbrev pub IsCodeRefusal : List ℕ → CodeFault → Type 0
 IsCodeRefusal text (code.Program f) = IsProgramRefusal text f
 IsCodeRefusal text code.Memory = (t : Program) × IsLawfulText text t
-
--- the number by which users know the fault of a text
-abbrev pub program_fault_number : ProgramFault → ℕ
-program_fault_number (Read f) = read_fault_number f
-program_fault_number (Check f at) = check_fault_number f
 
 -- the byte of the text that the fault names; refused memory names none
 abbrev pub program_fault_place : ProgramFault → Option ℕ

@@ -19,32 +19,6 @@ pub enum ProgramFault {
     Check(CheckFault, u32),
 }
 
-impl ProgramFault {
-    ghost use Rattle.std.specs.Prelude.{◌≡◌};
-    ghost use Rattle.bp_code.specs.LawfulTexts.{program_fault_number, program_fault_place};
-
-    /// The number that users know the fault by.
-    pub fn number(&self) -> u32
-        ensures { result ≡ program_fault_number self.now }
-    {
-        match self {
-            ProgramFault::Read(fault) => fault.number(),
-            ProgramFault::Check(fault, _) => fault.number(),
-        }
-    }
-
-    /// The byte that the fault names, where it names one. Refused memory names none.
-    pub fn place(&self) -> Option<u32>
-        ensures { result ≡ program_fault_place self.now }
-    {
-        match self {
-            ProgramFault::Read(fault) => fault.place(),
-            ProgramFault::Check(CheckFault::Memory, _) => None,
-            ProgramFault::Check(_, at) => Some(*at),
-        }
-    }
-}
-
 impl fmt::Display for ProgramFault {
     fn fmt<W: fmt::Write>(&self, f: &mut fmt::Formatter<W>) -> fmt::Result {
         match self {

@@ -15,15 +15,6 @@ use Rattle.bp_machine.specs.Answers.{stack_of, Answers}
 use Rattle.bp_machine.specs.Histories.{configuration_after, granted_threads, calls_of_thread, is_finished, IsAllowed}
 use Rattle.bp_machine.specs.States.{MachineOf, StandsAfter}
 
--- the number of a fault
-abbrev pub ask_fault_number : AskFault → ℕ
-ask_fault_number NoThread = 36
-ask_fault_number Finished = 37
-ask_fault_number Seeded = 38
-ask_fault_number Unseeded = 39
-ask_fault_number Memory = 7
-ask_fault_number Busy = 40
-
 -- a session without memory: its machine, the choices of each thread where the setup has a seed, and
 -- the call that it is ready for, where it is prepared for one
 pub record SessionOf : Type 0 where

@@ -103,18 +103,3 @@ pub record IsInRange (s : SetupOf) : Type 0 where
   pub contexts : s.contexts ≤ MAX_CONTEXTS
   pub one : 0 < s.calls
   pub calls : s.calls ≤ MAX_CALLS
-
--- the number of a fault
-abbrev pub setup_fault_number : SetupFault → ℕ
-setup_fault_number Threads = 31
-setup_fault_number (UnknownEntry k) = 32
-setup_fault_number (EntryHasFormals k) = 33
-setup_fault_number InitLength = 34
-setup_fault_number OutOfRange = 35
-setup_fault_number Memory = 7
-
--- the thread that a fault names
-abbrev pub setup_fault_place : SetupFault → Option ℕ
-setup_fault_place (UnknownEntry k) = Some k
-setup_fault_place (EntryHasFormals k) = Some k
-setup_fault_place f = None

@@ -1,5 +1,4 @@
 //! Why a call is refused.
-ghost use Rattle.std.specs.Prelude.{◌≡◌};
 
 use std::alloc::AllocError;
 use thiserror::Error;
@@ -26,24 +25,6 @@ pub enum AskFault {
     /// The ring to which calls are sent is full. No session answers this; a desk does.
     #[error("the ring is full")]
     Busy,
-}
-
-impl AskFault {
-    ghost use Rattle.bp_machine.specs.Sessions.{ask_fault_number};
-
-    /// The number that users know the fault by.
-    pub fn number(&self) -> u32
-        ensures { result ≡ ask_fault_number self.now }
-    {
-        match self {
-            AskFault::NoThread => 36,
-            AskFault::Finished => 37,
-            AskFault::Seeded => 38,
-            AskFault::Unseeded => 39,
-            AskFault::Memory => 7,
-            AskFault::Busy => 40,
-        }
-    }
 }
 
 impl From<AllocError> for AskFault {

@@ -4,7 +4,7 @@ ghost use Rattle.bp_tree.specs.Ast.{Program};
 ghost use Rattle.bp_code.specs.Configurations.{procedure_named};
 ghost use Rattle.bp_code.specs.StandsFor.{StandsFor};
 ghost use Rattle.bp_machine.specs.declared.limits.TheConstants.{MAX_THREADS};
-ghost use Rattle.bp_machine.specs.Setups.{setup_of, entries_fault, entry_fault, first_of, number_faults, setup_fault, setup_fault_number, setup_fault_place};
+ghost use Rattle.bp_machine.specs.Setups.{setup_of, entries_fault, entry_fault, first_of, number_faults, setup_fault};
 
 use crate::limits::{MAX_CALLS, MAX_CONTEXTS, MAX_THREADS};
 use bp_code::Code;
@@ -32,32 +32,6 @@ pub enum SetupFault {
     /// There was not enough memory.
     #[error("out of memory")]
     Memory,
-}
-
-impl SetupFault {
-    /// The number that users know the fault by.
-    pub fn number(&self) -> u32
-        ensures { result ≡ setup_fault_number self.now }
-    {
-        match self {
-            SetupFault::Threads => 31,
-            SetupFault::UnknownEntry(_) => 32,
-            SetupFault::EntryHasFormals(_) => 33,
-            SetupFault::InitLength => 34,
-            SetupFault::OutOfRange => 35,
-            SetupFault::Memory => 7,
-        }
-    }
-
-    /// The thread that the fault names, where it names one.
-    pub fn place(&self) -> Option<u32>
-        ensures { result ≡ setup_fault_place self.now }
-    {
-        match self {
-            SetupFault::UnknownEntry(thread) | SetupFault::EntryHasFormals(thread) => Some(*thread),
-            _ => None,
-        }
-    }
 }
 
 /// The fault of the entry of a thread.

@@ -29,37 +29,6 @@ pub enum RunFault {
     Memory,
 }
 
-impl RunFault {
-    ghost use Rattle.std.specs.Prelude.{◌≡◌};
-    ghost use Rattle.bp_run.specs.Faults.{run_fault_number, run_fault_place};
-
-    /// The number that users know the fault by.
-    pub fn number(&self) -> u32
-        ensures { result ≡ run_fault_number self.now }
-    {
-        match self {
-            RunFault::Program(fault) => fault.number(),
-            RunFault::Setup(fault) => fault.number(),
-            RunFault::Start => 53,
-            RunFault::Early(_) => 55,
-            RunFault::Write => 51,
-            RunFault::Memory => 7,
-        }
-    }
-
-    /// The byte of the text, or the thread, that the fault names, where it names one.
-    pub fn place(&self) -> Option<u32>
-        ensures { result ≡ run_fault_place self.now }
-    {
-        match self {
-            RunFault::Program(fault) => fault.place(),
-            RunFault::Setup(fault) => fault.place(),
-            RunFault::Early(thread) => Some(*thread),
-            RunFault::Start | RunFault::Write | RunFault::Memory => None,
-        }
-    }
-}
-
 impl From<AllocError> for RunFault {
     ghost use Rattle.std.specs.Prelude.{◌≡◌};
     ghost use Rattle.bp_run.specs.declared.run_faults.RunFault.{RunFault};

@@ -27,11 +27,6 @@ use Rattle.bp_test.specs.Resting.{IsOver}
 use Rattle.bp_test.specs.Tallies.{MadeRun, made, IsTally}
 use Rattle.bp_test.specs.Waits.{AreWaiting}
 
--- the number of a fault
-abbrev pub test_fault_number : TestFault → ℕ
-test_fault_number fault.Memory = 7
-test_fault_number fault.Write = 51
-
 -- the setup of run r, from 0: its seed is the r-th after the first one, modulo 2 ^ 64
 abbrev pub setup_of_run : SetupOf → ℕ → ℕ → SetupOf
 setup_of_run s seed r = record s { seed = Some ((seed + r) % 2 ^ 64) }

@@ -14,21 +14,6 @@ pub enum TestFault {
     Write,
 }
 
-impl TestFault {
-    ghost use Rattle.std.specs.Prelude.{◌≡◌};
-    ghost use Rattle.bp_test.specs.Tests.{test_fault_number};
-
-    /// The number that users know the fault by.
-    pub fn number(&self) -> u32
-        ensures { result ≡ test_fault_number self.now }
-    {
-        match self {
-            TestFault::Memory => 7,
-            TestFault::Write => 51,
-        }
-    }
-}
-
 impl From<AllocError> for TestFault {
     ghost use Rattle.std.specs.Prelude.{◌≡◌};
     ghost use Rattle.bp_test.specs.declared.faults.TestFault.{TestFault};

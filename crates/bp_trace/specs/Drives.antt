@@ -1,5 +1,5 @@
 -- What a schedule drives a program to.
-use Rattle.std.specs.Prelude.{◌≡◌, ◌≢◌, ℕ, ◌+◌, ◌<◌, ◌≤◌, true, List, [], ◌++◌, Option, None, Some, length}
+use Rattle.std.specs.Prelude.{◌≡◌, ◌≢◌, ℕ, ◌+◌, ◌<◌, ◌≤◌, true, List, [], ◌++◌, Option, length}
 use Rattle.bp_text.specs.Writing.{AppendsAll, AppendsPart}
 use Rattle.bp_tree.specs.Ast.{Program}
 use Rattle.bp_machine.specs.declared.calls.Call.{Call}
@@ -13,20 +13,6 @@ use Rattle.bp_trace.specs.declared.limits.TheConstants.{MAX_SCHEDULE}
 use Rattle.bp_trace.specs.declared.schedules.ScheduleLine.{ScheduleLine}
 use Rattle.bp_trace.specs.Schedules.{schedule_text, lines_of_history, IsLineAt, HasNoLine}
 use Rattle.bp_trace.specs.TraceText.{trace_text}
-
--- the number of a fault
-abbrev pub drive_fault_number : DriveFault → ℕ
-drive_fault_number TooLong = 48
-drive_fault_number (Line n) = 42
-drive_fault_number (AfterFinish n) = 47
-drive_fault_number Memory = 7
-drive_fault_number Write = 51
-
--- the line of the schedule that a fault names
-abbrev pub drive_fault_place : DriveFault → Option ℕ
-drive_fault_place (Line n) = Some n
-drive_fault_place (AfterFinish n) = Some n
-drive_fault_place f = None
 
 -- a legal history makes the calls of the lines before the n-th, which begins the rest
 pub record DrivesUpTo

@@ -9,7 +9,6 @@ pub mod LinePlays
 pub mod Migrations
 pub mod OwnCalls
 pub mod Pieces
-pub mod ReplayFaults
 pub mod Replayed
 pub mod Replays
 pub mod ScheduleReading

@@ -1,33 +1,16 @@
 -- What a text is migrated to.
-use Rattle.std.specs.Prelude.{◌≡◌, ℕ, List, Option, None}
+use Rattle.std.specs.Prelude.{◌≡◌, ℕ, List, Option}
 use Rattle.bp_text.specs.Writing.{AppendsAll, AppendsPart}
 use Rattle.bp_tree.specs.Ast.{Program}
 use Rattle.bp_machine.specs.declared.calls.Call.{Call}
-use Rattle.bp_machine.specs.declared.calls.Reply.{Reply}
 use Rattle.bp_machine.specs.declared.reports.Report.{Report}
 use Rattle.bp_machine.specs.Reports.{IsReport}
 use Rattle.bp_machine.specs.Setups.{SetupOf}
 use Rattle.bp_trace.specs.declared.migrate_faults.MigrateFault.{MigrateFault}
 use Rattle.bp_trace.specs.declared.migrate_faults.MigrateFault.TheVariants as fault
 use Rattle.bp_trace.specs.declared.versions.Version.{Version}
-use Rattle.bp_trace.specs.ReplayFaults.{replay_fault_number, replay_fault_place, wanted_reply}
 use Rattle.bp_trace.specs.Replays.{IsTrace, IsReplayRefusal}
 use Rattle.bp_trace.specs.TraceText.{trace_text_2}
-
--- the number of a fault
-abbrev pub migrate_fault_number : MigrateFault → ℕ
-migrate_fault_number (fault.Replay f) = replay_fault_number f
-migrate_fault_number fault.Write = 51
-
--- the line of the trace, or the thread of the setup, that a fault names
-abbrev pub migrate_fault_place : MigrateFault → Option ℕ
-migrate_fault_place (fault.Replay f) = replay_fault_place f
-migrate_fault_place fault.Write = None
-
--- the reply that was wanted
-abbrev pub migrate_wanted : MigrateFault → Option Reply
-migrate_wanted (fault.Replay f) = wanted_reply f
-migrate_wanted fault.Write = None
 
 -- the bytes of the writer before and after a call
 module _ (t : Program) (text : List ℕ) (old new : Option (List ℕ)) where

@@ -24,34 +24,6 @@ pub enum DriveFault {
     Write,
 }
 
-impl DriveFault {
-    ghost use Rattle.std.specs.Prelude.{◌≡◌};
-    ghost use Rattle.bp_trace.specs.Drives.{drive_fault_number, drive_fault_place};
-
-    /// The number that users know the fault by.
-    pub fn number(&self) -> u32
-        ensures { result ≡ drive_fault_number self.now }
-    {
-        match self {
-            DriveFault::TooLong => 48,
-            DriveFault::Line(_) => 42,
-            DriveFault::AfterFinish(_) => 47,
-            DriveFault::Memory => 7,
-            DriveFault::Write => 51,
-        }
-    }
-
-    /// The line of the schedule that the fault names, where it names one.
-    pub fn place(&self) -> Option<u32>
-        ensures { result ≡ drive_fault_place self.now }
-    {
-        match self {
-            DriveFault::Line(line) | DriveFault::AfterFinish(line) => Some(*line),
-            _ => None,
-        }
-    }
-}
-
 impl From<AllocError> for DriveFault {
     ghost use Rattle.std.specs.Prelude.{◌≡◌};
     ghost use Rattle.bp_trace.specs.declared.faults.DriveFault.{DriveFault};

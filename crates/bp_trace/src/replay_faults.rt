@@ -1,6 +1,6 @@
 //! Why a text is no trace.
 
-use bp_machine::{Call, Reply, SetupFault};
+use bp_machine::{Call, SetupFault};
 use std::alloc::AllocError;
 use thiserror::Error;
 
@@ -55,54 +55,6 @@ pub enum ReplayFault {
     /// There was not enough memory.
     #[error("out of memory")]
     Memory,
-}
-
-impl ReplayFault {
-    ghost use Rattle.std.specs.Prelude.{◌≡◌};
-    ghost use Rattle.bp_trace.specs.ReplayFaults.{replay_fault_number, replay_fault_place, wanted_reply};
-
-    /// The number that users know the fault by.
-    pub fn number(&self) -> u32
-        ensures { result ≡ replay_fault_number self.now }
-    {
-        match self {
-            ReplayFault::TooLong => 48,
-            ReplayFault::Head(_) => 41,
-            ReplayFault::Setup(fault) => fault.number(),
-            ReplayFault::Line(_) => 42,
-            ReplayFault::AfterFinish(_, _) => 47,
-            ReplayFault::Bit(_, _) => 43,
-            ReplayFault::Reply(_, _) => 44,
-            ReplayFault::NoEnd(_) => 45,
-            ReplayFault::EndCount(_, _) => 46,
-            ReplayFault::Memory => 7,
-        }
-    }
-
-    /// The line of the trace, or the thread of the setup, that the fault names, where it names one.
-    pub fn place(&self) -> Option<u32>
-        ensures { result ≡ replay_fault_place self.now }
-    {
-        match self {
-            ReplayFault::Head(line)
-            | ReplayFault::Line(line)
-            | ReplayFault::AfterFinish(line, _)
-            | ReplayFault::Bit(line, _)
-            | ReplayFault::Reply(line, _) => Some(*line),
-            ReplayFault::Setup(fault) => fault.place(),
-            _ => None,
-        }
-    }
-
-    /// The reply that was wanted, where the fault is that of a reply.
-    pub fn wanted(&self) -> Option<Reply>
-        ensures { result ≡ wanted_reply self.now }
-    {
-        match self {
-            ReplayFault::Reply(_, due) => Some(due.call.reply),
-            _ => None,
-        }
-    }
 }
 
 impl From<AllocError> for ReplayFault {

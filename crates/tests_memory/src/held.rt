@@ -1,8 +1,11 @@
 //! A run in which one worker alone takes frames, after the others were started. Where it is refused
 //! one, the others end, and its line stays open after the calls that it made.
 use super::ready::{begin, tell, wants};
-use bp_machine::{Outcome, Reply, Report, Start};
+use bp_check::CheckFault;
+use bp_code::ProgramFault;
+use bp_machine::{Outcome, Reply, Report, SetupFault, Start};
 use bp_run::{Gate, RunFault, RunOptions, RunReport, WorkerCount, run};
+use bp_syntax::ReadFault;
 use bp_trace::replay;
 use std::alloc::{AllocError, Global};
 use std::rt::Runtime;
@@ -127,6 +130,18 @@ fn is_replayed(alloc: Global, trace: &[u8], report: Report) -> Result<bool, Fail
     Ok(replayed.report == report)
 }
 
+/// Whether a run was refused memory, or a worker that needs it was not started.
+fn is_for_want_of_memory(fault: &RunFault) -> bool {
+    matches!(
+        fault,
+        RunFault::Program(
+            ProgramFault::Read(ReadFault::Memory) | ProgramFault::Check(CheckFault::Memory, _)
+        ) | RunFault::Setup(SetupFault::Memory)
+            | RunFault::Start
+            | RunFault::Memory
+    )
+}
+
 /// Looks at what a run came to, where the line that tells of a refused worker was written: the run
 /// itself may be refused, and has then written nothing.
 fn looks(
@@ -141,7 +156,7 @@ fn looks(
             wants(gate.answered() == Some(own) && is_right(done, own))?;
             wants(is_replayed(alloc, trace, done.report)?)
         }
-        Err(fault) => wants(matches!(fault.number(), 7 | 53) && trace.is_empty()),
+        Err(fault) => wants(is_for_want_of_memory(fault) && trace.is_empty()),
     }
 }
 
