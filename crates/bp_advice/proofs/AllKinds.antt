@@ -42,14 +42,18 @@ module _ (front : List ℕ) (kinds : List TokenKind) (n : ℕ) (token : List ℕ
     pub offered : MayFollow front token → new ≡ kinds ++ next ∷ [] → AreTried front new (n + 1)
     offered follows is = subst (λ ks. AreTried front ks (n + 1)) (sym is) (record {
       only = All-push (MayFollowAs front) kinds next before.only (record { token = token; real = real; follows = follows });
-      tried = below_more (λ i. IsTried front (kinds ++ next ∷ []) (get_or TOKEN_KINDS i kind.Name)) n (λ i less. tried_still front kinds next (get_or TOKEN_KINDS i kind.Name) (before.tried i less))
+      tried =
+          below_more (λ i. IsTried front (kinds ++ next ∷ []) (get_or TOKEN_KINDS i kind.Name)) n
+          (λ i less. tried_still front kinds next (get_or TOKEN_KINDS i kind.Name) (before.tried i less))
           (record { token = token; real = real; tried = λ f. Contains-push kinds next });
     })
 
     pub left_out : (MayFollow front token → ⊥) → new ≡ kinds → AreTried front new (n + 1)
     left_out never is = subst (λ ks. AreTried front ks (n + 1)) (sym is) (record {
       only = before.only;
-      tried = below_more (λ i. IsTried front kinds (get_or TOKEN_KINDS i kind.Name)) n before.tried (record { token = token; real = real; tried = λ f. absurd (never f) });
+      tried =
+          below_more (λ i. IsTried front kinds (get_or TOKEN_KINDS i kind.Name)) n before.tried
+          (record { token = token; real = real; tried = λ f. absurd (never f) });
     })
 
 -- the place of a kind among all kinds

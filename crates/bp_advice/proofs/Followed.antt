@@ -9,7 +9,8 @@ use Rattle.bp_syntax.specs.declared.faults.ReadFault.TheVariants.{Syntax, Memory
 use Rattle.bp_advice.specs.Followers.{IsProgram, BeginsProgram}
 
 -- a fault of the text that is not of memory
-module _ (text : List ℕ) (e : ReadFault) (refused : IsRefusal text e) (is_memory : Bool) (means : IsTrue is_memory ↔ (e ≡ Memory)) (other : is_memory ≡ false) where
+module _ (text : List ℕ) (e : ReadFault) (refused : IsRefusal text e) (is_memory : Bool)
+    (means : IsTrue is_memory ↔ (e ≡ Memory)) (other : is_memory ≡ false) where
   differs : e ≢ Memory
   differs m = false≢true (sym other ∙ means.1 m)
 
@@ -22,5 +23,9 @@ module _ (text : List ℕ) (e : ReadFault) (refused : IsRefusal text e) (is_memo
   pub front_of_program : OneRefusal → NoRefusalOfPrograms → (early : Bool) → (IsTrue early ↔ (e ≡ Syntax (length text))) → IsTrue early ↔ BeginsProgram text
   front_of_program one none early is = (
     (λ t. inr (subst (IsRefusal text) (is.0 t) refused)),
-    λ b. elim b [ inl p ↦ absurd (differs (none text p.program e p.derived refused)) | inr r ↦ is.1 (one text e (Syntax (length text)) differs (syntax_differs (length text)) refused r) ],
+    λ b.
+        elim b [
+          | inl p ↦ absurd (differs (none text p.program e p.derived refused))
+          | inr r ↦ is.1 (one text e (Syntax (length text)) differs (syntax_differs (length text)) refused r)
+        ],
   )

@@ -28,12 +28,24 @@ module _ (text bytes rest : List ℕ) (gaps : HasOnlyGaps rest) where
   after_white : TakesLexeme text (Some White) bytes rest → HasOnlyGaps text
   after_white taken at =
       let more = gaps (at + taken.size) in
-      record { lexemes = lexeme_of (Some White) at bytes ∷ more.lexemes; cut = taken.cut at more.lexemes more.cut; good = more.good; closed = more.closed; tokens = more.tokens }
+      record {
+        lexemes = lexeme_of (Some White) at bytes ∷ more.lexemes;
+        cut = taken.cut at more.lexemes more.cut;
+        good = more.good;
+        closed = more.closed;
+        tokens = more.tokens;
+      }
 
   after_comment : TakesLexeme text (Some Comment) bytes rest → HasOnlyGaps text
   after_comment taken at =
       let more = gaps (at + taken.size) in
-      record { lexemes = lexeme_of (Some Comment) at bytes ∷ more.lexemes; cut = taken.cut at more.lexemes more.cut; good = more.good; closed = more.closed; tokens = more.tokens }
+      record {
+        lexemes = lexeme_of (Some Comment) at bytes ∷ more.lexemes;
+        cut = taken.cut at more.lexemes more.cut;
+        good = more.good;
+        closed = more.closed;
+        tokens = more.tokens;
+      }
 
   pub after_gap : (kind : Option LexemeKind) → TakesLexeme text kind bytes rest → (kind ≡ Some White) ⊎ (kind ≡ Some Comment) → HasOnlyGaps text
   after_gap kind taken (inl is) = after_white (subst (λ k. TakesLexeme text k bytes rest) is taken)

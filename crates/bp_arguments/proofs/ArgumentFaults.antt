@@ -30,18 +30,23 @@ module _ (command : Command) (arguments : List Text) (is : app_of command ≡ bt
   pub named : (m : ArgMatches) → HasMatchesOf (app_of command) arguments m → subcommand_rows_of m ≡ subcommand_of btrun_app arguments
   named m matches = (matches (ap is_simple is ∙ refl)).1 ∙ ap (λ a. subcommand_of a arguments) is
 
-  pub refused : (e : Error) → (is_simple_and_free (app_of command) ≡ true → HasKind (fault_of (app_of command) arguments) e) → HasKind (arguments_fault arguments) e
+  pub refused : (e : Error)
+      → (is_simple_and_free (app_of command) ≡ true → HasKind (fault_of (app_of command) arguments) e)
+      → HasKind (arguments_fault arguments) e
   refused e kinds =
       either_kind (fault_of btrun_app arguments) _ e (subst (λ a. HasKind (fault_of a arguments) e) is (kinds (ap is_simple_and_free is ∙ is_exact)))
 
   -- arguments without a fault are refused for want of memory alone
-  pub refused_for_memory : (e : Error) → (is_simple_and_free (app_of command) ≡ true → HasKind (fault_of (app_of command) arguments) e) → arguments_fault arguments ≡ [] → kind_of e ≡ OutOfMemory
+  pub refused_for_memory : (e : Error)
+      → (is_simple_and_free (app_of command) ≡ true → HasKind (fault_of (app_of command) arguments) e)
+      → arguments_fault arguments ≡ [] → kind_of e ≡ OutOfMemory
   refused_for_memory e kinds none = only_memory (arguments_fault arguments) e none (refused e kinds)
 
 abbrev kinds_of : Option Misuse → Kinds
 kinds_of m = option_map_or (λ m. misuse_kind m ∷ []) m []
 
-module _ (arguments : List Text) (command : Option (Text × List Row)) (clean : fault_of btrun_app arguments ≡ []) (is : command ≡ subcommand_of btrun_app arguments) where
+module _ (arguments : List Text) (command : Option (Text × List Row)) (clean : fault_of btrun_app arguments ≡ [])
+    (is : command ≡ subcommand_of btrun_app arguments) where
   pub faulty : arguments_fault arguments ≡ kinds_of (misuse_of command)
   faulty = ap₂ (λ f c. or_else f (misuse_fault c)) clean (sym is)
 

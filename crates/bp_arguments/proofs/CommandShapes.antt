@@ -11,11 +11,13 @@ use Rattle.clap.specs.declared.builder.command.Command.TheViews.{out-Command}
 abbrev pub HasShape : App → Command → Type 0
 HasShape app c = (app_of c ≡ app) × ((out-Command c).has_globals ≡ false)
 
-pub with_argument : (old new : Command) (a : Arg) (app : App) (r : Rule) → HasShape app old → (rule_of a ≡ r) × (a.global ≡ false) → AddsArg old a new → HasShape (with_rule app r) new
+pub with_argument : (old new : Command) (a : Arg) (app : App) (r : Rule) → HasShape app old
+    → (rule_of a ≡ r) × (a.global ≡ false) → AddsArg old a new → HasShape (with_rule app r) new
 with_argument old new a app r has is adds =
     (adds.shape is.1 ∙ (ap (λ x. with_rule x (rule_of a)) has.0 ∙ ap (with_rule app) is.0), adds.globals ∙ (rw (has.1, is.1) refl))
 
-pub with_command : (old new sub : Command) (app below : App) → app_of old ≡ app → HasShape below sub → AddsSubcommand old sub new → app_of new ≡ with_subcommand app below.top
+pub with_command : (old new sub : Command) (app below : App) → app_of old ≡ app → HasShape below sub
+    → AddsSubcommand old sub new → app_of new ≡ with_subcommand app below.top
 with_command old new sub app below is has adds =
     adds.shape has.1 ∙ (ap (λ x. with_subcommand x (shape_of sub)) is ∙ ap (λ x. with_subcommand app x.top) has.0)
 

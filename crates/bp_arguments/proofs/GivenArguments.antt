@@ -2,7 +2,8 @@
 use Rattle.std.proofs.Common.{◌≡◌, refl, codes, map, option_map, unwrap_or, List, [], ◌∷◌, Bor, Option, Some, None}
 use Rattle.clap.specs.Walk.{Text}
 
-read_or : (given : Option (Bor Text)) (first : Option Text) (r d : Bor Text) → option_map (λ s. s.now) given ≡ first → r ≡ unwrap_or given d → d.now ≡ [] → r.now ≡ unwrap_or first []
+read_or : (given : Option (Bor Text)) (first : Option Text) (r d : Bor Text) → option_map (λ s. s.now) given ≡ first
+    → r ≡ unwrap_or given d → d.now ≡ [] → r.now ≡ unwrap_or first []
 read_or None first r d same is empty = rw (is, ← same) empty
 read_or (Some p) first r d same is empty = rw (is, ← same) refl
 

@@ -86,14 +86,18 @@ module _ (s : Shape) (enabled : s.disable_help_subcommand ≡ false) (names : Na
   walked_fine w word before e = by_stop w.stopped before e
     where
       by_stop : (o : Option (Text × List Text)) → NoHelp o
-          → cond (is_some o) [] (or_else (word_fault s names w.is_trailing w.waiting word w.held) (step_fault s w.position (word_met s.rules names w.is_trailing w.waiting w.position word w.held).0 (word_met s.rules names w.is_trailing w.waiting w.position word w.held).1)) ≡ []
+          → cond (is_some o) [] (or_else (word_fault s names w.is_trailing w.waiting word w.held)
+          (step_fault s w.position (word_met s.rules names w.is_trailing w.waiting w.position word w.held).0
+          (word_met s.rules names w.is_trailing w.waiting w.position word w.held).1)) ≡ []
           → NoHelp (walked_from s.rules names o w word).stopped
       by_stop (Some p) fine e = fine
       by_stop None fine e =
-          after_fine word w (word_met s.rules names w.is_trailing w.waiting w.position word w.held).0 (word_met s.rules names w.is_trailing w.waiting w.position word w.held).1 before
+          after_fine word w (word_met s.rules names w.is_trailing w.waiting w.position word w.held).0
+          (word_met s.rules names w.is_trailing w.waiting w.position word w.held).1 before
           (word_fine w.is_trailing w.waiting w.position word w.held (or_left _ _ e))
 
-  all_fine : (arguments : List Text) (w : Walk) → NoHelp w.stopped → walk_fault s names w arguments ≡ [] → NoHelp (fold (walked s.rules names) w arguments).stopped
+  all_fine : (arguments : List Text) (w : Walk) → NoHelp w.stopped → walk_fault s names w arguments ≡ []
+      → NoHelp (fold (walked s.rules names) w arguments).stopped
   unfolding walk_fault
   all_fine [] w before e = before
   all_fine (word ∷ rest) w before e =

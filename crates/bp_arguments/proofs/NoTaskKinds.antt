@@ -16,7 +16,8 @@ pub of_memory : (k : ErrorKind) (none : NoTask) → k ≡ OutOfMemory → (none 
 of_memory k none is (inl memory) = memory
 of_memory k none is (inr of) = subst (λ y. IsOfKind y none) is of
 
-pub of_kinds : (kinds : Kinds) (k : ErrorKind) (none : NoTask) → (k ≡ OutOfMemory) ⊎ IsAmong k kinds → (none ≡ Memory) ⊎ IsOfKind k none → (none ≡ Memory) ⊎ IsOfOne kinds none
+pub of_kinds : (kinds : Kinds) (k : ErrorKind) (none : NoTask) → (k ≡ OutOfMemory) ⊎ IsAmong k kinds
+    → (none ≡ Memory) ⊎ IsOfKind k none → (none ≡ Memory) ⊎ IsOfOne kinds none
 of_kinds kinds k none (inl memory) of = inl (of_memory k none memory of)
 of_kinds kinds k none (inr is) (inl memory) = inl memory
 of_kinds kinds k none (inr is) (inr of) = inr (of_one kinds k none is of)

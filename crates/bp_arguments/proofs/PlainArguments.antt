@@ -27,7 +27,8 @@ use Rattle.bp_arguments.specs.declared.commands.Task.{Task}
 use Rattle.bp_arguments.specs.declared.commands.Task.TheVariants.{Bundle, Check, Code, Drive, Confirm, Run, Test, Replay, Show, Migrate, Shrink}
 
 -- arguments that `clap` takes have no fault where the command's options have none
-no_fault : (arguments : List Text) (command : Option (Text × List Row)) → fault_of btrun_app arguments ≡ [] → subcommand_of btrun_app arguments ≡ command → misuse_fault command ≡ [] → arguments_fault arguments ≡ []
+no_fault : (arguments : List Text) (command : Option (Text × List Row)) → fault_of btrun_app arguments ≡ []
+    → subcommand_of btrun_app arguments ≡ command → misuse_fault command ≡ [] → arguments_fault arguments ≡ []
 no_fault arguments command clean named fine = ap₂ (λ f c. or_else f (misuse_fault c)) clean named ∙ fine
 
 none_clean : (program : Text) → fault_of btrun_app (program ∷ []) ≡ []
@@ -180,7 +181,8 @@ check_of file (Show arguments) asks = absurd (check≢show asks.0)
 check_of file (Migrate arguments) asks = absurd (check≢migrate asks.0)
 check_of file (Shrink arguments) asks = absurd (differ (codes "check") (codes "shrink") refl asks.0)
 
-check_asked : (program file : Text) (task : Task) → is_plain file ≡ true → IsTaskOf (subcommand_of btrun_app (check_arguments program file)) task → IsCheckOf file task
+check_asked : (program file : Text) (task : Task) → is_plain file ≡ true
+    → IsTaskOf (subcommand_of btrun_app (check_arguments program file)) task → IsCheckOf file task
 check_asked program file task plain asks = check_of file task (subst (λ c. IsTaskOf c task) (check_named program file (is_word file plain)) asks)
 
 abbrev code_arguments : Text → Text → List Text
@@ -201,7 +203,12 @@ code_faulty program file plain =
 
 code_of : (file : Text) (task : Task) → IsTaskOf (Some (codes "code", code_row file)) task → IsCodeOf file task
 code_of file Bundle asks = absurd asks
-code_of file (Code arguments) (named, of) = (of.program, of.source.1 refl, of.json.1 refl, unasked arguments.explain (of.explain.always.1 refl) (of.explain.never.1 refl))
+code_of file (Code arguments) (named, of) = (
+  of.program,
+  of.source.1 refl,
+  of.json.1 refl,
+  unasked arguments.explain (of.explain.always.1 refl) (of.explain.never.1 refl),
+)
 code_of file (Check arguments) asks = absurd (check≢code (sym asks.0))
 code_of file (Drive arguments) asks = absurd (code≢drive asks.0)
 code_of file (Confirm arguments) asks = absurd (differ (codes "code") (codes "confirm") refl asks.0)
@@ -212,7 +219,8 @@ code_of file (Show arguments) asks = absurd (code≢show asks.0)
 code_of file (Migrate arguments) asks = absurd (code≢migrate asks.0)
 code_of file (Shrink arguments) asks = absurd (differ (codes "code") (codes "shrink") refl asks.0)
 
-code_asked : (program file : Text) (task : Task) → is_plain file ≡ true → IsTaskOf (subcommand_of btrun_app (code_arguments program file)) task → IsCodeOf file task
+code_asked : (program file : Text) (task : Task) → is_plain file ≡ true
+    → IsTaskOf (subcommand_of btrun_app (code_arguments program file)) task → IsCodeOf file task
 code_asked program file task plain asks = code_of file task (subst (λ c. IsTaskOf c task) (code_named program file (is_word file plain)) asks)
 
 abbrev drive_arguments : Text → Text → Text → List Text
@@ -221,19 +229,23 @@ drive_arguments program file schedule = program ∷ codes "drive" ∷ file ∷ s
 abbrev both_rows : Text → Text → List Row
 both_rows file schedule = given (codes "FILE") file ∷ given (codes "SCHEDULE") schedule ∷ down (codes "explain") ∷ down (codes "no-explain") ∷ []
 
-drive_named : (program file schedule : Text) → IsWord file → IsWord schedule → subcommand_of btrun_app (drive_arguments program file schedule) ≡ Some (codes "drive", both_rows file schedule)
+drive_named : (program file schedule : Text) → IsWord file → IsWord schedule
+    → subcommand_of btrun_app (drive_arguments program file schedule) ≡ Some (codes "drive", both_rows file schedule)
 unfolding clap_on_literals
-drive_named program file schedule (no_end, no_long, no_short) (none_ends, none_long, none_short) = rw (no_end, no_long, no_short, none_ends, none_long, none_short) refl
+drive_named program file schedule (no_end, no_long, no_short) (none_ends, none_long, none_short) =
+    rw (no_end, no_long, no_short, none_ends, none_long, none_short) refl
 
 drive_clean : (program file schedule : Text) → IsWord file → IsWord schedule → fault_of btrun_app (drive_arguments program file schedule) ≡ []
 unfolding clap_on_literals
-drive_clean program file schedule (no_end, no_long, no_short) (none_ends, none_long, none_short) = rw (no_end, no_long, no_short, none_ends, none_long, none_short) refl
+drive_clean program file schedule (no_end, no_long, no_short) (none_ends, none_long, none_short) =
+    rw (no_end, no_long, no_short, none_ends, none_long, none_short) refl
 
 drive_faulty : (program file schedule : Text) → is_plain file ≡ true → is_plain schedule ≡ true → arguments_fault (drive_arguments program file schedule) ≡ []
 drive_faulty program file schedule plain even =
     let word = is_word file plain in
     let other = is_word schedule even in
-    no_fault (drive_arguments program file schedule) (Some (codes "drive", both_rows file schedule)) (drive_clean program file schedule word other) (drive_named program file schedule word other) refl
+    no_fault (drive_arguments program file schedule) (Some (codes "drive", both_rows file schedule))
+    (drive_clean program file schedule word other) (drive_named program file schedule word other) refl
 
 start_is : (o : StartOf) → o.entries ≡ codes "main" ∷ [] → o.init ≡ None → o.contexts ≡ DEFAULT_CONTEXTS → o.calls ≡ DEFAULT_CALLS → o ≡ default_start
 start_is o entries init contexts calls =
@@ -243,7 +255,13 @@ drive_of : (file schedule : Text) (task : Task) → IsTaskOf (Some (codes "drive
 drive_of file schedule Bundle asks = absurd asks
 drive_of file schedule (Check arguments) asks = absurd (check≢drive (sym asks.0))
 drive_of file schedule (Code arguments) asks = absurd (code≢drive (sym asks.0))
-drive_of file schedule (Drive arguments) (named, of) = (of.program, of.schedule, unasked arguments.explain (of.explain.always.1 refl) (of.explain.never.1 refl), start_is arguments.start of.entries of.init of.contexts of.calls, of.named)
+drive_of file schedule (Drive arguments) (named, of) = (
+  of.program,
+  of.schedule,
+  unasked arguments.explain (of.explain.always.1 refl) (of.explain.never.1 refl),
+  start_is arguments.start of.entries of.init of.contexts of.calls,
+  of.named,
+)
 drive_of file schedule (Confirm arguments) asks = absurd (differ (codes "drive") (codes "confirm") refl asks.0)
 drive_of file schedule (Run arguments) asks = absurd (drive≢run asks.0)
 drive_of file schedule (Test arguments) asks = absurd (differ (codes "drive") (codes "test") refl asks.0)
@@ -252,7 +270,9 @@ drive_of file schedule (Show arguments) asks = absurd (drive≢show asks.0)
 drive_of file schedule (Migrate arguments) asks = absurd (drive≢migrate asks.0)
 drive_of file schedule (Shrink arguments) asks = absurd (differ (codes "drive") (codes "shrink") refl asks.0)
 
-drive_asked : (program file schedule : Text) (task : Task) → is_plain file ≡ true → is_plain schedule ≡ true → IsTaskOf (subcommand_of btrun_app (drive_arguments program file schedule)) task → IsPlainDriveOf file schedule task
+drive_asked : (program file schedule : Text) (task : Task) → is_plain file ≡ true → is_plain schedule ≡ true
+    → IsTaskOf (subcommand_of btrun_app (drive_arguments program file schedule)) task
+    → IsPlainDriveOf file schedule task
 drive_asked program file schedule task plain even asks =
     drive_of file schedule task (subst (λ c. IsTaskOf c task) (drive_named program file schedule (is_word file plain) (is_word schedule even)) asks)
 
@@ -260,28 +280,42 @@ abbrev confirm_arguments : Text → Text → Text → List Text
 confirm_arguments program file steps = program ∷ codes "confirm" ∷ file ∷ steps ∷ []
 
 abbrev confirm_rows : Text → Text → List Row
-confirm_rows file steps = given (codes "FILE") file ∷ given (codes "STEPS") steps ∷ down (codes "explain") ∷ down (codes "no-explain") ∷ down (codes "json") ∷ []
+confirm_rows file steps =
+    given (codes "FILE") file ∷ given (codes "STEPS") steps ∷ down (codes "explain") ∷ down (codes "no-explain")
+    ∷ down (codes "json") ∷ []
 
-confirm_named : (program file steps : Text) → IsWord file → IsWord steps → subcommand_of btrun_app (confirm_arguments program file steps) ≡ Some (codes "confirm", confirm_rows file steps)
+confirm_named : (program file steps : Text) → IsWord file → IsWord steps
+    → subcommand_of btrun_app (confirm_arguments program file steps) ≡ Some (codes "confirm", confirm_rows file steps)
 unfolding clap_on_literals
-confirm_named program file steps (no_end, no_long, no_short) (none_ends, none_long, none_short) = rw (no_end, no_long, no_short, none_ends, none_long, none_short) refl
+confirm_named program file steps (no_end, no_long, no_short) (none_ends, none_long, none_short) =
+    rw (no_end, no_long, no_short, none_ends, none_long, none_short) refl
 
 confirm_clean : (program file steps : Text) → IsWord file → IsWord steps → fault_of btrun_app (confirm_arguments program file steps) ≡ []
 unfolding clap_on_literals
-confirm_clean program file steps (no_end, no_long, no_short) (none_ends, none_long, none_short) = rw (no_end, no_long, no_short, none_ends, none_long, none_short) refl
+confirm_clean program file steps (no_end, no_long, no_short) (none_ends, none_long, none_short) =
+    rw (no_end, no_long, no_short, none_ends, none_long, none_short) refl
 
 confirm_faulty : (program file steps : Text) → is_plain file ≡ true → is_plain steps ≡ true → arguments_fault (confirm_arguments program file steps) ≡ []
 confirm_faulty program file steps plain even =
     let word = is_word file plain in
     let other = is_word steps even in
-    no_fault (confirm_arguments program file steps) (Some (codes "confirm", confirm_rows file steps)) (confirm_clean program file steps word other) (confirm_named program file steps word other) refl
+    no_fault (confirm_arguments program file steps) (Some (codes "confirm", confirm_rows file steps))
+    (confirm_clean program file steps word other) (confirm_named program file steps word other) refl
 
 confirm_of : (file steps : Text) (task : Task) → IsTaskOf (Some (codes "confirm", confirm_rows file steps)) task → IsPlainConfirmOf file steps task
 confirm_of file steps Bundle asks = absurd asks
 confirm_of file steps (Check arguments) asks = absurd (differ (codes "confirm") (codes "check") refl asks.0)
 confirm_of file steps (Code arguments) asks = absurd (differ (codes "confirm") (codes "code") refl asks.0)
 confirm_of file steps (Drive arguments) asks = absurd (differ (codes "confirm") (codes "drive") refl asks.0)
-confirm_of file steps (Confirm arguments) (named, of) = (of.program, of.steps, unasked arguments.explain (of.explain.always.1 refl) (of.explain.never.1 refl), of.bound, start_is arguments.start of.entries of.init of.contexts of.calls, of.named, of.json.1 refl)
+confirm_of file steps (Confirm arguments) (named, of) = (
+  of.program,
+  of.steps,
+  unasked arguments.explain (of.explain.always.1 refl) (of.explain.never.1 refl),
+  of.bound,
+  start_is arguments.start of.entries of.init of.contexts of.calls,
+  of.named,
+  of.json.1 refl,
+)
 confirm_of file steps (Run arguments) asks = absurd (differ (codes "confirm") (codes "run") refl asks.0)
 confirm_of file steps (Test arguments) asks = absurd (differ (codes "confirm") (codes "test") refl asks.0)
 confirm_of file steps (Replay arguments) asks = absurd (differ (codes "confirm") (codes "replay") refl asks.0)
@@ -289,7 +323,8 @@ confirm_of file steps (Show arguments) asks = absurd (differ (codes "confirm") (
 confirm_of file steps (Migrate arguments) asks = absurd (differ (codes "confirm") (codes "migrate") refl asks.0)
 confirm_of file steps (Shrink arguments) asks = absurd (differ (codes "confirm") (codes "shrink") refl asks.0)
 
-confirm_asked : (program file steps : Text) (task : Task) → is_plain file ≡ true → is_plain steps ≡ true → IsTaskOf (subcommand_of btrun_app (confirm_arguments program file steps)) task → IsPlainConfirmOf file steps task
+confirm_asked : (program file steps : Text) (task : Task) → is_plain file ≡ true → is_plain steps ≡ true
+    → IsTaskOf (subcommand_of btrun_app (confirm_arguments program file steps)) task → IsPlainConfirmOf file steps task
 confirm_asked program file steps task plain even asks =
     confirm_of file steps task (subst (λ c. IsTaskOf c task) (confirm_named program file steps (is_word file plain) (is_word steps even)) asks)
 
@@ -323,14 +358,22 @@ run_of file (Check arguments) asks = absurd (check≢run (sym asks.0))
 run_of file (Code arguments) asks = absurd (code≢run (sym asks.0))
 run_of file (Drive arguments) asks = absurd (drive≢run (sym asks.0))
 run_of file (Confirm arguments) asks = absurd (differ (codes "run") (codes "confirm") refl asks.0)
-run_of file (Run arguments) (named, of) = (of.program, of.spread.1 refl, unasked arguments.explain (of.explain.always.1 refl) (of.explain.never.1 refl), options_are arguments.options (start_is arguments.options.start of.entries of.init of.contexts of.calls) of.turn of.seed of.ring, of.named)
+run_of file (Run arguments) (named, of) = (
+  of.program,
+  of.spread.1 refl,
+  unasked arguments.explain (of.explain.always.1 refl) (of.explain.never.1 refl),
+  options_are arguments.options (start_is arguments.options.start of.entries of.init of.contexts of.calls) of.turn
+      of.seed of.ring,
+  of.named,
+)
 run_of file (Test arguments) asks = absurd (differ (codes "run") (codes "test") refl asks.0)
 run_of file (Replay arguments) asks = absurd (run≢replay asks.0)
 run_of file (Show arguments) asks = absurd (run≢show asks.0)
 run_of file (Migrate arguments) asks = absurd (run≢migrate asks.0)
 run_of file (Shrink arguments) asks = absurd (differ (codes "run") (codes "shrink") refl asks.0)
 
-run_asked : (program file : Text) (task : Task) → is_plain file ≡ true → IsTaskOf (subcommand_of btrun_app (run_arguments program file)) task → IsPlainRunOf file task
+run_asked : (program file : Text) (task : Task) → is_plain file ≡ true
+    → IsTaskOf (subcommand_of btrun_app (run_arguments program file)) task → IsPlainRunOf file task
 run_asked program file task plain asks = run_of file task (subst (λ c. IsTaskOf c task) (run_named program file (is_word file plain)) asks)
 
 abbrev trace_rows : Text → Text → List Row
@@ -341,7 +384,8 @@ test_arguments program file = program ∷ codes "test" ∷ file ∷ []
 
 abbrev test_rows : Text → List Row
 test_rows file =
-    given (codes "FILE") file ∷ down (codes "explain") ∷ down (codes "no-explain") ∷ down (codes "deadlock") ∷ down (codes "unreached") ∷ down (codes "json") ∷ []
+    given (codes "FILE") file ∷ down (codes "explain") ∷ down (codes "no-explain") ∷ down (codes "deadlock")
+    ∷ down (codes "unreached") ∷ down (codes "json") ∷ []
 
 test_named : (program file : Text) → IsWord file → subcommand_of btrun_app (test_arguments program file) ≡ Some (codes "test", test_rows file)
 unfolding clap_on_literals
@@ -363,31 +407,48 @@ test_of file (Code arguments) asks = absurd (differ (codes "test") (codes "code"
 test_of file (Drive arguments) asks = absurd (differ (codes "test") (codes "drive") refl asks.0)
 test_of file (Confirm arguments) asks = absurd (differ (codes "test") (codes "confirm") refl asks.0)
 test_of file (Run arguments) asks = absurd (differ (codes "test") (codes "run") refl asks.0)
-test_of file (Test arguments) (named, of) = (of.program, unasked arguments.explain (of.explain.always.1 refl) (of.explain.never.1 refl), start_is arguments.start of.entries of.init (of.contexts ∙ ap (λ es. contexts_for (length es)) of.entries) of.calls, of.named, of.seed, of.runs, of.time, of.jobs, of.deadlock.1 refl, of.unreached.1 refl, of.json.1 refl)
+test_of file (Test arguments) (named, of) = (
+  of.program,
+  unasked arguments.explain (of.explain.always.1 refl) (of.explain.never.1 refl),
+  start_is arguments.start of.entries of.init (of.contexts ∙ ap (λ es. contexts_for (length es)) of.entries) of.calls,
+  of.named,
+  of.seed,
+  of.runs,
+  of.time,
+  of.jobs,
+  of.deadlock.1 refl,
+  of.unreached.1 refl,
+  of.json.1 refl,
+)
 test_of file (Replay arguments) asks = absurd (differ (codes "test") (codes "replay") refl asks.0)
 test_of file (Show arguments) asks = absurd (differ (codes "test") (codes "show") refl asks.0)
 test_of file (Migrate arguments) asks = absurd (differ (codes "test") (codes "migrate") refl asks.0)
 test_of file (Shrink arguments) asks = absurd (differ (codes "test") (codes "shrink") refl asks.0)
 
-test_asked : (program file : Text) (task : Task) → is_plain file ≡ true → IsTaskOf (subcommand_of btrun_app (test_arguments program file)) task → IsPlainTestOf file task
+test_asked : (program file : Text) (task : Task) → is_plain file ≡ true
+    → IsTaskOf (subcommand_of btrun_app (test_arguments program file)) task → IsPlainTestOf file task
 test_asked program file task plain asks = test_of file task (subst (λ c. IsTaskOf c task) (test_named program file (is_word file plain)) asks)
 
 abbrev replay_arguments : Text → Text → Text → List Text
 replay_arguments program file trace = program ∷ codes "replay" ∷ file ∷ trace ∷ []
 
-replay_named : (program file trace : Text) → IsWord file → IsWord trace → subcommand_of btrun_app (replay_arguments program file trace) ≡ Some (codes "replay", trace_rows file trace)
+replay_named : (program file trace : Text) → IsWord file → IsWord trace
+    → subcommand_of btrun_app (replay_arguments program file trace) ≡ Some (codes "replay", trace_rows file trace)
 unfolding clap_on_literals
-replay_named program file trace (no_end, no_long, no_short) (none_ends, none_long, none_short) = rw (no_end, no_long, no_short, none_ends, none_long, none_short) refl
+replay_named program file trace (no_end, no_long, no_short) (none_ends, none_long, none_short) =
+    rw (no_end, no_long, no_short, none_ends, none_long, none_short) refl
 
 replay_clean : (program file trace : Text) → IsWord file → IsWord trace → fault_of btrun_app (replay_arguments program file trace) ≡ []
 unfolding clap_on_literals
-replay_clean program file trace (no_end, no_long, no_short) (none_ends, none_long, none_short) = rw (no_end, no_long, no_short, none_ends, none_long, none_short) refl
+replay_clean program file trace (no_end, no_long, no_short) (none_ends, none_long, none_short) =
+    rw (no_end, no_long, no_short, none_ends, none_long, none_short) refl
 
 replay_faulty : (program file trace : Text) → is_plain file ≡ true → is_plain trace ≡ true → arguments_fault (replay_arguments program file trace) ≡ []
 replay_faulty program file trace plain even =
     let word = is_word file plain in
     let other = is_word trace even in
-    no_fault (replay_arguments program file trace) (Some (codes "replay", trace_rows file trace)) (replay_clean program file trace word other) (replay_named program file trace word other) refl
+    no_fault (replay_arguments program file trace) (Some (codes "replay", trace_rows file trace))
+    (replay_clean program file trace word other) (replay_named program file trace word other) refl
 
 replay_of : (file trace : Text) (task : Task) → IsTaskOf (Some (codes "replay", trace_rows file trace)) task → IsReplayOf file trace task
 replay_of file trace Bundle asks = absurd asks
@@ -402,29 +463,37 @@ replay_of file trace (Show arguments) asks = absurd (replay≢show asks.0)
 replay_of file trace (Migrate arguments) asks = absurd (replay≢migrate asks.0)
 replay_of file trace (Shrink arguments) asks = absurd (differ (codes "replay") (codes "shrink") refl asks.0)
 
-replay_asked : (program file trace : Text) (task : Task) → is_plain file ≡ true → is_plain trace ≡ true → IsTaskOf (subcommand_of btrun_app (replay_arguments program file trace)) task → IsReplayOf file trace task
+replay_asked : (program file trace : Text) (task : Task) → is_plain file ≡ true → is_plain trace ≡ true
+    → IsTaskOf (subcommand_of btrun_app (replay_arguments program file trace)) task → IsReplayOf file trace task
 replay_asked program file trace task plain even asks =
     replay_of file trace task (subst (λ c. IsTaskOf c task) (replay_named program file trace (is_word file plain) (is_word trace even)) asks)
 
 abbrev show_rows : Text → Text → List Row
-show_rows file trace = given (codes "FILE") file ∷ given (codes "TRACE") trace ∷ down (codes "explain") ∷ down (codes "no-explain") ∷ down (codes "fold") ∷ down (codes "state") ∷ down (codes "brief") ∷ down (codes "contexts") ∷ down (codes "steps") ∷ down (codes "json") ∷ []
+show_rows file trace =
+    given (codes "FILE") file ∷ given (codes "TRACE") trace ∷ down (codes "explain") ∷ down (codes "no-explain")
+    ∷ down (codes "fold") ∷ down (codes "state") ∷ down (codes "brief") ∷ down (codes "contexts") ∷ down (codes "steps")
+    ∷ down (codes "json") ∷ []
 
 abbrev show_arguments : Text → Text → Text → List Text
 show_arguments program file trace = program ∷ codes "show" ∷ file ∷ trace ∷ []
 
-show_named : (program file trace : Text) → IsWord file → IsWord trace → subcommand_of btrun_app (show_arguments program file trace) ≡ Some (codes "show", show_rows file trace)
+show_named : (program file trace : Text) → IsWord file → IsWord trace
+    → subcommand_of btrun_app (show_arguments program file trace) ≡ Some (codes "show", show_rows file trace)
 unfolding clap_on_literals
-show_named program file trace (no_end, no_long, no_short) (none_ends, none_long, none_short) = rw (no_end, no_long, no_short, none_ends, none_long, none_short) refl
+show_named program file trace (no_end, no_long, no_short) (none_ends, none_long, none_short) =
+    rw (no_end, no_long, no_short, none_ends, none_long, none_short) refl
 
 show_clean : (program file trace : Text) → IsWord file → IsWord trace → fault_of btrun_app (show_arguments program file trace) ≡ []
 unfolding clap_on_literals
-show_clean program file trace (no_end, no_long, no_short) (none_ends, none_long, none_short) = rw (no_end, no_long, no_short, none_ends, none_long, none_short) refl
+show_clean program file trace (no_end, no_long, no_short) (none_ends, none_long, none_short) =
+    rw (no_end, no_long, no_short, none_ends, none_long, none_short) refl
 
 show_faulty : (program file trace : Text) → is_plain file ≡ true → is_plain trace ≡ true → arguments_fault (show_arguments program file trace) ≡ []
 show_faulty program file trace plain even =
     let word = is_word file plain in
     let other = is_word trace even in
-    no_fault (show_arguments program file trace) (Some (codes "show", show_rows file trace)) (show_clean program file trace word other) (show_named program file trace word other) refl
+    no_fault (show_arguments program file trace) (Some (codes "show", show_rows file trace))
+    (show_clean program file trace word other) (show_named program file trace word other) refl
 
 no_text : (o : Option (Bor Text)) → option_map (λ s. s.now) o ≡ None → o ≡ None
 no_text None is = refl
@@ -439,30 +508,51 @@ show_of file trace (Confirm arguments) asks = absurd (differ (codes "show") (cod
 show_of file trace (Run arguments) asks = absurd (run≢show (sym asks.0))
 show_of file trace (Test arguments) asks = absurd (differ (codes "show") (codes "test") refl asks.0)
 show_of file trace (Replay arguments) asks = absurd (replay≢show (sym asks.0))
-show_of file trace (Show arguments) (named, of) = (of.program, of.trace, of.thread, of.last, of.from, of.to, no_text arguments.watch of.watch, of.fold.1 refl, of.state.1 refl, of.brief.1 refl, of.at, of.contexts.1 refl, of.steps.1 refl, of.json.1 refl, unasked arguments.explain (of.explain.always.1 refl) (of.explain.never.1 refl))
+show_of file trace (Show arguments) (named, of) = (
+  of.program,
+  of.trace,
+  of.thread,
+  of.last,
+  of.from,
+  of.to,
+  no_text arguments.watch of.watch,
+  of.fold.1 refl,
+  of.state.1 refl,
+  of.brief.1 refl,
+  of.at,
+  of.contexts.1 refl,
+  of.steps.1 refl,
+  of.json.1 refl,
+  unasked arguments.explain (of.explain.always.1 refl) (of.explain.never.1 refl),
+)
 show_of file trace (Migrate arguments) asks = absurd (show≢migrate asks.0)
 show_of file trace (Shrink arguments) asks = absurd (differ (codes "show") (codes "shrink") refl asks.0)
 
-show_asked : (program file trace : Text) (task : Task) → is_plain file ≡ true → is_plain trace ≡ true → IsTaskOf (subcommand_of btrun_app (show_arguments program file trace)) task → IsPlainShowOf file trace task
+show_asked : (program file trace : Text) (task : Task) → is_plain file ≡ true → is_plain trace ≡ true
+    → IsTaskOf (subcommand_of btrun_app (show_arguments program file trace)) task → IsPlainShowOf file trace task
 show_asked program file trace task plain even asks =
     show_of file trace task (subst (λ c. IsTaskOf c task) (show_named program file trace (is_word file plain) (is_word trace even)) asks)
 
 abbrev migrate_arguments : Text → Text → Text → List Text
 migrate_arguments program file trace = program ∷ codes "migrate" ∷ file ∷ trace ∷ []
 
-migrate_named : (program file trace : Text) → IsWord file → IsWord trace → subcommand_of btrun_app (migrate_arguments program file trace) ≡ Some (codes "migrate", trace_rows file trace)
+migrate_named : (program file trace : Text) → IsWord file → IsWord trace
+    → subcommand_of btrun_app (migrate_arguments program file trace) ≡ Some (codes "migrate", trace_rows file trace)
 unfolding clap_on_literals
-migrate_named program file trace (no_end, no_long, no_short) (none_ends, none_long, none_short) = rw (no_end, no_long, no_short, none_ends, none_long, none_short) refl
+migrate_named program file trace (no_end, no_long, no_short) (none_ends, none_long, none_short) =
+    rw (no_end, no_long, no_short, none_ends, none_long, none_short) refl
 
 migrate_clean : (program file trace : Text) → IsWord file → IsWord trace → fault_of btrun_app (migrate_arguments program file trace) ≡ []
 unfolding clap_on_literals
-migrate_clean program file trace (no_end, no_long, no_short) (none_ends, none_long, none_short) = rw (no_end, no_long, no_short, none_ends, none_long, none_short) refl
+migrate_clean program file trace (no_end, no_long, no_short) (none_ends, none_long, none_short) =
+    rw (no_end, no_long, no_short, none_ends, none_long, none_short) refl
 
 migrate_faulty : (program file trace : Text) → is_plain file ≡ true → is_plain trace ≡ true → arguments_fault (migrate_arguments program file trace) ≡ []
 migrate_faulty program file trace plain even =
     let word = is_word file plain in
     let other = is_word trace even in
-    no_fault (migrate_arguments program file trace) (Some (codes "migrate", trace_rows file trace)) (migrate_clean program file trace word other) (migrate_named program file trace word other) refl
+    no_fault (migrate_arguments program file trace) (Some (codes "migrate", trace_rows file trace))
+    (migrate_clean program file trace word other) (migrate_named program file trace word other) refl
 
 migrate_of : (file trace : Text) (task : Task) → IsTaskOf (Some (codes "migrate", trace_rows file trace)) task → IsMigrateOf file trace task
 migrate_of file trace Bundle asks = absurd asks
@@ -477,26 +567,31 @@ migrate_of file trace (Shrink arguments) asks = absurd (differ (codes "migrate")
 migrate_of file trace (Migrate arguments) (named, of) = (of.program, of.trace, unasked arguments.explain (of.explain.always.1 refl) (of.explain.never.1 refl))
 migrate_of file trace (Replay arguments) asks = absurd (replay≢migrate (sym asks.0))
 
-migrate_asked : (program file trace : Text) (task : Task) → is_plain file ≡ true → is_plain trace ≡ true → IsTaskOf (subcommand_of btrun_app (migrate_arguments program file trace)) task → IsMigrateOf file trace task
+migrate_asked : (program file trace : Text) (task : Task) → is_plain file ≡ true → is_plain trace ≡ true
+    → IsTaskOf (subcommand_of btrun_app (migrate_arguments program file trace)) task → IsMigrateOf file trace task
 migrate_asked program file trace task plain even asks =
     migrate_of file trace task (subst (λ c. IsTaskOf c task) (migrate_named program file trace (is_word file plain) (is_word trace even)) asks)
 
 abbrev shrink_arguments : Text → Text → Text → List Text
 shrink_arguments program file trace = program ∷ codes "shrink" ∷ file ∷ trace ∷ []
 
-shrink_named : (program file trace : Text) → IsWord file → IsWord trace → subcommand_of btrun_app (shrink_arguments program file trace) ≡ Some (codes "shrink", trace_rows file trace)
+shrink_named : (program file trace : Text) → IsWord file → IsWord trace
+    → subcommand_of btrun_app (shrink_arguments program file trace) ≡ Some (codes "shrink", trace_rows file trace)
 unfolding clap_on_literals
-shrink_named program file trace (no_end, no_long, no_short) (none_ends, none_long, none_short) = rw (no_end, no_long, no_short, none_ends, none_long, none_short) refl
+shrink_named program file trace (no_end, no_long, no_short) (none_ends, none_long, none_short) =
+    rw (no_end, no_long, no_short, none_ends, none_long, none_short) refl
 
 shrink_clean : (program file trace : Text) → IsWord file → IsWord trace → fault_of btrun_app (shrink_arguments program file trace) ≡ []
 unfolding clap_on_literals
-shrink_clean program file trace (no_end, no_long, no_short) (none_ends, none_long, none_short) = rw (no_end, no_long, no_short, none_ends, none_long, none_short) refl
+shrink_clean program file trace (no_end, no_long, no_short) (none_ends, none_long, none_short) =
+    rw (no_end, no_long, no_short, none_ends, none_long, none_short) refl
 
 shrink_faulty : (program file trace : Text) → is_plain file ≡ true → is_plain trace ≡ true → arguments_fault (shrink_arguments program file trace) ≡ []
 shrink_faulty program file trace plain even =
     let word = is_word file plain in
     let other = is_word trace even in
-    no_fault (shrink_arguments program file trace) (Some (codes "shrink", trace_rows file trace)) (shrink_clean program file trace word other) (shrink_named program file trace word other) refl
+    no_fault (shrink_arguments program file trace) (Some (codes "shrink", trace_rows file trace))
+    (shrink_clean program file trace word other) (shrink_named program file trace word other) refl
 
 shrink_of : (file trace : Text) (task : Task) → IsTaskOf (Some (codes "shrink", trace_rows file trace)) task → IsShrinkOf file trace task
 shrink_of file trace Bundle asks = absurd asks
@@ -511,7 +606,8 @@ shrink_of file trace (Migrate arguments) asks = absurd (differ (codes "shrink") 
 shrink_of file trace (Shrink arguments) (named, of) = (of.program, of.trace, unasked arguments.explain (of.explain.always.1 refl) (of.explain.never.1 refl))
 shrink_of file trace (Replay arguments) asks = absurd (differ (codes "shrink") (codes "replay") refl asks.0)
 
-shrink_asked : (program file trace : Text) (task : Task) → is_plain file ≡ true → is_plain trace ≡ true → IsTaskOf (subcommand_of btrun_app (shrink_arguments program file trace)) task → IsShrinkOf file trace task
+shrink_asked : (program file trace : Text) (task : Task) → is_plain file ≡ true → is_plain trace ≡ true
+    → IsTaskOf (subcommand_of btrun_app (shrink_arguments program file trace)) task → IsShrinkOf file trace task
 shrink_asked program file trace task plain even asks =
     shrink_of file trace task (subst (λ c. IsTaskOf c task) (shrink_named program file trace (is_word file plain) (is_word trace even)) asks)
 
@@ -530,7 +626,8 @@ plain_faulty (migrate file other) program (plain, even) = migrate_faulty program
 plain_faulty (shrink file other) program (plain, even) = shrink_faulty program file other plain even
 
 -- plain arguments ask for what their use says
-pub plain_asked : (usage : PlainUse) (program : Text) (task : Task) → HasPlainFiles usage → IsTaskOf (subcommand_of btrun_app (program ∷ arguments_of usage)) task → IsAskedBy usage task
+pub plain_asked : (usage : PlainUse) (program : Text) (task : Task) → HasPlainFiles usage
+    → IsTaskOf (subcommand_of btrun_app (program ∷ arguments_of usage)) task → IsAskedBy usage task
 plain_asked bundle program task plain asks = subst (λ c. IsTaskOf c task) (none_named program) asks
 plain_asked (check file) program task plain asks = check_asked program file task plain asks
 plain_asked (code file) program task plain asks = code_asked program file task plain asks

@@ -48,7 +48,8 @@ module _ (x new : SessionOf) (h : List Call) (made lines i : ℕ) (call : Call) 
     }
 
     -- a line that the call finishes
-    pub books_when_finished : (more less : ℕ) → more ≡ made + 1 → less + 1 ≡ lines → is_finished x.setup (h ++ call ∷ []) call.thread ≡ true → IsInBooks new (h ++ call ∷ []) more less
+    pub books_when_finished : (more less : ℕ) → more ≡ made + 1 → less + 1 ≡ lines
+        → is_finished x.setup (h ++ call ∷ []) call.thread ≡ true → IsInBooks new (h ++ call ∷ []) more less
     books_when_finished more less one_more closed finished =
         books_with more less one_more (ap (λ b. less + cond b 1 0) finished ∙ closed)
 

@@ -54,7 +54,9 @@ module _ (old new : DeskOf) (seat after : SeatOf) (n : ℕ) where
       ]
     ]
 
-  pub seat_turn : (r : Result Reply AskFault) → MatchResult r (IsTurn old new seat after n) (IsCutTurn old new seat after n) → MatchResult r (IsSeatTurn seat after n) (IsCutSeatTurn seat after n)
+  pub seat_turn : (r : Result Reply AskFault)
+      → MatchResult r (IsTurn old new seat after n) (IsCutTurn old new seat after n)
+      → MatchResult r (IsSeatTurn seat after n) (IsCutSeatTurn seat after n)
   seat_turn (Ok reply) turn =
       let counted = turn.counted in
       let most = turn.most in record {

@@ -25,7 +25,9 @@ FinishedWhereShut s h i is_open r = (r ≡ Err Finished → Shut s h i is_open) 
 
 module _ (x : SessionOf) (h : List Call) (i : ℕ) (of_some : IsOfProgram x.code) (within : i < threads x.setup) where
   refused_when_finished : (f : AskFault) → is_finished x.setup h i ≡ true → ((t : Program) → StandsFor x.code t → IsSendRefusal t x.setup h i f) → f ≡ Finished
-  refused_when_finished NoThread e each = absurd (is_false x.code (Unit {0}) of_some (λ t is u. let few : threads x.setup ≤ i = each t is in absurd (omega (arith, few, within))) tt)
+  refused_when_finished NoThread e each =
+      absurd (is_false x.code (Unit {0}) of_some
+      (λ t is u. let few : threads x.setup ≤ i = each t is in absurd (omega (arith, few, within))) tt)
   refused_when_finished Finished e each = refl
   refused_when_finished Seeded e each = absurd (is_false x.code (Unit {0}) of_some (λ t is u. absurd (false≢true (sym (each t is).0.1 ∙ e))) tt)
   refused_when_finished Unseeded e each = absurd (is_false x.code (Unit {0}) of_some (λ t is u. absurd (false≢true (sym (each t is).0.1 ∙ e))) tt)
@@ -36,19 +38,27 @@ module _ (x : SessionOf) (h : List Call) (i : ℕ) (of_some : IsOfProgram x.code
   finished_when_refused f e each = is_true x.code (is_finished x.setup h i) of_some (λ t is. (subst (IsSendRefusal t x.setup h i) e (each t is)).1)
 
   pub unfinished : (call : Call) → ((t : Program) → StandsFor x.code t → IsNextCall t x.setup h i None call) → is_finished x.setup h i ≡ false
-  unfinished call next = is_untrue x.code (is_finished x.setup h i) of_some (λ t is. subst (λ j. is_finished x.setup h j ≡ false) (next t is).thread (next t is).allowed.unfinished)
+  unfinished call next =
+      is_untrue x.code (is_finished x.setup h i) of_some
+      (λ t is. subst (λ j. is_finished x.setup h j ≡ false) (next t is).thread (next t is).allowed.unfinished)
 
   -- the refusals of a call that was not sent, with a seed, as those of a desk
-  pub desk_refusal : (free calls : ℕ) (is_open : Bool) → is_open ≡ true → is_some x.setup.seed ≡ true → (f : AskFault) → (f ≡ Busy → free ≡ 0) → ((t : Program) → StandsFor x.code t → IsSendRefusal t x.setup h i f)
+  pub desk_refusal : (free calls : ℕ) (is_open : Bool) → is_open ≡ true → is_some x.setup.seed ≡ true → (f : AskFault)
+      → (f ≡ Busy → free ≡ 0) → ((t : Program) → StandsFor x.code t → IsSendRefusal t x.setup h i f)
       → IsDeskRefusal (desk_of x h free) (seat_of i calls is_open) f
-  desk_refusal free calls is_open e seed NoThread full each = absurd (is_false x.code (Unit {0}) of_some (λ t is u. let few : threads x.setup ≤ i = each t is in absurd (omega (arith, few, within))) tt)
+  desk_refusal free calls is_open e seed NoThread full each =
+      absurd (is_false x.code (Unit {0}) of_some
+      (λ t is u. let few : threads x.setup ≤ i = each t is in absurd (omega (arith, few, within))) tt)
   desk_refusal free calls is_open e seed Finished full each = inr (finished_when_refused Finished refl each)
   desk_refusal free calls is_open e seed Seeded full each = absurd (is_false x.code (Unit {0}) of_some (λ t is u. absurd (false≢true (each t is).1)) tt)
-  desk_refusal free calls is_open e seed Unseeded full each = absurd (is_false x.code (Unit {0}) of_some (λ t is u. absurd (false≢true (sym (ap is_some (each t is).2) ∙ seed))) tt)
+  desk_refusal free calls is_open e seed Unseeded full each =
+      absurd (is_false x.code (Unit {0}) of_some (λ t is u. absurd (false≢true (sym (ap is_some (each t is).2) ∙ seed))) tt)
   desk_refusal free calls is_open e seed Memory full each = ((e, is_untrue x.code (is_finished x.setup h i) of_some (λ t is. (each t is).0.1)), each)
   desk_refusal free calls is_open e seed Busy full each = ((e, is_untrue x.code (is_finished x.setup h i) of_some (λ t is. (each t is).1)), full refl)
 
-  pub refused_where_shut : (is_open : Bool) → is_open ≡ true → (f : AskFault) → ((t : Program) → StandsFor x.code t → IsSendRefusal t x.setup h i f) → (r : Result Reply AskFault) → r ≡ Err f → FinishedWhereShut x.setup h i is_open r
+  pub refused_where_shut : (is_open : Bool) → is_open ≡ true → (f : AskFault)
+      → ((t : Program) → StandsFor x.code t → IsSendRefusal t x.setup h i f) → (r : Result Reply AskFault) → r ≡ Err f
+      → FinishedWhereShut x.setup h i is_open r
   refused_where_shut is_open e f each r is = (
     (λ finished. inr (finished_when_refused f (same f r is finished) each)),
     (λ shut. elim shut [
@@ -64,7 +74,8 @@ module _ (x : SessionOf) (h : List Call) (i : ℕ) (of_some : IsOfProgram x.code
       same : (k : AskFault) (a : Result Reply AskFault) → a ≡ Err k → a ≡ Err Finished → k ≡ Finished
       same k a e z = sym (ap fault_of e) ∙ ap fault_of z
 
-  pub not_shut : (is_open : Bool) → is_open ≡ true → (r : Result Reply AskFault) → (r ≡ Err Finished → ⊥) → is_finished x.setup h i ≡ false → FinishedWhereShut x.setup h i is_open r
+  pub not_shut : (is_open : Bool) → is_open ≡ true → (r : Result Reply AskFault) → (r ≡ Err Finished → ⊥)
+      → is_finished x.setup h i ≡ false → FinishedWhereShut x.setup h i is_open r
   not_shut is_open e r other goes_on = (
     (λ finished. absurd (other finished)),
     (λ shut. elim shut [

@@ -20,7 +20,8 @@ pub sent_with : (h mid new cs : List Call) (x : Call) → mid ≡ h ++ cs → ne
 sent_with h mid new cs x before with_call = with_call ∙ ap (λ g. g ++ x ∷ []) before ∙ append_assoc h cs (x ∷ [])
 
 -- a first call that is refused
-pub cut_at_once : (d new : DeskOf) (seat after : SeatOf) (n : ℕ) (f : AskFault) → 0 < n → IsDeskRefusal d seat f → new ≡ d → after ≡ seat → IsCutTurn d new seat after n f
+pub cut_at_once : (d new : DeskOf) (seat after : SeatOf) (n : ℕ) (f : AskFault) → 0 < n → IsDeskRefusal d seat f
+    → new ≡ d → after ≡ seat → IsCutTurn d new seat after n f
 cut_at_once d new seat after n f some refused same_desk same_seat = rw (same_desk, same_seat) (record {
   steps = [];
   sent = sym (append-nil d.history);
@@ -42,19 +43,23 @@ still_open d seat is_open unfinished shut = elim shut [
 
 -- a later call that is refused
 pub cut_later : (old mid new : DeskOf) (seat between after : SeatOf) (n : ℕ) (f : AskFault) (cs : List Call)
-    → mid.history ≡ old.history ++ cs → old.free ≤ mid.free + length cs → AreSteps seat.thread cs → length cs < n → between.is_open ≡ true → is_finished mid.setup mid.history between.thread ≡ false
-    → IsDeskRefusal mid between f → new ≡ mid → after ≡ between → between.thread ≡ seat.thread → between.calls ≡ seat.calls + length cs → IsCutTurn old new seat after n f
-cut_later old mid new seat between after n f cs sent room stepped fewer is_open unfinished refused same_desk same_seat own counted = rw (same_desk, same_seat) (record {
-  steps = cs;
-  sent = sent;
-  room = room;
-  stepped = stepped;
-  fewer = fewer;
-  none = λ e. absurd (still_open mid between is_open unfinished (subst (IsDeskRefusal mid between) e refused));
-  refused = refused;
-  own = own;
-  counted = counted;
-})
+    → mid.history ≡ old.history ++ cs → old.free ≤ mid.free + length cs → AreSteps seat.thread cs → length cs < n
+    → between.is_open ≡ true → is_finished mid.setup mid.history between.thread ≡ false
+    → IsDeskRefusal mid between f → new ≡ mid → after ≡ between → between.thread ≡ seat.thread
+    → between.calls ≡ seat.calls + length cs → IsCutTurn old new seat after n f
+cut_later old mid new seat between after n f cs sent room stepped fewer is_open unfinished refused same_desk same_seat
+    own counted =
+    rw (same_desk, same_seat) (record {
+      steps = cs;
+      sent = sent;
+      room = room;
+      stepped = stepped;
+      fewer = fewer;
+      none = λ e. absurd (still_open mid between is_open unfinished (subst (IsDeskRefusal mid between) e refused));
+      refused = refused;
+      own = own;
+      counted = counted;
+    })
 
 -- a line is open where the seat says so
 pub unfinished_by : (b c : Bool) → b ≡ true → b ≡ not c → c ≡ false

@@ -44,7 +44,8 @@ mutual
   in_form (printing a b c d e) = (tt, λ s m. absurd m)
   in_form (call a b c d e) = (tt, λ s m. absurd m)
 
-  in_stmt : {ts : List Token} {l : Option Name} {at : ℕ} {w : Statement} {r : List Token} → IsStmt ts l at w r → HasTargets w × AllHaveTargets (statements_inside w)
+  in_stmt : {ts : List Token} {l : Option Name} {at : ℕ} {w : Statement} {r : List Token} → IsStmt ts l at w r
+      → HasTargets w × AllHaveTargets (statements_inside w)
   in_stmt (labelled a b form) = in_form form
   in_stmt (unlabelled form) = in_form form
 

@@ -15,10 +15,12 @@ statements_more : (xs : List Stmt) (s : Stmt)
 statements_more [] s = ap (λ ys. labelled_of s ∷ ys) (append-nil (statements_inside (statement_of s.form)))
 statements_more (x ∷ xs) s =
     ap (λ ys. labelled_of x ∷ (statements_inside (statement_of x.form) ++ ys)) (statements_more xs s)
-    ∙ ap (λ ys. labelled_of x ∷ ys) (sym (append_assoc (statements_inside (statement_of x.form)) (statements (block_of xs)) (labelled_of s ∷ statements_inside (statement_of s.form))))
+    ∙ ap (λ ys. labelled_of x ∷ ys) (sym (append_assoc (statements_inside (statement_of x.form))
+    (statements (block_of xs)) (labelled_of s ∷ statements_inside (statement_of s.form))))
 
 -- one more statement with those inside it
-pub collect_more : (first : List Labelled) (old pushed grown : List (Bor Stmt)) (r : Bor Stmt) (stmts : List Stmt) (i : ℕ) → i < length stmts → r.now ≡ get_or stmts i r.now
+pub collect_more : (first : List Labelled) (old pushed grown : List (Bor Stmt)) (r : Bor Stmt) (stmts : List Stmt) (i : ℕ)
+    → i < length stmts → r.now ≡ get_or stmts i r.now
     → all_labelled old ≡ first ++ statements (block_of (take i stmts)) → pushed ≡ old ++ r ∷ []
     → all_labelled grown ≡ all_labelled pushed ++ statements_inside (statement_of r.now.form)
     → all_labelled grown ≡ first ++ statements (block_of (take (i + 1) stmts))
@@ -32,20 +34,24 @@ collect_more first old pushed grown r stmts i within is so_far push inside =
     ∙ append_assoc first (statements (block_of (take i stmts))) (labelled_of r.now ∷ statements_inside (statement_of r.now.form))
     ∙ ap (λ xs. first ++ xs) (sym more)
 
-pub inside_depth : (stmts : List Stmt) (i : ℕ) (s : Stmt) → i < length stmts → s ≡ get_or stmts i s → statement_depth (statement_of s.form) ≤ depth (block_of stmts)
+pub inside_depth : (stmts : List Stmt) (i : ℕ) (s : Stmt) → i < length stmts → s ≡ get_or stmts i s
+    → statement_depth (statement_of s.form) ≤ depth (block_of stmts)
 inside_depth [] i s within is = absurd (omega arith)
 inside_depth (x ∷ xs) zero s within is = omega (arith, ap (λ (y : Stmt). statement_depth (statement_of y.form)) is)
 inside_depth (x ∷ xs) (suc i) s within is = omega (arith, inside_depth xs i s (omega arith) is)
 
 labels_of-append : (xs ys : List Labelled) → labels_of (xs ++ ys) ≡ labels_of xs ++ labels_of ys
 labels_of-append [] ys = refl
-labels_of-append (x ∷ xs) ys = ap (λ zs. option_to_list x.label ++ zs) (labels_of-append xs ys) ∙ sym (append_assoc (option_to_list x.label) (labels_of xs) (labels_of ys))
+labels_of-append (x ∷ xs) ys =
+    ap (λ zs. option_to_list x.label ++ zs) (labels_of-append xs ys)
+    ∙ sym (append_assoc (option_to_list x.label) (labels_of xs) (labels_of ys))
 
 -- one more statement of a list, labelled
 pub labelled_more : (stmts : List (Bor Stmt)) (i : ℕ) (r : Bor Stmt) → i < length stmts → r ≡ get_or stmts i r
     → all_labelled (take (i + 1) stmts) ≡ all_labelled (take i stmts) ++ labelled_of r.now ∷ []
 labelled_more stmts i r within is =
-    ap all_labelled (take_more stmts i r within ∙ ap (λ x. take i stmts ++ x ∷ []) (sym is)) ∙ map-append (λ (s : Bor Stmt). labelled_of s.now) (take i stmts) (r ∷ [])
+    ap all_labelled (take_more stmts i r within ∙ ap (λ x. take i stmts ++ x ∷ []) (sym is))
+    ∙ map-append (λ (s : Bor Stmt). labelled_of s.now) (take i stmts) (r ∷ [])
 
 -- one more statement whose label may have been appended
 pub labels_more : (first : List Name) (old new : List (Bor Name)) (stmts : List (Bor Stmt)) (i : ℕ) (r : Bor Stmt) → i < length stmts → r ≡ get_or stmts i r
@@ -59,7 +65,8 @@ labels_more first old new stmts i r within is so_far grown =
     ∙ append_assoc first (labels_of (all_labelled (take i stmts))) (option_to_list r.now.label)
     ∙ ap (λ xs. first ++ xs) (sym more)
 
-pub pushed_label : (old new : List (Bor Name)) (l : Bor Name) (label : Option Name) → Some l.now ≡ label → new ≡ old ++ l ∷ [] → names_of new ≡ names_of old ++ option_to_list label
+pub pushed_label : (old new : List (Bor Name)) (l : Bor Name) (label : Option Name) → Some l.now ≡ label
+    → new ≡ old ++ l ∷ [] → names_of new ≡ names_of old ++ option_to_list label
 pushed_label old new l label is push =
     ap names_of push ∙ map-append (λ (n : Bor Name). n.now) old (l ∷ []) ∙ ap (λ o. names_of old ++ option_to_list o) is
 

@@ -63,9 +63,14 @@ module _ (p : Program) where
   from Memory at x = absurd x
 
   pub all_parts : (a b c : Option Found) → Finds (IsFaultOfNames TwiceGlobal MAX_GLOBALS p.globals) a
-      → Finds (IsFaultOfNames TwiceProcedure MAX_PROCEDURES (map (λ q. q.name) p.procedures)) b → Finds (IsFaultOfProcedures p.globals p.procedures p.procedures) c
+      → Finds (IsFaultOfNames TwiceProcedure MAX_PROCEDURES (map (λ q. q.name) p.procedures)) b
+      → Finds (IsFaultOfProcedures p.globals p.procedures p.procedures) c
       → Finds (IsFault p) (least_of a (least_of b c))
   unfolding IsPart
   all_parts a b c h k m =
       finds_same IsPart (IsFault p) (least_of a (least_of b c)) to from
-      (finds_both (IsFaultOfNames TwiceGlobal MAX_GLOBALS p.globals) (λ g at. IsFaultOfNames TwiceProcedure MAX_PROCEDURES (map (λ q. q.name) p.procedures) g at ⊎ IsFaultOfProcedures p.globals p.procedures p.procedures g at) a (least_of b c) h (finds_both (IsFaultOfNames TwiceProcedure MAX_PROCEDURES (map (λ q. q.name) p.procedures)) (IsFaultOfProcedures p.globals p.procedures p.procedures) b c k m))
+      (finds_both (IsFaultOfNames TwiceGlobal MAX_GLOBALS p.globals)
+      (λ g at. IsFaultOfNames TwiceProcedure MAX_PROCEDURES (map (λ q. q.name) p.procedures) g at
+      ⊎ IsFaultOfProcedures p.globals p.procedures p.procedures g at) a (least_of b c) h
+      (finds_both (IsFaultOfNames TwiceProcedure MAX_PROCEDURES (map (λ q. q.name) p.procedures))
+      (IsFaultOfProcedures p.globals p.procedures p.procedures) b c k m))

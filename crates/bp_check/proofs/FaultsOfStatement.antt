@@ -15,20 +15,26 @@ use Rattle.bp_check.proofs.LeastOfBoth.{finds_both, finds_same}
 pub both_sides : (ts : List Name) (vs : List Expression) (a b : Option Found) → Finds (Only Lengths (IsUneven (Assigns ts vs))) a
     → Finds (Only TwiceTarget (HasTargetTwice (Assigns ts vs))) b → Finds (IsMisuse [] [] (Assigns ts vs)) (least_of a b)
 both_sides ts vs a b h k =
-    finds_same (λ g at. Only Lengths (IsUneven (Assigns ts vs)) g at ⊎ Only TwiceTarget (HasTargetTwice (Assigns ts vs)) g at) (IsMisuse [] [] (Assigns ts vs)) (least_of a b) to from
+    finds_same
+    (λ g at. Only Lengths (IsUneven (Assigns ts vs)) g at ⊎ Only TwiceTarget (HasTargetTwice (Assigns ts vs)) g at)
+    (IsMisuse [] [] (Assigns ts vs)) (least_of a b) to from
     (finds_both (Only Lengths (IsUneven (Assigns ts vs))) (Only TwiceTarget (HasTargetTwice (Assigns ts vs))) a b h k)
   where
-    to : (g : CheckFault) (at : ℕ) → Only Lengths (IsUneven (Assigns ts vs)) g at ⊎ Only TwiceTarget (HasTargetTwice (Assigns ts vs)) g at → IsMisuse [] [] (Assigns ts vs) g at
+    to : (g : CheckFault) (at : ℕ)
+        → Only Lengths (IsUneven (Assigns ts vs)) g at ⊎ Only TwiceTarget (HasTargetTwice (Assigns ts vs)) g at
+        → IsMisuse [] [] (Assigns ts vs) g at
     to g at (inl x) = subst (λ (f : CheckFault). IsMisuse [] [] (Assigns ts vs) f at) (sym x.0) x.1
     to g at (inr x) = subst (λ (f : CheckFault). IsMisuse [] [] (Assigns ts vs) f at) (sym x.0) x.1
 
-    from : (g : CheckFault) (at : ℕ) → IsMisuse [] [] (Assigns ts vs) g at → Only Lengths (IsUneven (Assigns ts vs)) g at ⊎ Only TwiceTarget (HasTargetTwice (Assigns ts vs)) g at
+    from : (g : CheckFault) (at : ℕ) → IsMisuse [] [] (Assigns ts vs) g at
+        → Only Lengths (IsUneven (Assigns ts vs)) g at ⊎ Only TwiceTarget (HasTargetTwice (Assigns ts vs)) g at
     from Lengths at x = inl (refl, x)
     from TwiceTarget at x = inr (refl, x)
     from _ at x = absurd x
 
 module _ (qs : List Procedure) (ls : List Name) where
-  pub sides_anywhere : (ts : List Name) (vs : List Expression) (o : Option Found) → Finds (IsMisuse [] [] (Assigns ts vs)) o → Finds (IsMisuse qs ls (Assigns ts vs)) o
+  pub sides_anywhere : (ts : List Name) (vs : List Expression) (o : Option Found)
+      → Finds (IsMisuse [] [] (Assigns ts vs)) o → Finds (IsMisuse qs ls (Assigns ts vs)) o
   sides_anywhere ts vs o = finds_same (IsMisuse [] [] (Assigns ts vs)) (IsMisuse qs ls (Assigns ts vs)) o to from
     where
       to : (g : CheckFault) (at : ℕ) → IsMisuse [] [] (Assigns ts vs) g at → IsMisuse qs ls (Assigns ts vs) g at
@@ -64,7 +70,8 @@ module _ (qs : List Procedure) (ls : List Name) where
   pub with_stray : (declared : List Name) (s : Statement) (a b : Option Found) → Finds (IsMisuse qs ls s) a
       → Finds (Only UnknownVariable (IsUndeclared declared s)) b → Finds (IsStatementFault declared qs ls s) (least_of a b)
   with_stray declared s a b h k =
-      finds_same (λ g at. IsMisuse qs ls s g at ⊎ Only UnknownVariable (IsUndeclared declared s) g at) (IsStatementFault declared qs ls s) (least_of a b) to from
+      finds_same (λ g at. IsMisuse qs ls s g at ⊎ Only UnknownVariable (IsUndeclared declared s) g at)
+      (IsStatementFault declared qs ls s) (least_of a b) to from
       (finds_both (IsMisuse qs ls s) (Only UnknownVariable (IsUndeclared declared s)) a b h k)
     where
       plain : (g : CheckFault) (at : ℕ) → IsMisuse qs ls s g at → IsStatementFault declared qs ls s g at

@@ -63,7 +63,8 @@ module _ (text : List ℕ) where
   pub named_first : (k : ℕ) (qs : List Procedure) → first_index (map (λ q. q.name) qs) text ≡ Some k → procedure_named qs text ≡ slice_get qs k
   named_first k qs e = named_from 0 k qs (e ∙ ap Some (omega arith))
 
-  none_cond : (b : Bool) (i : ℕ) (o : Option ℕ) (q : Procedure) (p : Option Procedure) → (o ≡ None → p ≡ None) → cond b (Some i) o ≡ None → cond b (Some q) p ≡ None
+  none_cond : (b : Bool) (i : ℕ) (o : Option ℕ) (q : Procedure) (p : Option Procedure) → (o ≡ None → p ≡ None)
+      → cond b (Some i) o ≡ None → cond b (Some q) p ≡ None
   none_cond true i o q p later e = absurd cc
   none_cond false i o q p later e = later e
 
@@ -86,6 +87,7 @@ first_put ns i n here old new key spelled before put text =
     ∙ ap (λ xs. first_index_from i xs text) (sym parts)
 
 -- what a look-up by an index gives
-pub got_at : (o : Option (Bor Procedure)) (qs : List Procedure) (k : ℕ) → is_some o ≡ nat_lt k (length qs) → IfSome o (λ x. x.now ≡ get_or qs k x.now) → option_copied o ≡ slice_get qs k
+pub got_at : (o : Option (Bor Procedure)) (qs : List Procedure) (k : ℕ) → is_some o ≡ nat_lt k (length qs)
+    → IfSome o (λ x. x.now ≡ get_or qs k x.now) → option_copied o ≡ slice_get qs k
 got_at None qs k e h = let past : length qs ≤ k = grind arith in sym (slice_get_past qs k past)
 got_at (Some x) qs k e h = let within : k < length qs = grind arith in ap Some h ∙ sym (slice_get-get_or qs k x.now within)

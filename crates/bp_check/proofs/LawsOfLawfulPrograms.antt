@@ -22,7 +22,11 @@ is_false false h = refl
 is_false true h = absurd (h refl)
 
 same_or_not : (m n : ℕ) → (m ≡ n) ⊎ (m ≢ n)
-same_or_not m n = elim (cases_lt m n) [ inl less ↦ inr (λ e. omega arith) | inr more ↦ elim (cases_lt n m) [ inl less ↦ inr (λ e. omega arith) | inr other ↦ inl (omega arith) ] ]
+same_or_not m n =
+    elim (cases_lt m n) [
+      | inl less ↦ inr (λ e. omega arith)
+      | inr more ↦ elim (cases_lt n m) [ inl less ↦ inr (λ e. omega arith) | inr other ↦ inl (omega arith) ]
+    ]
 
 -- a list without a name past the limit
 few : (ns : List Name) (limit : ℕ) → ((at : ℕ) → IsPast limit ns at → ⊥) → length ns ≤ limit
@@ -40,7 +44,11 @@ module _ (p : Program) (lawful : IsLawful p) where
   pub few_names : HasFewNames p
   few_names = record {
     procedures =
-        omega (arith, length-map p.procedures (λ (q : Procedure). q.name), few (map (λ q. q.name) p.procedures) MAX_PROCEDURES (λ at x. lawful fault.Limit at (inl x)));
+        omega (
+          arith,
+          length-map p.procedures (λ (q : Procedure). q.name),
+          few (map (λ q. q.name) p.procedures) MAX_PROCEDURES (λ at x. lawful fault.Limit at (inl x)),
+        );
     globals = few p.globals MAX_GLOBALS (λ at x. lawful fault.Limit at (inr (inl x)));
     own = λ q m. few (variables q) MAX_OWN_NAMES (λ at x. lawful fault.Limit at (inr (inr (q, m, x))));
   }
@@ -70,7 +78,9 @@ module _ (p : Program) (lawful : IsLawful p) where
     sound_in (GoesTo to) ms = is_true _ (λ e. lawful fault.UnknownLabel to.at (q, record { label = label; statement = GoesTo to }, mq, ms, (e, refl)))
     sound_in (Calls x es) ms =
         let s : Labelled = record { label = label; statement = Calls x es } in
-        found_callee q x es (procedure_named p.procedures x.text) refl (λ at e. lawful fault.UnknownProcedure at (q, s, mq, ms, e)) (λ at e. lawful fault.Arity at (q, s, mq, ms, e))
+        found_callee q x es (procedure_named p.procedures x.text) refl
+        (λ at e. lawful fault.UnknownProcedure at (q, s, mq, ms, e))
+        (λ at e. lawful fault.Arity at (q, s, mq, ms, e))
     sound_in (Assigns xs es) ms =
         let s : Labelled = record { label = label; statement = Assigns xs es } in
         let some : 0 < length xs = have_targets p of_text q mq s ms in

@@ -22,7 +22,8 @@ itself : (f : Found) → IsNotAfter f.fault f.at f.fault f.at
 itself f = inr (refl, omega arith)
 
 module _ (S T : CheckFault → ℕ → Type 0) where
-  chosen : (f h : Found) (b : Bool) → is_not_after f h ≡ b → IsLeast S f.fault f.at → IsLeast T h.fault h.at → Finds (λ g at. S g at ⊎ T g at) (cond b (Some f) (Some h))
+  chosen : (f h : Found) (b : Bool) → is_not_after f h ≡ b → IsLeast S f.fault f.at → IsLeast T h.fault h.at
+      → Finds (λ g at. S g at ⊎ T g at) (cond b (Some f) (Some h))
   chosen f h true e s t = record {
     within = inl s.within;
     first = λ g at x. elim x [ inl y ↦ s.first g at y | inr y ↦ then f h g at (first_is _ _ _ _ e) (t.first g at y) ];

@@ -52,7 +52,8 @@ least_of_refusal : (p : Program) (f : CheckFault) (at : ℕ) → f ≢ fault.Mem
 least_of_refusal p fault.Memory at other r = absurd (other refl)
 least_of_refusal p _ at other r = r
 
-pub one_refusal : (p : Program) (f g : CheckFault) (at place : ℕ) → f ≢ fault.Memory → g ≢ fault.Memory → IsRefusal p f at → IsRefusal p g place → (f ≡ g) × (at ≡ place)
+pub one_refusal : (p : Program) (f g : CheckFault) (at place : ℕ) → f ≢ fault.Memory → g ≢ fault.Memory
+    → IsRefusal p f at → IsRefusal p g place → (f ≡ g) × (at ≡ place)
 one_refusal p f g at place one other r s =
     let a = least_of_refusal p f at one r in
     let b = least_of_refusal p g place other s in

@@ -63,7 +63,8 @@ module _ (ns : List Name) (fault : CheckFault) where
           elim (below_or_at k i below_more) [ inl below_i ↦ inl (is_fault, (k, m, below_i, stands, e)) | inr at_i ↦ inr (is_fault, cc) ]
 
   -- all of them
-  pub all_below : (length_is : ℕ) (best : Option Found) → length_is ≡ length ns → Finds (Only fault (Below length_is)) best → Finds (Only fault (IsTwice ns)) best
+  pub all_below : (length_is : ℕ) (best : Option Found) → length_is ≡ length ns
+      → Finds (Only fault (Below length_is)) best → Finds (Only fault (IsTwice ns)) best
   all_below _ best e =
       finds_same _ _ best (λ g at x. (x.0, (x.1.0, x.1.1, x.1.3, x.1.4)))
       (λ g at x. (x.0, (x.1.0, x.1.1, rw e (slice_get_within ns x.1.0 x.1.1 x.1.2.stands), x.1.2, x.1.3)))
@@ -75,7 +76,8 @@ module _ (ns : List Name) (fault : CheckFault) where
 pub finds_past : (ns : List Name) (limit : ℕ) (n : Name) → slice_get ns limit ≡ Some n
     → Finds (Only Limit (IsPast limit ns)) (Some (record { fault = Limit; at = n.at }))
 finds_past ns limit n is =
-    finds_same (Only Limit (λ b. n.at ≡ b)) (Only Limit (IsPast limit ns)) (Some (record { fault = Limit; at = n.at })) to (λ g at x. (x.0, same at x.1)) (finds_one Limit n.at)
+    finds_same (Only Limit (λ b. n.at ≡ b)) (Only Limit (IsPast limit ns))
+    (Some (record { fault = Limit; at = n.at })) to (λ g at x. (x.0, same at x.1)) (finds_one Limit n.at)
   where
     to : (g : CheckFault) (at : ℕ) → Only Limit (λ b. n.at ≡ b) g at → Only Limit (IsPast limit ns) g at
     to g at x = (x.0, (n, record { stands = is; place = x.1 }))
@@ -94,7 +96,8 @@ none_past names limit h g at x =
     cc
 
 -- The same over a list of references, as a loop meets them.
-module _ (names : List (Bor Name)) (ns : List Name) (fault : CheckFault) (i : ℕ) (n : Bor Name) (best : Option Found) (same : names_of names ≡ ns) (within : i < length names) (is : n ≡ get_or names i n) where
+module _ (names : List (Bor Name)) (ns : List Name) (fault : CheckFault) (i : ℕ) (n : Bor Name) (best : Option Found)
+    (same : names_of names ≡ ns) (within : i < length names) (is : n ≡ get_or names i n) where
   here : slice_get ns i ≡ Some n.now
   here = ap (λ xs. slice_get xs i) (sym same) ∙ name_at names i n within is
 
@@ -107,12 +110,14 @@ module _ (names : List (Bor Name)) (ns : List Name) (fault : CheckFault) (i : �
       → Finds (Only fault (Below ns fault (i + 1))) (least_of best (Some (record { fault = fault; at = at })))
   one_here text at e place twice h = rw place (one_more ns fault i n.now best here (cc) h)
 
-pub past_here : (names : List (Bor Name)) (ns : List Name) (limit : ℕ) (n : Bor Name) → names_of names ≡ ns → limit < length names → n ≡ get_or names limit n → (at : ℕ) → at ≡ n.now.at
+pub past_here : (names : List (Bor Name)) (ns : List Name) (limit : ℕ) (n : Bor Name) → names_of names ≡ ns
+    → limit < length names → n ≡ get_or names limit n → (at : ℕ) → at ≡ n.now.at
     → Finds (Only Limit (IsPast limit ns)) (Some (record { fault = Limit; at = at }))
 past_here names ns limit n same within is at place =
     rw (place, ← same) (finds_past (names_of names) limit n.now (name_at names limit n within is))
 
-pub all_here : (names : List (Bor Name)) (ns : List Name) (fault : CheckFault) (i : ℕ) (best : Option Found) → names_of names ≡ ns → i ≤ length names → length names ≤ i
+pub all_here : (names : List (Bor Name)) (ns : List Name) (fault : CheckFault) (i : ℕ) (best : Option Found)
+    → names_of names ≡ ns → i ≤ length names → length names ≤ i
     → Finds (Only fault (Below ns fault i)) best → Finds (Only fault (IsTwice ns)) best
 all_here names ns fault i best same low high =
     all_below ns fault i best (omega (arith, length-map names (λ (r : Bor Name). r.now), ap (λ (xs : List Name). length xs) same))

@@ -26,13 +26,19 @@ module _ (declared : List Name) where
       (λ g at x. (x.0, ap (λ (m : Name). m.at) x.1.1 ∙ x.1.3))
       (finds_one UnknownVariable n.at)
 
-  pub same_stray : (Used Uses : Name → Type 0) (o : Option Found) → ((n : Name) → Used n → Uses n) → ((n : Name) → Uses n → Used n) → Finds (IsStray declared Used) o → Finds (IsStray declared Uses) o
+  pub same_stray : (Used Uses : Name → Type 0) (o : Option Found) → ((n : Name) → Used n → Uses n)
+      → ((n : Name) → Uses n → Used n) → Finds (IsStray declared Used) o → Finds (IsStray declared Uses) o
   same_stray Used Uses o to from =
-      finds_same (IsStray declared Used) (IsStray declared Uses) o (λ g at x. (x.0, (x.1.0, to x.1.0 x.1.1, x.1.2, x.1.3))) (λ g at x. (x.0, (x.1.0, from x.1.0 x.1.1, x.1.2, x.1.3)))
+      finds_same (IsStray declared Used) (IsStray declared Uses) o
+      (λ g at x. (x.0, (x.1.0, to x.1.0 x.1.1, x.1.2, x.1.3)))
+      (λ g at x. (x.0, (x.1.0, from x.1.0 x.1.1, x.1.2, x.1.3)))
 
-  pub both_stray : (Used Uses : Name → Type 0) (a b : Option Found) → Finds (IsStray declared Used) a → Finds (IsStray declared Uses) b → Finds (IsStray declared (λ n. Used n ⊎ Uses n)) (least_of a b)
+  pub both_stray : (Used Uses : Name → Type 0) (a b : Option Found) → Finds (IsStray declared Used) a
+      → Finds (IsStray declared Uses) b → Finds (IsStray declared (λ n. Used n ⊎ Uses n)) (least_of a b)
   both_stray Used Uses a b h k =
-      finds_same (λ g at. IsStray declared Used g at ⊎ IsStray declared Uses g at) (IsStray declared (λ n. Used n ⊎ Uses n)) (least_of a b) to from (finds_both (IsStray declared Used) (IsStray declared Uses) a b h k)
+      finds_same (λ g at. IsStray declared Used g at ⊎ IsStray declared Uses g at)
+      (IsStray declared (λ n. Used n ⊎ Uses n)) (least_of a b) to from
+      (finds_both (IsStray declared Used) (IsStray declared Uses) a b h k)
     where
       to : (g : CheckFault) (at : ℕ) → IsStray declared Used g at ⊎ IsStray declared Uses g at → IsStray declared (λ n. Used n ⊎ Uses n) g at
       to g at (inl x) = (x.0, (x.1.0, inl x.1.1, x.1.2, x.1.3))
@@ -74,10 +80,12 @@ expression_more declared es i e a b within is h k =
 
 -- one more name of a slice
 pub name_more : (declared ns : List Name) (i : ℕ) (n : Name) (a b : Option Found) → i < length ns → n ≡ get_or ns i n
-    → Finds (IsStray declared (Among (take i ns))) a → Finds (IsStray declared (λ m. n ≡ m)) b → Finds (IsStray declared (Among (take (i + 1) ns))) (least_of a b)
+    → Finds (IsStray declared (Among (take i ns))) a → Finds (IsStray declared (λ m. n ≡ m)) b
+    → Finds (IsStray declared (Among (take (i + 1) ns))) (least_of a b)
 name_more declared ns i n a b within is h k =
     let grown = take_more ns i n within ∙ ap (λ x. take i ns ++ x ∷ []) (sym is) in
-    rw grown (same_stray declared (λ m. Among (take i ns) m ⊎ n ≡ m) (Among (take i ns ++ n ∷ [])) (least_of a b) to from (both_stray declared (Among (take i ns)) (λ m. n ≡ m) a b h k))
+    rw grown (same_stray declared (λ m. Among (take i ns) m ⊎ n ≡ m) (Among (take i ns ++ n ∷ []))
+    (least_of a b) to from (both_stray declared (Among (take i ns)) (λ m. n ≡ m) a b h k))
   where
     to : (m : Name) → Among (take i ns) m ⊎ n ≡ m → Among (take i ns ++ n ∷ []) m
     to m (inl x) = Among-front (take i ns) (n ∷ []) m x

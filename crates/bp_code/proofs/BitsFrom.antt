@@ -11,5 +11,6 @@ more_at (x ∷ bs) (suc i) b zero e = refl
 more_at (x ∷ bs) (suc i) b (suc j) e = more_at bs i b j e
 
 -- the i-th of the bits at the slot i
-pub bits_from_more : (bs : List Bool) (i : ℕ) (b : Bool) (w : Bits) → slice_get bs i ≡ Some b → w ≡ bits_from (take i bs) → with_bit w i b ≡ bits_from (take (i + 1) bs)
+pub bits_from_more : (bs : List Bool) (i : ℕ) (b : Bool) (w : Bits) → slice_get bs i ≡ Some b
+    → w ≡ bits_from (take i bs) → with_bit w i b ≡ bits_from (take (i + 1) bs)
 bits_from_more bs i b w e same = rw (same, add-one) (fun_ext (λ j. more_at bs i b j e))

@@ -34,8 +34,11 @@ at_seam (x ∷ pre) q qs = at_seam pre q qs
 stands_after : (pre qs : List Place) → StandsAt (pre ++ qs) (length pre) qs
 stands_after pre [] = tt
 stands_after pre (q ∷ qs) =
-    let longer : length (pre ++ q ∷ []) ≡ suc (length pre) = simp length-append (omega arith) in
-    (at_seam pre q qs, subst (λ n. StandsAt (pre ++ q ∷ qs) n qs) longer (subst (λ t. StandsAt t (length (pre ++ q ∷ [])) qs) (append_assoc pre (q ∷ []) qs) (stands_after (pre ++ q ∷ []) qs)))
+    let longer : length (pre ++ q ∷ []) ≡ suc (length pre) = simp length-append (omega arith) in (
+      at_seam pre q qs,
+      subst (λ n. StandsAt (pre ++ q ∷ qs) n qs) longer
+          (subst (λ t. StandsAt t (length (pre ++ q ∷ [])) qs) (append_assoc pre (q ∷ []) qs) (stands_after (pre ++ q ∷ []) qs)),
+    )
 
 pub stands_whole : (table : List Place) → StandsAt table 0 table
 stands_whole table = stands_after [] table
@@ -87,7 +90,8 @@ module _ (table : List Place) (p : Procedure) where
   pub rest_stands : (s : Statement) (label : Option Name) (at : ℕ) (t r : Block) (n : ℕ) → StandsAt table n (places p (Then label at s t) r)
       → StandsAt table (n + size s) (places p t r)
   rest_stands s label at t r n h =
-      subst (λ m. StandsAt table (n + m) (places p t r)) (places_in_length p s label at (chain t r)) (stands_right table n (places_in p s label at (chain t r)) (places p t r) h)
+      subst (λ m. StandsAt table (n + m) (places p t r)) (places_in_length p s label at (chain t r))
+      (stands_right table n (places_in p s label at (chain t r)) (places p t r) h)
 
   pub first_remains : (l r : Block) (n next : ℕ) → StandsAt table n (places p l r) → Remains table next p r → Remains table (block_entry l n next) p (chain l r)
   first_remains Done r n next h after = after
@@ -123,7 +127,10 @@ module _ (table : List Place) (p : Procedure) where
     pub labels : (l r : Block) (n : ℕ) (x : List ℕ) → StandsAt table n (places p l r) → SameLabel (label_number l n x) (from_label l r x)
     labels Done r n x h = tt
     labels (Then label at s t) r n x h =
-        elim (has_label label x) as (λ b. SameLabel (cond b (Some n) (option_or (inner_number s n x) (label_number t (n + size s) x))) (cond b (Some (Then label at s (chain t r))) (option_or (from_inside s label at (chain t r) x) (from_label t r x)))) [
+        elim (has_label label x) as (λ b. SameLabel
+        (cond b (Some n) (option_or (inner_number s n x) (label_number t (n + size s) x)))
+        (cond b (Some (Then label at s (chain t r)))
+        (option_or (from_inside s label at (chain t r) x) (from_label t r x)))) [
           | true ↦ head_of s label at (chain t r) n (one_stands s label at t r n h)
           | false ↦ same_or (inner_number s n x) (label_number t (n + size s) x) (from_inside s label at (chain t r) x) (from_label t r x)
               (inner_labels s label at (chain t r) n x (one_stands s label at t r n h)) (labels t r (n + size s) x (rest_stands s label at t r n h))
@@ -166,12 +173,14 @@ chain_done (Then label at s t) = ap (Then label at s) (chain_done t)
 
 module _ (table : List Place) where
   -- a procedure's end, where its block stands and its end after it
-  end_remains : (p : Procedure) (n : ℕ) (ps : List Place) → StandsAt table n (places p p.body Done ++ (place p Done ∷ ps)) → Remains table (n + block_size p.body) p Done
+  end_remains : (p : Procedure) (n : ℕ) (ps : List Place)
+      → StandsAt table n (places p p.body Done ++ (place p Done ∷ ps)) → Remains table (n + block_size p.body) p Done
   end_remains p n ps h =
       let e = stands_right table n (places p p.body Done) (place p Done ∷ ps) h in
       subst (λ m. Remains table (n + m) p Done) (places_length p p.body Done) e.0
 
-  more_stand : (p : Procedure) (n : ℕ) (ps : List Place) → StandsAt table n (places p p.body Done ++ (place p Done ∷ ps)) → StandsAt table (n + block_size p.body + 1) ps
+  more_stand : (p : Procedure) (n : ℕ) (ps : List Place)
+      → StandsAt table n (places p p.body Done ++ (place p Done ∷ ps)) → StandsAt table (n + block_size p.body + 1) ps
   more_stand p n ps h =
       let e = stands_right table n (places p p.body Done) (place p Done ∷ ps) h in
       rw add-one (subst (λ m. StandsAt table (suc (n + m)) ps) (places_length p p.body Done) e.1)
@@ -182,8 +191,10 @@ module _ (table : List Place) where
 
   entry_remains : (p : Procedure) (n : ℕ) (ps : List Place) → StandsAt table n (places p p.body Done ++ (place p Done ∷ ps)) → Remains table n p p.body
   entry_remains p n ps h =
-      let at = first_remains table p p.body Done n (n + block_size p.body) (stands_left table n (places p p.body Done) (place p Done ∷ ps) h) (end_remains p n ps h) in
-      subst (λ m. Remains table m p p.body) (first_number p.body n) (subst (Remains table (block_entry p.body n (n + block_size p.body)) p) (chain_done p.body) at)
+      let at = first_remains table p p.body Done n (n + block_size p.body)
+      (stands_left table n (places p p.body Done) (place p Done ∷ ps) h) (end_remains p n ps h) in
+      subst (λ m. Remains table m p p.body) (first_number p.body n)
+      (subst (Remains table (block_entry p.body n (n + block_size p.body)) p) (chain_done p.body) at)
 
   pub headed_at : (ps : List Procedure) (n k : ℕ) (p : Procedure) → StandsAt table n (places_of ps) → slice_get ps k ≡ Some p
       → (h : Heading) × (slice_get (headings_from n ps) k ≡ Some h) × Heads table p h
@@ -205,7 +216,9 @@ module _ (table : List Place) where
   callee_found (p ∷ ps) n x q h e =
       let later = headings_from (n + block_size p.body + 1) ps in
       let heading : Heading = record { name = p.name.text; formals = length p.formals; locals = length p.locals; entry = n } in
-      (elim (bytes_eq p.name.text x) as (λ b. cond b (Some p) (procedure_named ps x) ≡ Some q → (c : ℕ) × (option_map (λ h. h.entry) (cond b (Some heading) (heading_named later x)) ≡ Some c) × Remains table c q q.body) [
+      (elim (bytes_eq p.name.text x) as (λ b. cond b (Some p) (procedure_named ps x) ≡ Some q
+      → (c : ℕ) × (option_map (λ h. h.entry) (cond b (Some heading) (heading_named later x)) ≡ Some c)
+      × Remains table c q q.body) [
         | true ↦ λ e. let is : p ≡ q = cc in (n, refl, subst (λ q. Remains table n q q.body) is (entry_remains p n (places_of ps) h))
         | false ↦ λ e. callee_found ps (n + block_size p.body + 1) x q (more_stand p n (places_of ps) h) e
       ]) e
@@ -218,7 +231,8 @@ EachDoes t table (q ∷ qs) (i ∷ is) = Does t table q.procedure q.left i × Ea
 EachDoes t table [] (i ∷ is) = ⊥
 EachDoes t table (q ∷ qs) [] = ⊥
 
-both_do : (t : Program) (table qs rs : List Place) (is js : List Instruction) → EachDoes t table qs is → EachDoes t table rs js → EachDoes t table (qs ++ rs) (is ++ js)
+both_do : (t : Program) (table qs rs : List Place) (is js : List Instruction) → EachDoes t table qs is
+    → EachDoes t table rs js → EachDoes t table (qs ++ rs) (is ++ js)
 both_do t table [] rs [] js h k = k
 both_do t table (q ∷ qs) rs (i ∷ is) js h k = (h.0, both_do t table qs rs is js h.1 k)
 both_do t table [] rs (i ∷ is) js h k = absurd h
@@ -230,7 +244,8 @@ as_many t table (q ∷ qs) (i ∷ is) h = ap suc (as_many t table qs is h.1)
 as_many t table [] (i ∷ is) h = absurd h
 as_many t table (q ∷ qs) [] h = absurd h
 
-does_at : (t : Program) (table qs : List Place) (is : List Instruction) (n : ℕ) (p : Procedure) (r : Block) → EachDoes t table qs is → slice_get qs n ≡ Some (place p r)
+does_at : (t : Program) (table qs : List Place) (is : List Instruction) (n : ℕ) (p : Procedure) (r : Block)
+    → EachDoes t table qs is → slice_get qs n ≡ Some (place p r)
     → (i : Instruction) × (slice_get is n ≡ Some i) × Does t table p r i
 does_at t table [] is n p r h e = cc
 does_at t table (q ∷ qs) (i ∷ is) zero p r h e = let same : q ≡ place p r = cc in (i, refl, subst (λ q. Does t table q.procedure q.left i) same h.0)
@@ -251,11 +266,15 @@ module _ (t : Program) (whole : StandsAt (places_of t.procedures) 0 (places_of t
     block_is_code Done r n next names h after = tt
     block_is_code (Then label at s l) r n next names h after =
         let rest = rest_stands table p s label at l r n h in
-        both_do t table (places_in p s label at (chain l r)) (places p l r) (statement_code environment s n (block_entry l (n + size s) next)) (block_code environment l (n + size s) next)
-        (statement_does s label at (chain l r) n (block_entry l (n + size s) next) names.0 (one_stands table p s label at l r n h) (first_remains table p l r (n + size s) next rest after))
+        both_do t table (places_in p s label at (chain l r)) (places p l r)
+        (statement_code environment s n (block_entry l (n + size s) next))
+        (block_code environment l (n + size s) next)
+        (statement_does s label at (chain l r) n (block_entry l (n + size s) next) names.0
+        (one_stands table p s label at l r n h) (first_remains table p l r (n + size s) next rest after))
         (block_is_code l r (n + size s) next names.1 rest after)
 
-    statement_does : (s : Statement) (label : Option Name) (at : ℕ) (r : Block) (n next : ℕ) → HasNamesIn t p s → StandsAt table n (places_in p s label at r) → Remains table next p r
+    statement_does : (s : Statement) (label : Option Name) (at : ℕ) (r : Block) (n next : ℕ) → HasNamesIn t p s
+        → StandsAt table n (places_in p s label at r) → Remains table next p r
         → EachDoes t table (places_in p s label at r) (statement_code environment s n next)
     statement_does Skips label at r n next names h after = (record { next = next; is = refl; next_is = after }, tt)
     statement_does (GoesTo x) label at r n next names h after =

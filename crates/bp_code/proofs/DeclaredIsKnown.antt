@@ -21,18 +21,25 @@ mutual
   pub label_there : (l r : Block) (n : ℕ) (x : List ℕ) → is_some (label_number l n x) ≡ is_some (from_label l r x)
   label_there Done r n x = refl
   label_there (Then label at s t) r n x =
-      elim (has_label label x) as (λ b. is_some (cond b (Some n) (option_or (inner_number s n x) (label_number t (n + size s) x))) ≡ is_some (cond b (Some (Then label at s (chain t r))) (option_or (from_inside s label at (chain t r) x) (from_label t r x)))) [
+      elim (has_label label x) as (λ b. is_some
+      (cond b (Some n) (option_or (inner_number s n x) (label_number t (n + size s) x)))
+      ≡ is_some
+      (cond b (Some (Then label at s (chain t r))) (option_or (from_inside s label at (chain t r) x) (from_label t r x)))) [
         | true ↦ refl
-        | false ↦ same_or (inner_number s n x) (label_number t (n + size s) x) (from_inside s label at (chain t r) x) (from_label t r x) (inner_there s label at (chain t r) n x) (label_there t r (n + size s) x)
+        | false ↦
+            same_or (inner_number s n x) (label_number t (n + size s) x) (from_inside s label at (chain t r) x)
+            (from_label t r x) (inner_there s label at (chain t r) n x) (label_there t r (n + size s) x)
       ]
 
-  inner_there : (s : Statement) (label : Option Name) (at : ℕ) (r : Block) (n : ℕ) (x : List ℕ) → is_some (inner_number s n x) ≡ is_some (from_inside s label at r x)
+  inner_there : (s : Statement) (label : Option Name) (at : ℕ) (r : Block) (n : ℕ) (x : List ℕ)
+      → is_some (inner_number s n x) ≡ is_some (from_inside s label at r x)
   inner_there Skips label at r n x = refl
   inner_there (GoesTo y) label at r n x = refl
   inner_there Returns label at r n x = refl
   inner_there (Assigns xs es) label at r n x = refl
   inner_there (Branches d a b) label at r n x =
-      same_or (label_number a (n + 1) x) (label_number b (n + 1 + block_size a) x) (from_label a r x) (from_label b r x) (label_there a r (n + 1) x) (label_there b r (n + 1 + block_size a) x)
+      same_or (label_number a (n + 1) x) (label_number b (n + 1 + block_size a) x) (from_label a r x) (from_label b r x)
+      (label_there a r (n + 1) x) (label_there b r (n + 1 + block_size a) x)
   inner_there (Loops d a) label at r n x = label_there a (Then label at (Loops d a) r) (n + 1) x
   inner_there (Asserts d) label at r n x = refl
   inner_there (Assumes d) label at r n x = refl
@@ -44,7 +51,8 @@ heading_there [] n x = refl
 heading_there (p ∷ ps) n x =
     let later = n + block_size p.body + 1 in
     let heading : Heading = record { name = p.name.text; formals = length p.formals; locals = length p.locals; entry = n } in
-    elim (bytes_eq p.name.text x) as (λ b. is_some (cond b (Some heading) (heading_named (headings_from later ps) x)) ≡ is_some (cond b (Some p) (procedure_named ps x))) [
+    elim (bytes_eq p.name.text x) as (λ b. is_some (cond b (Some heading) (heading_named (headings_from later ps) x))
+    ≡ is_some (cond b (Some p) (procedure_named ps x))) [
       | true ↦ refl
       | false ↦ heading_there ps later x
     ]
@@ -71,7 +79,8 @@ module _ (t : Program) (able : AllCompilableIn t t.procedures) (p : Procedure) (
   environment = record { globals = t.globals; procedure = p; start = start; headings = headings_from 0 t.procedures }
 
   mutual
-    pub all_known : (l : Block) → HasNames t p l → IsKnown (record { globals = t.globals; procedure = p; start = start; headings = headings_from 0 t.procedures }) l
+    pub all_known : (l : Block) → HasNames t p l
+        → IsKnown (record { globals = t.globals; procedure = p; start = start; headings = headings_from 0 t.procedures }) l
     all_known Done h = tt
     all_known (Then label at s l) h = (one_known s h.0, all_known l h.1)
 

@@ -13,7 +13,8 @@ use Rattle.bp_code.specs.Compiled.{heading_named}
 pub index_later : (n : ℕ) (ys : List Name) (x : List ℕ) → first_index_from (n + 1) ys x ≡ option_map suc (first_index_from n ys x)
 index_later n [] x = refl
 index_later n (y ∷ ys) x =
-    elim (bytes_eq y.text x) as (λ b. cond b (Some (n + 1)) (first_index_from (n + 1 + 1) ys x) ≡ option_map suc (cond b (Some n) (first_index_from (n + 1) ys x))) [
+    elim (bytes_eq y.text x) as (λ b. cond b (Some (n + 1)) (first_index_from (n + 1 + 1) ys x)
+    ≡ option_map suc (cond b (Some n) (first_index_from (n + 1) ys x))) [
       | true ↦ ap Some (add-one n)
       | false ↦ index_later (n + 1) ys x
     ]
@@ -44,7 +45,8 @@ module _ (x : List ℕ) where
       let first : h.name ≡ n.text = cc in
       let others : map (λ (h : Heading). h.name) hs ≡ map (λ (n : Name). n.text) ns = cc in
       ap (λ (t : List ℕ). cond (bytes_eq t x) (Some h) (heading_named hs x)) first
-      ∙ elim (bytes_eq n.text x) as (λ b. cond b (Some h) (heading_named hs x) ≡ option_and_then (slice_get (h ∷ hs)) (cond b (Some 0) (first_index_from 1 ns x))) [
+      ∙ elim (bytes_eq n.text x) as (λ b. cond b (Some h) (heading_named hs x)
+      ≡ option_and_then (slice_get (h ∷ hs)) (cond b (Some 0) (first_index_from 1 ns x))) [
         | true ↦ refl
         | false ↦ heading_first ns hs others ∙ one_later h hs (first_index ns x) ∙ ap (option_and_then (slice_get (h ∷ hs))) (sym (index_later 0 ns x))
       ]
@@ -69,5 +71,7 @@ module _ (x : List ℕ) where
   pub entry_of_first : (k : ℕ) (h : Heading) (ns : List Name) (hs : List Heading) → map (λ (h : Heading). h.name) hs ≡ map (λ (n : Name). n.text) ns
       → first_index ns x ≡ Some k → h ≡ get_or hs k h → h.entry ≡ unwrap_or (option_map (λ (h : Heading). h.entry) (heading_named hs x)) 0
   entry_of_first k h ns hs same e is =
-      let found = heading_first ns hs same ∙ ap (option_and_then (slice_get hs)) e ∙ slice_get-get_or hs k h (heading_within k ns hs same e) ∙ ap Some (sym is) in
+      let found =
+      heading_first ns hs same ∙ ap (option_and_then (slice_get hs)) e
+      ∙ slice_get-get_or hs k h (heading_within k ns hs same e) ∙ ap Some (sym is) in
       ap (λ o. unwrap_or (option_map (λ (h : Heading). h.entry) o) 0) (sym found)

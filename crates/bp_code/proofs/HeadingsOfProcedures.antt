@@ -30,14 +30,17 @@ module _ (table : List Place) (x : List ℕ) where
       let is : first ≡ h = cc in
       let own = subst (λ (k : Heading). Heads table p k) is heads in
       let rest = named hs ps (omega (arith, size)) (λ k q at. each (suc k) q at) in
-      subst (λ n. SameHeading table (if bytes_eq n x then Some h else heading_named hs x) (if bytes_eq p.name.text x then Some p else procedure_named ps x)) (sym own.name)
+      subst (λ n. SameHeading table (if bytes_eq n x then Some h else heading_named hs x)
+      (if bytes_eq p.name.text x then Some p else procedure_named ps x)) (sym own.name)
       (choice (bytes_eq p.name.text x) h p (heading_named hs x) (procedure_named ps x) own rest)
 
-pub heading_of_procedure : (c : Flat) (t : Program) (x : List ℕ) → StandsFor c t → SameHeading (places_of t.procedures) (heading_named c.headings x) (procedure_named t.procedures x)
+pub heading_of_procedure : (c : Flat) (t : Program) (x : List ℕ) → StandsFor c t
+    → SameHeading (places_of t.procedures) (heading_named c.headings x) (procedure_named t.procedures x)
 heading_of_procedure c t x is = named (places_of t.procedures) x c.headings t.procedures is.procedures is.headed
 
 module _ (table : List Place) where
-  formals_alike : (h : Option Heading) (o : Option Procedure) → SameHeading table h o → option_map (λ (k : Heading). k.formals) h ≡ option_map (λ (p : Procedure). length p.formals) o
+  formals_alike : (h : Option Heading) (o : Option Procedure) → SameHeading table h o
+      → option_map (λ (k : Heading). k.formals) h ≡ option_map (λ (p : Procedure). length p.formals) o
   formals_alike None o none = ap (option_map (λ (p : Procedure). length p.formals)) (sym none)
   formals_alike (Some h) o (p, is, heads) = ap Some heads.formals ∙ ap (option_map (λ (q : Procedure). length q.formals)) (sym is)
 
@@ -48,7 +51,8 @@ entry_alike t (Some h) o (p, is, heads) = record { procedure = p; is = is; begin
 
 module _ (c : Flat) (t : Program) (x : List ℕ) (is : StandsFor c t) where
   -- the number of formals
-  pub formals_of_procedure : option_map (λ (k : Heading). k.formals) (heading_named c.headings x) ≡ option_map (λ (p : Procedure). length p.formals) (procedure_named t.procedures x)
+  pub formals_of_procedure : option_map (λ (k : Heading). k.formals) (heading_named c.headings x)
+      ≡ option_map (λ (p : Procedure). length p.formals) (procedure_named t.procedures x)
   formals_of_procedure = formals_alike (places_of t.procedures) _ _ (heading_of_procedure c t x is)
 
   -- the first instruction
@@ -64,6 +68,8 @@ module _ (c : Flat) (t : Program) (x : List ℕ) (is : StandsFor c t) where
   entry_missing e = subst (λ o. MatchOption o (procedure_named t.procedures x ≡ None) (IsEntryOf t (procedure_named t.procedures x))) (sym e) entry_of_procedure
 
 -- headings have the names of their procedures, in order
-pub names_of_headings : (n : ℕ) (ps : List Procedure) → map (λ (h : Heading). h.name) (headings_from n ps) ≡ map (λ (m : Name). m.text) (map (λ (p : Procedure). p.name) ps)
+pub names_of_headings : (n : ℕ) (ps : List Procedure)
+    → map (λ (h : Heading). h.name) (headings_from n ps)
+    ≡ map (λ (m : Name). m.text) (map (λ (p : Procedure). p.name) ps)
 names_of_headings n [] = refl
 names_of_headings n (p ∷ ps) = ap (λ ns. p.name.text ∷ ns) (names_of_headings (n + block_size p.body + 1) ps)

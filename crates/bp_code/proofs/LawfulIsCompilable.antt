@@ -64,7 +64,8 @@ module _ (t : Program) (p : Procedure) where
   in_expression (Negation e) h = in_expression e h
   in_expression (Operation op a b) h = (in_expression a (λ n u. h n (inl u)), in_expression b (λ n u. h n (inr u)))
 
-  in_expressions : (es : List Expression) → ((n : Name) → SomeUses es n → has (variables p ++ t.globals) n.text ≡ true) → NamesInExpressions (HasSlot t.globals p) es
+  in_expressions : (es : List Expression) → ((n : Name) → SomeUses es n → has (variables p ++ t.globals) n.text ≡ true)
+      → NamesInExpressions (HasSlot t.globals p) es
   in_expressions [] h = tt
   in_expressions (e ∷ es) h =
       (in_expression e (λ n u. h n (e, inl refl, u)), in_expressions es (λ n u. h n (u.0, inr u.1, u.2)))
@@ -86,7 +87,9 @@ module _ (t : Program) (p : Procedure) where
       elim (one_of (has (option_to_list l.label) x) (has (labels_of (xs ++ ys)) x) parts) [
         | inl here ↦ inl (list_any-append test (option_to_list l.label) (labels_of xs) ∙ ap (λ b. b || has (labels_of xs) x) here)
         | inr there ↦ elim (labels_append xs ys x there) [
-          | inl a ↦ inl (list_any-append test (option_to_list l.label) (labels_of xs) ∙ ap (λ b. has (option_to_list l.label) x || b) a ∙ any_true (has (option_to_list l.label) x))
+          | inl a ↦
+              inl (list_any-append test (option_to_list l.label) (labels_of xs)
+              ∙ ap (λ b. has (option_to_list l.label) x || b) a ∙ any_true (has (option_to_list l.label) x))
           | inr b ↦ inr b
         ]
       ]
@@ -101,14 +104,21 @@ module _ (t : Program) (p : Procedure) where
     found_in (Then label at s u) r x e =
         first_or_later (has_label label x) (Then label at s (chain u r)) _
         (elim (labels_append (record { label = label; statement = s } ∷ []) (statements_inside s ++ statements u) x e) [
-          | inl own ↦ inl (own_label label x (elim (one_of (has (option_to_list label) x) false (sym (list_any-append (λ (n : Name). bytes_eq n.text x) (option_to_list label) []) ∙ own)) [ inl h ↦ h | inr h ↦ absurd cc ]))
+          | inl own ↦
+              inl (own_label label x
+              (elim (one_of (has (option_to_list label) x) false
+              (sym (list_any-append (λ (n : Name). bytes_eq n.text x) (option_to_list label) []) ∙ own)) [
+                | inl h ↦ h
+                | inr h ↦ absurd cc
+              ]))
           | inr rest ↦ inr (some_or _ _ (elim (labels_append (statements_inside s) (statements u) x rest) [
             | inl a ↦ inl (found_inside s label at (chain u r) x a)
             | inr b ↦ inr (found_in u r x b)
           ]))
         ])
 
-    found_inside : (s : Statement) (label : Option Name) (at : ℕ) (r : Block) (x : List ℕ) → has (labels_of (statements_inside s)) x ≡ true → IsSome (from_inside s label at r x)
+    found_inside : (s : Statement) (label : Option Name) (at : ℕ) (r : Block) (x : List ℕ)
+        → has (labels_of (statements_inside s)) x ≡ true → IsSome (from_inside s label at r x)
     found_inside (Branches d a b) label at r x e =
         some_or _ _ (elim (labels_append (statements a) (statements b) x e) [ inl h ↦ inl (found_in a r x h) | inr h ↦ inr (found_in b r x h) ])
     found_inside (Loops d a) label at r x e = found_in a (Then label at (Loops d a) r) x e
@@ -129,16 +139,22 @@ module _ (t : Program) (p : Procedure) where
   mutual
     in_block : (b : Block) → ((l : Labelled) → Among (statements b) l → IsFine l.statement) → HasNames t p b
     in_block Done fine = tt
-    in_block (Then label at s u) fine =
-        (in_statement s (fine (record { label = label; statement = s }) (inl refl)) (λ l m. fine l (inr (among_front (statements_inside s) (statements u) l m))), in_block u (λ l m. fine l (inr (among_back (statements_inside s) (statements u) l m))))
+    in_block (Then label at s u) fine = (
+      in_statement s (fine (record { label = label; statement = s }) (inl refl))
+          (λ l m. fine l (inr (among_front (statements_inside s) (statements u) l m))),
+      in_block u (λ l m. fine l (inr (among_back (statements_inside s) (statements u) l m))),
+    )
 
     in_statement : (s : Statement) → IsFine s → ((l : Labelled) → Among (statements_inside s) l → IsFine l.statement) → HasNamesIn t p s
     in_statement Skips fine inside = tt
     in_statement (GoesTo x) fine inside = found_in p.body Done x.text fine.sound
     in_statement Returns fine inside = tt
     in_statement (Assigns xs es) fine inside = (in_names xs (λ n u. fine.uses n (inl u)), in_expressions es (λ n u. fine.uses n (inr u)))
-    in_statement (Branches d a b) fine inside =
-        (in_decision d fine.uses, in_block a (λ l m. inside l (among_front (statements a) (statements b) l m)), in_block b (λ l m. inside l (among_back (statements a) (statements b) l m)))
+    in_statement (Branches d a b) fine inside = (
+      in_decision d fine.uses,
+      in_block a (λ l m. inside l (among_front (statements a) (statements b) l m)),
+      in_block b (λ l m. inside l (among_back (statements a) (statements b) l m)),
+    )
     in_statement (Loops d a) fine inside = (in_decision d fine.uses, in_block a inside)
     in_statement (Asserts d) fine inside = in_decision d fine.uses
     in_statement (Assumes d) fine inside = in_decision d fine.uses

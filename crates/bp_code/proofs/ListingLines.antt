@@ -4,7 +4,8 @@ use Rattle.bp_code.specs.Flat.{Instruction, Heading}
 use Rattle.bp_code.specs.Listing.{heading_line, instruction_line, instruction_lines, lines_between, end_before, procedure_lines}
 use Rattle.bp_code.proofs.ListItems.{drop_item, dropped_all}
 
-take_one : (is : List Instruction) (n k : ℕ) (i : Instruction) → instruction_lines n (take (suc k) (i ∷ is)) ≡ instruction_line n i ++ instruction_lines (n + 1) (take k is)
+take_one : (is : List Instruction) (n k : ℕ) (i : Instruction)
+    → instruction_lines n (take (suc k) (i ∷ is)) ≡ instruction_line n i ++ instruction_lines (n + 1) (take k is)
 take_one is n k i = refl
 
 -- the line of the n-th, and those behind it

@@ -26,7 +26,8 @@ pub noted : (key label : List ℕ) (n : ℕ) (old new : List ℕ → Option ℕ)
     → ((text : List ℕ) → new text ≡ (if bytes_eq key text then Some n else old text))
     → (text : List ℕ) → new text ≡ option_or (old text) (if bytes_eq label text then Some n else None)
 noted key label n old new is free put text =
-    put text ∙ ap (λ (k : List ℕ). if bytes_eq k text then Some n else old text) is ∙ by_case (bytes_eq label text) (old text) (λ same. sym (free ∙ ap old (is ∙ spelled label text same)))
+    put text ∙ ap (λ (k : List ℕ). if bytes_eq k text then Some n else old text) is
+    ∙ by_case (bytes_eq label text) (old text) (λ same. sym (free ∙ ap old (is ∙ spelled label text same)))
   where
     spelled : (a b : List ℕ) → bytes_eq a b ≡ true → a ≡ b
     spelled a b e = grind (arith, bytes_eq-Decides a b, e)

@@ -77,7 +77,8 @@ module _ (table : List ℕ) (start : ℕ) where
   pub first_part : (n : ℕ) (a b : Block) → AreSizesAt table start n (block_sizes a ++ block_sizes b) → AreSizesAt table start n (block_sizes a)
   first_part n a b h = sizes_left n (block_sizes a) (block_sizes b) h
 
-  pub second_part : (n : ℕ) (a b : Block) → AreSizesAt table start n (block_sizes a ++ block_sizes b) → AreSizesAt table start (n + block_size a) (block_sizes b)
+  pub second_part : (n : ℕ) (a b : Block) → AreSizesAt table start n (block_sizes a ++ block_sizes b)
+      → AreSizesAt table start (n + block_size a) (block_sizes b)
   second_part n a b h = subst (λ k. AreSizesAt table start (n + k) (block_sizes b)) (sizes_length a) (sizes_right n (block_sizes a) (block_sizes b) h)
 
 -- the sizes of a whole table

@@ -25,7 +25,8 @@ shifted bits (Some k) = refl
 lookup_in_valuation : (ns : List Name) (bits : Bits) (x : List ℕ) → lookup (valuation_of ns bits) x ≡ option_map bits (first_index_from 0 ns x)
 lookup_in_valuation [] bits x = refl
 lookup_in_valuation (y ∷ ys) bits x =
-    elim (bytes_eq y.text x) as (λ b. cond b (Some (bits 0)) (lookup (valuation_of ys (λ k. bits (suc k))) x) ≡ option_map bits (cond b (Some 0) (first_index_from 1 ys x))) [
+    elim (bytes_eq y.text x) as (λ b. cond b (Some (bits 0)) (lookup (valuation_of ys (λ k. bits (suc k))) x)
+    ≡ option_map bits (cond b (Some 0) (first_index_from 1 ys x))) [
       | true ↦ refl
       | false ↦ lookup_in_valuation ys (λ k. bits (suc k)) x ∙ sym (ap (option_map bits) (index_later 0 ys x) ∙ shifted bits (first_index_from 0 ys x))
     ]
@@ -39,7 +40,8 @@ before (Some j) k e = let same : suc j ≡ k = cc in (j, refl, sym same)
 update_first : (y : Name) (ys : List Name) (bits : Bits) (x : List ℕ) (c : Bool) (k : ℕ) (b : Bool)
     → ((j : ℕ) → first_index_from 0 ys x ≡ Some j → update (valuation_of ys (λ i. bits (suc i))) x b ≡ valuation_of ys (with_bit (λ i. bits (suc i)) j b))
     → cond c (Some 0) (first_index_from 1 ys x) ≡ Some k
-    → cond c ((y.text, b) ∷ valuation_of ys (λ i. bits (suc i))) ((y.text, bits 0) ∷ update (valuation_of ys (λ i. bits (suc i))) x b) ≡ valuation_of (y ∷ ys) (with_bit bits k b)
+    → cond c ((y.text, b) ∷ valuation_of ys (λ i. bits (suc i)))
+    ((y.text, bits 0) ∷ update (valuation_of ys (λ i. bits (suc i))) x b) ≡ valuation_of (y ∷ ys) (with_bit bits k b)
 update_first y ys bits x true k b rest e =
     let first : 0 ≡ k = cc in
     subst (λ j. (y.text, b) ∷ valuation_of ys (λ i. bits (suc i)) ≡ valuation_of (y ∷ ys) (with_bit bits j b)) first refl
@@ -61,7 +63,8 @@ read_at None None w s e = cc
 module _ (globals : List Name) (p : Procedure) (w : Store Bits) where
   pub slot_read : (x : List ℕ) (s : Slot) → slot_of globals p x ≡ Some s → slot_bit w s ≡ variable_value (named_store globals p w) x
   slot_read x s e =
-      sym (rw (lookup_in_valuation (variables p) w.locals x, lookup_in_valuation globals w.globals x) (read_at (first_index_from 0 (variables p) x) (first_index_from 0 globals x) w s e))
+      sym (rw (lookup_in_valuation (variables p) w.locals x, lookup_in_valuation globals w.globals x)
+      (read_at (first_index_from 0 (variables p) x) (first_index_from 0 globals x) w s e))
 
   after_write_at : (x : List ℕ) (b : Bool) (s : Slot) (l g : Option ℕ) → first_index_from 0 (variables p) x ≡ l → first_index_from 0 globals x ≡ g
       → option_or (option_map Local l) (option_map Global g) ≡ Some s
@@ -69,11 +72,15 @@ module _ (globals : List Name) (p : Procedure) (w : Store Bits) where
   after_write_at x b s (Some k) g el eg e =
       let is : Local k ≡ s = cc in
       subst (λ s. named_store globals p (with_slot w s b) ≡ after_write (named_store globals p w) x b) is
-      (rw (lookup_in_valuation (variables p) w.locals x, el) (ap (λ m. record { globals = valuation_of globals w.globals; locals = m }) (sym (update_in_valuation (variables p) w.locals x k b el))))
+      (rw (lookup_in_valuation (variables p) w.locals x, el)
+      (ap (λ m. record { globals = valuation_of globals w.globals; locals = m })
+      (sym (update_in_valuation (variables p) w.locals x k b el))))
   after_write_at x b s None (Some k) el eg e =
       let is : Global k ≡ s = cc in
       subst (λ s. named_store globals p (with_slot w s b) ≡ after_write (named_store globals p w) x b) is
-      (rw (lookup_in_valuation (variables p) w.locals x, el) (ap (λ m. record { globals = m; locals = valuation_of (variables p) w.locals }) (sym (update_in_valuation globals w.globals x k b eg))))
+      (rw (lookup_in_valuation (variables p) w.locals x, el)
+      (ap (λ m. record { globals = m; locals = valuation_of (variables p) w.locals })
+      (sym (update_in_valuation globals w.globals x k b eg))))
   after_write_at x b s None None el eg e = cc
 
   pub slot_after_write : (x : List ℕ) (b : Bool) (s : Slot) → slot_of globals p x ≡ Some s
@@ -84,13 +91,15 @@ module _ (t : Program) (p : Procedure) (environment : Environment) (same : envir
   slot_is : (x : List ℕ) → IsSome (slot_of t.globals p x) → slot_of t.globals p x ≡ Some (slot_in environment x)
   slot_is x h = rw (same, own) (some_is (slot_of t.globals p x) (Global 0) h)
 
-  formula_has_value : (e : Expression) → NamesInExpression (HasSlot t.globals p) e → (w : Store Bits) → formula_value w (formula_in environment e) ≡ expression_value (named_store t.globals p w) e
+  formula_has_value : (e : Expression) → NamesInExpression (HasSlot t.globals p) e → (w : Store Bits)
+      → formula_value w (formula_in environment e) ≡ expression_value (named_store t.globals p w) e
   formula_has_value (Constant b) h w = refl
   formula_has_value (Variable x) h w = slot_read t.globals p w x.text (slot_in environment x.text) (slot_is x.text h)
   formula_has_value (Negation e) h w = ap not (formula_has_value e h w)
   formula_has_value (Operation op a b) h w = λ i. operation_value op (formula_has_value a h.0 w i) (formula_has_value b h.1 w i)
 
-  formulas_have_values : (es : List Expression) → NamesInExpressions (HasSlot t.globals p) es → (w : Store Bits) → formula_values w (formulas_in environment es) ≡ expression_values (named_store t.globals p w) es
+  formulas_have_values : (es : List Expression) → NamesInExpressions (HasSlot t.globals p) es → (w : Store Bits)
+      → formula_values w (formulas_in environment es) ≡ expression_values (named_store t.globals p w) es
   formulas_have_values [] h w = refl
   formulas_have_values (e ∷ es) h w = λ i. formula_has_value e h.0 w i ∷ formulas_have_values es h.1 w i
 

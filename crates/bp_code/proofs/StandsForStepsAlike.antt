@@ -17,7 +17,8 @@ no_bits : (ys : List Name) → binding ys [] ≡ valuation_of ys (bits_from [])
 no_bits [] = refl
 no_bits (y ∷ ys) = ap (λ m. (y.text, false) ∷ m) (no_bits ys)
 
-pub binding_is_valuation : (xs ys : List Name) (bs : List Bool) → length bs ≡ length xs → binding xs bs ++ binding ys [] ≡ valuation_of (xs ++ ys) (bits_from bs)
+pub binding_is_valuation : (xs ys : List Name) (bs : List Bool) → length bs ≡ length xs
+    → binding xs bs ++ binding ys [] ≡ valuation_of (xs ++ ys) (bits_from bs)
 binding_is_valuation [] ys [] e = no_bits ys
 binding_is_valuation [] ys (b ∷ bs) e = cc
 binding_is_valuation (x ∷ xs) ys [] e = cc
@@ -48,7 +49,8 @@ module _ (t : Program) (p : Procedure) (w : Store Bits) (below : List Activation
 
   pub carried : (s : Statement) (label : Option Name) (at : ℕ) (r : Block) (bit : Bool) (i : Instruction)
       → CarriesOut t (places_of t.procedures) p s label at r i
-      → SameEffect t (instruction_effect i w below bit) (statement_effect t.procedures (valuation_of t.globals w.globals) (framed p w (Then label at s r)) fs bit s label at r)
+      → SameEffect t (instruction_effect i w below bit)
+      (statement_effect t.procedures (valuation_of t.globals w.globals) (framed p w (Then label at s r)) fs bit s label at r)
   carried Skips label at r bit i c = rw c.is (going c.next r c.next_is)
   carried (GoesTo x) label at r bit i c = rw (c.is, c.left_is) (going c.next c.left c.next_is)
   carried Returns label at r bit i is = rw is (refl, stack)
@@ -95,4 +97,6 @@ steps_alike c t st bits a below f fs bit shown stack =
     let found = st.each a.number f.procedure f.left shown.left in
     let w : Store Bits = record { globals = bits; locals = a.locals } in
     let same = doing t f.procedure w below fs stack f.left bit found.0 found.2 in
-    subst (λ m. SameEffect t (step c.instructions bits a below bit) (effect t.procedures f.left (valuation_of t.globals bits) (record f { locals = m }) fs bit)) (sym shown.locals) (rw found.1 same)
+    subst (λ m. SameEffect t (step c.instructions bits a below bit)
+    (effect t.procedures f.left (valuation_of t.globals bits) (record f { locals = m }) fs bit)) (sym shown.locals)
+    (rw found.1 same)

@@ -52,7 +52,8 @@ module _ (items : List Stmt) (i : ℕ) (s : Stmt) (h : i < length items) (e : s 
 
 -- one more procedure whose starts are noted, and its end
 pub procs_more : (ps : List Procedure) (i : ℕ) (p : Procedure) → i < length ps → p ≡ get_or ps i p → (old mid new all : List (Option ℕ))
-    → mid ≡ old ++ block_starts p.body → new ≡ mid ++ None ∷ [] → old ++ starts (places_of (drop i ps)) ≡ all → new ++ starts (places_of (drop (i + 1) ps)) ≡ all
+    → mid ≡ old ++ block_starts p.body → new ≡ mid ++ None ∷ [] → old ++ starts (places_of (drop i ps)) ≡ all
+    → new ++ starts (places_of (drop (i + 1) ps)) ≡ all
 procs_more ps i p h e old mid new all noted last before =
     let split = rw (drop_item ps i p h e, starts_of_first p (drop (i + 1) ps)) at before in
     rw (last, noted) (append_assoc (old ++ block_starts p.body) (None ∷ []) _ ∙ (append_assoc old (block_starts p.body) _ ∙ split))

@@ -23,10 +23,27 @@ module _ {X R : Type 0} (text_of : X → List ℕ) (start : StartOf) (command : 
       of Holds holds = record { program = found.program; lawful = found.lawful; known = found.known; holds = subst Holds found.holds holds }
 
       by_answer : (r : Result R Fault) → AnswersOf (command s) given old new r → AnswersOf (by_names text_of start (n ∷ ns) command) given old new r
-      by_answer (Ok report) done = record { text = done.text; reports = of (λ s. (command s).Reports given done.text report) done.reports; written = done.written }
+      by_answer (Ok report) done = record {
+        text = done.text;
+        reports = of (λ s. (command s).Reports given done.text report) done.reports;
+        written = done.written;
+      }
       by_answer (Err f) (inl (kept, why)) = inl (kept, inr (of (λ s. (command s).Refuses given f) why))
-      by_answer (Err f) (inr (inl (is, cut))) = inr (inl (is, record { text = cut.text; writes = of (λ s. (command s).Writes given cut.text) cut.writes; written = cut.written }))
-      by_answer (Err f) (inr (inr spoilt)) = inr (inr (record { text = spoilt.text; spoils = of (λ s. (command s).Spoils given spoilt.text f) spoilt.spoils; written = spoilt.written }))
+      by_answer (Err f) (inr (inl (is, cut))) =
+          inr (inl (
+            is,
+            record {
+              text = cut.text;
+              writes = of (λ s. (command s).Writes given cut.text) cut.writes;
+              written = cut.written;
+            },
+          ))
+      by_answer (Err f) (inr (inr spoilt)) =
+          inr (inr (record {
+            text = spoilt.text;
+            spoils = of (λ s. (command s).Spoils given spoilt.text f) spoilt.spoils;
+            written = spoilt.written;
+          }))
 
 -- a start is not found, and nothing is written
 module _ {X R : Type 0} (text_of : X → List ℕ) (start : StartOf) (command : StartOf → Command X R) (given : X) (old : Option (List ℕ)) where

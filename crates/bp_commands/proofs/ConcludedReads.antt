@@ -26,7 +26,8 @@ module _ {X R : Type 0} (inputs : Inputs X) (given : X) where
   same_fault f g final held now (inr (lacks, e)) is = cc
 
   -- the inputs were read, or the fault is why they were not
-  read_or_why : (done final : Result R Fault) (held now : Option (List ℕ)) (f : Fault) → AreReadOr inputs given done → IsFlushed done held final now → final ≡ Err f
+  read_or_why : (done final : Result R Fault) (held now : Option (List ℕ)) (f : Fault) → AreReadOr inputs given done
+      → IsFlushed done held final now → final ≡ Err f
       → inputs.Holds given ⊎ inputs.Unread f
   read_or_why done final held now f (inl holds) flushed is = inl holds
   read_or_why (Ok r) final held now f (inr never) flushed is = absurd never

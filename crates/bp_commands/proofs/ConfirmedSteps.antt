@@ -21,7 +21,8 @@ use Rattle.bp_commands.specs.Given.{Pair}
 module _ (start : StartOf) (bound : ContextBound) (given : Pair) (t : Program) (lawful : IsLawfulText given.text t) where
   -- the program takes this setup
   module _ (s : SetupOf) (setup : s ≡ setup_from start None t) (fine : setup_fault t (setup_from start None t) ≡ None) (old new : Option (List ℕ)) where
-    pub confirmed : (answer : ConfirmReport) → ConfirmsTo t s given.input given.text bound old new answer → IsDoneWith (confirms start bound) old new given answer
+    pub confirmed : (answer : ConfirmReport) → ConfirmsTo t s given.input given.text bound old new answer
+        → IsDoneWith (confirms start bound) old new given answer
     confirmed answer found =
         let is = subst (λ x. ConfirmsTo t x given.input given.text bound old new answer) setup found in
         record {
@@ -41,7 +42,8 @@ module _ (start : StartOf) (bound : ContextBound) (given : Pair) (t : Program) (
           written = is.written;
         }
 
-    unconfirmed : (f : ConfirmFault) → IsStepsRefusal t (setup_from start None t) given.input given.text bound f → IsConfirmRefused start bound given (fault_of_steps f)
+    unconfirmed : (f : ConfirmFault) → IsStepsRefusal t (setup_from start None t) given.input given.text bound f
+        → IsConfirmRefused start bound given (fault_of_steps f)
     unconfirmed f why = inr (inr (record {
       program = t;
       lawful = lawful;
@@ -54,7 +56,9 @@ module _ (start : StartOf) (bound : ContextBound) (given : Pair) (t : Program) (
     kept : new ≡ old → Keeps old new
     kept same = subst (Keeps old) (sym same) (Keeps-refl old)
 
-    refused_so : (f : ConfirmFault) → IsConfirmRefusal t (setup_from start None t) given.input given.text bound old new f → IsRefusedWith (confirms start bound) old new given (fault_of_steps f)
+    refused_so : (f : ConfirmFault)
+        → IsConfirmRefusal t (setup_from start None t) given.input given.text bound old new f
+        → IsRefusedWith (confirms start bound) old new given (fault_of_steps f)
     refused_so TooLong found = inl (kept found.0, unconfirmed TooLong found.1)
     refused_so (Line n) found = inl (kept found.0, unconfirmed (Line n) found.1)
     refused_so (NoThread n thread) found = inl (kept found.0, unconfirmed (NoThread n thread) found.1)
@@ -78,7 +82,8 @@ module _ (start : StartOf) (bound : ContextBound) (given : Pair) (t : Program) (
       },
     ))
 
-    pub refused : (f : ConfirmFault) → IsConfirmRefusal t s given.input given.text bound old new f → IsRefusedWith (confirms start bound) old new given (fault_of_steps f)
+    pub refused : (f : ConfirmFault) → IsConfirmRefusal t s given.input given.text bound old new f
+        → IsRefusedWith (confirms start bound) old new given (fault_of_steps f)
     refused f found = refused_so f (subst (λ x. IsConfirmRefusal t x given.input given.text bound old new f) setup found)
 
   -- the program does not take the setup, and nothing is written

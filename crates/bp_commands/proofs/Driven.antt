@@ -18,7 +18,8 @@ use Rattle.bp_messages.specs.Faults.{fault_of_schedule, fault_of_setup}
 use Rattle.bp_commands.specs.Given.{Pair}
 
 module _ (start : StartOf) (given : Pair) (c : Flat) (code : IsProgramCode given.text c) (s : SetupOf)
-    (setup : s ≡ setup_from start None code.program) (fine : setup_fault code.program (setup_from start None code.program) ≡ None) (old new : Option (List ℕ)) where
+    (setup : s ≡ setup_from start None code.program)
+    (fine : setup_fault code.program (setup_from start None code.program) ≡ None) (old new : Option (List ℕ)) where
   pub driven : (r : Report) → DrivesTo code.program s given.input old new r → IsDoneWith (drives start) old new given r
   driven r found =
       let played = subst (λ x. DrivesTo code.program x given.input old new r) setup found in
@@ -38,7 +39,8 @@ module _ (start : StartOf) (given : Pair) (c : Flat) (code : IsProgramCode given
         written = played.written;
       }
 
-  unplayed : (f : DriveFault) → IsScheduleRefusal code.program (setup_from start None code.program) given.input f → IsDriveRefused start given (fault_of_schedule f)
+  unplayed : (f : DriveFault) → IsScheduleRefusal code.program (setup_from start None code.program) given.input f
+      → IsDriveRefused start given (fault_of_schedule f)
   unplayed f why = inr (inr (record {
     program = code.program;
     lawful = code.of;
@@ -51,7 +53,8 @@ module _ (start : StartOf) (given : Pair) (c : Flat) (code : IsProgramCode given
   kept : new ≡ old → Keeps old new
   kept same = subst (Keeps old) (sym same) (Keeps-refl old)
 
-  refused : (f : DriveFault) → IsRefusal code.program (setup_from start None code.program) given.input old new f → IsRefusedWith (drives start) old new given (fault_of_schedule f)
+  refused : (f : DriveFault) → IsRefusal code.program (setup_from start None code.program) given.input old new f
+      → IsRefusedWith (drives start) old new given (fault_of_schedule f)
   refused TooLong found = inl (kept found.0, unplayed TooLong found.1)
   refused (Line n) found = inl (kept found.0, unplayed (Line n) found.1)
   refused (AfterFinish n) found = inl (kept found.0, unplayed (AfterFinish n) found.1)

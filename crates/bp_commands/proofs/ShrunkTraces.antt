@@ -29,7 +29,8 @@ head_of : (s : SetupOf) (k : ℕ) → HasHead s → k < 2 ^ 64 → HasHead (budg
 head_of s k has few = record { names = has.names; contexts = few; calls = has.calls; seed = λ n e. absurd cc }
 
 -- histories of one end that is kept end alike
-alike : (t : Program) (s z : SetupOf) (h g : List Call) (end : HistoryEnd) → (end ≡ Other → ⊥) → IsEnd t s h end → IsEnd t z g end → FailAlike t s z h g ⊎ DeadlockAlike t s z h g
+alike : (t : Program) (s z : SetupOf) (h g : List Call) (end : HistoryEnd) → (end ≡ Other → ⊥) → IsEnd t s h end
+    → IsEnd t z g end → FailAlike t s z h g ⊎ DeadlockAlike t s z h g
 alike t s z h g (Failure n) kept one two = inl (record { number = n; one = one; other = two })
 alike t s z h g (Deadlock waiting) kept one two = inr (record { waiting = waiting.items; one = one; other = two })
 alike t s z h g Other kept one two = absurd (kept refl)
@@ -46,12 +47,14 @@ module _ (given : Pair) (t : Program) (of : IsLawfulText given.text t) (r : Repl
   pub memory_refuses : (end : HistoryEnd) → (end ≡ Other → ⊥) → IsEnd t r.setup r.history.items end → LacksMemory given Memory
   memory_refuses end kept ends = record { program = t; setup = r.setup; history = r.history.items; legal = read; ended = ended end kept ends; is = refl }
     where
-      ended : (e : HistoryEnd) → (e ≡ Other → ⊥) → IsEnd t r.setup r.history.items e → (is_failure (outcome_of r.history.items) ≡ true) ⊎ IsDeadlock t r.setup r.history.items
+      ended : (e : HistoryEnd) → (e ≡ Other → ⊥) → IsEnd t r.setup r.history.items e
+          → (is_failure (outcome_of r.history.items) ≡ true) ⊎ IsDeadlock t r.setup r.history.items
       ended (Failure n) any fails = inl (ap is_failure fails.failed)
       ended (Deadlock waiting) any dead = inr dead.0
       ended Other not other = absurd (not refl)
 
-  module _ (end : HistoryEnd) (kept : end ≡ Other → ⊥) (ends : IsEnd t r.setup r.history.items end) (g : Shrunk) (shrunk : IsShrunk t r.setup r.history.items end g) where
+  module _ (end : HistoryEnd) (kept : end ≡ Other → ⊥) (ends : IsEnd t r.setup r.history.items end) (g : Shrunk)
+      (shrunk : IsShrunk t r.setup r.history.items end g) where
     few : g.report.contexts < 2 ^ 64
     few =
         let fewer = shrunk.contexts r.report.contexts is.report.contexts in

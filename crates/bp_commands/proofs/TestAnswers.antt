@@ -79,7 +79,10 @@ module _ (start : StartOf) (x : TestOptions) (listed : Option (List ℕ)) (json 
       written = is.written;
     }
 
-    pub done : (made : Made) → IsTest t s x old new made → (tested : Tested) → tested.found ≡ made.found → tested.failed ≡ made.failed → tested.waiting ≡ made.waiting → tested.positions.items ≡ positions_of text t → AreStatements text (places_of t.procedures) (map (λ v. v.items) tested.statements.items) → tested.reached ≡ made.tally.reached
+    pub done : (made : Made) → IsTest t s x old new made → (tested : Tested) → tested.found ≡ made.found
+        → tested.failed ≡ made.failed → tested.waiting ≡ made.waiting → tested.positions.items ≡ positions_of text t
+        → AreStatements text (places_of t.procedures) (map (λ v. v.items) tested.statements.items)
+        → tested.reached ≡ made.tally.reached
         → AreDistinct made.tally.keys.items tested.distinct
         → ((z : SetupOf) (runs : List MadeRun) → length runs < 2 ^ 64 → IsCounted z runs made.tally → AreCounts z runs tested.counts)
         → tested.notes ≡ notes_of tested.found s.contexts tested.counts
@@ -87,7 +90,12 @@ module _ (start : StartOf) (x : TestOptions) (listed : Option (List ℕ)) (json 
         → IsDoneWith (tests start x listed json) old new text tested
     done made test tested found_is failed_is waiting_is positions statements reached_is distinct counts notes options form lines =
         let of_setup = subst (λ y. IsTest t y x old new made) setup test in
-        let found = alone tested.found tested.failed tested.waiting.items of_setup.runs (subst (λ v. IsFound t taken x old new tested.found tested.failed v.items of_setup.runs) (sym waiting_is) (subst (λ n. IsFound t taken x old new tested.found n made.waiting.items of_setup.runs) (sym failed_is) (subst (λ f. IsFound t taken x old new f made.failed made.waiting.items of_setup.runs) (sym found_is) of_setup.found))) in record {
+        let found = alone tested.found tested.failed tested.waiting.items of_setup.runs
+        (subst (λ v. IsFound t taken x old new tested.found tested.failed v.items of_setup.runs) (sym waiting_is)
+        (subst (λ n. IsFound t taken x old new tested.found n made.waiting.items of_setup.runs) (sym failed_is)
+        (subst (λ f. IsFound t taken x old new f made.failed made.waiting.items of_setup.runs)
+        (sym found_is) of_setup.found))) in
+        record {
           text = found.text_is;
           reports = record {
             testable = testable;

@@ -155,35 +155,60 @@ module _ (t : Program) (p : Procedure) where
         → effect_of s d [] ≡ instruction_effect i (store_of s) [] false
         → effect_of s e [] ≡ instruction_effect i (store_of s) [] true
         → bit_of_effects (numbers_at starts next) follow d e ≡ bit_of_block left next follow
-    bit_is Done i is zero_is one_is = no_choice (numbers_at starts next) follow s d e (zero_is ∙ ap (λ k. instruction_effect k (store_of s) [] false) is ∙ sym (ap (λ k. instruction_effect k (store_of s) [] true) is) ∙ sym one_is)
+    bit_is Done i is zero_is one_is =
+        no_choice (numbers_at starts next) follow s d e
+        (zero_is ∙ ap (λ k. instruction_effect k (store_of s) [] false) is
+        ∙ sym (ap (λ k. instruction_effect k (store_of s) [] true) is) ∙ sym one_is)
     bit_is (Then label at Skips r) i is zero_is one_is = no_choice (numbers_at starts next) follow s d e (rw is.is at zero_is ∙ sym (rw is.is at one_is))
     bit_is (Then label at (GoesTo x) r) i is zero_is one_is = no_choice (numbers_at starts next) follow s d e (rw is.is at zero_is ∙ sym (rw is.is at one_is))
-    bit_is (Then label at Returns r) i is zero_is one_is = no_choice (numbers_at starts next) follow s d e (zero_is ∙ ap (λ k. instruction_effect k (store_of s) [] false) is ∙ sym (ap (λ k. instruction_effect k (store_of s) [] true) is) ∙ sym one_is)
-    bit_is (Then label at (Assigns xs es) r) i is zero_is one_is = no_choice (numbers_at starts next) follow s d e (rw is.is at zero_is ∙ sym (rw is.is at one_is))
+    bit_is (Then label at Returns r) i is zero_is one_is =
+        no_choice (numbers_at starts next) follow s d e
+        (zero_is ∙ ap (λ k. instruction_effect k (store_of s) [] false) is
+        ∙ sym (ap (λ k. instruction_effect k (store_of s) [] true) is) ∙ sym one_is)
+    bit_is (Then label at (Assigns xs es) r) i is zero_is one_is =
+        no_choice (numbers_at starts next) follow s d e (rw is.is at zero_is ∙ sym (rw is.is at one_is))
     bit_is (Then label at (Branches Choose a b) r) i is zero_is one_is =
-        let at_zero = goes_on s d (store_of s) is.else_next (rw is.is at zero_is ∙ ap (λ v. step_to (store_of s) (cond v is.next is.else_next) []) (chosen is.test is.test_is false)) in
-        let at_one = goes_on s e (store_of s) is.next (rw is.is at one_is ∙ ap (λ v. step_to (store_of s) (cond v is.next is.else_next) []) (chosen is.test is.test_is true)) in
+        let at_zero = goes_on s d (store_of s) is.else_next (rw is.is at zero_is
+        ∙ ap (λ v. step_to (store_of s) (cond v is.next is.else_next) []) (chosen is.test is.test_is false)) in
+        let at_one = goes_on s e (store_of s) is.next (rw is.is at one_is
+        ∙ ap (λ v. step_to (store_of s) (cond v is.next is.else_next) []) (chosen is.test is.test_is true)) in
         split is.next is.else_next at_zero at_one (chain a r) (chain b r) is.next_is is.else_is
     bit_is (Then label at (Branches (Decide x) a b) r) i is zero_is one_is =
-        no_choice (numbers_at starts next) follow s d e (rw is.is at zero_is ∙ ap (λ v. step_to (store_of s) (cond v is.next is.else_next) []) (decided is.test x is.test_is) ∙ sym (rw is.is at one_is))
+        no_choice (numbers_at starts next) follow s d e
+        (rw is.is at zero_is
+        ∙ ap (λ v. step_to (store_of s) (cond v is.next is.else_next) []) (decided is.test x is.test_is)
+        ∙ sym (rw is.is at one_is))
     bit_is (Then label at (Loops Choose a) r) i is zero_is one_is =
-        let at_zero = goes_on s d (store_of s) is.else_next (rw is.is at zero_is ∙ ap (λ v. step_to (store_of s) (cond v is.next is.else_next) []) (chosen is.test is.test_is false)) in
-        let at_one = goes_on s e (store_of s) is.next (rw is.is at one_is ∙ ap (λ v. step_to (store_of s) (cond v is.next is.else_next) []) (chosen is.test is.test_is true)) in
+        let at_zero = goes_on s d (store_of s) is.else_next (rw is.is at zero_is
+        ∙ ap (λ v. step_to (store_of s) (cond v is.next is.else_next) []) (chosen is.test is.test_is false)) in
+        let at_one = goes_on s e (store_of s) is.next (rw is.is at one_is
+        ∙ ap (λ v. step_to (store_of s) (cond v is.next is.else_next) []) (chosen is.test is.test_is true)) in
         split is.next is.else_next at_zero at_one (chain a (Then label at (Loops Choose a) r)) r is.next_is is.else_is
     bit_is (Then label at (Loops (Decide x) a) r) i is zero_is one_is =
-        no_choice (numbers_at starts next) follow s d e (rw is.is at zero_is ∙ ap (λ v. step_to (store_of s) (cond v is.next is.else_next) []) (decided is.test x is.test_is) ∙ sym (rw is.is at one_is))
+        no_choice (numbers_at starts next) follow s d e
+        (rw is.is at zero_is
+        ∙ ap (λ v. step_to (store_of s) (cond v is.next is.else_next) []) (decided is.test x is.test_is)
+        ∙ sym (rw is.is at one_is))
     bit_is (Then label at (Asserts Choose) r) i is zero_is one_is =
         let none = fails s d (rw is.is at zero_is ∙ ap (λ v. cond v (step_to (store_of s) is.next []) effects.Fails) (chosen is.test is.test_is false)) in
-        let on = goes_on s e (store_of s) is.next (rw is.is at one_is ∙ ap (λ v. cond v (step_to (store_of s) is.next []) effects.Fails) (chosen is.test is.test_is true)) in
+        let on = goes_on s e (store_of s) is.next (rw is.is at one_is
+        ∙ ap (λ v. cond v (step_to (store_of s) is.next []) effects.Fails) (chosen is.test is.test_is true)) in
         λ j. bit_of_effects (numbers_at starts next) follow (none j) (on.is j)
     bit_is (Then label at (Asserts (Decide x)) r) i is zero_is one_is =
-        no_choice (numbers_at starts next) follow s d e (rw is.is at zero_is ∙ ap (λ v. cond v (step_to (store_of s) is.next []) effects.Fails) (decided is.test x is.test_is) ∙ sym (rw is.is at one_is))
+        no_choice (numbers_at starts next) follow s d e
+        (rw is.is at zero_is
+        ∙ ap (λ v. cond v (step_to (store_of s) is.next []) effects.Fails) (decided is.test x is.test_is)
+        ∙ sym (rw is.is at one_is))
     bit_is (Then label at (Assumes Choose) r) i is zero_is one_is =
         let none = blocks s d (rw is.is at zero_is ∙ ap (λ v. cond v (step_to (store_of s) is.next []) effects.Blocks) (chosen is.test is.test_is false)) in
-        let on = goes_on s e (store_of s) is.next (rw is.is at one_is ∙ ap (λ v. cond v (step_to (store_of s) is.next []) effects.Blocks) (chosen is.test is.test_is true)) in
+        let on = goes_on s e (store_of s) is.next (rw is.is at one_is
+        ∙ ap (λ v. cond v (step_to (store_of s) is.next []) effects.Blocks) (chosen is.test is.test_is true)) in
         λ j. bit_of_effects (numbers_at starts next) follow (none j) (on.is j)
     bit_is (Then label at (Assumes (Decide x)) r) i is zero_is one_is =
-        no_choice (numbers_at starts next) follow s d e (rw is.is at zero_is ∙ ap (λ v. cond v (step_to (store_of s) is.next []) effects.Blocks) (decided is.test x is.test_is) ∙ sym (rw is.is at one_is))
+        no_choice (numbers_at starts next) follow s d e
+        (rw is.is at zero_is
+        ∙ ap (λ v. cond v (step_to (store_of s) is.next []) effects.Blocks) (decided is.test x is.test_is)
+        ∙ sym (rw is.is at one_is))
     bit_is (Then label at (Prints es) r) i is zero_is one_is = no_choice (numbers_at starts next) follow s d e (rw is.is at zero_is ∙ sym (rw is.is at one_is))
     bit_is (Then label at (Calls x es) r) i is zero_is one_is = no_choice (numbers_at starts next) follow s d e (rw is.is at zero_is ∙ sym (rw is.is at one_is))
 
@@ -220,46 +245,76 @@ module _ (t : Program) (p : Procedure) where
               record {
                 taken_at = sym here ∙ both.1;
                 other_at = sym over ∙ both.2;
-                ways = record { one = m; two = k; apart = λ same. absurd (false≢true (sym both.0 ∙ (grind (arith, nat_tests)))); taken_is = there m taken one; other_is = there k other two };
+                ways = record {
+                  one = m;
+                  two = k;
+                  apart = λ same. absurd (false≢true (sym both.0 ∙ (grind (arith, nat_tests))));
+                  taken_is = there m taken one;
+                  other_is = there k other two;
+                };
               };
         }
 
     by_split : (m k : ℕ) → GoesOnAt d k → GoesOnAt e m → (taken other : Block) → Remains table m p taken → Remains table k p other
         → SplitTells (splits (numbers_at starts next) d e) (IsClearWay next taken other) (AreBothWays t next taken other)
     by_split m k zero_is one_is taken other one two =
-        let is : splits (numbers_at starts next) d e ≡ are_both_there (numbers_at starts next) m k = λ j. splits (numbers_at starts next) (zero_is.is j) (one_is.is j) in
+        let is : splits (numbers_at starts next) d e ≡ are_both_there (numbers_at starts next) m k = λ j.
+        splits (numbers_at starts next) (zero_is.is j) (one_is.is j) in
         subst (λ b. SplitTells b (IsClearWay next taken other) (AreBothWays t next taken other)) (sym is) (by_numbers next m k taken other one two)
 
     pub split_is : (left : Block) (i : Instruction) → Does t (places_of t.procedures) p left i
         → effect_of s d [] ≡ instruction_effect i (store_of s) [] false
         → effect_of s e [] ≡ instruction_effect i (store_of s) [] true
         → SplitTells (splits (numbers_at starts next) d e) (IsClear left next) (IsAmbiguous t left next)
-    split_is Done i is zero_is one_is = never_split _ ⊥ (no_split (numbers_at starts next) s d e (zero_is ∙ ap (λ k. instruction_effect k (store_of s) [] false) is ∙ sym (ap (λ k. instruction_effect k (store_of s) [] true) is) ∙ sym one_is))
-    split_is (Then label at Skips r) i is zero_is one_is = never_split _ ⊥ (no_split (numbers_at starts next) s d e (rw is.is at zero_is ∙ sym (rw is.is at one_is)))
-    split_is (Then label at (GoesTo x) r) i is zero_is one_is = never_split _ ⊥ (no_split (numbers_at starts next) s d e (rw is.is at zero_is ∙ sym (rw is.is at one_is)))
-    split_is (Then label at Returns r) i is zero_is one_is = never_split _ ⊥ (no_split (numbers_at starts next) s d e (zero_is ∙ ap (λ k. instruction_effect k (store_of s) [] false) is ∙ sym (ap (λ k. instruction_effect k (store_of s) [] true) is) ∙ sym one_is))
-    split_is (Then label at (Assigns xs es) r) i is zero_is one_is = never_split _ ⊥ (no_split (numbers_at starts next) s d e (rw is.is at zero_is ∙ sym (rw is.is at one_is)))
+    split_is Done i is zero_is one_is =
+        never_split _ ⊥ (no_split (numbers_at starts next) s d e (zero_is
+        ∙ ap (λ k. instruction_effect k (store_of s) [] false) is
+        ∙ sym (ap (λ k. instruction_effect k (store_of s) [] true) is) ∙ sym one_is))
+    split_is (Then label at Skips r) i is zero_is one_is =
+        never_split _ ⊥ (no_split (numbers_at starts next) s d e (rw is.is at zero_is ∙ sym (rw is.is at one_is)))
+    split_is (Then label at (GoesTo x) r) i is zero_is one_is =
+        never_split _ ⊥ (no_split (numbers_at starts next) s d e (rw is.is at zero_is ∙ sym (rw is.is at one_is)))
+    split_is (Then label at Returns r) i is zero_is one_is =
+        never_split _ ⊥ (no_split (numbers_at starts next) s d e (zero_is
+        ∙ ap (λ k. instruction_effect k (store_of s) [] false) is
+        ∙ sym (ap (λ k. instruction_effect k (store_of s) [] true) is) ∙ sym one_is))
+    split_is (Then label at (Assigns xs es) r) i is zero_is one_is =
+        never_split _ ⊥ (no_split (numbers_at starts next) s d e (rw is.is at zero_is ∙ sym (rw is.is at one_is)))
     split_is (Then label at (Branches Choose a b) r) i is zero_is one_is =
-        let at_zero = goes_on s d (store_of s) is.else_next (rw is.is at zero_is ∙ ap (λ v. step_to (store_of s) (cond v is.next is.else_next) []) (chosen is.test is.test_is false)) in
-        let at_one = goes_on s e (store_of s) is.next (rw is.is at one_is ∙ ap (λ v. step_to (store_of s) (cond v is.next is.else_next) []) (chosen is.test is.test_is true)) in
+        let at_zero = goes_on s d (store_of s) is.else_next (rw is.is at zero_is
+        ∙ ap (λ v. step_to (store_of s) (cond v is.next is.else_next) []) (chosen is.test is.test_is false)) in
+        let at_one = goes_on s e (store_of s) is.next (rw is.is at one_is
+        ∙ ap (λ v. step_to (store_of s) (cond v is.next is.else_next) []) (chosen is.test is.test_is true)) in
         by_split is.next is.else_next at_zero at_one (chain a r) (chain b r) is.next_is is.else_is
     split_is (Then label at (Branches (Decide x) a b) r) i is zero_is one_is =
-        never_split _ ⊥ (no_split (numbers_at starts next) s d e (rw is.is at zero_is ∙ ap (λ v. step_to (store_of s) (cond v is.next is.else_next) []) (decided is.test x is.test_is) ∙ sym (rw is.is at one_is)))
+        never_split _ ⊥ (no_split (numbers_at starts next) s d e (rw is.is at zero_is
+        ∙ ap (λ v. step_to (store_of s) (cond v is.next is.else_next) []) (decided is.test x is.test_is)
+        ∙ sym (rw is.is at one_is)))
     split_is (Then label at (Loops Choose a) r) i is zero_is one_is =
-        let at_zero = goes_on s d (store_of s) is.else_next (rw is.is at zero_is ∙ ap (λ v. step_to (store_of s) (cond v is.next is.else_next) []) (chosen is.test is.test_is false)) in
-        let at_one = goes_on s e (store_of s) is.next (rw is.is at one_is ∙ ap (λ v. step_to (store_of s) (cond v is.next is.else_next) []) (chosen is.test is.test_is true)) in
+        let at_zero = goes_on s d (store_of s) is.else_next (rw is.is at zero_is
+        ∙ ap (λ v. step_to (store_of s) (cond v is.next is.else_next) []) (chosen is.test is.test_is false)) in
+        let at_one = goes_on s e (store_of s) is.next (rw is.is at one_is
+        ∙ ap (λ v. step_to (store_of s) (cond v is.next is.else_next) []) (chosen is.test is.test_is true)) in
         by_split is.next is.else_next at_zero at_one (chain a (Then label at (Loops Choose a) r)) r is.next_is is.else_is
     split_is (Then label at (Loops (Decide x) a) r) i is zero_is one_is =
-        never_split _ ⊥ (no_split (numbers_at starts next) s d e (rw is.is at zero_is ∙ ap (λ v. step_to (store_of s) (cond v is.next is.else_next) []) (decided is.test x is.test_is) ∙ sym (rw is.is at one_is)))
+        never_split _ ⊥ (no_split (numbers_at starts next) s d e (rw is.is at zero_is
+        ∙ ap (λ v. step_to (store_of s) (cond v is.next is.else_next) []) (decided is.test x is.test_is)
+        ∙ sym (rw is.is at one_is)))
     split_is (Then label at (Asserts Choose) r) i is zero_is one_is =
         let none = fails s d (rw is.is at zero_is ∙ ap (λ v. cond v (step_to (store_of s) is.next []) effects.Fails) (chosen is.test is.test_is false)) in
         never_split _ ⊥ (ap (λ z. splits (numbers_at starts next) z e) none)
     split_is (Then label at (Asserts (Decide x)) r) i is zero_is one_is =
-        never_split _ ⊥ (no_split (numbers_at starts next) s d e (rw is.is at zero_is ∙ ap (λ v. cond v (step_to (store_of s) is.next []) effects.Fails) (decided is.test x is.test_is) ∙ sym (rw is.is at one_is)))
+        never_split _ ⊥ (no_split (numbers_at starts next) s d e (rw is.is at zero_is
+        ∙ ap (λ v. cond v (step_to (store_of s) is.next []) effects.Fails) (decided is.test x is.test_is)
+        ∙ sym (rw is.is at one_is)))
     split_is (Then label at (Assumes Choose) r) i is zero_is one_is =
         let none = blocks s d (rw is.is at zero_is ∙ ap (λ v. cond v (step_to (store_of s) is.next []) effects.Blocks) (chosen is.test is.test_is false)) in
         never_split _ ⊥ (ap (λ z. splits (numbers_at starts next) z e) none)
     split_is (Then label at (Assumes (Decide x)) r) i is zero_is one_is =
-        never_split _ ⊥ (no_split (numbers_at starts next) s d e (rw is.is at zero_is ∙ ap (λ v. cond v (step_to (store_of s) is.next []) effects.Blocks) (decided is.test x is.test_is) ∙ sym (rw is.is at one_is)))
-    split_is (Then label at (Prints es) r) i is zero_is one_is = never_split _ ⊥ (no_split (numbers_at starts next) s d e (rw is.is at zero_is ∙ sym (rw is.is at one_is)))
-    split_is (Then label at (Calls x es) r) i is zero_is one_is = never_split _ ⊥ (no_split (numbers_at starts next) s d e (rw is.is at zero_is ∙ sym (rw is.is at one_is)))
+        never_split _ ⊥ (no_split (numbers_at starts next) s d e (rw is.is at zero_is
+        ∙ ap (λ v. cond v (step_to (store_of s) is.next []) effects.Blocks) (decided is.test x is.test_is)
+        ∙ sym (rw is.is at one_is)))
+    split_is (Then label at (Prints es) r) i is zero_is one_is =
+        never_split _ ⊥ (no_split (numbers_at starts next) s d e (rw is.is at zero_is ∙ sym (rw is.is at one_is)))
+    split_is (Then label at (Calls x es) r) i is zero_is one_is =
+        never_split _ ⊥ (no_split (numbers_at starts next) s d e (rw is.is at zero_is ∙ sym (rw is.is at one_is)))

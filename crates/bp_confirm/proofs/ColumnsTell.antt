@@ -38,7 +38,8 @@ module _ (text : List ℕ) (t : Program) (is : IsTextOf text t) (line column : �
       let two = both.1 in
       (grind (arith, nat_tests), grind (arith, nat_tests))
 
-  two_there : (a b : ℕ) → place_of text (Column line column) (Some a) ≡ true → place_of text (Column line column) (Some b) ≡ true → position_at text a ≡ position_at text b
+  two_there : (a b : ℕ) → place_of text (Column line column) (Some a) ≡ true
+      → place_of text (Column line column) (Some b) ≡ true → position_at text a ≡ position_at text b
   two_there a b p q =
       let one = there a p in
       let two = there b q in
@@ -54,7 +55,8 @@ module _ (text : List ℕ) (t : Program) (is : IsTextOf text t) (line column : �
 
   not_both : (taken other : Block) → AreBothAt t (place_of text (Column line column)) taken other → ⊥
   not_both taken other both =
-      by_starts both.ways.one both.ways.two both.ways.apart (start_of_block taken) (start_of_block other) both.ways.taken_is both.ways.other_is both.taken_at both.other_at
+      by_starts both.ways.one both.ways.two both.ways.apart (start_of_block taken)
+      (start_of_block other) both.ways.taken_is both.ways.other_is both.taken_at both.other_at
 
   -- nor are both ways at a procedure's end
   not_ended : (a k : Block) → a ≢ Done → place_of text End (start_of_block (chain a k)) ≡ true → ⊥
@@ -92,7 +94,8 @@ module _ (text : List ℕ) (t : Program) (is : IsTextOf text t) where
   by_block (Then label at (Prints es) r) next full both = absurd both
   by_block (Then label at (Calls x es) r) next full both = absurd both
 
-  by_stack : (c : Configuration) (i : ℕ) (later : List StepLineOf) (number : Option ℕ) → GoesOnAt t c i number → IsAmbiguousOnStack t i (steps_of text later) (stack_of c i) → IsLineOf (next_location i later)
+  by_stack : (c : Configuration) (i : ℕ) (later : List StepLineOf) (number : Option ℕ) → GoesOnAt t c i number
+      → IsAmbiguousOnStack t i (steps_of text later) (stack_of c i) → IsLineOf (next_location i later)
   by_stack c i later None ended both = absurd (subst (IsAmbiguousOnStack t i (steps_of text later)) ended both)
   by_stack c i later (Some n) (top, stands, same) both =
       let here = subst (IsAmbiguousOnStack t i (steps_of text later)) stands.stack both in

@@ -20,7 +20,8 @@ opened_small (Some j) i = small (j == i)
 module _ (xs : List StepLineOf) (n : ℕ) (d : StepLineOf) (last : Option ℕ) (used : ℕ) where
   -- one more line
   pub used_more : n < length xs → used + opened last (map thread_of (drop n xs)) ≡ opened None (map thread_of xs)
-      → used + contexts_opened last (get_or xs n d).thread + opened (Some (get_or xs n d).thread) (map thread_of (drop (n + 1) xs)) ≡ opened None (map thread_of xs)
+      → used + contexts_opened last (get_or xs n d).thread
+      + opened (Some (get_or xs n d).thread) (map thread_of (drop (n + 1) xs)) ≡ opened None (map thread_of xs)
   used_more within before =
       let one : suc n ≡ n + 1 = omega arith in
       let rest : drop n xs ≡ get_or xs n d ∷ drop (n + 1) xs = drop-cons xs n d within ∙ ap (λ k. get_or xs n d ∷ drop k xs) one in

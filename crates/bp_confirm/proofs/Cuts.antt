@@ -42,7 +42,8 @@ without_rest byte [] b p = p
 without_rest byte (c ∷ a) b p = without_rest byte a b p.1
 
 -- the byte is not among the first bytes, nor the next of them
-pub without_more : (byte : ℕ) (text : List ℕ) (i d : ℕ) → i < length text → Without byte (take i text) → get_or text i d ≢ byte → Without byte (take (i + 1) text)
+pub without_more : (byte : ℕ) (text : List ℕ) (i d : ℕ) → i < length text → Without byte (take i text)
+    → get_or text i d ≢ byte → Without byte (take (i + 1) text)
 without_more byte text i d within none other =
     subst (Without byte) (sym (take_more text i d within)) (without_both byte (take i text) (get_or text i d ∷ []) none (other, tt))
 

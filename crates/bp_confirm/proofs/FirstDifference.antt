@@ -29,11 +29,13 @@ module _ (t : Program) (s : SetupOf) (h : List Call) (a : Call) (i : ℕ) (vs : 
   -- the last change before the call, and then after it
   module _ (was : Option Bool) (old changed : Option ℕ)
       (before : (was ≡ seen_after t s h i name (length h)) × IsLastChange (seen_after t s h i name) (length h) old)
-      (next : (f : ℕ → Option Bool) (m : ℕ) → length h + 1 ≡ m + 1 → was ≡ f m → IsLastChange f m old → seen ≡ f (length h + 1) → IsLastChange f (length h + 1) changed) where
+      (next : (f : ℕ → Option Bool) (m : ℕ) → length h + 1 ≡ m + 1 → was ≡ f m → IsLastChange f m old
+      → seen ≡ f (length h + 1) → IsLastChange f (length h + 1) changed) where
     changed_last : IsLastChange sees (length h + 1) changed
     changed_last =
         let all : length h ≤ length h = omega arith in
-        next sees (length h) refl (before.0 ∙ sym (seen_in_front (seen_by t s i name) h a (length h) all)) (change_in_front (seen_by t s i name) h a old before.1) seen_last
+        next sees (length h) refl (before.0 ∙ sym (seen_in_front (seen_by t s i name) h a (length h) all))
+        (change_in_front (seen_by t s i name) h a old before.1) seen_last
 
     pub difference_is : IsDifference t s (h ++ a ∷ []) i vs (record { place = place; seen = seen; changed = changed })
     difference_is = record {

@@ -54,7 +54,8 @@ module _ (t : Program) (v : List ℕ × Bool) where
       subst (λ k. AreDeclared t (take k vs)) one (one_more_declared vs n at first here)
 
 -- the lines
-module _ (t : Program) (s : SetupOf) (xs : List StepLineOf) (n : ℕ) (d x : StepLineOf) (within : n < length xs) (first : AreDeclaredLines t s (take n xs)) (is : x ≡ get_or xs n d) where
+module _ (t : Program) (s : SetupOf) (xs : List StepLineOf) (n : ℕ) (d x : StepLineOf) (within : n < length xs)
+    (first : AreDeclaredLines t s (take n xs)) (is : x ≡ get_or xs n d) where
   pub first_stray : (Is : StepLineOf → Type 0) → Is x → IsFirstStray t s xs (n + 1) Is
   first_stray Is here = record {
     before = take n xs;

@@ -52,13 +52,17 @@ module _ (t : Program) (c : Configuration) (i : ℕ) (later : List StepOf) (r : 
   on_frame true true false m n on e = on e
   on_frame true false full m n on e = on e
 
-  on_stack : (fits : Bool) (S : List Frame) → a ≡ bit_of_stack i later S → reply_on_stack t fits c.globals S a ≡ Some r → reply_on_stack t fits c.globals S b ≡ Some r
+  on_stack : (fits : Bool) (S : List Frame) → a ≡ bit_of_stack i later S → reply_on_stack t fits c.globals S a ≡ Some r
+      → reply_on_stack t fits c.globals S b ≡ Some r
   on_stack fits [] inferred e = e
   on_stack fits (f ∷ fs) inferred e =
-      on_frame fits (is_call f.left) (nat_le MAX_FRAMES (length (f ∷ fs))) (reply_to_effect (effect t.procedures f.left c.globals f fs a)) (reply_to_effect (effect t.procedures f.left c.globals f fs b))
+      on_frame fits (is_call f.left) (nat_le MAX_FRAMES (length (f ∷ fs)))
+      (reply_to_effect (effect t.procedures f.left c.globals f fs a))
+      (reply_to_effect (effect t.procedures f.left c.globals f fs b))
       (by_block t.procedures c.globals f fs r refused f.left _ (some_follow later) a b inferred) e
 
-  by_mark : (failed fits : Bool) → a ≡ bit_of_stack i later (stack_of c i) → cond failed (Some Stopped) (reply_on_stack t fits c.globals (stack_of c i) a) ≡ Some r
+  by_mark : (failed fits : Bool) → a ≡ bit_of_stack i later (stack_of c i)
+      → cond failed (Some Stopped) (reply_on_stack t fits c.globals (stack_of c i) a) ≡ Some r
       → cond failed (Some Stopped) (reply_on_stack t fits c.globals (stack_of c i) b) ≡ Some r
   by_mark true fits inferred e = e
   by_mark false fits inferred e = on_stack fits (stack_of c i) inferred e
@@ -79,8 +83,10 @@ module _ (t : Program) (s : SetupOf) (h : List Call) (x : StepOf) (later : List 
   same_reply allowed refused y of_thread as_well =
       let own = allowed.answers in
       let other = as_well.answers in
-      let one : Answers t s.contexts (configuration_after t s h) (granted_threads h) x.thread a.bit a.reply = subst (λ j. Answers t s.contexts (configuration_after t s h) (granted_threads h) j a.bit a.reply) thread own in
-      let two : Answers t s.contexts (configuration_after t s h) (granted_threads h) x.thread y.bit y.reply = subst (λ j. Answers t s.contexts (configuration_after t s h) (granted_threads h) j y.bit y.reply) of_thread other in
+      let one : Answers t s.contexts (configuration_after t s h) (granted_threads h) x.thread a.bit a.reply =
+      subst (λ j. Answers t s.contexts (configuration_after t s h) (granted_threads h) j a.bit a.reply) thread own in
+      let two : Answers t s.contexts (configuration_after t s h) (granted_threads h) x.thread y.bit y.reply =
+      subst (λ j. Answers t s.contexts (configuration_after t s h) (granted_threads h) j y.bit y.reply) of_thread other in
       let fits = same_fits _ one.fits two.fits one.decides two.decides in
       let with_other : reply_of t one.fits (configuration_after t s h) x.thread y.bit ≡ Some a.reply =
       by_mark t (configuration_after t s h) x.thread later a.reply refused a.bit y.bit (configuration_after t s h).failed one.fits bit one.is in
@@ -99,7 +105,8 @@ seen_after g S Fails x = value_seen g S x
 seen_after g S Blocks x = None
 seen_after g S Misses x = None
 
-seen_there : (c d : Configuration) (i : ℕ) (S : List Frame) (e : StatementEffect) (x : List ℕ) → i < length c.stacks → stack_of c i ≡ S → after_effect c i e ≡ Some d
+seen_there : (c d : Configuration) (i : ℕ) (S : List Frame) (e : StatementEffect) (x : List ℕ) → i < length c.stacks
+    → stack_of c i ≡ S → after_effect c i e ≡ Some d
     → value_seen d.globals (stack_of d i) x ≡ seen_after c.globals S e x
 seen_there c d i S (Leaves g R) x within is moved = let left = has_left c d i g R within moved in λ j. value_seen (left.globals j) (left.own j) x
 seen_there c d i S Fails x within is moved = let failed = has_failed c d i moved in λ j. value_seen (failed.globals j) ((failed.stack i ∙ is) j) x
@@ -150,7 +157,8 @@ sees_alike c d i same [] sees = tt
 sees_alike c d i same (v ∷ vs) (here, rest) = (same v.0 ∙ here, sees_alike c d i same vs rest)
 
 -- after two calls that are granted, whatever their bits, the thread sees the same
-pub seen_same : (t : Program) (s : SetupOf) (h : List Call) (x : StepOf) (a y : Call) → IsStepOf t s h (record x { values = [] }) a → IsStepOf t s h (record x { values = [] }) y
+pub seen_same : (t : Program) (s : SetupOf) (h : List Call) (x : StepOf) (a y : Call)
+    → IsStepOf t s h (record x { values = [] }) a → IsStepOf t s h (record x { values = [] }) y
     → (z : List ℕ)
     → value_seen (configuration_after t s (h ++ a ∷ [])).globals (stack_of (configuration_after t s (h ++ a ∷ [])) x.thread) z
     ≡ value_seen (configuration_after t s (h ++ y ∷ [])).globals (stack_of (configuration_after t s (h ++ y ∷ [])) x.thread) z
@@ -161,18 +169,29 @@ seen_same t s h x a y takes as_well z =
     let tops : own.frame ∷ own.below ≡ other.frame ∷ other.below = sym own.stack ∙ other.stack in
     let frame : own.frame ≡ other.frame = cc in
     let below : own.below ≡ other.below = cc in
-    let moved : after_effect c x.thread (effect t.procedures other.frame.left c.globals other.frame other.below a.bit) ≡ Some (configuration_after t s (h ++ a ∷ [])) =
+    let moved : after_effect c x.thread (effect t.procedures other.frame.left c.globals other.frame other.below a.bit)
+    ≡ Some (configuration_after t s (h ++ a ∷ [])) =
     (λ j. after_effect c x.thread (effect t.procedures (sym frame j).left c.globals (sym frame j) (sym below j) a.bit)) ∙ own.moved in
-    seen_there c (configuration_after t s (h ++ a ∷ [])) x.thread (other.frame ∷ other.below) (effect t.procedures other.frame.left c.globals other.frame other.below a.bit) z own.within other.stack moved
+    seen_there c (configuration_after t s (h ++ a ∷ [])) x.thread (other.frame ∷ other.below)
+    (effect t.procedures other.frame.left c.globals other.frame other.below a.bit) z own.within other.stack moved
     ∙ seen_alike t.procedures c.globals other.frame other.below z other.frame.left a.bit y.bit
     (moves_on c (configuration_after t s (h ++ a ∷ [])) x.thread (effect t.procedures other.frame.left c.globals other.frame other.below a.bit) moved)
     (moves_on c (configuration_after t s (h ++ y ∷ [])) x.thread (effect t.procedures other.frame.left c.globals other.frame other.below y.bit) other.moved)
-    ∙ sym (seen_there c (configuration_after t s (h ++ y ∷ [])) x.thread (other.frame ∷ other.below) (effect t.procedures other.frame.left c.globals other.frame other.below y.bit) z other.within other.stack other.moved)
+    ∙ sym (seen_there c (configuration_after t s (h ++ y ∷ [])) x.thread (other.frame ∷ other.below)
+    (effect t.procedures other.frame.left c.globals other.frame other.below y.bit) z other.within other.stack
+    other.moved)
 
 -- so where the thread does not see the values after one, it does not after the other
 pub other_values : (t : Program) (s : SetupOf) (h : List Call) (x : StepOf) (a : Call) → IsStepOf t s h (record x { values = [] }) a
     → (SeesValues (configuration_after t s (h ++ a ∷ [])) x.thread x.values → ⊥)
     → (y : Call) → IsStepOf t s h x y → ⊥
 other_values t s h x a takes differ y wanted =
-    let bare : IsStepOf t s h (record x { values = [] }) y = record { thread = wanted.thread; allowed = wanted.allowed; granted = wanted.granted; at = wanted.at; values = tt } in
-    differ (sees_alike (configuration_after t s (h ++ a ∷ [])) (configuration_after t s (h ++ y ∷ [])) x.thread (seen_same t s h x a y takes bare) x.values wanted.values)
+    let bare : IsStepOf t s h (record x { values = [] }) y = record {
+      thread = wanted.thread;
+      allowed = wanted.allowed;
+      granted = wanted.granted;
+      at = wanted.at;
+      values = tt;
+    } in
+    differ (sees_alike (configuration_after t s (h ++ a ∷ [])) (configuration_after t s (h ++ y ∷ [])) x.thread
+    (seen_same t s h x a y takes bare) x.values wanted.values)

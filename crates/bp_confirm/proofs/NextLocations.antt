@@ -23,7 +23,8 @@ module _ (text : List ℕ) where
   next_place_of i (x ∷ xs) = by_test (x.thread == i) (next_place_of i xs)
     where
       by_test : (b : Bool) → next_place i (steps_of text xs) ≡ option_map (place_of text) (next_location i xs)
-          → cond b (Some (place_of text x.location)) (next_place i (steps_of text xs)) ≡ option_map (place_of text) (cond b (Some x.location) (next_location i xs))
+          → cond b (Some (place_of text x.location)) (next_place i (steps_of text xs))
+          ≡ option_map (place_of text) (cond b (Some x.location) (next_location i xs))
       by_test true rest = refl
       by_test false rest = rest
 
@@ -53,7 +54,9 @@ pub as_many_nexts : (xs : List StepLineOf) (nexts : List ℕ) → map (location_
 as_many_nexts xs nexts are = sym (length-map nexts (location_in xs)) ∙ ap length are ∙ as_many xs
 
 -- what the later lines tell of line n
-pub tells_next : (text : List ℕ) (xs : List StepLineOf) (nexts : List ℕ) (n : ℕ) (d x : StepLineOf) (k : ℕ) (next : Option Location) → next ≡ location_in xs (get_or nexts n k) → map (location_in xs) nexts ≡ next_locations xs → n < length xs → x ≡ get_or xs n d
+pub tells_next : (text : List ℕ) (xs : List StepLineOf) (nexts : List ℕ) (n : ℕ) (d x : StepLineOf) (k : ℕ)
+    (next : Option Location) → next ≡ location_in xs (get_or nexts n k) → map (location_in xs) nexts ≡ next_locations xs
+    → n < length xs → x ≡ get_or xs n d
     → TellsNext text (step_of text x) (steps_of text (drop (n + 1) xs)) (record { location = next; follows = nat_lt (n + 1) (length xs) })
 tells_next text xs nexts n d x k next next_is are within is =
     let one : suc n ≡ n + 1 = omega arith in
@@ -62,7 +65,9 @@ tells_next text xs nexts n d x k next next_is are within is =
     let location : next ≡ next_location i (drop (n + 1) xs) =
     next_is ∙ sym there ∙ ap (λ ys. get_or ys n nowhere) are ∙ next_at xs n d nowhere within ∙ ap (λ m. next_location i (drop m xs)) one in
     record {
-      place = ap (λ z. next_place z.thread (steps_of text (drop (n + 1) xs))) is ∙ next_place_of text i (drop (n + 1) xs) ∙ ap (option_map (place_of text)) (sym location);
+      place =
+          ap (λ z. next_place z.thread (steps_of text (drop (n + 1) xs))) is ∙ next_place_of text i (drop (n + 1) xs)
+          ∙ ap (option_map (place_of text)) (sym location);
       follows = some_after text (n + 1) xs;
     }
 
@@ -72,7 +77,8 @@ none_at f zero none i past within = absurd (omega (arith, within))
 none_at f (suc size) none zero past within = ap Some past
 none_at f (suc size) none (suc i) past within = none_at f size none i past (omega (arith, within))
 
-pub none_yet : (size i : ℕ) (xs : List StepLineOf) → i < size → slice_get (map (location_in xs) (replicate size (length xs))) i ≡ Some (next_location i (drop (length xs) xs))
+pub none_yet : (size i : ℕ) (xs : List StepLineOf) → i < size
+    → slice_get (map (location_in xs) (replicate size (length xs))) i ≡ Some (next_location i (drop (length xs) xs))
 none_yet size i xs within =
     let past : location_in xs (length xs) ≡ nowhere = ap (option_map (λ x. x.location)) (slice_get_past xs (length xs) (omega arith)) in
     none_at (location_in xs) size (length xs) i past within ∙ ap (λ ys. Some (next_location i ys)) (sym (drop-length xs))
@@ -137,7 +143,8 @@ module _ (xs : List StepLineOf) (n : ℕ) (d : StepLineOf) (within : n - 1 < len
   each_small size zero e (y ∷ ys) all inside = all.0
   each_small size (suc k) e (y ∷ ys) all inside = each_small size k e ys all.1 (omega (arith, inside))
 
-  pub table_next : (table : List ℕ) (thread : ℕ) → thread ≡ (get_or xs (n - 1) d).thread → AllByRecursion (λ y. y.thread < MAX_THREADS) xs → (i : ℕ) → length table ≡ MAX_THREADS
+  pub table_next : (table : List ℕ) (thread : ℕ) → thread ≡ (get_or xs (n - 1) d).thread
+      → AllByRecursion (λ y. y.thread < MAX_THREADS) xs → (i : ℕ) → length table ≡ MAX_THREADS
       → slice_get (map (location_in xs) table) i ≡ Some (next_location i (drop n xs))
       → slice_get (map (location_in xs) (set table thread (n - 1))) i ≡ Some (next_location i (drop (n - 1) xs))
   table_next table thread thread_is all i long old =
@@ -149,7 +156,8 @@ module _ (xs : List StepLineOf) (n : ℕ) (d : StepLineOf) (within : n - 1 < len
       ∙ table_more entries MAX_THREADS i many (each_small MAX_THREADS (n - 1) d xs all within) old
 
   -- and one more line is done
-  pub done_next : (table : List ℕ) (thread k : ℕ) → thread ≡ (get_or xs (n - 1) d).thread → AllByRecursion (λ y. y.thread < MAX_THREADS) xs → length table ≡ MAX_THREADS
+  pub done_next : (table : List ℕ) (thread k : ℕ) → thread ≡ (get_or xs (n - 1) d).thread
+      → AllByRecursion (λ y. y.thread < MAX_THREADS) xs → length table ≡ MAX_THREADS
       → ((i : ℕ) → i < MAX_THREADS → slice_get (map (location_in xs) table) i ≡ Some (next_location i (drop n xs)))
       → (steps : List ℕ) → length steps ≡ length xs → map (location_in xs) (drop n steps) ≡ next_locations (drop n xs)
       → map (location_in xs) (drop (n - 1) (set steps (n - 1) (get_or table thread k))) ≡ next_locations (drop (n - 1) xs)

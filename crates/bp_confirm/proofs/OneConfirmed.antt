@@ -47,12 +47,14 @@ one_confirmed t s steps h g p q = one_history t s [] steps [] h g p.follows q.fo
 
 module _ (text : List ℕ) (t : Program) (s : SetupOf) (lines : List StepLineOf) (r : StepRefusal) (refused : IsStepRefusal text t s lines r) where
   -- what takes all lines takes those up to the refused one
-  none_whole : ((g : List Call) → Takes t s (steps_of text (refused.before ++ refused.step ∷ [])) g → ⊥) → (g : List Call) → Takes t s (steps_of text lines) g → ⊥
+  none_whole : ((g : List Call) → Takes t s (steps_of text (refused.before ++ refused.step ∷ [])) g → ⊥)
+      → (g : List Call) → Takes t s (steps_of text lines) g → ⊥
   none_whole none g taking =
       let before = steps_of text refused.before in
       let x = step_of text refused.step in
       let later = steps_of text refused.later in
-      let whole : steps_of text lines ≡ before ++ x ∷ later = ap (steps_of text) refused.whole ∙ map-append (step_of text) refused.before (refused.step ∷ refused.later) in
+      let whole : steps_of text lines ≡ before ++ x ∷ later =
+      ap (steps_of text) refused.whole ∙ map-append (step_of text) refused.before (refused.step ∷ refused.later) in
       let found = front t s [] before x later g (subst (λ xs. Takes t s xs g) whole taking) in
       none found.0 (subst (λ xs. Takes t s xs found.0) (sym (map_push (step_of text) refused.before refused.step)) found.1)
 

@@ -38,7 +38,10 @@ ends_grow (Some a ∷ xs) (suc m) (suc n) less at = ends_grow xs m n (omega (ari
 has_before : (ns : List Name) (i j : ℕ) (n : Name) → i < j → slice_get ns i ≡ Some n → has (take j ns) n.text ≡ true
 has_before [] i j n less at = absurd cc
 has_before (x ∷ ns) i zero n less at = absurd (omega (arith, less))
-has_before (x ∷ ns) zero (suc j) n less at = let same : x ≡ n = cc in let alike : bytes_eq x.text n.text ≡ true = (bytes_eq-Decides x.text n.text).1 (ap (λ y. y.text) same) in rw alike refl
+has_before (x ∷ ns) zero (suc j) n less at =
+    let same : x ≡ n = cc in
+    let alike : bytes_eq x.text n.text ≡ true = (bytes_eq-Decides x.text n.text).1 (ap (λ y. y.text) same) in
+    rw alike refl
 has_before (x ∷ ns) (suc i) (suc j) n less at = by_first (bytes_eq x.text n.text) (has_before ns i j n (omega (arith, less)) at)
   where
     by_first : (b : Bool) {c : Bool} → c ≡ true → (b || c) ≡ true
@@ -52,10 +55,13 @@ module _ (text : List ℕ) (t : Program) (is : IsLawfulText text t) where
   -- no procedure is there twice
   not_before : (i j : ℕ) (p : Procedure) → i < j → slice_get t.procedures i ≡ Some p → slice_get t.procedures j ≡ Some p → ⊥
   not_before i j p less first second =
-      false≢true (sym ((distinct_names t is.lawful).procedures j p.name (name_at j p second)) ∙ has_before (map (λ q. q.name) t.procedures) i j p.name less (name_at i p first))
+      false≢true (sym ((distinct_names t is.lawful).procedures j p.name (name_at j p second))
+      ∙ has_before (map (λ q. q.name) t.procedures) i j p.name less (name_at i p first))
 
   start_at : (n : ℕ) (p : Procedure) (r : Block) → Remains (places_of t.procedures) n p r → slice_get (starts_of t) n ≡ Some (start_of_block r)
-  start_at n p r at = slice_get-map (λ (x : Place). start_of_block x.left) (places_of t.procedures) n ∙ ap (option_map (λ (x : Place). start_of_block x.left)) at
+  start_at n p r at =
+      slice_get-map (λ (x : Place). start_of_block x.left) (places_of t.procedures) n
+      ∙ ap (option_map (λ (x : Place). start_of_block x.left)) at
 
   end_before : (m n : ℕ) (p : Procedure) → m < n → Remains (places_of t.procedures) m p Done → Remains (places_of t.procedures) n p Done → ⊥
   end_before m n p less first second =
@@ -64,7 +70,9 @@ module _ (text : List ℕ) (t : Program) (is : IsLawfulText text t) where
       (procedure_of t.procedures m (place p Done) first) (procedure_of t.procedures n (place p Done) second)
 
   pub one_number : (m n : ℕ) (p : Procedure) (r : Block) → Remains (places_of t.procedures) m p r → Remains (places_of t.procedures) n p r → m ≡ n
-  one_number m n p (Then label at s r) first second = starts_distinct text t is.derived m n at (start_at m p (Then label at s r) first) (start_at n p (Then label at s r) second)
+  one_number m n p (Then label at s r) first second =
+      starts_distinct text t is.derived m n at (start_at m p (Then label at s r) first)
+      (start_at n p (Then label at s r) second)
   one_number m n p Done first second =
       elim (order m n) [
         | inl less ↦ absurd (end_before m n p less first second)

@@ -25,7 +25,8 @@ mixed a b p q x y e =
 
 pub one_name : (a b x y : List ℕ) → IsStepName a → IsStepName b → a ++ 61 ∷ x ≡ b ++ 61 ∷ y → (a ≡ b) × (x ≡ y)
 one_name a b x y (inl p) (inl q) e =
-    let cut = one_cut 125 (123 ∷ p.inner) (123 ∷ q.inner) (61 ∷ x) (61 ∷ y) (braced_closed a p) (braced_closed b q) (sym (braced_cut a p (61 ∷ x)) ∙ e ∙ braced_cut b q (61 ∷ y)) in
+    let cut = one_cut 125 (123 ∷ p.inner) (123 ∷ q.inner) (61 ∷ x) (61 ∷ y) (braced_closed a p) (braced_closed b q)
+    (sym (braced_cut a p (61 ∷ x)) ∙ e ∙ braced_cut b q (61 ∷ y)) in
     (p.is ∙ ap (λ z. z ++ 125 ∷ []) cut.0 ∙ sym q.is, (same_head 61 61 x y cut.1).1)
 one_name a b x y (inl p) (inr q) e = absurd (mixed a b p q (61 ∷ x) (61 ∷ y) e)
 one_name a b x y (inr p) (inl q) e = absurd (mixed b a q p (61 ∷ y) (61 ∷ x) (sym e))
@@ -49,11 +50,14 @@ module _ (text : List ℕ) (line : Without 10 text) where
         where
           by_kind : (name more : List ℕ) → IsStepName name → text ≡ name ++ 61 ∷ more → ⊥
           by_kind name more (inl p) e =
-              none more (one_cut 125 inner (123 ∷ p.inner) rest (61 ∷ more) cut.first (braced_closed name p) (sym cut.parts ∙ e ∙ braced_cut name p (61 ∷ more))).1
+              none more (one_cut 125 inner (123 ∷ p.inner) rest (61 ∷ more) cut.first (braced_closed name p)
+              (sym cut.parts ∙ e ∙ braced_cut name p (61 ∷ more))).1
           by_kind name more (inr q) e = not_plain name q (61 ∷ more) e
 
       inner_braced : (xs : List ℕ) → inner ≡ xs → IsBraced (xs ++ 125 ∷ [])
-      inner_braced [] e = absurd (let bytes = sym braced.1 ∙ cut.parts ∙ ap (λ x. x ++ 125 ∷ rest) e in omega (arith, (same_head 123 125 braced.0 rest bytes).0))
+      inner_braced [] e =
+          absurd (let bytes = sym braced.1 ∙ cut.parts ∙ ap (λ x. x ++ 125 ∷ rest) e in
+          omega (arith, (same_head 123 125 braced.0 rest bytes).0))
       inner_braced (c ∷ xs) e =
           let bytes = sym braced.1 ∙ cut.parts ∙ ap (λ x. x ++ 125 ∷ rest) e in
           let brace = (same_head 123 c braced.0 (xs ++ 125 ∷ rest) bytes).0 in
@@ -67,7 +71,10 @@ module _ (text : List ℕ) (line : Without 10 text) where
 
       pub has_braced : (name more : List ℕ) → name ≡ take (length inner + 1) text → rest ≡ 61 ∷ more → IsNameAt text name more
       has_braced name more taken sign =
-          let own : name ≡ inner ++ 125 ∷ [] = taken ∙ ap (take (length inner + 1)) cut.parts ∙ ap (λ k. take k (inner ++ 125 ∷ rest)) (let one : length inner + 1 ≡ suc (length inner) = omega arith in one) ∙ take_one_more inner 125 rest in
+          let own : name ≡ inner ++ 125 ∷ [] =
+          taken ∙ ap (take (length inner + 1)) cut.parts
+          ∙ ap (λ k. take k (inner ++ 125 ∷ rest)) (let one : length inner + 1 ≡ suc (length inner) = omega arith in one)
+          ∙ take_one_more inner 125 rest in
           record {
             name_is = inl (subst IsBraced (sym own) (inner_braced inner refl));
             parts = cut.parts ∙ ap (λ x. inner ++ 125 ∷ x) sign ∙ sym (append_assoc inner (125 ∷ []) (61 ∷ more)) ∙ ap (λ x. x ++ 61 ∷ more) (sym own);

@@ -165,7 +165,8 @@ module _ (text : List ℕ) where
         plain = λ zero. absurd (some (no_value front.digits front.value front.some front.plain zero));
       }
         where
-          no_value : (ds : List ℕ) → number ≡ digits_value 10 ds → 0 < length ds → (get_or ds 0 0 ≡ 48 → length ds ≡ 1) → get_or (ds ++ c ∷ []) 0 0 ≡ 48 → number ≡ 0
+          no_value : (ds : List ℕ) → number ≡ digits_value 10 ds → 0 < length ds → (get_or ds 0 0 ≡ 48 → length ds ≡ 1)
+              → get_or (ds ++ c ∷ []) 0 0 ≡ 48 → number ≡ 0
           no_value [] value some plain zero = absurd (omega (arith, some))
           no_value (d ∷ []) value some plain zero = value ∙ ap (λ x. digits_value 10 (x ∷ [])) zero
           no_value (d ∷ e ∷ ds) value some plain zero = absurd (omega (arith, plain zero))

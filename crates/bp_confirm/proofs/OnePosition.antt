@@ -11,7 +11,8 @@ use Rattle.bp_text.specs.Positions.{position_behind, position_at}
 
 parts : (n m : ℕ) (xs : List ℕ) → take n xs ++ take m (drop n xs) ≡ take (n + m) xs
 parts n m xs =
-    ap (λ ys. ys ++ take m (drop n xs)) (sym (take-take n (n + m) xs (omega arith))) ∙ ap (λ ys. take n (take (n + m) xs) ++ ys) (sym (drop-take n m xs)) ∙ take-append-drop n (take (n + m) xs)
+    ap (λ ys. ys ++ take m (drop n xs)) (sym (take-take n (n + m) xs (omega arith)))
+    ∙ ap (λ ys. take n (take (n + m) xs) ++ ys) (sym (drop-take n m xs)) ∙ take-append-drop n (take (n + m) xs)
 
 -- one position is before another
 abbrev pub IsBefore : Position → Position → Type 0
@@ -50,16 +51,20 @@ some_bytes : (front : List ℕ) (b : ℕ) (rest : List ℕ) → IsBefore (positi
 some_bytes front b [] = one_byte front b
 some_bytes front b (d ∷ rest) =
     before_trans (position_behind front) (position_behind (front ++ b ∷ [])) (position_behind (front ++ b ∷ d ∷ rest)) (one_byte front b)
-    (subst (λ ys. IsBefore (position_behind (front ++ b ∷ [])) (position_behind ys)) (append_assoc front (b ∷ []) (d ∷ rest)) (some_bytes (front ++ b ∷ []) d rest))
+    (subst (λ ys. IsBefore (position_behind (front ++ b ∷ [])) (position_behind ys))
+    (append_assoc front (b ∷ []) (d ∷ rest)) (some_bytes (front ++ b ∷ []) d rest))
 
 -- no two bytes of a text have one position
 pub other_position : (text : List ℕ) (a b : ℕ) → a < b → b ≤ length text → position_at text a ≢ position_at text b
 other_position text a b up within =
     let m = b - suc a in
     let next : drop a text ≡ get_or text a 0 ∷ drop (suc a) text = drop-cons text a 0 (omega arith) in
-    let whole : take a text ++ take (suc m) (drop a text) ≡ take b text = parts a (suc m) text ∙ (let size : a + suc m ≡ b = omega arith in ap (λ k. take k text) size) in
+    let whole : take a text ++ take (suc m) (drop a text) ≡ take b text =
+    parts a (suc m) text ∙ (let size : a + suc m ≡ b = omega arith in ap (λ k. take k text) size) in
     let split : take a text ++ get_or text a 0 ∷ take m (drop (suc a) text) ≡ take b text = ap (λ ys. take a text ++ take (suc m) ys) (sym next) ∙ whole in
-    apart (position_at text a) (position_at text b) (subst (λ ys. IsBefore (position_at text a) (position_behind ys)) split (some_bytes (take a text) (get_or text a 0) (take m (drop (suc a) text))))
+    apart (position_at text a) (position_at text b)
+    (subst (λ ys. IsBefore (position_at text a) (position_behind ys)) split
+    (some_bytes (take a text) (get_or text a 0) (take m (drop (suc a) text))))
 
 -- bytes of one position are one byte
 pub one_byte_each : (text : List ℕ) (a b : ℕ) → a < length text → b < length text → position_at text a ≡ position_at text b → a ≡ b

@@ -62,14 +62,17 @@ one_bad (c ∷ a) (d ∷ b) x y p q e none other =
 
 steps_append : (xs : List StepLineOf) (x : StepLineOf) → steps_text (xs ++ x ∷ []) ≡ steps_text xs ++ (line_text x ++ codes "\n")
 steps_append [] x = append-nil (line_text x ++ codes "\n")
-steps_append (y ∷ xs) x = ap (λ z. (line_text y ++ codes "\n") ++ z) (steps_append xs x) ∙ sym (append_assoc (line_text y ++ codes "\n") (steps_text xs) (line_text x ++ codes "\n"))
+steps_append (y ∷ xs) x =
+    ap (λ z. (line_text y ++ codes "\n") ++ z) (steps_append xs x)
+    ∙ sym (append_assoc (line_text y ++ codes "\n") (steps_text xs) (line_text x ++ codes "\n"))
 
 each_append : (xs : List StepLineOf) (x : StepLineOf) → AllByRecursion HasLine xs → HasLine x → AllByRecursion HasLine (xs ++ x ∷ [])
 each_append [] x p q = (q, tt)
 each_append (y ∷ xs) x p q = (p.0, each_append xs x p.1 q)
 
 -- one more line is read
-pub line_more : (text : List ℕ) (xs : List StepLineOf) (rest more : List ℕ) (x : StepLineOf) → AllByRecursion HasLine xs → text ≡ steps_text xs ++ rest → IsStepAt rest x more
+pub line_more : (text : List ℕ) (xs : List StepLineOf) (rest more : List ℕ) (x : StepLineOf) → AllByRecursion HasLine xs
+    → text ≡ steps_text xs ++ rest → IsStepAt rest x more
     → AllByRecursion HasLine (xs ++ x ∷ []) × (text ≡ steps_text (xs ++ x ∷ []) ++ more)
 line_more text xs rest more x each is at = (
   each_append xs x each at.has,

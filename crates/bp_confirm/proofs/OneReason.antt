@@ -31,7 +31,8 @@ module _ (text : List ℕ) (t : Program) (is : IsLawfulText text t) where
   apart_starts : (p : Place) (a k other : Block) → a ≢ Done → AreBothAt t p (chain a k) other → chain a k ≡ other → ⊥
   apart_starts p Done k other some both same = some refl
   apart_starts p (Then label at x b) k other some both same =
-      both.ways.apart (starts_distinct text t is.derived both.ways.one both.ways.two at both.ways.taken_is (both.ways.other_is ∙ ap (λ y. Some (start_of_block y)) (sym same)))
+      both.ways.apart (starts_distinct text t is.derived both.ways.one both.ways.two at both.ways.taken_is
+      (both.ways.other_is ∙ ap (λ y. Some (start_of_block y)) (sym same)))
 
   by_ways : (next : Option Place) (a k other : Block) → a ≢ Done → IsClearWay next (chain a k) other → AreBothWays t next (chain a k) other → ⊥
   by_ways None a k other some clear both = both
@@ -110,10 +111,13 @@ module _ (text : List ℕ) (t : Program) (is : IsLawfulText text t) (s : SetupOf
       let same = seen_same t s h x p.call q.call p.takes q.takes in
       let one = p.differs.unseen in
       let other = q.differs.unseen in
-      let both = one_unseen (configuration_after t s (h ++ p.call ∷ [])) (configuration_after t s (h ++ q.call ∷ [])) x.thread same x.values d.place e.place d.seen e.seen one other in
+      let both = one_unseen (configuration_after t s (h ++ p.call ∷ [])) (configuration_after t s (h ++ q.call ∷ []))
+      x.thread same x.values d.place e.place d.seen e.seen one other in
       let value : one.value ≡ other.value = (let at = one.at in let there = other.at in let place = both.0 in cc) in
       let name = one.value.0 in
-      let own = subst (λ v. IsLastChange (seen_after t s (h ++ q.call ∷ []) x.thread v.0) (length (h ++ q.call ∷ [])) e.changed) (sym value) q.differs.changed in
+      let own =
+      subst (λ v. IsLastChange (seen_after t s (h ++ q.call ∷ []) x.thread v.0) (length (h ++ q.call ∷ [])) e.changed)
+      (sym value) q.differs.changed in
       let changed = one_change (seen_by t s x.thread name) h p.call q.call (same name) d.changed e.changed p.differs.changed own in
       λ j. Differs (record { place = both.0 j; seen = both.1 j; changed = changed j })
 

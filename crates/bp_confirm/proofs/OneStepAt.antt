@@ -28,7 +28,8 @@ one_location_at (Line n) (Column k m) a b p q s r e =
     absurd (s.1 (decimal m ++ b) (one_number n k a (58 ∷ (decimal m ++ b)) p q.0 s.0 (ends_at 58 no_colon (decimal m ++ b)) (e ∙ colon_then k m b)).1)
 one_location_at (Column n m) End a b p q s r e = absurd (digit_no_dash n p.0 (58 ∷ (decimal m ++ a)) b (sym (colon_then n m a) ∙ e))
 one_location_at (Column n m) (Line k) a b p q s r e =
-    absurd (r.1 (decimal m ++ a) (sym (one_number n k (58 ∷ (decimal m ++ a)) b p.0 q (ends_at 58 no_colon (decimal m ++ a)) r.0 (sym (colon_then n m a) ∙ e)).1))
+    absurd (r.1 (decimal m ++ a) (sym (one_number n k (58 ∷ (decimal m ++ a)) b p.0 q
+    (ends_at 58 no_colon (decimal m ++ a)) r.0 (sym (colon_then n m a) ∙ e)).1))
 one_location_at (Column n m) (Column k l) a b p q s r e =
     let x = decimal m ++ a in
     let y = decimal l ++ b in
@@ -49,7 +50,11 @@ module _ (text : List ℕ) where
         by_kind End rest at = undashed rest at.parts
         by_kind (Line n) rest at = none n rest (record { short = at.short; parts = at.parts; ends = at.ends.0 })
         by_kind (Column n m) rest at =
-            none n (58 ∷ (decimal m ++ rest)) (record { short = at.short.0; parts = at.parts ∙ colon_then n m rest; ends = ends_at 58 no_colon (decimal m ++ rest) })
+            none n (58 ∷ (decimal m ++ rest)) (record {
+              short = at.short.0;
+              parts = at.parts ∙ colon_then n m rest;
+              ends = ends_at 58 no_colon (decimal m ++ rest);
+            })
 
     module _ (line : ℕ) (more : List ℕ) (first : IsNumberAt text line more) where
       pub line_alone : ((rest : List ℕ) → more ≢ 58 ∷ rest) → IsLocationAt text (Line line) more
@@ -68,7 +73,8 @@ module _ (text : List ℕ) where
                 at.ends.1 digits (sym (one_number line n more rest first.short at.short first.ends at.ends.0 (sym first.parts ∙ at.parts)).1 ∙ colon)
             by_kind (Column n m) rest at =
                 let x = decimal m ++ rest in
-                let one = one_number line n (58 ∷ digits) (58 ∷ x) first.short at.short.0 (ends_at 58 no_colon digits) (ends_at 58 no_colon x) (sym whole ∙ at.parts ∙ colon_then n m rest) in
+                let one = one_number line n (58 ∷ digits) (58 ∷ x) first.short at.short.0 (ends_at 58 no_colon digits)
+                (ends_at 58 no_colon x) (sym whole ∙ at.parts ∙ colon_then n m rest) in
                 none m rest (record { short = at.short.1; parts = (same_head 58 58 digits x one.1).1; ends = at.ends })
 
         pub with_column : (column : ℕ) (rest : List ℕ) → IsNumberAt digits column rest → IsLocationAt text (Column line column) rest
@@ -117,7 +123,11 @@ module _ (text : List ℕ) where
 module _ (text : List ℕ) where
   pub no_thread : HasNoNumber text → HasNoStep text
   no_thread none = λ x more at.
-      none x.thread (32 ∷ after_thread x more) (record { short = at.has.thread; parts = at.parts ∙ line_then x more; ends = ends_at 32 no_space (after_thread x more) })
+      none x.thread (32 ∷ after_thread x more) (record {
+        short = at.has.thread;
+        parts = at.parts ∙ line_then x more;
+        ends = ends_at 32 no_space (after_thread x more);
+      })
 
   module _ (thread : ℕ) (rest : List ℕ) (number : IsNumberAt text thread rest) where
     thread_is : (x : StepLineOf) (more : List ℕ) → IsStepAt text x more → (thread ≡ x.thread) × (rest ≡ 32 ∷ after_thread x more)
@@ -134,7 +144,8 @@ module _ (text : List ℕ) where
 
       pub no_location : HasNoLocation words → HasNoStep text
       no_location none = λ x more at.
-          none x.location (after_location x more) (record { short = at.has.location; parts = words_are x more at; ends = location_ends x.location x.values more })
+          none x.location (after_location x more)
+          (record { short = at.has.location; parts = words_are x more at; ends = location_ends x.location x.values more })
 
       module _ (location : Location) (values : List ℕ) (there : IsLocationAt words location values) where
         values_are : (x : StepLineOf) (more : List ℕ) → IsStepAt text x more → values ≡ after_location x more
@@ -145,13 +156,15 @@ module _ (text : List ℕ) where
         pub no_values_line : HasNoValuesLine values → HasNoStep text
         no_values_line none = λ x more at. none x.values more at.has.values (values_are x more at)
 
-        pub has_step : (own next : List ℕ) → IsValuesLine values own next → IsStepAt text (record { thread = thread; location = location; values = values_in own }) next
+        pub has_step : (own next : List ℕ) → IsValuesLine values own next
+            → IsStepAt text (record { thread = thread; location = location; values = values_in own }) next
         has_step own next is = record {
           has = record { thread = number.short; location = there.short; values = is.says.0 };
           parts =
               let vs = values_in own in
               let values_is : values ≡ values_text (values_in own) ++ 10 ∷ next = is.parts ∙ ap (λ z. z ++ 10 ∷ next) is.says.1 in
-              let words_is : words ≡ location_text location ++ (values_text (values_in own) ++ 10 ∷ next) = there.parts ∙ ap (λ z. location_text location ++ z) values_is in
+              let words_is : words ≡ location_text location ++ (values_text (values_in own) ++ 10 ∷ next) =
+              there.parts ∙ ap (λ z. location_text location ++ z) values_is in
               number.parts ∙ ap (λ z. decimal thread ++ z) (spaced ∙ ap (λ z. 32 ∷ z) words_is)
               ∙ sym (line_then (record { thread = thread; location = location; values = values_in own }) next);
         }

@@ -76,7 +76,8 @@ one_valuation vs ws p q e =
     none_left [] is parts = sym (append-nil vs) ∙ sym parts
     none_left (v ∷ others) is parts = absurd (let whole = is ∙ value_then v (values_text others) in cc)
 
-pub no_value_no_values : (text : List ℕ) (vs : Valuation) (rest : List ℕ) → AreNamed vs → text ≡ values_text vs ++ rest → rest ≢ [] → HasNoValue rest → AreNoValues text
+pub no_value_no_values : (text : List ℕ) (vs : Valuation) (rest : List ℕ) → AreNamed vs → text ≡ values_text vs ++ rest
+    → rest ≢ [] → HasNoValue rest → AreNoValues text
 no_value_no_values text vs rest named is some none = λ ws q e.
     let (others, others_named, parts, whole) = values_begin vs ws rest named q (sym is ∙ e) in
     by_others others others_named parts
@@ -94,7 +95,8 @@ named_append [] v p q = (q, tt)
 named_append (w ∷ vs) v p q = (p.0, named_append vs v p.1 q)
 
 -- one more value is read
-pub values_more : (text : List ℕ) (vs : Valuation) (rest : List ℕ) (v : List ℕ × Bool) (more : List ℕ) → AreNamed vs → text ≡ values_text vs ++ rest → IsValueAt rest v more
+pub values_more : (text : List ℕ) (vs : Valuation) (rest : List ℕ) (v : List ℕ × Bool) (more : List ℕ) → AreNamed vs
+    → text ≡ values_text vs ++ rest → IsValueAt rest v more
     → AreNamed (vs ++ v ∷ []) × (text ≡ values_text (vs ++ v ∷ []) ++ more)
 values_more text vs rest v more named is at = (
   named_append vs v named at.name,
@@ -114,12 +116,15 @@ module _ (line : List ℕ) where
 
   module _ (digits rest : List ℕ) (cut : IsCut 32 line digits rest) where
     fields_are : (x : StepLineOf) → HasLine x → line ≡ line_text x → (digits ≡ decimal x.thread) × (rest ≡ location_text x.location ++ values_text x.values)
-    fields_are x has e = one_cut 32 digits (decimal x.thread) rest (location_text x.location ++ values_text x.values) cut.first (decimal_without 32 no_space x.thread has.thread) (sym cut.parts ∙ e)
+    fields_are x has e =
+        one_cut 32 digits (decimal x.thread) rest (location_text x.location ++ values_text x.values) cut.first
+        (decimal_without 32 no_space x.thread has.thread) (sym cut.parts ∙ e)
 
     module _ (field values : List ℕ) (at : IsField rest field values) where
       pub both_are : (x : StepLineOf) → HasLine x → line ≡ line_text x → (field ≡ location_text x.location) × (values ≡ values_text x.values)
       both_are x has e =
-          one_field field (location_text x.location) values (values_text x.values) at.first (location_without_space x.location has.location) at.ends (values_spaced x.values)
+          one_field field (location_text x.location) values (values_text x.values) at.first
+          (location_without_space x.location has.location) at.ends (values_spaced x.values)
           (sym at.parts ∙ (fields_are x has e).1)
 
       pub values_line : Without 10 line → Without 10 values
@@ -130,7 +135,8 @@ module _ (line : List ℕ) where
 -- two steps on one line are the same
 pub one_step : (x y : StepLineOf) → HasLine x → HasLine y → line_text x ≡ line_text y → x ≡ y
 one_step x y p q e =
-    let cut = one_cut 32 (decimal x.thread) (decimal y.thread) (location_text x.location ++ values_text x.values) (location_text y.location ++ values_text y.values)
+    let cut = one_cut 32 (decimal x.thread) (decimal y.thread) (location_text x.location ++ values_text x.values)
+    (location_text y.location ++ values_text y.values)
     (decimal_without 32 no_space x.thread p.thread) (decimal_without 32 no_space y.thread q.thread) e in
     let both = one_field (location_text x.location) (location_text y.location) (values_text x.values) (values_text y.values)
     (location_without_space x.location p.location) (location_without_space y.location q.location) (values_spaced x.values) (values_spaced y.values) cut.1 in
@@ -145,17 +151,25 @@ bit_without_feed true e = omega (arith, e)
 bit_without_feed false e = omega (arith, e)
 
 name_without_feed : (name : List ℕ) → IsStepName name → Without 10 name
-name_without_feed name (inl p) = subst (Without 10) (sym p.is) ((λ e. absurd (omega (arith, e))), without_both 10 p.inner (125 ∷ []) p.line ((λ e. absurd (omega (arith, e))), tt))
+name_without_feed name (inl p) =
+    subst (Without 10) (sym p.is)
+    ((λ e. absurd (omega (arith, e))), without_both 10 p.inner (125 ∷ []) p.line ((λ e. absurd (omega (arith, e))), tt))
 name_without_feed name (inr q) = q.line
 
 pub values_without_feed : (vs : Valuation) → AreNamed vs → Without 10 (values_text vs)
 values_without_feed [] p = tt
 values_without_feed (v ∷ vs) p =
-    without_both 10 (value_text v) (values_text vs)
-    ((λ e. absurd (omega (arith, e))), without_both 10 v.0 (61 ∷ bit_digit v.1 ∷ []) (name_without_feed v.0 p.0) ((λ e. absurd (omega (arith, e))), (bit_without_feed v.1, tt)))
+    without_both 10 (value_text v) (values_text vs) (
+      (λ e. absurd (omega (arith, e))),
+      without_both 10 v.0 (61 ∷ bit_digit v.1 ∷ []) (name_without_feed v.0 p.0)
+          ((λ e. absurd (omega (arith, e))), (bit_without_feed v.1, tt)),
+    )
     (values_without_feed vs p.1)
 
 pub line_without_feed : (x : StepLineOf) → HasLine x → Without 10 (line_text x)
 line_without_feed x has =
-    without_both 10 (decimal x.thread) (32 ∷ (location_text x.location ++ values_text x.values)) (decimal_without 10 no_line_feed x.thread has.thread)
-    ((λ e. absurd (omega (arith, e))), without_both 10 (location_text x.location) (values_text x.values) (location_without_feed x.location has.location) (values_without_feed x.values has.values))
+    without_both 10 (decimal x.thread) (32 ∷ (location_text x.location ++ values_text x.values)) (decimal_without 10 no_line_feed x.thread has.thread) (
+      (λ e. absurd (omega (arith, e))),
+      without_both 10 (location_text x.location) (values_text x.values)
+          (location_without_feed x.location has.location) (values_without_feed x.values has.values),
+    )

@@ -54,7 +54,8 @@ module _ (t : Program) (s : SetupOf) where
     call : Call
     here : Follows t s (h ++ front) x later call
 
-  follow_to : (h : List Call) (xs : List StepOf) (x : StepOf) (ys later : List StepOf) (g : List Call) → FollowAfter t s h (xs ++ x ∷ ys) later g → FollowsTo h xs x (ys ++ later)
+  follow_to : (h : List Call) (xs : List StepOf) (x : StepOf) (ys later : List StepOf) (g : List Call)
+      → FollowAfter t s h (xs ++ x ∷ ys) later g → FollowsTo h xs x (ys ++ later)
   follow_to h [] x ys later [] f = absurd f
   follow_to h [] x ys later (a ∷ g) f =
       record { front = []; before = tt; call = a; here = subst (λ k. Follows t s k x (ys ++ later) a) (sym (append-nil h)) f.0 }
@@ -68,7 +69,8 @@ module _ (t : Program) (s : SetupOf) where
         here = subst (λ k. Follows t s k x (ys ++ later) rest.call) (append_assoc h (m ∷ []) rest.front) rest.here;
       }
 
-module _ (text : List ℕ) (t : Program) (is : IsLawfulText text t) (s : SetupOf) (lines : List StepLineOf) (r : StepRefusal) (refused : IsStepRefusal text t s lines r) where
+module _ (text : List ℕ) (t : Program) (is : IsLawfulText text t) (s : SetupOf) (lines : List StepLineOf)
+    (r : StepRefusal) (refused : IsStepRefusal text t s lines r) where
   goes_on : GoesOnAt t (configuration_after t s refused.history) (step_of text refused.step).thread r.number
   goes_on = subst (λ i. GoesOnAt t (configuration_after t s refused.history) i r.number) refused.thread refused.number
 
@@ -86,13 +88,15 @@ module _ (text : List ℕ) (t : Program) (is : IsLawfulText text t) (s : SetupOf
       all_taken =
           subst (λ xs. Takes t s xs (refused.history ++ a ∷ [])) (sym (map_push (step_of text) refused.before refused.step))
           (taken t s [] (steps_of text refused.before ++ step_of text refused.step ∷ []) (steps_of text refused.later) (refused.history ++ a ∷ [])
-          (follow_more t s [] (steps_of text refused.before) (step_of text refused.step) (steps_of text refused.later) refused.history a refused.follows follows))
+          (follow_more t s [] (steps_of text refused.before) (step_of text refused.step)
+          (steps_of text refused.later) refused.history a refused.follows follows))
 
       by_reason : (reason : StepReason) → IsReason t s refused.history (step_of text refused.step) (steps_of text refused.later) reason
           → ForStuck reason ((g : List Call) → Takes t s (steps_of text (refused.before ++ refused.step ∷ [])) g → ⊥) → ⊥
       by_reason Elsewhere why none = none (refused.history ++ a ∷ []) all_taken
       by_reason Ambiguous why none =
-          not_clear text t is (configuration_after t s refused.history) (step_of text refused.step).thread (steps_of text refused.later) r.number goes_on follows.clear why.ambiguous
+          not_clear text t is (configuration_after t s refused.history) (step_of text refused.step).thread
+          (steps_of text refused.later) r.number goes_on follows.clear why.ambiguous
       by_reason Finished why none = none (refused.history ++ a ∷ []) all_taken
       by_reason (Refused q) why none = none (refused.history ++ a ∷ []) all_taken
       by_reason (Differs d) why none = none (refused.history ++ a ∷ []) all_taken
@@ -104,15 +108,18 @@ module _ (text : List ℕ) (t : Program) (is : IsLawfulText text t) (s : SetupOf
       let x = step_of text refused.step in
       let found = follow_to t s [] (steps_of text refused.before) x ys zs g follows in
       let before = subst (λ ws. FollowAfter t s [] (steps_of text refused.before) (step_of text refused.step ∷ ws) found.front) parts found.before in
-      let same = one_history t s [] (steps_of text refused.before) (step_of text refused.step ∷ steps_of text refused.later) found.front refused.history before refused.follows in
+      let same = one_history t s [] (steps_of text refused.before)
+      (step_of text refused.step ∷ steps_of text refused.later) found.front refused.history before refused.follows in
       not_followed found.call
-      (subst (λ ws. Follows t s refused.history (step_of text refused.step) ws found.call) parts (subst (λ k. Follows t s k (step_of text refused.step) (ys ++ zs) found.call) same found.here))
+      (subst (λ ws. Follows t s refused.history (step_of text refused.step) ws found.call) parts
+      (subst (λ k. Follows t s k (step_of text refused.step) (ys ++ zs) found.call) same found.here))
 
   pub not_confirmed_too : (h : List Call) → IsConfirmed t s (steps_of text lines) h → ⊥
   not_confirmed_too h confirmed =
       let whole : steps_of text lines ≡ steps_of text refused.before ++ step_of text refused.step ∷ steps_of text refused.later =
       ap (steps_of text) refused.whole ∙ map-append (step_of text) refused.before (refused.step ∷ refused.later) in
-      never_followed (steps_of text refused.later) [] h (append-nil (steps_of text refused.later)) (subst (λ xs. FollowAfter t s [] xs [] h) whole confirmed.follows)
+      never_followed (steps_of text refused.later) [] h (append-nil (steps_of text refused.later))
+      (subst (λ xs. FollowAfter t s [] xs [] h) whole confirmed.follows)
 
   -- another one of the same steps is not of a later step
   module _ (q : StepRefusal) (other : IsStepRefusal text t s lines q) where
@@ -132,7 +139,8 @@ module _ (text : List ℕ) (t : Program) (is : IsLawfulText text t) (s : SetupOf
         subst (λ b. FollowAfter t s [] (steps_of text b) (steps_of text (refused.step ∷ refused.later)) other.history) (sym cut.front)
         (subst (λ y. FollowAfter t s [] (steps_of text other.before) (steps_of text (y ∷ refused.later)) other.history) (sym cut.here)
         (subst (λ ys. FollowAfter t s [] (steps_of text other.before) (steps_of text (other.step ∷ ys)) other.history) (sym cut.rest) other.follows)) in
-        let history = one_history t s [] (steps_of text refused.before) (steps_of text (refused.step ∷ refused.later)) refused.history other.history refused.follows follows in
+        let history = one_history t s [] (steps_of text refused.before) (steps_of text (refused.step ∷ refused.later))
+        refused.history other.history refused.follows follows in
         let line : r.line ≡ q.line = refused.line ∙ ap (λ b. length b + 1) cut.front ∙ sym other.line in
         let thread : r.thread ≡ q.thread = refused.thread ∙ ap (λ y. y.thread) cut.here ∙ sym other.thread in
         let location : r.location ≡ q.location = refused.location ∙ ap (λ y. y.location) cut.here ∙ sym other.location in

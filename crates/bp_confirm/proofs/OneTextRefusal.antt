@@ -39,8 +39,12 @@ module _ (t : Program) (s : SetupOf) where
       elim (cuts p.before p.value p.after q.before q.value q.after (sym p.parts ∙ q.parts)) [
         | inl same ↦ p.number ∙ ap length same.front ∙ sym q.number
         | inr other ↦ elim other [
-          | inl cut ↦ absurd (false≢true (sym p.undeclared ∙ all_here (λ v. declares t v.0 ≡ true) p.before p.value cut.middle (subst (AreDeclared t) cut.front q.first)))
-          | inr cut ↦ absurd (false≢true (sym q.undeclared ∙ all_here (λ v. declares t v.0 ≡ true) q.before q.value cut.middle (subst (AreDeclared t) cut.front p.first)))
+          | inl cut ↦
+              absurd (false≢true (sym p.undeclared ∙ all_here (λ v. declares t v.0 ≡ true) p.before p.value cut.middle
+              (subst (AreDeclared t) cut.front q.first)))
+          | inr cut ↦
+              absurd (false≢true (sym q.undeclared ∙ all_here (λ v. declares t v.0 ≡ true) q.before q.value cut.middle
+              (subst (AreDeclared t) cut.front p.first)))
         ]
       ]
 
@@ -79,7 +83,8 @@ module _ (text : List ℕ) (t : Program) (is : IsLawfulText text t) (s : SetupOf
   data OnLines (lines : List StepLineOf) : ConfirmFault → Type 0 where
     of_no_thread : (n i : ℕ) → IsFirstStray t s lines n (IsOfNoThread s i) → OnLines lines (NoThread n i)
     of_no_variable : (n k : ℕ) → IsFirstStray t s lines n (IsOfNoVariable t s k) → OnLines lines (NoVariable n k)
-    of_step : (r : StepRefusal) (setup : SetupOf) → AreDeclaredLines t s lines → IsSetupFor s lines bound setup → IsStepRefusal text t setup lines r → OnLines lines (Step r)
+    of_step : (r : StepRefusal) (setup : SetupOf) → AreDeclaredLines t s lines → IsSetupFor s lines bound setup
+        → IsStepRefusal text t setup lines r → OnLines lines (Step r)
 
   data OnText : ConfirmFault → Type 0 where
     of_length : MAX_SCHEDULE < length steps → OnText TooLong
@@ -128,9 +133,11 @@ module _ (text : List ℕ) (t : Program) (is : IsLawfulText text t) (s : SetupOf
         let same = one_stray t s lines m n (IsOfNoVariable t s k) (IsOfNoVariable t s l) (no_variable t s k) (no_variable t s l) p q in
         let value : k ≡ l = one_undeclared t s q.line.values k l (subst (λ x. IsFirstUndeclared t x.values k) same.1 p.is.variable) q.is.variable in
         λ x. NoVariable (same.0 x) (value x)
-    one_on_lines _ _ (of_no_variable m k p) (of_step r setup declared allows q) = absurd (stray_alone t s lines m (IsOfNoVariable t s k) (no_variable t s k) p declared)
+    one_on_lines _ _ (of_no_variable m k p) (of_step r setup declared allows q) =
+        absurd (stray_alone t s lines m (IsOfNoVariable t s k) (no_variable t s k) p declared)
     one_on_lines _ _ (of_step r setup declared allows p) (of_no_thread n i q) = absurd (stray_alone t s lines n (IsOfNoThread s i) (no_thread t s i) q declared)
-    one_on_lines _ _ (of_step r setup declared allows p) (of_no_variable n k q) = absurd (stray_alone t s lines n (IsOfNoVariable t s k) (no_variable t s k) q declared)
+    one_on_lines _ _ (of_step r setup declared allows p) (of_no_variable n k q) =
+        absurd (stray_alone t s lines n (IsOfNoVariable t s k) (no_variable t s k) q declared)
     one_on_lines _ _ (of_step r setup declared allows p) (of_step o other as_well permits q) =
         let same = one_setup s lines bound other setup permits allows in
         ap Step (one_step_refusal text t is setup lines r o p (subst (λ z. IsStepRefusal text t z lines o) same q))
@@ -169,7 +176,8 @@ module _ (text : List ℕ) (t : Program) (is : IsLawfulText text t) (s : SetupOf
     by_fault Write p = absurd p
 
 pub one_refusal : OneRefusal
-one_refusal text t s steps bound f g is one two p q = one_sorted text t is s steps bound f g (sorted text t is s steps bound f one p) (sorted text t is s steps bound g two q)
+one_refusal text t s steps bound f g is one two p q =
+    one_sorted text t is s steps bound f g (sorted text t is s steps bound f one p) (sorted text t is s steps bound g two q)
 
 pub no_refusal_of_confirmed : NoRefusalOfConfirmed
 no_refusal_of_confirmed text t s steps bound setup h f is confirmed p = by_fault text t is s steps bound setup h confirmed f p

@@ -46,7 +46,8 @@ has_stack c i S at = there c.stacks i at
     there (y ∷ ys) (suc k) e = there ys k e
 
 module _ (text : List ℕ) (t : Program) where
-  abbrev one_move : (c next : Configuration) (call : Call) (x : StepLineOf) → IsOwnLine text c call x → Moves t c call.thread call.bit next → IsMoveOf t c (step_of text x) call
+  abbrev one_move : (c next : Configuration) (call : Call) (x : StepLineOf) → IsOwnLine text c call x
+      → Moves t c call.thread call.bit next → IsMoveOf t c (step_of text x) call
   one_move c next call x own move =
       let stack = has_stack c call.thread (move.frame ∷ move.below) move.has in
       record {
@@ -76,7 +77,8 @@ module _ (text : List ℕ) (t : Program) where
   exact_is None = tt
   exact_is (Some at) = tt
 
-  all_exact : (c : Configuration) (calls : List Call) (lines : List StepLineOf) → AreOwnLines text t c calls lines → AllByRecursion (λ x. IsExact x.location) lines
+  all_exact : (c : Configuration) (calls : List Call) (lines : List StepLineOf) → AreOwnLines text t c calls lines
+      → AllByRecursion (λ x. IsExact x.location) lines
   all_exact c [] [] own = tt
   all_exact c [] (x ∷ xs) own = absurd own
   all_exact c (call ∷ calls) [] own = absurd own

@@ -39,23 +39,28 @@ module _ (text : List ℕ) where
       ∙ position_from 0 (starts_of t) x.number (start_of_block is.frame.left) (top_start t c i x is)
       ∙ ap (λ S. Some (option_map (position_at text) (next_start S))) (sym is.stack)
 
-  pub spot_there : (t : Program) (spots : List Spot) (c : Configuration) (i : ℕ) (x : Top) (spot : Spot) → spots ≡ spots_of text t → IsTop t c i x → slice_get spots x.number ≡ Some spot
+  pub spot_there : (t : Program) (spots : List Spot) (c : Configuration) (i : ℕ) (x : Top) (spot : Spot)
+      → spots ≡ spots_of text t → IsTop t c i x → slice_get spots x.number ≡ Some spot
       → spot.position ≡ option_map (position_at text) (next_start (stack_of c i))
   spot_there t spots c i x spot are is at =
       let same = sym (ap (option_map (λ (s : Spot). s.position)) at) ∙ spot_start t spots c i x are is in
       ap (λ o. unwrap_or o None) same
 
-  pub spot_missing : (t : Program) (spots : List Spot) (c : Configuration) (i : ℕ) (x : Top) → spots ≡ spots_of text t → IsTop t c i x → slice_get spots x.number ≡ None → ⊥
+  pub spot_missing : (t : Program) (spots : List Spot) (c : Configuration) (i : ℕ) (x : Top) → spots ≡ spots_of text t
+      → IsTop t c i x → slice_get spots x.number ≡ None → ⊥
   spot_missing t spots c i x are is at = let same = sym (ap (option_map (λ (s : Spot). s.position)) at) ∙ spot_start t spots c i x are is in cc
 
 -- one more call
 module _ (text : List ℕ) (t : Program) where
   steps_more : (c : Configuration) (h : List Call) (x : Call)
-      → own_steps_from text t c (h ++ x ∷ []) ≡ own_steps_from text t c h ++ cond (is_granted x.reply) (own_step text (configuration_after_calls t c h) x ∷ []) []
+      → own_steps_from text t c (h ++ x ∷ [])
+      ≡ own_steps_from text t c h
+      ++ cond (is_granted x.reply) (own_step text (configuration_after_calls t c h) x ∷ []) []
   steps_more c [] x = refl
   steps_more c (y ∷ ys) x = by_reply (is_granted y.reply) _ _ _ (steps_more (configuration_after_call t c y.thread y.bit y.reply) ys x)
     where
-      by_reply : (b : Bool) (all front last : List OwnStep) → all ≡ front ++ last → cond b (own_step text c y ∷ all) all ≡ cond b (own_step text c y ∷ front) front ++ last
+      by_reply : (b : Bool) (all front last : List OwnStep) → all ≡ front ++ last
+          → cond b (own_step text c y ∷ all) all ≡ cond b (own_step text c y ∷ front) front ++ last
       by_reply true all front last e = ap (λ xs. own_step text c y ∷ xs) e
       by_reply false all front last e = e
 
@@ -79,13 +84,16 @@ module _ (text : List ℕ) (t : Program) (s : SetupOf) where
   own_from : (h calls : List Call) (c : Configuration) → configuration_after t s h ≡ c → IsLegalAfter t s h calls
       → AreOwnLines text t c (granted_calls calls) (lines_of_steps (own_steps_from text t c calls))
   own_from h [] c at legal = tt
-  own_from h (x ∷ xs) c at (allowed, rest) = by_reply (is_granted x.reply) refl (own_from (h ++ x ∷ []) xs next (configuration_after-append t s h x ∙ ap (λ d. configuration_after_call t d x.thread x.bit x.reply) at) rest)
+  own_from h (x ∷ xs) c at (allowed, rest) =
+      by_reply (is_granted x.reply) refl (own_from (h ++ x ∷ []) xs next
+      (configuration_after-append t s h x ∙ ap (λ d. configuration_after_call t d x.thread x.bit x.reply) at) rest)
     where
       next : Configuration
       next = configuration_after_call t c x.thread x.bit x.reply
 
       by_reply : (b : Bool) → is_granted x.reply ≡ b → AreOwnLines text t next (granted_calls xs) (lines_of_steps (own_steps_from text t next xs))
-          → AreOwnLines text t c (cond b (x ∷ granted_calls xs) (granted_calls xs)) (lines_of_steps (cond b (own_step text c x ∷ own_steps_from text t next xs) (own_steps_from text t next xs)))
+          → AreOwnLines text t c (cond b (x ∷ granted_calls xs) (granted_calls xs))
+          (lines_of_steps (cond b (own_step text c x ∷ own_steps_from text t next xs) (own_steps_from text t next xs)))
       by_reply true granted more =
           let answers = allowed.answers in
           let is = subst (λ d. reply_of t answers.fits d x.thread x.bit ≡ Some x.reply) at answers.is in

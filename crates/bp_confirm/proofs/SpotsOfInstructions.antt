@@ -16,7 +16,9 @@ use Rattle.bp_confirm.proofs.BitsOfEffects.{start_is_at, numbers_at}
 module _ (text : List ℕ) where
   -- one more instruction
   pub spots_more : (k : ℕ) (starts : List (Option ℕ)) (start : Option ℕ)
-      → spots_from text k (starts ++ start ∷ []) ≡ spots_from text k starts ++ record { position = option_map (position_at text) start; procedure = k + ends starts } ∷ []
+      → spots_from text k (starts ++ start ∷ [])
+      ≡ spots_from text k starts
+      ++ record { position = option_map (position_at text) start; procedure = k + ends starts } ∷ []
   spots_more k [] None = ap (λ p. record { position = None; procedure = p } ∷ []) (omega arith)
   spots_more k [] (Some at) = ap (λ p. record { position = Some (position_at text at); procedure = p } ∷ []) (omega arith)
   spots_more k (None ∷ starts) start =
@@ -56,7 +58,9 @@ module _ (text : List ℕ) where
 
   pub procedure_at : (t : Program) (spots : List Spot) (n : ℕ) (start : Option ℕ) → spots ≡ spots_of text t → slice_get (starts_of t) n ≡ Some start
       → option_map (λ (s : Spot). s.procedure) (slice_get spots n) ≡ Some (ends (take n (starts_of t)))
-  procedure_at t spots n start are at = ap (λ ss. option_map (λ (s : Spot). s.procedure) (slice_get ss n)) are ∙ procedure_from 0 (starts_of t) n start at ∙ ap Some (omega arith)
+  procedure_at t spots n start are at =
+      ap (λ ss. option_map (λ (s : Spot). s.procedure) (slice_get ss n)) are ∙ procedure_from 0 (starts_of t) n start at
+      ∙ ap Some (omega arith)
 
   -- one more spot is noted
   pub spots_next : (starts : List (Option ℕ)) (n : ℕ) (d start : Option ℕ) (old new : List Spot) (spot : Spot) → n < length starts → get_or starts n d ≡ start
@@ -65,6 +69,7 @@ module _ (text : List ℕ) where
       → new ≡ spots_from text 0 (take (n + 1) starts)
   spots_next starts n d start old new spot within at done is position number =
       let procedure : spot.procedure ≡ 0 + ends (take n starts) = omega (arith, number) in
-      let spot_is : spot ≡ record { position = option_map (position_at text) start; procedure = 0 + ends (take n starts) } = (λ j. record { position = position j; procedure = procedure j }) in
+      let spot_is : spot ≡ record { position = option_map (position_at text) start; procedure = 0 + ends (take n starts) } =
+      (λ j. record { position = position j; procedure = procedure j }) in
       is ∙ (λ j. done j ++ spot_is j ∷ []) ∙ sym (spots_more 0 (take n starts) start)
       ∙ ap (spots_from text 0) (sym (take_more starts n d within ∙ ap (λ x. take n starts ++ x ∷ []) at))

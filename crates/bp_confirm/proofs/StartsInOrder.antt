@@ -131,33 +131,49 @@ module _ (size : ℕ) where
     form_in (assignment names (first_word h) exprs (first_word c)) s p label k =
         let first = names_in names s in
         alone _ _ _ first.from first.to (tail (exprs_after exprs (tail first.after)))
-    form_in (branch {first = a} {second = b} (first_word h) (first_word o) is (first_word c) (first_word i) body (first_word j) other (first_word g)) (next from to s) p label k =
+    form_in (branch {first = a} {second = b} (first_word h) (first_word o) is (first_word c) (first_word i) body
+        (first_word j) other (first_word g)) (next from to s) p label k =
         let one = stmts_in body (tail (tail (decider_after is (tail s)))) p k in
         let two = stmts_in other (tail one.after) p k in
         record {
           high = two.high;
-          order = (from, to, subst (Increasing _ two.high) (sym (map-append (λ (x : Place). start_of_block x.left) (places p a k) (places p b k))) (both_increase _ one.high two.high (starts (places p a k)) (starts (places p b k)) one.order two.order));
+          order = (
+            from,
+            to,
+            subst (Increasing _ two.high)
+                (sym (map-append (λ (x : Place). start_of_block x.left) (places p a k) (places p b k)))
+                (both_increase _ one.high two.high (starts (places p a k)) (starts (places p b k)) one.order two.order),
+          );
           after = tail two.after;
         }
     form_in (loop (first_word h) (first_word o) is (first_word c) (first_word i) body (first_word g)) (next from to s) p label k =
         let one = stmts_in body (tail (tail (decider_after is (tail s)))) p _ in
         record { high = one.high; order = (from, to, one.order); after = tail one.after }
-    form_in (assertion (first_word h) (first_word o) is (first_word c) (first_word g)) (next from to s) p label k = alone _ _ _ from to (tail (tail (decider_after is (tail s))))
-    form_in (assumption (first_word h) (first_word o) is (first_word c) (first_word g)) (next from to s) p label k = alone _ _ _ from to (tail (tail (decider_after is (tail s))))
-    form_in (printing (first_word h) (first_word o) are (first_word c) (first_word g)) (next from to s) p label k = alone _ _ _ from to (tail (tail (exprs_after are (tail s))))
-    form_in (call (first_name h) (first_word o) are (first_word c) (first_word g)) (next from to s) p label k = alone _ _ _ from to (tail (tail (any_exprs_after are (tail s))))
+    form_in (assertion (first_word h) (first_word o) is (first_word c) (first_word g)) (next from to s) p label k =
+        alone _ _ _ from to (tail (tail (decider_after is (tail s))))
+    form_in (assumption (first_word h) (first_word o) is (first_word c) (first_word g)) (next from to s) p label k =
+        alone _ _ _ from to (tail (tail (decider_after is (tail s))))
+    form_in (printing (first_word h) (first_word o) are (first_word c) (first_word g)) (next from to s) p label k =
+        alone _ _ _ from to (tail (tail (exprs_after are (tail s))))
+    form_in (call (first_name h) (first_word o) are (first_word c) (first_word g)) (next from to s) p label k =
+        alone _ _ _ from to (tail (tail (any_exprs_after are (tail s))))
 
-    stmt_in : {low : ℕ} {ts : List Token} {label : Option Name} {at : ℕ} {x : Statement} {r : List Token} → IsStmt ts label at x r → Sorted low ts → (p : Procedure) (k : Block)
+    stmt_in : {low : ℕ} {ts : List Token} {label : Option Name} {at : ℕ} {x : Statement} {r : List Token}
+        → IsStmt ts label at x r → Sorted low ts → (p : Procedure) (k : Block)
         → InOrder low (starts (places_in p x label at k)) r
     stmt_in (labelled (first_name h) (first_word c) is) s p k = form_in is (tail (tail s)) p _ k
     stmt_in (unlabelled is) s p k = form_in is s p None k
 
-    stmts_in : {low : ℕ} {ts : List Token} {b : Block} {r : List Token} → IsStmts ts b r → Sorted low ts → (p : Procedure) (k : Block) → InOrder low (starts (places p b k)) r
+    stmts_in : {low : ℕ} {ts : List Token} {b : Block} {r : List Token} → IsStmts ts b r → Sorted low ts
+        → (p : Procedure) (k : Block) → InOrder low (starts (places p b k)) r
     stmts_in {low = low} (one_stmt {label = label} {at = at} {statement = x} is) s p k =
         let one = stmt_in is s p k in
         record {
           high = one.high;
-          order = subst (Increasing low one.high) (sym (map-append (λ (y : Place). start_of_block y.left) (places_in p x label at k) [])) (both_increase low one.high one.high (starts (places_in p x label at k)) [] one.order (omega arith));
+          order =
+              subst (Increasing low one.high)
+              (sym (map-append (λ (y : Place). start_of_block y.left) (places_in p x label at k) []))
+              (both_increase low one.high one.high (starts (places_in p x label at k)) [] one.order (omega arith));
           after = one.after;
         }
     stmts_in {low = low} (more_stmts {label = label} {at = at} {statement = x} {more = b} is more) s p k =
@@ -202,18 +218,22 @@ module _ (size : ℕ) where
   within_order low high (Some b ∷ xs) zero a order at = let same : b ≡ a = cc in (omega (arith, same, order.0), omega (arith, same, order.1))
   within_order low high (Some b ∷ xs) (suc n) a order at = let more = within_order (suc b) high xs n a order.2 at in (omega (arith, more.0, order.0), more.1)
 
-  distinct : (low high : ℕ) (xs : List (Option ℕ)) (m n a : ℕ) → Increasing low high xs → slice_get xs m ≡ Some (Some a) → slice_get xs n ≡ Some (Some a) → m ≡ n
+  distinct : (low high : ℕ) (xs : List (Option ℕ)) (m n a : ℕ) → Increasing low high xs → slice_get xs m ≡ Some (Some a)
+      → slice_get xs n ≡ Some (Some a) → m ≡ n
   distinct low high [] m n a order p q = absurd cc
   distinct low high (None ∷ xs) zero n a order p q = absurd cc
   distinct low high (None ∷ xs) (suc m) zero a order p q = absurd cc
   distinct low high (None ∷ xs) (suc m) (suc n) a order p q = ap suc (distinct low high xs m n a order p q)
   distinct low high (Some b ∷ xs) zero zero a order p q = refl
-  distinct low high (Some b ∷ xs) zero (suc n) a order p q = let same : b ≡ a = cc in absurd (omega (arith, same, (within_order (suc b) high xs n a order.2 q).0))
-  distinct low high (Some b ∷ xs) (suc m) zero a order p q = let same : b ≡ a = cc in absurd (omega (arith, same, (within_order (suc b) high xs m a order.2 p).0))
+  distinct low high (Some b ∷ xs) zero (suc n) a order p q =
+      let same : b ≡ a = cc in absurd (omega (arith, same, (within_order (suc b) high xs n a order.2 q).0))
+  distinct low high (Some b ∷ xs) (suc m) zero a order p q =
+      let same : b ≡ a = cc in absurd (omega (arith, same, (within_order (suc b) high xs m a order.2 p).0))
   distinct low high (Some b ∷ xs) (suc m) (suc n) a order p q = ap suc (distinct (suc b) high xs m n a order.2 p q)
 
 -- the tokens of a text are in order
-one_token : (k : Option TokenKind) (at size : ℕ) (bytes : List ℕ) (ts : List Token) → at < size → Sorted size (suc at) ts → Sorted size at (with_token k at bytes ts)
+one_token : (k : Option TokenKind) (at size : ℕ) (bytes : List ℕ) (ts : List Token) → at < size
+    → Sorted size (suc at) ts → Sorted size at (with_token k at bytes ts)
 one_token None at size bytes ts inside s = lower size at (suc at) ts (omega arith) s
 one_token (Some k) at size bytes ts inside s = next (omega arith) inside s
 
@@ -224,8 +244,10 @@ tokens_in (fit {at = at} {n = n} {text = s} {kind = lexeme} {more = ps} longest 
     let within = longest.within in
     one_token (kind_of lexeme (take n s)) at size (take n s) (tokens_of ps) (omega (arith, some, within, few))
     (lower size (suc at) (at + n) (tokens_of ps) (omega (arith, some)) (tokens_in rest size (omega (arith, within, few, length-drop n s))))
-tokens_in (open_brace {at = at} {more = ps} none is rest) size few = lower size at (at + 1) (tokens_of ps) (omega arith) (tokens_in rest size (omega (arith, few)))
-tokens_in (bad_byte {at = at} {more = ps} none never rest) size few = lower size at (at + 1) (tokens_of ps) (omega arith) (tokens_in rest size (omega (arith, few)))
+tokens_in (open_brace {at = at} {more = ps} none is rest) size few =
+    lower size at (at + 1) (tokens_of ps) (omega arith) (tokens_in rest size (omega (arith, few)))
+tokens_in (bad_byte {at = at} {more = ps} none never rest) size few =
+    lower size at (at + 1) (tokens_of ps) (omega arith) (tokens_in rest size (omega (arith, few)))
 
 -- the starts of the program of a text
 module _ (text : List ℕ) (t : Program) (is : IsTextOf text t) where

@@ -62,8 +62,10 @@ module _ (text : List ℕ) (t : Program) (s : SetupOf) (lines : List StepLineOf)
       → FollowAfter t s [] (steps_of text (take (n + 1) lines)) (steps_of text (drop (n + 1) lines)) new
   follow_next d h new a within is follow next =
       let x = get_or lines n d in
-      let rest : drop n lines ≡ get_or lines n d ∷ drop (n + 1) lines = (let one : suc n ≡ n + 1 = omega arith in drop-cons lines n d within ∙ ap (λ k. get_or lines n d ∷ drop k lines) one) in
-      let front : steps_of text (take (n + 1) lines) ≡ steps_of text (take n lines) ++ step_of text x ∷ [] = ap (steps_of text) (take_more lines n d within) ∙ map_push (step_of text) (take n lines) x in
+      let rest : drop n lines ≡ get_or lines n d ∷ drop (n + 1) lines =
+      (let one : suc n ≡ n + 1 = omega arith in drop-cons lines n d within ∙ ap (λ k. get_or lines n d ∷ drop k lines) one) in
+      let front : steps_of text (take (n + 1) lines) ≡ steps_of text (take n lines) ++ step_of text x ∷ [] =
+      ap (steps_of text) (take_more lines n d within) ∙ map_push (step_of text) (take n lines) x in
       let before = subst (λ ys. FollowAfter t s [] (steps_of text (take n lines)) ys h) (ap (steps_of text) rest) follow in
       let after = follow_more t s [] (steps_of text (take n lines)) (step_of text x) (steps_of text (drop (n + 1) lines)) h a before next in
       subst (λ xs. FollowAfter t s [] xs (steps_of text (drop (n + 1) lines)) new) (sym front)
@@ -90,7 +92,9 @@ module _ (text : List ℕ) (t : Program) (s : SetupOf) (lines : List StepLineOf)
     for_all (Refused r) stuck = none_takes stuck
     for_all (Differs d) stuck = none_takes stuck
 
-    step_refused : (r : StepRefusal) → IsRefusedHere text t s h (get_or lines n d) (steps_of text (drop (n + 1) lines)) (n + 1) r → IsStepRefusal text t s lines r
+    step_refused : (r : StepRefusal)
+        → IsRefusedHere text t s h (get_or lines n d) (steps_of text (drop (n + 1) lines)) (n + 1) r
+        → IsStepRefusal text t s lines r
     step_refused r here = record {
       before = take n lines;
       step = get_or lines n d;
@@ -110,11 +114,15 @@ module _ (text : List ℕ) (t : Program) (s : SetupOf) (lines : List StepLineOf)
     }
 
     -- the refusal of a step is one of the lines
-    pub not_confirmed : (f : StepFault) → IsNotTaken text t s h (get_or lines n d) (steps_of text (drop (n + 1) lines)) (n + 1) f → IsNotConfirmed text t s lines f
+    pub not_confirmed : (f : StepFault)
+        → IsNotTaken text t s h (get_or lines n d) (steps_of text (drop (n + 1) lines)) (n + 1) f
+        → IsNotConfirmed text t s lines f
     not_confirmed (fault.Refusal r) here = step_refused r here
     not_confirmed fault.Memory here = tt
 
-  pub confirmed : (h : List Call) → length lines ≤ n → IsLegal t s h → FollowAfter t s [] (steps_of text (take n lines)) (steps_of text (drop n lines)) h → IsConfirmed t s (steps_of text lines) h
+  pub confirmed : (h : List Call) → length lines ≤ n → IsLegal t s h
+      → FollowAfter t s [] (steps_of text (take n lines)) (steps_of text (drop n lines)) h
+      → IsConfirmed t s (steps_of text lines) h
   confirmed h past legal follow =
       let steps = steps_of text lines in
       let none = subst (λ ys. FollowAfter t s [] (steps_of text (take n lines)) (steps_of text ys) h) (drop_of_length-le lines past) follow in
@@ -132,13 +140,15 @@ unseen_not c i vs n seen unseen sees = unseen.differs (unseen.is_seen ∙ seen_a
 
 -- one more value is seen
 module _ (c : Configuration) (i : ℕ) (v : List ℕ × Bool) where
-  one_more_seen : (vs : Valuation) (n : ℕ) → slice_get vs n ≡ Some v → SeesValues c i (take n vs) → value_seen c.globals (stack_of c i) v.0 ≡ Some v.1 → SeesValues c i (take (suc n) vs)
+  one_more_seen : (vs : Valuation) (n : ℕ) → slice_get vs n ≡ Some v → SeesValues c i (take n vs)
+      → value_seen c.globals (stack_of c i) v.0 ≡ Some v.1 → SeesValues c i (take (suc n) vs)
   one_more_seen [] zero at sees here = absurd cc
   one_more_seen [] (suc n) at sees here = absurd cc
   one_more_seen (w ∷ ws) zero at sees here = let same : v ≡ w = cc in (subst (λ x. value_seen c.globals (stack_of c i) x.0 ≡ Some x.1) same here, tt)
   one_more_seen (w ∷ ws) (suc n) at sees here = (sees.0, one_more_seen ws n at sees.1 here)
 
-  pub sees_more : (vs : Valuation) (n : ℕ) → slice_get vs n ≡ Some v → SeesValues c i (take n vs) → value_seen c.globals (stack_of c i) v.0 ≡ Some v.1 → SeesValues c i (take (n + 1) vs)
+  pub sees_more : (vs : Valuation) (n : ℕ) → slice_get vs n ≡ Some v → SeesValues c i (take n vs)
+      → value_seen c.globals (stack_of c i) v.0 ≡ Some v.1 → SeesValues c i (take (n + 1) vs)
   sees_more vs n at sees here =
       let one : suc n ≡ n + 1 = omega arith in
       subst (λ k. SeesValues c i (take k vs)) one (one_more_seen vs n at sees here)
@@ -153,7 +163,15 @@ module _ (text : List ℕ) (t : Program) (s : SetupOf) (h : List Call) (x : Step
   IsRefusedFor reason = IsNotTaken text t s h x later n (refusal_of spots x n number reason)
 
   refused_for : (reason : StepReason) → IsReason t s h (step_of text x) later reason → ForStuck reason (IsStuck t s h (step_of text x)) → IsRefusedFor reason
-  refused_for reason why stuck = record { line = refl; thread = refl; location = refl; number = goes_on; stand = stands_as text t spots number are; reason = why; stuck = stuck }
+  refused_for reason why stuck = record {
+    line = refl;
+    thread = refl;
+    location = refl;
+    number = goes_on;
+    stand = stands_as text t spots number are;
+    reason = why;
+    stuck = stuck;
+  }
 
   pub elsewhere : StandsAtPlace t s h (step_of text x) false → IsRefusedFor Elsewhere
   elsewhere other = refused_for Elsewhere other (λ y takes. false≢true (sym other ∙ takes.at))
@@ -187,7 +205,8 @@ module _ (text : List ℕ) (t : Program) (s : SetupOf) (h : List Call) (x : Step
               (other_values t s h step a bare (unseen_not (configuration_after t s (h ++ a ∷ [])) x.thread x.values d.place d.seen differs.unseen))
 
 -- a call that is refused to a thread that is there, where the setup has no seed
-pub ask_refused : (t : Program) (s : SetupOf) (h : List Call) (i : ℕ) (bit : Bool) (f : AskFault) → i < threads s → s.seed ≡ None → IsAskRefusal t s h i (Some bit) f
+pub ask_refused : (t : Program) (s : SetupOf) (h : List Call) (i : ℕ) (bit : Bool) (f : AskFault) → i < threads s
+    → s.seed ≡ None → IsAskRefusal t s h i (Some bit) f
     → (f ≡ refused.Memory → ⊥) → is_finished s h i ≡ true
 ask_refused t s h i bit refused.NoThread inside unseeded why other = absurd (omega (arith, inside, why))
 ask_refused t s h i bit refused.Finished inside unseeded why other = why.1

@@ -28,7 +28,8 @@ pub record IsLineAt (xs : List StepLineOf) (i : ℕ) (line more : List ℕ) : Ty
   pub is : IsStepLine line step
   pub rest : more ≡ steps_text (drop (suc i) xs)
 
-pub line_at : (xs : List StepLineOf) (i : ℕ) (rest line more : List ℕ) → AllByRecursion HasLine xs → rest ≡ steps_text (drop i xs) → IsCut 10 rest line more → IsLineAt xs i line more
+pub line_at : (xs : List StepLineOf) (i : ℕ) (rest line more : List ℕ) → AllByRecursion HasLine xs
+    → rest ≡ steps_text (drop i xs) → IsCut 10 rest line more → IsLineAt xs i line more
 line_at [] zero rest line more each is cut = absurd (no_cut 10 [] line more tt (sym is ∙ cut.parts))
 line_at [] (suc i) rest line more each is cut = absurd (no_cut 10 [] line more tt (sym is ∙ cut.parts))
 line_at (x ∷ xs) zero rest line more each is cut =
@@ -51,7 +52,8 @@ pub record IsNextValue (vs : Valuation) (i : ℕ) (v : List ℕ × Bool) (more :
   pub at : slice_get vs i ≡ Some v
   pub rest : more ≡ values_text (drop (suc i) vs)
 
-pub next_value : (vs : Valuation) (i : ℕ) (rest : List ℕ) (v : List ℕ × Bool) (more : List ℕ) → AreNamed vs → rest ≡ values_text (drop i vs) → IsValueAt rest v more → IsNextValue vs i v more
+pub next_value : (vs : Valuation) (i : ℕ) (rest : List ℕ) (v : List ℕ × Bool) (more : List ℕ) → AreNamed vs
+    → rest ≡ values_text (drop i vs) → IsValueAt rest v more → IsNextValue vs i v more
 next_value [] zero rest v more named is at = absurd (let whole = sym is ∙ at.parts ∙ value_then v more in cc)
 next_value [] (suc i) rest v more named is at = absurd (let whole = sym is ∙ at.parts ∙ value_then v more in cc)
 next_value (w ∷ ws) zero rest v more named is at =

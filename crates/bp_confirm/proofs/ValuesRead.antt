@@ -18,10 +18,12 @@ plain_read front (c ∷ others) rest none =
     ∙ plain_read (front ++ c ∷ []) others rest none.1
     ∙ ap (λ name. values_from (Bit name) rest) (append_assoc front (c ∷ []) others)
 
-braced_read : (front inner rest : List ℕ) → Without 125 inner → values_from (Braced front) (inner ++ 125 ∷ 61 ∷ rest) ≡ values_from (Bit (front ++ (inner ++ 125 ∷ []))) rest
+braced_read : (front inner rest : List ℕ) → Without 125 inner
+    → values_from (Braced front) (inner ++ 125 ∷ 61 ∷ rest) ≡ values_from (Bit (front ++ (inner ++ 125 ∷ []))) rest
 braced_read front [] rest none = refl
 braced_read front (c ∷ inner) rest none =
-    ap (λ b. cond b (values_from (Sign (front ++ c ∷ [])) (inner ++ 125 ∷ 61 ∷ rest)) (values_from (Braced (front ++ c ∷ [])) (inner ++ 125 ∷ 61 ∷ rest))) (ne_eqb c 125 none.0)
+    ap (λ b. cond b (values_from (Sign (front ++ c ∷ [])) (inner ++ 125 ∷ 61 ∷ rest))
+    (values_from (Braced (front ++ c ∷ [])) (inner ++ 125 ∷ 61 ∷ rest))) (ne_eqb c 125 none.0)
     ∙ braced_read (front ++ c ∷ []) inner rest none.1
     ∙ ap (λ name. values_from (Bit name) rest) (append_assoc front (c ∷ []) (inner ++ 125 ∷ []))
 

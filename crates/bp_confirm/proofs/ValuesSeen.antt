@@ -21,12 +21,14 @@ use Rattle.bp_confirm.proofs.SpotsOfInstructions.{procedure_at, is_there_at}
 use Rattle.bp_confirm.proofs.BitsOfEffects.{start_is_at}
 
 -- where a thread's top begins
-pub top_start : (t : Program) (c : Configuration) (i : ℕ) (x : Top) → (is : IsTop t c i x) → slice_get (starts_of t) x.number ≡ Some (start_of_block is.frame.left)
+pub top_start : (t : Program) (c : Configuration) (i : ℕ) (x : Top) → (is : IsTop t c i x)
+    → slice_get (starts_of t) x.number ≡ Some (start_of_block is.frame.left)
 top_start t c i x is =
     slice_get-map (λ (y : Place). start_of_block y.left) (places_of t.procedures) x.number ∙ ap (option_map (λ (y : Place). start_of_block y.left)) is.next
 
 -- it stands at a location where its instruction is there
-pub stands_where : (text : List ℕ) (t : Program) (spots : List Spot) (c : Configuration) (i : ℕ) (x : Top) (here : Location) → spots ≡ spots_of text t → IsTop t c i x
+pub stands_where : (text : List ℕ) (t : Program) (spots : List Spot) (c : Configuration) (i : ℕ) (x : Top) (here : Location)
+    → spots ≡ spots_of text t → IsTop t c i x
     → stands_at (place_of text here) (stack_of c i) ≡ is_there spots here x.number
 stands_where text t spots c i x here are is =
     ap (stands_at (place_of text here)) is.stack
@@ -41,7 +43,8 @@ top_locals t c i x p name is same =
     ∙ ap (λ S. local_seen S name) (sym is.stack)
 
 -- what is got is the n-th
-pub got_item : {X : Type 0} (o : Option (Bor X)) (xs : List X) (n : ℕ) → is_some o ≡ nat_lt n (length xs) → IfSome o (λ x. x.now ≡ get_or xs n x.now) → option_map (λ x. x.now) o ≡ slice_get xs n
+pub got_item : {X : Type 0} (o : Option (Bor X)) (xs : List X) (n : ℕ) → is_some o ≡ nat_lt n (length xs)
+    → IfSome o (λ x. x.now ≡ get_or xs n x.now) → option_map (λ x. x.now) o ≡ slice_get xs n
 got_item None xs n e h = let past : length xs ≤ n = grind arith in sym (slice_get_past xs n past)
 got_item (Some x) xs n e h = let within : n < length xs = grind arith in ap Some h ∙ sym (slice_get-get_or xs n x.now within)
 

@@ -60,12 +60,16 @@ module _ (ps : List Procedure) (g : Valuation) (f : Frame) (fs : List Frame) whe
   way None taken other true false e clear = inr (parted None taken other (λ p is. absurd cc))
   way None taken other false true e clear = inr (parted None other taken (λ p is. absurd cc))
   way (Some q) taken other true false e clear =
-      inr (parted (Some q) taken other (λ p is. let same : q ≡ p = cc in subst (λ (z : Place). z (start_of_block other) ≡ false) same (not_other (q (start_of_block taken)) (q (start_of_block other)) e)))
+      inr (parted (Some q) taken other (λ p is. let same : q ≡ p = cc in
+      subst (λ (z : Place). z (start_of_block other) ≡ false) same
+      (not_other (q (start_of_block taken)) (q (start_of_block other)) e)))
   way (Some q) taken other false true e clear = by_place (both_then (q (start_of_block taken)) (q (start_of_block other)) e)
     where
       by_place : ((q (start_of_block taken) ≡ false) ⊎ ((q (start_of_block taken) ≡ true) × (q (start_of_block other) ≡ true)))
           → AgreeStacks (Some q) (with_left f other ∷ fs) (with_left f taken ∷ fs)
-      by_place (inl away) = inr (parted (Some q) other taken (λ p is. let same : q ≡ p = cc in subst (λ (z : Place). z (start_of_block taken) ≡ false) same away))
+      by_place (inl away) =
+          inr (parted (Some q) other taken
+          (λ p is. let same : q ≡ p = cc in subst (λ (z : Place). z (start_of_block taken) ≡ false) same away))
       by_place (inr (there, here)) = inl (ap (λ (r : Block). with_left f r ∷ fs) (sym (clear there here)))
 
   abbrev effect_with : Block → Bool → StatementEffect

@@ -68,7 +68,8 @@ module _ (v : Version) (more : List ℕ) (count all : ℕ) where
         passed = omega (arith, passed, some);
       }
 
-  pub symbols_passed : (left : ℕ) (rest : List ℕ) → ((0 < left) → goes_on rest ≡ true → ⊥) → SymbolsLeft v more count all left rest → (rest ≡ more) × (left + all ≡ count)
+  pub symbols_passed : (left : ℕ) (rest : List ℕ) → ((0 < left) → goes_on rest ≡ true → ⊥)
+      → SymbolsLeft v more count all left rest → (rest ≡ more) × (left + all ≡ count)
   symbols_passed left rest stops p = go p.symbols p.has p.passed
     where
       go : (xs : List Symbol) → HasSymbols v left rest xs more → left + all ≡ count + length xs → (rest ≡ more) × (left + all ≡ count)
@@ -170,7 +171,9 @@ module _ (v : Version) (thread : ℕ) (fits : thread < 2 ^ 64) (before : List Sy
   last_is = append_assoc (decimal thread) (32 ∷ flat_map (symbol_fields v) before) call_on
 
   row_is : (p : Piece) (ps : List Piece)
-      → flat_map (row_text v) (p ∷ ps) ++ last_line ≡ decimal p.thread ++ 32 ∷ (flat_map (symbol_fields v) (p.first ∷ p.others) ++ 10 ∷ (flat_map (row_text v) ps ++ last_line))
+      → flat_map (row_text v) (p ∷ ps) ++ last_line
+      ≡ decimal p.thread ++ 32
+      ∷ (flat_map (symbol_fields v) (p.first ∷ p.others) ++ 10 ∷ (flat_map (row_text v) ps ++ last_line))
   row_is p ps =
       append_assoc (row_text v p) (flat_map (row_text v) ps) last_line
       ∙ append_assoc (line_front v p.thread (p.first ∷ p.others)) (10 ∷ []) (flat_map (row_text v) ps ++ last_line)
@@ -189,7 +192,8 @@ module _ (v : Version) (thread : ℕ) (fits : thread < 2 ^ 64) (before : List Sy
 
   -- the symbols of the first line that is left were passed over
   module _ (left : ℕ) (rest front symbols : List ℕ) (at : CutsAt 32 rest front symbols) (size : ℕ) (is : size ≡ symbol_size v) (after : List ℕ) (still : ℕ)
-      (passes : (w : Version) (xs : List Symbol) (t : List ℕ) → size ≡ symbol_size w → HasSymbols w left symbols xs t → (after ≡ t) × (still + length xs ≡ left)) where
+      (passes : (w : Version) (xs : List Symbol) (t : List ℕ) → size ≡ symbol_size w → HasSymbols w left symbols xs t
+      → (after ≡ t) × (still + length xs ≡ left)) where
     symbols_are : (i : ℕ) (t : List ℕ) → i < 2 ^ 64 → rest ≡ decimal i ++ 32 ∷ t → symbols ≡ t
     symbols_are i t fit e = (one_cut 32 front (decimal i) symbols t at.first (decimal_without 32 (omega arith) i fit) (sym at.parts ∙ e)).1
 
@@ -253,5 +257,6 @@ module _ (trace : List ℕ) (made : ℕ) (c : HasCall trace made) (after : List 
   pub bit_is : (at : ℕ) → at ≡ length trace - length after → at ≡ bit_place trace made c
   bit_is at is = omega (arith, is, before_call, from_call, in_all)
 
-  pub reply_is : (bit at : ℕ) → bit ≡ bit_place trace made c → at ≡ bit + (symbol_size c.head.version - 1) → 0 < symbol_size c.head.version → at ≡ reply_place trace made c
+  pub reply_is : (bit at : ℕ) → bit ≡ bit_place trace made c → at ≡ bit + (symbol_size c.head.version - 1)
+      → 0 < symbol_size c.head.version → at ≡ reply_place trace made c
   reply_is bit at same is some = omega (arith, same, is, some, length-append (text_before trace made c) fields, size_is c.head.version c.symbol)

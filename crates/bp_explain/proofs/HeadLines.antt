@@ -49,7 +49,9 @@ seed_without (Some n) fits = decimal_without 10 (omega arith) n (fits n refl)
 
 module _ (word value more : List ℕ) (p : Without 10 word) (q : Without 10 value) where
   cut_field : field_line word value ++ more ≡ (word ++ value) ++ 10 ∷ more
-  cut_field = append_assoc word (value ++ codes "\n") more ∙ ap (λ t. word ++ t) (append_assoc value (codes "\n") more) ∙ sym (append_assoc word value (10 ∷ more))
+  cut_field =
+      append_assoc word (value ++ codes "\n") more ∙ ap (λ t. word ++ t) (append_assoc value (codes "\n") more)
+      ∙ sym (append_assoc word value (10 ∷ more))
 
   field_without : Without 10 (word ++ value)
   field_without = all_of_both (λ b. b ≢ 10) word value p q
@@ -76,7 +78,9 @@ module _ (s : SetupOf) (has : HasHead s) (rest : List ℕ) where
   settings_are = simp append_assoc
 
   pub after_init : (text : List ℕ) → text ≡ concat (setting_lines s) ++ rest → after_line text ≡ contexts_on
-  after_init text e = field_after (codes "init ") (init_digits s.init) contexts_on (low_free (codes "init ") (search rules)) (init_without s.init) text (e ∙ settings_are)
+  after_init text e =
+      field_after (codes "init ") (init_digits s.init) contexts_on (low_free (codes "init ") (search rules))
+      (init_without s.init) text (e ∙ settings_are)
 
   word_without : Without 10 (codes "contexts ")
   word_without = low_free (codes "contexts ") (search rules)
@@ -87,11 +91,16 @@ module _ (s : SetupOf) (has : HasHead s) (rest : List ℕ) where
   pub contexts_first : (text : List ℕ) → text ≡ contexts_on → first_line text ≡ codes "contexts " ++ decimal s.contexts
   contexts_first text e = field_first (codes "contexts ") (decimal s.contexts) calls_on word_without (number_without s.contexts has.contexts) text e
 
-  pub after_settings : (text a b c d : List ℕ) → text ≡ concat (setting_lines s) ++ rest → a ≡ after_line text → b ≡ after_line a → c ≡ after_line b → d ≡ after_line c → d ≡ rest
+  pub after_settings : (text a b c d : List ℕ) → text ≡ concat (setting_lines s) ++ rest → a ≡ after_line text
+      → b ≡ after_line a → c ≡ after_line b → d ≡ after_line c → d ≡ rest
   after_settings text a b c d e first second third fourth =
       let at_contexts = first ∙ after_init text e in
-      let at_calls = second ∙ field_after (codes "contexts ") (decimal s.contexts) calls_on word_without (number_without s.contexts has.contexts) a at_contexts in
-      let at_seed = third ∙ field_after (codes "calls ") (decimal s.calls) seed_on (low_free (codes "calls ") (search rules)) (number_without s.calls has.calls) b at_calls in
+      let at_calls =
+      second ∙ field_after (codes "contexts ") (decimal s.contexts) calls_on word_without
+      (number_without s.contexts has.contexts) a at_contexts in
+      let at_seed =
+      third ∙ field_after (codes "calls ") (decimal s.calls) seed_on (low_free (codes "calls ") (search rules))
+      (number_without s.calls has.calls) b at_calls in
       fourth ∙ field_after (codes "seed ") (seed_word s.seed) rest (low_free (codes "seed ") (search rules)) (seed_without s.seed has.seed) c at_seed
 
 -- ---- the entries
@@ -138,7 +147,9 @@ module _ (s : SetupOf) (rest text : List ℕ) (count : ℕ) where
       → EntriesLeft s rest count text → EntriesLeft s rest (count + 1) more
   entry_passed more entry init left = go left.names left.named left.count_is left.text_is
     where
-      go : (names : List (List ℕ)) → AllByRecursion IsEntryName names → count + length names ≡ threads s → text ≡ concat (map entry_line names) ++ (concat (setting_lines s) ++ rest) → EntriesLeft s rest (count + 1) more
+      go : (names : List (List ℕ)) → AllByRecursion IsEntryName names → count + length names ≡ threads s
+          → text ≡ concat (map entry_line names) ++ (concat (setting_lines s) ++ rest)
+          → EntriesLeft s rest (count + 1) more
       go [] named all e = absurd (init s.init (concat (limit_lines s) ++ rest) (at_init e))
       go (name ∷ names) named all e = record {
         names = names;
@@ -152,6 +163,8 @@ module _ (s : SetupOf) (rest text : List ℕ) (count : ℕ) where
       → EntriesLeft s rest count text → (count ≡ threads s) × (text ≡ concat (setting_lines s) ++ rest)
   none_left entry left = go left.names left.named left.count_is left.text_is
     where
-      go : (names : List (List ℕ)) → AllByRecursion IsEntryName names → count + length names ≡ threads s → text ≡ concat (map entry_line names) ++ (concat (setting_lines s) ++ rest) → (count ≡ threads s) × (text ≡ concat (setting_lines s) ++ rest)
+      go : (names : List (List ℕ)) → AllByRecursion IsEntryName names → count + length names ≡ threads s
+          → text ≡ concat (map entry_line names) ++ (concat (setting_lines s) ++ rest)
+          → (count ≡ threads s) × (text ≡ concat (setting_lines s) ++ rest)
       go [] named all e = (omega (arith, all), e)
       go (name ∷ names) named all e = absurd (entry name (concat (map entry_line names) ++ (concat (setting_lines s) ++ rest)) named.0 (at_entry name names e))

@@ -19,7 +19,8 @@ use Rattle.bp_machine.proofs.SessionAnswers.{committed, still_in_order}
 use Rattle.bp_machine.proofs.PreparedSessions.{still_stands, still_ready, is_prepared, few_calls, may_grow}
 
 module _ (c : Flat) (s : SetupOf) (machine later : MachineOf) (same : later.state ≡ machine.state) (choices : List ChoicesOf) (old : Option Prepared)
-    (i : ℕ) (given : Option Bool) (p : Prepared) (order : IsInOrder (session_of c s machine choices old)) (judged : IsJudged (session_of c s machine choices old) i given p) (room : HasRoom later.rooms i p.transition) where
+    (i : ℕ) (given : Option Bool) (p : Prepared) (order : IsInOrder (session_of c s machine choices old))
+    (judged : IsJudged (session_of c s machine choices old) i given p) (room : HasRoom later.rooms i p.transition) where
   -- the session for whose call there is room
   abbrev x : SessionOf
   x = session_of c s later choices (Some p)
@@ -53,7 +54,8 @@ module _ (c : Flat) (s : SetupOf) (machine later : MachineOf) (same : later.stat
       subst (λ j. MayGrow later.state j p.transition) thread_is
       (may_grow s in_order.range c.instructions later.state p.call.thread next.guest p.call.bit p.transition next.is)
 
-  module _ (now : MachineOf) (made : (guest : GuestThreadOf) → slice_get later.state.threads i ≡ Some guest → now.state ≡ state_after later.state i guest p.transition)
+  module _ (now : MachineOf) (made : (guest : GuestThreadOf) → slice_get later.state.threads i ≡ Some guest
+      → now.state ≡ state_after later.state i guest p.transition)
       (drawn : List ChoicesOf) (are : AreDrawn i choices drawn) where
     abbrev y : SessionOf
     y = session_of c s now drawn None
@@ -75,6 +77,7 @@ module _ (c : Flat) (s : SetupOf) (machine later : MachineOf) (same : later.stat
 
     pub made_in_order : ((t : Program) → StandsFor c t → StepsAlike c t) → IsInOrder y × IsReadyFor y None
     made_in_order alike = (
-      still_in_order x y p.call.thread ready.judged.transition.guest p.transition refl refl made_is drawn_are.count in_order (λ t h is stands. (_, stands_from t h (alike t is) stands)),
+      still_in_order x y p.call.thread ready.judged.transition.guest p.transition refl refl made_is drawn_are.count
+          in_order (λ t h is stands. (_, stands_from t h (alike t is) stands)),
       λ q e. cc,
     )

@@ -51,10 +51,24 @@ one_more u t ts a o true e =
     let same = alike u t e in
     let none : contexts_opened (Some u) t ≡ 0 = opened_when u t true e in
     let configuration_after = ap (λ x. opened (Some x) ts) same in
-    record { first = t ∷ a.first; rest = a.rest; each_first = (same, a.each_first); each = a.each; whole = ap (λ xs. t ∷ xs) a.whole; few = omega (arith, none, configuration_after, a.few) }
+    record {
+      first = t ∷ a.first;
+      rest = a.rest;
+      each_first = (same, a.each_first);
+      each = a.each;
+      whole = ap (λ xs. t ∷ xs) a.whole;
+      few = omega (arith, none, configuration_after, a.few);
+    }
 one_more u t ts a o false e =
     let one : contexts_opened (Some u) t ≡ 1 = opened_when u t false e in
-    record { first = []; rest = (t ∷ o.first) ∷ o.rest; each_first = tt; each = ((t, (refl, o.each_first)), o.each); whole = ap (λ xs. t ∷ xs) o.whole; few = omega (arith, one, o.few) }
+    record {
+      first = [];
+      rest = (t ∷ o.first) ∷ o.rest;
+      each_first = tt;
+      each = ((t, (refl, o.each_first)), o.each);
+      whole = ap (λ xs. t ∷ xs) o.whole;
+      few = omega (arith, one, o.few);
+    }
 
 ahead : (u : ℕ) (ts : List ℕ) → Ahead u ts
 unfolding opened

@@ -43,15 +43,18 @@ module _ (t : Program) (c : Configuration) (i : ℕ) (bit : Bool) (r : Reply) wh
   none_of : (s : Reply) → Some s ≡ Some r → is_granted s ≡ false → is_granted r ≡ false
   none_of s e none = let same : s ≡ r = cc in sym (ap is_granted same) ∙ none
 
-  on_stack : (stack : List Frame) → stack_of c i ≡ stack → (has_frames c i ≡ true → waits t c i ≡ true) → (fits : Bool) → reply_on_stack t fits c.globals stack bit ≡ Some r → is_granted r ≡ false
+  on_stack : (stack : List Frame) → stack_of c i ≡ stack → (has_frames c i ≡ true → waits t c i ≡ true) → (fits : Bool)
+      → reply_on_stack t fits c.globals stack bit ≡ Some r → is_granted r ≡ false
   on_stack [] is each fits e = none_of Ended e refl
   on_stack (f ∷ fs) is each false e = none_of NoContexts e refl
   on_stack (f ∷ fs) is each true e =
       let some : has_frames c i ≡ true = ap is_left is in
-      let blocked : is_blocked (reply_on_stack t true c.globals (f ∷ fs) bit) ≡ true = subst (λ s. is_blocked (reply_on_stack t true c.globals s bit) ≡ true) is (with_bit bit (each some)) in
+      let blocked : is_blocked (reply_on_stack t true c.globals (f ∷ fs) bit) ≡ true =
+      subst (λ s. is_blocked (reply_on_stack t true c.globals s bit) ≡ true) is (with_bit bit (each some)) in
       no_step (reply_on_stack t true c.globals (f ∷ fs) bit) r blocked e
 
-  by_mark : (failed fits : Bool) → (has_frames c i ≡ true → waits t c i ≡ true) → cond failed (Some Stopped) (reply_on_stack t fits c.globals (stack_of c i) bit) ≡ Some r → is_granted r ≡ false
+  by_mark : (failed fits : Bool) → (has_frames c i ≡ true → waits t c i ≡ true)
+      → cond failed (Some Stopped) (reply_on_stack t fits c.globals (stack_of c i) bit) ≡ Some r → is_granted r ≡ false
   by_mark true fits each e = none_of Stopped e refl
   by_mark false fits each e = on_stack (stack_of c i) refl each fits e
 
@@ -65,7 +68,9 @@ module _ (t : Program) (s : SetupOf) where
       let c = configuration_after t s h in
       let a = allowed.answers in
       let none = grants_nothing t c x.thread x.bit x.reply a.fits dead a.is in
-      let same = configuration_after-append t s h x ∙ ap (λ b. cond b (unwrap_or (configuration_after_step t c x.thread x.bit (stack_of c x.thread)) c) c) none in
+      let same =
+      configuration_after-append t s h x
+      ∙ ap (λ b. cond b (unwrap_or (configuration_after_step t c x.thread x.bit (stack_of c x.thread)) c) c) none in
       ap (λ b. cond b (x ∷ granted_calls xs) (granted_calls xs)) none ∙ none_after (h ++ x ∷ []) xs rest (subst (IsDeadlocked t) (sym same) dead)
 
   legal_later : (g h xs : List Call) → IsLegalAfter t s g (h ++ xs) → IsLegalAfter t s (g ++ h) xs

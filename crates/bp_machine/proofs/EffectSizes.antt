@@ -54,7 +54,8 @@ IsOfCall Blocks n = ⊥
 IsOfCall Misses n = Unit {0}
 
 module _ (ps : List Procedure) (g : Valuation) (f : Frame) (fs : List Frame) (bit : Bool) where
-  when_decided : (b : Bool) (r : Block) (e : StatementEffect) → IsOfSize e 0 (length fs + 1) → IsOfSize (cond b (Leaves g (with_left f r ∷ fs)) e) 0 (length fs + 1)
+  when_decided : (b : Bool) (r : Block) (e : StatementEffect) → IsOfSize e 0 (length fs + 1)
+      → IsOfSize (cond b (Leaves g (with_left f r ∷ fs)) e) 0 (length fs + 1)
   unfolding IsOfSize
   when_decided true r e h = (omega arith, omega arith)
   when_decided false r e h = h
@@ -118,11 +119,17 @@ module _ (ps : List Procedure) (g : Valuation) (f : Frame) (fs : List Frame) (bi
 
   pub not_call : (left : Block) (h : Valuation) (s : List Frame) → effect ps left g f fs bit ≡ Leaves h s → length s ≤ length fs + 1 → is_call left ≡ false
   not_call left h s is size =
-      elim (by_call (is_call left) left refl) [ inl call ↦ absurd (omega (arith, large (effect ps left g f fs bit) h s is (call_size left call))) | inr plain ↦ plain ]
+      elim (by_call (is_call left) left refl) [
+        | inl call ↦ absurd (omega (arith, large (effect ps left g f fs bit) h s is (call_size left call)))
+        | inr plain ↦ plain
+      ]
 
   pub is_a_call : (left : Block) (h : Valuation) (s : List Frame) → effect ps left g f fs bit ≡ Leaves h s → length s ≡ length fs + 2 → is_call left ≡ true
   is_a_call left h s is size =
-      elim (by_call (is_call left) left refl) [ inl call ↦ call | inr plain ↦ absurd (omega (arith, small (effect ps left g f fs bit) h s is (plain_size left plain))) ]
+      elim (by_call (is_call left) left refl) [
+        | inl call ↦ call
+        | inr plain ↦ absurd (omega (arith, small (effect ps left g f fs bit) h s is (plain_size left plain)))
+      ]
 
   fails_none : (e : StatementEffect) → e ≡ Fails → IsOfCall e (length fs) → ⊥
   unfolding IsOfCall

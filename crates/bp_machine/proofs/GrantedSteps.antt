@@ -41,13 +41,26 @@ module _ (t : Program) (c : Configuration) (i : ℕ) (bit : Bool) (r : Reply) (g
   on_frame true false e h = h
   on_frame false full e h = h
 
-  on_stack : (stack : List Frame) (fits : Bool) → stack_of c i ≡ stack → reply_on_stack t fits c.globals stack bit ≡ Some r → c.failed ≡ false → (fits ≡ true) × IsStep t c i bit r
+  on_stack : (stack : List Frame) (fits : Bool) → stack_of c i ≡ stack
+      → reply_on_stack t fits c.globals stack bit ≡ Some r → c.failed ≡ false → (fits ≡ true) × IsStep t c i bit r
   on_stack [] fits is e going = absurd (not_granted r Ended e refl granted_is)
   on_stack (f ∷ fs) false is e going = absurd (not_granted r NoContexts e refl granted_is)
-  on_stack (f ∷ fs) true is e going =
-      (refl, record { going = going; frame = f; below = fs; stack = is; told_is = on_frame (is_call f.left) (nat_le MAX_FRAMES (length (f ∷ fs))) (reply_to_effect (effect t.procedures f.left c.globals f fs bit)) e })
+  on_stack (f ∷ fs) true is e going = (
+    refl,
+    record {
+      going = going;
+      frame = f;
+      below = fs;
+      stack = is;
+      told_is =
+          on_frame (is_call f.left) (nat_le MAX_FRAMES (length (f ∷ fs)))
+          (reply_to_effect (effect t.procedures f.left c.globals f fs bit)) e;
+    },
+  )
 
-  by_mark : (failed fits : Bool) → c.failed ≡ failed → cond failed (Some Stopped) (reply_on_stack t fits c.globals (stack_of c i) bit) ≡ Some r → (fits ≡ true) × IsStep t c i bit r
+  by_mark : (failed fits : Bool) → c.failed ≡ failed
+      → cond failed (Some Stopped) (reply_on_stack t fits c.globals (stack_of c i) bit) ≡ Some r
+      → (fits ≡ true) × IsStep t c i bit r
   by_mark true fits mark e = absurd (not_granted r Stopped e refl granted_is)
   by_mark false fits mark e = on_stack (stack_of c i) fits refl e mark
 
@@ -65,7 +78,9 @@ module _ (t : Program) (c : Configuration) (i : ℕ) (bit : Bool) (r : Reply) (g
   step_moves step =
       let (d, moved_is) = moves_on (effect t.procedures step.frame.left c.globals step.frame step.below bit) step.told_is in
       let to_d : configuration_after_call t c i bit r ≡ d =
-      ap (λ b. cond b (unwrap_or (configuration_after_step t c i bit (stack_of c i)) c) c) granted_is ∙ ap (λ S. unwrap_or (configuration_after_step t c i bit S) c) step.stack ∙ ap (λ o. unwrap_or o c) moved_is in
+      ap (λ b. cond b (unwrap_or (configuration_after_step t c i bit (stack_of c i)) c) c) granted_is
+      ∙ ap (λ S. unwrap_or (configuration_after_step t c i bit S) c) step.stack
+      ∙ ap (λ o. unwrap_or o c) moved_is in
       record {
         frame = step.frame;
         below = step.below;
@@ -76,14 +91,22 @@ module _ (t : Program) (c : Configuration) (i : ℕ) (bit : Bool) (r : Reply) (g
 
 module _ (t : Program) (s : SetupOf) where
   one : (h : List Call) (x : Call) (xs : List Call) (b : Bool) → is_granted x.reply ≡ b → IsAllowed t s h x
-      → IsRun t (configuration_after t s (h ++ x ∷ [])) (granted_calls xs) (configuration_after t s ((h ++ x ∷ []) ++ xs)) → IsRun t (configuration_after t s h) (cond b (x ∷ granted_calls xs) (granted_calls xs)) (configuration_after t s ((h ++ x ∷ []) ++ xs))
+      → IsRun t (configuration_after t s (h ++ x ∷ [])) (granted_calls xs) (configuration_after t s ((h ++ x ∷ []) ++ xs))
+      → IsRun t (configuration_after t s h) (cond b (x ∷ granted_calls xs) (granted_calls xs))
+      (configuration_after t s ((h ++ x ∷ []) ++ xs))
   one h x xs true b allowed rest =
       let a = allowed.answers in
       let step = (is_step t (configuration_after t s h) x.thread x.bit x.reply b a.fits a.is).1 in
       let move = step_moves t (configuration_after t s h) x.thread x.bit x.reply b step in
-      reports.moves (configuration_after t s h) x (configuration_after t s (h ++ x ∷ [])) (granted_calls xs) (configuration_after t s ((h ++ x ∷ []) ++ xs)) (rw (configuration_after-append t s h x) move) rest
+      reports.moves (configuration_after t s h) x (configuration_after t s (h ++ x ∷ [])) (granted_calls xs)
+      (configuration_after t s ((h ++ x ∷ []) ++ xs)) (rw (configuration_after-append t s h x) move) rest
   one h x xs false b allowed rest =
-      let same = configuration_after-append t s h x ∙ ap (λ g. cond g (unwrap_or (configuration_after_step t (configuration_after t s h) x.thread x.bit (stack_of (configuration_after t s h) x.thread)) (configuration_after t s h)) (configuration_after t s h)) b in
+      let same =
+      configuration_after-append t s h x
+      ∙ ap (λ g. cond g
+      (unwrap_or (configuration_after_step t (configuration_after t s h) x.thread x.bit
+      (stack_of (configuration_after t s h) x.thread)) (configuration_after t s h))
+      (configuration_after t s h)) b in
       subst (λ c. IsRun t c (granted_calls xs) (configuration_after t s ((h ++ x ∷ []) ++ xs))) same rest
 
   pub run_from : (h xs : List Call) → IsLegalAfter t s h xs → IsRun t (configuration_after t s h) (granted_calls xs) (configuration_after t s (h ++ xs))
@@ -94,7 +117,8 @@ module _ (t : Program) (s : SetupOf) where
   pub runs : (h : List Call) → IsLegal t s h → IsRun t (start t s) (granted_calls h) (configuration_after t s h)
   runs h legal = run_from [] h legal
 
-  within_one : (h : List Call) (x : Call) (b : Bool) → is_granted x.reply ≡ b → IsAllowed t s h x → IsWithin s.contexts (granted_threads h) → IsWithin s.contexts (granted_threads (h ++ x ∷ []))
+  within_one : (h : List Call) (x : Call) (b : Bool) → is_granted x.reply ≡ b → IsAllowed t s h x
+      → IsWithin s.contexts (granted_threads h) → IsWithin s.contexts (granted_threads (h ++ x ∷ []))
   within_one h x true b allowed so_far =
       let a = allowed.answers in
       let fits = (is_step t (configuration_after t s h) x.thread x.bit x.reply b a.fits a.is).0 in

@@ -37,7 +37,8 @@ fewer_granted i [] = omega arith
 fewer_granted i (x ∷ xs) = here (is_granted x.reply) (fewer_granted i xs)
   where
     kept : (own : Bool) → length (calls_of_thread i (granted_calls xs)) ≤ length (calls_of_thread i xs)
-        → length (cond own (x ∷ calls_of_thread i (granted_calls xs)) (calls_of_thread i (granted_calls xs))) ≤ length (cond own (x ∷ calls_of_thread i xs) (calls_of_thread i xs))
+        → length (cond own (x ∷ calls_of_thread i (granted_calls xs)) (calls_of_thread i (granted_calls xs)))
+        ≤ length (cond own (x ∷ calls_of_thread i xs) (calls_of_thread i xs))
     kept true h = omega arith
     kept false h = h
 
@@ -47,7 +48,8 @@ fewer_granted i (x ∷ xs) = here (is_granted x.reply) (fewer_granted i xs)
     left_out false h = h
 
     here : (granted : Bool) → length (calls_of_thread i (granted_calls xs)) ≤ length (calls_of_thread i xs)
-        → length (calls_of_thread i (cond granted (x ∷ granted_calls xs) (granted_calls xs))) ≤ length (cond (x.thread == i) (x ∷ calls_of_thread i xs) (calls_of_thread i xs))
+        → length (calls_of_thread i (cond granted (x ∷ granted_calls xs) (granted_calls xs)))
+        ≤ length (cond (x.thread == i) (x ∷ calls_of_thread i xs) (calls_of_thread i xs))
     here true h = kept (x.thread == i) h
     here false h = left_out (x.thread == i) h
 
@@ -75,7 +77,9 @@ module _ (t : Program) (c : Configuration) (i : ℕ) (bit : Bool) (r : Reply) (g
   step_reply step =
       let d = configuration_after_call t c i bit r in
       let told = effect t.procedures step.frame.left c.globals step.frame step.below bit in
-      let moved : configuration_after_step t c i bit (step.frame ∷ step.below) ≡ Some d = ap (configuration_after_step t c i bit) (sym step.stack) ∙ step_is t c i bit d (step_moves t c i bit r granted step) in
+      let moved : configuration_after_step t c i bit (step.frame ∷ step.below) ≡ Some d =
+      ap (configuration_after_step t c i bit) (sym step.stack)
+      ∙ step_is t c i bit d (step_moves t c i bit r granted step) in
       let both : Some r ≡ Some (reply_of_step [] d.failed) = sym step.told_is ∙ effect_told t c i bit d told moved in
       cc
 
@@ -128,9 +132,12 @@ module _ (t : Program) (s : SetupOf) where
   room_from h [] legal = λ before x later d split run. absurd (no_split before x later split)
   room_from h (y ∷ ys) (allowed, rest) = room_of h y ys allowed (room_from (h ++ y ∷ []) ys rest) (is_granted y.reply) refl
 
-  replies_of : (h : List Call) (y : Call) (ys : List Call) (e : Configuration) → IsAllowed t s h y → IsRun t (configuration_after t s (h ++ y ∷ [])) (granted_calls ys) e
+  replies_of : (h : List Call) (y : Call) (ys : List Call) (e : Configuration) → IsAllowed t s h y
+      → IsRun t (configuration_after t s (h ++ y ∷ [])) (granted_calls ys) e
       → history_of_run (granted_calls ys) e.failed ≡ granted_calls ys
-      → (b : Bool) → is_granted y.reply ≡ b → history_of_run (cond b (y ∷ granted_calls ys) (granted_calls ys)) e.failed ≡ cond b (y ∷ granted_calls ys) (granted_calls ys)
+      → (b : Bool) → is_granted y.reply ≡ b
+      → history_of_run (cond b (y ∷ granted_calls ys) (granted_calls ys)) e.failed
+      ≡ cond b (y ∷ granted_calls ys) (granted_calls ys)
   replies_of h y ys e allowed run rest false is = rest
   replies_of h y ys e allowed run rest true is =
       let reply = sym (reply_here h y allowed is ∙ reply_before t (configuration_after t s (h ++ y ∷ [])) (granted_calls ys) e run) in
@@ -140,7 +147,8 @@ module _ (t : Program) (s : SetupOf) where
   replies_from h [] legal = refl
   replies_from h (y ∷ ys) (allowed, rest) =
       rw (← append_assoc h (y ∷ []) ys)
-      (replies_of h y ys (configuration_after t s ((h ++ y ∷ []) ++ ys)) allowed (run_from t s (h ++ y ∷ []) ys rest) (replies_from (h ++ y ∷ []) ys rest) (is_granted y.reply) refl)
+      (replies_of h y ys (configuration_after t s ((h ++ y ∷ []) ++ ys)) allowed (run_from t s (h ++ y ∷ []) ys rest)
+      (replies_from (h ++ y ∷ []) ys rest) (is_granted y.reply) refl)
 
 pub history_is_run : (t : Program) (s : SetupOf) (h : List Call) → IsLegal t s h → HasBoundedRun t s h
 history_is_run t s h legal = record {

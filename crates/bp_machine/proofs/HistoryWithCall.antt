@@ -15,7 +15,9 @@ configuration_after_calls-append : (t : Program) (c : Configuration) (xs : List 
 configuration_after_calls-append t c [] x = refl
 configuration_after_calls-append t c (y ∷ ys) x = configuration_after_calls-append t (configuration_after_call t c y.thread y.bit y.reply) ys x
 
-pub configuration_after-append : (t : Program) (s : SetupOf) (h : List Call) (x : Call) → configuration_after t s (h ++ x ∷ []) ≡ configuration_after_call t (configuration_after t s h) x.thread x.bit x.reply
+pub configuration_after-append : (t : Program) (s : SetupOf) (h : List Call) (x : Call)
+    → configuration_after t s (h ++ x ∷ [])
+    ≡ configuration_after_call t (configuration_after t s h) x.thread x.bit x.reply
 configuration_after-append t s h x = configuration_after_calls-append t (start t s) h x
 
 pub granted_threads-append : (h : List Call) (x : Call) → granted_threads (h ++ x ∷ []) ≡ granted_threads h ++ cond (is_granted x.reply) (x.thread ∷ []) []
@@ -27,7 +29,8 @@ granted_threads-append [] x = single (is_granted x.reply)
 granted_threads-append (y ∷ ys) x = more (is_granted y.reply) (granted_threads-append ys x)
   where
     more : (b : Bool) → granted_threads (ys ++ x ∷ []) ≡ granted_threads ys ++ cond (is_granted x.reply) (x.thread ∷ []) []
-        → cond b (y.thread ∷ granted_threads (ys ++ x ∷ [])) (granted_threads (ys ++ x ∷ [])) ≡ cond b (y.thread ∷ granted_threads ys) (granted_threads ys) ++ cond (is_granted x.reply) (x.thread ∷ []) []
+        → cond b (y.thread ∷ granted_threads (ys ++ x ∷ [])) (granted_threads (ys ++ x ∷ []))
+        ≡ cond b (y.thread ∷ granted_threads ys) (granted_threads ys) ++ cond (is_granted x.reply) (x.thread ∷ []) []
     more true e = ap (λ ts. y.thread ∷ ts) e
     more false e = e
 

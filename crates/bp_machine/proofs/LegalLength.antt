@@ -83,7 +83,8 @@ module _ (t : Program) (s : SetupOf) where
       let more = fewer (ends_with_last (calls_of_thread i h)) (nat_le s.calls (length (calls_of_thread i h))) e in
       grind (arith, nat_tests)
 
-  next : (p : List Call) (x : Call) → IsAllowed t s p x → ((i : ℕ) → length (calls_of_thread i p) ≤ s.calls) → (i : ℕ) → length (calls_of_thread i (p ++ x ∷ [])) ≤ s.calls
+  next : (p : List Call) (x : Call) → IsAllowed t s p x → ((i : ℕ) → length (calls_of_thread i p) ≤ s.calls) → (i : ℕ)
+      → length (calls_of_thread i (p ++ x ∷ [])) ≤ s.calls
   next p x allowed each i = elim (same_or_not x.thread i) [
     | inl same ↦ own same
     | inr other ↦ let is = ap length (calls_of_thread-other p x i other) in omega (arith, is, each i)
@@ -95,7 +96,8 @@ module _ (t : Program) (s : SetupOf) where
           let few = subst (λ j. length (calls_of_thread j p) < s.calls) same (room p x.thread allowed.unfinished) in
           omega (arith, is, few)
 
-  pub bounded : (p xs : List Call) → IsLegalAfter t s p xs → ((i : ℕ) → length (calls_of_thread i p) ≤ s.calls) → (i : ℕ) → length (calls_of_thread i (p ++ xs)) ≤ s.calls
+  pub bounded : (p xs : List Call) → IsLegalAfter t s p xs → ((i : ℕ) → length (calls_of_thread i p) ≤ s.calls)
+      → (i : ℕ) → length (calls_of_thread i (p ++ xs)) ≤ s.calls
   bounded p [] legal each i = rw (append-nil p) (each i)
   bounded p (x ∷ xs) (allowed, rest) each i =
       rw (← append_assoc p (x ∷ []) xs) (bounded (p ++ x ∷ []) xs rest (next p x allowed each) i)

@@ -22,11 +22,13 @@ module _ (P : List ℕ → Type 0) where
       go true is later = subst P ((bytes_eq-Decides q.name.text e).0 is) each.0.0
       go false is later = later (sym (λ i. cond (is i) (Some q) (procedure_named qs e)) ∙ found)
 
-  fine_name : (t : Program) (k : ℕ) (e : List ℕ) (o : Option Procedure) → NamesInProcedures (λ n. P n.text) t.procedures → procedure_named t.procedures e ≡ o → entry_fault k o ≡ None → P e
+  fine_name : (t : Program) (k : ℕ) (e : List ℕ) (o : Option Procedure) → NamesInProcedures (λ n. P n.text) t.procedures
+      → procedure_named t.procedures e ≡ o → entry_fault k o ≡ None → P e
   fine_name t k e None each is none = absurd cc
   fine_name t k e (Some p) each is none = found_name t.procedures e p each is
 
-  pub entries_are_names : (t : Program) (k : ℕ) (es : List (List ℕ)) → NamesInProcedures (λ n. P n.text) t.procedures → entries_fault t k es ≡ None → AllByRecursion P es
+  pub entries_are_names : (t : Program) (k : ℕ) (es : List (List ℕ)) → NamesInProcedures (λ n. P n.text) t.procedures
+      → entries_fault t k es ≡ None → AllByRecursion P es
   entries_are_names t k [] each none = tt
   entries_are_names t k (e ∷ es) each none =
       let parts = neither (entry_fault k (procedure_named t.procedures e)) (entries_fault t (k + 1) es) none in

@@ -125,16 +125,21 @@ module _ (c : Flat) (t : Program) (st : StandsFor c t) (z : CodeState) (k : Conf
   reply_on fits bit (a ∷ below) [] shown = absurd shown
   reply_on fits bit (a ∷ below) (f ∷ fs) shown =
       let found = st.each a.number f.procedure f.left shown.0.left in
-      let call : is_call f.left ≡ is_call_at (slice_get c.instructions a.number) = rw found.1 (call_alike t (places_of t.procedures) f.procedure f.left found.0 found.2) in
+      let call : is_call f.left ≡ is_call_at (slice_get c.instructions a.number) =
+      rw found.1 (call_alike t (places_of t.procedures) f.procedure f.left found.0 found.2) in
       let long : length (f ∷ fs) ≡ length (a ∷ below) = sym (shown_length t (a ∷ below) (f ∷ fs) shown) in
-      let reply = reply_alike t (step c.instructions z.globals a below bit) (effect t.procedures f.left k.globals f fs bit) (same_effect a below f fs bit shown) in
+      let reply = reply_alike t (step c.instructions z.globals a below bit)
+      (effect t.procedures f.left k.globals f fs bit) (same_effect a below f fs bit shown) in
       λ j. cond (not fits) (Some NoContexts) (cond (call j && nat_le MAX_FRAMES (long j)) (Some Full) (reply j))
 
-  pub reply_is : (fits : Bool) (i : ℕ) (bit : Bool) → reply_of t fits k i bit ≡ cond z.failed (Some Stopped) (reply_here c.instructions fits z.globals (z.stacks i) bit)
+  pub reply_is : (fits : Bool) (i : ℕ) (bit : Bool)
+      → reply_of t fits k i bit
+      ≡ cond z.failed (Some Stopped) (reply_here c.instructions fits z.globals (z.stacks i) bit)
   reply_is fits i bit = λ j. cond (shows.failed j) (Some Stopped) (reply_on fits bit (z.stacks i) (stack_of k i) (shows.stack i) j)
 
   pub rows_are : (x : calls.Call) → rows_of_call k x ≡ cond (is_granted x.reply)
-      (option_to_list (option_map (λ (vs : List Bool). record { thread = x.thread; values = vs }) (printed_here c.instructions z.globals (z.stacks x.thread)))) []
+      (option_to_list (option_map (λ (vs : List Bool). record { thread = x.thread; values = vs })
+      (printed_here c.instructions z.globals (z.stacks x.thread)))) []
   rows_are x =
       ap (λ o. cond (is_granted x.reply) (option_to_list (option_map (λ (vs : List Bool). record { thread = x.thread; values = vs }) o)) [])
       (printed_alike c t st k.globals z.globals shows.globals (z.stacks x.thread) (stack_of k x.thread) (shows.stack x.thread))
@@ -149,7 +154,8 @@ module _ (c : Flat) (t : Program) (st : StandsFor c t) (z : CodeState) (k : Conf
         let other : j ≢ i = λ same. grind (arith, nat_tests) in
         rw (get_or-set_other k.stacks i j s [] other) (shows.stack j)
 
-    after : (o : InstructionEffect) (e : StatementEffect) → SameEffect t o e → Shows t (state_after_effect c.instructions z i o) (unwrap_or (after_effect k i e) k)
+    after : (o : InstructionEffect) (e : StatementEffect) → SameEffect t o e
+        → Shows t (state_after_effect c.instructions z i o) (unwrap_or (after_effect k i e) k)
     after (Leaves b stack) (Leaves g s) same =
         record { globals = same.0; stack = λ j. stack_after_set stack s same.1 j (j == i) refl; failed = refl }
     after (Leaves b stack) Fails same = absurd same
@@ -174,12 +180,15 @@ module _ (c : Flat) (t : Program) (st : StandsFor c t) (z : CodeState) (k : Conf
   stepped i bit [] (f ∷ fs) is shown = absurd shown
   stepped i bit (a ∷ below) [] is shown = absurd shown
   stepped i bit (a ∷ below) (f ∷ fs) is shown =
-      after i (there k.stacks i f fs (sym is)) (step c.instructions z.globals a below bit) (effect t.procedures f.left k.globals f fs bit) (same_effect a below f fs bit shown)
+      after i (there k.stacks i f fs (sym is)) (step c.instructions z.globals a below bit)
+      (effect t.procedures f.left k.globals f fs bit) (same_effect a below f fs bit shown)
 
   pub shows_after : (x : calls.Call) → Shows t (state_after_call c.instructions z x) (configuration_after_call t k x.thread x.bit x.reply)
   shows_after x = by_grant (is_granted x.reply)
     where
-      by_grant : (b : Bool) → Shows t (cond b (state_after_step c.instructions z x.thread x.bit (z.stacks x.thread)) z) (cond b (unwrap_or (configuration_after_step t k x.thread x.bit (stack_of k x.thread)) k) k)
+      by_grant : (b : Bool)
+          → Shows t (cond b (state_after_step c.instructions z x.thread x.bit (z.stacks x.thread)) z)
+          (cond b (unwrap_or (configuration_after_step t k x.thread x.bit (stack_of k x.thread)) k) k)
       by_grant true = stepped x.thread x.bit (z.stacks x.thread) (stack_of k x.thread) refl (shows.stack x.thread)
       by_grant false = shows
 
@@ -217,7 +226,9 @@ module _ (c : Flat) (t u : Program) (st : StandsFor c t) (su : StandsFor c u) (s
   same_legal z done [] one two legal = tt
   same_legal z done (x ∷ xs) one two (allowed, more) =
       let answers = allowed.answers in
-      let reply = reply_is c u su z (configuration_after u s done) two answers.fits x.thread x.bit ∙ sym (reply_is c t st z (configuration_after t s done) one answers.fits x.thread x.bit) in
+      let reply =
+      reply_is c u su z (configuration_after u s done) two answers.fits x.thread x.bit
+      ∙ sym (reply_is c t st z (configuration_after t s done) one answers.fits x.thread x.bit) in
       let next = state_after_call c.instructions z x in (
         record {
           thread = allowed.thread;

@@ -43,7 +43,8 @@ module _ (s : SetupOf) (h : List Call) (x : Call) (unfinished : is_finished s h 
       here : x.thread ≡ n → open_below (suc n) s (h ++ x ∷ []) + finished_by s h x ≡ open_below (suc n) s h
       here same =
           let count = same_below n (omega (arith, same)) in
-          let own : one_if (is_finished s (h ++ x ∷ []) x.thread) ≡ one_if (is_finished s (h ++ x ∷ []) n) = ap (λ i. one_if (is_finished s (h ++ x ∷ []) i)) same in
+          let own : one_if (is_finished s (h ++ x ∷ []) x.thread) ≡ one_if (is_finished s (h ++ x ∷ []) n) =
+          ap (λ i. one_if (is_finished s (h ++ x ∷ []) i)) same in
           let before : is_finished s h n ≡ false = sym (ap (is_finished s h) same) ∙ unfinished in
           ap (λ k. cond (is_finished s (h ++ x ∷ []) n) k (k + 1) + one_if (is_finished s (h ++ x ∷ []) x.thread)) count
           ∙ ap (λ k. cond (is_finished s (h ++ x ∷ []) n) (open_below n s h) (open_below n s h + 1) + k) own
@@ -55,12 +56,14 @@ module _ (s : SetupOf) (h : List Call) (x : Call) (unfinished : is_finished s h 
       more true e = e
       more false e = omega (arith, e)
 
-      there : x.thread ≢ n → open_below n s (h ++ x ∷ []) + finished_by s h x ≡ open_below n s h → open_below (suc n) s (h ++ x ∷ []) + finished_by s h x ≡ open_below (suc n) s h
+      there : x.thread ≢ n → open_below n s (h ++ x ∷ []) + finished_by s h x ≡ open_below n s h
+          → open_below (suc n) s (h ++ x ∷ []) + finished_by s h x ≡ open_below (suc n) s h
       there other before =
           let own = finished-other s h x n other in
           ap (λ b. cond b (open_below n s (h ++ x ∷ [])) (open_below n s (h ++ x ∷ []) + 1) + finished_by s h x) own
           ∙ more (is_finished s h n) before
 
 -- the open lines before and after a call that is allowed
-pub open_lines-append : (t : Program) (s : SetupOf) (h : List Call) (x : Call) → IsAllowed t s h x → open_lines s (h ++ x ∷ []) + finished_by s h x ≡ open_lines s h
+pub open_lines-append : (t : Program) (s : SetupOf) (h : List Call) (x : Call) → IsAllowed t s h x
+    → open_lines s (h ++ x ∷ []) + finished_by s h x ≡ open_lines s h
 open_lines-append t s h x allowed = open_with s h x allowed.unfinished (threads s) allowed.thread

@@ -55,4 +55,5 @@ clean_of (Failed i) e = absurd cc
 -- the first failure is the outcome
 pub failed_outcome : (h : List Call) (x : Call) → x.reply ≡ replies.Failed → is_failure (outcome_of h) ≡ false → Failed x.thread ≡ outcome_of (h ++ x ∷ [])
 failed_outcome h x e none =
-    sym (outcome-append h x ∙ ap (λ r. first_outcome (outcome_of h) (outcome_or x r Clean)) e ∙ ap (λ o. first_outcome o (Failed x.thread)) (clean_of (outcome_of h) none))
+    sym (outcome-append h x ∙ ap (λ r. first_outcome (outcome_of h) (outcome_or x r Clean)) e
+    ∙ ap (λ o. first_outcome o (Failed x.thread)) (clean_of (outcome_of h) none))

@@ -26,18 +26,23 @@ name_of_found (k ∷ hs) x h e = go (bytes_eq k.name x) refl (λ later. name_of_
     go false is later found = later found
 
 -- an entry without a fault has a procedure, and so a heading
-some_heading : (h : Option Heading) (k : ℕ) (o : Option Procedure) → option_map (λ (z : Heading). z.formals) h ≡ option_map (λ (p : Procedure). length p.formals) o → entry_fault k o ≡ None → is_some h ≡ true
+some_heading : (h : Option Heading) (k : ℕ) (o : Option Procedure)
+    → option_map (λ (z : Heading). z.formals) h ≡ option_map (λ (p : Procedure). length p.formals) o
+    → entry_fault k o ≡ None → is_some h ≡ true
 some_heading (Some z) k o same none = refl
 some_heading None k None same none = absurd cc
 some_heading None k (Some p) same none = absurd cc
 
 module _ (c : Flat) (t : Program) (is : StandsFor c t) where
-  each_found : (es : List (List ℕ)) (k i : ℕ) (name : List ℕ) → entries_fault t k es ≡ None → slice_get es i ≡ Some name → is_some (heading_named c.headings name) ≡ true
+  each_found : (es : List (List ℕ)) (k i : ℕ) (name : List ℕ) → entries_fault t k es ≡ None → slice_get es i ≡ Some name
+      → is_some (heading_named c.headings name) ≡ true
   each_found [] k i name none at = absurd cc
   each_found (e ∷ es) k zero name none at =
       let same : e ≡ name = cc in
       let own = (neither (entry_fault k (procedure_named t.procedures e)) (entries_fault t (k + 1) es) none).0 in
-      some_heading (heading_named c.headings name) k (procedure_named t.procedures name) (formals_of_procedure c t name is) (subst (λ n. entry_fault k (procedure_named t.procedures n) ≡ None) same own)
+      some_heading (heading_named c.headings name) k (procedure_named t.procedures name)
+      (formals_of_procedure c t name is)
+      (subst (λ n. entry_fault k (procedure_named t.procedures n) ≡ None) same own)
   each_found (e ∷ es) k (suc i) name none at =
       each_found es (k + 1) i name (neither (entry_fault k (procedure_named t.procedures e)) (entries_fault t (k + 1) es) none).1 at
 
@@ -56,7 +61,8 @@ name_at xs i d within = slice_get-map (λ n. n.now) xs i ∙ ap (option_map (λ 
 
 -- one more of them
 pub names_more : (xs : List (Bor (List ℕ))) (i : ℕ) (d : Bor (List ℕ)) → i < length xs → (old : List (String Global)) (name : String Global)
-    → map string_bytes old ≡ map (λ n. n.now) (take i xs) → string_bytes name ≡ (get_or xs i d).now → map string_bytes (old ++ name ∷ []) ≡ map (λ n. n.now) (take (i + 1) xs)
+    → map string_bytes old ≡ map (λ n. n.now) (take i xs) → string_bytes name ≡ (get_or xs i d).now
+    → map string_bytes (old ++ name ∷ []) ≡ map (λ n. n.now) (take (i + 1) xs)
 names_more xs i d within old name same is =
     map-append string_bytes old (name ∷ [])
     ∙ ap (λ ns. ns ++ string_bytes name ∷ []) same

@@ -37,7 +37,8 @@ module _ (c : Flat) (s : SetupOf) (machine : MachineOf) (choices : List ChoicesO
   pub stands_at_start : (t : Program) → StandsFor c t → Stands t x []
   stands_at_start t stands_for = record {
     state =
-        starts c t s stands_for machine.state (fits t stands_for) (ap (λ z. bits_of z.globals) is ∙ bits) (ap (λ z. z.threads) is ∙ threads_are) (ap (λ z. z.contexts) is) (ap (λ z. z.outcome) is);
+        starts c t s stands_for machine.state (fits t stands_for) (ap (λ z. bits_of z.globals) is ∙ bits)
+        (ap (λ z. z.threads) is ∙ threads_are) (ap (λ z. z.contexts) is) (ap (λ z. z.outcome) is);
     seeded = λ seed e. λ i n y at. cc;
     choices = first.each;
   }
@@ -117,7 +118,8 @@ module _ (s : SetupOf) (range : IsInRange s) where
     fails_fit false true (f ∷ fs) e = refl
     fails_fit false false (f ∷ fs) e = absurd cc
 
-    steps_fit : (d : Effect) (failed fits : Bool) (stack : List ActivationRecord) → IsTransitionUnless code x.globals bit failed fits stack (Steps d) → fits ≡ true
+    steps_fit : (d : Effect) (failed fits : Bool) (stack : List ActivationRecord)
+        → IsTransitionUnless code x.globals bit failed fits stack (Steps d) → fits ≡ true
     steps_fit d true fits stack e = absurd cc
     steps_fit d false fits [] e = absurd cc
     steps_fit d false true (f ∷ fs) e = refl
@@ -125,5 +127,9 @@ module _ (s : SetupOf) (range : IsInRange s) where
 
     pub may_grow : (v : Transition) → IsTransition code x s.contexts i guest bit v → MayGrow x i v
     may_grow (Stays r) is = tt
-    may_grow Fails is = within (nat_le (used_with x.contexts i) s.contexts) refl (fails_fit (is_failure x.outcome) (nat_le (used_with x.contexts i) s.contexts) guest.stack is)
-    may_grow (Steps d) is = within (nat_le (used_with x.contexts i) s.contexts) refl (steps_fit d (is_failure x.outcome) (nat_le (used_with x.contexts i) s.contexts) guest.stack is)
+    may_grow Fails is =
+        within (nat_le (used_with x.contexts i) s.contexts) refl
+        (fails_fit (is_failure x.outcome) (nat_le (used_with x.contexts i) s.contexts) guest.stack is)
+    may_grow (Steps d) is =
+        within (nat_le (used_with x.contexts i) s.contexts) refl
+        (steps_fit d (is_failure x.outcome) (nat_le (used_with x.contexts i) s.contexts) guest.stack is)

@@ -73,26 +73,32 @@ module _ (t : Program) (table : List Place) (p : Procedure) where
   print_alike (Then label at (Calls x es) r) i w c = rw c.is refl
 
 module _ (c : Flat) (t : Program) (st : StandsFor c t) where
-  pub printed_alike : (g : Valuation) (bits : Bits) → g ≡ valuation_of t.globals bits → (acts : List Activation) (frames : List Frame) → ShowsStack t acts frames
+  pub printed_alike : (g : Valuation) (bits : Bits) → g ≡ valuation_of t.globals bits
+      → (acts : List Activation) (frames : List Frame) → ShowsStack t acts frames
       → values_printed g frames ≡ printed_here c.instructions bits acts
   printed_alike g bits is [] [] shown = refl
   printed_alike g bits is [] (f ∷ fs) shown = absurd shown
   printed_alike g bits is (a ∷ below) [] shown = absurd shown
   printed_alike g bits is (a ∷ below) (f ∷ fs) shown =
       let found = st.each a.number f.procedure f.left shown.0.left in
-      rw (found.1, is, shown.0.locals) (print_alike t (places_of t.procedures) f.procedure f.left found.0 (record { globals = bits; locals = a.locals }) found.2)
+      rw (found.1, is, shown.0.locals) (print_alike t (places_of t.procedures) f.procedure f.left found.0
+      (record { globals = bits; locals = a.locals }) found.2)
 
-  module _ (s : SetupOf) (x : State) (h : List Call) (stands : StandsAfter t s x h) (i : ℕ) (guest : GuestThreadOf) (has : slice_get x.threads i ≡ Some guest) where
-    printed : values_printed (configuration_after t s h).globals (stack_of (configuration_after t s h) i) ≡ printed_here c.instructions (bits_of x.globals) (activations guest.stack)
+  module _ (s : SetupOf) (x : State) (h : List Call) (stands : StandsAfter t s x h) (i : ℕ) (guest : GuestThreadOf)
+      (has : slice_get x.threads i ≡ Some guest) where
+    printed : values_printed (configuration_after t s h).globals (stack_of (configuration_after t s h) i)
+        ≡ printed_here c.instructions (bits_of x.globals) (activations guest.stack)
     printed =
-        printed_alike (configuration_after t s h).globals (bits_of x.globals) stands.globals (activations guest.stack) (stack_of (configuration_after t s h) i) (stands.thread i guest has).stack
+        printed_alike (configuration_after t s h).globals (bits_of x.globals) stands.globals (activations guest.stack)
+        (stack_of (configuration_after t s h) i) (stands.thread i guest has).stack
 
     without_top : (fs : List ActivationRecord) → top_of fs ≡ None → printed_here c.instructions (bits_of x.globals) (activations fs) ≡ None
     without_top [] e = refl
     without_top (f ∷ fs) e = absurd cc
 
     with_top : (fs : List ActivationRecord) (f : ActivationRecord) → top_of fs ≡ Some f
-        → printed_here c.instructions (bits_of x.globals) (activations fs) ≡ printed_at (slice_get c.instructions f.number) (record { globals = bits_of x.globals; locals = bits_of f.locals })
+        → printed_here c.instructions (bits_of x.globals) (activations fs)
+        ≡ printed_at (slice_get c.instructions f.number) (record { globals = bits_of x.globals; locals = bits_of f.locals })
     with_top [] f e = absurd cc
     with_top (g ∷ fs) f e =
         let same : g ≡ f = cc in
@@ -110,6 +116,7 @@ module _ (c : Flat) (t : Program) (st : StandsFor c t) where
 
     -- else its next instruction prints
     pub instruction_printed : (f : ActivationRecord) → Some f ≡ top_of guest.stack → (instr : Instruction) → Some instr ≡ slice_get c.instructions f.number
-        → printed_values (record { globals = bits_of x.globals; locals = bits_of f.locals }) instr ≡ values_printed (configuration_after t s h).globals (stack_of (configuration_after t s h) i)
+        → printed_values (record { globals = bits_of x.globals; locals = bits_of f.locals }) instr
+        ≡ values_printed (configuration_after t s h).globals (stack_of (configuration_after t s h) i)
     instruction_printed f e instr found =
         sym (printed ∙ with_top guest.stack f (sym e) ∙ ap (λ o. printed_at o (record { globals = bits_of x.globals; locals = bits_of f.locals })) (sym found))

@@ -73,7 +73,17 @@ module _ (t : Program) (c : Configuration) (i : ℕ) (bit : Bool) (step : IsStep
   at_false : IsAtFalseAssertion c i bit
   at_false =
       let a = asserted t.procedures c.globals step.frame step.below bit step.frame.left fails_is in
-      record { frame = step.frame; below = step.below; stack = step.stack; label = a.label; at = a.at; decision = a.decision; rest = a.rest; asserts = a.is; false = a.worth }
+      record {
+        frame = step.frame;
+        below = step.below;
+        stack = step.stack;
+        label = a.label;
+        at = a.at;
+        decision = a.decision;
+        rest = a.rest;
+        asserts = a.is;
+        false = a.worth;
+      }
 
   failed_next : (configuration_after_call t c i bit Failed).failed ≡ true
   failed_next =
@@ -92,8 +102,11 @@ module _ (t : Program) (s : SetupOf) where
       let c = configuration_after t s h in
       let a = allowed.answers in
       let none = only_stopped c.failed (reply_on_stack t a.fits c.globals (stack_of c x.thread) x.bit) x.reply failed a.is in
-      let same = configuration_after-append t s h x ∙ ap (λ b. cond b (unwrap_or (configuration_after_step t c x.thread x.bit (stack_of c x.thread)) c) c) none in
-      ap (λ b. cond b (x.thread ∷ granted_threads xs) (granted_threads xs)) none ∙ none_after (h ++ x ∷ []) xs rest (ap (λ (d : Configuration). d.failed) same ∙ failed)
+      let same =
+      configuration_after-append t s h x
+      ∙ ap (λ b. cond b (unwrap_or (configuration_after_step t c x.thread x.bit (stack_of c x.thread)) c) c) none in
+      ap (λ b. cond b (x.thread ∷ granted_threads xs) (granted_threads xs)) none
+      ∙ none_after (h ++ x ∷ []) xs rest (ap (λ (d : Configuration). d.failed) same ∙ failed)
 
   -- the same from a history on
   record RealFrom (h xs : List Call) (i : ℕ) : Type 0 where
@@ -106,13 +119,18 @@ module _ (t : Program) (s : SetupOf) where
     last : granted_threads later ≡ []
     stands : IsAtFalseAssertion (configuration_after t s (h ++ before)) i call.bit
 
-  here : (h : List Call) (x : Call) (xs : List Call) (i : ℕ) → x.reply ≡ Failed → outcome.Failed x.thread ≡ outcome.Failed i → IsAllowed t s h x → IsLegalAfter t s (h ++ x ∷ []) xs → RealFrom h (x ∷ xs) i
+  here : (h : List Call) (x : Call) (xs : List Call) (i : ℕ) → x.reply ≡ Failed
+      → outcome.Failed x.thread ≡ outcome.Failed i → IsAllowed t s h x → IsLegalAfter t s (h ++ x ∷ []) xs
+      → RealFrom h (x ∷ xs) i
   here h x xs i is same allowed rest =
       let c = configuration_after t s h in
       let a = allowed.answers in
       let thread : x.thread ≡ i = cc in
-      let step : IsStep t c x.thread x.bit Failed = subst (λ r. IsStep t c x.thread x.bit r) is (is_step t c x.thread x.bit x.reply (ap is_granted is) a.fits a.is).1 in
-      let failed = ap (λ (d : Configuration). d.failed) (configuration_after-append t s h x) ∙ ap (λ r. (configuration_after_call t c x.thread x.bit r).failed) is ∙ failed_next t c x.thread x.bit step in
+      let step : IsStep t c x.thread x.bit Failed =
+      subst (λ r. IsStep t c x.thread x.bit r) is (is_step t c x.thread x.bit x.reply (ap is_granted is) a.fits a.is).1 in
+      let failed =
+      ap (λ (d : Configuration). d.failed) (configuration_after-append t s h x)
+      ∙ ap (λ r. (configuration_after_call t c x.thread x.bit r).failed) is ∙ failed_next t c x.thread x.bit step in
       record {
         before = [];
         call = x;
@@ -136,7 +154,8 @@ module _ (t : Program) (s : SetupOf) where
     stands = rw (← append_assoc h (x ∷ []) r.before) r.stands;
   }
 
-  by_reply : (h : List Call) (x : Call) (xs : List Call) (i : ℕ) (r : Reply) → x.reply ≡ r → outcome_or x r (outcome_of xs) ≡ outcome.Failed i → IsAllowed t s h x
+  by_reply : (h : List Call) (x : Call) (xs : List Call) (i : ℕ) (r : Reply) → x.reply ≡ r
+      → outcome_or x r (outcome_of xs) ≡ outcome.Failed i → IsAllowed t s h x
       → IsLegalAfter t s (h ++ x ∷ []) xs → (outcome_of xs ≡ outcome.Failed i → RealFrom (h ++ x ∷ []) xs i) → RealFrom h (x ∷ xs) i
   by_reply h x xs i Failed is e allowed rest next = here h x xs i is e allowed rest
   by_reply h x xs i _ is e allowed rest next = later h x xs i (next e)

@@ -56,6 +56,7 @@ module _ (t : Program) (c : Configuration) (i : ℕ) (bit : Bool) (d : Configura
       ∙ ap (λ o. unwrap_or o c) (step_is t c i bit d m)
 
 -- the reply of a step is told where the rest of the run ends
-pub reply_before : (t : Program) (d : Configuration) (xs : List Call) (e : Configuration) → IsRun t d xs e → reply_of_step [] d.failed ≡ reply_of_step xs e.failed
+pub reply_before : (t : Program) (d : Configuration) (xs : List Call) (e : Configuration) → IsRun t d xs e
+    → reply_of_step [] d.failed ≡ reply_of_step xs e.failed
 reply_before t d [] e run = ap (λ (x : Configuration). reply_of_step [] x.failed) (ended run)
 reply_before t d (x ∷ xs) e run = ap (λ b. reply_of_step [] b) (first_step run).move.runs

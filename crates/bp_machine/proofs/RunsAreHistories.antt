@@ -32,7 +32,8 @@ counts_none x xs i n =
     let other : (x.thread == i) ≡ false = grind (arith, nat_tests) in
     ap (λ b. length (cond b (x ∷ calls_of_thread i xs) (calls_of_thread i xs))) other
 
-unfinished : (s : SetupOf) (h : List Call) (i : ℕ) → ends_with_last (calls_of_thread i h) ≡ false → length (calls_of_thread i h) < s.calls → is_finished s h i ≡ false
+unfinished : (s : SetupOf) (h : List Call) (i : ℕ) → ends_with_last (calls_of_thread i h) ≡ false
+    → length (calls_of_thread i h) < s.calls → is_finished s h i ≡ false
 unfinished s h i no_last few =
     let less : nat_le s.calls (length (calls_of_thread i h)) ≡ false = grind (arith, nat_tests) in
     ap (λ b. b || nat_le s.calls (length (calls_of_thread i h))) no_last ∙ less
@@ -84,7 +85,10 @@ module _ (t : Program) (s : SetupOf) where
           answers = record {
             fits = true;
             decides = (λ _. fits_here, λ _. refl);
-            is = reply_told t (configuration_after t s p) x.thread x.bit first.next first.move (now.room [] x xs (configuration_after t s p) refl (reports.ends (configuration_after t s p))) ∙ ap Some reply_is;
+            is =
+                reply_told t (configuration_after t s p) x.thread x.bit first.next first.move
+                (now.room [] x xs (configuration_after t s p) refl (reports.ends (configuration_after t s p)))
+                ∙ ap Some reply_is;
           };
         }
 
@@ -139,10 +143,12 @@ module _ (t : Program) (s : SetupOf) where
 granted_from : (xs : List Call) (failed : Bool) → granted_calls (history_of_run xs failed) ≡ history_of_run xs failed
 granted_from [] failed = refl
 granted_from (x ∷ xs) failed =
-    ap (λ b. cond b (record x { reply = reply_of_step xs failed } ∷ granted_calls (history_of_run xs failed)) (granted_calls (history_of_run xs failed))) (reply_granted xs failed)
+    ap (λ b. cond b (record x { reply = reply_of_step xs failed } ∷ granted_calls (history_of_run xs failed))
+    (granted_calls (history_of_run xs failed))) (reply_granted xs failed)
     ∙ ap (λ ys. record x { reply = reply_of_step xs failed } ∷ ys) (granted_from xs failed)
 
-pub run_is_history : (t : Program) (s : SetupOf) (steps : List Call) (d : Configuration) → IsBoundedRun t s steps d → IsHistoryOfSteps t s (history_of_run steps d.failed) d
+pub run_is_history : (t : Program) (s : SetupOf) (steps : List Call) (d : Configuration) → IsBoundedRun t s steps d
+    → IsHistoryOfSteps t s (history_of_run steps d.failed) d
 run_is_history t s steps d run = record {
   legal = legal_from t s [] steps d (record {
     open_lines = λ i. refl;

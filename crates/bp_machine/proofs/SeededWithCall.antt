@@ -24,7 +24,9 @@ module _ (seed : ℕ) (h : List Call) (x : Call) (seeded : IsSeeded seed h) (is 
       let found = ap (λ cs. slice_get cs n) (sym (calls_of_thread-same h x i same)) ∙ at in
       elim (at_end (calls_of_thread i h) x y n found) [
         | inl before ↦ seeded i n y before
-        | inr last ↦ ap (λ (c : Call). c.bit) (sym last.1) ∙ is ∙ ap (λ j. choice_bit seed j (length (calls_of_thread j h))) same ∙ ap (choice_bit seed i) (sym last.0)
+        | inr last ↦
+            ap (λ (c : Call). c.bit) (sym last.1) ∙ is ∙ ap (λ j. choice_bit seed j (length (calls_of_thread j h))) same
+            ∙ ap (choice_bit seed i) (sym last.0)
       ]
 
   pub seeded-append : IsSeeded seed (h ++ x ∷ [])

@@ -29,7 +29,8 @@ use Rattle.bp_machine.specs.KeptSessions.{AreDrawn, IsGiven, IsKeptBit, IsJudged
 use Rattle.bp_machine.proofs.SeededWithCall.{seeded-append, choices_after}
 use Rattle.bp_machine.proofs.StandsAfterTransition.{allowed, stands_after, call_step}
 
-module _ (t : Program) (s : SetupOf) (x : State) (h : List Call) (stands : StandsAfter t s x h) (i : ℕ) (guest : GuestThreadOf) (has : slice_get x.threads i ≡ Some guest) where
+module _ (t : Program) (s : SetupOf) (x : State) (h : List Call) (stands : StandsAfter t s x h) (i : ℕ)
+    (guest : GuestThreadOf) (has : slice_get x.threads i ≡ Some guest) where
   -- whether the line is finished is what the session keeps of it
   pub over_is : is_over s guest ≡ is_finished s h i
   over_is =
@@ -57,7 +58,8 @@ module _ (s : SetupOf) (choices : List ChoicesOf) (count : length choices ≡ ch
   pub no_seed : i < threads s → slice_get choices i ≡ None → s.seed ≡ None
   no_seed within none = go s.seed refl
     where
-      past : ((y : ChoicesOf) × (i < length choices) × (slice_get choices i ≡ Some y) × (get_or choices i y ≡ y)) ⊎ ((length choices ≤ i) × (slice_get choices i ≡ None)) → length choices ≤ i
+      past : ((y : ChoicesOf) × (i < length choices) × (slice_get choices i ≡ Some y) × (get_or choices i y ≡ y))
+          ⊎ ((length choices ≤ i) × (slice_get choices i ≡ None)) → length choices ≤ i
       past (inl (y, inside, has, is)) = let a = has in let b = none in absurd cc
       past (inr (is, has)) = is
 
@@ -68,7 +70,8 @@ module _ (s : SetupOf) (choices : List ChoicesOf) (count : length choices ≡ ch
 is_some_of : {X : Type 0} (o : Option X) (y : X) → o ≡ Some y → is_some o ≡ true
 is_some_of o y e = ap is_some e
 
-module _ (t : Program) (x : SessionOf) (h : List Call) (stands : Stands t x h) (count : length x.choices ≡ choices_of x.setup) (i : ℕ) (given : Option Bool) where
+module _ (t : Program) (x : SessionOf) (h : List Call) (stands : Stands t x h)
+    (count : length x.choices ≡ choices_of x.setup) (i : ℕ) (given : Option Bool) where
   abbrev s : SetupOf
   s = x.setup
 
@@ -83,10 +86,15 @@ module _ (t : Program) (x : SessionOf) (h : List Call) (stands : Stands t x h) (
   pub refused_after : (e : AskFault) → IsKeptRefusal x i given e → IsAskRefusal t s h i given e
   refused_after NoThread none = there (slice_get_cases state.threads i).1
     where
-      there : ((y : GuestThreadOf) × (i < length state.threads) × (slice_get state.threads i ≡ Some y) × (get_or state.threads i y ≡ y)) ⊎ ((length state.threads ≤ i) × (slice_get state.threads i ≡ None)) → threads s ≤ i
+      there : ((y : GuestThreadOf) × (i < length state.threads) × (slice_get state.threads i ≡ Some y)
+          × (get_or state.threads i y ≡ y)) ⊎ ((length state.threads ≤ i) × (slice_get state.threads i ≡ None))
+          → threads s ≤ i
       there (inl (y, inside, has, is)) = let a = has in let b = none in absurd cc
       there (inr (past, is)) = omega (arith, past, stands.state.thread_count)
-  refused_after Finished over = (within_threads t s state h stands.state i over.guest over.has, sym (over_is t s state h stands.state i over.guest over.has) ∙ over.over)
+  refused_after Finished over = (
+    within_threads t s state h stands.state i over.guest over.has,
+    sym (over_is t s state h stands.state i over.guest over.has) ∙ over.over,
+  )
   refused_after Seeded (goes_on, ((c, has), (bit, is))) =
       let seeded = has_seed s x.choices count i c has in
       (has_open_line goes_on.guest goes_on.has goes_on.goes_on, is_some_of given bit is, is_some_of s.seed seeded.0 seeded.1)
@@ -147,12 +155,15 @@ module _ (t : Program) (x : SessionOf) (h : List Call) (stands : Stands t x h) (
   state_stands =
       let next = judged.transition in
       let line = judged_next t x h stands count i given alike p judged in
-      let after = stands_after x.code t alike x.setup x.machine.state h stands.state i next.guest next.has line.allowed.thread line.allowed.unfinished p.call.bit p.transition next.is in
+      let after = stands_after x.code t alike x.setup x.machine.state h stands.state i next.guest next.has
+      line.allowed.thread line.allowed.unfinished p.call.bit p.transition next.is in
       subst (λ z. StandsAfter t x.setup z (h ++ p.call ∷ [])) (sym made)
-      (subst (λ r. StandsAfter t x.setup (state_after x.machine.state i next.guest p.transition) (h ++ record { thread = i; bit = p.call.bit; reply = r } ∷ [])) (sym judged.reply) after)
+      (subst (λ r. StandsAfter t x.setup (state_after x.machine.state i next.guest p.transition)
+      (h ++ record { thread = i; bit = p.call.bit; reply = r } ∷ [])) (sym judged.reply) after)
 
   -- with a seed, the call has its bit
-  call_bit : (seed : ℕ) → x.setup.seed ≡ Some seed → (given : Option Bool) → IsBitOfCall x.setup h i given p.call.bit → p.call.bit ≡ choice_bit seed i (length (calls_of_thread i h))
+  call_bit : (seed : ℕ) → x.setup.seed ≡ Some seed → (given : Option Bool) → IsBitOfCall x.setup h i given p.call.bit
+      → p.call.bit ≡ choice_bit seed i (length (calls_of_thread i h))
   call_bit seed e (Some b) (none, is) = let a = e in let b = none in absurd cc
   call_bit seed e None is =
       let same : is.seed ≡ seed = let a = is.has in let b = e in cc in
@@ -189,7 +200,8 @@ still_in_order x y i guest v code setup made count order goes_on = record {
     next (t, h, is, stands) = let later = goes_on t h is stands in (t, later.0, subst (λ c. StandsFor c t) (sym code) is, later.1)
 
 -- one more line of those that were counted
-pub count_more : (t : Program) (s : SetupOf) (x : State) (h : List Call) (stands : StandsAfter t s x h) (i : ℕ) (guest : GuestThreadOf) → slice_get x.threads i ≡ Some guest
+pub count_more : (t : Program) (s : SetupOf) (x : State) (h : List Call) (stands : StandsAfter t s x h) (i : ℕ)
+    (guest : GuestThreadOf) → slice_get x.threads i ≡ Some guest
     → (over : Bool) → over ≡ is_over s guest → (count : ℕ) → count ≡ open_below i s h → cond over count (count + 1) ≡ open_below (i + 1) s h
 count_more t s x h stands i guest has over is count so_far =
     let same = is ∙ over_is t s x h stands i guest has in
@@ -209,8 +221,10 @@ named_past (g ∷ gs) bits (suc n) h = named_past gs (λ k. bits (suc k)) n (ome
 module _ (t : Program) (c : Flat) (s : SetupOf) (x : State) (h : List Call) (is : StandsFor c t) (stands : StandsAfter t s x h) (n : ℕ) where
   pub global_here : n < c.globals → Some (bits_of x.globals n) ≡ option_map (λ (e : List ℕ × Bool). e.1) (slice_get (configuration_after t s h).globals n)
   global_here below =
-      sym (ap (λ g. option_map (λ (e : List ℕ × Bool). e.1) (slice_get g n)) stands.globals ∙ named_at t.globals (bits_of x.globals) n (omega (arith, is.globals)))
+      sym (ap (λ g. option_map (λ (e : List ℕ × Bool). e.1) (slice_get g n)) stands.globals
+      ∙ named_at t.globals (bits_of x.globals) n (omega (arith, is.globals)))
 
   pub no_global : c.globals ≤ n → None ≡ option_map (λ (e : List ℕ × Bool). e.1) (slice_get (configuration_after t s h).globals n)
   no_global past =
-      sym (ap (λ g. option_map (λ (e : List ℕ × Bool). e.1) (slice_get g n)) stands.globals ∙ named_past t.globals (bits_of x.globals) n (omega (arith, is.globals)))
+      sym (ap (λ g. option_map (λ (e : List ℕ × Bool). e.1) (slice_get g n)) stands.globals
+      ∙ named_past t.globals (bits_of x.globals) n (omega (arith, is.globals)))

@@ -61,7 +61,9 @@ range_by s good_threads numbers bits =
 
 module _ (t : Program) (s : SetupOf) (none : setup_fault t s ≡ None) where
   -- no fault of the four, the first first
-  rest : (entries_fault t 0 s.entries ≡ None) × (first_of (fault_if (not (length s.init == length t.globals)) InitLength ∷ fault_if (is_out_of_range s) OutOfRange ∷ []) ≡ None)
+  rest : (entries_fault t 0 s.entries ≡ None)
+      × (first_of (fault_if (not (length s.init == length t.globals)) InitLength ∷ fault_if (is_out_of_range s) OutOfRange ∷ [])
+      ≡ None)
   rest = neither (entries_fault t 0 s.entries) _ (neither (fault_if (has_bad_threads s) Threads) _ none).1
 
   bits : not (length s.init == length t.globals) ≡ false

@@ -27,7 +27,8 @@ as_long t (a ∷ acts) [] shown = absurd shown
 as_long t (a ∷ acts) (f ∷ fs) shown = ap suc (as_long t acts fs shown.1)
 
 -- what is left of a stack after so many calls have returned is shown, too
-pub shown_below : (t : Program) (n : ℕ) (acts : List ActivationRecord) (frames : List Frame) → ShowsStack t (activations acts) frames → ShowsStack t (activations (drop n acts)) (drop n frames)
+pub shown_below : (t : Program) (n : ℕ) (acts : List ActivationRecord) (frames : List Frame)
+    → ShowsStack t (activations acts) frames → ShowsStack t (activations (drop n acts)) (drop n frames)
 shown_below t zero acts frames shown = shown
 shown_below t (suc n) [] [] shown = shown
 shown_below t (suc n) [] (f ∷ fs) shown = absurd shown
@@ -42,7 +43,8 @@ pub record TopShown (t : Program) (acts : List ActivationRecord) (frames : List 
   pub shows : ShowsFrame t (activation_of top) frame
   pub depth : length acts ≡ length (frame ∷ below)
 
-pub top_shown : (t : Program) (acts : List ActivationRecord) (frames : List Frame) (top : ActivationRecord) → ShowsStack t (activations acts) frames → Some top ≡ top_of acts → TopShown t acts frames top
+pub top_shown : (t : Program) (acts : List ActivationRecord) (frames : List Frame) (top : ActivationRecord)
+    → ShowsStack t (activations acts) frames → Some top ≡ top_of acts → TopShown t acts frames top
 top_shown t [] frames top shown is = cc
 top_shown t (a ∷ acts) [] top shown is = absurd shown
 top_shown t (a ∷ acts) (f ∷ fs) top shown is =
@@ -54,6 +56,7 @@ module _ (t : Program) (s : SetupOf) (x : State) (h : List Call) (stands : Stand
   pub no_stack : None ≡ slice_get x.threads i → stack_of (configuration_after t s h) i ≡ []
   no_stack none = there (slice_get_cases x.threads i).1
     where
-      there : ((y : GuestThreadOf) × (i < length x.threads) × (slice_get x.threads i ≡ Some y) × (get_or x.threads i y ≡ y)) ⊎ ((length x.threads ≤ i) × (slice_get x.threads i ≡ None)) → stack_of (configuration_after t s h) i ≡ []
+      there : ((y : GuestThreadOf) × (i < length x.threads) × (slice_get x.threads i ≡ Some y) × (get_or x.threads i y ≡ y))
+          ⊎ ((length x.threads ≤ i) × (slice_get x.threads i ≡ None)) → stack_of (configuration_after t s h) i ≡ []
       there (inl (y, inside, has, is)) = let a = has in let b = none in absurd cc
       there (inr (past, is)) = get_or_past (configuration_after t s h).stacks i [] (omega (arith, past, stands.thread_count, stands.stacks))

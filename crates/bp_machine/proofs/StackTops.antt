@@ -51,7 +51,15 @@ entered xs f c next n top e = elim (snoc xs) [ inl none ↦ absurd (nothing none
         let size : n - 2 ≡ length ys = omega (arith, e, ap length is, length-append ys (y ∷ [])) in
         let same : y ≡ c = let t = ap (λ zs. top_of (reverse zs)) is ∙ ap top_of (reverse_last ys y) in cc in
         let caller : ActivationRecord = record { number = next; locals = c.locals } in
-        rw (size, is, append_assoc ys (y ∷ []) (f ∷ []), set-append_seam ys y (f ∷ []) caller, reverse-append ys (caller ∷ f ∷ []), reverse_last ys y, same) refl
+        rw (
+          size,
+          is,
+          append_assoc ys (y ∷ []) (f ∷ []),
+          set-append_seam ys y (f ∷ []) caller,
+          reverse-append ys (caller ∷ f ∷ []),
+          reverse_last ys y,
+          same,
+        ) refl
 
 front_at : {X : Type 0} (xs ys : List X) (n : ℕ) → n < length xs → slice_get (xs ++ ys) n ≡ slice_get xs n
 front_at [] ys n inside = absurd (omega (arith, inside))
@@ -73,4 +81,8 @@ pub below_is : (n : ℕ) (xs : List ActivationRecord) → IsBelow n xs
 below_is zero xs inside =
     let size : length xs - 1 - 0 ≡ length xs - 1 = omega arith in
     rw size (top_is xs)
-below_is (suc n) xs inside = elim (snoc xs) [ inl none ↦ absurd (omega (arith, inside, ap length none)) | inr at ↦ one_more n xs at.0 at.1 (below_is n at.0) at.2 inside ]
+below_is (suc n) xs inside =
+    elim (snoc xs) [
+      | inl none ↦ absurd (omega (arith, inside, ap length none))
+      | inr at ↦ one_more n xs at.0 at.1 (below_is n at.0) at.2 inside
+    ]

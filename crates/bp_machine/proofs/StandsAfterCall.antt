@@ -38,7 +38,8 @@ set_other (z ∷ zs) zero (suc j) y n = refl
 set_other (z ∷ zs) (suc i) zero y n = refl
 set_other (z ∷ zs) (suc i) (suc j) y n = set_other zs i j y (λ e. n (ap suc e))
 
-module _ (t : Program) (s : SetupOf) (x : State) (h : List Call) (stands : StandsAfter t s x h) (i : ℕ) (guest : GuestThreadOf) (has : slice_get x.threads i ≡ Some guest) where
+module _ (t : Program) (s : SetupOf) (x : State) (h : List Call) (stands : StandsAfter t s x h) (i : ℕ)
+    (guest : GuestThreadOf) (has : slice_get x.threads i ≡ Some guest) where
   -- what one more call with this reply leaves
   pub record Leaves (call : Call) (guest_after : GuestThreadOf) (y : State) (d : Configuration) : Type 0 where
     pub thread : call.thread ≡ i
@@ -55,7 +56,8 @@ module _ (t : Program) (s : SetupOf) (x : State) (h : List Call) (stands : Stand
     pub others : (j : ℕ) → j ≢ i → stack_of d j ≡ stack_of (configuration_after t s h) j
     pub contexts : IsCountOf y.contexts (granted_threads (h ++ call ∷ []))
 
-  own_guest : (call : Call) (guest_after : GuestThreadOf) (y : State) (d : Configuration) → Leaves call guest_after y d → (l : GuestThreadOf) → guest_after ≡ l → ShowsThread t d (h ++ call ∷ []) i l
+  own_guest : (call : Call) (guest_after : GuestThreadOf) (y : State) (d : Configuration) → Leaves call guest_after y d
+      → (l : GuestThreadOf) → guest_after ≡ l → ShowsThread t d (h ++ call ∷ []) i l
   own_guest call guest_after y d e l is =
       let was = stands.thread i guest has in
       let more = calls_of_thread-same h call i e.thread in
@@ -65,7 +67,9 @@ module _ (t : Program) (s : SetupOf) (x : State) (h : List Call) (stands : Stand
         ended = e.ended ∙ sym (ap ends_with_last more ∙ ends_with_last-append (calls_of_thread i h) call);
       })
 
-  other_guest : (call : Call) (guest_after : GuestThreadOf) (y : State) (d : Configuration) → Leaves call guest_after y d → (j : ℕ) → j ≢ i → (l : GuestThreadOf) → slice_get x.threads j ≡ Some l → ShowsThread t d (h ++ call ∷ []) j l
+  other_guest : (call : Call) (guest_after : GuestThreadOf) (y : State) (d : Configuration)
+      → Leaves call guest_after y d → (j : ℕ) → j ≢ i → (l : GuestThreadOf) → slice_get x.threads j ≡ Some l
+      → ShowsThread t d (h ++ call ∷ []) j l
   other_guest call guest_after y d e j n l is =
       let was = stands.thread j l is in
       let same = calls_of_thread-other h call j (λ at. n (sym at ∙ e.thread)) in
@@ -97,4 +101,8 @@ module _ (t : Program) (s : SetupOf) (x : State) (h : List Call) (stands : Stand
 
       each : (j : ℕ) (l : GuestThreadOf) → slice_get (slice_set x.threads i guest_after) j ≡ Some l → ShowsThread t d (h ++ call ∷ []) j l
       each j l at =
-          elim (same_or_not j i) [ inl same ↦ here j l same at | inr other ↦ other_guest call guest_after y d e j other l (sym (set_other x.threads i j guest_after other) ∙ at) ]
+          elim (same_or_not j i) [
+            | inl same ↦ here j l same at
+            | inr other ↦
+                other_guest call guest_after y d e j other l (sym (set_other x.threads i j guest_after other) ∙ at)
+          ]

@@ -34,7 +34,8 @@ use Rattle.bp_code.specs.declared.effects.Effect.TheVariants.{Continues, Enters,
 use Rattle.bp_code.specs.declared.effects.Effect.TheVariants as instr
 
 module _ (c : Flat) (t : Program) (alike : StepsAlike c t) (s : SetupOf) (x : State) (h : List Call) (stands : StandsAfter t s x h)
-    (i : ℕ) (guest : GuestThreadOf) (has : slice_get x.threads i ≡ Some guest) (within : i < threads s) (unfinished : is_finished s h i ≡ false) (bit : Bool) where
+    (i : ℕ) (guest : GuestThreadOf) (has : slice_get x.threads i ≡ Some guest) (within : i < threads s)
+    (unfinished : is_finished s h i ≡ false) (bit : Bool) where
   abbrev call_of : Reply → Call
   call_of r = record { thread = i; bit = bit; reply = r }
 
@@ -50,7 +51,8 @@ module _ (c : Flat) (t : Program) (alike : StepsAlike c t) (s : SetupOf) (x : St
   module _ (v : Transition) (is : IsTransition c.instructions x s.contexts i guest bit v) where
     answer : IsAnswer t now.globals (is_failure x.outcome) (stack_of now i) fits bit x.globals guest.stack v
     answer =
-        answer_of c t alike bit x.globals now.globals stands.globals (is_failure x.outcome) guest.stack (stack_of now i) fits v (stands.thread i guest has).stack is
+        answer_of c t alike bit x.globals now.globals stands.globals (is_failure x.outcome) guest.stack
+        (stack_of now i) fits v (stands.thread i guest has).stack is
 
     pub allowed : IsAllowed t s h (call_of (reply_of_transition v))
     allowed = record {
@@ -103,7 +105,9 @@ module _ (c : Flat) (t : Program) (alike : StepsAlike c t) (s : SetupOf) (x : St
   stays r is =
       let a = answer (Stays r) is in
       let none : is_granted r ≡ false = a.comes in
-      let same_after = configuration_after-append t s h (call_of r) ∙ ap (λ b. cond b (unwrap_or (configuration_after_step t now i bit (stack_of now i)) now) now) none in
+      let same_after =
+      configuration_after-append t s h (call_of r)
+      ∙ ap (λ b. cond b (unwrap_or (configuration_after_step t now i bit (stack_of now i)) now) now) none in
       let same_granted = granted_threads-append h (call_of r) ∙ ap (λ b. granted_threads h ++ cond b (i ∷ []) []) none ∙ append-nil (granted_threads h) in
       advance t s x h stands i guest has (call_of r) (thread_after guest (Stays r)) (state_after x i guest (Stays r)) now
       (record {
@@ -145,7 +149,8 @@ module _ (c : Flat) (t : Program) (alike : StepsAlike c t) (s : SetupOf) (x : St
         contexts = subst (λ g. IsCountOf (count_with x.contexts i) g) (sym (granted_threads-append h (call_of Failed))) one_more;
       })
 
-  takes : (d : Effect) → IsTransition c.instructions x s.contexts i guest bit (Steps d) → StandsAfter t s (state_after x i guest (Steps d)) (h ++ call_of Stepped ∷ [])
+  takes : (d : Effect) → IsTransition c.instructions x s.contexts i guest bit (Steps d)
+      → StandsAfter t s (state_after x i guest (Steps d)) (h ++ call_of Stepped ∷ [])
   takes d is =
       let a = answer (Steps d) is in
       let (going, f, fs, stack_is, reply_to_effect) = a.comes in
@@ -170,7 +175,8 @@ module _ (c : Flat) (t : Program) (alike : StepsAlike c t) (s : SetupOf) (x : St
         contexts = subst (λ g. IsCountOf (count_with x.contexts i) g) (sym (granted_threads-append h (call_of Stepped))) one_more;
       })
 
-  pub stands_after : (v : Transition) → IsTransition c.instructions x s.contexts i guest bit v → StandsAfter t s (state_after x i guest v) (h ++ record { thread = i; bit = bit; reply = reply_of_transition v } ∷ [])
+  pub stands_after : (v : Transition) → IsTransition c.instructions x s.contexts i guest bit v
+      → StandsAfter t s (state_after x i guest v) (h ++ record { thread = i; bit = bit; reply = reply_of_transition v } ∷ [])
   stands_after (Stays r) is = stays r is
   stands_after Fails is = fails is
   stands_after (Steps d) is = takes d is

@@ -57,16 +57,19 @@ module _ (c : Flat) (t : Program) (s : SetupOf) (is : StandsFor c t) where
   entry_here [] k i e none found = absurd cc
   entry_here (d ∷ es) k zero e none found =
       let same : d ≡ e = cc in
-      subst (λ n. (p : Procedure) × (procedure_named t.procedures n ≡ Some p)) same (entry_fine k (procedure_named t.procedures d) (entries_fault t (k + 1) es) none)
+      subst (λ n. (p : Procedure) × (procedure_named t.procedures n ≡ Some p)) same
+      (entry_fine k (procedure_named t.procedures d) (entries_fault t (k + 1) es) none)
   entry_here (d ∷ es) k (suc i) e none found =
       entry_here es (k + 1) i e (others_fine (entry_fault k (procedure_named t.procedures d)) (entries_fault t (k + 1) es) none) found
 
   -- the first thread at a procedure shows its first stack
   at_heading : (e : List ℕ) (p : Procedure) (o : Option Heading) → heading_named c.headings e ≡ o → procedure_named t.procedures e ≡ Some p
-      → SameHeading (places_of t.procedures) o (procedure_named t.procedures e) → ShowsStack t (activations (first_thread c e).stack) (first_stack (procedure_named t.procedures e))
+      → SameHeading (places_of t.procedures) o (procedure_named t.procedures e)
+      → ShowsStack t (activations (first_thread c e).stack) (first_stack (procedure_named t.procedures e))
   at_heading e p None found is_named none = absurd cc
   at_heading e p (Some h) found is_named (q, named_is, headed) =
-      let number : unwrap_or (option_map (λ (k : Heading). k.entry) (heading_named c.headings e)) 0 ≡ h.entry = ap (λ o. unwrap_or (option_map (λ (k : Heading). k.entry) o) 0) found in
+      let number : unwrap_or (option_map (λ (k : Heading). k.entry) (heading_named c.headings e)) 0 ≡ h.entry =
+      ap (λ o. unwrap_or (option_map (λ (k : Heading). k.entry) o) 0) found in
       rw (named_is, number) (
         record {
           left = headed.entry;
@@ -79,13 +82,17 @@ module _ (c : Flat) (t : Program) (s : SetupOf) (is : StandsFor c t) where
       → ShowsStack t (activations (first_thread c e).stack) (first_stack (procedure_named t.procedures e))
   shown e p is_named = at_heading e p (heading_named c.headings e) refl is_named (heading_of_procedure c t e is)
 
-  guest_here : (x : State) → Fits t s → x.threads ≡ map (first_thread c) s.entries → (i : ℕ) (l : GuestThreadOf) → slice_get x.threads i ≡ Some l → ShowsThread t (start t s) [] i l
+  guest_here : (x : State) → Fits t s → x.threads ≡ map (first_thread c) s.entries → (i : ℕ) (l : GuestThreadOf)
+      → slice_get x.threads i ≡ Some l → ShowsThread t (start t s) [] i l
   guest_here x fits threads i l at =
       let found = sym (slice_get-map (first_thread c) s.entries i) ∙ sym (ap (λ ls. slice_get ls i) threads) ∙ at in
       let (e, has, line_is) = of_map (first_thread c) (slice_get s.entries i) l found in
       let (p, is_named) = entry_here s.entries 0 i e fits.entries has in
-      let stack = slice_get-map (λ n. first_stack (procedure_named t.procedures n)) s.entries i ∙ ap (option_map (λ n. first_stack (procedure_named t.procedures n))) has in
-      let stack_is = get_or_from_slice_get (map (λ n. first_stack (procedure_named t.procedures n)) s.entries) i (first_stack (procedure_named t.procedures e)) [] stack in
+      let stack =
+      slice_get-map (λ n. first_stack (procedure_named t.procedures n)) s.entries i
+      ∙ ap (option_map (λ n. first_stack (procedure_named t.procedures n))) has in
+      let stack_is = get_or_from_slice_get (map (λ n. first_stack (procedure_named t.procedures n)) s.entries) i
+      (first_stack (procedure_named t.procedures e)) [] stack in
       subst (λ m. ShowsThread t (start t s) [] i m) line_is
       (record {
         stack = subst (λ fs. ShowsStack t (activations (first_thread c e).stack) fs) (sym stack_is) (shown e p is_named);
@@ -93,7 +100,8 @@ module _ (c : Flat) (t : Program) (s : SetupOf) (is : StandsFor c t) where
         ended = refl;
       })
 
-  pub starts : (x : State) → Fits t s → bits_of x.globals ≡ bits_from s.init → x.threads ≡ map (first_thread c) s.entries → x.contexts ≡ record { used = 0; last = None } → x.outcome ≡ Clean
+  pub starts : (x : State) → Fits t s → bits_of x.globals ≡ bits_from s.init
+      → x.threads ≡ map (first_thread c) s.entries → x.contexts ≡ record { used = 0; last = None } → x.outcome ≡ Clean
       → StandsAfter t s x []
   starts x fits word threads contexts clean = record {
     legal = tt;

@@ -33,12 +33,15 @@ abbrev pub Tells : Program → StatementEffect → ℕ → List ActivationRecord
 Tells t e gw stack (Stays r) = is_granted r ≡ false
 Tells t e gw stack Fails = e ≡ moves.Fails
 Tells t e gw stack (Steps d) =
-    (g : Valuation) × (s : List Frame) × (e ≡ Leaves g s) × (g ≡ valuation_of t.globals (bits_of (globals_after gw (Steps d)))) × ShowsStack t (activations (stack_after d stack)) s
+    (g : Valuation) × (s : List Frame) × (e ≡ Leaves g s)
+    × (g ≡ valuation_of t.globals (bits_of (globals_after gw (Steps d))))
+    × ShowsStack t (activations (stack_after d stack)) s
 
 not_full : (b full : Bool) (a c : Option Reply) → b ≡ false → cond (b && full) a c ≡ c
 not_full b full a c e = ap (λ d. cond (d && full) a c) e
 
-module _ (t : Program) (g : Valuation) (f : Frame) (fs : List Frame) (bit : Bool) (gw : ℕ) (top : ActivationRecord) (rest : List ActivationRecord) (shows : ShowsStack t (activations rest) fs) where
+module _ (t : Program) (g : Valuation) (f : Frame) (fs : List Frame) (bit : Bool) (gw : ℕ) (top : ActivationRecord)
+    (rest : List ActivationRecord) (shows : ShowsStack t (activations rest) fs) where
   pub record Answered (full : Bool) (v : Transition) : Type 0 where
     pub reply : cond (is_call f.left && full) (Some Full) (reply_to_effect (effect t.procedures f.left g f fs bit)) ≡ Some (reply_of_transition v)
     pub tells : Tells t (effect t.procedures f.left g f fs bit) gw (top ∷ rest) v
@@ -73,7 +76,12 @@ module _ (t : Program) (g : Valuation) (f : Frame) (fs : List Frame) (bit : Bool
       let (h, s, is, worth, shown) = same_leaves t (bits_of gw) stack (effect t.procedures f.left g f fs bit) same in
       let size = shown_length t stack s shown in
       let call = is_a_call t.procedures g f fs bit f.left h s is (omega (arith, size, below_length)) in
-      record { reply = ap (λ b. cond (b && false) (Some Full) (reply_to_effect (effect t.procedures f.left g f fs bit))) call ∙ ap reply_to_effect is; tells = (h, s, is, worth, shown) }
+      record {
+        reply =
+            ap (λ b. cond (b && false) (Some Full) (reply_to_effect (effect t.procedures f.left g f fs bit))) call
+            ∙ ap reply_to_effect is;
+        tells = (h, s, is, worth, shown);
+      }
   by_effect instr.Fails full same =
       let is = same_fails t (effect t.procedures f.left g f fs bit) same in
       record { reply = not_full _ full _ _ (fails_no_call t.procedures g f fs bit f.left is) ∙ ap reply_to_effect is; tells = is }
@@ -89,18 +97,23 @@ Comes t g failed S bit gw stack (Stays r) = is_granted r ≡ false
 Comes t g failed S bit gw stack v =
     (failed ≡ false) × (f : Frame) × (fs : List Frame) × (S ≡ f ∷ fs) × Tells t (effect t.procedures f.left g f fs bit) gw stack v
 
-pub record IsAnswer (t : Program) (g : Valuation) (failed : Bool) (S : List Frame) (fits bit : Bool) (gw : ℕ) (stack : List ActivationRecord) (v : Transition) : Type 0 where
+pub record IsAnswer (t : Program) (g : Valuation) (failed : Bool) (S : List Frame) (fits bit : Bool) (gw : ℕ)
+    (stack : List ActivationRecord) (v : Transition) : Type 0 where
   pub reply : cond failed (Some Stopped) (reply_on_stack t fits g S bit) ≡ Some (reply_of_transition v)
   pub comes : Comes t g failed S bit gw stack v
 
 module _ (c : Flat) (t : Program) (alike : StepsAlike c t) (bit : Bool) (gw : ℕ) (g : Valuation) (worth : g ≡ valuation_of t.globals (bits_of gw)) where
-  comes_of : (f : Frame) (fs : List Frame) (stack : List ActivationRecord) (v : Transition) → Tells t (effect t.procedures f.left g f fs bit) gw stack v → Comes t g false (f ∷ fs) bit gw stack v
+  comes_of : (f : Frame) (fs : List Frame) (stack : List ActivationRecord) (v : Transition)
+      → Tells t (effect t.procedures f.left g f fs bit) gw stack v → Comes t g false (f ∷ fs) bit gw stack v
   comes_of f fs stack (Stays r) tells = tells
   comes_of f fs stack Fails tells = (refl, f, fs, refl, tells)
   comes_of f fs stack (Steps d) tells = (refl, f, fs, refl, tells)
 
-  at_instruction : (a : ActivationRecord) (rest : List ActivationRecord) (f : Frame) (fs : List Frame) (v : Transition) → ShowsStack t (activations (a ∷ rest)) (f ∷ fs)
-      → (o : Option Instruction) → SameEffect t (effect_at o (store_of (record { globals = gw; locals = a.locals })) (activations rest) bit) (effect t.procedures f.left g f fs bit)
+  at_instruction : (a : ActivationRecord) (rest : List ActivationRecord) (f : Frame) (fs : List Frame) (v : Transition)
+      → ShowsStack t (activations (a ∷ rest)) (f ∷ fs)
+      → (o : Option Instruction)
+      → SameEffect t (effect_at o (store_of (record { globals = gw; locals = a.locals })) (activations rest) bit)
+      (effect t.procedures f.left g f fs bit)
       → IsTransitionAt c.instructions gw bit o a (nat_le MAX_FRAMES (length (a ∷ rest))) v → IsAnswer t g false (f ∷ fs) true bit gw (a ∷ rest) v
   at_instruction a rest f fs v shows None same is = absurd (same_lost t (effect t.procedures f.left g f fs bit) same)
   at_instruction a rest f fs v shows (Some i) same (d, effect_is, is) =
@@ -111,11 +124,14 @@ module _ (c : Flat) (t : Program) (alike : StepsAlike c t) (bit : Bool) (gw : �
       let done = by_effect t g f fs bit gw a rest shows.1 d full told_is in
       subst (λ w. IsAnswer t g false (f ∷ fs) true bit gw (a ∷ rest) w) (sym is)
       (record {
-        reply = ap (λ n. cond (is_call f.left && nat_le MAX_FRAMES n) (Some Full) (reply_to_effect (effect t.procedures f.left g f fs bit))) (sym sizes) ∙ done.reply;
+        reply =
+            ap (λ n. cond (is_call f.left && nat_le MAX_FRAMES n) (Some Full)
+            (reply_to_effect (effect t.procedures f.left g f fs bit))) (sym sizes) ∙ done.reply;
         comes = comes_of f fs (a ∷ rest) (transition_of d full) done.tells;
       })
 
-  pub on_stack : (stack : List ActivationRecord) (S : List Frame) (fits : Bool) (v : Transition) → ShowsStack t (activations stack) S → IsTransitionOn c.instructions gw bit fits stack v
+  pub on_stack : (stack : List ActivationRecord) (S : List Frame) (fits : Bool) (v : Transition)
+      → ShowsStack t (activations stack) S → IsTransitionOn c.instructions gw bit fits stack v
       → IsAnswer t g false S fits bit gw stack v
   on_stack [] [] fits v shows is = subst (λ w. IsAnswer t g false [] fits bit gw [] w) (sym is) (record { reply = refl; comes = refl })
   on_stack [] (f ∷ fs) fits v shows is = absurd shows
@@ -124,7 +140,9 @@ module _ (c : Flat) (t : Program) (alike : StepsAlike c t) (bit : Bool) (gw : �
       subst (λ w. IsAnswer t g false (f ∷ fs) false bit gw (a ∷ rest) w) (sym is) (record { reply = refl; comes = refl })
   on_stack (a ∷ rest) (f ∷ fs) true v shows is =
       let moved = alike (bits_of gw) (activation_of a) (activations rest) f fs bit shows.0 shows.1 in
-      let done : SameEffect t (effect_at (slice_get c.instructions a.number) (store_of (record { globals = gw; locals = a.locals })) (activations rest) bit) (effect t.procedures f.left g f fs bit) =
+      let done : SameEffect t (effect_at (slice_get c.instructions a.number)
+      (store_of (record { globals = gw; locals = a.locals })) (activations rest) bit)
+      (effect t.procedures f.left g f fs bit) =
       rw worth moved in
       at_instruction a rest f fs v shows (slice_get c.instructions a.number) done is
 

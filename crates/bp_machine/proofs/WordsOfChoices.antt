@@ -17,7 +17,9 @@ at_next_word seed thread n x stands last word g drawn =
     record {
       word = ap (λ p. p.0) (drawn ∙ from) ∙ ap (choice_word seed thread) later;
       place = omega arith;
-      generator = ap (λ p. p.1) (drawn ∙ from) ∙ sym (word_after seed thread (n / 32 + 1)) ∙ ap (generator_after seed thread) (sym (add-one (n / 32 + 1)) ∙ ap (λ k. k + 1) later);
+      generator =
+          ap (λ p. p.1) (drawn ∙ from) ∙ sym (word_after seed thread (n / 32 + 1))
+          ∙ ap (generator_after seed thread) (sym (add-one (n / 32 + 1)) ∙ ap (λ k. k + 1) later);
     }
 
 start_is : (seed thread : ℕ) → generator_after seed thread 0 ≡ started 64 multiplier_64 seed (increment_of 64 (54 + thread))

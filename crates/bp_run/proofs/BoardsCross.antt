@@ -17,8 +17,10 @@ module _ (C O : RattleType) (calls : Calls.Ghosts C.Denot) (made : Ledger.Ghosts
   desk_send =
       view_send _ _ _ _ _
       (recorded_send _ _ _ (Inside.the_type C O calls made lines).to_one
-      (struct_send (structs.shape (Inside.the_type C O calls made lines))
-      (search (sendable, crosses, session_send) depth 5, (search (sendable, crosses, End.the_send) depth 40, (Book.the_send C made, (Book.the_send O lines, tt))))))
+      (struct_send (structs.shape (Inside.the_type C O calls made lines)) (
+        search (sendable, crosses, session_send) depth 5,
+        (search (sendable, crosses, End.the_send) depth 40, (Book.the_send C made, (Book.the_send O lines, tt))),
+      )))
 
   pub board_sync : IsSync (Board.the_row C O calls made lines)
   board_sync = search (sendable, crosses, desk_send) depth 40

@@ -22,9 +22,11 @@ inks_more old now false text i first before b = all_then first old now before te
 inks_more old now true text i first before b = part_then first old now before text b i
 
 -- so does a call of a pen that had not failed, which notes whether the write fails
-pub inks_written : {T E : Type 0} (old now : Option (List ℕ)) (had failed : Bool) (text : List ℕ) (r : Result T E) → had ≡ false → failed ≡ is_err r → Writes old now text r → Inks old had now failed text
+pub inks_written : {T E : Type 0} (old now : Option (List ℕ)) (had failed : Bool) (text : List ℕ) (r : Result T E)
+    → had ≡ false → failed ≡ is_err r → Writes old now text r → Inks old had now failed text
 inks_written old now had failed text r fresh is w =
-    subst (λ b. Inks old b now failed text) (sym fresh) (inks_more old now failed text (subst (λ b. IsInked old now b text) (sym is) (inked_by old now text r w)))
+    subst (λ b. Inks old b now failed text) (sym fresh)
+    (inks_more old now failed text (subst (λ b. IsInked old now b text) (sym is) (inked_by old now text r w)))
 
 pub inks_none : (old : Option (List ℕ)) (had : Bool) → Inks old had old had []
 inks_none old had first before b = subst (λ w. IsInked first old had w) (sym (append-nil before)) b

@@ -23,11 +23,14 @@ use Rattle.bp_run.specs.Played.{IsPlayedFrom, IsEarly, IsCutTrace}
 use Rattle.bp_run.proofs.Inks.{inks_then}
 use Rattle.bp_run.proofs.Scribing.{lines_append}
 
-pub has_rest : (t : Program) (s : SetupOf) (taken : List Call) (seats : List SeatOf) (tap : TapOf) (r : Report) (b : Option ℕ) (a : Bool) → IsGathered t s taken seats tap r b a → is_some tap.rest ≡ true
+pub has_rest : (t : Program) (s : SetupOf) (taken : List Call) (seats : List SeatOf) (tap : TapOf) (r : Report)
+    (b : Option ℕ) (a : Bool) → IsGathered t s taken seats tap r b a → is_some tap.rest ≡ true
 has_rest t s taken seats tap r b a g = ap is_some g.rest
 
-module _ (t : Program) (s : SetupOf) (old c1 c2 c3 : Option (List ℕ)) (f1 f2 f3 : Bool) (taken : List Call) (rest_now : Option (List Call)) (seats : List SeatOf) (tap : TapOf) (r : Report) (early : Option ℕ) (agree : Bool)
-    (staged : IsInked old c1 f1 (head_text One s ++ lines_of taken)) (g : IsGathered t s taken seats tap r early agree) (rest : IsRestScribed c1 f1 c2 f2 tap.rest rest_now) (all : rest_now ≡ Some [])
+module _ (t : Program) (s : SetupOf) (old c1 c2 c3 : Option (List ℕ)) (f1 f2 f3 : Bool) (taken : List Call)
+    (rest_now : Option (List Call)) (seats : List SeatOf) (tap : TapOf) (r : Report) (early : Option ℕ) (agree : Bool)
+    (staged : IsInked old c1 f1 (head_text One s ++ lines_of taken)) (g : IsGathered t s taken seats tap r early agree)
+    (rest : IsRestScribed c1 f1 c2 f2 tap.rest rest_now) (all : rest_now ≡ Some [])
     (ended : Inks c2 f2 c3 f3 (end_line r.calls r.left_open)) where
   -- what was left is what was gathered to be left
   same : rest.more ≡ g.left
@@ -55,7 +58,9 @@ module _ (t : Program) (s : SetupOf) (old c1 c2 c3 : Option (List ℕ)) (f1 f2 f
 
   pub played : StepsAreARun → StepsAreWithin → FailuresAreReal → f3 ≡ false → early ≡ None → IsPlayedFrom t s old c3 seats agree r
   played run within real fine none =
-      let all_written : AppendsAll old c3 (trace_text s (taken ++ g.left)) = subst (λ b. IsInked old c3 b (trace_text s (taken ++ g.left))) fine inked in record {
+      let all_written : AppendsAll old c3 (trace_text s (taken ++ g.left)) =
+      subst (λ b. IsInked old c3 b (trace_text s (taken ++ g.left))) fine inked in
+      record {
         played = record {
           history = taken ++ g.left;
           written = all_written.grown;
@@ -75,7 +80,9 @@ module _ (t : Program) (s : SetupOf) (old c1 c2 c3 : Option (List ℕ)) (f1 f2 f
 
   pub stopped_early : (i : ℕ) → f3 ≡ false → early ≡ Some i → IsEarly t s old c3 i
   stopped_early i fine one =
-      let all_written : AppendsAll old c3 (trace_text s (taken ++ g.left)) = subst (λ b. IsInked old c3 b (trace_text s (taken ++ g.left))) fine inked in record {
+      let all_written : AppendsAll old c3 (trace_text s (taken ++ g.left)) =
+      subst (λ b. IsInked old c3 b (trace_text s (taken ++ g.left))) fine inked in
+      record {
         history = taken ++ g.left;
         legal = g.legal;
         seeded = g.seeded;
@@ -92,7 +99,8 @@ module _ (t : Program) (s : SetupOf) (old c1 c2 c3 : Option (List ℕ)) (f1 f2 f
   }
 
 -- The pen stopped before the end: the calls that were taken are written, or a part of their lines.
-module _ (t : Program) (s : SetupOf) (old now : Option (List ℕ)) (failed : Bool) (taken : List Call) (seats : List SeatOf) (tap : TapOf) (r : Report) (early : Option ℕ) (agree : Bool)
+module _ (t : Program) (s : SetupOf) (old now : Option (List ℕ)) (failed : Bool) (taken : List Call)
+    (seats : List SeatOf) (tap : TapOf) (r : Report) (early : Option ℕ) (agree : Bool)
     (staged : IsInked old now failed (head_text One s ++ lines_of taken)) (g : IsGathered t s taken seats tap r early agree) where
   begun : List ℕ
   begun = head_text One s ++ lines_of taken

@@ -18,9 +18,11 @@ lines_append cs ds = flat_map-append call_line cs ds
 lines_one : (c : Call) → call_line c ≡ lines_of (c ∷ [])
 lines_one c = sym (append-nil (call_line c))
 
-pub inks_line : (old mid now : Option (List ℕ)) (f g h : Bool) (cs : List Call) (c : Call) → Inks old f mid g (lines_of cs) → Inks mid g now h (call_line c) → Inks old f now h (lines_of (cs ++ c ∷ []))
+pub inks_line : (old mid now : Option (List ℕ)) (f g h : Bool) (cs : List Call) (c : Call)
+    → Inks old f mid g (lines_of cs) → Inks mid g now h (call_line c) → Inks old f now h (lines_of (cs ++ c ∷ []))
 inks_line old mid now f g h cs c a b =
-    subst (λ w. Inks old f now h w) (ap (λ w. lines_of cs ++ w) (lines_one c) ∙ sym (lines_append cs (c ∷ []))) (inks_then old mid now f g h (lines_of cs) (call_line c) a b)
+    subst (λ w. Inks old f now h w) (ap (λ w. lines_of cs ++ w) (lines_one c) ∙ sym (lines_append cs (c ∷ [])))
+    (inks_then old mid now f g h (lines_of cs) (call_line c) a b)
 
 pub scribed_none : (old : Option (List ℕ)) (had : Bool) (taken : List Call) → IsScribed old had old had taken taken
 scribed_none old had taken = record { more = []; grown = sym (append-nil taken); inks = inks_none old had }
@@ -56,9 +58,12 @@ pub staged_all : (s : SetupOf) (old c1 c2 : Option (List ℕ)) (had f1 f2 all : 
 staged_all s old c1 c2 had f1 f2 all taken taken_now h t a head x =
     let fresh : IsInked old old had [] = subst (λ b. IsInked old old b []) (sym h) (not_begun old) in
     let whole : taken_now ≡ x.more = x.grown ∙ ap (λ y. y ++ x.more) t in
-    let i : IsInked old c2 f2 (head_text One s ++ lines_of taken_now) = subst (λ y. IsInked old c2 f2 (head_text One s ++ lines_of y)) (sym whole) (x.inks old (head_text One s) (head old [] fresh)) in
+    let i : IsInked old c2 f2 (head_text One s ++ lines_of taken_now) =
+    subst (λ y. IsInked old c2 f2 (head_text One s ++ lines_of y)) (sym whole)
+    (x.inks old (head_text One s) (head old [] fresh)) in
     subst (λ b. IsStaged s old c2 f2 taken_now b) (sym a) i
 
 -- nothing, where not all were started
-pub staged_none : (s : SetupOf) (old now : Option (List ℕ)) (failed all : Bool) (taken : List Call) → all ≡ false → now ≡ old → IsStaged s old now failed taken all
+pub staged_none : (s : SetupOf) (old now : Option (List ℕ)) (failed all : Bool) (taken : List Call) → all ≡ false
+    → now ≡ old → IsStaged s old now failed taken all
 staged_none s old now failed all taken a same = subst (λ b. IsStaged s old now failed taken b) (sym a) same

@@ -44,7 +44,8 @@ without_scene ps n is scenes added whole past all =
 -- the object of the instruction with number n comes next
 pub next_object : (ps : List Procedure) (k n : ℕ) (is : List Instruction) (scenes : List Scene) (i : Instruction) (scene : Scene)
     → slice_get is n ≡ Some i → n < length scenes → scene ≡ get_or scenes n scene
-    → instruction_objects ps k (drop n is) (drop n scenes) ≡ instruction_object ps k i scene ++ instruction_objects ps (suc k) (drop (suc n) is) (drop (suc n) scenes)
+    → instruction_objects ps k (drop n is) (drop n scenes)
+    ≡ instruction_object ps k i scene ++ instruction_objects ps (suc k) (drop (suc n) is) (drop (suc n) scenes)
 next_object ps k n [] scenes i scene at within own = absurd (false≢true (ap is_some at))
 next_object ps k n (j ∷ is) [] i scene at within own = absurd (omega arith)
 next_object ps k zero (j ∷ is) (s ∷ scenes) i scene at within own =

@@ -59,7 +59,8 @@ module _ (items : List Stmt) (i : ℕ) (s : Stmt) (h : i < length items) (e : s 
       → old ++ block_decisions (block_of (drop i items)) ≡ all → new ++ block_decisions (block_of (drop (i + 1) items)) ≡ all
   statement_more old mid new all first second before =
       let split = rw (drop_item items i s h e) at before in
-      three_parts old mid new (decision_in (statement_of s.form) ∷ []) (inner_decisions (statement_of s.form)) (block_decisions (block_of (drop (i + 1) items))) all first second split
+      three_parts old mid new (decision_in (statement_of s.form) ∷ []) (inner_decisions (statement_of s.form))
+      (block_decisions (block_of (drop (i + 1) items))) all first second split
 
   -- it is less deep than all of them
   pub depth_inside : statement_depth (statement_of s.form) ≤ depth (block_of items)

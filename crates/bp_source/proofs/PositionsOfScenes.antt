@@ -6,8 +6,11 @@ use Rattle.bp_source.specs.declared.scenes.Scene.{Scene}
 use Rattle.bp_source.specs.Scenes.{AreScenesAt}
 use Rattle.bp_source.specs.StatementLines.{position_of}
 
-pub positions_are : (text : List ℕ) (ps : List Procedure) (xs : List Place) (scenes : List Scene) → AreScenesAt text ps xs scenes → map (λ s. s.position) scenes ≡ map (position_of text) xs
+pub positions_are : (text : List ℕ) (ps : List Procedure) (xs : List Place) (scenes : List Scene)
+    → AreScenesAt text ps xs scenes → map (λ s. s.position) scenes ≡ map (position_of text) xs
 positions_are text ps [] [] are = refl
 positions_are text ps [] (s ∷ ss) are = absurd are
 positions_are text ps (x ∷ xs) [] are = absurd are
-positions_are text ps (x ∷ xs) (s ∷ ss) are = ap (λ p. p ∷ map (λ y. y.position) ss) are.0.position ∙ ap (λ ys. position_of text x ∷ ys) (positions_are text ps xs ss are.1)
+positions_are text ps (x ∷ xs) (s ∷ ss) are =
+    ap (λ p. p ∷ map (λ y. y.position) ss) are.0.position
+    ∙ ap (λ ys. position_of text x ∷ ys) (positions_are text ps xs ss are.1)

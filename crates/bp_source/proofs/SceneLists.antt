@@ -61,7 +61,8 @@ module _ (text : List ℕ) (ps : List Procedure) where
     pub at : slice_get xs n ≡ Some place
     pub is : IsScene text ps place scene
 
-  pub place_of : (xs : List Place) (scenes : List Scene) (n : ℕ) (scene : Scene) → AreScenesAt text ps xs scenes → slice_get scenes n ≡ Some scene → PlaceOf xs n scene
+  pub place_of : (xs : List Place) (scenes : List Scene) (n : ℕ) (scene : Scene) → AreScenesAt text ps xs scenes
+      → slice_get scenes n ≡ Some scene → PlaceOf xs n scene
   place_of [] [] n scene are has = absurd (false≢true (ap is_some has))
   place_of [] (s ∷ scenes) n scene are has = elim are [ ]
   place_of (y ∷ xs) [] n scene are has = elim are [ ]

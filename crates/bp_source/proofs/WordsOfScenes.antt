@@ -9,7 +9,8 @@ abbrev pub words_items : List Scene → List (List ℕ)
 words_items scenes = map (λ s. s.excerpt.words.items) scenes
 
 -- the words of the scenes are those of the statements
-pub words_are : (text : List ℕ) (ps : List Procedure) (xs : List Place) (scenes : List Scene) → AreScenesAt text ps xs scenes → AreStatements text xs (words_items scenes)
+pub words_are : (text : List ℕ) (ps : List Procedure) (xs : List Place) (scenes : List Scene)
+    → AreScenesAt text ps xs scenes → AreStatements text xs (words_items scenes)
 words_are text ps [] [] are = tt
 words_are text ps [] (x ∷ scenes) are = elim are [ ]
 words_are text ps (s ∷ xs) [] are = elim are [ ]

@@ -22,7 +22,8 @@ module _ (test : ℕ → Bool) (b : ℕ) (bs : List ℕ) where
   fits_by true h e = ap (λ y. y && list_all test (take (run test bs) bs)) h ∙ e
   fits_by false h e = refl
 
-  stops_by : (y : Bool) (m : ℕ) → test b ≡ y → cond y (suc (run test bs)) 0 < suc m → (run test bs < m → list_all test (take m bs) ≢ true) → list_all test (take (suc m) (b ∷ bs)) ≢ true
+  stops_by : (y : Bool) (m : ℕ) → test b ≡ y → cond y (suc (run test bs)) 0 < suc m
+      → (run test bs < m → list_all test (take m bs) ≢ true) → list_all test (take (suc m) (b ∷ bs)) ≢ true
   stops_by true m h lt rest e = rest (omega arith) (both_right _ _ e)
   stops_by false m h lt rest e = false≢true (sym h ∙ both_left _ _ e)
 
@@ -66,21 +67,30 @@ closes_end b [] i e = (refl, eqb-true b 125 e)
 closes_end b (c ∷ s) i e = absurd (false≢true (sym i ∙ both_left _ _ e))
 
 module _ (b : ℕ) (bs : List ℕ) where
-  at_by : (y : Bool) → is_braced_byte b ≡ y → (slice_get bs (inside bs) ≡ Some 125 → is_braced_rest (take (suc (inside bs)) bs) ≡ true) → slice_get (b ∷ bs) (cond y (suc (inside bs)) 0) ≡ Some 125 → is_braced_rest (take (suc (cond y (suc (inside bs)) 0)) (b ∷ bs)) ≡ true
+  at_by : (y : Bool) → is_braced_byte b ≡ y
+      → (slice_get bs (inside bs) ≡ Some 125 → is_braced_rest (take (suc (inside bs)) bs) ≡ true)
+      → slice_get (b ∷ bs) (cond y (suc (inside bs)) 0) ≡ Some 125
+      → is_braced_rest (take (suc (cond y (suc (inside bs)) 0)) (b ∷ bs)) ≡ true
   at_by true i rest e = closes_more b (take (suc (inside bs)) bs) i (rest e)
   at_by false i rest e = let h : b ≡ 125 = cc in ap (λ x. x == 125) h
 
-  only_by : (y : Bool) (m : ℕ) → is_braced_byte b ≡ y → (is_braced_rest (take m bs) ≡ true → slice_get bs (inside bs) ≡ Some 125) → is_braced_rest (b ∷ take m bs) ≡ true → slice_get (b ∷ bs) (cond y (suc (inside bs)) 0) ≡ Some 125
+  only_by : (y : Bool) (m : ℕ) → is_braced_byte b ≡ y
+      → (is_braced_rest (take m bs) ≡ true → slice_get bs (inside bs) ≡ Some 125)
+      → is_braced_rest (b ∷ take m bs) ≡ true → slice_get (b ∷ bs) (cond y (suc (inside bs)) 0) ≡ Some 125
   only_by true m i rest e = rest (closes_rest b (take m bs) i e)
   only_by false m i rest e = ap (λ x. Some x) (closes_end b (take m bs) i e).1
 
-  longer_by : (y : Bool) (m : ℕ) → is_braced_byte b ≡ y → suc (cond y (suc (inside bs)) 0) < suc m → m ≤ length bs → (suc (inside bs) < m → is_braced_rest (take m bs) ≢ true) → is_braced_rest (b ∷ take m bs) ≢ true
+  longer_by : (y : Bool) (m : ℕ) → is_braced_byte b ≡ y → suc (cond y (suc (inside bs)) 0) < suc m → m ≤ length bs
+      → (suc (inside bs) < m → is_braced_rest (take m bs) ≢ true) → is_braced_rest (b ∷ take m bs) ≢ true
   longer_by true m i lt le rest e = rest (omega arith) (closes_rest b (take m bs) i e)
   longer_by false m i lt le rest e =
       let none = ap length (closes_end b (take m bs) i e).0 in
       omega (arith, none, length-take m bs)
 
-  later_by : (y : Bool) (k : ℕ) → is_braced_byte b ≡ y → suc k ≤ cond y (suc (inside bs)) 0 → slice_get (b ∷ bs) (cond y (suc (inside bs)) 0) ≢ Some 125 → (k ≤ inside bs → slice_get bs (inside bs) ≢ Some 125 → slice_get (drop k bs) (inside (drop k bs)) ≢ Some 125) → slice_get (drop k bs) (inside (drop k bs)) ≢ Some 125
+  later_by : (y : Bool) (k : ℕ) → is_braced_byte b ≡ y → suc k ≤ cond y (suc (inside bs)) 0
+      → slice_get (b ∷ bs) (cond y (suc (inside bs)) 0) ≢ Some 125
+      → (k ≤ inside bs → slice_get bs (inside bs) ≢ Some 125 → slice_get (drop k bs) (inside (drop k bs)) ≢ Some 125)
+      → slice_get (drop k bs) (inside (drop k bs)) ≢ Some 125
   later_by true k i le never rest = rest (omega arith) never
   later_by false k i le never rest = absurd (omega arith)
 
@@ -128,7 +138,8 @@ pub nameless_rest : (n m : ℕ) (s : List ℕ) → IsNameless n s → IsNameless
 nameless_rest n m s h k j lt e = h (m + k) j (omega arith) (subst (λ l. fits lexeme.Braced (take j l) ≡ true) (drop-drop k m s) e)
 
 -- the byte that was read at the end of the run
-pub byte_read : (o : Option (Bor ℕ)) (s : List ℕ) (i : ℕ) → is_some o ≡ nat_lt i (length s) → IfSome o (λ x. x.now ≡ get_or s i x.now) → option_copied o ≡ slice_get s i
+pub byte_read : (o : Option (Bor ℕ)) (s : List ℕ) (i : ℕ) → is_some o ≡ nat_lt i (length s)
+    → IfSome o (λ x. x.now ≡ get_or s i x.now) → option_copied o ≡ slice_get s i
 byte_read None s i e v = sym (slice_get_past s i (ltb-false i (length s) (sym e)))
 byte_read (Some x) s i e v = sym (slice_get_read s (length s) i x.now refl (ltb-true i (length s) (sym e)) v)
 

@@ -12,7 +12,9 @@ use Rattle.bp_syntax.specs.declared.tokens.TokenKind.{TokenKind}
 use Rattle.bp_syntax.specs.declared.tokens.TokenKind.TheVariants as kind
 use Rattle.bp_syntax.proofs.ResultAfterToken.{read_word, read_name, read_comma, no_comma, some_name, no_name, read_expr_comma, no_expr_comma, some_expr, no_expr, read_operator, no_operator, read_implies, no_implies, at_kind_un, read_question, no_question}
 
-pub names_read : {ts : List Token} {ns : List Name} {r : List Token} → IsNames ts ns r → (acc : List Name) (next : List Name → Wanted) → is_at kind.Comma r ≡ false → parse_result (NamesThen acc next) ts ≡ parse_result (next (acc ++ ns)) r
+pub names_read : {ts : List Token} {ns : List Name} {r : List Token} → IsNames ts ns r
+    → (acc : List Name) (next : List Name → Wanted) → is_at kind.Comma r ≡ false
+    → parse_result (NamesThen acc next) ts ≡ parse_result (next (acc ++ ns)) r
 names_read (one_name (first_name {token = x} {rest = r} h)) acc next nc =
     read_name (λ n. MoreNames (acc ++ n ∷ []) next) x r h ∙ no_comma (acc ++ name_of x ∷ []) next r nc
 names_read (more_names {rest = r} {more = ns} (first_name {token = x} h) (first_word {token = y} {rest = ts} c) d) acc next nc =
@@ -26,7 +28,9 @@ names_begin (one_name (first_name h)) = ap (λ k. is_same_kind k kind.Name) h
 names_begin (more_names (first_name h) (first_word c) d) = ap (λ k. is_same_kind k kind.Name) h
 
 -- no list of names goes on here: neither a comma comes nor a name
-pub any_names_read : {ts : List Token} {ns : List Name} {r : List Token} → IsAnyNames ts ns r → (next : List Name → Wanted) → is_at kind.Comma r ≡ false → is_at kind.Name r ≡ false → parse_result (AnyNamesThen next) ts ≡ parse_result (next ns) r
+pub any_names_read : {ts : List Token} {ns : List Name} {r : List Token} → IsAnyNames ts ns r
+    → (next : List Name → Wanted) → is_at kind.Comma r ≡ false → is_at kind.Name r ≡ false
+    → parse_result (AnyNamesThen next) ts ≡ parse_result (next ns) r
 any_names_read (no_names {rest = r}) next nc nn = no_name next r nn
 any_names_read (some_names {ts = ts} d) next nc nn = some_name next ts (names_begin d) ∙ names_read d [] next nc
 
@@ -67,9 +71,11 @@ nothing_implied_by [] c = refl
 nothing_implied_by (x ∷ r) c = c.implication
 
 mutual
-  pub expr_read : {ts : List Token} {e : Expression} {r : List Token} → IsExpr ts e r → (next : Expression → Wanted) → ExprEnds r → parse_result (ExprThen next) ts ≡ parse_result (next e) r
+  pub expr_read : {ts : List Token} {e : Expression} {r : List Token} → IsExpr ts e r → (next : Expression → Wanted)
+      → ExprEnds r → parse_result (ExprThen next) ts ≡ parse_result (next e) r
   expr_read (of_or {rest = r} {e = e} d) next c =
-      or_read d (λ a. MoreImplied a next) (no_op Equality r (λ k z. z.equality) c) (no_op Conjunction r (λ k z. z.conjunction) c) (no_op Exclusion r (λ k z. z.exclusion) c)
+      or_read d (λ a. MoreImplied a next) (no_op Equality r (λ k z. z.equality) c)
+      (no_op Conjunction r (λ k z. z.conjunction) c) (no_op Exclusion r (λ k z. z.exclusion) c)
       ∙ no_operator Disjunction e (λ a. MoreImplied a next) r (no_op Disjunction r (λ k z. z.disjunction) c)
       ∙ no_implies e next r (nothing_implied_by r c)
   expr_read (implication {left = a} d (first_word {token = x} {rest = us} h) f) next c =
@@ -78,7 +84,9 @@ mutual
       ∙ read_implies a next x us h
       ∙ expr_read f (λ e. next (Operation op.Implies a e)) c
 
-  or_read : {ts : List Token} {e : Expression} {r : List Token} → IsOr ts e r → (next : Expression → Wanted) → operator_ahead Equality r ≡ None → operator_ahead Conjunction r ≡ None → operator_ahead Exclusion r ≡ None → parse_result (BinaryThen Disjunction next) ts ≡ parse_result (MoreOperands Disjunction e next) r
+  or_read : {ts : List Token} {e : Expression} {r : List Token} → IsOr ts e r → (next : Expression → Wanted)
+      → operator_ahead Equality r ≡ None → operator_ahead Conjunction r ≡ None → operator_ahead Exclusion r ≡ None
+      → parse_result (BinaryThen Disjunction next) ts ≡ parse_result (MoreOperands Disjunction e next) r
   or_read (of_xor {rest = r} {e = e} d) next i j k =
       xor_read d (λ a. MoreOperands Disjunction a next) i j ∙ no_operator Exclusion e (λ a. MoreOperands Disjunction a next) r k
   or_read (disjunction {rest = r} {left = a} {right = b} d (first_word {token = x} {rest = us} h) f) next i j k =
@@ -87,7 +95,9 @@ mutual
       ∙ xor_read f (λ e. MoreOperands Disjunction (Operation op.Or a e) next) i j
       ∙ no_operator Exclusion b (λ e. MoreOperands Disjunction (Operation op.Or a e) next) r k
 
-  xor_read : {ts : List Token} {e : Expression} {r : List Token} → IsXor ts e r → (next : Expression → Wanted) → operator_ahead Equality r ≡ None → operator_ahead Conjunction r ≡ None → parse_result (BinaryThen Exclusion next) ts ≡ parse_result (MoreOperands Exclusion e next) r
+  xor_read : {ts : List Token} {e : Expression} {r : List Token} → IsXor ts e r → (next : Expression → Wanted)
+      → operator_ahead Equality r ≡ None → operator_ahead Conjunction r ≡ None
+      → parse_result (BinaryThen Exclusion next) ts ≡ parse_result (MoreOperands Exclusion e next) r
   xor_read (of_and {rest = r} {e = e} d) next i j =
       and_read d (λ a. MoreOperands Exclusion a next) i ∙ no_operator Conjunction e (λ a. MoreOperands Exclusion a next) r j
   xor_read (exclusion {rest = r} {left = a} {right = b} d (first_word {token = x} {rest = us} h) f) next i j =
@@ -96,7 +106,9 @@ mutual
       ∙ and_read f (λ e. MoreOperands Exclusion (Operation op.Xor a e) next) i
       ∙ no_operator Conjunction b (λ e. MoreOperands Exclusion (Operation op.Xor a e) next) r j
 
-  and_read : {ts : List Token} {e : Expression} {r : List Token} → IsAnd ts e r → (next : Expression → Wanted) → operator_ahead Equality r ≡ None → parse_result (BinaryThen Conjunction next) ts ≡ parse_result (MoreOperands Conjunction e next) r
+  and_read : {ts : List Token} {e : Expression} {r : List Token} → IsAnd ts e r → (next : Expression → Wanted)
+      → operator_ahead Equality r ≡ None
+      → parse_result (BinaryThen Conjunction next) ts ≡ parse_result (MoreOperands Conjunction e next) r
   and_read (of_eq {rest = r} {e = e} d) next i =
       eq_read d (λ a. MoreOperands Conjunction a next) ∙ no_operator Equality e (λ a. MoreOperands Conjunction a next) r i
   and_read (conjunction {rest = r} {left = a} {right = b} d (first_word {token = x} {rest = us} h) f) next i =
@@ -105,7 +117,8 @@ mutual
       ∙ eq_read f (λ e. MoreOperands Conjunction (Operation op.And a e) next)
       ∙ no_operator Equality b (λ e. MoreOperands Conjunction (Operation op.And a e) next) r i
 
-  eq_read : {ts : List Token} {e : Expression} {r : List Token} → IsEq ts e r → (next : Expression → Wanted) → parse_result (BinaryThen Equality next) ts ≡ parse_result (MoreOperands Equality e next) r
+  eq_read : {ts : List Token} {e : Expression} {r : List Token} → IsEq ts e r → (next : Expression → Wanted)
+      → parse_result (BinaryThen Equality next) ts ≡ parse_result (MoreOperands Equality e next) r
   eq_read (of_un d) next = un_read d (λ a. MoreOperands Equality a next)
   eq_read (equality {left = a} d (first_word {token = x} {rest = us} h) f) next =
       eq_read d next
@@ -116,11 +129,13 @@ mutual
       ∙ read_operator Equality op.Differ a next x us (ap (operator Equality) h)
       ∙ un_read f (λ e. MoreOperands Equality (Operation op.Differ a e) next)
 
-  un_read : {ts : List Token} {e : Expression} {r : List Token} → IsUn ts e r → (next : Expression → Wanted) → parse_result (UnThen next) ts ≡ parse_result (next e) r
+  un_read : {ts : List Token} {e : Expression} {r : List Token} → IsUn ts e r → (next : Expression → Wanted)
+      → parse_result (UnThen next) ts ≡ parse_result (next e) r
   un_read (negation (first_word {token = x} {rest = ts} h) d) next = at_kind_un kind.Bang next x ts h ∙ un_read d (λ a. next (Negation a))
   un_read (of_atom d) next = atom_read d next
 
-  atom_read : {ts : List Token} {e : Expression} {r : List Token} → IsAtom ts e r → (next : Expression → Wanted) → parse_result (UnThen next) ts ≡ parse_result (next e) r
+  atom_read : {ts : List Token} {e : Expression} {r : List Token} → IsAtom ts e r → (next : Expression → Wanted)
+      → parse_result (UnThen next) ts ≡ parse_result (next e) r
   atom_read (constant_0 (first_word {token = x} {rest = r} h)) next = at_kind_un kind.Zero next x r h
   atom_read (constant_1 (first_word {token = x} {rest = r} h)) next = at_kind_un kind.One next x r h
   atom_read (variable (first_name {token = x} {rest = r} h)) next = at_kind_un kind.Name next x r h
@@ -129,7 +144,9 @@ mutual
       ∙ expr_read d (λ a. WordThen kind.Close (next a)) (ends_at kind.Close y r closing c)
       ∙ read_word kind.Close (next e) y r c
 
-pub exprs_read : {ts : List Token} {es : List Expression} {r : List Token} → IsExprs ts es r → (acc : List Expression) (next : List Expression → Wanted) → ExprEnds r → is_at kind.Comma r ≡ false → parse_result (ExprsThen acc next) ts ≡ parse_result (next (acc ++ es)) r
+pub exprs_read : {ts : List Token} {es : List Expression} {r : List Token} → IsExprs ts es r
+    → (acc : List Expression) (next : List Expression → Wanted) → ExprEnds r → is_at kind.Comma r ≡ false
+    → parse_result (ExprsThen acc next) ts ≡ parse_result (next (acc ++ es)) r
 exprs_read (one_expr {rest = r} {e = e} d) acc next c nc =
     expr_read d (λ a. MoreExprs (acc ++ a ∷ []) next) c ∙ no_expr_comma (acc ++ e ∷ []) next r nc
 exprs_read (more_exprs {rest = r} {e = e} {more = es} d (first_word {token = y} {rest = us} h) f) acc next c nc =
@@ -171,7 +188,9 @@ exprs_begin (one_expr d) = expr_begins d
 exprs_begin (more_exprs d (first_word h) f) = expr_begins d
 
 -- neither a comma comes here nor an expression
-pub any_exprs_read : {ts : List Token} {es : List Expression} {r : List Token} → IsAnyExprs ts es r → (next : List Expression → Wanted) → ExprEnds r → is_at kind.Comma r ≡ false → is_at_expr r ≡ false → parse_result (AnyExprsThen next) ts ≡ parse_result (next es) r
+pub any_exprs_read : {ts : List Token} {es : List Expression} {r : List Token} → IsAnyExprs ts es r
+    → (next : List Expression → Wanted) → ExprEnds r → is_at kind.Comma r ≡ false → is_at_expr r ≡ false
+    → parse_result (AnyExprsThen next) ts ≡ parse_result (next es) r
 any_exprs_read (no_exprs {rest = r}) next c nc nn = no_expr next r nn
 any_exprs_read (some_exprs {ts = ts} d) next c nc nn = some_expr next ts (exprs_begin d) ∙ exprs_read d [] next c nc
 
@@ -183,6 +202,7 @@ no_question_by (x ∷ r) h = by_kind x.kind h
     by_kind kind.Question e = absurd (false≢true e)
     by_kind k e = refl
 
-pub decider_read : {ts : List Token} {d : Decision} {r : List Token} → IsDecider ts d r → (next : Decision → Wanted) → ExprEnds r → parse_result (DeciderThen next) ts ≡ parse_result (next d) r
+pub decider_read : {ts : List Token} {d : Decision} {r : List Token} → IsDecider ts d r → (next : Decision → Wanted)
+    → ExprEnds r → parse_result (DeciderThen next) ts ≡ parse_result (next d) r
 decider_read (choice (first_word {token = x} {rest = r} h)) next c = read_question next x r h
 decider_read (by_value {ts = ts} d) next c = no_question next ts (no_question_by ts (expr_begins d)) ∙ expr_read d (λ a. next (Decide a)) c

@@ -70,7 +70,8 @@ mutual
   form_size (jump (first_word h) (first_name i) (first_word c)) = omega arith
   form_size (returning (first_word h) (first_word c)) = omega arith
   form_size (assignment names (first_word h) exprs (first_word k)) = omega (arith, names_some names, exprs_some exprs)
-  form_size (branch (first_word h) (first_word o) is (first_word c) (first_word i) body (first_word j) other (first_word g)) = omega (arith, decider_some is, stmts_size body, stmts_size other)
+  form_size (branch (first_word h) (first_word o) is (first_word c) (first_word i) body (first_word j) other (first_word g)) =
+      omega (arith, decider_some is, stmts_size body, stmts_size other)
   form_size (loop (first_word h) (first_word o) is (first_word c) (first_word i) body (first_word g)) = omega (arith, decider_some is, stmts_size body)
   form_size (assertion (first_word h) (first_word o) is (first_word c) (first_word g)) = omega (arith, decider_some is)
   form_size (assumption (first_word h) (first_word o) is (first_word c) (first_word g)) = omega (arith, decider_some is)

@@ -13,7 +13,8 @@ module _ (b : ℕ) (t : List ℕ) (none : NoneFits (b ∷ t)) (at : ℕ) (more :
   byte_first false e = bad_byte none (λ same. false≢true (sym e ∙ (Decides-eqb b 123).1 same)) rest
 
 -- the lexeme of this kind and this size
-whole_lexeme : (text : List ℕ) (kind : Option LexemeKind) (size : ℕ) → 0 < length text → IsFirst kind text size → TakesLexeme text kind (take size text) (drop size text)
+whole_lexeme : (text : List ℕ) (kind : Option LexemeKind) (size : ℕ) → 0 < length text → IsFirst kind text size
+    → TakesLexeme text kind (take size text) (drop size text)
 whole_lexeme text (Some kind) size some is = record {
   size = size;
   some = is.some;
@@ -32,6 +33,7 @@ whole_lexeme (b ∷ t) None size some is = subst (λ n. TakesLexeme (b ∷ t) No
   cut = λ at more rest. byte_first b t is.0 at more rest (b == 123) refl;
 })
 
-pub lexeme_is_taken : (text : List ℕ) (kind : Option LexemeKind) (size : ℕ) (bytes rest : List ℕ) → 0 < length text → IsFirst kind text size → bytes ≡ take size text → rest ≡ drop size text → TakesLexeme text kind bytes rest
+pub lexeme_is_taken : (text : List ℕ) (kind : Option LexemeKind) (size : ℕ) (bytes rest : List ℕ) → 0 < length text
+    → IsFirst kind text size → bytes ≡ take size text → rest ≡ drop size text → TakesLexeme text kind bytes rest
 lexeme_is_taken text kind size bytes rest some is front back =
     subst (λ x. TakesLexeme text kind x rest) (sym front) (subst (TakesLexeme text kind (take size text)) (sym back) (whole_lexeme text kind size some is))

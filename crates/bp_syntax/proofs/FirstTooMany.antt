@@ -14,9 +14,13 @@ cond_none false o n e = let z : ⊥ = cc in absurd z
 
 -- where no token is too many, each run is short, and shorter by the tokens that stand before it
 Short : ℕ → List Token → Type 0
-Short n ts = (before run after : List Token) → ts ≡ before ++ (run ++ after) → NoSeparator run → (length run ≤ SUCCESSION_LIMIT) × (before ≡ [] → n + length run ≤ SUCCESSION_LIMIT)
+Short n ts =
+    (before run after : List Token) → ts ≡ before ++ (run ++ after) → NoSeparator run
+    → (length run ≤ SUCCESSION_LIMIT) × (before ≡ [] → n + length run ≤ SUCCESSION_LIMIT)
 
-short_by : (n : ℕ) (t : Token) (ts : List Token) (y : Bool) → is_separator t.kind ≡ y → n ≤ SUCCESSION_LIMIT → cond y (first_too_many 0 ts) (cond (nat_lt n SUCCESSION_LIMIT) (first_too_many (n + 1) ts) (Some t.at)) ≡ None → ((m : ℕ) → m ≤ SUCCESSION_LIMIT → first_too_many m ts ≡ None → Short m ts) → Short n (t ∷ ts)
+short_by : (n : ℕ) (t : Token) (ts : List Token) (y : Bool) → is_separator t.kind ≡ y → n ≤ SUCCESSION_LIMIT
+    → cond y (first_too_many 0 ts) (cond (nat_lt n SUCCESSION_LIMIT) (first_too_many (n + 1) ts) (Some t.at)) ≡ None
+    → ((m : ℕ) → m ≤ SUCCESSION_LIMIT → first_too_many m ts ≡ None → Short m ts) → Short n (t ∷ ts)
 unfolding Short
 short_by n t ts y s le e rest [] [] after parts plain = (omega arith, λ _. omega arith)
 short_by n t ts true s le e rest [] (r ∷ run) after parts plain =
@@ -68,7 +72,9 @@ pub cond_some_at : (b : Bool) (o : Option ℕ) (m n : ℕ) → cond b o (Some m)
 cond_some_at true o m n e = inl (refl, e)
 cond_some_at false o m n e = inr (refl, cc)
 
-crowded_by : (n : ℕ) (t : Token) (ts : List Token) (at : ℕ) (y : Bool) → is_separator t.kind ≡ y → n ≤ SUCCESSION_LIMIT → cond y (first_too_many 0 ts) (cond (nat_lt n SUCCESSION_LIMIT) (first_too_many (n + 1) ts) (Some t.at)) ≡ Some at → ((m : ℕ) → m ≤ SUCCESSION_LIMIT → first_too_many m ts ≡ Some at → Crowded m ts at) → Crowded n (t ∷ ts) at
+crowded_by : (n : ℕ) (t : Token) (ts : List Token) (at : ℕ) (y : Bool) → is_separator t.kind ≡ y → n ≤ SUCCESSION_LIMIT
+    → cond y (first_too_many 0 ts) (cond (nat_lt n SUCCESSION_LIMIT) (first_too_many (n + 1) ts) (Some t.at)) ≡ Some at
+    → ((m : ℕ) → m ≤ SUCCESSION_LIMIT → first_too_many m ts ≡ Some at → Crowded m ts at) → Crowded n (t ∷ ts) at
 crowded_by n t ts at true s le e go =
     let c = go 0 (omega arith) e in
     record {
@@ -90,7 +96,10 @@ crowded_by n t ts at false s le e go =
     (λ h.
     let lt : n < SUCCESSION_LIMIT = ltb-true n SUCCESSION_LIMIT h.0 in
     let c = go (n + 1) (omega arith) h.1 in
-    let few : first_too_many n (t ∷ c.front) ≡ None = ap (λ b. cond b (first_too_many 0 c.front) (cond (nat_lt n SUCCESSION_LIMIT) (first_too_many (n + 1) c.front) (Some t.at))) s ∙ (ap (λ b. cond b (first_too_many (n + 1) c.front) (Some t.at)) h.0 ∙ c.few) in
+    let few : first_too_many n (t ∷ c.front) ≡ None =
+    ap (λ b. cond b (first_too_many 0 c.front)
+    (cond (nat_lt n SUCCESSION_LIMIT) (first_too_many (n + 1) c.front) (Some t.at))) s
+    ∙ (ap (λ b. cond b (first_too_many (n + 1) c.front) (Some t.at)) h.0 ∙ c.few) in
     ⊎_elim
     (λ f. record {
       front = t ∷ c.front;
@@ -160,7 +169,9 @@ some_is_crowded ts at e =
       parts = c.parts;
       before = none_is_sparse c.front c.few;
       after = λ sparse.
-          let parts : c.front ++ c.token ∷ [] ≡ c.before ++ ((c.run ++ c.token ∷ []) ++ []) = ap (λ l. l ++ c.token ∷ []) c.split ∙ append_assoc c.before c.run (c.token ∷ []) ∙ ap (λ l. c.before ++ l) (sym (append-nil (c.run ++ c.token ∷ []))) in
+          let parts : c.front ++ c.token ∷ [] ≡ c.before ++ ((c.run ++ c.token ∷ []) ++ []) =
+          ap (λ l. l ++ c.token ∷ []) c.split ∙ append_assoc c.before c.run (c.token ∷ [])
+          ∙ ap (λ l. c.before ++ l) (sym (append-nil (c.run ++ c.token ∷ []))) in
           let most = sparse c.before (c.run ++ c.token ∷ []) [] parts (no_separator_more c.run c.token c.no_separator c.plain) in
           omega (arith, length-append c.run (c.token ∷ []));
       place = c.place;

@@ -21,7 +21,9 @@ Keys P [] = Unit {0}
 Keys P (e ∷ es) = P e.0 × Keys P es
 
 module _ {K X : Type 0} (test : K → Bool) (P : K → Type 0) where
-  found_by : (k : K) (x : X) (es : List (K × X)) (y : Bool) → test k ≡ y → P k → (is_some (lookup test es) ≡ true → (j : K) × (test j ≡ true) × P j) → is_some (cond y (Some x) (lookup test es)) ≡ true → (j : K) × (test j ≡ true) × P j
+  found_by : (k : K) (x : X) (es : List (K × X)) (y : Bool) → test k ≡ y → P k
+      → (is_some (lookup test es) ≡ true → (j : K) × (test j ≡ true) × P j)
+      → is_some (cond y (Some x) (lookup test es)) ≡ true → (j : K) × (test j ≡ true) × P j
   found_by k x es true h p rest e = (k, h, p)
   found_by k x es false h p rest e = rest e
 
@@ -35,7 +37,8 @@ abbrev Each : (ℕ → Type 0) → List ℕ → Type 0
 Each P [] = Unit {0}
 Each P (x ∷ xs) = P x × Each P xs
 
-among_by : (P : ℕ → Type 0) (b x : ℕ) (xs : List ℕ) (y : Bool) → nat_eq b x ≡ y → P x → (list_any (nat_eq b) xs ≡ true → P b) → (y || list_any (nat_eq b) xs) ≡ true → P b
+among_by : (P : ℕ → Type 0) (b x : ℕ) (xs : List ℕ) (y : Bool) → nat_eq b x ≡ y → P x
+    → (list_any (nat_eq b) xs ≡ true → P b) → (y || list_any (nat_eq b) xs) ≡ true → P b
 among_by P b x xs true h p rest e = subst P (sym (eqb-true b x h)) p
 among_by P b x xs false h p rest e = rest e
 
@@ -71,7 +74,9 @@ long_symbol_first b c e =
 
 letter_first : (b : ℕ) → is_letter b ≡ true → first_kind b ≡ Some lexeme.Identifier
 letter_first b e =
-    ap (λ y. cond y (Some lexeme.Identifier) (cond (is_white b) (Some lexeme.White) (cond (is_some (constant b)) (Some lexeme.Constant) (cond (is_some (symbol b)) (Some lexeme.Symbol) (cond (b == 47) (Some lexeme.Comment) (cond (b == 123) (Some lexeme.Braced) None)))))) e
+    ap (λ y. cond y (Some lexeme.Identifier) (cond (is_white b) (Some lexeme.White) (cond (is_some (constant b))
+    (Some lexeme.Constant) (cond (is_some (symbol b)) (Some lexeme.Symbol)
+    (cond (b == 47) (Some lexeme.Comment) (cond (b == 123) (Some lexeme.Braced) None)))))) e
 
 comment_first : (b : ℕ) → (b == 47) ≡ true → first_kind b ≡ Some lexeme.Comment
 comment_first b e = ap first_kind (eqb-true b 47 e)
@@ -94,7 +99,8 @@ kind_by_first lexeme.Symbol b (c ∷ []) e = long_symbol_first b c e
 kind_by_first lexeme.Symbol b (c ∷ d ∷ ds) e = absurd (false≢true e)
 
 -- a lexeme is the longest where its kind fits nothing longer
-longest_of : (k : LexemeKind) (b : ℕ) (bs : List ℕ) (n : ℕ) → n ≤ length bs → fits k (b ∷ take n bs) ≡ true → ((m : ℕ) → n < m → m ≤ length bs → fits k (b ∷ take m bs) ≢ true) → IsLongest (b ∷ bs) k (suc n)
+longest_of : (k : LexemeKind) (b : ℕ) (bs : List ℕ) (n : ℕ) → n ≤ length bs → fits k (b ∷ take n bs) ≡ true
+    → ((m : ℕ) → n < m → m ≤ length bs → fits k (b ∷ take m bs) ≢ true) → IsLongest (b ∷ bs) k (suc n)
 longest_of k b bs n within is none = record {
   some = omega arith;
   within = omega arith;
@@ -129,11 +135,13 @@ none_first b bs first j (suc m) lt le e =
 
 identifier : (b : ℕ) (bs : List ℕ) → is_letter b ≡ true → IsLongest (b ∷ bs) lexeme.Identifier (suc (run is_word_byte bs))
 identifier b bs l =
-    longest_of lexeme.Identifier b bs (run is_word_byte bs) (run_within is_word_byte bs) (ap (λ y. y && list_all is_word_byte (take (run is_word_byte bs) bs)) l ∙ run_fits is_word_byte bs)
+    longest_of lexeme.Identifier b bs (run is_word_byte bs) (run_within is_word_byte bs)
+    (ap (λ y. y && list_all is_word_byte (take (run is_word_byte bs) bs)) l ∙ run_fits is_word_byte bs)
     (λ m lt le e. run_stops is_word_byte bs m lt le (both_right _ _ e))
 
 -- a lexeme of one byte
-one_byte : (k : LexemeKind) (b : ℕ) (bs : List ℕ) → fits k (b ∷ []) ≡ true → ((c : ℕ) (r cs : List ℕ) → bs ≡ c ∷ cs → fits k (b ∷ c ∷ r) ≢ true) → IsLongest (b ∷ bs) k 1
+one_byte : (k : LexemeKind) (b : ℕ) (bs : List ℕ) → fits k (b ∷ []) ≡ true
+    → ((c : ℕ) (r cs : List ℕ) → bs ≡ c ∷ cs → fits k (b ∷ c ∷ r) ≢ true) → IsLongest (b ∷ bs) k 1
 one_byte k b bs f never = longest_of k b bs 0 (omega arith) f (more bs never)
   where
     more : (bs : List ℕ) → ((c : ℕ) (r cs : List ℕ) → bs ≡ c ∷ cs → fits k (b ∷ c ∷ r) ≢ true) → (m : ℕ) → 0 < m → m ≤ length bs → fits k (b ∷ take m bs) ≢ true
@@ -183,7 +191,8 @@ last_slash b f = none_of lexeme.Comment b [] (comment_first b f) none
     none zero e = false≢true e
     none (suc m) e = false≢true e
 
-slash_by : (b c : ℕ) (cs : List ℕ) (y : Bool) → (b == 47) ≡ true → (c == 47) ≡ y → IsLongestAnswer (b ∷ c ∷ cs) (cond y (Some (lexeme.Comment, suc (suc (run is_comment_byte cs)))) None)
+slash_by : (b c : ℕ) (cs : List ℕ) (y : Bool) → (b == 47) ≡ true → (c == 47) ≡ y
+    → IsLongestAnswer (b ∷ c ∷ cs) (cond y (Some (lexeme.Comment, suc (suc (run is_comment_byte cs)))) None)
 slash_by b c cs true f g = slashes b c cs f g
 slash_by b c cs false f g = lone_slash b c cs f g
 
@@ -209,7 +218,9 @@ module _ (b : ℕ) (no_brace : (b == 123) ≡ false) where
     short_by bs true s n = one_byte lexeme.Symbol b bs s (λ c r cs is. no_long b c r bs cs n is)
     short_by bs false s n = none_first b bs (no_sort l w k s d)
 
-    long_by : (c : ℕ) (cs : List ℕ) (y : Bool) → is_some (long_symbol b c) ≡ y → IsLongestAnswer (b ∷ c ∷ cs) (cond y (Some (lexeme.Symbol, 2)) (cond (is_some (symbol b)) (Some (lexeme.Symbol, 1)) None))
+    long_by : (c : ℕ) (cs : List ℕ) (y : Bool) → is_some (long_symbol b c) ≡ y
+        → IsLongestAnswer (b ∷ c ∷ cs)
+        (cond y (Some (lexeme.Symbol, 2)) (cond (is_some (symbol b)) (Some (lexeme.Symbol, 1)) None))
     long_by c cs true s = two_bytes b c cs s
     long_by c cs false s = short_by (c ∷ cs) (is_some (symbol b)) refl s
 
@@ -217,19 +228,26 @@ module _ (b : ℕ) (no_brace : (b == 123) ≡ false) where
     symbol_is [] = short_by [] (is_some (symbol b)) refl tt
     symbol_is (c ∷ cs) = long_by c cs (is_some (long_symbol b c)) refl
 
-  comment_by : (bs : List ℕ) (y : Bool) → is_letter b ≡ false → is_white b ≡ false → is_some (constant b) ≡ false → (b == 47) ≡ y → IsLongestAnswer (b ∷ bs) (cond y (comment bs) (first_symbol b bs))
+  comment_by : (bs : List ℕ) (y : Bool) → is_letter b ≡ false → is_white b ≡ false → is_some (constant b) ≡ false
+      → (b == 47) ≡ y → IsLongestAnswer (b ∷ bs) (cond y (comment bs) (first_symbol b bs))
   comment_by bs true l w k d = comment_is b bs d
   comment_by bs false l w k d = symbol_is l w k d bs
 
-  constant_by : (bs : List ℕ) (y : Bool) → is_letter b ≡ false → is_white b ≡ false → is_some (constant b) ≡ y → IsLongestAnswer (b ∷ bs) (cond y (Some (lexeme.Constant, 1)) (cond (b == 47) (comment bs) (first_symbol b bs)))
+  constant_by : (bs : List ℕ) (y : Bool) → is_letter b ≡ false → is_white b ≡ false → is_some (constant b) ≡ y
+      → IsLongestAnswer (b ∷ bs) (cond y (Some (lexeme.Constant, 1)) (cond (b == 47) (comment bs) (first_symbol b bs)))
   constant_by bs true l w k = one_byte lexeme.Constant b bs k (λ c r cs is e. false≢true e)
   constant_by bs false l w k = comment_by bs (b == 47) l w k refl
 
-  white_by : (bs : List ℕ) (y : Bool) → is_letter b ≡ false → is_white b ≡ y → IsLongestAnswer (b ∷ bs) (cond y (Some (lexeme.White, 1)) (cond (is_some (constant b)) (Some (lexeme.Constant, 1)) (cond (b == 47) (comment bs) (first_symbol b bs))))
+  white_by : (bs : List ℕ) (y : Bool) → is_letter b ≡ false → is_white b ≡ y
+      → IsLongestAnswer (b ∷ bs) (cond y (Some (lexeme.White, 1))
+      (cond (is_some (constant b)) (Some (lexeme.Constant, 1)) (cond (b == 47) (comment bs) (first_symbol b bs))))
   white_by bs true l w = one_byte lexeme.White b bs w (λ c r cs is e. false≢true e)
   white_by bs false l w = constant_by bs (is_some (constant b)) l w refl
 
-  letter_by : (bs : List ℕ) (y : Bool) → is_letter b ≡ y → IsLongestAnswer (b ∷ bs) (cond y (Some (lexeme.Identifier, suc (run is_word_byte bs))) (cond (is_white b) (Some (lexeme.White, 1)) (cond (is_some (constant b)) (Some (lexeme.Constant, 1)) (cond (b == 47) (comment bs) (first_symbol b bs)))))
+  letter_by : (bs : List ℕ) (y : Bool) → is_letter b ≡ y
+      → IsLongestAnswer (b ∷ bs) (cond y (Some (lexeme.Identifier, suc (run is_word_byte bs)))
+      (cond (is_white b) (Some (lexeme.White, 1))
+      (cond (is_some (constant b)) (Some (lexeme.Constant, 1)) (cond (b == 47) (comment bs) (first_symbol b bs)))))
   letter_by bs true l = identifier b bs l
   letter_by bs false l = white_by bs (is_white b) l refl
 
@@ -238,7 +256,8 @@ module _ (b : ℕ) (no_brace : (b == 123) ≡ false) where
   unbraced_is bs = letter_by bs (is_letter b) refl
 
 -- a text's longest lexeme, from its first byte and those after it
-pub unbraced_longest : (s : List ℕ) (r : Option (LexemeKind × ℕ)) → 0 < length s → (get_or s 0 0 ≡ 123 → ⊥) → r ≡ unbraced_lexeme (get_or s 0 0) (take (length s - 1) (drop 1 s)) → IsLongestAnswer s r
+pub unbraced_longest : (s : List ℕ) (r : Option (LexemeKind × ℕ)) → 0 < length s → (get_or s 0 0 ≡ 123 → ⊥)
+    → r ≡ unbraced_lexeme (get_or s 0 0) (take (length s - 1) (drop 1 s)) → IsLongestAnswer s r
 unbraced_longest [] r lt never e = absurd (omega arith)
 unbraced_longest (b ∷ bs) r lt never e =
     let all : take (length (b ∷ bs) - 1) bs ≡ bs = take_all (length (b ∷ bs) - 1) bs (omega arith) in
@@ -292,7 +311,9 @@ not_brace b e h =
     false≢true (sym e ∙ ap (λ x. x == 123) same)
 
 has_front_by : (b : ℕ) (bs : List ℕ) (y : Bool) → (b == 123) ≡ y → (f : FirstLexeme) × IsFirstLexeme (b ∷ bs) f
-has_front_by b bs true e = subst (λ x. (f : FirstLexeme) × IsFirstLexeme (x ∷ bs) f) (sym (eqb-true b 123 e)) (has_front_braced bs (slice_get bs (inside bs)) refl)
+has_front_by b bs true e =
+    subst (λ x. (f : FirstLexeme) × IsFirstLexeme (x ∷ bs) f) (sym (eqb-true b 123 e))
+    (has_front_braced bs (slice_get bs (inside bs)) refl)
 has_front_by b bs false e = of_found (unbraced_lexeme b bs) (unbraced_is b e bs)
   where
     of_found : (r : Option (LexemeKind × ℕ)) → IsLongestAnswer (b ∷ bs) r → (f : FirstLexeme) × IsFirstLexeme (b ∷ bs) f

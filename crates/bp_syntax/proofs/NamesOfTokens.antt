@@ -94,7 +94,8 @@ module _ (P : Name → Type 0) where
     in_form (printing (first_word h) (first_word o) are (first_word c) (first_word g)) s = let l = in_exprs are s.1.1 in (l.0, l.1.1.1)
     in_form (call (first_name h) (first_word o) are (first_word c) (first_word g)) s = let l = in_any_exprs are s.1.1 in ((s.0 h, l.0), l.1.1.1)
 
-    in_stmt : {ts : List Token} {l : Option Name} {at : ℕ} {s : Statement} {r : List Token} → IsStmt ts l at s r → EachNamed ts → NamesInLabel P l × NamesInStatement P s × EachNamed r
+    in_stmt : {ts : List Token} {l : Option Name} {at : ℕ} {s : Statement} {r : List Token} → IsStmt ts l at s r
+        → EachNamed ts → NamesInLabel P l × NamesInStatement P s × EachNamed r
     in_stmt (labelled (first_name h) (first_word c) d) p = let f = in_form d p.1.1 in (p.0 h, f.0, f.1)
     in_stmt (unlabelled d) p = let f = in_form d p in (tt, f.0, f.1)
 
@@ -129,7 +130,8 @@ module _ (P : Name → Type 0) where
 abbrev pub IsShort : ℕ → Name → Type 0
 IsShort n x = length x.text ≤ n
 
-one_token : (k : Option TokenKind) (at n : ℕ) (bytes : List ℕ) (ts : List Token) → length bytes ≤ n → EachNamed (IsShort n) ts → EachNamed (IsShort n) (with_token k at bytes ts)
+one_token : (k : Option TokenKind) (at n : ℕ) (bytes : List ℕ) (ts : List Token) → length bytes ≤ n
+    → EachNamed (IsShort n) ts → EachNamed (IsShort n) (with_token k at bytes ts)
 one_token None at n bytes ts h s = s
 one_token (Some k) at n bytes ts h s = (λ is. h, s)
 

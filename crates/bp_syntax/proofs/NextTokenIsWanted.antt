@@ -33,7 +33,8 @@ cond_either false o p v e = inr (refl, e)
 moved : {w v : Wanted} {ts : List Token} {q : Program} → Some w ≡ Some v → Needs v ts q → Needs w ts q
 moved {w} {v} {ts} {q} e n = subst (λ u. Needs u ts q) (sym (given e)) n
 
-sound_un : (k : TokenKind) (next : Expression → Wanted) (x : Token) (v : Wanted) → x.kind ≡ k → wanted_in_un k next x ≡ Some v → (ts : List Token) (q : Program) → Needs v ts q → Needs (UnThen next) (x ∷ ts) q
+sound_un : (k : TokenKind) (next : Expression → Wanted) (x : Token) (v : Wanted) → x.kind ≡ k
+    → wanted_in_un k next x ≡ Some v → (ts : List Token) (q : Program) → Needs v ts q → Needs (UnThen next) (x ∷ ts) q
 sound_un kind.Bang next x v h e ts q n = negated (moved e n)
   where
     negated : Needs (UnThen (λ d. next (Negation d))) ts q → Needs (UnThen next) (x ∷ ts) q
@@ -50,19 +51,32 @@ sound_un kind.Open next x v h e ts q n =
 sound_un _ next x v h e ts q n = absurd (none_some e)
 
 -- an expression from its first token on
-sound_expr : (next : Expression → Wanted) (x : Token) (v : Wanted) → wanted_in_un x.kind (wanted_after_un next) x ≡ Some v → (ts : List Token) (q : Program) → Needs v ts q → (e : Expression) × (r : List Token) × IsExpr (x ∷ ts) e r × Needs (next e) r q
+sound_expr : (next : Expression → Wanted) (x : Token) (v : Wanted)
+    → wanted_in_un x.kind (wanted_after_un next) x ≡ Some v → (ts : List Token) (q : Program) → Needs v ts q
+    → (e : Expression) × (r : List Token) × IsExpr (x ∷ ts) e r × Needs (next e) r q
 sound_expr next x v e ts q n = expr_from next (x ∷ ts) q (sound_un x.kind (wanted_after_un next) x v refl e ts q n)
 
-sound_values : (P : Type 0) (f : Statement → Wanted) (ts : List Token) (ns : List Name) (x : Token) (us : List Token) (q : Program) → (P → IsNames ts ns (x ∷ us)) → x.kind ≡ kind.Becomes → Needs (ValuesThen ns f) us q → (s : Statement) × (r : List Token) × (P → IsForm ts s r) × Needs (f s) r q
+sound_values : (P : Type 0) (f : Statement → Wanted) (ts : List Token) (ns : List Name) (x : Token) (us : List Token)
+    (q : Program) → (P → IsNames ts ns (x ∷ us)) → x.kind ≡ kind.Becomes → Needs (ValuesThen ns f) us q
+    → (s : Statement) × (r : List Token) × (P → IsForm ts s r) × Needs (f s) r q
 sound_values P f ts ns x us q is b n =
     let p = exprs_from [] (λ es. WordThen kind.Semicolon (f (Assigns ns es))) us q n in
     result_at_end p.0 p.1 p.2 p.3
   where
-    result_at_end : (es : List Expression) (vs : List Token) → IsExprs us es vs → Needs (WordThen kind.Semicolon (f (Assigns ns es))) vs q → (s : Statement) × (r : List Token) × (P → IsForm ts s r) × Needs (f s) r q
-    result_at_end es _ are (word {r = r} y c m) = (Assigns ns es, r, λ h. assignment (is h) (first_word {token = x} {rest = us} b) are (first_word {token = y} {rest = r} c), m)
+    result_at_end : (es : List Expression) (vs : List Token) → IsExprs us es vs
+        → Needs (WordThen kind.Semicolon (f (Assigns ns es))) vs q
+        → (s : Statement) × (r : List Token) × (P → IsForm ts s r) × Needs (f s) r q
+    result_at_end es _ are (word {r = r} y c m) = (
+      Assigns ns es,
+      r,
+      λ h. assignment (is h) (first_word {token = x} {rest = us} b) are (first_word {token = y} {rest = r} c),
+      m,
+    )
 
 -- after the name that a call or an assignment begins with
-sound_after : (x : Token) (f : Statement → Wanted) (y : Token) (v : Wanted) → wanted_after_name x f y ≡ Some v → (ts : List Token) (q : Program) → Needs v ts q → (s : Statement) × (r : List Token) × (x.kind ≡ kind.Name → IsForm (x ∷ y ∷ ts) s r) × Needs (f s) r q
+sound_after : (x : Token) (f : Statement → Wanted) (y : Token) (v : Wanted) → wanted_after_name x f y ≡ Some v
+    → (ts : List Token) (q : Program) → Needs v ts q
+    → (s : Statement) × (r : List Token) × (x.kind ≡ kind.Name → IsForm (x ∷ y ∷ ts) s r) × Needs (f s) r q
 sound_after x f y v e ts q n =
     ⊎_elim
     (λ c. called ts (same y.kind kind.Open c.0) (moved c.1 n))
@@ -73,18 +87,33 @@ sound_after x f y v e ts q n =
     targets (same y.kind kind.Comma d.0) p.0 p.1 p.2 p.3)
     (λ d.
     let b = cond_some (is_same_kind y.kind kind.Becomes) (ValuesThen (name_of x ∷ []) f) v d.1 in
-    sound_values (x.kind ≡ kind.Name) f (x ∷ y ∷ ts) (name_of x ∷ []) y ts q (λ h. one_name (first_name {token = x} {rest = y ∷ ts} h)) (same y.kind kind.Becomes b.0) (subst (λ w. Needs w ts q) (sym b.1) n))
+    sound_values (x.kind ≡ kind.Name) f (x ∷ y ∷ ts) (name_of x ∷ []) y ts q
+    (λ h. one_name (first_name {token = x} {rest = y ∷ ts} h)) (same y.kind kind.Becomes b.0)
+    (subst (λ w. Needs w ts q) (sym b.1) n))
     (cond_either (is_same_kind y.kind kind.Comma) _ _ v c.1))
     (cond_either (is_same_kind y.kind kind.Open) _ _ v e)
   where
-    called : (ts : List Token) → y.kind ≡ kind.Open → Needs (ArgumentsThen (name_of x) f) ts q → (s : Statement) × (r : List Token) × (x.kind ≡ kind.Name → IsForm (x ∷ y ∷ ts) s r) × Needs (f s) r q
-    called us o (any_exprs es are (word z c (word {r = r} w d m))) = (Calls (name_of x) es, r, λ h. call (first_name {token = x} h) (first_word {token = y} {rest = us} o) are (first_word {token = z} c) (first_word {token = w} {rest = r} d), m)
+    called : (ts : List Token) → y.kind ≡ kind.Open → Needs (ArgumentsThen (name_of x) f) ts q
+        → (s : Statement) × (r : List Token) × (x.kind ≡ kind.Name → IsForm (x ∷ y ∷ ts) s r) × Needs (f s) r q
+    called us o (any_exprs es are (word z c (word {r = r} w d m))) = (
+      Calls (name_of x) es,
+      r,
+      λ h.
+          call (first_name {token = x} h) (first_word {token = y} {rest = us} o) are (first_word {token = z} c)
+          (first_word {token = w} {rest = r} d),
+      m,
+    )
 
-    targets : y.kind ≡ kind.Comma → (ns : List Name) (us : List Token) → IsNames ts ns us → Needs (TargetsThen f (name_of x ∷ ns)) us q → (s : Statement) × (r : List Token) × (x.kind ≡ kind.Name → IsForm (x ∷ y ∷ ts) s r) × Needs (f s) r q
+    targets : y.kind ≡ kind.Comma → (ns : List Name) (us : List Token) → IsNames ts ns us
+        → Needs (TargetsThen f (name_of x ∷ ns)) us q
+        → (s : Statement) × (r : List Token) × (x.kind ≡ kind.Name → IsForm (x ∷ y ∷ ts) s r) × Needs (f s) r q
     targets c ns _ are (word {r = us} z b m) =
-        sound_values (x.kind ≡ kind.Name) f (x ∷ y ∷ ts) (name_of x ∷ ns) z us q (λ h. more_names (first_name {token = x} h) (first_word {token = y} {rest = ts} c) are) b m
+        sound_values (x.kind ≡ kind.Name) f (x ∷ y ∷ ts) (name_of x ∷ ns) z us q
+        (λ h. more_names (first_name {token = x} h) (first_word {token = y} {rest = ts} c) are) b m
 
-sound_form : (k : TokenKind) (f : Statement → Wanted) (x : Token) (v : Wanted) → x.kind ≡ k → wanted_in_form k f x ≡ Some v → (ts : List Token) (q : Program) → Needs v ts q → (s : Statement) × (r : List Token) × IsForm (x ∷ ts) s r × Needs (f s) r q
+sound_form : (k : TokenKind) (f : Statement → Wanted) (x : Token) (v : Wanted) → x.kind ≡ k
+    → wanted_in_form k f x ≡ Some v → (ts : List Token) (q : Program) → Needs v ts q
+    → (s : Statement) × (r : List Token) × IsForm (x ∷ ts) s r × Needs (f s) r q
 sound_form kind.Skip f x v h e ts q n = bare ts (moved e n)
   where
     bare : (ts : List Token) → Needs (WordThen kind.Semicolon (f Skips)) ts q → (s : Statement) × (r : List Token) × IsForm (x ∷ ts) s r × Needs (f s) r q
@@ -96,7 +125,12 @@ sound_form kind.Return f x v h e ts q n = bare ts (moved e n)
 sound_form kind.Goto f x v h e ts q n = jumped ts (moved e n)
   where
     jumped : (ts : List Token) → Needs (GotoThen f) ts q → (s : Statement) × (r : List Token) × IsForm (x ∷ ts) s r × Needs (f s) r q
-    jumped _ (name l i (word {r = r} y c m)) = (GoesTo (name_of l), r, jump (first_word {token = x} h) (first_name {token = l} i) (first_word {token = y} {rest = r} c), m)
+    jumped _ (name l i (word {r = r} y c m)) = (
+      GoesTo (name_of l),
+      r,
+      jump (first_word {token = x} h) (first_name {token = l} i) (first_word {token = y} {rest = r} c),
+      m,
+    )
 sound_form kind.Name f x v h e ts q n = after (moved e n)
   where
     after : Needs (FormAfter x f) ts q → (s : Statement) × (r : List Token) × IsForm (x ∷ ts) s r × Needs (f s) r q
@@ -104,25 +138,57 @@ sound_form kind.Name f x v h e ts q n = after (moved e n)
 sound_form kind.If f x v h e ts q n = branched ts (moved e n)
   where
     branched : (ts : List Token) → Needs (IfThen f) ts q → (s : Statement) × (r : List Token) × IsForm (x ∷ ts) s r × Needs (f s) r q
-    branched _ (word y o (decider d is (word z c (word t i (stmt l at s a (stmts b bs (word u j (stmt l' at' s' a' (stmts b' bs' (word {r = r} w g m)))))))))) =
-        (Branches d (Then l at s b) (Then l' at' s' b'), r, branch (first_word {token = x} h) (first_word {token = y} o) is (first_word {token = z} c) (first_word {token = t} i) (stmts_join a bs) (first_word {token = u} j) (stmts_join a' bs') (first_word {token = w} {rest = r} g), m)
+    branched _ (word y o (decider d is (word z c
+        (word t i (stmt l at s a (stmts b bs (word u j (stmt l' at' s' a' (stmts b' bs' (word {r = r} w g m)))))))))) = (
+          Branches d (Then l at s b) (Then l' at' s' b'),
+          r,
+          branch (first_word {token = x} h) (first_word {token = y} o) is (first_word {token = z} c)
+              (first_word {token = t} i) (stmts_join a bs) (first_word {token = u} j) (stmts_join a' bs')
+              (first_word {token = w} {rest = r} g),
+          m,
+        )
 sound_form kind.While f x v h e ts q n = looped ts (moved e n)
   where
     looped : (ts : List Token) → Needs (WhileThen f) ts q → (s : Statement) × (r : List Token) × IsForm (x ∷ ts) s r × Needs (f s) r q
-    looped _ (word y o (decider d is (word z c (word t i (stmt l at s a (stmts b bs (word {r = r} w g m))))))) =
-        (Loops d (Then l at s b), r, loop (first_word {token = x} h) (first_word {token = y} o) is (first_word {token = z} c) (first_word {token = t} i) (stmts_join a bs) (first_word {token = w} {rest = r} g), m)
+    looped _ (word y o (decider d is (word z c (word t i (stmt l at s a (stmts b bs (word {r = r} w g m))))))) = (
+      Loops d (Then l at s b),
+      r,
+      loop (first_word {token = x} h) (first_word {token = y} o) is (first_word {token = z} c)
+          (first_word {token = t} i) (stmts_join a bs) (first_word {token = w} {rest = r} g),
+      m,
+    )
 sound_form kind.Assert f x v h e ts q n = asserted ts (moved e n)
   where
     asserted : (ts : List Token) → Needs (AssertThen f) ts q → (s : Statement) × (r : List Token) × IsForm (x ∷ ts) s r × Needs (f s) r q
-    asserted _ (word y o (decider d is (word z c (word {r = r} w g m)))) = (Asserts d, r, assertion (first_word {token = x} h) (first_word {token = y} o) is (first_word {token = z} c) (first_word {token = w} {rest = r} g), m)
+    asserted _ (word y o (decider d is (word z c (word {r = r} w g m)))) = (
+      Asserts d,
+      r,
+      assertion (first_word {token = x} h) (first_word {token = y} o) is (first_word {token = z} c)
+          (first_word {token = w} {rest = r} g),
+      m,
+    )
 sound_form kind.Assume f x v h e ts q n = assumed ts (moved e n)
   where
     assumed : (ts : List Token) → Needs (AssumeThen f) ts q → (s : Statement) × (r : List Token) × IsForm (x ∷ ts) s r × Needs (f s) r q
-    assumed _ (word y o (decider d is (word z c (word {r = r} w g m)))) = (Assumes d, r, assumption (first_word {token = x} h) (first_word {token = y} o) is (first_word {token = z} c) (first_word {token = w} {rest = r} g), m)
+    assumed _ (word y o (decider d is (word z c (word {r = r} w g m)))) = (
+      Assumes d,
+      r,
+      assumption (first_word {token = x} h) (first_word {token = y} o) is (first_word {token = z} c)
+          (first_word {token = w} {rest = r} g),
+      m,
+    )
 sound_form kind.Print f x v h e ts q n = printed ts (moved e n)
   where
-    closed : (y : Token) (us : List Token) → y.kind ≡ kind.Open → (es : List Expression) (vs : List Token) → IsExprs us es vs → Needs (WordThen kind.Close (WordThen kind.Semicolon (f (Prints es)))) vs q → (s : Statement) × (r : List Token) × IsForm (x ∷ y ∷ us) s r × Needs (f s) r q
-    closed y us o es _ are (word z c (word {r = r} w g m)) = (Prints es, r, printing (first_word {token = x} h) (first_word {token = y} {rest = us} o) are (first_word {token = z} c) (first_word {token = w} {rest = r} g), m)
+    closed : (y : Token) (us : List Token) → y.kind ≡ kind.Open → (es : List Expression) (vs : List Token)
+        → IsExprs us es vs → Needs (WordThen kind.Close (WordThen kind.Semicolon (f (Prints es)))) vs q
+        → (s : Statement) × (r : List Token) × IsForm (x ∷ y ∷ us) s r × Needs (f s) r q
+    closed y us o es _ are (word z c (word {r = r} w g m)) = (
+      Prints es,
+      r,
+      printing (first_word {token = x} h) (first_word {token = y} {rest = us} o) are (first_word {token = z} c)
+          (first_word {token = w} {rest = r} g),
+      m,
+    )
 
     printed : (ts : List Token) → Needs (PrintThen f) ts q → (s : Statement) × (r : List Token) × IsForm (x ∷ ts) s r × Needs (f s) r q
     printed _ (word {r = us} y o m) =
@@ -130,7 +196,10 @@ sound_form kind.Print f x v h e ts q n = printed ts (moved e n)
         closed y us o p.0 p.1 p.2 p.3
 sound_form _ f x v h e ts q n = absurd (none_some e)
 
-sound_stmt : (k : TokenKind) (f : Option Name → ℕ → Statement → Wanted) (x : Token) (v : Wanted) → x.kind ≡ k → wanted_in_stmt k f x ≡ Some v → (ts : List Token) (q : Program) → Needs v ts q → (l : Option Name) × (at : ℕ) × (s : Statement) × (r : List Token) × IsStmt (x ∷ ts) l at s r × Needs (f l at s) r q
+sound_stmt : (k : TokenKind) (f : Option Name → ℕ → Statement → Wanted) (x : Token) (v : Wanted) → x.kind ≡ k
+    → wanted_in_stmt k f x ≡ Some v → (ts : List Token) (q : Program) → Needs v ts q
+    → (l : Option Name) × (at : ℕ) × (s : Statement) × (r : List Token) × IsStmt (x ∷ ts) l at s r
+    × Needs (f l at s) r q
 sound_stmt kind.Name f x v h e ts q n = after (moved e n)
   where
     after : Needs (StmtAfter x f) ts q → (l : Option Name) × (at : ℕ) × (s : Statement) × (r : List Token) × IsStmt (x ∷ ts) l at s r × Needs (f l at s) r q
@@ -140,9 +209,15 @@ sound_stmt k f x v h e ts q n =
     (None, x.at, p.0, p.1, unlabelled p.2, p.3)
 
 -- a procedure behind its name
-sound_body : (f : Procedure → Wanted) (x : Token) (ts : List Token) (q : Program) → x.kind ≡ kind.Name → Needs (BodyThen (name_of x) f) ts q → (p : Procedure) × (r : List Token) × IsProc (x ∷ ts) p r × Needs (f p) r q
-sound_body f x _ q h (word y o (any_names fs formals (word z c (word v g (decls ls locals (stmt l at s a (stmts b bs (word {r = r} w e m)))))))) =
-    (procedure_of (name_of x) fs ls (Then l at s b), r, proc (first_name {token = x} h) (first_word {token = y} o) formals (first_word {token = z} c) (first_word {token = v} g) locals (stmts_join a bs) (first_word {token = w} {rest = r} e), m)
+sound_body : (f : Procedure → Wanted) (x : Token) (ts : List Token) (q : Program) → x.kind ≡ kind.Name
+    → Needs (BodyThen (name_of x) f) ts q → (p : Procedure) × (r : List Token) × IsProc (x ∷ ts) p r × Needs (f p) r q
+sound_body f x _ q h (word y o (any_names fs formals (word z c (word v g (decls ls locals (stmt l at s a (stmts b bs (word {r = r} w e m)))))))) = (
+  procedure_of (name_of x) fs ls (Then l at s b),
+  r,
+  proc (first_name {token = x} h) (first_word {token = y} o) formals (first_word {token = z} c)
+      (first_word {token = v} g) locals (stmts_join a bs) (first_word {token = w} {rest = r} e),
+  m,
+)
 
 -- a token that may come is one of those that are wanted
 pub sound : (w : Wanted) (x : Token) (v : Wanted) → wanted_after w x ≡ Some v → (ts : List Token) (q : Program) → Needs v ts q → Needs w (x ∷ ts) q
@@ -173,11 +248,15 @@ sound (AnyNamesThen next) x v e ts q n =
 sound (UnThen next) x v e ts q n = sound_un x.kind next x v refl e ts q n
 sound (MoreOperands s a next) x v e ts q n = by_operator (sound (next a) x v) (operator s x.kind) refl e
   where
-    by_operator : (wanted_after (next a) x ≡ Some v → (us : List Token) (p : Program) → Needs v us p → Needs (next a) (x ∷ us) p) → (o : Option Op) → operator s x.kind ≡ o → wanted_by_operator o (λ p. OperandThen s (λ b. MoreOperands s (Operation p a b) next)) (wanted_after (next a) x) ≡ Some v → Needs (MoreOperands s a next) (x ∷ ts) q
+    by_operator : (wanted_after (next a) x ≡ Some v → (us : List Token) (p : Program) → Needs v us p
+        → Needs (next a) (x ∷ us) p) → (o : Option Op) → operator s x.kind ≡ o
+        → wanted_by_operator o (λ p. OperandThen s (λ b. MoreOperands s (Operation p a b) next)) (wanted_after (next a) x)
+        ≡ Some v → Needs (MoreOperands s a next) (x ∷ ts) q
     by_operator other None h f = operands a (no_more_operands s a (x ∷ ts)) (other f ts q n)
     by_operator other (Some o) h f = let p = operand_from s (λ b. MoreOperands s (Operation o a b) next) ts q (moved f n) in more p.0 p.1 p.2 p.3
       where
-        more : (b : Expression) (us : List Token) → IsOperand s ts b us → Needs (MoreOperands s (Operation o a b) next) us q → Needs (MoreOperands s a next) (x ∷ ts) q
+        more : (b : Expression) (us : List Token) → IsOperand s ts b us
+            → Needs (MoreOperands s (Operation o a b) next) us q → Needs (MoreOperands s a next) (x ∷ ts) q
         more b us is (operands {r = r} c m k) = operands c (operand_after s a x ts o b us c r h is m) k
 sound (MoreImplied a next) x v e ts q n =
     ⊎_elim
@@ -225,14 +304,16 @@ sound (StmtAfter x next) y v e ts q n =
     (cond_either (is_same_kind y.kind kind.Colon) _ _ v e)
   where
     behind : (vs : List Token) → y.kind ≡ kind.Colon → Needs (FormThen (next (Some (name_of x)))) vs q → Needs (StmtAfter x next) (y ∷ vs) q
-    behind _ c (form {ts = us} {r = r} z s is m) = stmt_after (Some (name_of x)) z.at s (λ k. labelled (first_name {token = x} k) (first_word {token = y} c) is) m
+    behind _ c (form {ts = us} {r = r} z s is m) =
+        stmt_after (Some (name_of x)) z.at s (λ k. labelled (first_name {token = x} k) (first_word {token = y} c) is) m
 sound (MoreStmts next) x v e ts q n =
     ⊎_elim
     (λ h. let p = sound_stmt x.kind (λ l at s. MoreStmts (λ b. next (Then l at s b))) x v refl h.1 ts q n in begun p.0 p.1 p.2 p.3 p.4 p.5)
     (λ h. stmts Done (no_more_stmts (x ∷ ts)) (sound (next Done) x v h.1 ts q n))
     (cond_either (is_form_start x.kind) _ (wanted_after (next Done) x) v e)
   where
-    begun : (l : Option Name) (at : ℕ) (s : Statement) (us : List Token) → IsStmt (x ∷ ts) l at s us → Needs (MoreStmts (λ b. next (Then l at s b))) us q → Needs (MoreStmts next) (x ∷ ts) q
+    begun : (l : Option Name) (at : ℕ) (s : Statement) (us : List Token) → IsStmt (x ∷ ts) l at s us
+        → Needs (MoreStmts (λ b. next (Then l at s b))) us q → Needs (MoreStmts next) (x ∷ ts) q
     begun l at s us is (stmts {r = r} b m k) = stmts (Then l at s b) (stmts_after (x ∷ ts) (Then l at s b) r (stmts_join is m)) k
 sound (MoreDecls acc next) x v e ts q n =
     ⊎_elim
@@ -240,9 +321,12 @@ sound (MoreDecls acc next) x v e ts q n =
     (λ h. decls [] no_decl (subst (λ l. Needs (next l) (x ∷ ts) q) (sym (append-nil acc)) (sound (next acc) x v h.1 ts q n)))
     (cond_either (is_same_kind x.kind kind.Decl) _ (wanted_after (next acc) x) v e)
   where
-    declared : x.kind ≡ kind.Decl → (ns : List Name) (us : List Token) → IsNames ts ns us → Needs (WordThen kind.Semicolon (MoreDecls (acc ++ ns) next)) us q → Needs (MoreDecls acc next) (x ∷ ts) q
+    declared : x.kind ≡ kind.Decl → (ns : List Name) (us : List Token) → IsNames ts ns us
+        → Needs (WordThen kind.Semicolon (MoreDecls (acc ++ ns) next)) us q → Needs (MoreDecls acc next) (x ∷ ts) q
     declared h ns _ are (word {r = us} y c (decls {r = r} ms more k)) =
-        decls (ns ++ ms) (more_decls (decl (first_word {token = x} {rest = ts} h) are (first_word {token = y} {rest = us} c)) more) (subst (λ l. Needs (next l) r q) (append_assoc acc ns ms) k)
+        decls (ns ++ ms)
+        (more_decls (decl (first_word {token = x} {rest = ts} h) are (first_word {token = y} {rest = us} c)) more)
+        (subst (λ l. Needs (next l) r q) (append_assoc acc ns ms) k)
 sound (MoreProcs acc next) x v e ts q n =
     ⊎_elim
     (λ h. let p = sound_body (λ f. MoreProcs (acc ++ f ∷ []) next) x ts q (same x.kind kind.Name h.0) (moved h.1 n) in one_more p.0 p.1 p.2 p.3)

@@ -39,14 +39,16 @@ closed_or_open text ts at a b =
     let e : None ≡ Some at = sym a.closed ∙ ap first_open_brace (one_cut 0 text a.lexemes b.lexemes a.cut b.cut) ∙ b.unclosed in
     cc
 
-real_and : (k : LexemeKind) (o : Option TokenKind) (at : ℕ) (bytes : List ℕ) (ts : List Token) → fits k bytes ≡ true → kind_of k bytes ≡ o → AllReal ts → AllReal (with_token o at bytes ts)
+real_and : (k : LexemeKind) (o : Option TokenKind) (at : ℕ) (bytes : List ℕ) (ts : List Token) → fits k bytes ≡ true
+    → kind_of k bytes ≡ o → AllReal ts → AllReal (with_token o at bytes ts)
 real_and k None at bytes ts f e r = r
 real_and k (Some kd) at bytes ts f e r = (record { lexeme = k; fits = f; spells = e }, r)
 
 -- the tokens of a text are real
 pub all_real : {at : ℕ} {s : List ℕ} {ps : List Lexeme} → IsCut at s ps → AllReal (tokens_of ps)
 all_real ends = tt
-all_real (fit {at = at} {n = n} {text = s} {kind = k} {more = ps} l c) = real_and k (kind_of k (take n s)) at (take n s) (tokens_of ps) l.is_lexeme refl (all_real c)
+all_real (fit {at = at} {n = n} {text = s} {kind = k} {more = ps} l c) =
+    real_and k (kind_of k (take n s)) at (take n s) (tokens_of ps) l.is_lexeme refl (all_real c)
 all_real (open_brace none is c) = all_real c
 all_real (bad_byte none never c) = all_real c
 
@@ -56,7 +58,8 @@ real_rest (x ∷ front) rest r = real_rest front rest r.1
 
 pub sparse_front : (front rest : List Token) → IsSparse (front ++ rest) → IsSparse front
 sparse_front front rest s before run after parts plain =
-    s before run (after ++ rest) (ap (λ l. l ++ rest) parts ∙ append_assoc before (run ++ after) rest ∙ ap (λ l. before ++ l) (append_assoc run after rest)) plain
+    s before run (after ++ rest) (ap (λ l. l ++ rest) parts ∙ append_assoc before (run ++ after) rest
+    ∙ ap (λ l. before ++ l) (append_assoc run after rest)) plain
 
 derived_opens : (front rest : List Token) (x : Token) (p : Program) → AllReal (front ++ x ∷ rest) → Derives (front ++ x ∷ rest) p → Opens (front ++ x ∷ [])
 derived_opens front rest x p real d = record {
@@ -104,7 +107,8 @@ one_program text p q a b =
     one_tree a.tokens p q a.derives (subst (λ l. Derives l q) (same_tokens text b.tokens a.tokens b.scanned a.scanned) b.derives)
 
 -- an answer that is right is the only one but for memory
-pub only_answer : (text : List ℕ) (r : Result Program ReadFault) → MatchResult r (IsTextOf text) (IsRefusal text) → (p : Program) → IsTextOf text p → MatchResult r (λ t. t ≡ p) (λ e. e ≡ fault.Memory)
+pub only_answer : (text : List ℕ) (r : Result Program ReadFault) → MatchResult r (IsTextOf text) (IsRefusal text)
+    → (p : Program) → IsTextOf text p → MatchResult r (λ t. t ≡ p) (λ e. e ≡ fault.Memory)
 only_answer text (Ok q) a p t = one_program text q p a t
 only_answer text (Err e) a p t = only_memory text p e t a
 
@@ -125,9 +129,17 @@ end_is : (end : ℕ) (left : List Token) → left ≡ [] → place_or end left �
 end_is end [] e = refl
 end_is end (x ∷ r) e = let z : ⊥ = cc in absurd z
 
-pub parse_fault : (text : List ℕ) (ts : List Token) (e : ReadFault) → length text ≤ TEXT_LIMIT → HasTokens text ts → IsShallow ts → IsSparse ts → IsParseFault ts (length text) e → IsRefusal text e
-parse_fault text ts (fault.Syntax at) le has shallow sparse f =
-    (le, ts, has, shallow, sparse, stops_at_fault text ts f.0 at f.1 (λ x r e. sym (place_is (length text) f.0 x r e) ∙ sym f.2) (λ e. f.2 ∙ end_is (length text) f.0 e))
+pub parse_fault : (text : List ℕ) (ts : List Token) (e : ReadFault) → length text ≤ TEXT_LIMIT → HasTokens text ts
+    → IsShallow ts → IsSparse ts → IsParseFault ts (length text) e → IsRefusal text e
+parse_fault text ts (fault.Syntax at) le has shallow sparse f = (
+  le,
+  ts,
+  has,
+  shallow,
+  sparse,
+  stops_at_fault text ts f.0 at f.1 (λ x r e. sym (place_is (length text) f.0 x r e) ∙ sym f.2)
+      (λ e. f.2 ∙ end_is (length text) f.0 e),
+)
 parse_fault text ts fault.Memory le has shallow sparse f = le
 parse_fault text ts fault.TooLong le has shallow sparse f = absurd f
 parse_fault text ts (fault.BadByte at) le has shallow sparse f = absurd f
@@ -135,13 +147,16 @@ parse_fault text ts (fault.OpenName at) le has shallow sparse f = absurd f
 parse_fault text ts (fault.TooNested at) le has shallow sparse f = absurd f
 parse_fault text ts (fault.TooManyTokens at) le has shallow sparse f = absurd f
 
-pub nested_fault : (text : List ℕ) (ts : List Token) (at : ℕ) → length text ≤ TEXT_LIMIT → HasTokens text ts → first_too_deep 0 ts ≡ Some at → IsRefusal text (fault.TooNested at)
+pub nested_fault : (text : List ℕ) (ts : List Token) (at : ℕ) → length text ≤ TEXT_LIMIT → HasTokens text ts
+    → first_too_deep 0 ts ≡ Some at → IsRefusal text (fault.TooNested at)
 nested_fault text ts at le has e = (le, ts, has, some_is_deep ts at e)
 
-pub crowd_fault : (text : List ℕ) (ts : List Token) (at : ℕ) → length text ≤ TEXT_LIMIT → HasTokens text ts → first_too_deep 0 ts ≡ None → first_too_many 0 ts ≡ Some at → IsRefusal text (fault.TooManyTokens at)
+pub crowd_fault : (text : List ℕ) (ts : List Token) (at : ℕ) → length text ≤ TEXT_LIMIT → HasTokens text ts
+    → first_too_deep 0 ts ≡ None → first_too_many 0 ts ≡ Some at → IsRefusal text (fault.TooManyTokens at)
 crowd_fault text ts at le has flat e = (le, ts, has, none_is_shallow ts flat, some_is_crowded ts at e)
 
-pub parsed : (text : List ℕ) (ts : List Token) (p : Program) → length text ≤ TEXT_LIMIT → HasTokens text ts → first_too_deep 0 ts ≡ None → first_too_many 0 ts ≡ None → parse_result whole_program ts ≡ Got p → IsTextOf text p
+pub parsed : (text : List ℕ) (ts : List Token) (p : Program) → length text ≤ TEXT_LIMIT → HasTokens text ts
+    → first_too_deep 0 ts ≡ None → first_too_many 0 ts ≡ None → parse_result whole_program ts ≡ Got p → IsTextOf text p
 parsed text ts p le has flat few e = record {
   short = le;
   tokens = ts;
@@ -152,7 +167,8 @@ parsed text ts p le has flat few e = record {
 }
 
 -- a refusal that is passed on
-pub fault_passed_on : (text : List ℕ) (r : Result Program ReadFault) (e : ReadFault) → IsErrAnd r (λ d. d ≡ e) → IsRefusal text e → MatchResult r (IsTextOf text) (IsRefusal text)
+pub fault_passed_on : (text : List ℕ) (r : Result Program ReadFault) (e : ReadFault) → IsErrAnd r (λ d. d ≡ e)
+    → IsRefusal text e → MatchResult r (IsTextOf text) (IsRefusal text)
 fault_passed_on text r e is f =
     let p = err_from_is_err_and r is in
     subst (λ q. MatchResult q (IsTextOf text) (IsRefusal text)) (sym p.1) (subst (IsRefusal text) (sym p.2) f)

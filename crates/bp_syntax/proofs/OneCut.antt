@@ -54,7 +54,9 @@ has_cut_within zero at (b ∷ bs) le = absurd (omega arith)
 has_cut_within (suc f) at [] le = ([], ends)
 has_cut_within (suc f) at (b ∷ bs) le = let h = has_front b bs in cut_by h.0 h.1 (has_cut_within f)
   where
-    cut_by : (r : FirstLexeme) → IsFirstLexeme (b ∷ bs) r → ((at : ℕ) (s : List ℕ) → length s ≤ f → (ps : List Lexeme) × IsCut at s ps) → (ps : List Lexeme) × IsCut at (b ∷ bs) ps
+    cut_by : (r : FirstLexeme) → IsFirstLexeme (b ∷ bs) r
+        → ((at : ℕ) (s : List ℕ) → length s ≤ f → (ps : List Lexeme) × IsCut at s ps)
+        → (ps : List Lexeme) × IsCut at (b ∷ bs) ps
     cut_by (first.OpenBrace n) is rest =
         let c = rest (at + 1) bs (omega arith) in
         let same : b ≡ 123 = let h = is.1 in cc in

@@ -17,30 +17,39 @@ pub yes : (x : Token) (k : TokenKind) → x.kind ≡ k → is_same_kind x.kind k
 yes x k h = true_same the_type x.kind k h
 
 -- by a test of the next token
-pub taken : (b : Bool) (w : Wanted) (o : Option Wanted) (x : Token) (r : List Token) → b ≡ true → result_after (cond b (Some w) o) (λ v. parse_result v r) (Stops (x ∷ r)) ≡ parse_result w r
+pub taken : (b : Bool) (w : Wanted) (o : Option Wanted) (x : Token) (r : List Token) → b ≡ true
+    → result_after (cond b (Some w) o) (λ v. parse_result v r) (Stops (x ∷ r)) ≡ parse_result w r
 taken b w o x r h = ap (λ t. result_after (cond t (Some w) o) (λ v. parse_result v r) (Stops (x ∷ r))) h
 
-pub chosen : (b : Bool) (p o : Option Wanted) (x : Token) (r : List Token) → b ≡ true → result_after (cond b p o) (λ v. parse_result v r) (Stops (x ∷ r)) ≡ result_after p (λ v. parse_result v r) (Stops (x ∷ r))
+pub chosen : (b : Bool) (p o : Option Wanted) (x : Token) (r : List Token) → b ≡ true
+    → result_after (cond b p o) (λ v. parse_result v r) (Stops (x ∷ r))
+    ≡ result_after p (λ v. parse_result v r) (Stops (x ∷ r))
 chosen b p o x r h = ap (λ t. result_after (cond t p o) (λ v. parse_result v r) (Stops (x ∷ r))) h
 
-pub passed : (b : Bool) (p o : Option Wanted) (x : Token) (r : List Token) → b ≡ false → result_after (cond b p o) (λ v. parse_result v r) (Stops (x ∷ r)) ≡ result_after o (λ v. parse_result v r) (Stops (x ∷ r))
+pub passed : (b : Bool) (p o : Option Wanted) (x : Token) (r : List Token) → b ≡ false
+    → result_after (cond b p o) (λ v. parse_result v r) (Stops (x ∷ r))
+    ≡ result_after o (λ v. parse_result v r) (Stops (x ∷ r))
 passed b p o x r h = ap (λ t. result_after (cond t p o) (λ v. parse_result v r) (Stops (x ∷ r))) h
 
 pub read_word : (k : TokenKind) (next : Wanted) (x : Token) (r : List Token) → x.kind ≡ k → parse_result (WordThen k next) (x ∷ r) ≡ parse_result next r
 read_word k next x r h = taken _ next None x r (yes x k h)
 
-pub read_name : (next : Name → Wanted) (x : Token) (r : List Token) → x.kind ≡ kind.Name → parse_result (NameThen next) (x ∷ r) ≡ parse_result (next (name_of x)) r
+pub read_name : (next : Name → Wanted) (x : Token) (r : List Token) → x.kind ≡ kind.Name
+    → parse_result (NameThen next) (x ∷ r) ≡ parse_result (next (name_of x)) r
 read_name next x r h = taken _ (next (name_of x)) None x r (yes x kind.Name h)
 
-pub read_comma : (acc : List Name) (next : List Name → Wanted) (x : Token) (r : List Token) → x.kind ≡ kind.Comma → parse_result (MoreNames acc next) (x ∷ r) ≡ parse_result (NamesThen acc next) r
+pub read_comma : (acc : List Name) (next : List Name → Wanted) (x : Token) (r : List Token) → x.kind ≡ kind.Comma
+    → parse_result (MoreNames acc next) (x ∷ r) ≡ parse_result (NamesThen acc next) r
 read_comma acc next x r h = taken _ (NamesThen acc next) _ x r (yes x kind.Comma h)
 
-pub no_comma : (acc : List Name) (next : List Name → Wanted) (r : List Token) → is_at kind.Comma r ≡ false → parse_result (MoreNames acc next) r ≡ parse_result (next acc) r
+pub no_comma : (acc : List Name) (next : List Name → Wanted) (r : List Token) → is_at kind.Comma r ≡ false
+    → parse_result (MoreNames acc next) r ≡ parse_result (next acc) r
 no_comma acc next [] h = refl
 no_comma acc next (x ∷ r) h = passed _ _ _ x r h
 
 -- a list of names that may be empty, where there is one, or none
-pub some_name : (next : List Name → Wanted) (ts : List Token) → is_at kind.Name ts ≡ true → parse_result (AnyNamesThen next) ts ≡ parse_result (NamesThen [] next) ts
+pub some_name : (next : List Name → Wanted) (ts : List Token) → is_at kind.Name ts ≡ true
+    → parse_result (AnyNamesThen next) ts ≡ parse_result (NamesThen [] next) ts
 some_name next [] h = absurd (false≢true h)
 some_name next (x ∷ r) h = taken _ (MoreNames (name_of x ∷ []) next) _ x r h ∙ sym (taken _ (MoreNames (name_of x ∷ []) next) None x r h)
 
@@ -48,14 +57,17 @@ pub no_name : (next : List Name → Wanted) (r : List Token) → is_at kind.Name
 no_name next [] h = refl
 no_name next (x ∷ r) h = passed _ _ _ x r h
 
-pub read_expr_comma : (acc : List Expression) (next : List Expression → Wanted) (x : Token) (r : List Token) → x.kind ≡ kind.Comma → parse_result (MoreExprs acc next) (x ∷ r) ≡ parse_result (ExprsThen acc next) r
+pub read_expr_comma : (acc : List Expression) (next : List Expression → Wanted) (x : Token) (r : List Token)
+    → x.kind ≡ kind.Comma → parse_result (MoreExprs acc next) (x ∷ r) ≡ parse_result (ExprsThen acc next) r
 read_expr_comma acc next x r h = taken _ (ExprsThen acc next) _ x r (yes x kind.Comma h)
 
-pub no_expr_comma : (acc : List Expression) (next : List Expression → Wanted) (r : List Token) → is_at kind.Comma r ≡ false → parse_result (MoreExprs acc next) r ≡ parse_result (next acc) r
+pub no_expr_comma : (acc : List Expression) (next : List Expression → Wanted) (r : List Token)
+    → is_at kind.Comma r ≡ false → parse_result (MoreExprs acc next) r ≡ parse_result (next acc) r
 no_expr_comma acc next [] h = refl
 no_expr_comma acc next (x ∷ r) h = passed _ _ _ x r h
 
-pub some_expr : (next : List Expression → Wanted) (ts : List Token) → is_at_expr ts ≡ true → parse_result (AnyExprsThen next) ts ≡ parse_result (ExprsThen [] next) ts
+pub some_expr : (next : List Expression → Wanted) (ts : List Token) → is_at_expr ts ≡ true
+    → parse_result (AnyExprsThen next) ts ≡ parse_result (ExprsThen [] next) ts
 some_expr next [] h = absurd (false≢true h)
 some_expr next (x ∷ r) h = chosen _ _ _ x r h
 
@@ -63,34 +75,54 @@ pub no_expr : (next : List Expression → Wanted) (r : List Token) → is_at_exp
 no_expr next [] h = refl
 no_expr next (x ∷ r) h = passed _ _ _ x r h
 
-pub read_operator : (s : Precedence) (o : Op) (a : Expression) (next : Expression → Wanted) (x : Token) (r : List Token) → operator s x.kind ≡ Some o → parse_result (MoreOperands s a next) (x ∷ r) ≡ parse_result (OperandThen s (λ b. MoreOperands s (Operation o a b) next)) r
-read_operator s o a next x r h = ap (λ p. result_after (wanted_by_operator p (λ q. OperandThen s (λ b. MoreOperands s (Operation q a b) next)) (wanted_after (next a) x)) (λ v. parse_result v r) (Stops (x ∷ r))) h
+pub read_operator : (s : Precedence) (o : Op) (a : Expression) (next : Expression → Wanted) (x : Token) (r : List Token)
+    → operator s x.kind ≡ Some o
+    → parse_result (MoreOperands s a next) (x ∷ r)
+    ≡ parse_result (OperandThen s (λ b. MoreOperands s (Operation o a b) next)) r
+read_operator s o a next x r h =
+    ap (λ p. result_after
+    (wanted_by_operator p (λ q. OperandThen s (λ b. MoreOperands s (Operation q a b) next)) (wanted_after (next a) x))
+    (λ v. parse_result v r) (Stops (x ∷ r))) h
 
-pub no_operator : (s : Precedence) (a : Expression) (next : Expression → Wanted) (r : List Token) → operator_ahead s r ≡ None → parse_result (MoreOperands s a next) r ≡ parse_result (next a) r
+pub no_operator : (s : Precedence) (a : Expression) (next : Expression → Wanted) (r : List Token)
+    → operator_ahead s r ≡ None → parse_result (MoreOperands s a next) r ≡ parse_result (next a) r
 no_operator s a next [] h = refl
-no_operator s a next (x ∷ r) h = ap (λ p. result_after (wanted_by_operator p (λ q. OperandThen s (λ b. MoreOperands s (Operation q a b) next)) (wanted_after (next a) x)) (λ v. parse_result v r) (Stops (x ∷ r))) h
+no_operator s a next (x ∷ r) h =
+    ap (λ p. result_after
+    (wanted_by_operator p (λ q. OperandThen s (λ b. MoreOperands s (Operation q a b) next)) (wanted_after (next a) x))
+    (λ v. parse_result v r) (Stops (x ∷ r))) h
 
-pub read_implies : (a : Expression) (next : Expression → Wanted) (x : Token) (r : List Token) → x.kind ≡ kind.Implies → parse_result (MoreImplied a next) (x ∷ r) ≡ parse_result (ExprThen (λ b. next (Operation op.Implies a b))) r
+pub read_implies : (a : Expression) (next : Expression → Wanted) (x : Token) (r : List Token) → x.kind ≡ kind.Implies
+    → parse_result (MoreImplied a next) (x ∷ r) ≡ parse_result (ExprThen (λ b. next (Operation op.Implies a b))) r
 read_implies a next x r h = taken _ (ExprThen (λ b. next (Operation op.Implies a b))) _ x r (yes x kind.Implies h)
 
-pub no_implies : (a : Expression) (next : Expression → Wanted) (r : List Token) → is_at kind.Implies r ≡ false → parse_result (MoreImplied a next) r ≡ parse_result (next a) r
+pub no_implies : (a : Expression) (next : Expression → Wanted) (r : List Token) → is_at kind.Implies r ≡ false
+    → parse_result (MoreImplied a next) r ≡ parse_result (next a) r
 no_implies a next [] h = refl
 no_implies a next (x ∷ r) h = passed _ _ _ x r h
 
-pub at_kind_un : (k : TokenKind) (next : Expression → Wanted) (x : Token) (r : List Token) → x.kind ≡ k → parse_result (UnThen next) (x ∷ r) ≡ result_after (wanted_in_un k next x) (λ v. parse_result v r) (Stops (x ∷ r))
+pub at_kind_un : (k : TokenKind) (next : Expression → Wanted) (x : Token) (r : List Token) → x.kind ≡ k
+    → parse_result (UnThen next) (x ∷ r) ≡ result_after (wanted_in_un k next x) (λ v. parse_result v r) (Stops (x ∷ r))
 at_kind_un k next x r h = ap (λ a. result_after (wanted_in_un a next x) (λ v. parse_result v r) (Stops (x ∷ r))) h
 
-pub read_question : (next : Decision → Wanted) (x : Token) (r : List Token) → x.kind ≡ kind.Question → parse_result (DeciderThen next) (x ∷ r) ≡ parse_result (next Choose) r
+pub read_question : (next : Decision → Wanted) (x : Token) (r : List Token) → x.kind ≡ kind.Question
+    → parse_result (DeciderThen next) (x ∷ r) ≡ parse_result (next Choose) r
 read_question next x r h = taken _ (next Choose) _ x r (yes x kind.Question h)
 
-pub no_question : (next : Decision → Wanted) (ts : List Token) → is_at kind.Question ts ≡ false → parse_result (DeciderThen next) ts ≡ parse_result (ExprThen (λ e. next (Decide e))) ts
+pub no_question : (next : Decision → Wanted) (ts : List Token) → is_at kind.Question ts ≡ false
+    → parse_result (DeciderThen next) ts ≡ parse_result (ExprThen (λ e. next (Decide e))) ts
 no_question next [] h = refl
 no_question next (x ∷ r) h = passed _ _ _ x r h
 
-pub at_kind_form : (k : TokenKind) (next : ℕ → Statement → Wanted) (x : Token) (r : List Token) → x.kind ≡ k → parse_result (FormThen next) (x ∷ r) ≡ result_after (wanted_in_form k (next x.at) x) (λ v. parse_result v r) (Stops (x ∷ r))
+pub at_kind_form : (k : TokenKind) (next : ℕ → Statement → Wanted) (x : Token) (r : List Token) → x.kind ≡ k
+    → parse_result (FormThen next) (x ∷ r)
+    ≡ result_after (wanted_in_form k (next x.at) x) (λ v. parse_result v r) (Stops (x ∷ r))
 at_kind_form k next x r h = ap (λ a. result_after (wanted_in_form a (next x.at) x) (λ v. parse_result v r) (Stops (x ∷ r))) h
 
-pub at_kind_stmt : (k : TokenKind) (next : Option Name → ℕ → Statement → Wanted) (x : Token) (r : List Token) → x.kind ≡ k → parse_result (StmtThen next) (x ∷ r) ≡ result_after (wanted_in_stmt k next x) (λ v. parse_result v r) (Stops (x ∷ r))
+pub at_kind_stmt : (k : TokenKind) (next : Option Name → ℕ → Statement → Wanted) (x : Token) (r : List Token)
+    → x.kind ≡ k
+    → parse_result (StmtThen next) (x ∷ r)
+    ≡ result_after (wanted_in_stmt k next x) (λ v. parse_result v r) (Stops (x ∷ r))
 at_kind_stmt k next x r h = ap (λ a. result_after (wanted_in_stmt a next x) (λ v. parse_result v r) (Stops (x ∷ r))) h
 
 pub more_stmts_ahead : (next : Block → Wanted) (ts : List Token) → is_at_form ts ≡ true → parse_result (MoreStmts next) ts ≡ parse_result (StmtsThen next) ts
@@ -101,25 +133,32 @@ pub no_stmt : (next : Block → Wanted) (ts : List Token) → is_at_form ts ≡ 
 no_stmt next [] h = refl
 no_stmt next (x ∷ r) h = passed _ _ _ x r h
 
-pub read_decl : (acc : List Name) (next : List Name → Wanted) (x : Token) (r : List Token) → x.kind ≡ kind.Decl → parse_result (MoreDecls acc next) (x ∷ r) ≡ parse_result (NamesThen acc (λ ns. WordThen kind.Semicolon (MoreDecls ns next))) r
+pub read_decl : (acc : List Name) (next : List Name → Wanted) (x : Token) (r : List Token) → x.kind ≡ kind.Decl
+    → parse_result (MoreDecls acc next) (x ∷ r)
+    ≡ parse_result (NamesThen acc (λ ns. WordThen kind.Semicolon (MoreDecls ns next))) r
 read_decl acc next x r h = taken _ (NamesThen acc (λ ns. WordThen kind.Semicolon (MoreDecls ns next))) _ x r (yes x kind.Decl h)
 
-pub no_decl_ahead : (acc : List Name) (next : List Name → Wanted) (r : List Token) → is_at kind.Decl r ≡ false → parse_result (MoreDecls acc next) r ≡ parse_result (next acc) r
+pub no_decl_ahead : (acc : List Name) (next : List Name → Wanted) (r : List Token) → is_at kind.Decl r ≡ false
+    → parse_result (MoreDecls acc next) r ≡ parse_result (next acc) r
 no_decl_ahead acc next [] h = refl
 no_decl_ahead acc next (x ∷ r) h = passed _ _ _ x r h
 
-pub more_procs_ahead : (acc : List Procedure) (next : List Procedure → Wanted) (ts : List Token) → is_at kind.Name ts ≡ true → parse_result (MoreProcs acc next) ts ≡ parse_result (ProcThen (λ p. MoreProcs (acc ++ p ∷ []) next)) ts
+pub more_procs_ahead : (acc : List Procedure) (next : List Procedure → Wanted) (ts : List Token)
+    → is_at kind.Name ts ≡ true
+    → parse_result (MoreProcs acc next) ts ≡ parse_result (ProcThen (λ p. MoreProcs (acc ++ p ∷ []) next)) ts
 more_procs_ahead acc next [] h = absurd (false≢true h)
 more_procs_ahead acc next (x ∷ r) h =
     let then = BodyThen (name_of x) (λ p. MoreProcs (acc ++ p ∷ []) next) in
     taken _ then _ x r h ∙ sym (taken _ then None x r h)
 
-pub no_proc_ahead : (acc : List Procedure) (next : List Procedure → Wanted) (r : List Token) → is_at kind.Name r ≡ false → parse_result (MoreProcs acc next) r ≡ parse_result (next acc) r
+pub no_proc_ahead : (acc : List Procedure) (next : List Procedure → Wanted) (r : List Token) → is_at kind.Name r ≡ false
+    → parse_result (MoreProcs acc next) r ≡ parse_result (next acc) r
 no_proc_ahead acc next [] h = refl
 no_proc_ahead acc next (x ∷ r) h = passed _ _ _ x r h
 
 -- a statement that begins with a name
-pub call_ahead : (next : ℕ → Statement → Wanted) (x : Token) (r : List Token) → x.kind ≡ kind.Name → is_at kind.Open r ≡ true → parse_result (FormThen next) (x ∷ r) ≡ parse_result (CallThen (next x.at)) (x ∷ r)
+pub call_ahead : (next : ℕ → Statement → Wanted) (x : Token) (r : List Token) → x.kind ≡ kind.Name
+    → is_at kind.Open r ≡ true → parse_result (FormThen next) (x ∷ r) ≡ parse_result (CallThen (next x.at)) (x ∷ r)
 call_ahead next x [] h o = absurd (false≢true o)
 call_ahead next x (y ∷ r) h o =
     at_kind_form kind.Name next x (y ∷ r) h
@@ -127,7 +166,8 @@ call_ahead next x (y ∷ r) h o =
     ∙ sym (taken _ (ArgumentsThen (name_of x) (next x.at)) None y r o)
     ∙ sym (read_name (λ n. WordThen kind.Open (ArgumentsThen n (next x.at))) x (y ∷ r) h)
 
-pub assign_ahead : (next : ℕ → Statement → Wanted) (x : Token) (r : List Token) → x.kind ≡ kind.Name → is_at kind.Open r ≡ false → parse_result (FormThen next) (x ∷ r) ≡ parse_result (AssignThen (next x.at)) (x ∷ r)
+pub assign_ahead : (next : ℕ → Statement → Wanted) (x : Token) (r : List Token) → x.kind ≡ kind.Name
+    → is_at kind.Open r ≡ false → parse_result (FormThen next) (x ∷ r) ≡ parse_result (AssignThen (next x.at)) (x ∷ r)
 assign_ahead next x [] h o =
     at_kind_form kind.Name next x [] h ∙ sym (read_name (λ n. MoreNames (n ∷ []) (TargetsThen (next x.at))) x [] h)
 assign_ahead next x (y ∷ r) h o =
@@ -136,11 +176,15 @@ assign_ahead next x (y ∷ r) h o =
     ∙ sym (read_name (λ n. MoreNames (n ∷ []) (TargetsThen (next x.at))) x (y ∷ r) h)
 
 -- a label, or none
-pub read_label : (next : Option Name → ℕ → Statement → Wanted) (x y : Token) (r : List Token) → x.kind ≡ kind.Name → y.kind ≡ kind.Colon → parse_result (StmtThen next) (x ∷ y ∷ r) ≡ parse_result (FormThen (next (Some (name_of x)))) r
+pub read_label : (next : Option Name → ℕ → Statement → Wanted) (x y : Token) (r : List Token) → x.kind ≡ kind.Name
+    → y.kind ≡ kind.Colon
+    → parse_result (StmtThen next) (x ∷ y ∷ r) ≡ parse_result (FormThen (next (Some (name_of x)))) r
 read_label next x y r h c =
     at_kind_stmt kind.Name next x (y ∷ r) h ∙ taken _ (FormThen (next (Some (name_of x)))) _ y r (yes y kind.Colon c)
 
-no_label_by : (k : TokenKind) (next : Option Name → ℕ → Statement → Wanted) (x : Token) (r : List Token) → x.kind ≡ k → (k ≡ kind.Name → is_at kind.Colon r ≡ false) → parse_result (StmtThen next) (x ∷ r) ≡ parse_result (FormThen (next None)) (x ∷ r)
+no_label_by : (k : TokenKind) (next : Option Name → ℕ → Statement → Wanted) (x : Token) (r : List Token) → x.kind ≡ k
+    → (k ≡ kind.Name → is_at kind.Colon r ≡ false)
+    → parse_result (StmtThen next) (x ∷ r) ≡ parse_result (FormThen (next None)) (x ∷ r)
 no_label_by kind.Name next x [] h c = at_kind_stmt kind.Name next x [] h ∙ sym (at_kind_form kind.Name (next None) x [] h)
 no_label_by kind.Name next x (y ∷ r) h c =
     at_kind_stmt kind.Name next x (y ∷ r) h
@@ -148,6 +192,8 @@ no_label_by kind.Name next x (y ∷ r) h c =
     ∙ sym (at_kind_form kind.Name (next None) x (y ∷ r) h)
 no_label_by k next x r h c = at_kind_stmt k next x r h ∙ sym (at_kind_form k (next None) x r h)
 
-pub no_label : (next : Option Name → ℕ → Statement → Wanted) (ts : List Token) → (kind_ahead ts ≡ Some kind.Name → is_at kind.Colon (drop 1 ts) ≡ false) → parse_result (StmtThen next) ts ≡ parse_result (FormThen (next None)) ts
+pub no_label : (next : Option Name → ℕ → Statement → Wanted) (ts : List Token)
+    → (kind_ahead ts ≡ Some kind.Name → is_at kind.Colon (drop 1 ts) ≡ false)
+    → parse_result (StmtThen next) ts ≡ parse_result (FormThen (next None)) ts
 no_label next [] c = refl
 no_label next (x ∷ r) c = no_label_by x.kind next x r refl (λ e. c (ap Some e))

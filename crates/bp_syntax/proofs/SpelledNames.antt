@@ -101,7 +101,9 @@ word_on_one_line (b ∷ bs) h = All-cons (λ x. x ≢ 10) b bs (no_feed is_word_
 rest_on_one_line : (bs : List ℕ) → is_braced_rest bs ≡ true → All (λ b. b ≢ 10) bs
 rest_on_one_line [] h = absurd (false≢true h)
 rest_on_one_line (b ∷ []) h = All-cons (λ x. x ≢ 10) b [] (no_feed (λ x. nat_eq x 125) b refl h) (All-nil (λ x. x ≢ 10))
-rest_on_one_line (b ∷ c ∷ bs) h = All-cons (λ x. x ≢ 10) b (c ∷ bs) (no_feed is_braced_byte b refl (both_left _ _ h)) (rest_on_one_line (c ∷ bs) (both_right _ _ h))
+rest_on_one_line (b ∷ c ∷ bs) h =
+    All-cons (λ x. x ≢ 10) b (c ∷ bs) (no_feed is_braced_byte b refl (both_left _ _ h))
+    (rest_on_one_line (c ∷ bs) (both_right _ _ h))
 
 -- what is spelled as a name holds no line feed
 pub on_one_line : (s : List ℕ) → IsSpelled s → All (λ b. b ≢ 10) s

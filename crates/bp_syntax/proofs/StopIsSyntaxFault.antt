@@ -24,7 +24,9 @@ read_is_needed [] w q e = end_by (program_at_end w) refl e
     end_by (Some p) h e = sound_end w q (h ∙ (let s : Some p ≡ Some q = cc in s))
 read_is_needed (x ∷ ts) w q e = step_by (wanted_after w x) refl e (read_is_needed ts)
   where
-    step_by : (o : Option Wanted) → wanted_after w x ≡ o → result_after o (λ v. parse_result v ts) (Stops (x ∷ ts)) ≡ Got q → ((v : Wanted) (p : Program) → parse_result v ts ≡ Got p → Needs v ts p) → Needs w (x ∷ ts) q
+    step_by : (o : Option Wanted) → wanted_after w x ≡ o
+        → result_after o (λ v. parse_result v ts) (Stops (x ∷ ts)) ≡ Got q
+        → ((v : Wanted) (p : Program) → parse_result v ts ≡ Got p → Needs v ts p) → Needs w (x ∷ ts) q
     step_by None h e rest = let z : ⊥ = cc in absurd z
     step_by (Some v) h e rest = sound w x v h ts q (rest v q e)
 
@@ -57,7 +59,9 @@ stopped [] w left e = end_by (program_at_end w) refl e
         }
 stopped (x ∷ ts) w left e = step_by (wanted_after w x) refl e (stopped ts)
   where
-    step_by : (o : Option Wanted) → wanted_after w x ≡ o → result_after o (λ v. parse_result v ts) (Stops (x ∷ ts)) ≡ Stops left → ((v : Wanted) (l : List Token) → parse_result v ts ≡ Stops l → Stopped v ts l) → Stopped w (x ∷ ts) left
+    step_by : (o : Option Wanted) → wanted_after w x ≡ o
+        → result_after o (λ v. parse_result v ts) (Stops (x ∷ ts)) ≡ Stops left
+        → ((v : Wanted) (l : List Token) → parse_result v ts ≡ Stops l → Stopped v ts l) → Stopped w (x ∷ ts) left
     step_by None h e rest =
         let l : x ∷ ts ≡ left = cc in
         record {
@@ -90,7 +94,9 @@ got_or_stops : {p : Program} {l : List Token} → Got p ≡ Stops l → ⊥
 got_or_stops e = cc
 
 -- where the parser stops is the syntax fault
-pub stops_at_fault : (text : List ℕ) (ts left : List Token) (at : ℕ) → parse_result whole_program ts ≡ Stops left → ((x : Token) (r : List Token) → left ≡ x ∷ r → x.at ≡ at) → (left ≡ [] → at ≡ length text) → HasSyntaxFault text ts at
+pub stops_at_fault : (text : List ℕ) (ts left : List Token) (at : ℕ) → parse_result whole_program ts ≡ Stops left
+    → ((x : Token) (r : List Token) → left ≡ x ∷ r → x.at ≡ at) → (left ≡ [] → at ≡ length text)
+    → HasSyntaxFault text ts at
 stops_at_fault text ts [] at e here there =
     let s = stopped ts whole_program [] e in
     let whole : ts ≡ s.front = s.parts ∙ append-nil s.front in

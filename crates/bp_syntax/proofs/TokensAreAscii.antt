@@ -56,7 +56,8 @@ lexeme_ascii lexeme.Symbol [] kd h e = absurd (false≢true h)
 lexeme_ascii lexeme.Symbol (b ∷ []) kd h e =
     ascii_cons b [] (keyed (λ x. x < 128) b symbols (omega arith, (omega arith, (omega arith, (omega arith, (omega arith, (omega arith, (omega arith, (omega arith, (omega arith, (omega arith, (omega arith, tt))))))))))) h) nil_ascii
 lexeme_ascii lexeme.Symbol (b ∷ c ∷ []) kd h e =
-    let f = found (λ (p : ℕ × ℕ). nat_eq b p.0 && nat_eq c p.1) (λ p. (p.0 < 128) × (p.1 < 128)) long_symbols ((omega arith, omega arith), ((omega arith, omega arith), ((omega arith, omega arith), tt))) h in
+    let f = found (λ (p : ℕ × ℕ). nat_eq b p.0 && nat_eq c p.1) (λ p. (p.0 < 128) × (p.1 < 128)) long_symbols
+    ((omega arith, omega arith), ((omega arith, omega arith), ((omega arith, omega arith), tt))) h in
     ascii_cons b (c ∷ []) (subst (λ x. x < 128) (sym (eqb-true b f.0.0 (both_left _ _ f.1))) f.2.0)
     (ascii_cons c [] (subst (λ x. x < 128) (sym (eqb-true c f.0.1 (both_right _ _ f.1))) f.2.1) nil_ascii)
 lexeme_ascii lexeme.Symbol (b ∷ c ∷ d ∷ bs) kd h e = absurd (false≢true h)

@@ -41,14 +41,25 @@ completed (NameThen next) =
     record { more = x ∷ c.more; real = (some_real kind.Name, c.real); tree = c.tree; needs = name x refl c.needs }
 completed (MoreNames acc next) =
     let c = completed (next acc) in
-    record { more = c.more; real = c.real; tree = c.tree; needs = names [] (no_more_names c.more) (subst (λ l. Needs (next l) c.more c.tree) (sym (append-nil acc)) c.needs) }
+    record {
+      more = c.more;
+      real = c.real;
+      tree = c.tree;
+      needs =
+          names [] (no_more_names c.more) (subst (λ l. Needs (next l) c.more c.tree) (sym (append-nil acc)) c.needs);
+    }
 completed (AnyNamesThen next) =
     let c = completed (next []) in
     record { more = c.more; real = c.real; tree = c.tree; needs = any_names [] no_names c.needs }
 completed (UnThen next) =
     let x = some_token kind.Zero in
     let c = completed (next (Constant false)) in
-    record { more = x ∷ c.more; real = (some_real kind.Zero, c.real); tree = c.tree; needs = un (Constant false) (of_atom (constant_0 (first_word {token = x} {rest = c.more} refl))) c.needs }
+    record {
+      more = x ∷ c.more;
+      real = (some_real kind.Zero, c.real);
+      tree = c.tree;
+      needs = un (Constant false) (of_atom (constant_0 (first_word {token = x} {rest = c.more} refl))) c.needs;
+    }
 completed (MoreOperands s a next) =
     let c = completed (next a) in
     record { more = c.more; real = c.real; tree = c.tree; needs = operands a (no_more_operands s a c.more) c.needs }
@@ -57,39 +68,67 @@ completed (MoreImplied a next) =
     record { more = c.more; real = c.real; tree = c.tree; needs = implied a (nothing_implied a c.more) c.needs }
 completed (MoreExprs acc next) =
     let c = completed (next acc) in
-    record { more = c.more; real = c.real; tree = c.tree; needs = exprs [] (no_more_exprs c.more) (subst (λ l. Needs (next l) c.more c.tree) (sym (append-nil acc)) c.needs) }
+    record {
+      more = c.more;
+      real = c.real;
+      tree = c.tree;
+      needs =
+          exprs [] (no_more_exprs c.more) (subst (λ l. Needs (next l) c.more c.tree) (sym (append-nil acc)) c.needs);
+    }
 completed (AnyExprsThen next) =
     let c = completed (next []) in
     record { more = c.more; real = c.real; tree = c.tree; needs = any_exprs [] no_exprs c.needs }
 completed (DeciderThen next) =
     let x = some_token kind.Question in
     let c = completed (next Choose) in
-    record { more = x ∷ c.more; real = (some_real kind.Question, c.real); tree = c.tree; needs = decider Choose (choice (first_word {token = x} {rest = c.more} refl)) c.needs }
+    record {
+      more = x ∷ c.more;
+      real = (some_real kind.Question, c.real);
+      tree = c.tree;
+      needs = decider Choose (choice (first_word {token = x} {rest = c.more} refl)) c.needs;
+    }
 completed (FormThen next) =
     let x = some_token kind.Skip in
     let y = some_token kind.Semicolon in
     let c = completed (next 0 Skips) in
-    record { more = x ∷ y ∷ c.more; real = (some_real kind.Skip, (some_real kind.Semicolon, c.real)); tree = c.tree; needs = form x Skips (skip (first_word {token = x} refl) (first_word {token = y} {rest = c.more} refl)) c.needs }
+    record {
+      more = x ∷ y ∷ c.more;
+      real = (some_real kind.Skip, (some_real kind.Semicolon, c.real));
+      tree = c.tree;
+      needs =
+          form x Skips (skip (first_word {token = x} refl) (first_word {token = y} {rest = c.more} refl)) c.needs;
+    }
 completed (FormAfter x next) =
     let c = completed (next (Assigns (name_of x ∷ []) (Constant false ∷ []))) in
     record {
       more = value_tokens c.more;
       real = values_real c.more c.real;
       tree = c.tree;
-      needs = form_after _ (λ h. assignment (one_name (first_name {token = x} h)) (first_word refl) (zero_exprs _) (first_word {token = some_token kind.Semicolon} {rest = c.more} refl)) c.needs;
+      needs =
+          form_after _ (λ h. assignment (one_name (first_name {token = x} h)) (first_word refl) (zero_exprs _)
+          (first_word {token = some_token kind.Semicolon} {rest = c.more} refl)) c.needs;
     }
 completed (StmtThen next) =
     let x = some_token kind.Skip in
     let y = some_token kind.Semicolon in
     let c = completed (next None 0 Skips) in
-    record { more = x ∷ y ∷ c.more; real = (some_real kind.Skip, (some_real kind.Semicolon, c.real)); tree = c.tree; needs = stmt None 0 Skips (unlabelled (skip (first_word {token = x} refl) (first_word {token = y} {rest = c.more} refl))) c.needs }
+    record {
+      more = x ∷ y ∷ c.more;
+      real = (some_real kind.Skip, (some_real kind.Semicolon, c.real));
+      tree = c.tree;
+      needs =
+          stmt None 0 Skips
+          (unlabelled (skip (first_word {token = x} refl) (first_word {token = y} {rest = c.more} refl))) c.needs;
+    }
 completed (StmtAfter x next) =
     let c = completed (next None x.at (Assigns (name_of x ∷ []) (Constant false ∷ []))) in
     record {
       more = value_tokens c.more;
       real = values_real c.more c.real;
       tree = c.tree;
-      needs = stmt_after None x.at _ (λ h. unlabelled (assignment (one_name (first_name {token = x} h)) (first_word refl) (zero_exprs _) (first_word {token = some_token kind.Semicolon} {rest = c.more} refl))) c.needs;
+      needs =
+          stmt_after None x.at _ (λ h. unlabelled (assignment (one_name (first_name {token = x} h)) (first_word refl)
+          (zero_exprs _) (first_word {token = some_token kind.Semicolon} {rest = c.more} refl))) c.needs;
     }
 completed (MoreStmts next) =
     let c = completed (next Done) in

@@ -42,7 +42,8 @@ module _ {E : Type 0} (k : Flat) (s : SetupOf) (p : Plan) (from runs : ℕ) (t :
     pub clean : AreCleanRuns t s p.with_deadlock p.seed (start_of_block from 0 runs) made
     pub tallied : IsTally t s (earlier ++ made) tally
 
-  pub before_all : (all : List (Result Block E)) (tally : Tally) → AreBlocks k s p from runs 0 all → (end : ℕ) → end ≡ start_of_block from 0 runs → IsTally t s earlier tally → IsBefore all all end tally
+  pub before_all : (all : List (Result Block E)) (tally : Tally) → AreBlocks k s p from runs 0 all → (end : ℕ)
+      → end ≡ start_of_block from 0 runs → IsTally t s earlier tally → IsBefore all all end tally
   before_all all tally are end same tallied = record {
     before = 0;
     count = omega arith;
@@ -55,21 +56,26 @@ module _ {E : Type 0} (k : Flat) (s : SetupOf) (p : Plan) (from runs : ℕ) (t :
   }
 
   -- the runs before some blocks are those of the wave, as far as they were made
-  pub after_made : (all rest : List (Result Block E)) (end : ℕ) (tally : Tally) → IsBefore all rest end tally → IsTalliedAfter earlier t s p.with_deadlock p.seed (start_of_block from 0 runs) end None tally
+  pub after_made : (all rest : List (Result Block E)) (end : ℕ) (tally : Tally) → IsBefore all rest end tally
+      → IsTalliedAfter earlier t s p.with_deadlock p.seed (start_of_block from 0 runs) end None tally
   after_made all rest end tally was = record {
     runs = was.made;
     first = ((let size = was.size in omega (arith, size)), was.clean);
     tallied = was.tallied;
   }
 
-  pub ends_all : (all rest : List (Result Block E)) (end : ℕ) (tally : Tally) → length rest ≡ 0 → IsBefore all rest end tally → IsEnd p.deadline (start_of_block from 0 runs) (start_of_block from (length all) runs) None end
+  pub ends_all : (all rest : List (Result Block E)) (end : ℕ) (tally : Tally) → length rest ≡ 0
+      → IsBefore all rest end tally
+      → IsEnd p.deadline (start_of_block from 0 runs) (start_of_block from (length all) runs) None end
   ends_all all rest end tally none was =
       let same : was.before ≡ length all = let count = was.count in omega (arith, none, count) in
       subst (λ n. IsEnd p.deadline (start_of_block from 0 runs) (start_of_block from n runs) None end) same was.ends
 
   module _ (all rest : List (Result Block E)) (block : Block) (end : ℕ) (old : Tally) (was : IsBefore all (Ok block ∷ rest) end old) where
     this : IsBlock {E = E} k s p from runs was.before (Ok block)
-    this = let same : was.before + 0 ≡ was.before = omega arith in subst (λ n. IsBlock {E = E} k s p from runs n (Ok block)) same (was.blocks 0 (Ok block) (omega arith))
+    this =
+        let same : was.before + 0 ≡ was.before = omega arith in
+        subst (λ n. IsBlock {E = E} k s p from runs n (Ok block)) same (was.blocks 0 (Ok block) (omega arith))
 
     rise : start_of_block from 0 runs ≤ start_of_block from was.before runs
     rise = starts_rise from 0 was.before runs (omega arith)
@@ -99,16 +105,23 @@ module _ {E : Type 0} (k : Flat) (s : SetupOf) (p : Plan) (from runs : ℕ) (t :
       both = was.made ++ tallied.runs
 
       tallied_both : IsTally t s (earlier ++ both) new
-      tallied_both = subst (λ rs. IsTally t s rs new) (append_assoc earlier was.made tallied.runs) (adds t s (earlier ++ was.made) tallied.runs was.tallied tallied.tallied)
+      tallied_both =
+          subst (λ rs. IsTally t s rs new) (append_assoc earlier was.made tallied.runs)
+          (adds t s (earlier ++ was.made) tallied.runs was.tallied tallied.tallied)
 
       below : end ≤ block.end
       below = let starts = this.0 in let low = this.1.0 in omega (arith, starts, low, here)
 
       both_first : IsFirstFound t s p.with_deadlock p.seed (start_of_block from 0 runs) block.end block.found both
-      both_first = found_later t s p.with_deadlock p.seed (start_of_block from 0 runs) end block.end was.made was.size was.clean below block.found tallied.runs tallied.first
+      both_first =
+          found_later t s p.with_deadlock p.seed (start_of_block from 0 runs) end block.end was.made was.size was.clean
+          below block.found tallied.runs tallied.first
 
       -- where the wave ends, if this block is the last of it
-      ends_here : (n : ℕ) → start_of_block from (was.before + 1) runs ≤ start_of_block from n runs → (o : Option FoundRun) → (p.deadline ≡ None → o ≡ None → block.end ≡ max (start_of_block from 0 runs) (start_of_block from n runs)) → IsEnd p.deadline (start_of_block from 0 runs) (start_of_block from n runs) o block.end
+      ends_here : (n : ℕ) → start_of_block from (was.before + 1) runs ≤ start_of_block from n runs
+          → (o : Option FoundRun)
+          → (p.deadline ≡ None → o ≡ None → block.end ≡ max (start_of_block from 0 runs) (start_of_block from n runs))
+          → IsEnd p.deadline (start_of_block from 0 runs) (start_of_block from n runs) o block.end
       ends_here n le o untimed =
           let low = was.ends.0 in
           let high = this.1.1 in
@@ -116,13 +129,20 @@ module _ {E : Type 0} (k : Flat) (s : SetupOf) (p : Plan) (from runs : ℕ) (t :
 
       pub before_rest : is_some block.found ≡ false → IsBefore all rest block.end new
       before_rest e =
-          let none = subst (λ o. IsFirstFound t s p.with_deadlock p.seed (start_of_block from 0 runs) block.end o both) (none_of block.found e) both_first in record {
+          let none = subst (λ o. IsFirstFound t s p.with_deadlock p.seed (start_of_block from 0 runs) block.end o both)
+          (none_of block.found e) both_first in
+          record {
             before = was.before + 1;
             count = let e = was.count in omega (arith, e);
-            blocks = λ n d l. let more : was.before + suc n ≡ was.before + 1 + n = omega arith in subst (λ m. IsBlock {E = E} k s p from runs m (slice_index_or rest n d)) more (was.blocks (suc n) d (omega (arith, l)));
+            blocks = λ n d l.
+                let more : was.before + suc n ≡ was.before + 1 + n = omega arith in
+                subst (λ m. IsBlock {E = E} k s p from runs m (slice_index_or rest n d)) more
+                (was.blocks (suc n) d (omega (arith, l)));
             made = both;
             size = let low = was.ends.0 in let size = none.0 in omega (arith, low, below, size);
-            ends = ends_here (was.before + 1) (omega arith) None (λ untimed o. let same = this.1.2 untimed (none_of block.found e) in omega (arith, same, rise, next_rise));
+            ends =
+                ends_here (was.before + 1) (omega arith) None
+                (λ untimed o. let same = this.1.2 untimed (none_of block.found e) in omega (arith, same, rise, next_rise));
             clean = none.1;
             tallied = tallied_both;
           }
@@ -134,7 +154,9 @@ module _ {E : Type 0} (k : Flat) (s : SetupOf) (p : Plan) (from runs : ℕ) (t :
       found_any = record { runs = both; first = both_first; tallied = tallied_both }
 
 -- a wave after runs that are not looked for
-pub after_wave : (t : Program) (s : SetupOf) (with_deadlock : Bool) (seed from end : ℕ) → from ≤ end → (before : List MadeRun) → length before ≡ from - 0 → AreCleanRuns t s with_deadlock seed 0 before → (o : Option FoundRun) (tally : Tally)
+pub after_wave : (t : Program) (s : SetupOf) (with_deadlock : Bool) (seed from end : ℕ) → from ≤ end
+    → (before : List MadeRun) → length before ≡ from - 0 → AreCleanRuns t s with_deadlock seed 0 before
+    → (o : Option FoundRun) (tally : Tally)
     → IsTalliedAfter before t s with_deadlock seed from end o tally → IsTallied t s with_deadlock seed 0 end o tally
 after_wave t s with_deadlock seed from end le before count clean o tally wave = record {
   runs = before ++ wave.runs;

@@ -77,7 +77,10 @@ below_more_contexts i (x ∷ xs) =
 pub within_is_below : (k : ℕ) (runs : List MadeRun) → within_contexts k runs ≡ below_contexts (k + 1) runs
 within_is_below k [] = refl
 within_is_below k (x ∷ xs) =
-    cons (λ r. nat_le r.report.contexts k) x xs ∙ (ap (λ b. cond b 1 0 + within_contexts k xs) (le_is_lt x.report.contexts k) ∙ (ap (λ n. cond (nat_lt x.report.contexts (k + 1)) 1 0 + n) (within_is_below k xs) ∙ sym (cons (λ r. nat_lt r.report.contexts (k + 1)) x xs)))
+    cons (λ r. nat_le r.report.contexts k) x xs
+    ∙ (ap (λ b. cond b 1 0 + within_contexts k xs) (le_is_lt x.report.contexts k)
+    ∙ (ap (λ n. cond (nat_lt x.report.contexts (k + 1)) 1 0 + n) (within_is_below k xs)
+    ∙ sym (cons (λ r. nat_lt r.report.contexts (k + 1)) x xs)))
 
 pub below_none : (runs : List MadeRun) → below_contexts 0 runs ≡ 0
 below_none [] = refl
@@ -110,7 +113,11 @@ below_all i (x ∷ xs) none =
     let rest = below_all i xs (λ k far. let a = each k far in let b = none k far in omega (arith, a, b)) in
     let less : x.report.contexts < i = elim (cases_lt x.report.contexts i) [
       | inl less ↦ less
-      | inr far ↦ absurd (let a = each x.report.contexts far in let b = none x.report.contexts far in let c = ap {B = ℕ} (λ b. cond b 1 0) (eq_true x.report.contexts x.report.contexts refl) in omega (arith, a, b, c))
+      | inr far ↦
+          absurd (let a = each x.report.contexts far in
+          let b = none x.report.contexts far in
+          let c = ap {B = ℕ} (λ b. cond b 1 0) (eq_true x.report.contexts x.report.contexts refl) in
+          omega (arith, a, b, c))
     ] in
     let here = ap {B = ℕ} (λ b. cond b 1 0) (lt_true x.report.contexts i less) in
     let a = cons (λ r. nat_lt r.report.contexts i) x xs in
@@ -146,7 +153,10 @@ module _ (runs : List MadeRun) (i before x : ℕ) (count : before ≡ below_cont
   found_now n few enough = record {
     enough = let next = next_count in let same = within_is_below i runs in omega (arith, enough, next, same);
     least = λ m reached. elim (cases_lt m i) [
-      | inl less ↦ absurd (let same = within_is_below m runs in let rise = below_rises (m + 1) i (omega (arith, less)) runs in omega (arith, few, count, reached, same, rise))
+      | inl less ↦
+          absurd (let same = within_is_below m runs in
+          let rise = below_rises (m + 1) i (omega (arith, less)) runs in
+          omega (arith, few, count, reached, same, rise))
       | inr far ↦ far
     ];
   }
@@ -217,7 +227,9 @@ module _ (s : SetupOf) (runs : List MadeRun) (tally : Tally) (few : length runs 
     pub seen_none : slice_index_or items i 0 ≤ 0 → AreSoFar runs (i + 1) before used
     seen_none none = let own = has in skipped runs i before used (omega (arith, none, own)) was
 
-    pub seen_some : 0 < slice_index_or items i 0 → (half : ℕ) → half ≡ div_ceil tally.runs 2 → (after : ℕ) → after ≡ min (before + slice_index_or items i 0) (2 ^ 64 - 1) → (new : ContextsUsed) → new ≡ contexts_with i before half used → AreSoFar runs (i + 1) after new
+    pub seen_some : 0 < slice_index_or items i 0 → (half : ℕ) → half ≡ div_ceil tally.runs 2 → (after : ℕ)
+        → after ≡ min (before + slice_index_or items i 0) (2 ^ 64 - 1) → (new : ContextsUsed)
+        → new ≡ contexts_with i before half used → AreSoFar runs (i + 1) after new
     seen_some some half half_is after after_is new new_is =
         let halves : half ≡ (length runs + 1) / 2 = half_is ∙ (ap (λ n. div_ceil n 2) exact_runs ∙ half_of (length runs)) in
         let small = next_fits runs i before (slice_index_or items i 0) was.count has in

@@ -69,7 +69,8 @@ module _ (xs : List ℕ) (up : IsNonDecreasing xs) where
         let size = length-take n xs in
         let most = get_or-le-sum_by (one_if (at n)) (take n xs) (n - 1) 0 (omega (arith, size, within, some)) in
         let value : slice_index_or (take n xs) (n - 1) 0 ≡ at n = get_or-take n xs (n - 1) 0 (omega (arith, some)) ∙ same in
-        let one : one_if (at n) (slice_index_or (take n xs) (n - 1) 0) ≡ 1 = ap (one_if (at n)) value ∙ (let it : one_if (at n) (at n) ≡ 1 = grind (arith, nat_tests) in it) in
+        let one : one_if (at n) (slice_index_or (take n xs) (n - 1) 0) ≡ 1 =
+        ap (one_if (at n)) value ∙ (let it : one_if (at n) (at n) ≡ 1 = grind (arith, nat_tests) in it) in
         omega (arith, most, one)
 
     last_none : n + 1 ≡ length xs → after ≡ 0
@@ -78,7 +79,8 @@ module _ (xs : List ℕ) (up : IsNonDecreasing xs) where
     after_none : n + 1 < length xs → at (n + 1) ≢ at n → after ≡ 0
     after_none more other = apart_none (at n) (drop (n + 1) xs) (λ i d inside same.
         let size = length-drop (n + 1) xs in
-        let value : slice_index_or xs (n + 1 + i) 0 ≡ at n = get_or_default xs (n + 1 + i) 0 d (omega (arith, size, inside)) ∙ (sym (get_or-drop (n + 1) xs i d) ∙ same) in
+        let value : slice_index_or xs (n + 1 + i) 0 ≡ at n =
+        get_or_default xs (n + 1 + i) 0 d (omega (arith, size, inside)) ∙ (sym (get_or-drop (n + 1) xs i d) ∙ same) in
         let low = up n (n + 1) 0 (omega arith) more in
         let high = up (n + 1) (n + 1 + i) 0 (omega arith) (omega (arith, size, inside)) in
         other (omega (arith, value, low, high)))
@@ -89,7 +91,8 @@ module _ (xs : List ℕ) (up : IsNonDecreasing xs) where
         let most = get_or-le-sum_by (one_if (at n)) (drop (n + 1) xs) 0 0 (omega (arith, size, more)) in
         let next : n + 1 + 0 ≡ n + 1 = omega arith in
         let value : slice_index_or (drop (n + 1) xs) 0 0 ≡ at n = get_or-drop (n + 1) xs 0 0 ∙ (ap at next ∙ same) in
-        let one : one_if (at n) (slice_index_or (drop (n + 1) xs) 0 0) ≡ 1 = ap (one_if (at n)) value ∙ (let it : one_if (at n) (at n) ≡ 1 = grind (arith, nat_tests) in it) in
+        let one : one_if (at n) (slice_index_or (drop (n + 1) xs) 0 0) ≡ 1 =
+        ap (one_if (at n)) value ∙ (let it : one_if (at n) (at n) ≡ 1 = grind (arith, nat_tests) in it) in
         omega (arith, most, one)
 
     -- a test that is 1 where there are none, and 0 where there are some
@@ -113,8 +116,13 @@ module _ (xs : List ℕ) (up : IsNonDecreasing xs) where
     more_if m e = grind (arith, nat_tests, e)
 
     told : (a b : Bool) → Tells a before → Tells b after → (a && b) ≡ is_once (at n)
-    told a b (inl none) (inl last) = ap (λ x. x && b) none.0 ∙ (last.0 ∙ sym (once_if (count_of (at n) xs) (let all = whole in let x = none.1 in let y = last.1 in omega (arith, all, x, y))))
-    told a b (inl none) (inr some) = ap (λ x. x && b) none.0 ∙ (some.0 ∙ sym (more_if (count_of (at n) xs) (let all = whole in let y = some.1 in omega (arith, all, y))))
+    told a b (inl none) (inl last) =
+        ap (λ x. x && b) none.0
+        ∙ (last.0 ∙ sym
+        (once_if (count_of (at n) xs) (let all = whole in let x = none.1 in let y = last.1 in omega (arith, all, x, y))))
+    told a b (inl none) (inr some) =
+        ap (λ x. x && b) none.0
+        ∙ (some.0 ∙ sym (more_if (count_of (at n) xs) (let all = whole in let y = some.1 in omega (arith, all, y))))
     told a b (inr some) any = ap (λ x. x && b) some.0 ∙ sym (more_if (count_of (at n) xs) (let all = whole in let y = some.1 in omega (arith, all, y)))
 
     -- a key is there once if no neighbour is that key
@@ -160,7 +168,8 @@ module _ (xs ys : List ℕ) (moved : IsPermutation xs ys) where
 
   same_members : (ks : List ℕ) → ks ≡ dedup nat_eq ys → (q : ℕ) → is_member nat_eq ks q ≡ is_member nat_eq xs q
   same_members ks is q = both_ways (is_member nat_eq ks q) (is_member nat_eq xs q)
-      (λ has. contains_is xs q (Contains-permutation ys xs q (IsPermutation-sym xs ys moved) (Contains-from_dedup nat_eq ys q (subst (λ l. Contains l q) is (member_is ks q has)))))
+      (λ has. contains_is xs q (Contains-permutation ys xs q (IsPermutation-sym xs ys moved)
+      (Contains-from_dedup nat_eq ys q (subst (λ l. Contains l q) is (member_is ks q has)))))
       (λ has. contains_is ks q (subst (λ l. Contains l q) (sym is) (Contains-dedup_nat ys q (Contains-permutation xs ys q moved (member_is xs q has)))))
 
   -- what is left without repetitions is as long as there are different keys
@@ -168,4 +177,6 @@ module _ (xs ys : List ℕ) (moved : IsPermutation xs ys) where
   runs_in_order ks is up =
       let rises = subst IsStrictlyIncreasing (sym is) up in
       let below = AllPairs-from_increasing ks rises in
-      length-from_keys nat_eq_equiv ks xs (IsDistinct-from_apart nat_eq ks (λ i j d less inside. let fewer = below i j d less inside in grind (arith, nat_tests, fewer))) (same_members ks is)
+      length-from_keys nat_eq_equiv ks xs (IsDistinct-from_apart nat_eq ks
+      (λ i j d less inside. let fewer = below i j d less inside in grind (arith, nat_tests, fewer)))
+      (same_members ks is)

@@ -15,7 +15,8 @@ use Rattle.bp_machine.specs.Reports.{outcome_of, IsAtFalseAssertion, IsRealFailu
 use Rattle.bp_machine.specs.Setups.{SetupOf, start}
 
 module _ (t : Program) where
-  after_both : (c : Configuration) (xs ys : List Call) → configuration_after_calls t c (xs ++ ys) ≡ configuration_after_calls t (configuration_after_calls t c xs) ys
+  after_both : (c : Configuration) (xs ys : List Call)
+      → configuration_after_calls t c (xs ++ ys) ≡ configuration_after_calls t (configuration_after_calls t c xs) ys
   after_both c [] ys = refl
   after_both c (x ∷ xs) ys = after_both (configuration_after_call t c x.thread x.bit x.reply) xs ys
 
@@ -45,7 +46,8 @@ module _ (t : Program) where
     stack_there : stack_of (configuration_after t s h) i ≡ failure.stands.frame ∷ failure.stands.below
     stack_there =
         let before = configuration_after t s failure.before in
-        let call_is : configuration_after_call t before failure.call.thread failure.call.bit failure.call.reply ≡ configuration_after_call t before i failure.call.bit Failed =
+        let call_is : configuration_after_call t before failure.call.thread failure.call.bit failure.call.reply
+        ≡ configuration_after_call t before i failure.call.bit Failed =
         ap (λ j. configuration_after_call t before j failure.call.bit failure.call.reply) failure.thread
         ∙ ap (λ r. configuration_after_call t before i failure.call.bit r) failure.failed in
         let ends : configuration_after t s h ≡ record before { failed = true } =

@@ -26,7 +26,8 @@ granted_more [] x = refl
 granted_more (y ∷ ys) x = here (is_granted y.reply) (granted_more ys x)
   where
     here : (b : Bool) → granted_calls (ys ++ x ∷ []) ≡ granted_calls ys ++ cond (is_granted x.reply) (x ∷ []) []
-        → cond b (y ∷ granted_calls (ys ++ x ∷ [])) (granted_calls (ys ++ x ∷ [])) ≡ cond b (y ∷ granted_calls ys) (granted_calls ys) ++ cond (is_granted x.reply) (x ∷ []) []
+        → cond b (y ∷ granted_calls (ys ++ x ∷ [])) (granted_calls (ys ++ x ∷ []))
+        ≡ cond b (y ∷ granted_calls ys) (granted_calls ys) ++ cond (is_granted x.reply) (x ∷ []) []
     here true e = ap (λ zs. y ∷ zs) e
     here false e = e
 
@@ -61,7 +62,9 @@ pub same_outcome : (h : List Call) → outcome_of (granted_calls h) ≡ outcome_
 same_outcome [] = refl
 same_outcome (x ∷ xs) = inside (is_granted x.reply) ∙ by_reply x.reply (same_outcome xs)
   where
-    inside : (b : Bool) → outcome_of (cond b (x ∷ granted_calls xs) (granted_calls xs)) ≡ cond b (outcome_or x x.reply (outcome_of (granted_calls xs))) (outcome_of (granted_calls xs))
+    inside : (b : Bool)
+        → outcome_of (cond b (x ∷ granted_calls xs) (granted_calls xs))
+        ≡ cond b (outcome_or x x.reply (outcome_of (granted_calls xs))) (outcome_of (granted_calls xs))
     inside true = refl
     inside false = refl
 
@@ -89,7 +92,9 @@ module _ (t : Program) (s : SetupOf) (k : ℕ) (h : List Call) (each : RunsAreHi
     }
 
     made : IsHistoryOfSteps t (budgeted s k) (granted_calls h) (configuration_after t s h)
-    made = subst (λ g. IsHistoryOfSteps t (budgeted s k) g (configuration_after t s h)) own.replies (each t (budgeted s k) (granted_calls h) (configuration_after t s h) bounded)
+    made =
+        subst (λ g. IsHistoryOfSteps t (budgeted s k) g (configuration_after t s h)) own.replies
+        (each t (budgeted s k) (granted_calls h) (configuration_after t s h) bounded)
 
     pub granted_legal : IsLegal t (budgeted s k) (granted_calls h)
     granted_legal = made.legal

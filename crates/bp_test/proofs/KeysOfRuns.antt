@@ -59,15 +59,22 @@ module _ (t : Program) (s : SetupOf) where
   fewer_taken (suc m) (suc n) le (r ∷ rs) (k ∷ ks) are = (are.0, fewer_taken m n (omega (arith, le)) rs ks are.1)
 
   -- the keys of the first runs, and of more
-  taken_both : (m n : ℕ) → m ≤ n → (runs more : List MadeRun) (keys others : List ℕ) → AreKeys t s (take m runs) keys → AreKeys t s (take n more) others → AreKeys t s (take m (runs ++ more)) (take m (keys ++ others))
+  taken_both : (m n : ℕ) → m ≤ n → (runs more : List MadeRun) (keys others : List ℕ) → AreKeys t s (take m runs) keys
+      → AreKeys t s (take n more) others → AreKeys t s (take m (runs ++ more)) (take m (keys ++ others))
   taken_both zero n le runs more keys others are also = tt
   taken_both (suc m) n le [] more [] others are also = fewer_taken (suc m) n le more others also
   taken_both (suc m) n le [] more (k ∷ ks) others are also = absurd are
   taken_both (suc m) n le (r ∷ rs) more [] others are also = absurd are
   taken_both (suc m) n le (r ∷ rs) more (k ∷ ks) others are also = (are.0, taken_both m n (omega (arith, le)) rs more ks others are.1 also)
 
-  pub keys_both : (runs more : List MadeRun) (keys others new : List ℕ) → new ≡ take MAX_KEYS (keys ++ others) → AreKeys t s (take MAX_KEYS runs) keys → AreKeys t s (take MAX_KEYS more) others → AreKeys t s (take MAX_KEYS (runs ++ more)) new
-  keys_both runs more keys others new same are also = subst (AreKeys t s (take MAX_KEYS (runs ++ more))) (sym same) (taken_both MAX_KEYS MAX_KEYS (omega arith) runs more keys others are also)
+  pub keys_both : (runs more : List MadeRun) (keys others new : List ℕ) → new ≡ take MAX_KEYS (keys ++ others)
+      → AreKeys t s (take MAX_KEYS runs) keys → AreKeys t s (take MAX_KEYS more) others
+      → AreKeys t s (take MAX_KEYS (runs ++ more)) new
+  keys_both runs more keys others new same are also =
+      subst (AreKeys t s (take MAX_KEYS (runs ++ more))) (sym same)
+      (taken_both MAX_KEYS MAX_KEYS (omega arith) runs more keys others are also)
 
-  pub keys_with : (runs : List MadeRun) (r : MadeRun) (keys new : List ℕ) (key : ℕ) → new ≡ take MAX_KEYS (keys ++ key ∷ []) → AreKeys t s (take MAX_KEYS runs) keys → IsRunKey t s r.history key → AreKeys t s (take MAX_KEYS (runs ++ r ∷ [])) new
+  pub keys_with : (runs : List MadeRun) (r : MadeRun) (keys new : List ℕ) (key : ℕ)
+      → new ≡ take MAX_KEYS (keys ++ key ∷ []) → AreKeys t s (take MAX_KEYS runs) keys → IsRunKey t s r.history key
+      → AreKeys t s (take MAX_KEYS (runs ++ r ∷ [])) new
   keys_with runs r keys new key same are is = keys_both runs (r ∷ []) keys (key ∷ []) new same are (is, tt)

@@ -61,7 +61,8 @@ module _ {X : Type 0} (at : ℕ → Option X) (P Q : X → Type 0) (old cur : Li
   }
 
   -- one more is set
-  pub one_mark : (n : ℕ) (x : X) → at n ≡ Some x → Q x → ((y : X) → P y → Q y) → ((y : X) → Q y → P y ⊎ (at n ≡ Some y)) → MarksGrow at Q old (slice_set cur n true)
+  pub one_mark : (n : ℕ) (x : X) → at n ≡ Some x → Q x → ((y : X) → P y → Q y) → ((y : X) → Q y → P y ⊎ (at n ≡ Some y))
+      → MarksGrow at Q old (slice_set cur n true)
   one_mark n x here q more back = record {
     size = length-set cur n true ∙ was.size;
     kept = λ m is. set_kept cur n m (was.kept m is);
@@ -73,7 +74,9 @@ module _ {X : Type 0} (at : ℕ → Option X) (P Q : X → Type 0) (old cur : Li
       ]
     ];
     all = λ y is. elim (back y is) [
-      | inl p ↦ let m = (was.all y p).0 in (m, (was.all y p).1, λ within. set_kept cur n m ((was.all y p).2 (subst (λ k. m < k) (length-set cur n true) within)))
+      | inl p ↦
+          let m = (was.all y p).0 in
+          (m, (was.all y p).1, λ within. set_kept cur n m ((was.all y p).2 (subst (λ k. m < k) (length-set cur n true) within)))
       | inr has ↦ (n, has, λ within. set_here cur n (subst (λ k. n < k) (length-set cur n true) within))
     ];
   }
@@ -97,7 +100,8 @@ module _ {X : Type 0} (at : ℕ → Option X) (P Q : X → Type 0) (old cur : Li
   }
 
 -- marks of what is the same
-pub other_marks : {X : Type 0} (at : ℕ → Option X) (P Q : X → Type 0) (count : ℕ) (marks : List Bool) → ((x : X) → P x → Q x) → ((x : X) → Q x → P x) → AreMarks at P count marks → AreMarks at Q count marks
+pub other_marks : {X : Type 0} (at : ℕ → Option X) (P Q : X → Type 0) (count : ℕ) (marks : List Bool)
+    → ((x : X) → P x → Q x) → ((x : X) → Q x → P x) → AreMarks at P count marks → AreMarks at Q count marks
 other_marks at P Q count marks more back are = record {
   size = are.size;
   only = λ n is. ((are.only n is).0, (are.only n is).1, more (are.only n is).0 (are.only n is).2);
@@ -105,7 +109,8 @@ other_marks at P Q count marks more back are = record {
 }
 
 -- marks that have grown
-pub grown_marks : {X : Type 0} (at : ℕ → Option X) (P Q : X → Type 0) (count : ℕ) (old new : List Bool) → AreMarks at P count old → MarksGrow at Q old new → AreMarks at (λ x. P x ⊎ Q x) count new
+pub grown_marks : {X : Type 0} (at : ℕ → Option X) (P Q : X → Type 0) (count : ℕ) (old new : List Bool)
+    → AreMarks at P count old → MarksGrow at Q old new → AreMarks at (λ x. P x ⊎ Q x) count new
 grown_marks at P Q count old new are grow = record {
   size = grow.size ∙ are.size;
   only = λ n is. elim (grow.only n is) [
@@ -119,13 +124,16 @@ grown_marks at P Q count old new are grow = record {
 }
 
 -- marks of both, where those of the other marks were set too
-pub both_marks : {X : Type 0} (at : ℕ → Option X) (P Q : X → Type 0) (count : ℕ) (old others new : List Bool) → AreMarks at P count old → AreMarks at Q count others
+pub both_marks : {X : Type 0} (at : ℕ → Option X) (P Q : X → Type 0) (count : ℕ) (old others new : List Bool)
+    → AreMarks at P count old → AreMarks at Q count others
     → MarksGrow (λ i. Some i) (λ n. is_marked others n ≡ true) old new → AreMarks at (λ x. P x ⊎ Q x) count new
 both_marks at P Q count old others new are more grow = record {
   size = grow.size ∙ are.size;
   only = λ n is. elim (grow.only n is) [
     | inl before ↦ ((are.only n before).0, (are.only n before).1, inl (are.only n before).2)
-    | inr some ↦ let here : is_marked others n ≡ true = (let same : n ≡ some.0 = cc (some.1) in rw same some.2) in ((more.only n here).0, (more.only n here).1, inr (more.only n here).2)
+    | inr some ↦
+        let here : is_marked others n ≡ true = (let same : n ≡ some.0 = cc (some.1) in rw same some.2) in
+        ((more.only n here).0, (more.only n here).1, inr (more.only n here).2)
   ];
   all = λ x is. elim is [
     | inl p ↦ ((are.all x p).0, (are.all x p).1, λ within. grow.kept (are.all x p).0 ((are.all x p).2 within))
@@ -229,22 +237,30 @@ module _ (others : List Bool) (n : ℕ) (old cur : List Bool) (was : MarksGrow (
   ]
 
   pub below_marked : is_marked others n ≡ true → MarksGrow (λ i. Some i) (IsMarkedBelow others (n + 1)) old (slice_set cur n true)
-  below_marked is = one_mark (λ i. Some i) (IsMarkedBelow others n) (IsMarkedBelow others (n + 1)) old cur was n n refl (omega arith, is) below_then (λ i at. elim (below_cases i at) [
-    | inl earlier ↦ inl earlier
-    | inr same ↦ inr (ap (λ k. Some k) (sym same))
-  ])
+  below_marked is =
+      one_mark (λ i. Some i) (IsMarkedBelow others n) (IsMarkedBelow others (n + 1)) old cur was n n refl
+      (omega arith, is) below_then (λ i at. elim (below_cases i at) [
+        | inl earlier ↦ inl earlier
+        | inr same ↦ inr (ap (λ k. Some k) (sym same))
+      ])
 
   pub below_unmarked : is_marked others n ≡ false → MarksGrow (λ i. Some i) (IsMarkedBelow others (n + 1)) old cur
-  below_unmarked none = same_marks (λ i. Some i) (IsMarkedBelow others n) (IsMarkedBelow others (n + 1)) old cur was below_then (λ i at. elim (below_cases i at) [
-    | inl earlier ↦ earlier
-    | inr same ↦ absurd (let a = subst (λ k. is_marked others k ≡ true) same at.1 in let b = none in cc)
-  ])
+  below_unmarked none =
+      same_marks (λ i. Some i) (IsMarkedBelow others n) (IsMarkedBelow others (n + 1)) old cur was below_then (λ i at.
+      elim (below_cases i at) [
+        | inl earlier ↦ earlier
+        | inr same ↦ absurd (let a = subst (λ k. is_marked others k ≡ true) same at.1 in let b = none in cc)
+      ])
 
 pub none_below : (others old : List Bool) → MarksGrow (λ i. Some i) (IsMarkedBelow others 0) old old
 none_below others old = no_marks (λ i. Some i) (IsMarkedBelow others 0) old (λ i is. let below = is.0 in omega (arith, below))
 
-pub all_below : (others : List Bool) (n : ℕ) (old cur : List Bool) → length others ≤ n → MarksGrow (λ i. Some i) (IsMarkedBelow others n) old cur → MarksGrow (λ i. Some i) (λ i. is_marked others i ≡ true) old cur
-all_below others n old cur past was = same_marks (λ i. Some i) (IsMarkedBelow others n) (λ i. is_marked others i ≡ true) old cur was (λ i is. is.1) (λ i is. (within i is, is))
+pub all_below : (others : List Bool) (n : ℕ) (old cur : List Bool) → length others ≤ n
+    → MarksGrow (λ i. Some i) (IsMarkedBelow others n) old cur
+    → MarksGrow (λ i. Some i) (λ i. is_marked others i ≡ true) old cur
+all_below others n old cur past was =
+    same_marks (λ i. Some i) (IsMarkedBelow others n) (λ i. is_marked others i ≡ true) old cur was (λ i is. is.1)
+    (λ i is. (within i is, is))
   where
     within : (i : ℕ) → is_marked others i ≡ true → i < n
     within i is = elim (cases_lt i n) [
@@ -255,7 +271,11 @@ all_below others n old cur past was = same_marks (λ i. Some i) (IsMarkedBelow o
 -- the marks after the call at i
 module _ (h : List Call) (i : ℕ) (within : i < length h) (d : Call) (old cur : List Bool) (was : MarksGrow (λ i. Some i) (HasStep (take i h)) old cur) where
   pub step_at : is_granted (get_or h i d).reply ≡ true → MarksGrow (λ i. Some i) (HasStep (take (i + 1) h)) old (slice_set cur (get_or h i d).thread true)
-  step_at granted = subst (λ g. MarksGrow (λ i. Some i) (HasStep g) old (slice_set cur (get_or h i d).thread true)) (sym (take_more h i d within)) (step_made (take i h) (get_or h i d) old cur was granted)
+  step_at granted =
+      subst (λ g. MarksGrow (λ i. Some i) (HasStep g) old (slice_set cur (get_or h i d).thread true))
+      (sym (take_more h i d within)) (step_made (take i h) (get_or h i d) old cur was granted)
 
   pub no_step_at : is_granted (get_or h i d).reply ≡ false → MarksGrow (λ i. Some i) (HasStep (take (i + 1) h)) old cur
-  no_step_at refused = subst (λ g. MarksGrow (λ i. Some i) (HasStep g) old cur) (sym (take_more h i d within)) (no_step (take i h) (get_or h i d) old cur was refused)
+  no_step_at refused =
+      subst (λ g. MarksGrow (λ i. Some i) (HasStep g) old cur) (sym (take_more h i d within))
+      (no_step (take i h) (get_or h i d) old cur was refused)

@@ -30,7 +30,8 @@ failure_of (y ∷ ys) x e = fails_after y y.reply (outcome_of (ys ++ x ∷ [])) 
 -- a session's history is short
 bounded : (x : SessionOf) (h : List Call) → IsOfProgram x.code → StandsForAll x h → length h ≤ threads x.setup * x.setup.calls
 bounded x h of_some stands =
-    let decided = is_true x.code (nat_le (length h) (threads x.setup * x.setup.calls)) of_some (λ t is. let few = legal_length t x.setup h (stands t is).state.legal in grind (arith, nat_tests, few)) in
+    let decided = is_true x.code (nat_le (length h) (threads x.setup * x.setup.calls)) of_some
+    (λ t is. let few = legal_length t x.setup h (stands t is).state.legal in grind (arith, nat_tests, few)) in
     grind (arith, nat_tests, decided)
 
 pub smaller : (old new : SessionOf) (g h : List Call) → new.setup ≡ old.setup → IsOfProgram new.code → StandsForAll new h → length h ≡ length g + 1

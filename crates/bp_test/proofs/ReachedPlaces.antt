@@ -27,7 +27,10 @@ module _ (t : Program) (s : SetupOf) (h : List Call) (c : Call) where
     call = tried.call;
     has = in_front h (c ∷ []) tried.before tried.call tried.has;
     tried = tried.tried;
-    next = let few : tried.before ≤ length h = omega (arith, within) in subst (λ g. next_place (configuration_after t s g) tried.call.thread ≡ Some x) (sym (take-append-le tried.before h (c ∷ []) few)) tried.next;
+    next =
+        let few : tried.before ≤ length h = omega (arith, within) in
+        subst (λ g. next_place (configuration_after t s g) tried.call.thread ≡ Some x)
+        (sym (take-append-le tried.before h (c ∷ []) few)) tried.next;
   }
 
   tried_now : (x : Place) → refuses_context c.reply ≡ false → next ≡ Some x → IsTried t s (h ++ c ∷ []) x
@@ -47,12 +50,15 @@ module _ (t : Program) (s : SetupOf) (h : List Call) (c : Call) where
       has = earlier;
       tried = tried.tried;
       next = let within = slice_get_within h tried.before tried.call earlier in
-          let few : tried.before ≤ length h = omega (arith, within) in subst (λ g. next_place (configuration_after t s g) tried.call.thread ≡ Some x) (take-append-le tried.before h (c ∷ []) few) tried.next;
+          let few : tried.before ≤ length h = omega (arith, within) in
+          subst (λ g. next_place (configuration_after t s g) tried.call.thread ≡ Some x)
+          (take-append-le tried.before h (c ∷ []) few) tried.next;
     })
     | inr last ↦ inr (
       subst (λ y. refuses_context y.reply ≡ false) (sym last.1) tried.tried,
       subst (λ y. next_place (configuration_after t s h) y.thread ≡ Some x) (sym last.1)
-          (subst (λ g. next_place (configuration_after t s g) tried.call.thread ≡ Some x) (ap (λ n. take n (h ++ c ∷ [])) last.0 ∙ take-append_seam h (c ∷ [])) tried.next),
+          (subst (λ g. next_place (configuration_after t s g) tried.call.thread ≡ Some x)
+          (ap (λ n. take n (h ++ c ∷ [])) last.0 ∙ take-append_seam h (c ∷ [])) tried.next),
     )
   ]
 
@@ -63,11 +69,14 @@ module _ (t : Program) (s : SetupOf) (h : List Call) (c : Call) where
       | inr now ↦ absurd (none x now.0 now.1)
     ])
 
-    marked : (n : ℕ) (x : Place) → next ≡ Some x → place_of t n ≡ Some x → refuses_context c.reply ≡ false → MarksGrow (place_of t) (IsTried t s (h ++ c ∷ [])) old (slice_set cur n true)
-    marked n x here at granted = one_mark (place_of t) (IsTried t s h) (IsTried t s (h ++ c ∷ [])) old cur was n x at (tried_now x granted here) tried_then (λ y tried. elim (tried_cases y tried) [
-      | inl earlier ↦ inl earlier
-      | inr now ↦ inr (at ∙ (sym here ∙ now.1))
-    ])
+    marked : (n : ℕ) (x : Place) → next ≡ Some x → place_of t n ≡ Some x → refuses_context c.reply ≡ false
+        → MarksGrow (place_of t) (IsTried t s (h ++ c ∷ [])) old (slice_set cur n true)
+    marked n x here at granted =
+        one_mark (place_of t) (IsTried t s h) (IsTried t s (h ++ c ∷ [])) old cur was n x at (tried_now x granted here)
+        tried_then (λ y tried. elim (tried_cases y tried) [
+          | inl earlier ↦ inl earlier
+          | inr now ↦ inr (at ∙ (sym here ∙ now.1))
+        ])
 
     -- the marks after one more call
     pub tried_marks : (number : Option ℕ) → IsNumberOf t next number → MarksGrow (place_of t) (IsTried t s (h ++ c ∷ [])) old (marks_after number c.reply cur)
@@ -102,7 +111,10 @@ module _ (t : Program) (s : SetupOf) (h : List Call) (n : ℕ) (old cur : List B
     next = waiting.next;
   }
 
-  waits_cases : (x : Place) → IsWaitedBelow t s h (n + 1) x → IsWaitedBelow t s h n x ⊎ ((is_finished s h n ≡ false) × (waits t (configuration_after t s h) n ≡ true) × (next_place (configuration_after t s h) n ≡ Some x))
+  waits_cases : (x : Place) → IsWaitedBelow t s h (n + 1) x
+      → IsWaitedBelow t s h n x
+      ⊎ ((is_finished s h n ≡ false) × (waits t (configuration_after t s h) n ≡ true)
+      × (next_place (configuration_after t s h) n ≡ Some x))
   waits_cases x waiting = elim (same_or_not waiting.thread n) [
     | inl same ↦ inr (
       subst (λ i. is_finished s h i ≡ false) same waiting.unfinished,
@@ -119,17 +131,22 @@ module _ (t : Program) (s : SetupOf) (h : List Call) (n : ℕ) (old cur : List B
   ]
 
   pub waits_not : (is_finished s h n ≡ false → waits t (configuration_after t s h) n ≡ true → ⊥) → MarksGrow (place_of t) (IsWaitedBelow t s h (n + 1)) old cur
-  waits_not none = same_marks (place_of t) (IsWaitedBelow t s h n) (IsWaitedBelow t s h (n + 1)) old cur was waits_then (λ x waiting. elim (waits_cases x waiting) [
-    | inl earlier ↦ earlier
-    | inr now ↦ absurd (none now.0 now.1)
-  ])
+  waits_not none =
+      same_marks (place_of t) (IsWaitedBelow t s h n) (IsWaitedBelow t s h (n + 1)) old cur was waits_then (λ x waiting.
+      elim (waits_cases x waiting) [
+        | inl earlier ↦ earlier
+        | inr now ↦ absurd (none now.0 now.1)
+      ])
 
-  pub waits_more : is_finished s h n ≡ false → waits t (configuration_after t s h) n ≡ true → (number : Option ℕ) → IsNumberOf t (next_place (configuration_after t s h) n) number
+  pub waits_more : is_finished s h n ≡ false → waits t (configuration_after t s h) n ≡ true → (number : Option ℕ)
+      → IsNumberOf t (next_place (configuration_after t s h) n) number
       → MarksGrow (place_of t) (IsWaitedBelow t s h (n + 1)) old (marks_after number Blocked cur)
-  waits_more unfinished waiting None none = same_marks (place_of t) (IsWaitedBelow t s h n) (IsWaitedBelow t s h (n + 1)) old cur was waits_then (λ x now. elim (waits_cases x now) [
-    | inl earlier ↦ earlier
-    | inr here ↦ absurd (let a = none in let b = here.2 in cc)
-  ])
+  waits_more unfinished waiting None none =
+      same_marks (place_of t) (IsWaitedBelow t s h n) (IsWaitedBelow t s h (n + 1)) old cur was waits_then (λ x now.
+      elim (waits_cases x now) [
+        | inl earlier ↦ earlier
+        | inr here ↦ absurd (let a = none in let b = here.2 in cc)
+      ])
   waits_more unfinished waiting (Some k) some = one_mark (place_of t) (IsWaitedBelow t s h n) (IsWaitedBelow t s h (n + 1)) old cur was k some.0 some.2
       (record { thread = n; below = omega arith; unfinished = unfinished; has_to_wait = waiting; next = some.1 })
       waits_then
@@ -138,19 +155,46 @@ module _ (t : Program) (s : SetupOf) (h : List Call) (n : ℕ) (old cur : List B
         | inr here ↦ inr (some.2 ∙ (sym some.1 ∙ here.2))
       ])
 
-pub waits_all : (t : Program) (s : SetupOf) (h : List Call) (n : ℕ) (old cur : List Bool) → n ≡ threads s → MarksGrow (place_of t) (IsWaitedBelow t s h n) old cur → MarksGrow (place_of t) (IsWaitedAt t s h) old cur
+pub waits_all : (t : Program) (s : SetupOf) (h : List Call) (n : ℕ) (old cur : List Bool) → n ≡ threads s
+    → MarksGrow (place_of t) (IsWaitedBelow t s h n) old cur → MarksGrow (place_of t) (IsWaitedAt t s h) old cur
 waits_all t s h n old cur all was = same_marks (place_of t) (IsWaitedBelow t s h n) (IsWaitedAt t s h) old cur was
-    (λ x waiting. record { thread = waiting.thread; within = subst (λ k. waiting.thread < k) all waiting.below; unfinished = waiting.unfinished; has_to_wait = waiting.has_to_wait; next = waiting.next })
-    (λ x waiting. record { thread = waiting.thread; below = subst (λ k. waiting.thread < k) (sym all) waiting.within; unfinished = waiting.unfinished; has_to_wait = waiting.has_to_wait; next = waiting.next })
+    (λ x waiting. record {
+      thread = waiting.thread;
+      within = subst (λ k. waiting.thread < k) all waiting.below;
+      unfinished = waiting.unfinished;
+      has_to_wait = waiting.has_to_wait;
+      next = waiting.next;
+    })
+    (λ x waiting. record {
+      thread = waiting.thread;
+      below = subst (λ k. waiting.thread < k) (sym all) waiting.within;
+      unfinished = waiting.unfinished;
+      has_to_wait = waiting.has_to_wait;
+      next = waiting.next;
+    })
 
 -- what a history reaches does not depend on the seed
 pub reaches_with : (t : Program) (s : SetupOf) (o : Option ℕ) (h : List Call) (x : Place) → Reaches t (record s { seed = o }) h x → Reaches t s h x
 reaches_with t s o h x (inl tried) = inl (record { before = tried.before; call = tried.call; has = tried.has; tried = tried.tried; next = tried.next })
-reaches_with t s o h x (inr waiting) = inr (record { thread = waiting.thread; within = waiting.within; unfinished = waiting.unfinished; has_to_wait = waiting.has_to_wait; next = waiting.next })
+reaches_with t s o h x (inr waiting) =
+    inr (record {
+      thread = waiting.thread;
+      within = waiting.within;
+      unfinished = waiting.unfinished;
+      has_to_wait = waiting.has_to_wait;
+      next = waiting.next;
+    })
 
 pub reaches_without : (t : Program) (s : SetupOf) (o : Option ℕ) (h : List Call) (x : Place) → Reaches t s h x → Reaches t (record s { seed = o }) h x
 reaches_without t s o h x (inl tried) = inl (record { before = tried.before; call = tried.call; has = tried.has; tried = tried.tried; next = tried.next })
-reaches_without t s o h x (inr waiting) = inr (record { thread = waiting.thread; within = waiting.within; unfinished = waiting.unfinished; has_to_wait = waiting.has_to_wait; next = waiting.next })
+reaches_without t s o h x (inr waiting) =
+    inr (record {
+      thread = waiting.thread;
+      within = waiting.within;
+      unfinished = waiting.unfinished;
+      has_to_wait = waiting.has_to_wait;
+      next = waiting.next;
+    })
 
 -- what the answers of a call of a run say of the marks
 pub marks_of_call : (t : Program) (s z : SetupOf) (h new : List Call) (thread : ℕ) (number : Option ℕ) (r : Reply) (old cur now : List Bool) → z ≡ s

@@ -37,7 +37,10 @@ fits_again c d x s code same fits =
     subst (λ e. FitsCode e x) (sym code) (λ t is. record { entries = (seeded t is).entries; init = (seeded t is).init })
 
 pub reseeded : (s : SetupOf) (old x : SessionOf) (own : ℕ) → IsReseeded old.setup s → x.setup ≡ record old.setup { seed = Some own } → IsReseeded x.setup s
-reseeded s old x own setup_was setup n = let again : record x.setup { seed = Some n } ≡ record old.setup { seed = Some n } = ap {A = SetupOf} (λ y. record y { seed = Some n }) setup in again ∙ setup_was n
+reseeded s old x own setup_was setup n =
+    let again : record x.setup { seed = Some n } ≡ record old.setup { seed = Some n } =
+    ap {A = SetupOf} (λ y. record y { seed = Some n }) setup in
+    again ∙ setup_was n
 
 clean_of : (o : Outcome) → is_failure o ≡ false → o ≡ Clean
 clean_of Clean e = refl
@@ -92,7 +95,8 @@ module _ (c : Flat) (s : SetupOf) (with_deadlock : Bool) (seed run : ℕ) (old x
   own_program : (t : Program) → StandsFor c t → StandsFor x.code t
   own_program t is = subst (λ d. StandsFor d t) (sym (code ∙ code_was)) is
 
-  module _ (stands : StandsForAll x h) (over : (t : Program) → StandsFor x.code t → IsOver t x.setup h) (r : Report) (counted : (u : Program) (g : List Call) → Stands u x g → IsReport x.setup g r)
+  module _ (stands : StandsForAll x h) (over : (t : Program) → StandsFor x.code t → IsOver t x.setup h) (r : Report)
+      (counted : (u : Program) (g : List Call) → Stands u x g → IsReport x.setup g r)
       (d : Bool) (told : (u : Program) (g : List Call) → StandsFor x.code u → Stands u x g → IsTrue d ↔ IsDeadlocked u (configuration_after u x.setup g)) where
     made_run : (t : Program) → StandsFor c t → IsMadeRun t (setup_of_run s seed run) (made h r d)
     made_run t is = let own = own_program t is in let stood = stands t own in
@@ -110,7 +114,9 @@ module _ (c : Flat) (s : SetupOf) (with_deadlock : Bool) (seed run : ℕ) (old x
     sought_run e t is = sought_by_report t (setup_of_run s seed run) with_deadlock h r d (made_run t is) e
 
   -- what it reaches
-  pub reaches_is : (t : Program) → StandsFor c t → (marks new : List Bool) → ((u : Program) → StandsFor x.code u → MarksGrow (place_of u) (Reaches u x.setup h) marks new) → MarksGrow (place_of t) (Reaches t s h) marks new
+  pub reaches_is : (t : Program) → StandsFor c t → (marks new : List Bool)
+      → ((u : Program) → StandsFor x.code u → MarksGrow (place_of u) (Reaches u x.setup h) marks new)
+      → MarksGrow (place_of t) (Reaches t s h) marks new
   reaches_is t is marks new grow =
       let own = subst (λ z. MarksGrow (place_of t) (Reaches t z h) marks new) setup_is (grow t (own_program t is)) in
       let seed_is : Option ℕ = Some ((seed + run) % 2 ^ 64) in
@@ -120,7 +126,9 @@ module _ (c : Flat) (s : SetupOf) (with_deadlock : Bool) (seed run : ℕ) (old x
   pub key_is : (t : Program) → StandsFor c t → (key : ℕ) → ((u : Program) → StandsFor x.code u → IsRunKey u x.setup h key) → IsRunKey t s h key
   key_is t is key keyed = run_key_without t s (Some ((seed + run) % 2 ^ 64)) h key (subst (λ z. IsRunKey t z h key) setup_is (keyed t (own_program t is)))
 
-  fails_at : StandsForAll x h → (t : Program) → StandsFor c t → (number : Option ℕ) → ((u : Program) (g : List Call) → StandsFor x.code u → Stands u x g → IfSome number (FailsAt u x.setup g)) → IfSome number (FailsAt t (setup_of_run s seed run) h)
+  fails_at : StandsForAll x h → (t : Program) → StandsFor c t → (number : Option ℕ)
+      → ((u : Program) (g : List Call) → StandsFor x.code u → Stands u x g → IfSome number (FailsAt u x.setup g))
+      → IfSome number (FailsAt t (setup_of_run s seed run) h)
   fails_at stands t is number fails = subst (λ z. IfSome number (FailsAt t z h)) setup_is (fails t h (own_program t is) (stands t (own_program t is)))
 
   -- and who waits

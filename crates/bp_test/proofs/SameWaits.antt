@@ -11,7 +11,9 @@ use Rattle.bp_test.specs.Tests.{Wait}
 
 -- where the numbers are the same
 fields : (a b : Waiting) → a.thread ≡ b.thread → a.number ≡ b.number → a ≡ b
-fields a b thread number = let one : a ≡ record a { thread = b.thread } = ap (λ n. record a { thread = n }) thread in one ∙ ap (λ n. record { thread = b.thread; number = n }) number
+fields a b thread number =
+    let one : a ≡ record a { thread = b.thread } = ap (λ n. record a { thread = n }) thread in
+    one ∙ ap (λ n. record { thread = b.thread; number = n }) number
 
 pub waits_Decides : (a b : Waiting) → Decides ((a.thread == b.thread) && (a.number == b.number)) (a ≡ b)
 waits_Decides a b =

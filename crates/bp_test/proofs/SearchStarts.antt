@@ -26,8 +26,12 @@ module _ (c : Flat) (s : SetupOf) (x : Search) (code : x.session.code ≡ c) (se
       unseeded_is = ap (λ (y : SetupOf). y.seed) setup;
       driven = λ t is. record {
         legal = subst (λ g. IsLegal t x.session.setup g) (sym items) (subst (λ y. IsLegal t y h) (sym setup) (legal_unseeded t s h (legal t (own t is))));
-        report = subst (λ g. IsReport x.session.setup g x.best.report) (sym items) (subst (λ y. IsReport y h x.best.report) (sym setup) (report_unseeded s h x.best.report (report t (own t is))));
-        ends = subst (λ g. IsEnd t x.session.setup g x.end) (sym items) (subst (λ y. IsEnd t y h x.end) (sym setup) (end_unseeded t s h x.end (ends t (own t is))));
+        report =
+            subst (λ g. IsReport x.session.setup g x.best.report) (sym items)
+            (subst (λ y. IsReport y h x.best.report) (sym setup) (report_unseeded s h x.best.report (report t (own t is))));
+        ends =
+            subst (λ g. IsEnd t x.session.setup g x.end) (sym items)
+            (subst (λ y. IsEnd t y h x.end) (sym setup) (end_unseeded t s h x.end (ends t (own t is))));
       };
     }
 

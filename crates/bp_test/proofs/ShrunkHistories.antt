@@ -38,7 +38,9 @@ goes_further x y z one two = record {
 }
 
 -- the best history of a search that goes on from one that had this report and this end
-module _ (t : Program) (s : SetupOf) (h : List Call) (r : Report) (end : HistoryEnd) (given : IsReport s h r) (x : Search) (same : x.end ≡ end) (no_more : IsNoMore x.best r) (driven : IsDriven t (unseeded s) x.end x.best) where
+module _ (t : Program) (s : SetupOf) (h : List Call) (r : Report) (end : HistoryEnd) (given : IsReport s h r)
+    (x : Search) (same : x.end ≡ end) (no_more : IsNoMore x.best r)
+    (driven : IsDriven t (unseeded s) x.end x.best) where
   pub shrunk_of : (g : Shrunk) → IsShrunkOf t (unseeded s) x g → IsShrunk t s h end g
   shrunk_of g is = record {
     setup = is.setup;

@@ -54,11 +54,18 @@ module _ (s : SetupOf) (runs more : List MadeRun) (old new : Tally) (was : IsCou
       → AreMarks (λ i. Some i) (λ i. SomeSteps runs i ⊎ SomeSteps more i) (threads s) new.stepped.items
       → IsCounted s (runs ++ more) new
   counted_both count calls longest ends contexts stepped = record {
-    count = count ∙ (ap (λ n. capped (n + capped (length more))) was.count ∙ sym (capped_both (length runs) (length more) (length (runs ++ more)) (length-append runs more)));
-    calls = calls ∙ (ap (λ n. capped (n + capped (sum_by calls_of more))) was.calls ∙ sym (capped_both (sum_by calls_of runs) (sum_by calls_of more) (sum_by calls_of (runs ++ more)) (sum_by-append calls_of runs more)));
+    count =
+        count ∙ (ap (λ n. capped (n + capped (length more))) was.count
+        ∙ sym (capped_both (length runs) (length more) (length (runs ++ more)) (length-append runs more)));
+    calls =
+        calls ∙ (ap (λ n. capped (n + capped (sum_by calls_of more))) was.calls
+        ∙ sym (capped_both (sum_by calls_of runs) (sum_by calls_of more) (sum_by calls_of (runs ++ more))
+        (sum_by-append calls_of runs more)));
     longest = longest ∙ (ap (λ n. max n (longest_of more)) was.longest ∙ sym (longest_both runs more));
     ends = ends;
-    contexts = λ k. contexts k ∙ (ap (λ n. capped (n + capped (using_contexts k more))) (was.contexts k) ∙ sym (count_both (λ r. r.report.contexts == k) runs more));
+    contexts = λ k.
+        contexts k ∙ (ap (λ n. capped (n + capped (using_contexts k more))) (was.contexts k)
+        ∙ sym (count_both (λ r. r.report.contexts == k) runs more));
     stepped = other_marks (λ i. Some i) (λ i. SomeSteps runs i ⊎ SomeSteps more i) (SomeSteps (runs ++ more)) (threads s) new.stepped.items
         (λ i is. elim is [ inl one ↦ any_first (λ r. HasStep r.history i) runs more one | inr two ↦ any_later (λ r. HasStep r.history i) runs more two ])
         (λ i is. any_of_both (λ r. HasStep r.history i) runs more is)
@@ -69,7 +76,8 @@ module _ (s : SetupOf) (runs more : List MadeRun) (old new : Tally) (was : IsCou
 pub reached_both : (t : Program) (s : SetupOf) (runs more : List MadeRun) (count : ℕ) (marks : List Bool)
     → AreMarks (place_of t) (λ p. SomeReaches t s runs p ⊎ SomeReaches t s more p) count marks
     → AreMarks (place_of t) (SomeReaches t s (runs ++ more)) count marks
-reached_both t s runs more count marks are = other_marks (place_of t) (λ p. SomeReaches t s runs p ⊎ SomeReaches t s more p) (SomeReaches t s (runs ++ more)) count marks
+reached_both t s runs more count marks are =
+    other_marks (place_of t) (λ p. SomeReaches t s runs p ⊎ SomeReaches t s more p) (SomeReaches t s (runs ++ more)) count marks
     (λ p is. elim is [ inl one ↦ any_first (λ r. Reaches t s r.history p) runs more one | inr two ↦ any_later (λ r. Reaches t s r.history p) runs more two ])
     (λ p is. any_of_both (λ r. Reaches t s r.history p) runs more is)
     are
@@ -113,15 +121,19 @@ pub tally_run : (t : Program) (s : SetupOf) (runs : List MadeRun) (r : MadeRun) 
 tally_run t s runs r old new cur key was keyed keys grow same counted = record {
   counted = counted;
   keys = keys_with t s runs r old.keys.items new.keys.items key keys was.keys keyed;
-  reached = subst (λ marks. AreMarks (place_of t) (SomeReaches t s (runs ++ r ∷ [])) (length (places_of t.procedures)) marks) (sym same) (reached_both t s runs (r ∷ []) (length (places_of t.procedures)) cur
-      (other_marks (place_of t) (λ p. SomeReaches t s runs p ⊎ Reaches t s r.history p) (λ p. SomeReaches t s runs p ⊎ SomeReaches t s (r ∷ []) p) (length (places_of t.procedures)) cur
+  reached =
+      subst (λ marks. AreMarks (place_of t) (SomeReaches t s (runs ++ r ∷ [])) (length (places_of t.procedures)) marks)
+      (sym same) (reached_both t s runs (r ∷ []) (length (places_of t.procedures)) cur
+      (other_marks (place_of t) (λ p. SomeReaches t s runs p ⊎ Reaches t s r.history p)
+      (λ p. SomeReaches t s runs p ⊎ SomeReaches t s (r ∷ []) p) (length (places_of t.procedures)) cur
       (λ p is. elim is [ inl one ↦ inl one | inr here ↦ inr (any_one (λ q. Reaches t s q.history p) r here) ])
       (λ p is. elim is [ inl one ↦ inl one | inr here ↦ inr (one_of_any (λ q. Reaches t s q.history p) r here) ])
       (grown_marks (place_of t) (SomeReaches t s runs) (Reaches t s r.history) (length (places_of t.procedures)) old.reached.items cur was.reached grow)));
 }
 
 -- a tally that differs in its marks alone has the same counts
-pub same_counts : (s : SetupOf) (runs : List MadeRun) (old new : Tally) → new.runs ≡ old.runs → new.calls ≡ old.calls → new.longest ≡ old.longest → new.ends ≡ old.ends → new.contexts ≡ old.contexts → new.stepped ≡ old.stepped
+pub same_counts : (s : SetupOf) (runs : List MadeRun) (old new : Tally) → new.runs ≡ old.runs → new.calls ≡ old.calls
+    → new.longest ≡ old.longest → new.ends ≡ old.ends → new.contexts ≡ old.contexts → new.stepped ≡ old.stepped
     → IsCounted s runs old → IsCounted s runs new
 same_counts s runs old new count calls longest ends contexts stepped was = record {
   count = count ∙ was.count;
@@ -151,11 +163,15 @@ tally_both t s runs more old other new was also count calls longest ends context
       (count ∙ ap (λ n. capped (old.runs + n)) also.counted.count)
       (calls ∙ ap (λ n. capped (old.calls + n)) also.counted.calls)
       (longest ∙ ap (λ n. max old.longest n) also.counted.longest)
-      (ends ∙ (ap (λ e. ends_sum old.ends e) also.counted.ends ∙ (ap (λ e. ends_sum e (ends_of (threads s) more)) was.counted.ends ∙ sym (ends_both (threads s) runs more))))
+      (ends ∙ (ap (λ e. ends_sum old.ends e) also.counted.ends
+      ∙ (ap (λ e. ends_sum e (ends_of (threads s) more)) was.counted.ends ∙ sym (ends_both (threads s) runs more))))
       (λ k. contexts k ∙ ap (λ n. capped (slice_index_or old.contexts.items k 0 + n)) (also.counted.contexts k))
-      (both_marks (λ i. Some i) (SomeSteps runs) (SomeSteps more) (threads s) old.stepped.items other.stepped.items new.stepped.items was.counted.stepped also.counted.stepped stepped);
+      (both_marks (λ i. Some i) (SomeSteps runs) (SomeSteps more) (threads s) old.stepped.items other.stepped.items
+      new.stepped.items was.counted.stepped also.counted.stepped stepped);
   reached = reached_both t s runs more (length (places_of t.procedures)) new.reached.items
-      (both_marks (place_of t) (SomeReaches t s runs) (SomeReaches t s more) (length (places_of t.procedures)) old.reached.items other.reached.items new.reached.items was.reached also.reached reached);
+      (both_marks (place_of t) (SomeReaches t s runs) (SomeReaches t s more)
+      (length (places_of t.procedures)) old.reached.items other.reached.items new.reached.items was.reached
+      also.reached reached);
 }
 
 -- counts that are added one after the other, up to count i
@@ -174,11 +190,15 @@ module _ (i x : ℕ) (start now new items : List ℕ) (is : x ≡ slice_index_or
       by true e = absurd (other (grind (arith, nat_tests, e)))
       by false e = step k ∙ ap (λ c. if c then capped (slice_index_or now k 0 + x) else slice_index_or now k 0) e
 
-  module _ (below : (k : ℕ) → k < i → slice_index_or now k 0 ≡ capped (slice_index_or start k 0 + slice_index_or items k 0)) (above : (k : ℕ) → i ≤ k → slice_index_or now k 0 ≡ slice_index_or start k 0) where
+  module _
+      (below : (k : ℕ) → k < i → slice_index_or now k 0 ≡ capped (slice_index_or start k 0 + slice_index_or items k 0))
+      (above : (k : ℕ) → i ≤ k → slice_index_or now k 0 ≡ slice_index_or start k 0) where
     pub below_next : (k : ℕ) → k < i + 1 → slice_index_or new k 0 ≡ capped (slice_index_or start k 0 + slice_index_or items k 0)
     below_next k within = elim (same_or_not i k) [
       | inl same ↦
-          with_same k same ∙ ap capped (let past : i ≤ k = omega (arith, same) in ap (λ n. n + x) (above k past) ∙ ap (λ n. slice_index_or start k 0 + n) (is ∙ ap (λ n. slice_index_or items n 0) same))
+          with_same k same ∙ ap capped (let past : i ≤ k = omega (arith, same) in
+          ap (λ n. n + x) (above k past)
+          ∙ ap (λ n. slice_index_or start k 0 + n) (is ∙ ap (λ n. slice_index_or items n 0) same))
       | inr other ↦ with_other k other ∙ below k (omega (arith, within, other))
     ]
 

@@ -15,7 +15,13 @@ module _ (t : Program) (c : Configuration) where
   none_waiting = record { threads = refl; each = All-nil (IsNext t c) }
 
   on_stack : (i : ℕ) (fs : List Frame) → stack_of c i ≡ fs → place_on fs ≡ None → waits t c i ≡ true → ⊥
-  on_stack i [] is none waiting = let a = ap (λ s. is_blocked (reply_on_stack t true c.globals s false) && is_blocked (reply_on_stack t true c.globals s true)) is in let b = waiting in cc
+  on_stack i [] is none waiting =
+      let a =
+      ap
+      (λ s. is_blocked (reply_on_stack t true c.globals s false) && is_blocked (reply_on_stack t true c.globals s true))
+      is in
+      let b = waiting in
+      cc
   on_stack i (f ∷ fs) is none waiting = cc
 
   -- a thread that has no next place does not wait
@@ -31,6 +37,9 @@ module _ (t : Program) (c : Configuration) where
 
     pub waits_more : (x : Waiting) → IsWait t c n x → AreWaiting t c (n + 1) (xs ++ x ∷ [])
     waits_more x is = record {
-      threads = map-append (λ y. y.thread) xs (x ∷ []) ∙ (ap (λ ys. ys ++ x.thread ∷ []) was.threads ∙ (ap (λ i. waiting_below t c n ++ i ∷ []) is.thread ∙ after true is.waiting));
+      threads =
+          map-append (λ y. y.thread) xs (x ∷ [])
+          ∙ (ap (λ ys. ys ++ x.thread ∷ []) was.threads
+          ∙ (ap (λ i. waiting_below t c n ++ i ∷ []) is.thread ∙ after true is.waiting));
       each = All-push (IsNext t c) xs x was.each is.next;
     }

@@ -18,14 +18,17 @@ past_end {X} xs i none = cases (slice_get_cases xs i).1
     cases (inl (x, within, has, is)) = let a = has in let b = none in absurd (cc)
     cases (inr (past, is)) = past
 
-module _ {X : Type 0} (f : X → List ℕ) (xs : List X) (i : ℕ) (x : X) (has : slice_get xs i ≡ Some x) (a b c : Option (List ℕ)) (before : Appends a b (flat_map f (take i xs))) where
+module _ {X : Type 0} (f : X → List ℕ) (xs : List X) (i : ℕ) (x : X) (has : slice_get xs i ≡ Some x)
+    (a b c : Option (List ℕ)) (before : Appends a b (flat_map f (take i xs))) where
   inside : i < length xs
   inside = slice_get_within xs i x has
 
   -- within the text of the i-th
   pub part_at : AppendsPart b c (f x) → AppendsPart a c (flat_map f xs)
   part_at p =
-      let whole = flat_map_at f xs i x inside ∙ ap (λ y. flat_map f (take i xs) ++ (f y ++ flat_map f (drop (i + 1) xs))) (get_or_from_slice_get xs i x x has) in
+      let whole =
+      flat_map_at f xs i x inside
+      ∙ ap (λ y. flat_map f (take i xs) ++ (f y ++ flat_map f (drop (i + 1) xs))) (get_or_from_slice_get xs i x x has) in
       subst (AppendsPart a c) (sym whole) (AppendsPart_within a b c (flat_map f (take i xs)) (f x) (flat_map f (drop (i + 1) xs)) before p)
 
   pub more_at : AppendsAll b c (f x) → Appends a c (flat_map f (take (i + 1) xs))

@@ -40,7 +40,10 @@ module _ (i : ℕ) (text : List ℕ) (old : List Call) where
         record {
           symbols = read.symbols ++ symbol ∷ [];
           within = omega (arith, long, ap length whole, length-append now pair.0);
-          added = added ∙ ap (λ cs. cs ++ call_of i symbol ∷ []) read.added ∙ append_assoc old (map (call_of i) read.symbols) (call_of i symbol ∷ []) ∙ ap (λ cs. old ++ cs) (sym (map-append (call_of i) read.symbols (symbol ∷ [])));
+          added =
+              added ∙ ap (λ cs. cs ++ call_of i symbol ∷ []) read.added
+              ∙ append_assoc old (map (call_of i) read.symbols) (call_of i symbol ∷ [])
+              ∙ ap (λ cs. old ++ cs) (sym (map-append (call_of i) read.symbols (symbol ∷ [])));
           begins = whole ∙ ap (λ t. t ++ pair.0) (sym texts) ∙ ap (λ t. flat_map symbol_text (read.symbols ++ symbol ∷ []) ++ t) (sym rest);
           size_is = sym long ∙ ap length (sym texts);
         }
@@ -82,23 +85,29 @@ module _ (n : ℕ) (last : Option ℕ) (text : List ℕ) where
           let alike = symbols_alike read.symbols symbols read.more (10 ∷ more) read.ends (no_symbol_at_end more) (sym read.begins ∙ same.1) in
           let long : size ≡ length (flat_map symbol_text symbols) = read.size_is ∙ ap (λ ts. length (flat_map symbol_text ts)) alike.0 in
           none (omega (arith, long))
-          (ap (λ text. slice_get text size) same.1 ∙ ap (slice_get (flat_map symbol_text symbols ++ 10 ∷ more)) long ∙ reads_behind (flat_map symbol_text symbols) more 10)
+          (ap (λ text. slice_get text size) same.1 ∙ ap (slice_get (flat_map symbol_text symbols ++ 10 ∷ more)) long
+          ∙ reads_behind (flat_map symbol_text symbols) more 10)
 
       pub has_piece : last ≢ Some t → 0 < size → slice_get rest size ≡ Some 10 → IsBodyLineAt Two n last text calls (length (decimal t) + size + 2)
       has_piece other some ended = go read.symbols read.more read.added read.begins read.size_is
         where
-          go : (ts : List Symbol) (more : List ℕ) → calls ≡ map (call_of t) ts → rest ≡ flat_map symbol_text ts ++ more → size ≡ length (flat_map symbol_text ts)
+          go : (ts : List Symbol) (more : List ℕ) → calls ≡ map (call_of t) ts → rest ≡ flat_map symbol_text ts ++ more
+              → size ≡ length (flat_map symbol_text ts)
               → IsBodyLineAt Two n last text calls (length (decimal t) + size + 2)
           go [] more added begins long = absurd (omega (arith, long, some))
           go (u ∷ us) more added begins long =
               let symbols = flat_map symbol_text (u ∷ us) in
               let p : Piece = record { thread = t; first = u; others = us } in
-              let at_end : slice_get (symbols ++ more) (length symbols) ≡ Some 10 = ap (slice_get (symbols ++ more)) (sym long) ∙ ap (λ text. slice_get text size) (sym begins) ∙ ended in
+              let at_end : slice_get (symbols ++ more) (length symbols) ≡ Some 10 =
+              ap (slice_get (symbols ++ more)) (sym long) ∙ ap (λ text. slice_get text size) (sym begins) ∙ ended in
               let line = byte_behind symbols more 10 at_end in
               record {
                 line = piece_line p;
                 more = drop 1 more;
                 is_line = record { piece = p; thread = at.1; other = λ e. other (sym e); is = refl; holds = added };
-                begins = at.2 ∙ ap (λ r. decimal t ++ 32 ∷ r) (sym (behind n text few t at) ∙ begins ∙ ap (λ r. symbols ++ r) line) ∙ sym (piece_then p (drop 1 more));
+                begins =
+                    at.2
+                    ∙ ap (λ r. decimal t ++ 32 ∷ r) (sym (behind n text few t at) ∙ begins ∙ ap (λ r. symbols ++ r) line)
+                    ∙ sym (piece_then p (drop 1 more));
                 size_is = omega (arith, long, length-append (decimal t) (32 ∷ (symbols ++ codes "\n")), length-append symbols (codes "\n"));
               }

@@ -58,14 +58,17 @@ module _ (byte : ℕ) (low : byte < 48) (text : List ℕ) (count : ℕ) (within 
   pub no_field_of_zero : 1 < count → slice_get text 0 ≡ Some 48 → HasNoDecimal byte text
   no_field_of_zero many zero = λ ds more decimal begins.
       let counted = all_counted ds more decimal begins in
-      let first : get_or ds 0 0 ≡ 48 = sym (get_or_append_left ds (byte ∷ more) 0 0 decimal.some) ∙ ap (λ t. get_or t 0 0) (sym begins) ∙ get_or_from_slice_get text 0 48 0 zero in
+      let first : get_or ds 0 0 ≡ 48 =
+      sym (get_or_append_left ds (byte ∷ more) 0 0 decimal.some) ∙ ap (λ t. get_or t 0 0) (sym begins)
+      ∙ get_or_from_slice_get text 0 48 0 zero in
       omega (arith, many, counted, decimal.first first)
 
   pub has_field : 0 < count → slice_get text count ≡ Some byte → (1 < count → slice_get text 0 ≡ Some 48 → ⊥) → IsDecimalAt byte text (count + 1)
   has_field some here none =
       let inside = slice_get_within text count byte here in
       let counted : length (take count text) ≡ count = length-take-le count text within in
-      let rest : drop count text ≡ byte ∷ drop (count + 1) text = rw (add-one) (drop-cons text count 0 inside ∙ ap (λ d. d ∷ drop (suc count) text) (get_or_from_slice_get text count byte 0 here)) in
+      let rest : drop count text ≡ byte ∷ drop (count + 1) text = rw (add-one)
+      (drop-cons text count 0 inside ∙ ap (λ d. d ∷ drop (suc count) text) (get_or_from_slice_get text count byte 0 here)) in
       record {
         digits = take count text;
         more = drop (count + 1) text;
@@ -87,7 +90,8 @@ module _ (byte : ℕ) (low : byte < 48) (text : List ℕ) (count : ℕ) (within 
 pub end_then : (line more : List ℕ) (e : IsEndLine line) → line ++ more ≡ codes "end " ++ (e.calls ++ 32 ∷ (e.left_open ++ 10 ∷ more))
 end_then line more e =
     ap (λ l. l ++ more) e.is
-    ∙ ap (λ t. codes "end " ++ t) (append_assoc e.calls (codes " " ++ (e.left_open ++ codes "\n")) more ∙ ap (λ t. e.calls ++ 32 ∷ t) (append_assoc e.left_open (codes "\n") more))
+    ∙ ap (λ t. codes "end " ++ t) (append_assoc e.calls (codes " " ++ (e.left_open ++ codes "\n")) more
+    ∙ ap (λ t. e.calls ++ 32 ∷ t) (append_assoc e.left_open (codes "\n") more))
 
 module _ (text : List ℕ) where
   -- behind the word
@@ -99,12 +103,15 @@ module _ (text : List ℕ) where
       second_is : drop (4 + calls) text ≡ first.more
       second_is =
           let long : length (codes "end " ++ (first.digits ++ codes " ")) ≡ 4 + calls = omega (arith, first.size_is, length-append first.digits (codes " ")) in
-          let whole : text ≡ (codes "end " ++ (first.digits ++ codes " ")) ++ first.more = word ∙ ap (λ t. codes "end " ++ t) (first.begins ∙ sym (append_assoc first.digits (codes " ") first.more)) in
+          let whole : text ≡ (codes "end " ++ (first.digits ++ codes " ")) ++ first.more =
+          word ∙ ap (λ t. codes "end " ++ t) (first.begins ∙ sym (append_assoc first.digits (codes " ") first.more)) in
           ap (drop (4 + calls)) whole ∙ drop_at (codes "end " ++ (first.digits ++ codes " ")) first.more (4 + calls) long
 
       pub no_second : HasNoDecimal 10 (drop (4 + calls) text) → HasNoEnd text
       no_second none = λ line more e begins.
-          let cut = one_cut 32 first.digits e.calls first.more (e.left_open ++ 10 ∷ more) (digits_without 32 (omega arith) first.digits first.decimal.each) (digits_without 32 (omega arith) e.calls e.first.each)
+          let cut = one_cut 32 first.digits e.calls first.more (e.left_open ++ 10 ∷ more)
+          (digits_without 32 (omega arith) first.digits first.decimal.each)
+          (digits_without 32 (omega arith) e.calls e.first.each)
           (sym first.begins ∙ both_then line more e begins) in
           none e.left_open more e.second (second_is ∙ cut.1)
 
@@ -116,6 +123,16 @@ module _ (text : List ℕ) where
             line = line;
             more = second.more;
             is_end = e;
-            begins = word ∙ ap (λ t. codes "end " ++ t) (first.begins ∙ ap (λ t. first.digits ++ 32 ∷ t) (sym second_is ∙ second.begins)) ∙ sym (end_then line second.more e);
-            size_is = omega (arith, first.size_is, second.size_is, length-append first.digits (32 ∷ (second.digits ++ codes "\n")), length-append second.digits (codes "\n"));
+            begins =
+                word ∙ ap (λ t. codes "end " ++ t)
+                (first.begins ∙ ap (λ t. first.digits ++ 32 ∷ t) (sym second_is ∙ second.begins))
+                ∙ sym (end_then line second.more e);
+            size_is =
+                omega (
+                  arith,
+                  first.size_is,
+                  second.size_is,
+                  length-append first.digits (32 ∷ (second.digits ++ codes "\n")),
+                  length-append second.digits (codes "\n"),
+                );
           }

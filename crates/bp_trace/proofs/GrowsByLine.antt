@@ -27,7 +27,9 @@ one_piece i t (u ∷ us) =
 call_before : (x : Call) (p : Piece) (ps qs : List Piece) → with_call x ((p ∷ ps) ++ qs) ≡ with_call x (p ∷ ps) ++ qs
 call_before x p ps qs = go (x.thread == p.thread)
   where
-    go : (b : Bool) → cond b (piece_of x (p.first ∷ p.others) ∷ (ps ++ qs)) (piece_of x [] ∷ p ∷ (ps ++ qs)) ≡ cond b (piece_of x (p.first ∷ p.others) ∷ ps) (piece_of x [] ∷ p ∷ ps) ++ qs
+    go : (b : Bool)
+        → cond b (piece_of x (p.first ∷ p.others) ∷ (ps ++ qs)) (piece_of x [] ∷ p ∷ (ps ++ qs))
+        ≡ cond b (piece_of x (p.first ∷ p.others) ∷ ps) (piece_of x [] ∷ p ∷ ps) ++ qs
     go true = refl
     go false = refl
 
@@ -70,6 +72,16 @@ count_grows Two n h line calls is_line =
 -- the line is not empty
 pub some_line : (v : Version) (n : ℕ) (last : Option ℕ) (line : List ℕ) (calls : List Call) → IsBodyLine n last line calls v → 0 < length line
 some_line One n last line calls is_line =
-    omega (arith, ap length is_line.is, length-append (decimal is_line.call.thread) (32 ∷ bit_digit is_line.call.bit ∷ 32 ∷ letter_of is_line.call.reply ∷ 10 ∷ []))
+    omega (
+      arith,
+      ap length is_line.is,
+      length-append (decimal is_line.call.thread)
+          (32 ∷ bit_digit is_line.call.bit ∷ 32 ∷ letter_of is_line.call.reply ∷ 10 ∷ []),
+    )
 some_line Two n last line calls is_line =
-    omega (arith, ap length is_line.is, length-append (decimal is_line.piece.thread) (32 ∷ (flat_map symbol_text (is_line.piece.first ∷ is_line.piece.others) ++ codes "\n")))
+    omega (
+      arith,
+      ap length is_line.is,
+      length-append (decimal is_line.piece.thread)
+          (32 ∷ (flat_map symbol_text (is_line.piece.first ∷ is_line.piece.others) ++ codes "\n")),
+    )

@@ -26,15 +26,18 @@ pub record AreLinesAt (text : List ℕ) (v : Version) (es ss : List (List ℕ)) 
   pub names : AllByRecursion IsEntryName es
   pub parts : text ≡ version_line v ++ (concat (map entry_line es) ++ (concat ss ++ rest))
 
-pub lines_join : (v : Version) (es ss : List (List ℕ)) (rest : List ℕ) → concat (lines_of v es ss) ++ rest ≡ version_line v ++ (concat (map entry_line es) ++ (concat ss ++ rest))
+pub lines_join : (v : Version) (es ss : List (List ℕ)) (rest : List ℕ)
+    → concat (lines_of v es ss) ++ rest ≡ version_line v ++ (concat (map entry_line es) ++ (concat ss ++ rest))
 lines_join v es ss rest =
     append_assoc (version_line v) (concat (map entry_line es ++ ss)) rest
     ∙ ap (λ t. version_line v ++ t) (ap (λ t. t ++ rest) (concat-append (map entry_line es) ss) ∙ append_assoc (concat (map entry_line es)) (concat ss) rest)
 
-pub at_settings : (text first rest : List ℕ) (v : Version) (es : List (List ℕ)) → text ≡ version_line v ++ first → AreEntriesAt first es rest → AreLinesAt text v es [] rest
+pub at_settings : (text first rest : List ℕ) (v : Version) (es : List (List ℕ)) → text ≡ version_line v ++ first
+    → AreEntriesAt first es rest → AreLinesAt text v es [] rest
 at_settings text first rest v es e p = record { names = p.names_are; parts = e ∙ ap (λ t. version_line v ++ t) p.parts }
 
-pub one_more : (text : List ℕ) (v : Version) (es ss : List (List ℕ)) (line rest more : List ℕ) → AreLinesAt text v es ss rest → rest ≡ line ++ more → AreLinesAt text v es (ss ++ line ∷ []) more
+pub one_more : (text : List ℕ) (v : Version) (es ss : List (List ℕ)) (line rest more : List ℕ)
+    → AreLinesAt text v es ss rest → rest ≡ line ++ more → AreLinesAt text v es (ss ++ line ∷ []) more
 one_more text v es ss line rest more p e =
     let last = concat-append ss (line ∷ []) ∙ ap (λ t. concat ss ++ t) (append-nil line) in
     let both = ap (λ t. concat ss ++ t) e ∙ sym (append_assoc (concat ss) line more) ∙ ap (λ t. t ++ more) (sym last) in
@@ -42,7 +45,8 @@ one_more text v es ss line rest more p e =
 
 -- ---- which lines may follow
 
-lines_then : (v : Version) (es ss : List (List ℕ)) (line : List ℕ) (more : List (List ℕ)) → (lines_of v es ss ++ line ∷ []) ++ more ≡ lines_of v es (ss ++ line ∷ more)
+lines_then : (v : Version) (es ss : List (List ℕ)) (line : List ℕ) (more : List (List ℕ))
+    → (lines_of v es ss ++ line ∷ []) ++ more ≡ lines_of v es (ss ++ line ∷ more)
 lines_then v es ss line more =
     append_assoc (lines_of v es ss) (line ∷ []) more ∙ ap (λ ls. version_line v ∷ ls) (append_assoc (map entry_line es) ss (line ∷ more))
 
@@ -60,9 +64,12 @@ settings_alike [] (f ∷ fs) a b x y e = absurd (init_no_entry a f (same_head _ 
 settings_alike (n ∷ es) [] a b x y e = absurd (init_no_entry b n (sym (same_head _ _ _ _ e).0))
 settings_alike (n ∷ es) (f ∷ fs) a b x y e = settings_alike es fs a b x y (same_head _ _ _ _ e).1
 
-settings_due : (v : Version) (es : List (List ℕ)) (bits : List Bool) (ss : List (List ℕ)) (line : List ℕ) (b : BeginsHead (lines_of v es (init_line bits ∷ ss) ++ line ∷ []))
+settings_due : (v : Version) (es : List (List ℕ)) (bits : List Bool) (ss : List (List ℕ)) (line : List ℕ)
+    (b : BeginsHead (lines_of v es (init_line bits ∷ ss) ++ line ∷ []))
     → setting_lines b.setup ≡ init_line bits ∷ (ss ++ line ∷ b.more)
-settings_due v es bits ss line b = settings_alike (b.setup).entries es (b.setup).init bits _ (ss ++ line ∷ b.more) (behind_version v es (init_line bits ∷ ss) line b)
+settings_due v es bits ss line b =
+    settings_alike (b.setup).entries es (b.setup).init bits _ (ss ++ line ∷ b.more)
+    (behind_version v es (init_line bits ∷ ss) line b)
 
 -- the line of an entry
 record IsEntryLine (line : List ℕ) : Type 0 where
@@ -96,7 +103,8 @@ stops_at_version text none = record {
   stops = λ line more b e. none b.version more (e ∙ ap (λ t. t ++ more) (sym (same_head _ _ _ _ b.is).0));
 }
 
-module _ (text : List ℕ) (v : Version) (s : SetupOf) (has : HasHead s) (ss ds : List (List ℕ)) (due : List ℕ) (settings : setting_lines s ≡ ss ++ due ∷ ds) where
+module _ (text : List ℕ) (v : Version) (s : SetupOf) (has : HasHead s) (ss ds : List (List ℕ)) (due : List ℕ)
+    (settings : setting_lines s ≡ ss ++ due ∷ ds) where
   begins : BeginsHead (lines_of v s.entries ss ++ due ∷ [])
   begins = record {
     version = v;
@@ -119,24 +127,29 @@ module _ (text : List ℕ) (v : Version) (s : SetupOf) (has : HasHead s) (ss ds 
   }
 
 module _ (text : List ℕ) (v : Version) (es : List (List ℕ)) (rest : List ℕ) (k : ℕ) where
-  has_head : (bits : List Bool) (contexts calls : ℕ) → AllByRecursion IsEntryName es → contexts < 2 ^ 64 → calls < 2 ^ 64 → HasHead (setup_of es bits contexts calls None)
+  has_head : (bits : List Bool) (contexts calls : ℕ) → AllByRecursion IsEntryName es → contexts < 2 ^ 64
+      → calls < 2 ^ 64 → HasHead (setup_of es bits contexts calls None)
   has_head bits contexts calls names p q = record { names = names; contexts = p; calls = q; seed = λ n e. absurd (cc) }
 
   pub stops_at_init : AreLinesAt text v es [] rest → HasNoEntry rest → HasNoInit rest → k ≡ length es + 2 → HeadStops text k
   stops_at_init p no_entry no_init place =
-      stops_at text v (setup_of es [] 0 0 None) (has_head [] 0 0 p.names (omega arith) (omega arith)) [] _ (init_line []) refl rest k p (omega (arith, place)) none
+      stops_at text v (setup_of es [] 0 0 None) (has_head [] 0 0 p.names (omega arith) (omega arith)) [] _
+      (init_line []) refl rest k p (omega (arith, place)) none
     where
       go : (line more : List ℕ) (bits : List Bool) → rest ≡ line ++ more → IsEntryLine line ⊎ (line ≡ init_line bits) → ⊥
       go line more bits e (inl entry) = no_entry entry.name more entry.name_is (e ∙ ap (λ t. t ++ more) entry.is)
       go line more bits e (inr init) = no_init bits more (e ∙ ap (λ t. t ++ more) init)
 
       none : (line more : List ℕ) → BeginsHead (lines_of v es [] ++ line ∷ []) → rest ≢ line ++ more
-      none line more b e = go line more (b.setup).init e (entry_or_init es (b.setup).entries (b.setup).init line _ b.more (b.has).names (behind_version v es [] line b))
+      none line more b e =
+          go line more (b.setup).init e
+          (entry_or_init es (b.setup).entries (b.setup).init line _ b.more (b.has).names (behind_version v es [] line b))
 
   module _ (bits : List Bool) where
     pub stops_at_contexts : AreLinesAt text v es (init_line bits ∷ []) rest → HasNoNumber (codes "contexts ") rest → k ≡ length es + 3 → HeadStops text k
     stops_at_contexts p no_number place =
-        stops_at text v (setup_of es bits 0 0 None) (has_head bits 0 0 p.names (omega arith) (omega arith)) (init_line bits ∷ []) _ (contexts_line 0) refl rest k p (omega (arith, place)) none
+        stops_at text v (setup_of es bits 0 0 None) (has_head bits 0 0 p.names (omega arith) (omega arith))
+        (init_line bits ∷ []) _ (contexts_line 0) refl rest k p (omega (arith, place)) none
       where
         none : (line more : List ℕ) → BeginsHead (lines_of v es (init_line bits ∷ []) ++ line ∷ []) → rest ≢ line ++ more
         none line more b e =
@@ -144,9 +157,11 @@ module _ (text : List ℕ) (v : Version) (es : List (List ℕ)) (rest : List ℕ
             no_number (b.setup).contexts more (b.has).contexts (e ∙ ap (λ t. t ++ more) (sym (same_head _ _ _ _ limits).0))
 
     module _ (contexts : ℕ) (fits : contexts < 2 ^ 64) where
-      pub stops_at_calls : AreLinesAt text v es (init_line bits ∷ contexts_line contexts ∷ []) rest → HasNoNumber (codes "calls ") rest → k ≡ length es + 4 → HeadStops text k
+      pub stops_at_calls : AreLinesAt text v es (init_line bits ∷ contexts_line contexts ∷ []) rest
+          → HasNoNumber (codes "calls ") rest → k ≡ length es + 4 → HeadStops text k
       stops_at_calls p no_number place =
-          stops_at text v (setup_of es bits contexts 0 None) (has_head bits contexts 0 p.names fits (omega arith)) (init_line bits ∷ contexts_line contexts ∷ []) _ (calls_line 0) refl rest k p (omega (arith, place)) none
+          stops_at text v (setup_of es bits contexts 0 None) (has_head bits contexts 0 p.names fits (omega arith))
+          (init_line bits ∷ contexts_line contexts ∷ []) _ (calls_line 0) refl rest k p (omega (arith, place)) none
         where
           none : (line more : List ℕ) → BeginsHead (lines_of v es (init_line bits ∷ contexts_line contexts ∷ []) ++ line ∷ []) → rest ≢ line ++ more
           none line more b e =
@@ -155,12 +170,16 @@ module _ (text : List ℕ) (v : Version) (es : List (List ℕ)) (rest : List ℕ
               no_number (b.setup).calls more (b.has).calls (e ∙ ap (λ t. t ++ more) (sym (same_head _ _ _ _ last_two).0))
 
       module _ (calls : ℕ) (few : calls < 2 ^ 64) where
-        pub stops_at_seed : AreLinesAt text v es (init_line bits ∷ contexts_line contexts ∷ calls_line calls ∷ []) rest → HasNoSeed rest → k ≡ length es + 5 → HeadStops text k
+        pub stops_at_seed : AreLinesAt text v es (init_line bits ∷ contexts_line contexts ∷ calls_line calls ∷ []) rest
+            → HasNoSeed rest → k ≡ length es + 5 → HeadStops text k
         stops_at_seed p no_seed place =
-            stops_at text v (setup_of es bits contexts calls None) (has_head bits contexts calls p.names fits few) (init_line bits ∷ contexts_line contexts ∷ calls_line calls ∷ []) []
+            stops_at text v (setup_of es bits contexts calls None) (has_head bits contexts calls p.names fits few)
+            (init_line bits ∷ contexts_line contexts ∷ calls_line calls ∷ []) []
             (field_line (codes "seed ") (seed_word None)) refl rest k p (omega (arith, place)) none
           where
-            none : (line more : List ℕ) → BeginsHead (lines_of v es (init_line bits ∷ contexts_line contexts ∷ calls_line calls ∷ []) ++ line ∷ []) → rest ≢ line ++ more
+            none : (line more : List ℕ)
+                → BeginsHead (lines_of v es (init_line bits ∷ contexts_line contexts ∷ calls_line calls ∷ []) ++ line ∷ [])
+                → rest ≢ line ++ more
             none line more b e =
                 let limits = (same_head _ _ _ _ (settings_due v es bits (contexts_line contexts ∷ calls_line calls ∷ []) line b)).1 in
                 let last_two = (same_head _ _ _ _ limits).1 in

@@ -27,7 +27,8 @@ module _ (value : List ℕ) (some : value ≢ []) (no_dash : value ≢ codes "-"
   init_is bits_of None none = other_than_bits none
   init_is bits_of (Some x) e = bits_are_init (bits_of x) e
 
-  pub init_ok : {X E : Type 0} (r : Result (Option X) E) (bits_of : X → List Bool) → IfOk r (λ o. MatchOption o (AreNoBits value) (λ x. value ≡ map bit_digit (bits_of x)))
+  pub init_ok : {X E : Type 0} (r : Result (Option X) E) (bits_of : X → List Bool)
+      → IfOk r (λ o. MatchOption o (AreNoBits value) (λ x. value ≡ map bit_digit (bits_of x)))
       → IfOk r (λ o. MatchOption o (IsNoInit value) (λ x. value ≡ init_digits (bits_of x)))
   init_ok (Ok o) bits_of is = init_is bits_of o is
   init_ok (Err e) bits_of is = tt

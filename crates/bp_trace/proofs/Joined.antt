@@ -5,13 +5,16 @@ use Rattle.std.proofs.lemmas.List.Concat.{flat_map-append}
 use Rattle.bp_text.proofs.AppendsPieces.{flat_map_at}
 use Rattle.bp_trace.proofs.OneText.{front_cut}
 
-module _ {X : Type 0} (f : X → List ℕ) (xs : List X) (i : ℕ) (x : X) (within : i < length xs) (text rest : List ℕ) (before : text ≡ flat_map f (take i xs) ++ rest) where
+module _ {X : Type 0} (f : X → List ℕ) (xs : List X) (i : ℕ) (x : X) (within : i < length xs) (text rest : List ℕ)
+    (before : text ≡ flat_map f (take i xs) ++ rest) where
   -- the i-th begins the rest
   pub one_more : (behind : List ℕ) → rest ≡ f (get_or xs i x) ++ behind → text ≡ flat_map f (take (i + 1) xs) ++ behind
   one_more behind e =
       let next : flat_map f (take (i + 1) xs) ≡ flat_map f (take i xs) ++ f (get_or xs i x) =
-      ap (flat_map f) (take_more xs i x within) ∙ flat_map-append f (take i xs) (get_or xs i x ∷ []) ∙ ap (λ t. flat_map f (take i xs) ++ t) (append-nil (f (get_or xs i x))) in
-      before ∙ ap (λ t. flat_map f (take i xs) ++ t) e ∙ sym (append_assoc (flat_map f (take i xs)) (f (get_or xs i x)) behind) ∙ ap (λ t. t ++ behind) (sym next)
+      ap (flat_map f) (take_more xs i x within) ∙ flat_map-append f (take i xs) (get_or xs i x ∷ [])
+      ∙ ap (λ t. flat_map f (take i xs) ++ t) (append-nil (f (get_or xs i x))) in
+      before ∙ ap (λ t. flat_map f (take i xs) ++ t) e
+      ∙ sym (append_assoc (flat_map f (take i xs)) (f (get_or xs i x)) behind) ∙ ap (λ t. t ++ behind) (sym next)
 
   -- it does not
   pub one_missing : ((behind : List ℕ) → rest ≢ f (get_or xs i x) ++ behind) → text ≢ flat_map f xs

@@ -42,7 +42,8 @@ all_below : (n i : ℕ) (calls : List Call) → i < n → AllByRecursion (λ (x 
 all_below n i [] below each = tt
 all_below n i (x ∷ xs) below each = (omega (arith, below, each.0), all_below n i xs below each.1)
 
-pub line_below : (v : Version) (n : ℕ) (last : Option ℕ) (line : List ℕ) (calls : List Call) → IsBodyLine n last line calls v → AllByRecursion (λ (x : Call). x.thread < n) calls
+pub line_below : (v : Version) (n : ℕ) (last : Option ℕ) (line : List ℕ) (calls : List Call)
+    → IsBodyLine n last line calls v → AllByRecursion (λ (x : Call). x.thread < n) calls
 line_below v n last line calls b =
     let one = line_thread v n last line calls b in
     all_below n one.thread calls one.below one.are.each

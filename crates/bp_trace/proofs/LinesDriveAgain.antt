@@ -92,15 +92,18 @@ module _ (t : Program) (s : SetupOf) where
   goes_on few p [] h rest lg lh e =
       record { left = h; whole = refl; lines = sym e; legal = subst (λ q. IsLegalAfter t s q h) (sym (append-nil p)) lh }
   goes_on few p (y ∷ ys) [] rest lg lh e =
-      absurd (not_empty (line_of_call y) (schedule_text (lines_of_history ys) ++ rest) (e ∙ append_assoc (line_text (line_of_call y)) (schedule_text (lines_of_history ys)) rest))
+      absurd (not_empty (line_of_call y) (schedule_text (lines_of_history ys) ++ rest)
+      (e ∙ append_assoc (line_text (line_of_call y)) (schedule_text (lines_of_history ys)) rest))
   goes_on few p (y ∷ ys) (x ∷ xs) rest (allowed_y, ly) (allowed_x, lx) e =
       let below_x = allowed_x.thread in
       let below_y = allowed_y.thread in
       let small_x : x.thread < 100 = omega arith in
       let small_y : y.thread < 100 = omega arith in
       let joined = e ∙ append_assoc (line_text (line_of_call y)) (schedule_text (lines_of_history ys)) rest in
-      let line = same_line (line_of_call x) (line_of_call y) (schedule_text (lines_of_history xs)) (schedule_text (lines_of_history ys) ++ rest) small_x small_y joined in
-      let rests = same_rest (line_of_call x) (line_of_call y) (schedule_text (lines_of_history xs)) (schedule_text (lines_of_history ys) ++ rest) small_x small_y joined in
+      let line = same_line (line_of_call x) (line_of_call y) (schedule_text (lines_of_history xs))
+      (schedule_text (lines_of_history ys) ++ rest) small_x small_y joined in
+      let rests = same_rest (line_of_call x) (line_of_call y) (schedule_text (lines_of_history xs))
+      (schedule_text (lines_of_history ys) ++ rest) small_x small_y joined in
       let same = same_call p x y line allowed_x allowed_y in
       let more = goes_on few (p ++ y ∷ []) ys xs rest ly (subst (λ z. IsLegalAfter t s (p ++ z ∷ []) xs) same lx) rests in
       record {
@@ -142,7 +145,8 @@ module _ (t : Program) (s : SetupOf) (h : List Call) (few : threads s ≤ MAX_TH
       next (x ∷ xs) lines (allowed, rest) =
           let below = allowed.thread in
           let below_late = late.begins.1 in
-          let line = same_line (line_of_call x) late.line (schedule_text (lines_of_history xs)) late.begins.0 (omega arith) (omega arith) (sym lines ∙ late.begins.2) in
+          let line = same_line (line_of_call x) late.line (schedule_text (lines_of_history xs)) late.begins.0
+          (omega arith) (omega arith) (sym lines ∙ late.begins.2) in
           let thread : x.thread ≡ late.line.thread = ap (λ (z : ScheduleLine). z.thread) line in
           false≢true (sym allowed.unfinished ∙ ap (λ i. is_finished s late.reached.history i) thread ∙ late.finished)
 

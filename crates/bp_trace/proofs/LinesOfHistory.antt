@@ -59,12 +59,22 @@ call_texts (x ∷ xs) = ap (λ t. call_line x ++ t) (call_texts xs)
 line_of_piece : Piece → Line
 line_of_piece p = record { text = piece_line p; calls = calls_of_piece p }
 
-piece_lines : (n : ℕ) (before : List Call) (ps : List Piece) → AllByRecursion (λ (p : Piece). p.thread < n) ps → Alternate (last_thread (map thread_of before)) ps → AreLines Two n before (map line_of_piece ps)
+piece_lines : (n : ℕ) (before : List Call) (ps : List Piece) → AllByRecursion (λ (p : Piece). p.thread < n) ps
+    → Alternate (last_thread (map thread_of before)) ps → AreLines Two n before (map line_of_piece ps)
 unfolding line_of_piece
 piece_lines n before [] below other = tt
 piece_lines n before (p ∷ ps) below other =
-    let own : IsBodyLine n (last_thread (map thread_of before)) (piece_line p) (calls_of_piece p) Two = record { piece = p; thread = below.0; other = other.0; is = refl; holds = refl } in
-    (own, piece_lines n (before ++ calls_of_piece p) ps below.1 (subst (λ l. Alternate l ps) (sym (last_is_thread p.thread before (calls_of_piece p) (piece_thread p))) other.1))
+    let own : IsBodyLine n (last_thread (map thread_of before)) (piece_line p) (calls_of_piece p) Two = record {
+      piece = p;
+      thread = below.0;
+      other = other.0;
+      is = refl;
+      holds = refl;
+    } in (
+      own,
+      piece_lines n (before ++ calls_of_piece p) ps below.1
+          (subst (λ l. Alternate l ps) (sym (last_is_thread p.thread before (calls_of_piece p) (piece_thread p))) other.1),
+    )
 
 piece_calls : (ps : List Piece) → calls_of_lines (map line_of_piece ps) ≡ calls_of_pieces ps
 unfolding line_of_piece

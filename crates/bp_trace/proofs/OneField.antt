@@ -34,7 +34,9 @@ module _ (word text : List ℕ) where
   -- a value that is said otherwise is the same
   module _ (value rest : List ℕ) (p : IsFieldAt word text value rest) where
     one_value : (other more : List ℕ) → Without 10 other → text ≡ field_line word other ++ more → value ≡ other
-    one_value other more q e = (one_cut 10 value other rest more p.value_is q (append_cancel_left word _ _ (sym (field_then value rest) ∙ sym p.parts ∙ e ∙ field_then other more))).0
+    one_value other more q e =
+        (one_cut 10 value other rest more p.value_is q
+        (append_cancel_left word _ _ (sym (field_then value rest) ∙ sym p.parts ∙ e ∙ field_then other more))).0
 
     pub no_number : IsNoNumber value → HasNoNumber word text
     no_number none = λ n more fits e. none n fits (one_value (decimal n) more (decimal_without 10 (omega arith) n fits) e)

@@ -35,7 +35,11 @@ abbrev AreLines : List (List ℕ) → Type 0
 AreLines ls = AllByRecursion IsLine ls
 
 value_is_line : (word value : List ℕ) → Without 10 word → Without 10 value → IsLine (field_line word value)
-value_is_line word value p q = record { body = word ++ value; without = all_of_both (λ b. b ≢ 10) word value p q; is = sym (append_assoc word value (codes "\n")) }
+value_is_line word value p q = record {
+  body = word ++ value;
+  without = all_of_both (λ b. b ≢ 10) word value p q;
+  is = sym (append_assoc word value (codes "\n"));
+}
 
 -- no byte of the word is a line feed
 low_free : (word : List ℕ) → AllByRecursion (λ b. 10 < b) word → Without 10 word
@@ -54,7 +58,8 @@ settings_are_lines : (s : SetupOf) → HasHead s → AreLines (setting_lines s)
 settings_are_lines s p = (
   value_is_line (codes "init ") (init_digits s.init) (low_free (codes "init ") (search rules)) (init_without s.init),
   (
-    value_is_line (codes "contexts ") (decimal s.contexts) (low_free (codes "contexts ") (search rules)) (decimal_without 10 (omega arith) s.contexts p.contexts),
+    value_is_line (codes "contexts ") (decimal s.contexts) (low_free (codes "contexts ") (search rules))
+        (decimal_without 10 (omega arith) s.contexts p.contexts),
     (
       value_is_line (codes "calls ") (decimal s.calls) (low_free (codes "calls ") (search rules)) (decimal_without 10 (omega arith) s.calls p.calls),
       (value_is_line (codes "seed ") (seed_word s.seed) (low_free (codes "seed ") (search rules)) (seed_without s.seed p.seed), tt),
@@ -63,7 +68,11 @@ settings_are_lines s p = (
 )
 
 head_is_lines : (v : Version) (s : SetupOf) → HasHead s → AreLines (head_lines v s)
-head_is_lines v s p = (version_is_line v, all_of_both IsLine (map entry_line s.entries) (setting_lines s) (entries_are_lines s.entries p.names) (settings_are_lines s p))
+head_is_lines v s p = (
+  version_is_line v,
+  all_of_both IsLine (map entry_line s.entries) (setting_lines s) (entries_are_lines s.entries p.names)
+      (settings_are_lines s p),
+)
 
 begun_are_lines : (ls : List (List ℕ)) → BeginsHead ls → AreLines ls
 begun_are_lines ls b = all_of_first IsLine ls b.more (subst AreLines b.is (head_is_lines b.version b.setup b.has))
@@ -106,7 +115,8 @@ stays text k p line more others rest b e =
     let whole = append_assoc p.front (line ∷ more) others ∙ sym (append_assoc p.front (line ∷ []) (more ++ others)) in
     p.stops line (concat more ++ rest) (fewer (p.front ++ line ∷ []) (more ++ others) (subst BeginsHead whole b)) (e ∙ append_assoc line (concat more) rest)
 
-none_more : (text : List ℕ) (j k : ℕ) (p : HeadStops text j) (q : HeadStops text k) (more : List (List ℕ)) → q.front ≡ p.front ++ more → p.rest ≡ concat more ++ q.rest → j ≡ k
+none_more : (text : List ℕ) (j k : ℕ) (p : HeadStops text j) (q : HeadStops text k) (more : List (List ℕ))
+    → q.front ≡ p.front ++ more → p.rest ≡ concat more ++ q.rest → j ≡ k
 none_more text j k p q [] e f = p.place ∙ ap (λ ls. length ls + 1) (sym (append-nil p.front) ∙ sym e) ∙ sym q.place
 none_more text j k p q (line ∷ more) e f =
     absurd (stays text j p line more (q.due ∷ []) q.rest (subst (λ (ls : List (List ℕ)). BeginsHead (ls ++ q.due ∷ [])) e q.begins) f)
@@ -126,7 +136,9 @@ line_some line x p e = omega (arith, ap length e, length-append line x, ap lengt
 module _ (v : Version) (s : SetupOf) (has : HasHead s) where
   -- no line follows a whole head
   none_follows : (more : List (List ℕ)) (line : List ℕ) → BeginsHead ((head_lines v s ++ more) ++ line ∷ []) → ⊥
-  none_follows more line b = line_some line (concat b.more) (one_between IsLine (head_lines v s ++ more) line [] (begun_are_lines _ b)) (concat_nil more nothing)
+  none_follows more line b =
+      line_some line (concat b.more) (one_between IsLine (head_lines v s ++ more) line [] (begun_are_lines _ b))
+      (concat_nil more nothing)
     where
       lines : head_lines b.version b.setup ≡ head_lines v s ++ (more ++ line ∷ b.more)
       lines = b.is ∙ append_assoc (head_lines v s ++ more) (line ∷ []) b.more ∙ append_assoc (head_lines v s) more (line ∷ b.more)
@@ -145,12 +157,19 @@ module _ (v : Version) (s : SetupOf) (has : HasHead s) where
           nil_back [] c e = e
           nil_back (d ∷ a) c e = absurd (cc)
 
-  goes_on : (rest : List ℕ) (k : ℕ) (p : HeadStops (head_text v s ++ rest) k) (more : List (List ℕ)) → head_lines v s ≡ p.front ++ more → p.rest ≡ concat more ++ rest → ⊥
+  goes_on : (rest : List ℕ) (k : ℕ) (p : HeadStops (head_text v s ++ rest) k) (more : List (List ℕ))
+      → head_lines v s ≡ p.front ++ more → p.rest ≡ concat more ++ rest → ⊥
   goes_on rest k p [] e f =
       let whole : p.front ≡ head_lines v s ++ [] = sym (append-nil p.front) ∙ sym e ∙ sym (append-nil (head_lines v s)) in
       none_follows [] p.due (subst (λ (ls : List (List ℕ)). BeginsHead (ls ++ p.due ∷ [])) whole p.begins)
   goes_on rest k p (line ∷ more) e f =
-      let b : BeginsHead ((p.front ++ line ∷ more) ++ []) = record { version = v; setup = s; has = has; more = []; is = e ∙ sym (append-nil (p.front ++ line ∷ more)) ∙ sym (append-nil _) } in
+      let b : BeginsHead ((p.front ++ line ∷ more) ++ []) = record {
+        version = v;
+        setup = s;
+        has = has;
+        more = [];
+        is = e ∙ sym (append-nil (p.front ++ line ∷ more)) ∙ sym (append-nil _);
+      } in
       stays (head_text v s ++ rest) k p line more [] rest b f
 
   stops_nowhere : (rest : List ℕ) (k : ℕ) → HeadStops (head_text v s ++ rest) k → ⊥

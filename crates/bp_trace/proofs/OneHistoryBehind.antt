@@ -23,7 +23,8 @@ module _ (t : Program) (v : Version) (s : SetupOf) (few : threads s ≤ MAX_THRE
       (line : List ℕ) (calls : List Call) (more : List ℕ)
       → IsBodyLine (threads s) (last_thread (map thread_of h)) line calls v → IsPlayable t s (h ++ calls) → x ≢ line ++ more
 
-  same_calls : (p : List Call) (l k : Line) (ls : List Line) (x : List ℕ) → l.calls ≡ k.calls → Stops (p ++ (l.calls ++ calls_of_lines ls)) x → Stops ((p ++ k.calls) ++ calls_of_lines ls) x
+  same_calls : (p : List Call) (l k : Line) (ls : List Line) (x : List ℕ) → l.calls ≡ k.calls
+      → Stops (p ++ (l.calls ++ calls_of_lines ls)) x → Stops ((p ++ k.calls) ++ calls_of_lines ls) x
   same_calls p l k ls x e stops = subst (λ h. Stops h x) (ap (λ cs. p ++ (cs ++ calls_of_lines ls)) e ∙ sym (append_assoc p k.calls (calls_of_lines ls))) stops
 
   -- two lists of lines, each with something behind it that no line goes on, that have one text
@@ -39,7 +40,8 @@ module _ (t : Program) (v : Version) (s : SetupOf) (few : threads s ≤ MAX_THRE
       absurd (subst (λ h. Stops h y) (append-nil p) sy l.text l.calls (text_of_lines ls ++ x) ll.0 playable (sym e ∙ append_assoc l.text (text_of_lines ls) x))
   one_list p (l ∷ ls) (k ∷ ks) x y ll lk pl pk sx sy e =
       let joined = sym (append_assoc l.text (text_of_lines ls) x) ∙ e ∙ append_assoc k.text (text_of_lines ks) y in
-      let (line, calls, rest) = one_body_line (threads s) few (last_thread (map thread_of p)) v l.text k.text l.calls k.calls (text_of_lines ls ++ x) (text_of_lines ks ++ y) ll.0 lk.0 joined in
+      let (line, calls, rest) = one_body_line (threads s) few (last_thread (map thread_of p)) v l.text k.text l.calls
+      k.calls (text_of_lines ls ++ x) (text_of_lines ks ++ y) ll.0 lk.0 joined in
       let own = subst (λ cs. AreLines v (threads s) (p ++ cs) ls) calls ll.1 in
       let pown = subst (IsPlayable t s) (ap (λ cs. p ++ (cs ++ calls_of_lines ls)) calls ∙ sym (append_assoc p k.calls (calls_of_lines ls))) pl in
       let pother = subst (IsPlayable t s) (sym (append_assoc p k.calls (calls_of_lines ks))) pk in
@@ -51,11 +53,13 @@ module _ (t : Program) (v : Version) (s : SetupOf) (few : threads s ≤ MAX_THRE
   below p (x ∷ xs) (allowed, rest) = (allowed.thread, below (p ++ x ∷ []) xs rest)
 
   -- two histories that may be played, each with something behind it that no line goes on, that have one text
-  pub one_history : (h g : List Call) (x y : List ℕ) → IsPlayable t s h → IsPlayable t s g → Stops h x → Stops g y → calls_text v h ++ x ≡ calls_text v g ++ y → (h ≡ g) × (x ≡ y)
+  pub one_history : (h g : List Call) (x y : List ℕ) → IsPlayable t s h → IsPlayable t s g → Stops h x → Stops g y
+      → calls_text v h ++ x ≡ calls_text v g ++ y → (h ≡ g) × (x ≡ y)
   one_history h g x y ph pg sx sy e =
       let lh = lines_of v (threads s) h (below [] h ph.legal) in
       let lg = lines_of v (threads s) g (below [] g pg.legal) in
       let joined = ap (λ z. z ++ x) lh.text ∙ e ∙ ap (λ z. z ++ y) (sym lg.text) in
-      let (calls, behind) = one_list [] lh.lines lg.lines x y lh.are lg.are (subst (IsPlayable t s) (sym lh.calls) ph) (subst (IsPlayable t s) (sym lg.calls) pg)
+      let (calls, behind) = one_list [] lh.lines lg.lines x y lh.are lg.are (subst (IsPlayable t s) (sym lh.calls) ph)
+      (subst (IsPlayable t s) (sym lg.calls) pg)
       (subst (λ z. Stops z x) (sym lh.calls) sx) (subst (λ z. Stops z y) (sym lg.calls) sy) joined in
       (sym lh.calls ∙ calls ∙ lg.calls, behind)

@@ -28,16 +28,21 @@ module _ (n : ℕ) (few : n ≤ MAX_THREADS) (last : Option ℕ) where
   pub not_both : (v : Version) (line end : List ℕ) (calls : List Call) (x y : List ℕ)
       → IsBodyLine n last line calls v → IsEndLine end → line ++ x ≢ end ++ y
   not_both One line end calls x y p q e =
-      number_begins p.call.thread _ 101 _ (omega (arith, p.thread, few)) (omega arith) (sym (call_then p.call x) ∙ ap (λ l. l ++ x) (sym p.is) ∙ e ∙ end_then end y q)
+      number_begins p.call.thread _ 101 _ (omega (arith, p.thread, few)) (omega arith)
+      (sym (call_then p.call x) ∙ ap (λ l. l ++ x) (sym p.is) ∙ e ∙ end_then end y q)
   not_both Two line end calls x y p q e =
-      number_begins p.piece.thread _ 101 _ (omega (arith, p.thread, few)) (omega arith) (sym (piece_then p.piece x) ∙ ap (λ l. l ++ x) (sym p.is) ∙ e ∙ end_then end y q)
+      number_begins p.piece.thread _ 101 _ (omega (arith, p.thread, few)) (omega arith)
+      (sym (piece_then p.piece x) ∙ ap (λ l. l ++ x) (sym p.is) ∙ e ∙ end_then end y q)
 
 -- two end lines that begin one text are one
 pub one_end_line : (line other x y : List ℕ) → IsEndLine line → IsEndLine other → line ++ x ≡ other ++ y → (line ≡ other) × (x ≡ y)
 one_end_line line other x y p q e =
     let both = front_cut (codes "end ") _ _ (sym (end_then line x p) ∙ e ∙ end_then other y q) in
-    let calls = one_cut 32 p.calls q.calls (p.left_open ++ 10 ∷ x) (q.left_open ++ 10 ∷ y) (digits_without 32 (omega arith) p.calls p.first.each) (digits_without 32 (omega arith) q.calls q.first.each) both in
-    let left_open = one_cut 10 p.left_open q.left_open x y (digits_without 10 (omega arith) p.left_open p.second.each) (digits_without 10 (omega arith) q.left_open q.second.each) calls.1 in (
+    let calls = one_cut 32 p.calls q.calls (p.left_open ++ 10 ∷ x) (q.left_open ++ 10 ∷ y)
+    (digits_without 32 (omega arith) p.calls p.first.each) (digits_without 32 (omega arith) q.calls q.first.each)
+    both in
+    let left_open = one_cut 10 p.left_open q.left_open x y (digits_without 10 (omega arith) p.left_open p.second.each)
+    (digits_without 10 (omega arith) q.left_open q.second.each) calls.1 in (
       p.is
           ∙ ap (λ t. codes "end " ++ (t ++ (codes " " ++ (p.left_open ++ codes "\n")))) calls.0
           ∙ ap (λ t. codes "end " ++ (q.calls ++ (codes " " ++ (t ++ codes "\n")))) left_open.0

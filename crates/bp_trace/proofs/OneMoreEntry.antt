@@ -11,7 +11,9 @@ use Rattle.bp_trace.proofs.AllOfBoth.{all_of_both}
 module _ (rest name behind : List ℕ) (q : IsEntryAt rest name behind) where
   pub entries_more : (text : List ℕ) (names : List (List ℕ)) → AreEntriesAt text names rest → AreEntriesAt text (names ++ name ∷ []) behind
   entries_more text names p =
-      let lines = ap concat (map_push entry_line names name) ∙ concat-append (map entry_line names) (entry_line name ∷ []) ∙ ap (λ t. concat (map entry_line names) ++ t) (append-nil (entry_line name)) in
+      let lines =
+      ap concat (map_push entry_line names name) ∙ concat-append (map entry_line names) (entry_line name ∷ [])
+      ∙ ap (λ t. concat (map entry_line names) ++ t) (append-nil (entry_line name)) in
       record {
         names_are = all_of_both IsEntryName names (name ∷ []) p.names_are (q.name_is, tt);
         parts =

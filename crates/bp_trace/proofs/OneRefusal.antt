@@ -47,16 +47,19 @@ module _ (t : Program) (text : List ℕ) where
     one_of_rests f k a b =
         let here = refused t v s few h own_h n x f a in
         let there = refused t v s few g own_g m y k b in
-        let (calls, behind) = one_history t v s few h g x y p.playable q.playable (stops t v s few h own_h n x f here) (stops t v s few g own_g m y k there) alike in
+        let (calls, behind) = one_history t v s few h g x y p.playable q.playable (stops t v s few h own_h n x f here)
+        (stops t v s few g own_g m y k there) alike in
         let number : m ≡ n = omega (arith, p.number, q.number, ap (line_count v) calls) in
-        let moved = subst (λ z. IsRestRefused t v s h n z k) (sym behind) (subst (λ z. IsRestRefused t v s h z y k) number (subst (λ z. IsRestRefused t v s z m y k) (sym calls) b)) in
+        let moved = subst (λ z. IsRestRefused t v s h n z k) (sym behind)
+        (subst (λ z. IsRestRefused t v s h z y k) number (subst (λ z. IsRestRefused t v s z m y k) (sym calls) b)) in
         one_rest t v s few h own_h n x f k here (refused t v s few h own_h n x k moved)
 
     -- where what is behind the first is its end
     ended_not_refused : (k : ReplayFault) → x ≡ end_line (length h) (open_lines s h) → IsRestRefused t v s g m y k → ⊥
     ended_not_refused k end b =
         let there = refused t v s few g own_g m y k b in
-        let (calls, behind) = one_history t v s few h g x y p.playable q.playable (end_stops t v s few h own_h n x end) (stops t v s few g own_g m y k there) alike in
+        let (calls, behind) = one_history t v s few h g x y p.playable q.playable (end_stops t v s few h own_h n x end)
+        (stops t v s few g own_g m y k there) alike in
         let moved = subst (λ z. IsRestRefused t v s h m z k) (sym behind) (subst (λ z. IsRestRefused t v s z m y k) (sym calls) b) in
         end_not_refused t v s few h own_h m x k end (refused t v s few h own_h m x k moved)
 
@@ -97,7 +100,8 @@ module _ (t : Program) (text : List ℕ) where
   moved_to : (v w : Version) (s r : SetupOf) (g : List Call) (m : ℕ) (y : List ℕ) → v ≡ w → s ≡ r → Reaches t text w r g m y → Reaches t text v s g m y
   moved_to v w s r g m y a b q = subst (λ z. Reaches t text v z g m y) (sym b) (subst (λ z. Reaches t text z r g m y) (sym a) q)
 
-  rest_moved_to : (v w : Version) (s r : SetupOf) (g : List Call) (m : ℕ) (y : List ℕ) (f : ReplayFault) → v ≡ w → s ≡ r → IsRestRefused t w r g m y f → IsRestRefused t v s g m y f
+  rest_moved_to : (v w : Version) (s r : SetupOf) (g : List Call) (m : ℕ) (y : List ℕ) (f : ReplayFault) → v ≡ w → s ≡ r
+      → IsRestRefused t w r g m y f → IsRestRefused t v s g m y f
   rest_moved_to v w s r g m y f a b q = subst (λ z. IsRestRefused t v z g m y f) (sym b) (subst (λ z. IsRestRefused t z r g m y f) (sym a) q)
 
   one_cause : (f g : ReplayFault) → Cause f → Cause g → f ≡ g
@@ -132,7 +136,8 @@ one_refusal t text f g other another p q = one_refusal_of t text f g (refusal t 
 
 -- ---- a trace
 
-module _ (t : Program) (v : Version) (s : SetupOf) (h : List Call) (text : List ℕ) (lawful : IsLawful t) (of_text : HasText t) (trace : IsTrace t v s h text) where
+module _ (t : Program) (v : Version) (s : SetupOf) (h : List Call) (text : List ℕ) (lawful : IsLawful t)
+    (of_text : HasText t) (trace : IsTrace t v s h text) where
   names : AllByRecursion (λ e. length e ≤ TEXT_LIMIT) s.entries
   names = entries_are_names (λ e. length e ≤ TEXT_LIMIT) t 0 s.entries (short_names t of_text).1 (fits t s trace.fine).entries
 

@@ -19,7 +19,8 @@ use Rattle.bp_trace.proofs.OneRefusedCall.{one_among}
 use Rattle.bp_trace.proofs.PlayableFronts.{not_refused}
 use Rattle.bp_trace.proofs.PiecesAreFewest.{thread_of}
 
-module _ (t : Program) (v : Version) (s : SetupOf) (few : threads s ≤ MAX_THREADS) (h : List Call) (own_is : IsEndLine (end_line (length h) (open_lines s h))) (n : ℕ) (x : List ℕ) where
+module _ (t : Program) (v : Version) (s : SetupOf) (few : threads s ≤ MAX_THREADS) (h : List Call)
+    (own_is : IsEndLine (end_line (length h) (open_lines s h))) (n : ℕ) (x : List ℕ) where
   abbrev own : List ℕ
   own = end_line (length h) (open_lines s h)
 
@@ -31,7 +32,8 @@ module _ (t : Program) (v : Version) (s : SetupOf) (few : threads s ≤ MAX_THRE
 
   call_stops : (f : ReplayFault) → HasRefusedCall t v s h n x f → Stops t v s few h x
   call_stops f r line calls more next playable e =
-      let (same, held, rest) = one_body_line (threads s) few (last_thread (map thread_of h)) v line r.line calls r.calls more r.more next r.is_line (sym e ∙ r.begins) in
+      let (same, held, rest) = one_body_line (threads s) few (last_thread (map thread_of h)) v line r.line calls r.calls
+      more r.more next r.is_line (sym e ∙ r.begins) in
       let parts = ap (λ z. h ++ z) (held ∙ r.among.parts) ∙ sym (append_assoc h r.among.good (r.among.call ∷ r.among.others)) in
       not_refused t s (h ++ r.among.good) r.among.call r.among.others (subst (IsPlayable t s) parts playable) n f r.among.refused
 
@@ -96,13 +98,16 @@ module _ (t : Program) (v : Version) (s : SetupOf) (few : threads s ≤ MAX_THRE
   one_rest f g (inr (inr (inr (inl p)))) (inr (inl q)) = absurd (other_and_own q.1 p.1)
   one_rest f g (inr (inr (inr (inl p)))) (inr (inr (inl q))) = absurd (q.1.ends own p.1.more own_is p.1.begins)
   one_rest f g (inr (inr (inr (inl p)))) (inr (inr (inr (inl q)))) = p.0 ∙ sym q.0
-  one_rest f g (inr (inr (inr (inl p)))) (inr (inr (inr (inr q)))) = absurd (end_or_line q.line own q.calls q.more p.1.more q.is_line own_is q.begins p.1.begins)
+  one_rest f g (inr (inr (inr (inl p)))) (inr (inr (inr (inr q)))) =
+      absurd (end_or_line q.line own q.calls q.more p.1.more q.is_line own_is q.begins p.1.begins)
   one_rest f g (inr (inr (inr (inr p)))) (inl q) = absurd (nothing_goes_on p.line p.more p.calls p.is_line q.1 p.begins)
   one_rest f g (inr (inr (inr (inr p)))) (inr (inl q)) = absurd (end_or_line p.line q.1.line p.calls p.more q.1.more p.is_line q.1.is_end p.begins q.1.begins)
   one_rest f g (inr (inr (inr (inr p)))) (inr (inr (inl q))) = absurd (q.1.calls p.line p.calls p.more p.is_line p.begins)
-  one_rest f g (inr (inr (inr (inr p)))) (inr (inr (inr (inl q)))) = absurd (end_or_line p.line own p.calls p.more q.1.more p.is_line own_is p.begins q.1.begins)
+  one_rest f g (inr (inr (inr (inr p)))) (inr (inr (inr (inl q)))) =
+      absurd (end_or_line p.line own p.calls p.more q.1.more p.is_line own_is p.begins q.1.begins)
   one_rest f g (inr (inr (inr (inr p)))) (inr (inr (inr (inr q)))) =
-      let (same, held, rest) = one_body_line (threads s) few (last_thread (map thread_of h)) v p.line q.line p.calls q.calls p.more q.more p.is_line q.is_line (sym p.begins ∙ q.begins) in
+      let (same, held, rest) = one_body_line (threads s) few (last_thread (map thread_of h)) v p.line q.line p.calls
+      q.calls p.more q.more p.is_line q.is_line (sym p.begins ∙ q.begins) in
       one_among t s h n q.calls f g (subst (λ cs. IsRefusedAmong t s h n cs f) held p.among) q.among
 
   -- its own end, alone, is not refused

@@ -59,19 +59,22 @@ module _ (t : Program) (s : SetupOf) (few : threads s ≤ MAX_THREADS) where
 
   two_bad : (schedule : List ℕ) (n m : ℕ) → IsBadLine t s schedule n → IsBadLine t s schedule m → n ≡ m
   two_bad schedule n m p q =
-      let one = one_history [] p.reached.history q.reached.history p.rest q.rest p.reached.legal q.reached.legal (bad_stops schedule n p) (bad_stops schedule m q)
+      let one = one_history [] p.reached.history q.reached.history p.rest q.rest p.reached.legal q.reached.legal
+      (bad_stops schedule n p) (bad_stops schedule m q)
       (sym p.reached.whole ∙ q.reached.whole) in
       p.reached.number ∙ ap (λ h. length h + 1) one.0 ∙ sym q.reached.number
 
   two_late : (schedule : List ℕ) (n m : ℕ) → IsAfterFinish t s schedule n → IsAfterFinish t s schedule m → n ≡ m
   two_late schedule n m p q =
-      let one = one_history [] p.reached.history q.reached.history p.rest q.rest p.reached.legal q.reached.legal (late_stops schedule n p) (late_stops schedule m q)
+      let one = one_history [] p.reached.history q.reached.history p.rest q.rest p.reached.legal q.reached.legal
+      (late_stops schedule n p) (late_stops schedule m q)
       (sym p.reached.whole ∙ q.reached.whole) in
       p.reached.number ∙ ap (λ h. length h + 1) one.0 ∙ sym q.reached.number
 
   bad_or_late : (schedule : List ℕ) (n m : ℕ) → IsBadLine t s schedule n → IsAfterFinish t s schedule m → ⊥
   bad_or_late schedule n m p q =
-      let one = one_history [] p.reached.history q.reached.history p.rest q.rest p.reached.legal q.reached.legal (bad_stops schedule n p) (late_stops schedule m q)
+      let one = one_history [] p.reached.history q.reached.history p.rest q.rest p.reached.legal q.reached.legal
+      (bad_stops schedule n p) (late_stops schedule m q)
       (sym p.reached.whole ∙ q.reached.whole) in
       p.bad q.line q.begins.0 q.begins.1 (one.1 ∙ q.begins.2)
 

@@ -69,7 +69,8 @@ entries_alike (n ∷ es) [] x y p q e = absurd (omega (arith, (same_head _ _ _ _
 entries_alike (n ∷ es) (f ∷ fs) x y p q e =
     let left = append_assoc (entry_line n) (flat_map entry_line es) (105 ∷ x) ∙ entry_then n (flat_map entry_line es ++ (105 ∷ x)) in
     let right = append_assoc (entry_line f) (flat_map entry_line fs) (105 ∷ y) ∙ entry_then f (flat_map entry_line fs ++ (105 ∷ y)) in
-    let cut = one_cut 10 n f (flat_map entry_line es ++ (105 ∷ x)) (flat_map entry_line fs ++ (105 ∷ y)) p.0 q.0 (front_cut (codes "entry ") _ _ (sym left ∙ e ∙ right)) in
+    let cut = one_cut 10 n f (flat_map entry_line es ++ (105 ∷ x)) (flat_map entry_line fs ++ (105 ∷ y)) p.0 q.0
+    (front_cut (codes "entry ") _ _ (sym left ∙ e ∙ right)) in
     let rest = entries_alike es fs x y p.1 q.1 cut.1 in
     (cc (cut.0, rest.0), rest.1)
 
@@ -104,14 +105,18 @@ init_then bs rest = ap (λ t. codes "init " ++ t) (append_assoc (init_digits bs)
 
 init_alike : (cs bs : List Bool) (x y : List ℕ) → init_line cs ++ x ≡ init_line bs ++ y → (cs ≡ bs) × (x ≡ y)
 init_alike cs bs x y e =
-    let cut = one_cut 10 (init_digits cs) (init_digits bs) x y (init_without cs) (init_without bs) (front_cut (codes "init ") _ _ (sym (init_then cs x) ∙ e ∙ init_then bs y)) in
+    let cut = one_cut 10 (init_digits cs) (init_digits bs) x y (init_without cs) (init_without bs)
+    (front_cut (codes "init ") _ _ (sym (init_then cs x) ∙ e ∙ init_then bs y)) in
     (one_init cs bs cut.0, cut.1)
 
 abbrev Fits64 : Option ℕ → Type 0
 Fits64 o = (n : ℕ) → o ≡ Some n → n < 2 ^ 64
 
 pub seed_without : (o : Option ℕ) → Fits64 o → Without 10 (seed_word o)
-seed_without None fits = (λ e. absurd (omega (arith, e)), (λ e. absurd (omega (arith, e)), (λ e. absurd (omega (arith, e)), (λ e. absurd (omega (arith, e)), tt))))
+seed_without None fits = (
+  λ e. absurd (omega (arith, e)),
+  (λ e. absurd (omega (arith, e)), (λ e. absurd (omega (arith, e)), (λ e. absurd (omega (arith, e)), tt))),
+)
 seed_without (Some n) fits = decimal_without 10 (omega arith) n (fits n refl)
 
 no_word : (n : ℕ) → n < 2 ^ 64 → decimal n ≡ codes "none" → ⊥
@@ -124,7 +129,9 @@ one_seed (Some m) None p q e = absurd (no_word m (p m refl) e)
 one_seed (Some m) (Some n) p q e = ap Some (decimal_injective m n (p m refl) (q n refl) e)
 
 limits_then : (s : SetupOf) (rest : List ℕ)
-    → limits_text s ++ rest ≡ codes "contexts " ++ (decimal s.contexts ++ 10 ∷ (codes "calls " ++ (decimal s.calls ++ 10 ∷ (codes "seed " ++ (seed_word s.seed ++ 10 ∷ rest)))))
+    → limits_text s ++ rest
+    ≡ codes "contexts " ++ (decimal s.contexts ++ 10
+    ∷ (codes "calls " ++ (decimal s.calls ++ 10 ∷ (codes "seed " ++ (seed_word s.seed ++ 10 ∷ rest)))))
 limits_then s rest =
     ap (λ t. codes "contexts " ++ t)
     (
@@ -159,9 +166,11 @@ record SameLimits (s r : SetupOf) (x y : List ℕ) : Type 0 where
 module _ (s r : SetupOf) (p : HasLines s) (q : HasLines r) where
   limits_alike : (x y : List ℕ) → limits_text s ++ x ≡ limits_text r ++ y → SameLimits s r x y
   limits_alike x y e =
-      let contexts = one_number 10 (omega arith) s.contexts r.contexts _ _ p.contexts q.contexts (front_cut (codes "contexts ") _ _ (sym (limits_then s x) ∙ e ∙ limits_then r y)) in
+      let contexts = one_number 10 (omega arith) s.contexts r.contexts _ _ p.contexts q.contexts
+      (front_cut (codes "contexts ") _ _ (sym (limits_then s x) ∙ e ∙ limits_then r y)) in
       let calls = one_number 10 (omega arith) s.calls r.calls _ _ p.calls q.calls (front_cut (codes "calls ") _ _ contexts.1) in
-      let seed = one_cut 10 (seed_word s.seed) (seed_word r.seed) x y (seed_without s.seed p.seed) (seed_without r.seed q.seed) (front_cut (codes "seed ") _ _ calls.1) in
+      let seed = one_cut 10 (seed_word s.seed) (seed_word r.seed) x y (seed_without s.seed p.seed)
+      (seed_without r.seed q.seed) (front_cut (codes "seed ") _ _ calls.1) in
       record {
         contexts = contexts.0;
         calls = calls.0;
@@ -183,11 +192,13 @@ module _ (s r : SetupOf) (p : HasLines s) (q : HasLines r) where
       let right = append_assoc (flat_map entry_line r.entries) (init_line r.init ++ limits_text r) y in
       let entries = entries_alike s.entries r.entries _ _ p.names q.names (sym left ∙ e ∙ right) in
       let inits = ap (λ t. 105 ∷ t) entries.1 in
-      let init = init_alike s.init r.init (limits_text s ++ x) (limits_text r ++ y) (sym (append_assoc (init_line s.init) (limits_text s) x) ∙ inits ∙ append_assoc (init_line r.init) (limits_text r) y) in
+      let init = init_alike s.init r.init (limits_text s ++ x) (limits_text r ++ y)
+      (sym (append_assoc (init_line s.init) (limits_text s) x) ∙ inits ∙ append_assoc (init_line r.init) (limits_text r) y) in
       let limits = limits_alike x y init.1 in
       (same_setup entries.0 init.0 x y limits, limits.rest)
 
-  behind_version : (v w : Version) (x y : List ℕ) → head_text v s ++ x ≡ head_text w r ++ y → version_line v ++ (setup_text s ++ x) ≡ version_line w ++ (setup_text r ++ y)
+  behind_version : (v w : Version) (x y : List ℕ) → head_text v s ++ x ≡ head_text w r ++ y
+      → version_line v ++ (setup_text s ++ x) ≡ version_line w ++ (setup_text r ++ y)
   behind_version v w x y e =
       sym (append_assoc (version_line v) (setup_text s) x) ∙ ap (λ u. u ++ x) (sym (head_joined v s)) ∙ e
       ∙ ap (λ u. u ++ y) (head_joined w r)
@@ -222,9 +233,13 @@ calls_alike : (h g : List Call) (x y : List ℕ) → AllByRecursion (λ (c : Cal
     → flat_map call_line h ++ (101 ∷ x) ≡ flat_map call_line g ++ (101 ∷ y) → (h ≡ g) × (x ≡ y)
 calls_alike [] [] x y p q e = (refl, (same_head _ _ _ _ e).1)
 calls_alike [] (d ∷ g) x y p q e =
-    absurd (number_begins d.thread _ 101 x q.0 (omega arith) (sym (append_assoc (call_line d) (flat_map call_line g) (101 ∷ y) ∙ call_then d (flat_map call_line g ++ (101 ∷ y))) ∙ sym e))
+    absurd (number_begins d.thread _ 101 x q.0 (omega arith)
+    (sym (append_assoc (call_line d) (flat_map call_line g) (101 ∷ y) ∙ call_then d (flat_map call_line g ++ (101 ∷ y)))
+    ∙ sym e))
 calls_alike (c ∷ h) [] x y p q e =
-    absurd (number_begins c.thread _ 101 y p.0 (omega arith) (sym (append_assoc (call_line c) (flat_map call_line h) (101 ∷ x) ∙ call_then c (flat_map call_line h ++ (101 ∷ x))) ∙ e))
+    absurd (number_begins c.thread _ 101 y p.0 (omega arith)
+    (sym (append_assoc (call_line c) (flat_map call_line h) (101 ∷ x) ∙ call_then c (flat_map call_line h ++ (101 ∷ x)))
+    ∙ e))
 calls_alike (c ∷ h) (d ∷ g) x y p q e =
     let lines = sym (append_assoc (call_line c) (flat_map call_line h) (101 ∷ x)) ∙ e ∙ append_assoc (call_line d) (flat_map call_line g) (101 ∷ y) in
     let line = one_call_line c d (flat_map call_line h ++ (101 ∷ x)) (flat_map call_line g ++ (101 ∷ y)) p.0 q.0 lines in
@@ -234,7 +249,8 @@ calls_alike (c ∷ h) (d ∷ g) x y p q e =
 -- ---- the pieces
 
 -- symbols that no other symbol is behind
-pub symbols_alike : (ts us : List Symbol) (x y : List ℕ) → HasNoSymbol x → HasNoSymbol y → flat_map symbol_text ts ++ x ≡ flat_map symbol_text us ++ y → (ts ≡ us) × (x ≡ y)
+pub symbols_alike : (ts us : List Symbol) (x y : List ℕ) → HasNoSymbol x → HasNoSymbol y
+    → flat_map symbol_text ts ++ x ≡ flat_map symbol_text us ++ y → (ts ≡ us) × (x ≡ y)
 symbols_alike [] [] x y p q e = (refl, e)
 symbols_alike [] (u ∷ us) x y p q e = absurd (p u.bit u.reply (flat_map symbol_text us ++ y) e)
 symbols_alike (t ∷ ts) [] x y p q e = absurd (q t.bit t.reply (flat_map symbol_text ts ++ x) (sym e))
@@ -270,9 +286,13 @@ pieces_alike : (ps qs : List Piece) (x y : List ℕ) → AllByRecursion (λ (p :
     → flat_map piece_line ps ++ (101 ∷ x) ≡ flat_map piece_line qs ++ (101 ∷ y) → (ps ≡ qs) × (x ≡ y)
 pieces_alike [] [] x y p q e = (refl, (same_head _ _ _ _ e).1)
 pieces_alike [] (d ∷ qs) x y p q e =
-    absurd (number_begins d.thread _ 101 x q.0 (omega arith) (sym (append_assoc (piece_line d) (flat_map piece_line qs) (101 ∷ y) ∙ piece_then d (flat_map piece_line qs ++ (101 ∷ y))) ∙ sym e))
+    absurd (number_begins d.thread _ 101 x q.0 (omega arith)
+    (sym (append_assoc (piece_line d) (flat_map piece_line qs) (101 ∷ y)
+    ∙ piece_then d (flat_map piece_line qs ++ (101 ∷ y))) ∙ sym e))
 pieces_alike (c ∷ ps) [] x y p q e =
-    absurd (number_begins c.thread _ 101 y p.0 (omega arith) (sym (append_assoc (piece_line c) (flat_map piece_line ps) (101 ∷ x) ∙ piece_then c (flat_map piece_line ps ++ (101 ∷ x))) ∙ e))
+    absurd (number_begins c.thread _ 101 y p.0 (omega arith)
+    (sym (append_assoc (piece_line c) (flat_map piece_line ps) (101 ∷ x)
+    ∙ piece_then c (flat_map piece_line ps ++ (101 ∷ x))) ∙ e))
 pieces_alike (c ∷ ps) (d ∷ qs) x y p q e =
     let lines = sym (append_assoc (piece_line c) (flat_map piece_line ps) (101 ∷ x)) ∙ e ∙ append_assoc (piece_line d) (flat_map piece_line qs) (101 ∷ y) in
     let line = one_piece_line c d (flat_map piece_line ps ++ (101 ∷ x)) (flat_map piece_line qs ++ (101 ∷ y)) p.0 q.0 lines in
@@ -281,11 +301,13 @@ pieces_alike (c ∷ ps) (d ∷ qs) x y p q e =
 
 -- ---- the whole text
 
-histories_alike : (v : Version) (h g : List Call) (x y : List ℕ) → AllByRecursion (λ (c : Call). c.thread < 2 ^ 64) h → AllByRecursion (λ (c : Call). c.thread < 2 ^ 64) g
+histories_alike : (v : Version) (h g : List Call) (x y : List ℕ) → AllByRecursion (λ (c : Call). c.thread < 2 ^ 64) h
+    → AllByRecursion (λ (c : Call). c.thread < 2 ^ 64) g
     → calls_text v h ++ (101 ∷ x) ≡ calls_text v g ++ (101 ∷ y) → h ≡ g
 histories_alike One h g x y p q e = (calls_alike h g x y p q e).0
 histories_alike Two h g x y p q e =
-    sym (pieces_whole h) ∙ ap calls_of_pieces (pieces_alike (pieces_of h) (pieces_of g) x y (pieces_threads (λ i. i < 2 ^ 64) h p) (pieces_threads (λ i. i < 2 ^ 64) g q) e).0 ∙ pieces_whole g
+    sym (pieces_whole h) ∙ ap calls_of_pieces (pieces_alike (pieces_of h) (pieces_of g) x y
+    (pieces_threads (λ i. i < 2 ^ 64) h p) (pieces_threads (λ i. i < 2 ^ 64) g q) e).0 ∙ pieces_whole g
 
 module _ (v w : Version) (s r : SetupOf) (h g : List Call) (p : IsWritable s h) (q : IsWritable r g) (e : text_of v s h ≡ text_of w r g) where
   abbrev end : SetupOf → List Call → List ℕ

@@ -26,14 +26,16 @@ decimal_is n fits = record {
 }
 
 -- the numbers of an end have 64 bits
-pub counts_fit : (t : Program) (s : SetupOf) (h : List Call) → threads s ≤ MAX_THREADS → s.calls ≤ MAX_CALLS → IsLegal t s h → (length h < 2 ^ 64) × (open_lines s h < 2 ^ 64)
+pub counts_fit : (t : Program) (s : SetupOf) (h : List Call) → threads s ≤ MAX_THREADS → s.calls ≤ MAX_CALLS
+    → IsLegal t s h → (length h < 2 ^ 64) × (open_lines s h < 2 ^ 64)
 counts_fit t s h few calls legal =
     let long = legal_length t s h legal in
     let one = mul-le-mul_right s.calls few in
     let other = mul-le-mul_left MAX_THREADS calls in
     (omega (arith, long, one, other), omega (arith, open_few (threads s) s h, few))
 
-pub own_end : (t : Program) (s : SetupOf) (h : List Call) → threads s ≤ MAX_THREADS → s.calls ≤ MAX_CALLS → IsLegal t s h → IsEndLine (end_line (length h) (open_lines s h))
+pub own_end : (t : Program) (s : SetupOf) (h : List Call) → threads s ≤ MAX_THREADS → s.calls ≤ MAX_CALLS
+    → IsLegal t s h → IsEndLine (end_line (length h) (open_lines s h))
 own_end t s h few calls legal =
     let fit = counts_fit t s h few calls legal in
     record {

@@ -29,15 +29,19 @@ goes_on : (x y : Call) (ys : List Call) → (x.thread == y.thread) ≡ true
     → symbol_text (symbol_of y) ++ (symbols_behind (Some y.thread) ys ++ codes "\n") ≡ symbols_behind (Some x.thread) (y ∷ ys) ++ codes "\n"
 goes_on x y ys e =
     sym (append_assoc (symbol_text (symbol_of y)) (symbols_behind (Some y.thread) ys) (codes "\n"))
-    ∙ ap (λ b. ((cond b [] (codes "\n" ++ (decimal y.thread ++ codes " ")) ++ symbol_text (symbol_of y)) ++ symbols_behind (Some y.thread) ys) ++ codes "\n") (sym e)
+    ∙ ap (λ b. ((cond b [] (codes "\n" ++ (decimal y.thread ++ codes " ")) ++ symbol_text (symbol_of y))
+    ++ symbols_behind (Some y.thread) ys) ++ codes "\n") (sym e)
 
 -- a call behind one of another thread
 breaks : (x y : Call) (ys : List Call) → (x.thread == y.thread) ≡ false
-    → 10 ∷ (decimal y.thread ++ 32 ∷ (symbol_text (symbol_of y) ++ (symbols_behind (Some y.thread) ys ++ codes "\n"))) ≡ symbols_behind (Some x.thread) (y ∷ ys) ++ codes "\n"
+    → 10 ∷ (decimal y.thread ++ 32 ∷ (symbol_text (symbol_of y) ++ (symbols_behind (Some y.thread) ys ++ codes "\n")))
+    ≡ symbols_behind (Some x.thread) (y ∷ ys) ++ codes "\n"
 breaks x y ys e =
     ap (λ t. 10 ∷ t)
-    (sym (assoc4 (decimal y.thread ++ 32 ∷ []) (symbol_text (symbol_of y)) (symbols_behind (Some y.thread) ys) (codes "\n") ∙ append_assoc (decimal y.thread) (32 ∷ []) _))
-    ∙ ap (λ b. ((cond b [] (codes "\n" ++ (decimal y.thread ++ codes " ")) ++ symbol_text (symbol_of y)) ++ symbols_behind (Some y.thread) ys) ++ codes "\n") (sym e)
+    (sym (assoc4 (decimal y.thread ++ 32 ∷ []) (symbol_text (symbol_of y)) (symbols_behind (Some y.thread) ys)
+    (codes "\n") ∙ append_assoc (decimal y.thread) (32 ∷ []) _))
+    ∙ ap (λ b. ((cond b [] (codes "\n" ++ (decimal y.thread ++ codes " ")) ++ symbol_text (symbol_of y))
+    ++ symbols_behind (Some y.thread) ys) ++ codes "\n") (sym e)
 
 -- the line of the first piece and those behind it
 next_line : (y : Call) (ys : List Call) (b : Begins y ys)
@@ -73,7 +77,9 @@ begins x (y ∷ ys) = go (begins y ys) (x.thread == (begins y ys).piece.thread) 
       rest = b.piece ∷ b.rest;
       is = ap (with_call x) b.is ∙ ap (λ t. cond t (piece_of x (b.piece.first ∷ b.piece.others) ∷ b.rest) (piece_of x [] ∷ b.piece ∷ b.rest)) e;
       thread = refl;
-      body = ap (λ t. symbol_text (symbol_of x) ++ 10 ∷ t) (next_line y ys b) ∙ ap (λ t. symbol_text (symbol_of x) ++ t) (breaks x y ys (ap (λ n. x.thread == n) (sym b.thread) ∙ e));
+      body =
+          ap (λ t. symbol_text (symbol_of x) ++ 10 ∷ t) (next_line y ys b)
+          ∙ ap (λ t. symbol_text (symbol_of x) ++ t) (breaks x y ys (ap (λ n. x.thread == n) (sym b.thread) ∙ e));
     }
 
     go : (b : Begins y ys) (t : Bool) → (x.thread == b.piece.thread) ≡ t → Begins x (y ∷ ys)
@@ -86,7 +92,9 @@ pieces_are_symbols x xs =
     let b = begins x xs in
     ap pieces_text b.is
     ∙ next_line x xs b
-    ∙ sym (assoc4 (decimal x.thread ++ 32 ∷ []) (symbol_text (symbol_of x)) (symbols_behind (Some x.thread) xs) (codes "\n") ∙ append_assoc (decimal x.thread) (32 ∷ []) _)
+    ∙ sym
+    (assoc4 (decimal x.thread ++ 32 ∷ []) (symbol_text (symbol_of x)) (symbols_behind (Some x.thread) xs) (codes "\n")
+    ∙ append_assoc (decimal x.thread) (32 ∷ []) _)
 
 pub some_pieces : (h : List Call) → 0 < length h → flat_map piece_line (pieces_of h) ≡ symbols_behind None h ++ codes "\n"
 some_pieces [] some = absurd (omega arith)
@@ -117,9 +125,14 @@ module _ (h : List Call) (i : ℕ) (d : Call) (within : i < length h) where
   rest_is = rw (add-one) (drop-cons h i d within)
 
   -- the calls before the i-th, the i-th and the others
-  pub symbols_at : symbols_behind None h ≡ symbols_behind None (take i h) ++ (symbol_behind (last_of None (take i h)) x ++ symbols_behind (Some x.thread) (drop (i + 1) h))
+  pub symbols_at : symbols_behind None h
+      ≡ symbols_behind None (take i h)
+      ++ (symbol_behind (last_of None (take i h)) x ++ symbols_behind (Some x.thread) (drop (i + 1) h))
   symbols_at =
-      subst (λ ys. symbols_behind None ys ≡ symbols_behind None (take i h) ++ (symbol_behind (last_of None (take i h)) x ++ symbols_behind (Some x.thread) (drop (i + 1) h))) (take-append-drop i h)
+      subst (λ ys. symbols_behind None ys
+      ≡ symbols_behind None (take i h)
+      ++ (symbol_behind (last_of None (take i h)) x ++ symbols_behind (Some x.thread) (drop (i + 1) h)))
+      (take-append-drop i h)
       (symbols-split None (take i h) (drop i h) ∙ ap (λ ys. symbols_behind None (take i h) ++ symbols_behind (last_of None (take i h)) ys) rest_is)
 
   pub symbols_more : symbols_behind None (take (i + 1) h) ≡ symbols_behind None (take i h) ++ symbol_behind (last_of None (take i h)) x

@@ -6,7 +6,8 @@ use Rattle.bp_machine.specs.declared.calls.Call.{Call}
 use Rattle.bp_trace.specs.Pieces.{Piece, piece_of, with_call, pieces_of}
 
 module _ (P : ℕ → Type 0) where
-  with_one : (x : Call) (ps : List Piece) → P x.thread → AllByRecursion (λ (p : Piece). P p.thread) ps → AllByRecursion (λ (p : Piece). P p.thread) (with_call x ps)
+  with_one : (x : Call) (ps : List Piece) → P x.thread → AllByRecursion (λ (p : Piece). P p.thread) ps
+      → AllByRecursion (λ (p : Piece). P p.thread) (with_call x ps)
   with_one x [] own each = (own, tt)
   with_one x (p ∷ ps) own each = go (x.thread == p.thread)
     where

@@ -23,7 +23,8 @@ calls_behind i [] g = refl
 calls_behind i (x ∷ xs) g = go (x.thread == i) (calls_behind i xs g)
   where
     go : (b : Bool) → calls_of_thread i (xs ++ g) ≡ calls_of_thread i xs ++ calls_of_thread i g
-        → cond b (x ∷ calls_of_thread i (xs ++ g)) (calls_of_thread i (xs ++ g)) ≡ cond b (x ∷ calls_of_thread i xs) (calls_of_thread i xs) ++ calls_of_thread i g
+        → cond b (x ∷ calls_of_thread i (xs ++ g)) (calls_of_thread i (xs ++ g))
+        ≡ cond b (x ∷ calls_of_thread i xs) (calls_of_thread i xs) ++ calls_of_thread i g
     go true e = ap (λ cs. x ∷ cs) e
     go false e = e
 
@@ -54,7 +55,9 @@ module _ (t : Program) (s : SetupOf) where
   pub front : (h g : List Call) → IsPlayable t s (h ++ g) → IsPlayable t s h
   front h g playable = record {
     legal = legal_front [] h g playable.legal;
-    seeded = λ seed has i n x at. playable.seeded seed has i n x (ap (λ cs. slice_get cs n) (calls_behind i h g) ∙ in_front (calls_of_thread i h) (calls_of_thread i g) n x at);
+    seeded = λ seed has i n x at.
+        playable.seeded seed has i n x
+        (ap (λ cs. slice_get cs n) (calls_behind i h g) ∙ in_front (calls_of_thread i h) (calls_of_thread i g) n x at);
   }
 
   -- the machine has one own call
@@ -82,10 +85,13 @@ module _ (t : Program) (s : SetupOf) where
     bit_of_seed : (seed : ℕ) → s.seed ≡ Some seed → x.bit ≡ choice_bit seed x.thread (length (calls_of_thread x.thread h))
     bit_of_seed seed has =
         let calls = calls_behind x.thread h (x ∷ g) ∙ ap (λ cs. calls_of_thread x.thread h ++ cs) (own_first x g) in
-        let at = ap (λ cs. slice_get cs (length (calls_of_thread x.thread h))) calls ∙ behind_front (calls_of_thread x.thread h) (calls_of_thread x.thread g) x in
+        let at =
+        ap (λ cs. slice_get cs (length (calls_of_thread x.thread h))) calls
+        ∙ behind_front (calls_of_thread x.thread h) (calls_of_thread x.thread g) x in
         playable.seeded seed has x.thread (length (calls_of_thread x.thread h)) x at
 
-    has_own_bit : (b : Bool) → s.seed ≡ None ⊎ ((seed : ℕ) × (s.seed ≡ Some seed)) → is_some s.seed ≡ b → IsBitOfCall s h x.thread (cond b None (Some x.bit)) x.bit
+    has_own_bit : (b : Bool) → s.seed ≡ None ⊎ ((seed : ℕ) × (s.seed ≡ Some seed)) → is_some s.seed ≡ b
+        → IsBitOfCall s h x.thread (cond b None (Some x.bit)) x.bit
     has_own_bit true (inl none) e = absurd (false≢true (sym (ap is_some none) ∙ e))
     has_own_bit true (inr some) e = record { seed = some.0; has = some.1; is = bit_of_seed some.0 some.1 }
     has_own_bit false (inl none) e = (none, refl)

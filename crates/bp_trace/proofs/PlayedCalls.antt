@@ -31,11 +31,13 @@ pub last_is : (h : List Call) (x : Call) → slice_get h (length h - 1) ≡ Some
 last_is [] x e = absurd cc
 last_is (a ∷ h) x e = last_at (a ∷ h) (length (a ∷ h) - 1) x (omega arith) e
 
-rows_more : (t : Program) (c : Configuration) (h : List Call) (x : Call) → rows_after t c (h ++ x ∷ []) ≡ rows_after t c h ++ rows_of_call (configuration_after_calls t c h) x
+rows_more : (t : Program) (c : Configuration) (h : List Call) (x : Call)
+    → rows_after t c (h ++ x ∷ []) ≡ rows_after t c h ++ rows_of_call (configuration_after_calls t c h) x
 rows_more t c [] x = append-nil (rows_of_call c x)
 rows_more t c (y ∷ ys) x =
     let next = configuration_after_call t c y.thread y.bit y.reply in
-    ap (λ rs. rows_of_call c y ++ rs) (rows_more t next ys x) ∙ sym (append_assoc (rows_of_call c y) (rows_after t next ys) (rows_of_call (configuration_after_calls t next ys) x))
+    ap (λ rs. rows_of_call c y ++ rs) (rows_more t next ys x)
+    ∙ sym (append_assoc (rows_of_call c y) (rows_after t next ys) (rows_of_call (configuration_after_calls t next ys) x))
 
 -- one more call
 pub played_more : (t : Program) (s : SetupOf) (h new : List Call) (x : Call) (old_rows new_rows : List PrintedRow) → new ≡ h ++ x ∷ []
@@ -66,7 +68,9 @@ module _ (t : Program) (s : SetupOf) (h own calls : List Call) (i : ℕ) (d : Ca
 -- one more line of a text
 module _ (v : Version) (n first : ℕ) (text : List ℕ) (h : List Call) (size line : ℕ) (within : size ≤ length text)
     (parts : text ≡ calls_text v h ++ drop size text) (number : line ≡ first + line_count v h) where
-  module _ (calls new : List Call) (more : ℕ) (at : IsBodyLineAt v n (last_thread (map (λ (x : Call). x.thread) h)) (drop size text) calls more) (is : new ≡ h ++ calls) where
+  module _ (calls new : List Call) (more : ℕ)
+      (at : IsBodyLineAt v n (last_thread (map (λ (x : Call). x.thread) h)) (drop size text) calls more)
+      (is : new ≡ h ++ calls) where
     pub next_within : size + more ≤ length text
     next_within =
         let whole = ap length at.begins in
@@ -108,6 +112,8 @@ module _ (v : Version) (n first : ℕ) (text : List ℕ) (h : List Call) (size l
     })
 
 -- one more of the calls of a line
-pub history_more : (old own new calls : List Call) (i : ℕ) (d : Call) → i < length calls → own ≡ old ++ take i calls → new ≡ own ++ get_or calls i d ∷ [] → new ≡ old ++ take (i + 1) calls
+pub history_more : (old own new calls : List Call) (i : ℕ) (d : Call) → i < length calls → own ≡ old ++ take i calls
+    → new ≡ own ++ get_or calls i d ∷ [] → new ≡ old ++ take (i + 1) calls
 history_more old own new calls i d within before after =
-    after ∙ ap (λ h. h ++ get_or calls i d ∷ []) before ∙ append_assoc old (take i calls) (get_or calls i d ∷ []) ∙ ap (λ cs. old ++ cs) (sym (take_more calls i d within))
+    after ∙ ap (λ h. h ++ get_or calls i d ∷ []) before ∙ append_assoc old (take i calls) (get_or calls i d ∷ [])
+    ∙ ap (λ cs. old ++ cs) (sym (take_more calls i d within))

@@ -27,17 +27,22 @@ use Rattle.bp_trace.specs.LinePlays.{drive_fault_of, IsAdded, IsLineRefusal}
 module _ (x : SessionOf) (h : List Call) (of_some : IsOfProgram x.code) (stands : StandsForAll x h) where
   -- the refusal of a call of a thread that is there
   pub refused_line : (line : ScheduleLine) (n : ℕ) (f : AskFault) → line.thread < threads x.setup → x.setup.seed ≡ None
-      → ((t : Program) (g : List Call) → StandsFor x.code t → Stands t x g → IsAskRefusal t x.setup g line.thread (Some line.bit) f) → IsLineRefusal x.setup h line n (drive_fault_of f n)
-  refused_line line n NoThread within unseeded refused = absurd (is_false x.code (line.thread < threads x.setup) of_some (λ t is. past (refused t h is (stands t is))) within)
+      → ((t : Program) (g : List Call) → StandsFor x.code t → Stands t x g
+      → IsAskRefusal t x.setup g line.thread (Some line.bit) f) → IsLineRefusal x.setup h line n (drive_fault_of f n)
+  refused_line line n NoThread within unseeded refused =
+      absurd (is_false x.code (line.thread < threads x.setup) of_some (λ t is. past (refused t h is (stands t is))) within)
     where
       past : threads x.setup ≤ line.thread → line.thread < threads x.setup → ⊥
       past beyond below = omega arith
-  refused_line line n Finished within unseeded refused = (refl, is_true x.code (is_finished x.setup h line.thread) of_some (λ t is. (refused t h is (stands t is)).1))
-  refused_line line n Seeded within unseeded refused = absurd (is_false x.code (x.setup.seed ≡ None) of_some (λ t is. seeded (refused t h is (stands t is)).2) unseeded)
+  refused_line line n Finished within unseeded refused =
+      (refl, is_true x.code (is_finished x.setup h line.thread) of_some (λ t is. (refused t h is (stands t is)).1))
+  refused_line line n Seeded within unseeded refused =
+      absurd (is_false x.code (x.setup.seed ≡ None) of_some (λ t is. seeded (refused t h is (stands t is)).2) unseeded)
     where
       seeded : is_some x.setup.seed ≡ true → x.setup.seed ≡ None → ⊥
       seeded some none = let a = ap is_some none in cc
-  refused_line line n Unseeded within unseeded refused = absurd (is_false x.code (x.setup.seed ≡ None) of_some (λ t is. ungiven (refused t h is (stands t is)).1) unseeded)
+  refused_line line n Unseeded within unseeded refused =
+      absurd (is_false x.code (x.setup.seed ≡ None) of_some (λ t is. ungiven (refused t h is (stands t is)).1) unseeded)
     where
       ungiven : Some line.bit ≡ None → x.setup.seed ≡ None → ⊥
       ungiven e none = cc
@@ -66,7 +71,8 @@ module _ (schedule : List ℕ) (old new : List Call) (line : ScheduleLine) (plac
       front
       ∙ ap (λ t. schedule_text (lines_of_history old) ++ t) (begins.2 ∙ ap (λ t. line_text line ++ t) (sym rest_is))
       ∙ sym (append_assoc (schedule_text (lines_of_history old)) (line_text line) (drop (place + length (line_text line)) schedule))
-      ∙ ap (λ t. t ++ drop (place + length (line_text line)) schedule) (sym (ap (λ h. schedule_text (lines_of_history h)) added.is ∙ schedule_more added.call added.asked))
+      ∙ ap (λ t. t ++ drop (place + length (line_text line)) schedule)
+      (sym (ap (λ h. schedule_text (lines_of_history h)) added.is ∙ schedule_more added.call added.asked))
 
   pub next_few : IsAdded old new line → length old ≤ place → length new ≤ place + length (line_text line)
   next_few added few =

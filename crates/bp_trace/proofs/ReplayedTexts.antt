@@ -59,7 +59,8 @@ head_read text head s at same =
       few = omega (arith, whole, at.lines, ap length rest, lines_within head.version (setup_of_head head));
     }
 
-module _ (t : Program) (text : List ℕ) (short : length text ≤ MAX_TRACE) (v : Version) (s : SetupOf) (rest : List ℕ) (has : HasHead s) (parts : text ≡ head_text v s ++ rest) where
+module _ (t : Program) (text : List ℕ) (short : length text ≤ MAX_TRACE) (v : Version) (s : SetupOf) (rest : List ℕ)
+    (has : HasHead s) (parts : text ≡ head_text v s ++ rest) where
   -- the program does not take the setup
   pub setup_refused : (f : SetupFault) → IsSetupRefusal t s f → IsReplayRefusal t text (replay_fault_of_setup f)
   setup_refused setup.Threads r = (short, record { version = v; setup = s; rest = rest; head = has; parts = parts; fault = r })
@@ -100,7 +101,9 @@ module _ (t : Program) (text : List ℕ) (short : length text ≤ MAX_TRACE) (v 
     body_refuses f (inl memory) = subst (IsReplayRefusal t text) (sym memory) short
     body_refuses f (inr r) = call_refused f r
 
-    module _ {O : Type 0} (b : Body O) (body : IsBody v s rest first b) (playable : IsPlayable t s b.played.history.items) (r : Report) (report : IsReport s b.played.history.items r) where
+    module _ {O : Type 0} (b : Body O) (body : IsBody v s rest first b)
+        (playable : IsPlayable t s b.played.history.items) (r : Report)
+        (report : IsReport s b.played.history.items r) where
       abbrev h : List Call
       h = b.played.history.items
 

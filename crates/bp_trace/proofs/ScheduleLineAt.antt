@@ -135,7 +135,9 @@ no_bit n text t few e none x more h is =
     let found = number_of_line x text more (omega arith) is in
     let same : x.thread ≡ t = cc in
     none x.bit more
-    (ap (λ k. drop (length (decimal k)) text) (sym same) ∙ ap (drop (length (decimal x.thread))) (is ∙ line_front x more) ∙ drop_front (decimal x.thread) (32 ∷ bit_digit x.bit ∷ 10 ∷ more))
+    (ap (λ k. drop (length (decimal k)) text) (sym same)
+    ∙ ap (drop (length (decimal x.thread))) (is ∙ line_front x more)
+    ∙ drop_front (decimal x.thread) (32 ∷ bit_digit x.bit ∷ 10 ∷ more))
 
 pub has_line : (n : ℕ) (text : List ℕ) (t : ℕ) (b : Bool) → number_at text ≡ Some t → t < n → EndsLine (drop (length (decimal t)) text) b
     → IsLineAt n text (record { thread = t; bit = b })

@@ -57,6 +57,7 @@ module _ (n : ℕ) (text : List ℕ) where
         let same = one_thread x.thread _ below (e ∙ call_then x more) in
         none x.bit x.reply more (behind ∙ same.1)
 
-    pub tail_is_call : (bit : Bool) (reply : Reply) → IsTailAt (drop (length (decimal t) + 1) text) (bit, reply) → IsCallAt n text (record { thread = t; bit = bit; reply = reply })
+    pub tail_is_call : (bit : Bool) (reply : Reply) → IsTailAt (drop (length (decimal t) + 1) text) (bit, reply)
+        → IsCallAt n text (record { thread = t; bit = bit; reply = reply })
     tail_is_call bit reply tail =
         (tail.0, at.1, at.2 ∙ ap (λ r. decimal t ++ 32 ∷ r) (sym behind ∙ tail.1) ∙ sym (call_then (record { thread = t; bit = bit; reply = reply }) tail.0))

@@ -10,9 +10,13 @@ loop-kind-preserved c =
     let kinds = c.loop-kind.kinds.items in
     elim c.if-branch.branch [
       | then-branch+in_ok-push w ↦
-          offered front kinds c.loop-kind.kind-index c.spelling_of.result.now c.spelling_of.ensures c.loop-kind.invariant c.if-branch.kinds.items (c.in_ok-may_follow.ensures.0 w.if-branch.true) (ap (λ v. v.items) w.kinds-is ∙ w.in_ok-push.ensures.items)
+          offered front kinds c.loop-kind.kind-index c.spelling_of.result.now c.spelling_of.ensures
+          c.loop-kind.invariant c.if-branch.kinds.items (c.in_ok-may_follow.ensures.0 w.if-branch.true)
+          (ap (λ v. v.items) w.kinds-is ∙ w.in_ok-push.ensures.items)
       | else-branch w ↦
-          left_out front kinds c.loop-kind.kind-index c.spelling_of.result.now c.spelling_of.ensures c.loop-kind.invariant c.if-branch.kinds.items (λ f. false≢true (sym w.if-branch.false ∙ c.in_ok-may_follow.ensures.1 f)) (ap (λ v. v.items) w.kinds-is)
+          left_out front kinds c.loop-kind.kind-index c.spelling_of.result.now c.spelling_of.ensures
+          c.loop-kind.invariant c.if-branch.kinds.items
+          (λ f. false≢true (sym w.if-branch.false ∙ c.in_ok-may_follow.ensures.1 f)) (ap (λ v. v.items) w.kinds-is)
     ]
 
 pub returns : goal.returns

@@ -14,7 +14,8 @@ returns-in_err-matches-clause-refusal c =
 pub returns-in_err-matches-clause-plain : goal.returns-in_err-matches-clause-plain
 returns-in_err-matches-clause-plain c usage program plain is =
     let none = ap arguments_fault is ∙ plain_faulty usage program plain in
-    let memory = refused_for_memory _ (map string_bytes c.args.arguments.now) c.in_ok-command.ensures c.in_err-matches.field-0.0 c.in_err-matches.ensures.kinds none in
+    let memory = refused_for_memory _ (map string_bytes c.args.arguments.now) c.in_ok-command.ensures
+    c.in_err-matches.field-0.0 c.in_err-matches.ensures.kinds none in
     search rules
 
 pub returns-in-Some-clause-refusal : goal.returns-in-Some-clause-refusal
@@ -29,7 +30,8 @@ returns-in-Some-clause-plain c usage program plain is =
     let arguments = map string_bytes c.args.arguments.now in
     let clean = cleared _ arguments c.in_ok-command.ensures c.in_ok-matches.ensures.kinds in
     let name = named _ arguments c.in_ok-command.ensures c.in_ok-matches.matches c.in_ok-matches.ensures.matches in
-    absurd (not_misused arguments _ clean name c.in-Some.misuse (sym c.misuse_of.ensures ∙ c.in-Some.is) (ap arguments_fault is ∙ plain_faulty usage program plain))
+    absurd (not_misused arguments _ clean name c.in-Some.misuse (sym c.misuse_of.ensures ∙ c.in-Some.is)
+    (ap arguments_fault is ∙ plain_faulty usage program plain))
 
 pub task_of-requires : goal.task_of-requires
 task_of-requires c =

@@ -7,7 +7,9 @@ use Rattle.bp_arguments.proofs.drive.drive_arguments.Goals as goal
 pub returns : goal.returns
 returns c = record {
   program = value_read _ _ (c.get_str.ensures ∙ first_value-rows (found_of c.args.arguments.now) (codes "FILE")) c.unwrap_or.result _ c.unwrap_or.ensures refl;
-  schedule = value_read _ _ (c.get_str-2.ensures ∙ first_value-rows (found_of c.args.arguments.now) (codes "SCHEDULE")) c.unwrap_or-2.result _ c.unwrap_or-2.ensures refl;
+  schedule =
+      value_read _ _ (c.get_str-2.ensures ∙ first_value-rows (found_of c.args.arguments.now) (codes "SCHEDULE"))
+      c.unwrap_or-2.result _ c.unwrap_or-2.ensures refl;
   entries = c.in_ok-entries.ensures;
   init = c.in_ok-init.ensures;
   named = c.in_ok-named.ensures;

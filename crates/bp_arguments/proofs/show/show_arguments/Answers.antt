@@ -7,7 +7,9 @@ use Rattle.bp_arguments.proofs.show.show_arguments.Goals as goal
 pub returns : goal.returns
 returns c = record {
   program = value_read _ _ (c.get_str.ensures ∙ first_value-rows (found_of c.args.arguments.now) (codes "FILE")) c.unwrap_or.result _ c.unwrap_or.ensures refl;
-  trace = value_read _ _ (c.get_str-2.ensures ∙ first_value-rows (found_of c.args.arguments.now) (codes "TRACE")) c.unwrap_or-2.result _ c.unwrap_or-2.ensures refl;
+  trace =
+      value_read _ _ (c.get_str-2.ensures ∙ first_value-rows (found_of c.args.arguments.now) (codes "TRACE"))
+      c.unwrap_or-2.result _ c.unwrap_or-2.ensures refl;
   thread = c.given_number.ensures;
   last = c.given_long_number.ensures;
   from = c.given_long_number-2.ensures;

@@ -18,7 +18,9 @@ returns c =
     ∙ ap (λ es. contexts_for (length es)) c.as_slice.ensures.value
     ∙ ap contexts_for (sym (length-map entries string_bytes)) in
     record {
-      program = value_read _ _ (c.get_str.ensures ∙ first_value-rows (found_of c.args.arguments.now) (codes "FILE")) c.unwrap_or.result _ c.unwrap_or.ensures refl;
+      program =
+          value_read _ _ (c.get_str.ensures ∙ first_value-rows (found_of c.args.arguments.now) (codes "FILE"))
+          c.unwrap_or.result _ c.unwrap_or.ensures refl;
       entries = c.in_ok-entries.ensures;
       init = c.in_ok-init.ensures;
       named = c.in_ok-named.ensures;

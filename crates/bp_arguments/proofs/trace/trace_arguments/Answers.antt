@@ -7,6 +7,8 @@ use Rattle.bp_arguments.proofs.trace.trace_arguments.Goals as goal
 pub returns : goal.returns
 returns c = record {
   program = value_read _ _ (c.get_str.ensures ∙ first_value-rows (found_of c.args.arguments.now) (codes "FILE")) c.unwrap_or.result _ c.unwrap_or.ensures refl;
-  trace = value_read _ _ (c.get_str-2.ensures ∙ first_value-rows (found_of c.args.arguments.now) (codes "TRACE")) c.unwrap_or-2.result _ c.unwrap_or-2.ensures refl;
+  trace =
+      value_read _ _ (c.get_str-2.ensures ∙ first_value-rows (found_of c.args.arguments.now) (codes "TRACE"))
+      c.unwrap_or-2.result _ c.unwrap_or-2.ensures refl;
   explain = c.explain_arguments.ensures;
 }

@@ -15,4 +15,6 @@ returns-in-Some c =
 pub returns-in-None : goal.returns-in-None
 returns-in-None c =
     let read = no_names_read _ _ (c.get_strs.ensures ∙ raw_values-rows (found_of c.args.arguments.now) (codes "ENTRY")) c.in-None.is in
-    if_ok c.copies-in-None.result _ (λ v. map string_bytes v.items ≡ entries_in (rows_of (found_of c.args.arguments.now))) (λ v is. is ∙ read) c.copies-in-None.ensures
+    if_ok c.copies-in-None.result _
+    (λ v. map string_bytes v.items ≡ entries_in (rows_of (found_of c.args.arguments.now)))
+    (λ v is. is ∙ read) c.copies-in-None.ensures

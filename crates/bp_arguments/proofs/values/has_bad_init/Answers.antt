@@ -12,4 +12,6 @@ returns-in-Some c =
     ap not c.is_init.ensures ∙ ap (λ o. option_map_or (λ t. not (is_init t)) o false) (sym first)
 
 pub returns-in-None : goal.returns-in-None
-returns-in-None c = ap (λ o. option_map_or (λ t. not (is_init t)) o false) (sym (no_text_read _ _ (c.get_str.ensures ∙ first_value-rows (found_of c.args.arguments.now) (codes "init")) c.in-None.is))
+returns-in-None c =
+    ap (λ o. option_map_or (λ t. not (is_init t)) o false)
+    (sym (no_text_read _ _ (c.get_str.ensures ∙ first_value-rows (found_of c.args.arguments.now) (codes "init")) c.in-None.is))

@@ -12,4 +12,6 @@ returns-in-Some c =
     subst (λ o. IfOk c.bits_given.result (λ bits. option_map (λ v. v.items) bits ≡ option_and_then bits_given o)) (sym first) c.bits_given.ensures
 
 pub returns-in-None : goal.returns-in-None
-returns-in-None c = ap (option_and_then bits_given) (sym (no_text_read _ _ (c.get_str.ensures ∙ first_value-rows (found_of c.args.arguments.now) (codes "init")) c.in-None.is))
+returns-in-None c =
+    ap (option_and_then bits_given)
+    (sym (no_text_read _ _ (c.get_str.ensures ∙ first_value-rows (found_of c.args.arguments.now) (codes "init")) c.in-None.is))

@@ -12,4 +12,6 @@ returns-in-Some c =
     subst (λ o. IfOk c.names_given.result (λ n. n ≡ option_map_or names_given o [])) (sym first) c.names_given.ensures
 
 pub returns-in-None : goal.returns-in-None
-returns-in-None c = c.none.ensures ∙ ap (λ o. option_map_or names_given o []) (sym (no_text_read _ _ (c.get_str.ensures ∙ first_value-rows (found_of c.args.arguments.now) (codes "init")) c.in-None.is))
+returns-in-None c =
+    c.none.ensures ∙ ap (λ o. option_map_or names_given o [])
+    (sym (no_text_read _ _ (c.get_str.ensures ∙ first_value-rows (found_of c.args.arguments.now) (codes "init")) c.in-None.is))

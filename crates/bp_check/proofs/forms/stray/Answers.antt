@@ -4,7 +4,9 @@ use Rattle.bp_check.proofs.forms.stray.Goals as goal
 
 pub returns-in-Assign : goal.returns-in-Assign
 returns-in-Assign c =
-    rw (c.in-Assign.is, c.least.ensures) (both_stray c.args.declared.now (Among c.in-Assign.targets) (SomeUses c.in-Assign.values) _ _ (rw c.as_slice.ensures at c.stray_names-found.ensures) (rw c.as_slice-in-Assign.ensures at c.stray_in_all.ensures))
+    rw (c.in-Assign.is, c.least.ensures) (both_stray c.args.declared.now (Among c.in-Assign.targets)
+    (SomeUses c.in-Assign.values) _ _ (rw c.as_slice.ensures at c.stray_names-found.ensures)
+    (rw c.as_slice-in-Assign.ensures at c.stray_in_all.ensures))
 
 pub returns-in-If : goal.returns-in-If
 returns-in-If c = rw c.in-If.is c.stray_in_decider.ensures

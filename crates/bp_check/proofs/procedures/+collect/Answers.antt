@@ -14,7 +14,9 @@ collect-collect_inside-requires t c =
 
 pub collect-loop-stmt-preserved : goal.collect-loop-stmt-preserved
 collect-loop-stmt-preserved t c =
-    collect_more (all_labelled c.args.out.now.items) _ _ _ _ c.args.stmts.now c.loop-stmt.stmt-index c.loop-stmt-test.true c.stmt-item.is c.loop-stmt.invariant c.in_ok-push.ensures.items (rw c.form.ensures at c.in_ok-collect_inside.ensures)
+    collect_more (all_labelled c.args.out.now.items) _ _ _ _ c.args.stmts.now c.loop-stmt.stmt-index
+    c.loop-stmt-test.true c.stmt-item.is c.loop-stmt.invariant c.in_ok-push.ensures.items
+    (rw c.form.ensures at c.in_ok-collect_inside.ensures)
 
 pub collect-returns : goal.collect-returns
 collect-returns t c = grind (arith, common_steps)

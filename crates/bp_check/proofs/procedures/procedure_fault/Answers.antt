@@ -12,4 +12,6 @@ returns c =
     let own = c.in_ok-own.ensures in
     let declared = c.new-declared.ensures ∙ ap (λ ns. ns ++ c.args.globals.now) own in
     rw c.least.ensures
-    (finds_both (IsFaultOfNames TwiceLocal MAX_OWN_NAMES (variables q)) (IsFaultOfBody (variables q ++ c.args.globals.now) c.args.callees.now q) _ _ (rw own at c.fault_of_names-found.ensures) (rw declared at c.in_ok-inside.ensures))
+    (finds_both (IsFaultOfNames TwiceLocal MAX_OWN_NAMES (variables q))
+    (IsFaultOfBody (variables q ++ c.args.globals.now) c.args.callees.now q) _ _
+    (rw own at c.fault_of_names-found.ensures) (rw declared at c.in_ok-inside.ensures))

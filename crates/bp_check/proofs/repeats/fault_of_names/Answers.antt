@@ -6,4 +6,5 @@ use Rattle.bp_check.proofs.repeats.fault_of_names.Goals as goal
 
 pub returns : goal.returns
 returns c =
-    rw c.least.ensures (finds_both (Only c.args.fault (IsTwice c.args.names.now)) (Only Limit (IsPast c.args.limit c.args.names.now)) _ _ c.least_repeat-found.ensures c.first_past.ensures)
+    rw c.least.ensures (finds_both (Only c.args.fault (IsTwice c.args.names.now))
+    (Only Limit (IsPast c.args.limit c.args.names.now)) _ _ c.least_repeat-found.ensures c.first_past.ensures)

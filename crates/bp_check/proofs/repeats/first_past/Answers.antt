@@ -6,4 +6,5 @@ returns-then-limit-names c = rw c.names-names.ensures at (none_past c.names-name
 
 pub returns : goal.returns
 returns c =
-    past_here c.names-names.result.now c.args.names.now c.args.limit c.index-names-limit.result c.names-names.ensures c.if-limit-names.false c.index-names-limit.is c.at.result c.at.ensures
+    past_here c.names-names.result.now c.args.names.now c.args.limit c.index-names-limit.result c.names-names.ensures
+    c.if-limit-names.false c.index-names-limit.is c.at.result c.at.ensures

@@ -5,8 +5,10 @@ use Rattle.bp_check.proofs.repeats.least_repeat.Goals.{then-has_before, else-has
 pub loop-i-preserved : goal.loop-i-preserved
 loop-i-preserved c =
     let names = c.names-name-items.result.now in
-    let none = none_here names c.args.names.now c.args.fault c.loop-i.i c.name-item.result c.loop-i.best c.names-name-items.ensures c.loop-i-test.true c.name-item.is c.text.result.now c.text.ensures in
-    let one = one_here names c.args.names.now c.args.fault c.loop-i.i c.name-item.result c.loop-i.best c.names-name-items.ensures c.loop-i-test.true c.name-item.is c.text.result.now in
+    let none = none_here names c.args.names.now c.args.fault c.loop-i.i c.name-item.result c.loop-i.best
+    c.names-name-items.ensures c.loop-i-test.true c.name-item.is c.text.result.now c.text.ensures in
+    let one = one_here names c.args.names.now c.args.fault c.loop-i.i c.name-item.result c.loop-i.best
+    c.names-name-items.ensures c.loop-i-test.true c.name-item.is c.text.result.now in
     elim c.if-has_before.branch [
       | then-has_before w ↦ rw (w.best-is, w.least-best.ensures) (one w.at.result c.text.ensures w.at.ensures w.if-has_before.ensures c.loop-i.invariant)
       | else-has_before w ↦ rw w.best-is (none w.if-has_before.ensures c.loop-i.invariant)
@@ -14,4 +16,5 @@ loop-i-preserved c =
 
 pub returns : goal.returns
 returns c =
-    all_here c.names-name-items.result.now c.args.names.now c.args.fault c.loop-i.i c.loop-i.best c.names-name-items.ensures c.loop-i.auto.i-end c.loop-i-test.false c.loop-i.invariant
+    all_here c.names-name-items.result.now c.args.names.now c.args.fault c.loop-i.i c.loop-i.best
+    c.names-name-items.ensures c.loop-i.auto.i-end c.loop-i-test.false c.loop-i.invariant

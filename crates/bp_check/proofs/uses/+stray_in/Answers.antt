@@ -13,4 +13,6 @@ returns-in-Not t c = rw (c.in-Not.is, ← c.get.ensures) c.stray_in.ensures
 
 pub returns-in-Binary : goal.returns-in-Binary
 returns-in-Binary t c =
-    rw (c.in-Binary.is, c.least.ensures) (both_stray c.args.declared.now (Uses c.in-Binary.left) (Uses c.in-Binary.right) _ _ (rw c.get-in-Binary.ensures at c.stray_in-found.ensures) (rw c.get-in-Binary-2.ensures at c.stray_in-in-Binary.ensures))
+    rw (c.in-Binary.is, c.least.ensures) (both_stray c.args.declared.now (Uses c.in-Binary.left)
+    (Uses c.in-Binary.right) _ _ (rw c.get-in-Binary.ensures at c.stray_in-found.ensures)
+    (rw c.get-in-Binary-2.ensures at c.stray_in-in-Binary.ensures))

@@ -63,7 +63,10 @@ emit_block-loop-i-preserved t c =
       room = omega arith;
       known = known.1;
       placed = subst (λ n. AreSizesOf c.args.environment.now.layout n rest) moved (behind _ _ (length c.loop-i.out.items) (size s) s rest placed);
-      code = code_more (environment_of c.args.environment.now) stmts c.loop-i.i item.result _ _ _ (length c.loop-i.out.items) (length c.emit.new.out.items) c.following-follows.result c.args.next c.loop-i-test.true item.is follows code one c.loop-i.invariant.code;
+      code =
+          code_more (environment_of c.args.environment.now) stmts c.loop-i.i item.result _ _ _
+          (length c.loop-i.out.items) (length c.emit.new.out.items) c.following-follows.result c.args.next
+          c.loop-i-test.true item.is follows code one c.loop-i.invariant.code;
     }
 
 pub emit_if-emit_block-requires-2 : goal.emit_if-emit_block-requires-2

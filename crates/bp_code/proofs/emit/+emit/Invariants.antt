@@ -14,7 +14,9 @@ invariant-emit_block-loop-i l = record {
   room : length l.out.items + block_size (block_of (drop l.i l.stmts)) ≡ length l.fn.out.items + block_size (block_of l.stmts);
   known : IsKnown (environment_of l.environment) (block_of (drop l.i l.stmts));
   placed : AreSizesOf l.environment.layout (length l.out.items) (block_sizes (block_of (drop l.i l.stmts)));
-  code : l.out.items ++ block_code (environment_of l.environment) (block_of (drop l.i l.stmts)) (length l.out.items) l.next ≡ l.fn.out.items ++ block_code (environment_of l.environment) (block_of l.stmts) (length l.fn.out.items) l.next;
+  code : l.out.items
+      ++ block_code (environment_of l.environment) (block_of (drop l.i l.stmts)) (length l.out.items) l.next
+      ≡ l.fn.out.items ++ block_code (environment_of l.environment) (block_of l.stmts) (length l.fn.out.items) l.next;
 }
 
 abbrev pub decreases-emit_block : goal.decreases-emit_block

@@ -113,7 +113,8 @@ note_inside-returns-in_ok-note_block-in-If-clause-labels t c =
     on_ok_weaker c.note_block-in-If.result (λ labels number x e.
     let second : number + 1 + block_size c.in-If.a ≡ c.args.start + length c.note_block.new.sizes.items = omega arith in
     rw c.in-If.is
-    (labels_of_both (decision_of c.in-If.field-0) c.in-If.a c.in-If.b x number _ _ (index_in c.args.labels.now x) (index_in c.note_block.new.labels x) (index_in c.note_block-in-If.new.labels x)
+    (labels_of_both (decision_of c.in-If.field-0) c.in-If.a c.in-If.b x number _ _ (index_in c.args.labels.now x)
+    (index_in c.note_block.new.labels x) (index_in c.note_block-in-If.new.labels x)
     e second (noted.labels x) (labels x))) others
 
 pub note-returns-clause-labels : goal.note-returns-clause-labels

@@ -11,7 +11,10 @@ abbrev pub invariant-note_block-loop-stmt : goal.invariant-note_block-loop-stmt
 invariant-note_block-loop-stmt l = record {
   room : length l.sizes.items + block_size (block_of (drop l.stmt-index l.stmts)) ≡ length l.fn.sizes.items + block_size (block_of l.stmts);
   sizes : l.sizes.items ++ block_sizes (block_of (drop l.stmt-index l.stmts)) ≡ l.fn.sizes.items ++ block_sizes (block_of l.stmts);
-  labels : (text : List ℕ) → option_or (index_in l.labels text) (label_number (block_of (drop l.stmt-index l.stmts)) (l.start + length l.sizes.items) text) ≡ option_or (index_in l.fn.labels text) (label_number (block_of l.stmts) (l.start + length l.fn.sizes.items) text);
+  labels : (text : List ℕ)
+      → option_or (index_in l.labels text)
+      (label_number (block_of (drop l.stmt-index l.stmts)) (l.start + length l.sizes.items) text)
+      ≡ option_or (index_in l.fn.labels text) (label_number (block_of l.stmts) (l.start + length l.fn.sizes.items) text);
 }
 
 abbrev pub decreases-note_block : goal.decreases-note_block

@@ -3,7 +3,8 @@ use Rattle.bp_code.proofs.programs.compile.Goals as goal
 
 pub compile_program-requires-clause-able : goal.compile_program-requires-clause-able
 compile_program-requires-clause-able c =
-    rw (c.globals.ensures.value, c.procs.ensures.value, c.tree-tree.ensures.value) (lawful_compiles c.args.checked.now c.has_few_names.ensures c.has_sound_statements.ensures c.has_few_statements.ensures)
+    rw (c.globals.ensures.value, c.procs.ensures.value, c.tree-tree.ensures.value)
+    (lawful_compiles c.args.checked.now c.has_few_names.ensures c.has_sound_statements.ensures c.has_few_statements.ensures)
 
 pub compile_program-requires-clause-lawful : goal.compile_program-requires-clause-lawful
 compile_program-requires-clause-lawful c =

@@ -17,7 +17,9 @@ pub emit_proc-requires-clause-known : goal.emit_proc-requires-clause-known
 emit_proc-requires-clause-known c =
     let t : Program = record { globals = c.args.globals.now; procedures = c.args.procs.now } in
     let able = rw (drop_item c.args.procs.now c.loop-proc.proc-index c.proc-item.result c.loop-proc-test.true c.proc-item.is) at c.loop-proc.invariant.able in
-    rw (c.as_slice-headings.ensures.value, c.in_ok-headings.ensures, c.in_ok-global_names.ensures) (all_known t c.requires.able.each c.proc-item.result (length c.loop-proc.instrs.items) c.proc-item.result.body able.0.names)
+    rw (c.as_slice-headings.ensures.value, c.in_ok-headings.ensures, c.in_ok-global_names.ensures)
+    (all_known t c.requires.able.each c.proc-item.result (length c.loop-proc.instrs.items) c.proc-item.result.body
+    able.0.names)
 
 pub new-requires : goal.new-requires
 new-requires c =

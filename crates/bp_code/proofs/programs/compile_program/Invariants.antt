@@ -9,5 +9,6 @@ invariant-loop-proc l =
     record {
       size : length l.instrs.items + procedures_size (drop l.proc-index l.procs) ≡ procedures_size l.procs;
       able : AllCompilableIn (record { globals = l.globals; procedures = l.procs }) (drop l.proc-index l.procs);
-      code : l.instrs.items ++ procedures_code l.globals headings (length l.instrs.items) (drop l.proc-index l.procs) ≡ procedures_code l.globals headings 0 l.procs;
+      code : l.instrs.items ++ procedures_code l.globals headings (length l.instrs.items) (drop l.proc-index l.procs)
+          ≡ procedures_code l.globals headings 0 l.procs;
     }

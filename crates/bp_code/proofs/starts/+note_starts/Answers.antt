@@ -15,7 +15,8 @@ note_block-note_inside-requires t c =
 pub note_block-loop-stmt-preserved : goal.note_block-loop-stmt-preserved
 note_block-loop-stmt-preserved t c =
     let noted = rw (c.form.ensures, c.in_ok-push.ensures.items, c.at.ensures) at c.in_ok-note_inside.ensures in
-    starts_more c.args.stmts.now c.loop-stmt.stmt-index c.stmt-item.result c.loop-stmt-test.true c.stmt-item.is c.loop-stmt.starts.items c.note_inside.new.starts.items _ noted c.loop-stmt.invariant
+    starts_more c.args.stmts.now c.loop-stmt.stmt-index c.stmt-item.result c.loop-stmt-test.true c.stmt-item.is
+    c.loop-stmt.starts.items c.note_inside.new.starts.items _ noted c.loop-stmt.invariant
 
 pub note_block-returns : goal.note_block-returns
 note_block-returns t c = grind (arith, common_steps)

@@ -11,5 +11,9 @@ loop-proc-preserved c =
 
 pub returns : goal.returns
 returns c =
-    let all = rw (dropped_all c.procs-procs.result.now c.loop-proc.proc-index c.loop-proc-test.false, c.procs-procs.ensures.value, c.tree.ensures.value) at c.loop-proc.invariant in
+    let all = rw (
+      dropped_all c.procs-procs.result.now c.loop-proc.proc-index c.loop-proc-test.false,
+      c.procs-procs.ensures.value,
+      c.tree.ensures.value,
+    ) at c.loop-proc.invariant in
     sym (append-nil c.loop-proc.starts.items) ∙ all

@@ -10,7 +10,8 @@ pub returns-in_err-checked : goal.returns-in_err-checked
 returns-in_err-checked g c =
     let p = err_from_is_err_and c.from_residual.result c.from_residual.ensures.1 in
     let given : Pair = record { text = c.args.text.now; input = c.args.steps.now } in
-    rw (p.1, p.2) (refused_with (confirms c.args.start.now c.args.bound) given _ _ (inl (record { cause = c.in_err-checked.field-0.0; why = c.in_err-checked.ensures; is = refl })))
+    rw (p.1, p.2) (refused_with (confirms c.args.start.now c.args.bound) given _ _
+    (inl (record { cause = c.in_err-checked.field-0.0; why = c.in_err-checked.ensures; is = refl })))
 
 pub returns-in_err-setup : goal.returns-in_err-setup
 returns-in_err-setup g c =

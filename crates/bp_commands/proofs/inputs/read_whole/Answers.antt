@@ -33,7 +33,8 @@ returns-then-count-limit-clause-answer g c =
     let room = c.min-room.ensures in
     let given = c.in-Ok.ensures.bound in
     let short = c.loop-count.invariant.short in
-    let most = within_room c.args.limit c.loop-count.bytes.items c.read.new.buf c.loop-count.chunk c.in-Ok.count c.min-room.result short (omega arith) c.read.auto.buf in
+    let most = within_room c.args.limit c.loop-count.bytes.items c.read.new.buf c.loop-count.chunk c.in-Ok.count
+    c.min-room.result short (omega arith) c.read.auto.buf in
     record {
       bytes = c.loop-count.bytes.items ++ take c.in-Ok.count c.read.new.buf;
       taken = Consumes-trans _ _ _ _ _ c.loop-count.invariant.taken c.in-Ok.ensures.bytes.0;
@@ -47,7 +48,9 @@ returns-then-count-limit-clause-bound g c =
     record {
       bytes = c.loop-count.bytes.items ++ take c.in-Ok.count c.read.new.buf;
       taken = Consumes-trans _ _ _ _ _ c.loop-count.invariant.taken c.in-Ok.ensures.bytes.0;
-      short = within_room c.args.limit c.loop-count.bytes.items c.read.new.buf c.loop-count.chunk c.in-Ok.count c.min-room.result c.loop-count.invariant.short (omega arith) c.read.auto.buf;
+      short =
+          within_room c.args.limit c.loop-count.bytes.items c.read.new.buf c.loop-count.chunk c.in-Ok.count
+          c.min-room.result c.loop-count.invariant.short (omega arith) c.read.auto.buf;
     }
 
 pub returns-in_err-extend_from_slice-clause-bound :
@@ -58,7 +61,9 @@ returns-in_err-extend_from_slice-clause-bound g c =
     record {
       bytes = c.loop-count.bytes.items ++ take c.in-Ok.count c.read.new.buf;
       taken = Consumes-trans _ _ _ _ _ c.loop-count.invariant.taken c.in-Ok.ensures.bytes.0;
-      short = within_room c.args.limit c.loop-count.bytes.items c.read.new.buf c.loop-count.chunk c.in-Ok.count c.min-room.result c.loop-count.invariant.short (omega arith) c.read.auto.buf;
+      short =
+          within_room c.args.limit c.loop-count.bytes.items c.read.new.buf c.loop-count.chunk c.in-Ok.count
+          c.min-room.result c.loop-count.invariant.short (omega arith) c.read.auto.buf;
     }
 
 pub returns-in_err-extend_from_slice-clause-answer :

@@ -19,7 +19,8 @@ returns g c =
     ) in
     let given : Pair = record { text = c.do_on_pair-done.new.program.bytes.items; input = c.do_on_pair-done.new.input.bytes.items } in
     let kind = g.C.PairCommand.beside c.args.command.now in
-    let inputs = pair_of_files (g.C.PairCommand.limit c.args.command.now) (g.F.Files.bytes c.args.io.files.now path) (g.F.Files.bytes c.args.io.files.now input_path) left in
+    let inputs = pair_of_files (g.C.PairCommand.limit c.args.command.now) (g.F.Files.bytes c.args.io.files.now path)
+    (g.F.Files.bytes c.args.io.files.now input_path) left in
     let holds : AreReadOr inputs given c.do_on_pair-done.result = rw (← c.source-program.ensures, ← c.source-input.ensures) c.do_on_pair-done.ensures.holds in
     record {
       left = left;

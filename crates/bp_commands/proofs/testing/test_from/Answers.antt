@@ -16,7 +16,8 @@ returns-in_err-described g c =
     let of = c.in_ok-checked.ensures in
     let setup = c.in_ok-setup.ensures.answer c.in_ok-checked.checked of.1 in
     let out = g.W.Write.contents c.args.out.now in
-    rw (p.1, p.2) (lacks_memory c.args.start.now c.args.asked.now.options _ c.args.asked.now.json c.args.text.now c.in_ok-checked.checked of.0 _ setup.0 setup.1 out out out)
+    rw (p.1, p.2) (lacks_memory c.args.start.now c.args.asked.now.options _ c.args.asked.now.json c.args.text.now
+    c.in_ok-checked.checked of.0 _ setup.0 setup.1 out out out)
 
 pub returns-in_err-tested : goal.returns-in_err-tested
 returns-in_err-tested g c =
@@ -31,4 +32,7 @@ returns g c =
     let of = c.in_ok-checked.ensures in
     let setup = c.in_ok-setup.ensures.answer c.in_ok-checked.checked of.1 in
     done c.args.start.now c.args.asked.now.options _ c.args.asked.now.json c.args.text.now c.in_ok-checked.checked of.0 _ setup.0 setup.1 _ _
-    c.in_ok-tested.tested (c.in_ok-tested.ensures c.in_ok-checked.checked of.1) _ refl refl refl c.in_ok-described.ensures.positions c.in_ok-described.ensures.statements refl c.distinct_of.ensures c.counts-counts.ensures (rw c.contexts.ensures at c.notes_of-notes.ensures) refl refl c.in_ok-described.ensures.lines
+    c.in_ok-tested.tested (c.in_ok-tested.ensures c.in_ok-checked.checked of.1) _ refl refl refl
+    c.in_ok-described.ensures.positions c.in_ok-described.ensures.statements refl c.distinct_of.ensures
+    c.counts-counts.ensures (rw c.contexts.ensures at c.notes_of-notes.ensures) refl refl
+    c.in_ok-described.ensures.lines

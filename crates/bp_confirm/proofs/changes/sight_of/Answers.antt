@@ -17,7 +17,8 @@ loop-n-init c =
       code = code;
       setup = setup;
       sight = λ text are. (
-        subst (λ z. c.value_seen.result ≡ seen_by t z c.args.thread c.args.name.now []) setup (c.value_seen.ensures text [] (subst (λ k. StandsFor k t) (sym code) c.requires.code) are stands),
+        subst (λ z. c.value_seen.result ≡ seen_by t z c.args.thread c.args.name.now []) setup
+            (c.value_seen.ensures text [] (subst (λ k. StandsFor k t) (sym code) c.requires.code) are stands),
         λ k after within. absurd (omega (arith, after, within)),
       );
     }

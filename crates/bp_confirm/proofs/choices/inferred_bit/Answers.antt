@@ -10,7 +10,8 @@ returns-then-splits c = λ text t p left does are.
     let zero = c.effect-zero.ensures [] in
     let one = c.effect-one.ensures [] in
     let at = ap (λ n. splits n c.effect-zero.result c.effect-one.result) (numbers_are text t c.args.spots.now c.args.next are) in
-    (split_is t p (option_map (place_of text) c.args.next) c.args.follow c.args.store c.effect-zero.result c.effect-one.result left c.args.instr.now does zero one).split
+    (split_is t p (option_map (place_of text) c.args.next) c.args.follow c.args.store c.effect-zero.result
+    c.effect-one.result left c.args.instr.now does zero one).split
     (sym at ∙ sym c.splits.ensures ∙ c.if-splits.true)
 
 pub returns : goal.returns

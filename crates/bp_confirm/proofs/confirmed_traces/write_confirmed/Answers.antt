@@ -19,7 +19,8 @@ returns-in_err-write_calls g c =
     let h = c.args.history.now in
     let s = c.args.setup.now in
     let end = end_line (length h) (open_lines s h) in
-    rw p.1 (part_then _ _ _ (head_text One s) (flat_map call_line h ++ end) c.in_ok-write_head.ensures (part_first _ _ (flat_map call_line h) end c.in_err-write_calls.ensures))
+    rw p.1 (part_then _ _ _ (head_text One s) (flat_map call_line h ++ end) c.in_ok-write_head.ensures
+    (part_first _ _ (flat_map call_line h) end c.in_err-write_calls.ensures))
 
 pub returns : goal.returns
 returns g c =
@@ -27,4 +28,5 @@ returns g c =
     let s = c.args.setup.now in
     let end = end_line (length h) (open_lines s h) in
     let last = rw c.requires at c.write_end.ensures in
-    writes_then _ _ _ (head_text One s) (flat_map call_line h ++ end) _ c.in_ok-write_head.ensures (writes_then _ _ _ (flat_map call_line h) end _ c.in_ok-write_calls.ensures last)
+    writes_then _ _ _ (head_text One s) (flat_map call_line h ++ end) _ c.in_ok-write_head.ensures
+    (writes_then _ _ _ (flat_map call_line h) end _ c.in_ok-write_calls.ensures last)

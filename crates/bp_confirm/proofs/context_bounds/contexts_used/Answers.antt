@@ -24,4 +24,6 @@ loop-line-preserved c =
     }
 
 pub returns : goal.returns
-returns c = used_all c.args.lines.now c.loop-line.line-index (record { thread = 0; location = End; values = [] }) c.loop-line.last c.loop-line.used c.loop-line-test.false c.loop-line.invariant.used
+returns c =
+    used_all c.args.lines.now c.loop-line.line-index (record { thread = 0; location = End; values = [] })
+    c.loop-line.last c.loop-line.used c.loop-line-test.false c.loop-line.invariant.used

@@ -20,7 +20,11 @@ loop-name-preserved c =
     let has : slice_get c.args.setup.now.entries c.loop-name.thread ≡ Some c.in-Some.name.now = sym c.in-Some.ensures in
     record {
       within = omega (arith, slice_get_within c.args.setup.now.entries c.loop-name.thread c.in-Some.name.now has);
-      names = take_and _ _ c.args.setup.now.entries c.loop-name.thread c.in-Some.name.now has c.loop-name.invariant.names (ap (map (λ n. n.now)) c.in_ok-push.ensures.items ∙ map_push (λ n. n.now) c.loop-name.names.items c.as_bytes.result ∙ ap (λ v. map (λ n. n.now) c.loop-name.names.items ++ v ∷ []) c.as_bytes.ensures.value);
+      names =
+          take_and _ _ c.args.setup.now.entries c.loop-name.thread c.in-Some.name.now has c.loop-name.invariant.names
+          (ap (map (λ n. n.now)) c.in_ok-push.ensures.items
+          ∙ map_push (λ n. n.now) c.loop-name.names.items c.as_bytes.result
+          ∙ ap (λ v. map (λ n. n.now) c.loop-name.names.items ++ v ∷ []) c.as_bytes.ensures.value);
     }
 
 pub returns : goal.returns

@@ -32,4 +32,6 @@ loop-value-preserved c =
 pub returns : goal.returns
 returns c =
     let values = c.args.values.now in
-    subst (AreDeclared c.args.checked.now) (all_read values c.requires c.loop-value.rest.now c.loop-value.n c.loop-value.invariant.read c.in_default.ensures) c.loop-value.invariant.first
+    subst (AreDeclared c.args.checked.now)
+    (all_read values c.requires c.loop-value.rest.now c.loop-value.n c.loop-value.invariant.read c.in_default.ensures)
+    c.loop-value.invariant.first

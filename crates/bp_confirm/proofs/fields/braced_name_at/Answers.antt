@@ -10,5 +10,6 @@ returns-in_default-after c =
 
 pub returns : goal.returns
 returns c =
-    has_braced c.args.text.now c.requires.line c.requires.braced c.in-Some.inner.now c.in-Some.rest.now c.in-Some.ensures c.part_before.result.now c.in-Some-after.rest.now
+    has_braced c.args.text.now c.requires.line c.requires.braced c.in-Some.inner.now c.in-Some.rest.now
+    c.in-Some.ensures c.part_before.result.now c.in-Some-after.rest.now
     c.part_before.ensures c.in-Some-after.ensures

@@ -6,7 +6,9 @@ pub returns-in_default : goal.returns-in_default
 returns-in_default c = no_number_of_none c.args.text.now c.in_default.ensures.cases
 
 pub returns-then-not-is_ascii_digit : goal.returns-then-not-is_ascii_digit
-returns-then-not-is_ascii_digit c = no_first c.args.text.now c.in-Some.first.now c.in-Some.others.now c.in-Some.ensures.cases.0 c.if-not-is_ascii_digit.ensures.cases
+returns-then-not-is_ascii_digit c =
+    no_first c.args.text.now c.in-Some.first.now c.in-Some.others.now c.in-Some.ensures.cases.0
+    c.if-not-is_ascii_digit.ensures.cases
 
 pub loop-digit-init : goal.loop-digit-init
 loop-digit-init c =
@@ -17,7 +19,8 @@ loop-digit-init c =
 pub returns-then-not-is_ascii_digit-2 : goal.returns-then-not-is_ascii_digit-2
 returns-then-not-is_ascii_digit-2 c =
     number_there c.args.text.now c.loop-digit.number c.loop-digit.rest.now c.loop-digit.invariant
-    (ends_odd c.loop-digit.rest.now c.in-Some-split_first.digit.now c.in-Some-split_first.more.now c.in-Some-split_first.ensures.cases.0 c.if-not-is_ascii_digit-2.ensures.cases)
+    (ends_odd c.loop-digit.rest.now c.in-Some-split_first.digit.now c.in-Some-split_first.more.now
+    c.in-Some-split_first.ensures.cases.0 c.if-not-is_ascii_digit-2.ensures.cases)
 
 pub returns-then-number-eq0 : goal.returns-then-number-eq0
 returns-then-number-eq0 c =
@@ -41,4 +44,5 @@ loop-digit-preserved c =
 
 pub returns : goal.returns
 returns c =
-    number_there c.args.text.now c.loop-digit.number c.loop-digit.rest.now c.loop-digit.invariant (ends_none c.loop-digit.rest.now c.in_default-split_first.ensures.cases)
+    number_there c.args.text.now c.loop-digit.number c.loop-digit.rest.now c.loop-digit.invariant
+    (ends_none c.loop-digit.rest.now c.in_default-split_first.ensures.cases)

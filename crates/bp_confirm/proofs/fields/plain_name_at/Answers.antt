@@ -13,7 +13,8 @@ returns-then-is_empty c =
 
 pub returns-in-Some-cut_at : goal.returns-in-Some-cut_at
 returns-in-Some-cut_at c =
-    no_spaced_name c.args.text.now c.requires.line c.requires.unbraced c.in-Some.name.now c.in-Some.rest.now c.in-Some.ensures c.in-Some-cut_at.field-0.0.now c.in-Some-cut_at.field-0.1.now c.in-Some-cut_at.ensures
+    no_spaced_name c.args.text.now c.requires.line c.requires.unbraced c.in-Some.name.now c.in-Some.rest.now
+    c.in-Some.ensures c.in-Some-cut_at.field-0.0.now c.in-Some-cut_at.field-0.1.now c.in-Some-cut_at.ensures
 
 pub returns-in-None : goal.returns-in-None
 returns-in-None c =

@@ -11,7 +11,9 @@ pub returns-in_default-name_at : goal.returns-in_default-name_at
 returns-in_default-name_at c = no_name_no_value c.args.text.now c.in-Some.words.now c.in-Some.ensures c.in_default-name_at.ensures
 
 pub returns-in-None : goal.returns-in-None
-returns-in-None c = no_bit_no_value c.args.text.now c.in-Some.words.now c.in-Some.ensures c.in-Some-name_at.name.now c.in-Some-name_at.digit.now c.in-Some-name_at.ensures c.in-None.ensures
+returns-in-None c =
+    no_bit_no_value c.args.text.now c.in-Some.words.now c.in-Some.ensures c.in-Some-name_at.name.now
+    c.in-Some-name_at.digit.now c.in-Some-name_at.ensures c.in-None.ensures
 
 pub returns-in-Some-bit_at : goal.returns-in-Some-bit_at
 returns-in-Some-bit_at c =

@@ -14,6 +14,7 @@ returns c = λ text call are stands.
     let after = h ++ call ∷ [] in
     let found : Difference = record { place = c.in-Some.unseen.place; seen = c.in-Some.unseen.seen; changed = c.sight_after-changed.result.changed } in
     let unseen = c.in-Some.ensures.first text after c.requires.code are stands in
-    let differs = difference_is t s h call c.line.inside.thread (values_in c.line.inside.values.now) c.in-Some.unseen.name.now found.place found.seen c.in-Some.ensures.name unseen
+    let differs = difference_is t s h call c.line.inside.thread (values_in c.line.inside.values.now)
+    c.in-Some.unseen.name.now found.place found.seen c.in-Some.ensures.name unseen
     c.in_ok-before.before.seen c.in_ok-before.before.changed found.changed (c.in_ok-before.ensures text are) c.sight_after-changed.ensures.changed in
     subst (λ (z : StepLineOf). IsDifference t s after z.thread z.values found) c.line.view_is differs

@@ -38,7 +38,8 @@ returns-in_default-clause-refused c = λ text later are tells.
     let knows : TellsNext text (step_of text x) later c.args.next = subst (λ z. TellsNext text (step_of text z) later c.args.next) (sym c.line.view_is) tells in
     rw c.refusal_of-in_default.ensures
     (subst (λ z. IsNotTaken text t s h z later n (refusal_of c.args.spots.now z n (Some c.in-Ok.top.number) Ambiguous)) c.line.view_is
-    (ambiguous text t s h x later n (Some c.in-Ok.top.number) number c.args.spots.now are top.0 (c.in_default.ensures text t h (step_of text x) later c.requires.code are knows top.1)))
+    (ambiguous text t s h x later n (Some c.in-Ok.top.number) number c.args.spots.now are top.0
+    (c.in_default.ensures text t h (step_of text x) later c.requires.code are knows top.1)))
 
 pub returns-in-Err-Finished-clause-refused : goal.returns-in-Err-Finished-clause-refused
 returns-in-Err-Finished-clause-refused c = λ text later are tells.
@@ -74,8 +75,10 @@ returns-then-not-is_granted-clause-refused c = λ text later are tells.
     let called = c.in-Ok-call_of.ensures.called t h c.requires.code stands in
     let asked = c.in-Ok-call_of.ensures.asked in
     rw c.refusal_of-then-not-is_granted.ensures
-    (subst (λ z. IsNotTaken text t s h z later n (refusal_of c.args.spots.now z n (Some c.in-Ok.top.number) (Refused c.in-Ok-call_of.call.reply))) c.line.view_is
-    (answered text t s h x later n (Some c.in-Ok.top.number) number c.args.spots.now are top.0 bit.1 c.in-Ok-call_of.call asked.0 called.0 (asked.1 ∙ bit.0) (sym c.is_granted.ensures ∙ c.if-not-is_granted.true)))
+    (subst (λ z. IsNotTaken text t s h z later n
+    (refusal_of c.args.spots.now z n (Some c.in-Ok.top.number) (Refused c.in-Ok-call_of.call.reply))) c.line.view_is
+    (answered text t s h x later n (Some c.in-Ok.top.number) number c.args.spots.now are top.0 bit.1
+    c.in-Ok-call_of.call asked.0 called.0 (asked.1 ∙ bit.0) (sym c.is_granted.ensures ∙ c.if-not-is_granted.true)))
 
 pub returns-in-Ok-Some-clause-refused : goal.returns-in-Ok-Some-clause-refused
 returns-in-Ok-Some-clause-refused c = λ text later are tells.
@@ -99,7 +102,8 @@ returns-in-Ok-Some-clause-refused c = λ text later are tells.
     (subst (λ z. IsDifference t z after c.args.line.now.thread c.args.line.now.values c.in-Ok-Some.found) kept.1 found) in
     rw c.refusal_of-in-Ok-Some.ensures
     (subst (λ z. IsNotTaken text t s h z later n (refusal_of c.args.spots.now z n (Some c.in-Ok.top.number) (Differs c.in-Ok-Some.found))) c.line.view_is
-    (others_seen text t s h x later n (Some c.in-Ok.top.number) number c.args.spots.now are top.0 bit.1 c.in-Ok-call_of.call asked.0 called.0 (asked.1 ∙ bit.0) (sym c.is_granted.ensures ∙ c.if-not-is_granted.false)
+    (others_seen text t s h x later n (Some c.in-Ok.top.number) number c.args.spots.now are top.0 bit.1
+    c.in-Ok-call_of.call asked.0 called.0 (asked.1 ∙ bit.0) (sym c.is_granted.ensures ∙ c.if-not-is_granted.false)
     c.in-Ok-Some.found differs))
 
 pub returns-in-Ok-None-clause-follows : goal.returns-in-Ok-None-clause-follows

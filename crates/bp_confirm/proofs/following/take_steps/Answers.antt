@@ -24,12 +24,15 @@ returns-in_err-call-clause-refused c = λ text are.
     let is = c.index-lines-n.is in
     let h = c.loop-n.history.items in
     let f = c.in_err-call.field-0.0 in
-    let there = c.in_err-call.ensures.refused text later are (tells_next text lines c.args.nexts.now n x x _ _ c.location_in.ensures c.requires.nexts c.loop-n-test.true is) in
+    let there = c.in_err-call.ensures.refused text later are
+    (tells_next text lines c.args.nexts.now n x x _ _ c.location_in.ensures c.requires.nexts c.loop-n-test.true is) in
     let here = subst (λ k. IsNotTaken text t c.loop-n.session.setup h x later (k + 1) f) inv.made
     (subst (λ g. IsNotTaken text t c.loop-n.session.setup g x later (length g + 1) f) c.as_slice-made.ensures.value there) in
     let p = err_from_is_err_and c.from_residual.result c.from_residual.ensures.1 in
     rw (p.1, p.2)
-    (not_confirmed text t s lines n x c.loop-n.history.items c.loop-n-test.true (subst (λ z. IsLegal t z c.loop-n.history.items) inv.setup inv.stands.state.legal) (inv.follow text are) c.in_err-call.field-0.0
+    (not_confirmed text t s lines n x c.loop-n.history.items c.loop-n-test.true
+    (subst (λ z. IsLegal t z c.loop-n.history.items) inv.setup inv.stands.state.legal)
+    (inv.follow text are) c.in_err-call.field-0.0
     (subst (λ z. IsNotTaken text t s c.loop-n.history.items z later (n + 1) c.in_err-call.field-0.0) is
     (subst (λ z. IsNotTaken text t z c.loop-n.history.items x later (n + 1) c.in_err-call.field-0.0) inv.setup here)))
 
@@ -51,9 +54,11 @@ loop-n-preserved c =
       stands = subst (λ g. Stands t c.take_step.new.session g) (sym c.in_ok-keep.ensures.kept) stands;
       follow = λ text are.
           let later = steps_of text (drop (n + 1) lines) in
-          let made = c.in_ok-call.ensures.follows text later are (tells_next text lines c.args.nexts.now n x x _ _ c.location_in.ensures c.requires.nexts c.loop-n-test.true is) in
+          let made = c.in_ok-call.ensures.follows text later are
+          (tells_next text lines c.args.nexts.now n x x _ _ c.location_in.ensures c.requires.nexts c.loop-n-test.true is) in
           let next = subst (λ g. Follows t c.loop-n.session.setup g (step_of text x) later a) c.as_slice-made.ensures.value made in
-          follow_next text t s lines n x c.loop-n.history.items c.keep.new.history.items c.in_ok-call.call c.loop-n-test.true c.in_ok-keep.ensures.kept (inv.follow text are)
+          follow_next text t s lines n x c.loop-n.history.items c.keep.new.history.items c.in_ok-call.call
+          c.loop-n-test.true c.in_ok-keep.ensures.kept (inv.follow text are)
           (subst (λ z. Follows t s c.loop-n.history.items (step_of text z) later c.in_ok-call.call) is
           (subst (λ z. Follows t z c.loop-n.history.items (step_of text x) later c.in_ok-call.call) inv.setup next));
       code = c.take_step.ensures.kept.0 ∙ inv.code;
@@ -64,4 +69,5 @@ pub returns-clause-confirmed : goal.returns-clause-confirmed
 returns-clause-confirmed c = λ text are.
     let t = c.args.checked.now in
     let inv = c.loop-n.invariant in
-    confirmed text t c.args.session.now.setup c.args.lines.now c.loop-n.n c.loop-n.history.items (omega arith) (subst (λ z. IsLegal t z c.loop-n.history.items) inv.setup inv.stands.state.legal) (inv.follow text are)
+    confirmed text t c.args.session.now.setup c.args.lines.now c.loop-n.n c.loop-n.history.items (omega arith)
+    (subst (λ z. IsLegal t z c.loop-n.history.items) inv.setup inv.stands.state.legal) (inv.follow text are)

@@ -14,7 +14,8 @@ pub returns-in_default-value_at : goal.returns-in_default-value_at
 returns-in_default-value_at c = λ lines has.
     let found = c.loop-before.invariant.rest lines has in
     sym (ap (λ o. value_in o c.args.place) found.1
-    ∙ no_next_value found.0.values c.loop-before._before c.args.place c.loop-before.rest.now found.2 found.3 c.in_default-value_at.ensures c.loop-before.invariant.few)
+    ∙ no_next_value found.0.values c.loop-before._before c.args.place c.loop-before.rest.now found.2 found.3
+    c.in_default-value_at.ensures c.loop-before.invariant.few)
 
 pub loop-before-preserved : goal.loop-before-preserved
 loop-before-preserved c = record {
@@ -22,7 +23,8 @@ loop-before-preserved c = record {
   line = line_rest c.loop-before.rest.now _ c.in-Some-value_at.more.now c.in-Some-value_at.ensures c.loop-before.invariant.line;
   rest = λ lines has.
       let found = c.loop-before.invariant.rest lines has in
-      let next = next_value found.0.values c.loop-before._before c.loop-before.rest.now _ c.in-Some-value_at.more.now found.2 found.3 c.in-Some-value_at.ensures in
+      let next = next_value found.0.values c.loop-before._before c.loop-before.rest.now _ c.in-Some-value_at.more.now
+      found.2 found.3 c.in-Some-value_at.ensures in
       let one : suc c.loop-before._before ≡ c.loop-before._before + 1 = omega arith in
       (found.0, found.1, found.2, next.rest ∙ ap (λ k. values_text (drop k found.0.values)) one);
 }
@@ -36,6 +38,7 @@ returns-in-None c = λ lines has.
 pub returns-in-Some-value_at-2 : goal.returns-in-Some-value_at-2
 returns-in-Some-value_at-2 c = λ lines has.
     let found = c.loop-before.invariant.rest lines has in
-    let next = next_value found.0.values c.loop-before._before c.loop-before.rest.now (value_of c.in-Some-value_at-2.value) _ found.2 found.3 c.in-Some-value_at-2.ensures in
+    let next = next_value found.0.values c.loop-before._before c.loop-before.rest.now
+    (value_of c.in-Some-value_at-2.value) _ found.2 found.3 c.in-Some-value_at-2.ensures in
     let number : c.loop-before._before ≡ c.args.place = omega (arith, c.loop-before-test.false, c.loop-before.invariant.few) in
     sym (ap (λ o. value_in o c.args.place) found.1 ∙ subst (λ k. slice_get found.0.values k ≡ Some (value_of c.in-Some-value_at-2.value)) number next.at)

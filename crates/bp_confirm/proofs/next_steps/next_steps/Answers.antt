@@ -33,5 +33,7 @@ loop-n-preserved c =
       size = length-set c.loop-n.next _ _ ∙ inv.size;
       each = λ i few. table_next lines n x within c.loop-n-test.true c.loop-n.next c.line.inside.thread thread c.requires.threads i inv.size (inv.each i few);
       many = length-set c.loop-n.steps.items _ _ ∙ inv.many;
-      done = done_next lines n x within c.loop-n-test.true c.loop-n.next c.line.inside.thread 0 thread c.requires.threads inv.size inv.each c.loop-n.steps.items inv.many inv.done;
+      done =
+          done_next lines n x within c.loop-n-test.true c.loop-n.next c.line.inside.thread 0 thread c.requires.threads
+          inv.size inv.each c.loop-n.steps.items inv.many inv.done;
     }

@@ -11,4 +11,5 @@ returns-in_default-spot_of c = λ text t h code are stands.
 pub returns : goal.returns
 returns c = λ text t h code are stands.
     let now = configuration_after t c.args.session.now.setup h in
-    spot_there text t c.args.spots.now now c.args.thread c.in-Some.top c.in-Some-spot_of.spot are (c.in-Some.ensures t h code stands) (sym c.in-Some-spot_of.ensures)
+    spot_there text t c.args.spots.now now c.args.thread c.in-Some.top c.in-Some-spot_of.spot are
+    (c.in-Some.ensures t h code stands) (sym c.in-Some-spot_of.ensures)

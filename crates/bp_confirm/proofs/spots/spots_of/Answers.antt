@@ -16,14 +16,18 @@ loop-start-preserved c =
           record {
             here = w.here-is ∙ w.position_from-here.ensures ∙ ap (position_at text) (sym w.at-is);
             procedure = w.procedure-is ∙ omega (arith, inv.procedure, ends_more items n _ _ c.loop-start-test.true w.in-Some.is);
-            spots = spots_next text items n _ _ c.loop-start.spots.items c.match-start.spots.items _ c.loop-start-test.true w.in-Some.is inv.spots (ap (λ v. v.items) w.spots-is ∙ w.in_ok-push.ensures.items)
+            spots =
+                spots_next text items n _ _ c.loop-start.spots.items c.match-start.spots.items _ c.loop-start-test.true
+                w.in-Some.is inv.spots (ap (λ v. v.items) w.spots-is ∙ w.in_ok-push.ensures.items)
                 (ap Some w.position_from-here.ensures) inv.procedure;
           }
       | in_default+in_ok-push-2 w ↦
           record {
             here = w.here-is ∙ inv.here ∙ ap (position_at text) (sym w.at-is);
             procedure = w.procedure-is ∙ omega (arith, inv.procedure, ends_more items n _ _ c.loop-start-test.true w.in_default.is, few_ends (n + 1) items);
-            spots = spots_next text items n _ _ c.loop-start.spots.items c.match-start.spots.items _ c.loop-start-test.true w.in_default.is inv.spots (ap (λ v. v.items) w.spots-is ∙ w.in_ok-push-2.ensures.items)
+            spots =
+                spots_next text items n _ _ c.loop-start.spots.items c.match-start.spots.items _ c.loop-start-test.true
+                w.in_default.is inv.spots (ap (λ v. v.items) w.spots-is ∙ w.in_ok-push-2.ensures.items)
                 refl inv.procedure;
           }
     ]

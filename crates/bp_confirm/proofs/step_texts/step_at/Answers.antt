@@ -9,7 +9,8 @@ returns-in_default-after c = no_space_after c.args.text.now c.in-Some.thread c.i
 
 pub returns-in_default-location_at : goal.returns-in_default-location_at
 returns-in_default-location_at c =
-    no_location c.args.text.now c.in-Some.thread c.in-Some.rest.now c.in-Some.ensures c.in-Some-after.words.now c.in-Some-after.ensures c.in_default-location_at.ensures
+    no_location c.args.text.now c.in-Some.thread c.in-Some.rest.now c.in-Some.ensures c.in-Some-after.words.now
+    c.in-Some-after.ensures c.in_default-location_at.ensures
 
 pub returns-in_default-values_at : goal.returns-in_default-values_at
 returns-in_default-values_at c =

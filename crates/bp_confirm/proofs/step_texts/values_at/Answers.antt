@@ -6,4 +6,5 @@ returns-in_default-cut_at c = no_feed c.args.text.now c.in_default-cut_at.ensure
 
 pub returns-then-not-says_values : goal.returns-then-not-says_values
 returns-then-not-says_values c =
-    no_values c.args.text.now c.in-Some-cut_at.values.now c.in-Some-cut_at.more.now c.in-Some-cut_at.ensures (rw c.if-not-says_values.true at c.says_values.ensures)
+    no_values c.args.text.now c.in-Some-cut_at.values.now c.in-Some-cut_at.more.now c.in-Some-cut_at.ensures
+    (rw c.if-not-says_values.true at c.says_values.ensures)

@@ -14,7 +14,8 @@ loop-value-init c = record { read = none_read c.args.values.now c.requires; sees
 pub returns-then-not-is_value : goal.returns-then-not-is_value
 returns-then-not-is_value c =
     let v = value_of c.in-Some.value in
-    let there = value_there c.args.values.now c.requires c.loop-value.rest.now c.loop-value.place c.loop-value.invariant.read v c.in-Some.more.now c.in-Some.ensures in
+    let there = value_there c.args.values.now c.requires c.loop-value.rest.now c.loop-value.place
+    c.loop-value.invariant.read v c.in-Some.more.now c.in-Some.ensures in
     record {
       name = ap (option_map (λ x. x.0)) there;
       first = λ text h code are stands. record {

@@ -11,7 +11,8 @@ loop-left-preserved c =
       left = λ v xs more is has.
           let some = c.loop-left-test.true in
           subst (λ t. SymbolsLeft v more c.args.count (length xs) (c.loop-left.left - 1) t) (sym c.part_from-rest.ensures)
-          (symbol_passed v more c.args.count (length xs) c.loop-left.left c.args.size rest is (omega (arith, some)) (sym c.goes_on.ensures ∙ c.if-goes_on.true) (c.loop-left.invariant.left v xs more is has));
+          (symbol_passed v more c.args.count (length xs) c.loop-left.left c.args.size rest is (omega (arith, some))
+          (sym c.goes_on.ensures ∙ c.if-goes_on.true) (c.loop-left.invariant.left v xs more is has));
       shorter = omega (arith, ap length c.part_from-rest.ensures, length-drop c.args.size rest, c.loop-left.invariant.shorter);
     }
 

@@ -15,11 +15,15 @@ loop-rest-init c =
 pub loop-rest-preserved : goal.loop-rest-preserved
 loop-rest-preserved c = record {
   few = omega (arith, c.in-Some.ensures.shorter, c.loop-rest.invariant.few);
-  left = λ b. entry_passed b.setup b.rest c.loop-rest.settings.now c.loop-rest.count c.in-Some.rest.now c.in-Some.ensures.entry (λ bits after e. false≢true (sym (c.in-Some.ensures.init bits after e))) (c.loop-rest.invariant.left b);
+  left = λ b.
+      entry_passed b.setup b.rest c.loop-rest.settings.now c.loop-rest.count c.in-Some.rest.now c.in-Some.ensures.entry
+      (λ bits after e. false≢true (sym (c.in-Some.ensures.init bits after e))) (c.loop-rest.invariant.left b);
 }
 
 pub returns-clause-count : goal.returns-clause-count
 returns-clause-count c = λ b. (none_left b.setup b.rest c.loop-rest.settings.now c.loop-rest.count c.in_default.ensures.entry (c.loop-rest.invariant.left b)).0
 
 pub returns-clause-settings : goal.returns-clause-settings
-returns-clause-settings c = λ b. (none_left b.setup b.rest c.loop-rest.settings.now c.loop-rest.count c.in_default.ensures.entry (c.loop-rest.invariant.left b)).1
+returns-clause-settings c = λ b.
+    (none_left b.setup b.rest c.loop-rest.settings.now c.loop-rest.count c.in_default.ensures.entry
+    (c.loop-rest.invariant.left b)).1

@@ -9,12 +9,22 @@ loop-call-preserved c =
     elim c.if-call-thread.branch [
       | then-call-thread w ↦ record {
         few = omega (arith, w.count-is, c.loop-call.invariant.few);
-        counted = w.count-is ∙ (ap (λ n. n + 1) c.loop-call.invariant.counted ∙ count_same c.args.history.now c.loop-call.call-index c.args.thread _ c.loop-call-test.true w.if-call-thread.true);
-        last = w.ended-is ∙ (w.is_last-ended.ensures ∙ ended_same c.args.history.now c.loop-call.call-index c.args.thread _ c.loop-call-test.true w.if-call-thread.true);
+        counted =
+            w.count-is ∙ (ap (λ n. n + 1) c.loop-call.invariant.counted
+            ∙ count_same c.args.history.now c.loop-call.call-index c.args.thread _ c.loop-call-test.true w.if-call-thread.true);
+        last =
+            w.ended-is ∙ (w.is_last-ended.ensures
+            ∙ ended_same c.args.history.now c.loop-call.call-index c.args.thread _ c.loop-call-test.true w.if-call-thread.true);
       }
       | else-call-thread w ↦ record {
         few = omega (arith, w.count-is, c.loop-call.invariant.few);
-        counted = w.count-is ∙ (c.loop-call.invariant.counted ∙ sym (ap length (calls_other c.args.history.now c.loop-call.call-index c.args.thread _ c.loop-call-test.true w.if-call-thread.false)));
-        last = w.ended-is ∙ (c.loop-call.invariant.last ∙ sym (ap ends_with_last (calls_other c.args.history.now c.loop-call.call-index c.args.thread _ c.loop-call-test.true w.if-call-thread.false)));
+        counted =
+            w.count-is ∙ (c.loop-call.invariant.counted
+            ∙ sym (ap length (calls_other c.args.history.now c.loop-call.call-index c.args.thread _
+            c.loop-call-test.true w.if-call-thread.false)));
+        last =
+            w.ended-is ∙ (c.loop-call.invariant.last
+            ∙ sym (ap ends_with_last (calls_other c.args.history.now c.loop-call.call-index c.args.thread _
+            c.loop-call-test.true w.if-call-thread.false)));
       }
     ]

@@ -6,10 +6,14 @@ pub returns-then-is_some : goal.returns-then-is_some
 returns-then-is_some c = λ t is.
     let own = (rw c.as_bytes.ensures.value at c.fault_of_entry-fault.ensures) t is in
     let some = rw own at c.if-is_some.ensures in
-    own ∙ sym (c.loop-thread.invariant t is ∙ refused t string_bytes c.args.entries.now c.loop-thread.thread c.index-entries-thread.result c.index-entries-thread.result c.loop-thread-test.true c.index-entries-thread.is (sym some))
+    own ∙ sym (c.loop-thread.invariant t is
+    ∙ refused t string_bytes c.args.entries.now c.loop-thread.thread c.index-entries-thread.result
+    c.index-entries-thread.result c.loop-thread-test.true c.index-entries-thread.is (sym some))
 
 pub loop-thread-preserved : goal.loop-thread-preserved
 loop-thread-preserved c = λ t is.
     let own = (rw c.as_bytes.ensures.value at c.fault_of_entry-fault.ensures) t is in
     let none = rw own at c.if-is_some.ensures in
-    c.loop-thread.invariant t is ∙ fine t string_bytes c.args.entries.now c.loop-thread.thread c.index-entries-thread.result c.index-entries-thread.result c.loop-thread-test.true c.index-entries-thread.is (sym none)
+    c.loop-thread.invariant t is
+    ∙ fine t string_bytes c.args.entries.now c.loop-thread.thread c.index-entries-thread.result
+    c.index-entries-thread.result c.loop-thread-test.true c.index-entries-thread.is (sym none)

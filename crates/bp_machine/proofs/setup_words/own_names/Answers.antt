@@ -12,4 +12,5 @@ loop-name-preserved c =
     let found = name_of_found c.args.code.now.headings _ c.in-Some.heading.now (sym c.in-Some.ensures.heading) in
     let own = c.in_ok-from_str.ensures.ok ∙ c.name.ensures ∙ found in
     ap (map string_bytes) c.in_ok-push.ensures.items
-    ∙ names_more c.args.entries.now c.loop-name.name-index (record { ref_ptr = (0, 0); now = [] }) c.loop-name-test.true c.loop-name.names.items c.in_ok-from_str.field-0 c.loop-name.invariant own
+    ∙ names_more c.args.entries.now c.loop-name.name-index (record { ref_ptr = (0, 0); now = [] }) c.loop-name-test.true
+    c.loop-name.names.items c.in_ok-from_str.field-0 c.loop-name.invariant own

@@ -7,4 +7,5 @@ pub returns-then-count-gt1 : goal.returns-then-count-gt1
 returns-then-count-gt1 c =
     let xs = c.args.frames.now.items in
     let top = sym (top_is xs) ∙ ap (λ ys. slice_get ys (length ys - 1)) (sym c.deref.ensures.value) ∙ sym c.last.ensures.value ∙ sym c.in-Some.ensures in
-    rw c.push_reserved.ensures.items (entered xs c.args.frame c.in-Some.caller c.args.next c.len-count.result top (omega (arith, c.args.frames.now.ok.0, c.len-count.ensures, c.push_reserved.ensures.len)))
+    rw c.push_reserved.ensures.items (entered xs c.args.frame c.in-Some.caller c.args.next c.len-count.result top
+    (omega (arith, c.args.frames.now.ok.0, c.len-count.ensures, c.push_reserved.ensures.len)))

@@ -2,4 +2,12 @@ use Rattle.bp_messages.proofs.fault_objects.put_facts.Goals as goal
 
 pub returns : goal.returns
 returns g c =
-    rw (c.from.ensures, c.bytes_of.ensures, c.byte_of.ensures, c.line_in.ensures, c.column_in.ensures, c.thread_of.ensures, c.wanted_letter.ensures) at c.put_pieces.ensures
+    rw (
+      c.from.ensures,
+      c.bytes_of.ensures,
+      c.byte_of.ensures,
+      c.line_in.ensures,
+      c.column_in.ensures,
+      c.thread_of.ensures,
+      c.wanted_letter.ensures,
+    ) at c.put_pieces.ensures

@@ -16,7 +16,8 @@ returns-in_err-put_facts g c =
     let text = c.args.text.now in
     let value = option_map value_of c.args.value in
     let message = c.args.message.now in
-    rw p.1 (subst (λ r. AppendsPart (g.W.Write.contents c.args.out.now) (g.W.Write.contents c.put_facts.new.out) (row_object r file text value message)) c.row-row.ensures
+    rw p.1 (subst (λ r. AppendsPart (g.W.Write.contents c.args.out.now) (g.W.Write.contents c.put_facts.new.out)
+    (row_object r file text value message)) c.row-row.ensures
     (part_first _ _ (facts_text (row_of row) file text) (step_text row.detail value ++ message_text message) c.in_err-put_facts.ensures))
 
 pub returns-in_err-put_step : goal.returns-in_err-put_step
@@ -27,7 +28,8 @@ returns-in_err-put_step g c =
     let text = c.args.text.now in
     let value = option_map value_of c.args.value in
     let message = c.args.message.now in
-    rw p.1 (subst (λ r. AppendsPart (g.W.Write.contents c.args.out.now) (g.W.Write.contents c.put_step.new.out) (row_object r file text value message)) c.row-row.ensures
+    rw p.1 (subst (λ r. AppendsPart (g.W.Write.contents c.args.out.now) (g.W.Write.contents c.put_step.new.out)
+    (row_object r file text value message)) c.row-row.ensures
     (part_then _ _ _ (facts_text (row_of row) file text) (step_text row.detail value ++ message_text message) c.in_ok-put_facts.ensures
     (part_first _ _ (step_text row.detail value) (message_text message) c.in_err-put_step.ensures)))
 
@@ -38,6 +40,7 @@ returns g c =
     let text = c.args.text.now in
     let value = option_map value_of c.args.value in
     let message = c.args.message.now in
-    subst (λ r. Writes (g.W.Write.contents c.args.out.now) (g.W.Write.contents c.put_message.new.out) (row_object r file text value message) c.put_message.result) c.row-row.ensures
+    subst (λ r. Writes (g.W.Write.contents c.args.out.now) (g.W.Write.contents c.put_message.new.out)
+    (row_object r file text value message) c.put_message.result) c.row-row.ensures
     (writes_then _ _ _ (facts_text (row_of row) file text) (step_text row.detail value ++ message_text message) _ c.in_ok-put_facts.ensures
     (writes_then _ _ _ (step_text row.detail value) (message_text message) _ c.in_ok-put_step.ensures c.put_message.ensures))

@@ -15,7 +15,9 @@ returns-in_err-put_values g c =
     let p = err_from_is_err_and c.from_residual-in_err-put_values.result c.from_residual-in_err-put_values.ensures.1 in
     let head = rw c.from-thread.ensures at c.in_ok-put_pieces.ensures in
     let part = rw c.as_slice.ensures.value at c.in_err-put_values.ensures in
-    rw p.1 (part_then _ _ _ (row_head c.args.row.now.thread) (flat_map bit_text c.args.row.now.values.items ++ codes "\n") head (part_first _ _ (flat_map bit_text c.args.row.now.values.items) (codes "\n") part))
+    rw p.1 (part_then _ _ _ (row_head c.args.row.now.thread)
+    (flat_map bit_text c.args.row.now.values.items ++ codes "\n") head
+    (part_first _ _ (flat_map bit_text c.args.row.now.values.items) (codes "\n") part))
 
 pub returns : goal.returns
 returns g c =

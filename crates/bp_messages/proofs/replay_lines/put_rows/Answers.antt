@@ -8,7 +8,9 @@ use Rattle.bp_messages.proofs.replay_lines.put_rows.Goals as goal
 pub returns-in_err-put_row : goal.returns-in_err-put_row
 returns-in_err-put_row g c =
     let p = err_from_is_err_and c.from_residual.result c.from_residual.ensures.1 in
-    let part = subst (λ x. AppendsPart (g.W.Write.contents c.loop-row.out) (g.W.Write.contents c.put_row.new.out) (printed_line x)) c.row-item.is c.in_err-put_row.ensures in
+    let part =
+    subst (λ x. AppendsPart (g.W.Write.contents c.loop-row.out) (g.W.Write.contents c.put_row.new.out) (printed_line x))
+    c.row-item.is c.in_err-put_row.ensures in
     rw p.1 (subst (AppendsPart (g.W.Write.contents c.args.out.now) (g.W.Write.contents c.put_row.new.out))
     (sym (flat_map_at printed_line c.args.rows.now c.loop-row.row-index c.row-item.result c.loop-row-test.true))
     (AppendsPart_within _ _ _ _ _ _ c.loop-row.invariant part))

@@ -17,4 +17,5 @@ pub returns : goal.returns
 returns g c =
     let rows = c.args.replayed.now.printed.items in
     let all = rw c.as_slice.ensures.value at c.in_ok-put_rows.ensures in
-    rw (flat_map-map row_line row_of rows) (writes_then _ _ _ (flat_map printed_line rows) (outcome_line c.args.replayed.now.report.outcome) _ all c.put_outcome.ensures)
+    rw (flat_map-map row_line row_of rows) (writes_then _ _ _ (flat_map printed_line rows)
+    (outcome_line c.args.replayed.now.report.outcome) _ all c.put_outcome.ensures)

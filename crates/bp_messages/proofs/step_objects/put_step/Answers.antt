@@ -7,4 +7,6 @@ use Rattle.bp_messages.proofs.step_objects.put_step.Goals as goal
 pub returns-in-None : goal.returns-in-None
 returns-in-None g c =
     let value = option_map value_of c.args.value in
-    subst (λ o. Writes (g.W.Write.contents c.args.out.now) (g.W.Write.contents c.put.new.out) (step_member o value) c.put.result) c.in-None.ensures c.put.ensures
+    subst
+    (λ o. Writes (g.W.Write.contents c.args.out.now) (g.W.Write.contents c.put.new.out) (step_member o value) c.put.result)
+    c.in-None.ensures c.put.ensures

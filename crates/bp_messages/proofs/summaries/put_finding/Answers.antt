@@ -4,7 +4,12 @@ pub returns-in-Nothing : goal.returns-in-Nothing
 returns-in-Nothing g c = rw c.in-Nothing.is (rw c.nothing_words-words.ensures at c.put_nothing.ensures)
 
 pub returns-in-Failed : goal.returns-in-Failed
-returns-in-Failed g c = rw c.in-Failed.is (rw (c.statement_of-statement.ensures, c.failed_assertion-failure.ensures, c.as_slice.ensures.value) at c.put_failure.ensures)
+returns-in-Failed g c =
+    rw c.in-Failed.is (rw (
+      c.statement_of-statement.ensures,
+      c.failed_assertion-failure.ensures,
+      c.as_slice.ensures.value,
+    ) at c.put_failure.ensures)
 
 pub returns-in-Deadlock : goal.returns-in-Deadlock
 returns-in-Deadlock g c = rw c.in-Deadlock.is c.put_deadlock.ensures

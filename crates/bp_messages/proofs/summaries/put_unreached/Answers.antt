@@ -8,10 +8,14 @@ returns-in_err-put g c =
     let p = err_from_is_err_and c.from_residual.result c.from_residual.ensures.1 in
     let rest = rw (c.in-Some-Some.ensures.cases.0, c.in-Some-Some.ensures'.cases.0) at c.loop-line.invariant in
     let piece = rw c.line_unless.ensures at c.in_err-put.ensures in
-    rw p.1 (part_of_rest _ _ _ (unreached_text c.args.lines.now c.args.reached.now) (line_unless c.in-Some-Some.is_reached.now c.in-Some-Some.line.now) (unreached_text c.in-Some-Some.more.now c.in-Some-Some.others.now) rest piece)
+    rw p.1 (part_of_rest _ _ _ (unreached_text c.args.lines.now c.args.reached.now)
+    (line_unless c.in-Some-Some.is_reached.now c.in-Some-Some.line.now)
+    (unreached_text c.in-Some-Some.more.now c.in-Some-Some.others.now) rest piece)
 
 pub loop-line-preserved : goal.loop-line-preserved
 loop-line-preserved g c =
     let rest = rw (c.in-Some-Some.ensures.cases.0, c.in-Some-Some.ensures'.cases.0) at c.loop-line.invariant in
     let piece = rw c.line_unless.ensures at c.in_ok-put.ensures in
-    rest_after _ _ _ (unreached_text c.args.lines.now c.args.reached.now) (line_unless c.in-Some-Some.is_reached.now c.in-Some-Some.line.now) (unreached_text c.in-Some-Some.more.now c.in-Some-Some.others.now) rest piece
+    rest_after _ _ _ (unreached_text c.args.lines.now c.args.reached.now)
+    (line_unless c.in-Some-Some.is_reached.now c.in-Some-Some.line.now)
+    (unreached_text c.in-Some-Some.more.now c.in-Some-Some.others.now) rest piece

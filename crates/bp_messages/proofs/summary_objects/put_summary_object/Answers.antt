@@ -14,7 +14,8 @@ returns-in_err-put_finding_members g c =
     let failure = failure_member (failed_assertion x) (statement_of x.statements.items (failed_assertion x)) in
     let rest = distinct_member x.distinct ++ notes_members x.notes in
     let counts = counts_members x.counts ++ rest in
-    rw p.1 (part_first _ _ (finding_members x.found x.options.runs) (failure ++ (waits_member x.positions.items x.waiting.items ++ counts)) c.in_err-put_finding_members.ensures)
+    rw p.1 (part_first _ _ (finding_members x.found x.options.runs)
+    (failure ++ (waits_member x.positions.items x.waiting.items ++ counts)) c.in_err-put_finding_members.ensures)
 
 pub returns-in_err-put_failure_member : goal.returns-in_err-put_failure_member
 returns-in_err-put_failure_member g c =
@@ -24,7 +25,8 @@ returns-in_err-put_failure_member g c =
     let rest = distinct_member x.distinct ++ notes_members x.notes in
     let counts = counts_members x.counts ++ rest in
     let member = rw (c.statement_of-statement.ensures, c.failed_assertion-failure.ensures, c.as_slice.ensures.value) at c.in_err-put_failure_member.ensures in
-    rw p.1 (part_then _ _ _ (finding_members x.found x.options.runs) (failure ++ (waits_member x.positions.items x.waiting.items ++ counts)) c.in_ok-put_finding_members.ensures
+    rw p.1 (part_then _ _ _ (finding_members x.found x.options.runs)
+    (failure ++ (waits_member x.positions.items x.waiting.items ++ counts)) c.in_ok-put_finding_members.ensures
     (part_first _ _ failure (waits_member x.positions.items x.waiting.items ++ counts) member))
 
 pub returns-in_err-put_waits_member : goal.returns-in_err-put_waits_member
@@ -36,7 +38,8 @@ returns-in_err-put_waits_member g c =
     let counts = counts_members x.counts ++ rest in
     let member = rw (c.statement_of-statement.ensures, c.failed_assertion-failure.ensures, c.as_slice.ensures.value) at c.in_ok-put_failure_member.ensures in
     let waits = rw (c.as_slice-2.ensures.value, c.as_slice-3.ensures.value) at c.in_err-put_waits_member.ensures in
-    rw p.1 (part_then _ _ _ (finding_members x.found x.options.runs) (failure ++ (waits_member x.positions.items x.waiting.items ++ counts)) c.in_ok-put_finding_members.ensures
+    rw p.1 (part_then _ _ _ (finding_members x.found x.options.runs)
+    (failure ++ (waits_member x.positions.items x.waiting.items ++ counts)) c.in_ok-put_finding_members.ensures
     (part_then _ _ _ failure (waits_member x.positions.items x.waiting.items ++ counts) member
     (part_first _ _ (waits_member x.positions.items x.waiting.items) counts waits)))
 
@@ -49,7 +52,8 @@ returns-in_err-put_counts_members g c =
     let counts = counts_members x.counts ++ rest in
     let member = rw (c.statement_of-statement.ensures, c.failed_assertion-failure.ensures, c.as_slice.ensures.value) at c.in_ok-put_failure_member.ensures in
     let waits = rw (c.as_slice-2.ensures.value, c.as_slice-3.ensures.value) at c.in_ok-put_waits_member.ensures in
-    rw p.1 (part_then _ _ _ (finding_members x.found x.options.runs) (failure ++ (waits_member x.positions.items x.waiting.items ++ counts)) c.in_ok-put_finding_members.ensures
+    rw p.1 (part_then _ _ _ (finding_members x.found x.options.runs)
+    (failure ++ (waits_member x.positions.items x.waiting.items ++ counts)) c.in_ok-put_finding_members.ensures
     (part_then _ _ _ failure (waits_member x.positions.items x.waiting.items ++ counts) member
     (part_then _ _ _ (waits_member x.positions.items x.waiting.items) counts waits
     (part_first _ _ (counts_members x.counts) rest c.in_err-put_counts_members.ensures))))
@@ -63,7 +67,8 @@ returns-in_err-put_distinct_member g c =
     let counts = counts_members x.counts ++ rest in
     let member = rw (c.statement_of-statement.ensures, c.failed_assertion-failure.ensures, c.as_slice.ensures.value) at c.in_ok-put_failure_member.ensures in
     let waits = rw (c.as_slice-2.ensures.value, c.as_slice-3.ensures.value) at c.in_ok-put_waits_member.ensures in
-    rw p.1 (part_then _ _ _ (finding_members x.found x.options.runs) (failure ++ (waits_member x.positions.items x.waiting.items ++ counts)) c.in_ok-put_finding_members.ensures
+    rw p.1 (part_then _ _ _ (finding_members x.found x.options.runs)
+    (failure ++ (waits_member x.positions.items x.waiting.items ++ counts)) c.in_ok-put_finding_members.ensures
     (part_then _ _ _ failure (waits_member x.positions.items x.waiting.items ++ counts) member
     (part_then _ _ _ (waits_member x.positions.items x.waiting.items) counts waits
     (part_then _ _ _ (counts_members x.counts) rest c.in_ok-put_counts_members.ensures
@@ -77,7 +82,8 @@ returns g c =
     let counts = counts_members x.counts ++ rest in
     let member = rw (c.statement_of-statement.ensures, c.failed_assertion-failure.ensures, c.as_slice.ensures.value) at c.in_ok-put_failure_member.ensures in
     let waits = rw (c.as_slice-2.ensures.value, c.as_slice-3.ensures.value) at c.in_ok-put_waits_member.ensures in
-    writes_then _ _ _ (finding_members x.found x.options.runs) (failure ++ (waits_member x.positions.items x.waiting.items ++ counts)) _ c.in_ok-put_finding_members.ensures
+    writes_then _ _ _ (finding_members x.found x.options.runs)
+    (failure ++ (waits_member x.positions.items x.waiting.items ++ counts)) _ c.in_ok-put_finding_members.ensures
     (writes_then _ _ _ failure (waits_member x.positions.items x.waiting.items ++ counts) _ member
     (writes_then _ _ _ (waits_member x.positions.items x.waiting.items) counts _ waits
     (writes_then _ _ _ (counts_members x.counts) rest _ c.in_ok-put_counts_members.ensures

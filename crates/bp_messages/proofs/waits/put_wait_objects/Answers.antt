@@ -12,7 +12,9 @@ returns-in_err-put_wait_object g c =
     let x = c.in-Some.wait.now in
     let rest = rw c.in-Some.ensures.cases.0 at c.loop-wait.invariant in
     let piece = rw c.position_of_wait.ensures at c.in_err-put_wait_object.ensures in
-    rw p.1 (part_of_rest _ _ _ (wait_objects [] all c.args.waiting.now) (wait_object c.loop-wait.before.now x.thread (position_of_wait all x)) (wait_objects (codes ",") all c.in-Some.more.now) rest piece)
+    rw p.1 (part_of_rest _ _ _ (wait_objects [] all c.args.waiting.now)
+    (wait_object c.loop-wait.before.now x.thread (position_of_wait all x))
+    (wait_objects (codes ",") all c.in-Some.more.now) rest piece)
 
 pub loop-wait-preserved : goal.loop-wait-preserved
 loop-wait-preserved g c =
@@ -20,4 +22,6 @@ loop-wait-preserved g c =
     let x = c.in-Some.wait.now in
     let rest = rw c.in-Some.ensures.cases.0 at c.loop-wait.invariant in
     let piece = rw c.position_of_wait.ensures at c.in_ok-put_wait_object.ensures in
-    rest_after _ _ _ (wait_objects [] all c.args.waiting.now) (wait_object c.loop-wait.before.now x.thread (position_of_wait all x)) (wait_objects (codes ",") all c.in-Some.more.now) rest piece
+    rest_after _ _ _ (wait_objects [] all c.args.waiting.now)
+    (wait_object c.loop-wait.before.now x.thread (position_of_wait all x))
+    (wait_objects (codes ",") all c.in-Some.more.now) rest piece

@@ -13,16 +13,19 @@ abbrev Shut : SeatOf → Type 0
 Shut s = s.is_open ≡ false
 
 -- the seat of a worker whose work is done
-shut : (seat : SeatOf) (done : Result (Unit {0}) Unfinished) → MatchResult done (λ _. seat.is_open ≡ false) (λ _. seat.is_open ≡ true) → is_ok done ≡ true → Shut seat
+shut : (seat : SeatOf) (done : Result (Unit {0}) Unfinished)
+    → MatchResult done (λ _. seat.is_open ≡ false) (λ _. seat.is_open ≡ true) → is_ok done ≡ true → Shut seat
 shut seat (Ok x) ended ok = ended
 shut seat (Err f) ended ok = absurd (false≢true ok)
 
-is_done : (seat : SeatOf) (done : Result (Unit {0}) Unfinished) → MatchResult done (λ _. seat.is_open ≡ false) (λ _. seat.is_open ≡ true) → Shut seat → is_ok done ≡ true
+is_done : (seat : SeatOf) (done : Result (Unit {0}) Unfinished)
+    → MatchResult done (λ _. seat.is_open ≡ false) (λ _. seat.is_open ≡ true) → Shut seat → is_ok done ≡ true
 is_done seat (Ok x) ended closed = refl
 is_done seat (Err f) ended closed = absurd (false≢true (sym closed ∙ ended))
 
 -- one more seat
-tells_more : (before after : List SeatOf) (seat : SeatOf) (b c ok : Bool) → after ≡ before ++ seat ∷ [] → TellsShut b before → (ok ≡ true → Shut seat) → (Shut seat → ok ≡ true)
+tells_more : (before after : List SeatOf) (seat : SeatOf) (b c ok : Bool) → after ≡ before ++ seat ∷ []
+    → TellsShut b before → (ok ≡ true → Shut seat) → (Shut seat → ok ≡ true)
     → (c ≡ true → (b ≡ true) × (ok ≡ true)) → (b ≡ true → ok ≡ true → c ≡ true) → TellsShut c after
 tells_more before after seat b c ok are tells closed done both made = (
   (λ t. let two = both t in All-same Shut after (before ++ seat ∷ []) are (All-push Shut before seat (tells.0 two.0) (closed two.1))),
@@ -38,7 +41,10 @@ loop-handle-preserved g c =
       ends = tt;
       room = search rules;
       threads = grind (arith, common_steps, c.join-seat.ensures.own);
-      done = tells_more c.loop-handle.back.items c.push_reserved.new.self.items seat c.loop-handle.all_done c.if-all_done.all_done (is_ok work) c.push_reserved.ensures.items c.loop-handle.invariant.done (shut seat work ended) (is_done seat work ended)
+      done =
+          tells_more c.loop-handle.back.items c.push_reserved.new.self.items seat c.loop-handle.all_done
+          c.if-all_done.all_done (is_ok work) c.push_reserved.ensures.items c.loop-handle.invariant.done
+          (shut seat work ended) (is_done seat work ended)
           (λ t. elim c.if-all_done.branch [
             | then-all_done w ↦ (w.if-all_done.true, sym w.is_ok-all_done.ensures.value ∙ sym w.all_done-is ∙ t)
             | else-all_done w ↦ absurd (false≢true (sym w.if-all_done.false ∙ sym w.all_done-is ∙ t))

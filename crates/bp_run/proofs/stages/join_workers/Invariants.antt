@@ -8,6 +8,7 @@ invariant-loop-handle g l = record {
   can : (goal.iterator-loop-handle g).can_next l.handle-iterator;
   ends : (goal.iterator-loop-handle g).is_finite l.handle-iterator;
   room : vec_len l.back + into_iter_len l.handle-iterator ≤ vec_capacity l.back;
-  threads : map (λ s. s.thread) l.back.items ++ map (λ h. h.promise.thread) (into_iter_items l.handle-iterator) ≡ map (λ h. h.promise.thread) l.fn.handles.items;
+  threads : map (λ s. s.thread) l.back.items ++ map (λ h. h.promise.thread) (into_iter_items l.handle-iterator)
+      ≡ map (λ h. h.promise.thread) l.fn.handles.items;
   done : TellsShut l.all_done l.back.items;
 }

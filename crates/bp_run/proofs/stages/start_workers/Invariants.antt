@@ -8,5 +8,7 @@ invariant-loop-seat g l = record {
   ends : (goal.iterator-loop-seat g).is_finite l.seat-iterator;
   room : vec_len l.handles + into_iter_len l.seat-iterator ≤ vec_capacity l.handles;
   few : vec_len l.handles + into_iter_len l.seat-iterator ≤ vec_len l.fn.seats;
-  threads : l.all_started ≡ true → map (λ h. h.promise.thread) l.handles.items ++ map (λ s. s.thread) (into_iter_items l.seat-iterator) ≡ map (λ s. s.thread) (into_iter_items l.initial.seat-iterator);
+  threads : l.all_started ≡ true
+      → map (λ h. h.promise.thread) l.handles.items ++ map (λ s. s.thread) (into_iter_items l.seat-iterator)
+      ≡ map (λ s. s.thread) (into_iter_items l.initial.seat-iterator);
 }

@@ -17,4 +17,5 @@ note_block-loop-stmt-preserved t c =
     let decider = c.decision_in.ensures ∙ ap (λ f. decision_in (statement_of f)) c.form-form.ensures in
     let one = noted_one old _ _ _ c.in_ok-push.ensures.items decider in
     let inside = rw c.form-form.ensures at c.in_ok-note_inside.ensures in
-    statement_more c.args.stmts.now c.loop-stmt.stmt-index c.stmt-item.result c.loop-stmt-test.true c.stmt-item.is (map reading_of old) _ _ _ one inside c.loop-stmt.invariant
+    statement_more c.args.stmts.now c.loop-stmt.stmt-index c.stmt-item.result c.loop-stmt-test.true c.stmt-item.is
+    (map reading_of old) _ _ _ one inside c.loop-stmt.invariant

@@ -12,7 +12,8 @@ loop-lexeme-preserved c =
     let l : Lexeme = record { kind = c.in-Some.lexeme.kind; bytes = c.in-Some.lexeme.text.now } in
     let new = c.push_lexeme.new.words.items in
     let next = c.take_own_lexeme.new.text.now in
-    let read = reads_more text before.words.items before.had_gap before.reads_choice before.rest.now before.invariant.reads l new next c.in-Some.ensures.lexeme c.in_ok-push_lexeme.ensures.is in
+    let read = reads_more text before.words.items before.had_gap before.reads_choice before.rest.now
+    before.invariant.reads l new next c.in-Some.ensures.lexeme c.in_ok-push_lexeme.ensures.is in
     let with_gap = subst (λ g. ReadsTo text new g (before.reads_choice || is_choice l.bytes) next) (sym c.is_gap-had_gap.ensures) read in
     record {
       one_line = one_line_after _ _ before.invariant.one_line c.in_ok-push_lexeme.ensures.one_line;
@@ -22,7 +23,8 @@ loop-lexeme-preserved c =
 pub returns-clause-is : goal.returns-clause-is
 returns-clause-is c =
     let before = c.loop-lexeme in
-    let read = reads_all c.args.text.now before.words.items before.had_gap before.reads_choice before.rest.now before.invariant.reads c.in_default.ensures.lexeme in
+    let read = reads_all c.args.text.now before.words.items before.had_gap before.reads_choice before.rest.now
+    before.invariant.reads c.in_default.ensures.lexeme in
     record {
       lexemes = read.lexemes;
       lexemes_are = read.lexemes_are;

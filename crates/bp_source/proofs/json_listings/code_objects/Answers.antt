@@ -21,7 +21,10 @@ returns c = λ stands.
       are = c.in_ok-scenes.ensures;
       each_has_one = scene_count c.args.text.now ps (places_of ps) scenes c.in_ok-scenes.ensures ∙ sym stands.size;
       is = c.in_ok-push_instructions.ensures
-          ∙ ap (λ x. x ++ instruction_objects c.procs-procs.result.now 0 c.args.code.now.instructions c.deref.result.now) (c.in_ok-push_code.ensures ∙ ap (λ x. x ++ code_object c.args.code.now) c.new-out.ensures.items)
+          ∙ ap
+          (λ x. x ++ instruction_objects c.procs-procs.result.now 0 c.args.code.now.instructions c.deref.result.now)
+          (c.in_ok-push_code.ensures ∙ ap (λ x. x ++ code_object c.args.code.now) c.new-out.ensures.items)
           ∙ ap (λ x. code_object c.args.code.now ++ instruction_objects c.procs-procs.result.now 0 c.args.code.now.instructions x) c.deref.ensures.value
-          ∙ ap (λ x. code_object c.args.code.now ++ instruction_objects x 0 c.args.code.now.instructions scenes) (c.procs-procs.ensures.value ∙ ap (λ t. t.procedures) c.tree.ensures.value);
+          ∙ ap (λ x. code_object c.args.code.now ++ instruction_objects x 0 c.args.code.now.instructions scenes)
+          (c.procs-procs.ensures.value ∙ ap (λ t. t.procedures) c.tree.ensures.value);
     }

@@ -3,7 +3,8 @@ use Rattle.bp_code.specs.Flat.{Heading}
 use Rattle.bp_source.specs.JsonListings.{heading_item}
 use Rattle.bp_source.proofs.json_listings.push_headings.Goals as goal
 
-one_more : (hs : List Heading) (n : ℕ) (h : Heading) → n < length hs → flat_map heading_item (take (suc n) hs) ≡ flat_map heading_item (take n hs) ++ heading_item (get_or hs n h)
+one_more : (hs : List Heading) (n : ℕ) (h : Heading) → n < length hs
+    → flat_map heading_item (take (suc n) hs) ≡ flat_map heading_item (take n hs) ++ heading_item (get_or hs n h)
 one_more [] n h within = absurd (omega arith)
 one_more (x ∷ hs) zero h within = append-nil (heading_item x)
 one_more (x ∷ hs) (suc n) h within =

@@ -7,7 +7,8 @@ use Rattle.bp_source.proofs.json_listings.push_instructions.Goals as goal
 pub returns-in_default : goal.returns-in_default
 returns-in_default c =
     let is = c.args.code.now.instructions in
-    without_instruction c.args.procs.now c.loop-number.number is c.args.scenes.now c.loop-number.out.items _ (sym c.get.ensures ∙ ap option_copied c.in_default.is) c.loop-number.invariant
+    without_instruction c.args.procs.now c.loop-number.number is c.args.scenes.now c.loop-number.out.items _
+    (sym c.get.ensures ∙ ap option_copied c.in_default.is) c.loop-number.invariant
 
 pub loop-number-preserved : goal.loop-number-preserved
 loop-number-preserved c =

@@ -5,7 +5,8 @@ use Rattle.bp_source.specs.declared.scenes.Scene.{Scene}
 use Rattle.bp_source.specs.Listings.{line_with, scenes_after, IsSourced, nothing, line}
 use Rattle.bp_source.proofs.listings.sourced_listing.Goals as goal
 
-one_line : (rest next words written : List ℕ) (left after : List Scene) → 0 < length rest → words ≡ first_line rest → next ≡ after_first (λ b. b == 10) rest → after ≡ scenes_after words left
+one_line : (rest next words written : List ℕ) (left after : List Scene) → 0 < length rest → words ≡ first_line rest
+    → next ≡ after_first (λ b. b == 10) rest → after ≡ scenes_after words left
     → IsSourced next after written → IsSourced rest left (line_with words left ++ written)
 one_line rest next words written left after some is_first is_next is_after sourced =
     let scenes = is_after ∙ ap (λ w. scenes_after w left) is_first in
@@ -23,7 +24,8 @@ loop-line-preserved c = λ written sourced.
     let left = c.loop-line.left.now in
     let words = c.in-Some.line.words.now in
     let some : 0 < length rest = omega (arith, c.in-Some.ensures.size) in
-    let from_line = one_line rest c.take_line.new.text.now words written left c.push_listed.new.scenes.now some c.in-Some.ensures.line c.take_line.ensures.rest c.in_ok-push_listed.ensures.left sourced in
+    let from_line = one_line rest c.take_line.new.text.now words written left c.push_listed.new.scenes.now some
+    c.in-Some.ensures.line c.take_line.ensures.rest c.in_ok-push_listed.ensures.left sourced in
     subst (IsSourced c.args.listing.now c.as_slice-left.result.now)
     (sym (append_assoc c.loop-line.out.items (line_with words left) written) ∙ ap (λ x. x ++ written) (sym c.in_ok-push_listed.ensures.line))
     (c.loop-line.invariant (line_with words left ++ written) from_line)

@@ -3,7 +3,8 @@ use Rattle.bp_tree.specs.Ast.{Procedure}
 use Rattle.bp_source.specs.Programs.{procedure_item}
 use Rattle.bp_source.proofs.programs.push_procedures.Goals as goal
 
-one_more : (ps : List Procedure) (n : ℕ) (p : Procedure) → n < length ps → flat_map procedure_item (take (suc n) ps) ≡ flat_map procedure_item (take n ps) ++ procedure_item (get_or ps n p)
+one_more : (ps : List Procedure) (n : ℕ) (p : Procedure) → n < length ps
+    → flat_map procedure_item (take (suc n) ps) ≡ flat_map procedure_item (take n ps) ++ procedure_item (get_or ps n p)
 one_more [] n p h = absurd (omega arith)
 one_more (q ∷ ps) zero p h = append-nil (procedure_item q)
 one_more (q ∷ ps) (suc n) p h =

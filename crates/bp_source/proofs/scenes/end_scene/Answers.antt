@@ -19,7 +19,10 @@ returns c = λ text ps x has name begins.
     record {
       place = c.in_ok-push_bytes.ensures ∙ ap (λ y. y ++ (45 ∷ [])) c.new-place.ensures.items ∙ ap (place_text text) (sym begins);
       statement = subst (λ s. IsStatementAt text x.procedure s words false) (sym begins) end;
-      words = one_line_after _ _ (one_line_after _ _ (rw c.new-words.ensures.items tt) c.in_ok-push_on_one_line.ensures.one_line) c.in_ok-push_on_one_line-2.ensures.one_line;
+      words =
+          one_line_after _ _
+          (one_line_after _ _ (rw c.new-words.ensures.items tt) c.in_ok-push_on_one_line.ensures.one_line)
+          c.in_ok-push_on_one_line-2.ensures.one_line;
       start = sym begins;
       position = ap (option_map (position_at text)) (sym begins);
       procedure = has;

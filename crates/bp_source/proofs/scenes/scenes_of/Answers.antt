@@ -11,7 +11,8 @@ use Rattle.bp_text.specs.Positions.{position_at}
 use Rattle.bp_source.proofs.scenes.scenes_of.Goals.{in-Some, in_default}
 use Rattle.bp_source.proofs.scenes.scenes_of.Goals as goal
 
-made : {E : Type 0} (text : List ℕ) (ps : List Procedure) (x : Place) (scene : Scene) (r : Result Scene E) → r ≡ Ok scene → IfOk r (IsScene text ps x) → IsScene text ps x scene
+made : {E : Type 0} (text : List ℕ) (ps : List Procedure) (x : Place) (scene : Scene) (r : Result Scene E)
+    → r ≡ Ok scene → IfOk r (IsScene text ps x) → IsScene text ps x scene
 made text ps x scene r same is = subst (λ q. IfOk q (IsScene text ps x)) same is
 
 pub loop-start-preserved : goal.loop-start-preserved
@@ -30,17 +31,30 @@ loop-start-preserved c =
           record {
             position = w.position-is ∙ w.position_from-position.ensures ∙ ap (position_at text) (sym w.at-is);
             procedure = w.procedure-is ∙ omega (arith, c.loop-start.invariant.procedure, ends_more items n _ _ c.loop-start-test.true w.in-Some.is);
-            scenes = more_scenes text ps xs n x.place _ _ _ x.at c.loop-start.invariant.scenes c.in_ok-push.ensures.items (made text ps x.place _ _ (sym w.scene-is ∙ c.in_ok-scene.was) (w.statement_scene-scene.ensures ps x.place own x.begins));
+            scenes =
+                more_scenes text ps xs n x.place _ _ _ x.at c.loop-start.invariant.scenes c.in_ok-push.ensures.items
+                (made text ps x.place _ _ (sym w.scene-is ∙ c.in_ok-scene.was)
+                (w.statement_scene-scene.ensures ps x.place own x.begins));
           }
       | in_default w ↦
           let x = place_at xs items n _ _ all c.loop-start-test.true w.in_default.is in
           let number = c.loop-start.invariant.procedure ∙ ap (λ ys. ends (take n ys)) all in
           let own = ap (λ k. slice_get ps k) number ∙ procedure_of ps n x.place x.at in
-          let name = w.name_of.ensures x.place.procedure (ap (λ qs. slice_get qs c.loop-start.procedure) (c.procs-procs.ensures.value ∙ ap (λ t. t.procedures) c.tree.ensures.value) ∙ own) in
+          let name = w.name_of.ensures x.place.procedure (ap (λ qs. slice_get qs c.loop-start.procedure)
+          (c.procs-procs.ensures.value ∙ ap (λ t. t.procedures) c.tree.ensures.value) ∙ own) in
           record {
             position = w.position-is ∙ c.loop-start.invariant.position ∙ ap (position_at text) (sym w.at-is);
-            procedure = w.procedure-is ∙ omega (arith, c.loop-start.invariant.procedure, ends_more items n _ _ c.loop-start-test.true w.in_default.is, few_ends (n + 1) items);
-            scenes = more_scenes text ps xs n x.place _ _ _ x.at c.loop-start.invariant.scenes c.in_ok-push.ensures.items (made text ps x.place _ _ (sym w.scene-is ∙ c.in_ok-scene.was) (w.end_scene-end.ensures text ps x.place own name x.begins));
+            procedure =
+                w.procedure-is ∙ omega (
+                  arith,
+                  c.loop-start.invariant.procedure,
+                  ends_more items n _ _ c.loop-start-test.true w.in_default.is,
+                  few_ends (n + 1) items,
+                );
+            scenes =
+                more_scenes text ps xs n x.place _ _ _ x.at c.loop-start.invariant.scenes c.in_ok-push.ensures.items
+                (made text ps x.place _ _ (sym w.scene-is ∙ c.in_ok-scene.was)
+                (w.end_scene-end.ensures text ps x.place own name x.begins));
           }
     ]
 

@@ -9,4 +9,5 @@ pub returns : goal.returns
 returns c =
     let text = c.args.text.now in
     let ps = c.args.checked.now.procedures in
-    IfOk-weaker c.all_said.result _ _ (λ v said. subst (AreStatements text (places_of ps)) (sym said.texts_are) (words_are text ps (places_of ps) said.scenes said.are)) c.all_said.ensures
+    IfOk-weaker c.all_said.result _ _ (λ v said. subst (AreStatements text (places_of ps)) (sym said.texts_are)
+    (words_are text ps (places_of ps) said.scenes said.are)) c.all_said.ensures

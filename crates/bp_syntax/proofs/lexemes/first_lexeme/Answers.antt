@@ -10,5 +10,7 @@ pub returns-in-Some : goal.returns-in-Some
 returns-in-Some c = unbraced_longest c.args.text.now (Some (c.in-Some.kind, c.in-Some.len)) c.requires.some c.if-first-eq123.false c.in-Some.ensures
 
 pub returns-in-None : goal.returns-in-None
-returns-in-None c =
-    (unbraced_longest c.args.text.now None c.requires.some c.if-first-eq123.false c.in-None.ensures, other_first c.args.text.now c.requires.some c.if-first-eq123.false)
+returns-in-None c = (
+  unbraced_longest c.args.text.now None c.requires.some c.if-first-eq123.false c.in-None.ensures,
+  other_first c.args.text.now c.requires.some c.if-first-eq123.false,
+)

@@ -21,7 +21,8 @@ returns-in_err-scanned-clause-whole c =
 nested_refusal : (c : In-Some) → IsRefusal c.args.text.now (fault.TooNested c.in-Some.at)
 nested_refusal c =
     let slice = ap (λ l. first_too_deep 0 (token_list l)) c.as_slice-tokens.ensures.value in
-    nested_fault c.args.text.now (token_list c.in_ok-scanned.scanned.items) c.in-Some.at (omega arith) c.in_ok-scanned.ensures (sym slice ∙ sym c.in-Some.ensures)
+    nested_fault c.args.text.now (token_list c.in_ok-scanned.scanned.items) c.in-Some.at
+    (omega arith) c.in_ok-scanned.ensures (sym slice ∙ sym c.in-Some.ensures)
 
 pub returns-in-Some-clause-answer : goal.returns-in-Some-clause-answer
 returns-in-Some-clause-answer c = nested_refusal (goal.at.returns-in-Some-clause-answer c).In-Some
@@ -35,22 +36,28 @@ crowd_refusal : (c : In-Some-first_too_many) → IsRefusal c.args.text.now (faul
 crowd_refusal c =
     let flat = ap (λ l. first_too_deep 0 (token_list l)) c.as_slice-tokens.ensures.value in
     let slice = ap (λ l. first_too_many 0 (token_list l)) c.as_slice-tokens.ensures.value in
-    crowd_fault c.args.text.now (token_list c.in_ok-scanned.scanned.items) c.in-Some-first_too_many.at (omega arith) c.in_ok-scanned.ensures (sym flat ∙ sym c.in_default.ensures) (sym slice ∙ sym c.in-Some-first_too_many.ensures)
+    crowd_fault c.args.text.now (token_list c.in_ok-scanned.scanned.items) c.in-Some-first_too_many.at
+    (omega arith) c.in_ok-scanned.ensures (sym flat ∙ sym c.in_default.ensures)
+    (sym slice ∙ sym c.in-Some-first_too_many.ensures)
 
 pub returns-in-Some-first_too_many-clause-answer : goal.returns-in-Some-first_too_many-clause-answer
 returns-in-Some-first_too_many-clause-answer c = crowd_refusal (goal.at.returns-in-Some-first_too_many-clause-answer c).In-Some-first_too_many
 
 pub returns-in-Some-first_too_many-clause-whole : goal.returns-in-Some-first_too_many-clause-whole
 returns-in-Some-first_too_many-clause-whole c =
-    only_answer c.args.text.now (Err (fault.TooManyTokens c.in-Some-first_too_many.at)) (crowd_refusal (goal.at.returns-in-Some-first_too_many-clause-whole c).In-Some-first_too_many)
+    only_answer c.args.text.now (Err (fault.TooManyTokens c.in-Some-first_too_many.at))
+    (crowd_refusal (goal.at.returns-in-Some-first_too_many-clause-whole c).In-Some-first_too_many)
 
 -- the parser's refusal is the text's
-parse_refusal : (c : After-parse) (e : ReadFault) → IsParseFault (token_list c.as_slice-tokens.result.now) (length c.args.text.now) e → IsRefusal c.args.text.now e
+parse_refusal : (c : After-parse) (e : ReadFault)
+    → IsParseFault (token_list c.as_slice-tokens.result.now) (length c.args.text.now) e → IsRefusal c.args.text.now e
 parse_refusal c e f =
     let text = c.args.text.now in
     let ts = token_list c.in_ok-scanned.scanned.items in
     let flat : first_too_deep 0 ts ≡ None = sym (ap (λ l. first_too_deep 0 (token_list l)) c.as_slice-tokens.ensures.value) ∙ sym c.in_default.ensures in
-    let few : first_too_many 0 ts ≡ None = sym (ap (λ l. first_too_many 0 (token_list l)) c.as_slice-tokens.ensures.value) ∙ sym c.in_default-first_too_many.ensures in
+    let few : first_too_many 0 ts ≡ None =
+    sym (ap (λ l. first_too_many 0 (token_list l)) c.as_slice-tokens.ensures.value)
+    ∙ sym c.in_default-first_too_many.ensures in
     parse_fault text ts e (omega arith) c.in_ok-scanned.ensures (none_is_shallow ts flat) (none_is_sparse ts few)
     (subst (λ l. IsParseFault (token_list l) (length text) e) c.as_slice-tokens.ensures.value f)
 
@@ -71,8 +78,12 @@ of_text c =
     let text = c.args.text.now in
     let ts = token_list c.in_ok-scanned.scanned.items in
     let flat : first_too_deep 0 ts ≡ None = sym (ap (λ l. first_too_deep 0 (token_list l)) c.as_slice-tokens.ensures.value) ∙ sym c.in_default.ensures in
-    let few : first_too_many 0 ts ≡ None = sym (ap (λ l. first_too_many 0 (token_list l)) c.as_slice-tokens.ensures.value) ∙ sym c.in_default-first_too_many.ensures in
-    let is : parse_result whole_program ts ≡ Got (program_of c.in_ok-globals.globals c.in_ok-globals.procs) = sym (ap (λ l. parse_result whole_program (token_list l)) c.as_slice-tokens.ensures.value) ∙ c.in_ok-globals.ensures in
+    let few : first_too_many 0 ts ≡ None =
+    sym (ap (λ l. first_too_many 0 (token_list l)) c.as_slice-tokens.ensures.value)
+    ∙ sym c.in_default-first_too_many.ensures in
+    let is : parse_result whole_program ts ≡ Got (program_of c.in_ok-globals.globals c.in_ok-globals.procs) =
+    sym (ap (λ l. parse_result whole_program (token_list l)) c.as_slice-tokens.ensures.value)
+    ∙ c.in_ok-globals.ensures in
     parsed text ts _ (omega arith) c.in_ok-scanned.ensures flat few is
 
 pub invariant_of-result : goal.invariant_of-result

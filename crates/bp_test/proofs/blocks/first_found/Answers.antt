@@ -10,7 +10,9 @@ use Rattle.bp_test.proofs.TallyLemmas.{same_counts, tally_run}
 use Rattle.bp_test.proofs.blocks.first_found.Goals as goal
 
 pub run_once-requires : goal.run_once-requires
-run_once-requires g c = fits_again c.args.code.now c.loop-run.session.code c.loop-run.session.setup c.args.setup.now c.loop-run.invariant.code c.loop-run.invariant.setup c.requires
+run_once-requires g c =
+    fits_again c.args.code.now c.loop-run.session.code c.loop-run.session.setup c.args.setup.now
+    c.loop-run.invariant.code c.loop-run.invariant.setup c.requires
 
 pub loop-run-init : goal.loop-run-init
 loop-run-init g c = record {
@@ -54,21 +56,38 @@ returns-then-is_sought-clause-tallied g c = λ t is.
         number = let count = before.count in let after = c.loop-run.auto.run in omega (arith, count, after);
         below = omega arith;
         clean = before.clean t is;
-        found = sought_run c.args.code.now c.args.setup.now c.args.plan.now.with_deadlock c.args.plan.now.seed c.loop-run.run c.loop-run.session now.next c.run_once.new.history.items _ refl before.code before.setup now.ensures.code now.ensures.setup
-            now.ensures.stands now.ensures.over c.report-report.result c.report-report.ensures c.is_deadlocked-is_deadlocked.result c.is_deadlocked-is_deadlocked.ensures (sym c.is_sought.ensures ∙ c.if-is_sought.true) t is;
-        at = fails_there c.args.code.now c.args.setup.now c.args.plan.now.with_deadlock c.args.plan.now.seed c.loop-run.run c.loop-run.session now.next c.run_once.new.history.items _ refl before.code before.setup now.ensures.code now.ensures.setup
+        found =
+            sought_run c.args.code.now c.args.setup.now c.args.plan.now.with_deadlock c.args.plan.now.seed
+            c.loop-run.run c.loop-run.session now.next c.run_once.new.history.items _ refl before.code before.setup
+            now.ensures.code now.ensures.setup
+            now.ensures.stands now.ensures.over c.report-report.result c.report-report.ensures
+            c.is_deadlocked-is_deadlocked.result c.is_deadlocked-is_deadlocked.ensures
+            (sym c.is_sought.ensures ∙ c.if-is_sought.true) t is;
+        at =
+            fails_there c.args.code.now c.args.setup.now c.args.plan.now.with_deadlock c.args.plan.now.seed
+            c.loop-run.run c.loop-run.session now.next c.run_once.new.history.items _ refl before.code before.setup
+            now.ensures.code now.ensures.setup
             now.ensures.stands t is c.failed_instruction-number.result c.failed_instruction-number.ensures.at c.failed_instruction-number.ensures.none;
-        waiting = waits_there c.args.code.now c.args.setup.now c.args.plan.now.with_deadlock c.args.plan.now.seed c.loop-run.run c.loop-run.session now.next c.run_once.new.history.items _ refl before.code before.setup now.ensures.code now.ensures.setup
+        waiting =
+            waits_there c.args.code.now c.args.setup.now c.args.plan.now.with_deadlock c.args.plan.now.seed
+            c.loop-run.run c.loop-run.session now.next c.run_once.new.history.items _ refl before.code before.setup
+            now.ensures.code now.ensures.setup
             now.ensures.stands t is c.in_ok-waiting.waiting.items c.in_ok-waiting.ensures;
       };
       tallied = tally_run t c.args.setup.now before.earlier run c.loop-run.tally c.add_run.new.self c.run_once.new.reached.items _ (before.tallied t is)
-          (key_is c.args.code.now c.args.setup.now c.args.plan.now.with_deadlock c.args.plan.now.seed c.loop-run.run c.loop-run.session now.next c.run_once.new.history.items _ refl before.code before.setup now.ensures.code now.ensures.setup
+          (key_is c.args.code.now c.args.setup.now c.args.plan.now.with_deadlock c.args.plan.now.seed c.loop-run.run
+          c.loop-run.session now.next c.run_once.new.history.items _ refl before.code before.setup now.ensures.code
+          now.ensures.setup
           t is _ now.ensures.key)
           c.in_ok-add_run.ensures.keys
-          (reaches_is c.args.code.now c.args.setup.now c.args.plan.now.with_deadlock c.args.plan.now.seed c.loop-run.run c.loop-run.session now.next c.run_once.new.history.items _ refl before.code before.setup now.ensures.code now.ensures.setup
+          (reaches_is c.args.code.now c.args.setup.now c.args.plan.now.with_deadlock c.args.plan.now.seed c.loop-run.run
+          c.loop-run.session now.next c.run_once.new.history.items _ refl before.code before.setup now.ensures.code
+          now.ensures.setup
           t is c.loop-run.tally.reached.items c.run_once.new.reached.items now.ensures.marks)
           c.in_ok-add_run.ensures.reached
-          (rw c.as_slice.ensures.value at (c.in_ok-add_run.ensures.counted c.args.setup.now before.earlier (same_counts c.args.setup.now before.earlier c.loop-run.tally _ refl refl refl refl refl refl (before.tallied t is).counted)));
+          (rw c.as_slice.ensures.value at (c.in_ok-add_run.ensures.counted c.args.setup.now before.earlier
+          (same_counts c.args.setup.now before.earlier c.loop-run.tally _ refl refl refl refl refl refl
+          (before.tallied t is).counted)));
     }
 
 pub loop-run-preserved : goal.loop-run-preserved
@@ -86,16 +105,26 @@ loop-run-preserved g c =
       ahead = let within = c.loop-run-test.true in omega (arith, within);
       clean = λ t is. clean_one t c.args.setup.now c.args.plan.now.with_deadlock c.args.plan.now.seed c.args.from before.earlier run (before.clean t is)
           (subst (λ n. IsCleanRun t (setup_of_run c.args.setup.now c.args.plan.now.seed n) c.args.plan.now.with_deadlock run) (omega (arith, count, after))
-          (clean_run c.args.code.now c.args.setup.now c.args.plan.now.with_deadlock c.args.plan.now.seed c.loop-run.run c.loop-run.session now.next c.run_once.new.history.items _ refl before.code before.setup now.ensures.code now.ensures.setup
-          now.ensures.stands now.ensures.over c.report-report.result c.report-report.ensures c.is_deadlocked-is_deadlocked.result c.is_deadlocked-is_deadlocked.ensures (sym c.is_sought.ensures ∙ c.if-is_sought.false) t is));
+          (clean_run c.args.code.now c.args.setup.now c.args.plan.now.with_deadlock c.args.plan.now.seed c.loop-run.run
+          c.loop-run.session now.next c.run_once.new.history.items _ refl before.code before.setup now.ensures.code
+          now.ensures.setup
+          now.ensures.stands now.ensures.over c.report-report.result c.report-report.ensures
+          c.is_deadlocked-is_deadlocked.result c.is_deadlocked-is_deadlocked.ensures
+          (sym c.is_sought.ensures ∙ c.if-is_sought.false) t is));
       tallied = λ t is. tally_run t c.args.setup.now before.earlier run c.loop-run.tally c.add_run.new.self c.run_once.new.reached.items _ (before.tallied t is)
-          (key_is c.args.code.now c.args.setup.now c.args.plan.now.with_deadlock c.args.plan.now.seed c.loop-run.run c.loop-run.session now.next c.run_once.new.history.items _ refl before.code before.setup now.ensures.code now.ensures.setup
+          (key_is c.args.code.now c.args.setup.now c.args.plan.now.with_deadlock c.args.plan.now.seed c.loop-run.run
+          c.loop-run.session now.next c.run_once.new.history.items _ refl before.code before.setup now.ensures.code
+          now.ensures.setup
           t is _ now.ensures.key)
           c.in_ok-add_run.ensures.keys
-          (reaches_is c.args.code.now c.args.setup.now c.args.plan.now.with_deadlock c.args.plan.now.seed c.loop-run.run c.loop-run.session now.next c.run_once.new.history.items _ refl before.code before.setup now.ensures.code now.ensures.setup
+          (reaches_is c.args.code.now c.args.setup.now c.args.plan.now.with_deadlock c.args.plan.now.seed c.loop-run.run
+          c.loop-run.session now.next c.run_once.new.history.items _ refl before.code before.setup now.ensures.code
+          now.ensures.setup
           t is c.loop-run.tally.reached.items c.run_once.new.reached.items now.ensures.marks)
           c.in_ok-add_run.ensures.reached
-          (rw c.as_slice.ensures.value at (c.in_ok-add_run.ensures.counted c.args.setup.now before.earlier (same_counts c.args.setup.now before.earlier c.loop-run.tally _ refl refl refl refl refl refl (before.tallied t is).counted)));
+          (rw c.as_slice.ensures.value at (c.in_ok-add_run.ensures.counted c.args.setup.now before.earlier
+          (same_counts c.args.setup.now before.earlier c.loop-run.tally _ refl refl refl refl refl refl
+          (before.tallied t is).counted)));
     }
 
 pub returns-clause-end : goal.returns-clause-end

@@ -18,4 +18,5 @@ returns c = λ t h is stands.
     let low = c.loop-thread.auto in
     let end = c.threads-thread-end.ensures in
     let same = ap threads c.setup.ensures in
-    subst (λ n. IsEndKey t (configuration_after t c.args.session.now.setup h) c.args.steps n c.loop-thread.key) (omega (arith, past, low, end, same)) (c.loop-thread.invariant t h is stands)
+    subst (λ n. IsEndKey t (configuration_after t c.args.session.now.setup h) c.args.steps n c.loop-thread.key)
+    (omega (arith, past, low, end, same)) (c.loop-thread.invariant t h is stands)

@@ -16,7 +16,10 @@ loop-thread-init c =
       stands = λ t is. subst (Stands t c.args.session.now) none (c.requires.stands t is);
       code = refl;
       setup = refl;
-      marks = λ t is. subst (λ h. MarksGrow (place_of t) (IsTried t c.args.session.now.setup h) c.args.reached.now.items c.args.reached.now.items) none (none_tried t c.args.session.now.setup c.args.reached.now.items);
+      marks = λ t is.
+          subst
+          (λ h. MarksGrow (place_of t) (IsTried t c.args.session.now.setup h) c.args.reached.now.items c.args.reached.now.items)
+          none (none_tried t c.args.session.now.setup c.args.reached.now.items);
       key = λ t is. subst (λ h. IsKey t c.args.session.now.setup h FIRST_KEY) none no_call;
     }
 
@@ -28,12 +31,14 @@ returns-in_default-clause-over c = λ t is.
 pub loop-thread-smaller : goal.loop-thread-smaller
 loop-thread-smaller c =
     let of_some = subst IsOfProgram (sym (c.play.ensures.kept.0 ∙ c.loop-thread.invariant.code)) c.requires.program in
-    smaller c.loop-thread.session c.play.new.session c.loop-thread.history.items c.play.new.history.items c.play.ensures.kept.1 of_some c.in_ok-reply.ensures.stands c.in_ok-reply.ensures.longer
+    smaller c.loop-thread.session c.play.new.session c.loop-thread.history.items c.play.new.history.items
+    c.play.ensures.kept.1 of_some c.in_ok-reply.ensures.stands c.in_ok-reply.ensures.longer
 
 pub returns-then-eq-clause-marks : goal.returns-then-eq-clause-marks
 returns-then-eq-clause-marks c = λ t is.
     let was = subst (λ k. StandsFor k t) c.play.ensures.kept.0 is in
-    marks_of_call t c.loop-thread.session.setup c.play.new.session.setup c.loop-thread.history.items c.play.new.history.items _ _ _ c.args.reached.now.items c.loop-thread.reached.items c.reach.new.reached.items
+    marks_of_call t c.loop-thread.session.setup c.play.new.session.setup c.loop-thread.history.items
+    c.play.new.history.items _ _ _ c.args.reached.now.items c.loop-thread.reached.items c.reach.new.reached.items
     c.play.ensures.kept.1 c.in_ok-reply.ensures.grown
     (c.next_number-number.ensures t c.loop-thread.history.items was (c.loop-thread.invariant.stands t was))
     c.reach.ensures (c.loop-thread.invariant.marks t was)
@@ -45,7 +50,8 @@ loop-thread-preserved c = record {
   setup = c.play.ensures.kept.1 ∙ c.loop-thread.invariant.setup;
   marks = λ t is.
       let was = subst (λ k. StandsFor k t) c.play.ensures.kept.0 is in
-      marks_of_call t c.loop-thread.session.setup c.play.new.session.setup c.loop-thread.history.items c.play.new.history.items _ _ _ c.args.reached.now.items c.loop-thread.reached.items c.reach.new.reached.items
+      marks_of_call t c.loop-thread.session.setup c.play.new.session.setup c.loop-thread.history.items
+      c.play.new.history.items _ _ _ c.args.reached.now.items c.loop-thread.reached.items c.reach.new.reached.items
       c.play.ensures.kept.1 c.in_ok-reply.ensures.grown
       (c.next_number-number.ensures t c.loop-thread.history.items was (c.loop-thread.invariant.stands t was))
       c.reach.ensures (c.loop-thread.invariant.marks t was);

@@ -11,7 +11,8 @@ pub returns-clause-marks : goal.returns-clause-marks
 returns-clause-marks c = λ t is.
     let s = c.follow.new.session.setup in
     let h = c.follow.new.history.items in
-    more_marks (place_of t) (IsTried t s h) (IsWaitedAt t s h) c.args.reached.now.items c.follow.new.reached.items (c.in_ok-steps.ensures.marks t is) c.reach_waiting.new.reached.items
+    more_marks (place_of t) (IsTried t s h) (IsWaitedAt t s h) c.args.reached.now.items c.follow.new.reached.items
+    (c.in_ok-steps.ensures.marks t is) c.reach_waiting.new.reached.items
     (c.reach_waiting.ensures t h is (c.in_ok-steps.ensures.stands t is))
 
 pub returns-clause-key : goal.returns-clause-key

@@ -28,6 +28,8 @@ pub returns : goal.returns
 returns c = λ t is.
     let setup = c.with_seed-setup.ensures ∙ ap {A = SetupOf} (λ y. record y { seed = None }) c.in_ok-try_copy.ensures in
     let search = c.in_ok-search.search in
-    let driven = leads_to c.args.code.now c.args.setup.now _ c.in_ok-new.ensures.kept.0 (c.in_ok-new.ensures.kept.1 ∙ setup) search c.in_ok-search.ensures t is in
-    shrunk_of t c.args.setup.now c.args.history.now c.args.report.now c.args.end (c.requires.report t is) search c.in_ok-search.ensures.end c.in_ok-search.ensures.no_more driven
+    let driven = leads_to c.args.code.now c.args.setup.now _ c.in_ok-new.ensures.kept.0
+    (c.in_ok-new.ensures.kept.1 ∙ setup) search c.in_ok-search.ensures t is in
+    shrunk_of t c.args.setup.now c.args.history.now c.args.report.now c.args.end
+    (c.requires.report t is) search c.in_ok-search.ensures.end c.in_ok-search.ensures.no_more driven
     c.in_ok-shrunk.shrunk (subst (λ s. IsShrunkOf t s search c.in_ok-shrunk.shrunk) setup (c.in_ok-shrunk.ensures t is))

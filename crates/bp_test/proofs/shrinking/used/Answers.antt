@@ -24,16 +24,22 @@ returns c = λ t is.
     record {
       setup = setup;
       fine = (c.in_ok-setup.ensures t is).1;
-      legal = subst (λ g. IsLegal t own g) (sym items) (subst (λ x. IsLegal t x (granted_calls h)) (sym setup) (granted_legal t s k h each back driven.legal within));
+      legal =
+          subst (λ g. IsLegal t own g) (sym items)
+          (subst (λ x. IsLegal t x (granted_calls h)) (sym setup) (granted_legal t s k h each back driven.legal within));
       report = record {
         outcome = driven.report.outcome ∙ sym (ap outcome_of items ∙ same_outcome h);
         calls = ap length c.as_slice-calls.ensures.value;
         left_open = c.open_lines.ensures ∙ ap (open_lines own) c.as_slice-calls.ensures.value;
-        contexts = subst (λ g. IsLeastWithin k (granted_threads g)) (sym items) (subst (λ ts. IsLeastWithin k ts) (sym (granted_same t s k h each back driven.legal within)) driven.report.contexts);
+        contexts =
+            subst (λ g. IsLeastWithin k (granted_threads g)) (sym items)
+            (subst (λ ts. IsLeastWithin k ts) (sym (granted_same t s k h each back driven.legal within)) driven.report.contexts);
       };
       steps = ap granted_calls items ∙ granted_again h ∙ sym items;
       outcome = ap outcome_of items ∙ same_outcome h;
-      ends = subst (λ g. IsEnd t own g end) (sym items) (subst (λ x. IsEnd t x (granted_calls h) end) (sym setup) (granted_end t s k h each back driven.legal within end driven.ends));
+      ends =
+          subst (λ g. IsEnd t own g end) (sym items) (subst (λ x. IsEnd t x (granted_calls h) end) (sym setup)
+          (granted_end t s k h each back driven.legal within end driven.ends));
       calls = let few = fewer_calls h in let sized = ap length items in omega (arith, few, sized);
       contexts = λ n whole. driven.report.contexts.least n whole.within;
     }

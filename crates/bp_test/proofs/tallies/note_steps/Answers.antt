@@ -20,4 +20,6 @@ loop-call-preserved c =
     ]
 
 pub returns : goal.returns
-returns c = subst (λ g. MarksGrow (λ i. Some i) (HasStep g) c.args.stepped.now.items c.loop-call.stepped.items) (take_all c.loop-call.call-index c.args.history.now c.loop-call-test.false) c.loop-call.invariant
+returns c =
+    subst (λ g. MarksGrow (λ i. Some i) (HasStep g) c.args.stepped.now.items c.loop-call.stepped.items)
+    (take_all c.loop-call.call-index c.args.history.now c.loop-call-test.false) c.loop-call.invariant

@@ -44,5 +44,6 @@ loop-from-preserved g c = record {
       let tally = c.first_of.new.tally in
       let after = after_wave t s p.with_deadlock p.seed from end wave.0.0 was.runs was.first.0 was.first.1 found tally wave.1 in
       let none = none_of found (sym c.is_some.ensures ∙ c.if-is_some.false) in
-      subst (λ n. IsTallied t s p.with_deadlock p.seed 0 n None tally) c.if-end-next.false (subst (λ o. IsTallied t s p.with_deadlock p.seed 0 end o tally) none after);
+      subst (λ n. IsTallied t s p.with_deadlock p.seed 0 n None tally) c.if-end-next.false
+      (subst (λ o. IsTallied t s p.with_deadlock p.seed 0 end o tally) none after);
 }

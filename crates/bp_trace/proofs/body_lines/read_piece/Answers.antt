@@ -13,7 +13,9 @@ returns-then-has_byte c =
     let read = rw (c.requires.empty, c.text_from-symbols.ensures, c.digit_count.ensures.value) at c.in_ok-size.ensures in
     let ended = rw (c.text_from-symbols.ensures, c.digit_count.ensures.value) at (c.has_byte.ensures.0 c.if-has_byte.true) in
     let other : c.args.last ≢ Some c.in-Some.thread = search rules in
-    rw c.digit_count-then-has_byte.ensures.value (has_piece c.args.threads c.args.last c.args.text.now c.requires.few c.in-Some.thread c.in-Some.ensures c.read_symbols.new.calls.items c.in_ok-size.size read other c.if-size-gt0.true ended)
+    rw c.digit_count-then-has_byte.ensures.value (has_piece c.args.threads c.args.last c.args.text.now c.requires.few
+    c.in-Some.thread c.in-Some.ensures c.read_symbols.new.calls.items c.in_ok-size.size read other
+    c.if-size-gt0.true ended)
 
 pub returns-else-size-gt0 : goal.returns-else-size-gt0
 returns-else-size-gt0 c =

@@ -15,7 +15,8 @@ pub write_with_open_lines-requires : goal.write_with_open_lines-requires
 write_with_open_lines-requires g c =
     let session = c.play.new.session in
     let of_some = subst IsOfProgram (sym (c.play.ensures.kept.0 ∙ c.in_ok-session.ensures.kept.0)) c.is_of_a_program.ensures in
-    let open_of = same_open session c.in_ok-calls.calls.items of_some c.in_ok-calls.ensures.stands c.report-report.result.left_open (λ t h stands. (c.report-report.ensures t h stands).left_open) in
+    let open_of = same_open session c.in_ok-calls.calls.items of_some c.in_ok-calls.ensures.stands
+    c.report-report.result.left_open (λ t h stands. (c.report-report.ensures t h stands).left_open) in
     rw c.as_slice.ensures.value (rw (c.play.ensures.kept.1 ∙ c.in_ok-session.ensures.kept.1) at open_of)
 
 pub returns-in_err-calls : goal.returns-in_err-calls

@@ -16,7 +16,8 @@ returns-then-count-eq0 c =
 pub returns-then-has_byte : goal.returns-then-has_byte
 returns-then-has_byte c =
     let run = c.digit_run-count.ensures in
-    no_field_of_zero c.args.byte c.requires c.args.text.now c.digit_run-count.result run.within run.digits run.ends c.if-count-gt1.true (c.has_byte-then-count-gt1.ensures.0 c.if-has_byte.true)
+    no_field_of_zero c.args.byte c.requires c.args.text.now c.digit_run-count.result run.within run.digits run.ends
+    c.if-count-gt1.true (c.has_byte-then-count-gt1.ensures.0 c.if-has_byte.true)
 
 pub returns : goal.returns
 returns c =

@@ -8,14 +8,16 @@ use Rattle.bp_trace.proofs.end_lines.end_at.Goals as goal
 
 pub returns-in-None : goal.returns-in-None
 returns-in-None c =
-    let word : c.args.text.now ≡ codes "end " ++ drop 4 c.args.text.now = (starts_is Decides-eqb c.args.text.now (codes "end ") c.starts_with.result c.starts_with.ensures.value).0 c.if-not-starts_with.false in
+    let word : c.args.text.now ≡ codes "end " ++ drop 4 c.args.text.now = (starts_is Decides-eqb c.args.text.now
+    (codes "end ") c.starts_with.result c.starts_with.ensures.value).0 c.if-not-starts_with.false in
     let first = rw c.text_from.ensures at c.in-Some.ensures in
     let none = rw c.text_from-2.ensures at c.in-None.ensures in
     no_second c.args.text.now word c.in-Some.calls first none
 
 pub returns-in-Some-decimal_at : goal.returns-in-Some-decimal_at
 returns-in-Some-decimal_at c =
-    let word : c.args.text.now ≡ codes "end " ++ drop 4 c.args.text.now = (starts_is Decides-eqb c.args.text.now (codes "end ") c.starts_with.result c.starts_with.ensures.value).0 c.if-not-starts_with.false in
+    let word : c.args.text.now ≡ codes "end " ++ drop 4 c.args.text.now = (starts_is Decides-eqb c.args.text.now
+    (codes "end ") c.starts_with.result c.starts_with.ensures.value).0 c.if-not-starts_with.false in
     let first = rw c.text_from.ensures at c.in-Some.ensures in
     let second = rw c.text_from-2.ensures at c.in-Some-decimal_at.ensures in
     has_end c.args.text.now word c.in-Some.calls first c.in-Some-decimal_at.left_open second

@@ -9,4 +9,5 @@ returns-in-None c = no_line c.args.word.now c.args.text.now c.in-Some.line.now c
 
 pub returns-in-Some-cut_line : goal.returns-in-Some-cut_line
 returns-in-Some-cut_line c =
-    has_field c.args.word.now c.args.text.now c.in-Some.line.now c.in-Some.ensures c.in-Some-cut_line.value.now c.in-Some-cut_line.rest.now c.in-Some-cut_line.ensures
+    has_field c.args.word.now c.args.text.now c.in-Some.line.now c.in-Some.ensures c.in-Some-cut_line.value.now
+    c.in-Some-cut_line.rest.now c.in-Some-cut_line.ensures

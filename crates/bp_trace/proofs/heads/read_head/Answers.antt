@@ -52,7 +52,8 @@ returns-in_default-number_at-2 c =
     let init = one_more text v es [] (init_line bits) settings limits entries is_init in
     let contexts = one_more text v es (init_line bits ∷ []) (contexts_line k) limits last_two init is_contexts.parts in
     let many = length-map c.in_ok-entries.entries.items (λ n. n.now) in
-    stops_at_calls text v es last_two (c.len.result + 2 + 2) bits k is_contexts.fits contexts c.in_default-number_at-2.ensures (omega (arith, many, c.len.ensures))
+    stops_at_calls text v es last_two (c.len.result + 2 + 2) bits k is_contexts.fits contexts
+    c.in_default-number_at-2.ensures (omega (arith, many, c.len.ensures))
 
 pub returns-in_default-seed_at : goal.returns-in_default-seed_at
 returns-in_default-seed_at c =
@@ -74,7 +75,8 @@ returns-in_default-seed_at c =
     let contexts = one_more text v es (init_line bits ∷ []) (contexts_line k) limits last_two init is_contexts.parts in
     let calls = one_more text v es (init_line bits ∷ contexts_line k ∷ []) (calls_line q) last_two last contexts is_calls.parts in
     let many = length-map c.in_ok-entries.entries.items (λ n. n.now) in
-    stops_at_seed text v es last (c.len.result + 2 + 3) bits k is_contexts.fits q is_calls.fits calls c.in_default-seed_at.ensures (omega (arith, many, c.len.ensures))
+    stops_at_seed text v es last (c.len.result + 2 + 3) bits k is_contexts.fits q is_calls.fits calls
+    c.in_default-seed_at.ensures (omega (arith, many, c.len.ensures))
 
 pub returns : goal.returns
 returns c =
@@ -98,7 +100,8 @@ returns c =
     let init = one_more text v es [] (init_line bits) settings limits entries is_init in
     let contexts = one_more text v es (init_line bits ∷ []) (contexts_line k) limits last_two init is_contexts.parts in
     let calls = one_more text v es (init_line bits ∷ contexts_line k ∷ []) (calls_line q) last_two last contexts is_calls.parts in
-    let whole = one_more text v es (init_line bits ∷ contexts_line k ∷ calls_line q ∷ []) (field_line (codes "seed ") (seed_word seed)) last rest calls is_seed.parts in
+    let whole = one_more text v es (init_line bits ∷ contexts_line k ∷ calls_line q ∷ [])
+    (field_line (codes "seed ") (seed_word seed)) last rest calls is_seed.parts in
     let s : SetupOf = setup_of es bits k q seed in
     let many = length-map c.in_ok-entries.entries.items (λ n. n.now) in
     record {

@@ -10,4 +10,5 @@ returns-in_default c = no_seed c.args.text.now c.in_default.ensures
 pub returns-in-None : goal.returns-in-None
 returns-in-None c =
     let is_word = slice_eq-Decides Decides-eqb _ _ _ c.eq.ensures in
-    no_seed_word c.args.text.now c.in-Some.word.now c.in-Some.rest.now c.in-Some.ensures (λ e. let same = is_word.1 (e ∙ sym c.as_slice.ensures) in absurd (cc (same, c.if-eq.false))) c.in-None.ensures
+    no_seed_word c.args.text.now c.in-Some.word.now c.in-Some.rest.now c.in-Some.ensures
+    (λ e. let same = is_word.1 (e ∙ sym c.as_slice.ensures) in absurd (cc (same, c.if-eq.false))) c.in-None.ensures

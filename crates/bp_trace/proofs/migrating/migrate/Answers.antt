@@ -6,7 +6,8 @@ use Rattle.bp_trace.proofs.migrating.migrate.Goals as goal
 pub write_with_open_lines-requires : goal.write_with_open_lines-requires
 write_with_open_lines-requires g c =
     let replayed = c.in_ok-replayed.replayed in
-    let same = same_number c.args.code.now replayed.report.left_open (open_lines replayed.setup replayed.history.items) c.is_of_a_program.ensures (λ t is. (c.in_ok-replayed.ensures t is).report.left_open) in
+    let same = same_number c.args.code.now replayed.report.left_open (open_lines replayed.setup replayed.history.items)
+    c.is_of_a_program.ensures (λ t is. (c.in_ok-replayed.ensures t is).report.left_open) in
     rw c.as_slice.ensures.value same
 
 pub returns-in_err-write_with_open_lines : goal.returns-in_err-write_with_open_lines

@@ -20,8 +20,10 @@ returns-in_err-write_symbol g c =
     let x = get_or h i none in
     let p = err_from_is_err_and c.from_residual.result c.from_residual.ensures.1 in
     let part = rw c.loop-call.invariant.last at c.in_err-write_symbol.ensures in
-    rw p.1 (subst (AppendsPart (g.W.Write.contents c.args.out.now) (g.W.Write.contents c.write_symbol.new.out)) (sym (symbols_at h i none c.loop-call-test.true))
-    (AppendsPart_within _ _ _ (symbols_behind None (take i h)) (symbol_behind (last_of None (take i h)) x) (symbols_behind (Some x.thread) (drop (i + 1) h)) c.loop-call.invariant.written part))
+    rw p.1 (subst (AppendsPart (g.W.Write.contents c.args.out.now) (g.W.Write.contents c.write_symbol.new.out))
+    (sym (symbols_at h i none c.loop-call-test.true))
+    (AppendsPart_within _ _ _ (symbols_behind None (take i h)) (symbol_behind (last_of None (take i h)) x)
+    (symbols_behind (Some x.thread) (drop (i + 1) h)) c.loop-call.invariant.written part))
 
 pub loop-call-preserved : goal.loop-call-preserved
 loop-call-preserved g c =
@@ -30,6 +32,9 @@ loop-call-preserved g c =
     let all = rw c.loop-call.invariant.last at c.in_ok-write_symbol.ensures in
     record {
       last = last_more h i none c.loop-call-test.true;
-      written = subst (Appends (g.W.Write.contents c.args.out.now) (g.W.Write.contents c.write_symbol.new.out)) (sym (symbols_more h i none c.loop-call-test.true))
-          (Appends-trans _ _ _ (symbols_behind None (take i h)) (symbol_behind (last_of None (take i h)) (get_or h i none)) c.loop-call.invariant.written all.grown);
+      written =
+          subst (Appends (g.W.Write.contents c.args.out.now) (g.W.Write.contents c.write_symbol.new.out))
+          (sym (symbols_more h i none c.loop-call-test.true))
+          (Appends-trans _ _ _ (symbols_behind None (take i h))
+          (symbol_behind (last_of None (take i h)) (get_or h i none)) c.loop-call.invariant.written all.grown);
     }

@@ -14,7 +14,9 @@ returns-in_err-judge-clause-refused g c = λ t is.
     let stands = (before.played t is_kept).0 in
     let playable = playable_of t c.loop-call.session c.args.session.now.setup c.loop-call.played.history.items before.setup stands in
     let refused = rw before.setup at (c.in_err-judge.ensures.refused t c.loop-call.played.history.items is_kept stands refl) in
-    rw (p.1, p.2) (line_refused t c.args.session.now.setup c.args.played.now.history.items c.loop-call.played.history.items c.args.calls.now c.loop-call.call-index _ c.loop-call-test.true before.history c.args.n c.in_err-judge.field-0.0 playable refused)
+    rw (p.1, p.2) (line_refused t c.args.session.now.setup c.args.played.now.history.items
+    c.loop-call.played.history.items c.args.calls.now c.loop-call.call-index _ c.loop-call-test.true before.history
+    c.args.n c.in_err-judge.field-0.0 playable refused)
 
 pub loop-call-preserved : goal.loop-call-preserved
 loop-call-preserved g c =
@@ -26,14 +28,17 @@ loop-call-preserved g c =
           let old = before.played t is_kept in
           let rows = after.printed t c.loop-call.played.history.items is_kept old.0 in (
             rw (sym after.history) at (after.stands t c.loop-call.played.history.items is_kept old.0),
-            rw (sym c.judge.ensures.kept.1) at (played_more t c.loop-call.session.setup c.loop-call.played.history.items c.judge.new.played.history.items _ _ _ after.history old.1 rows),
+            rw (sym c.judge.ensures.kept.1) at (played_more t c.loop-call.session.setup c.loop-call.played.history.items
+                c.judge.new.played.history.items _ _ _ after.history old.1 rows),
           );
       watched = λ t is first seen.
           let is_kept = subst (λ k. StandsFor k t) (sym before.code) is in
           let stands = (before.played t is_kept).0 in
           let now = rw (sym before.setup) at (before.watched t is first seen) in
           rw (sym after.history, before.setup) at (after.watched first t c.loop-call.played.history.items is_kept stands now);
-      history = history_more c.args.played.now.history.items c.loop-call.played.history.items c.judge.new.played.history.items c.args.calls.now c.loop-call.call-index _ c.loop-call-test.true before.history after.history;
+      history =
+          history_more c.args.played.now.history.items c.loop-call.played.history.items c.judge.new.played.history.items
+          c.args.calls.now c.loop-call.call-index _ c.loop-call-test.true before.history after.history;
       code = c.judge.ensures.kept.0 ∙ before.code;
       setup = c.judge.ensures.kept.1 ∙ before.setup;
     }

@@ -10,7 +10,13 @@ use Rattle.bp_trace.proofs.playing.play.Goals as goal
 pub returns-in_default-clause-body : goal.returns-in_default-clause-body
 returns-in_default-clause-body g c =
     let before = c.loop-calls.invariant in
-    let none = rw (c.in_default.is, c.threads.ensures, c.last_thread-last.ensures, c.as_slice.ensures.value, c.text_from-rest.ensures) at c.in_ok-found.ensures in
+    let none = rw (
+      c.in_default.is,
+      c.threads.ensures,
+      c.last_thread-last.ensures,
+      c.as_slice.ensures.value,
+      c.text_from-rest.ensures,
+    ) at c.in_ok-found.ensures in
     record {
       within = before.within;
       parts = before.parts;
@@ -34,7 +40,8 @@ returns-in_err-judge_line-clause-refused g c = λ t is.
     let same = before.setup ∙ c.requires.setup in
     let playable = playable_of t c.loop-calls.session c.args.setup.now c.loop-calls.played.history.items same (before.played t is_kept).0 in
     let refused = rw (same, c.as_slice-in-loop-calls.ensures.value) at (c.in_err-judge_line.ensures.refused t is_kept) in
-    rw (p.1, p.2) (body_refused c.args.version _ c.args.first c.args.text.now c.loop-calls.played.history.items c.loop-calls.size c.loop-calls.line before.within before.parts before.number
+    rw (p.1, p.2) (body_refused c.args.version _ c.args.first c.args.text.now c.loop-calls.played.history.items
+    c.loop-calls.size c.loop-calls.line before.within before.parts before.number
     t c.args.setup.now refl playable c.body_line_at.new.calls.items c.in-Some.more at c.in_err-judge_line.field-0.0 refused)
 
 pub loop-calls-preserved : goal.loop-calls-preserved
@@ -52,10 +59,18 @@ loop-calls-preserved g c =
           let same = before.setup ∙ c.requires.setup in
           let seen = rw same at (c.in_ok-judge_line.ensures.watched t is_kept first) in
           seen (before.watched t is first begun);
-      within = next_within c.args.version _ c.args.first c.args.text.now old c.loop-calls.size c.loop-calls.line before.within before.parts before.number calls new c.in-Some.more at after;
-      parts = next_parts c.args.version _ c.args.first c.args.text.now old c.loop-calls.size c.loop-calls.line before.within before.parts before.number calls new c.in-Some.more at after;
-      number = next_number c.args.version _ c.args.first c.args.text.now old c.loop-calls.size c.loop-calls.line before.within before.parts before.number calls new c.in-Some.more at after;
-      few = next_few c.args.version _ c.args.first c.args.text.now old c.loop-calls.size c.loop-calls.line before.within before.parts before.number calls new c.in-Some.more at after before.few;
+      within =
+          next_within c.args.version _ c.args.first c.args.text.now old c.loop-calls.size c.loop-calls.line
+          before.within before.parts before.number calls new c.in-Some.more at after;
+      parts =
+          next_parts c.args.version _ c.args.first c.args.text.now old c.loop-calls.size c.loop-calls.line before.within
+          before.parts before.number calls new c.in-Some.more at after;
+      number =
+          next_number c.args.version _ c.args.first c.args.text.now old c.loop-calls.size c.loop-calls.line
+          before.within before.parts before.number calls new c.in-Some.more at after;
+      few =
+          next_few c.args.version _ c.args.first c.args.text.now old c.loop-calls.size c.loop-calls.line before.within
+          before.parts before.number calls new c.in-Some.more at after before.few;
       code = c.judge_line.ensures.kept.0 ∙ before.code;
       setup = c.judge_line.ensures.kept.1 ∙ before.setup;
     }

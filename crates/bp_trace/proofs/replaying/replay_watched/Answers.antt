@@ -13,7 +13,8 @@ returns-in-Err g c = λ t is.
     let at = c.in_ok-head.ensures in
     let head = c.in_ok-head.head in
     let refused = c.in-Err.ensures t is in
-    rw c.replay_fault_of_setup.ensures (setup_refused t c.args.text.now c.if-text-gt-MAX_TRACE.false head.version (setup_of_head head) at.rest at.has at.parts c.in-Err.fault refused)
+    rw c.replay_fault_of_setup.ensures (setup_refused t c.args.text.now c.if-text-gt-MAX_TRACE.false head.version
+    (setup_of_head head) at.rest at.has at.parts c.in-Err.fault refused)
 
 pub overflow_add-first : goal.overflow_add-first
 overflow_add-first g c =
@@ -36,7 +37,8 @@ returns-in_err-body g c = λ t is.
     let fine = made.1 in
     let is_kept = subst (λ k. StandsFor k t) (sym c.in_ok-session.ensures.kept.0) is in
     let refused = rw c.text_from-rest.ensures at (c.in_err-body.ensures.refused t is_kept) in
-    rw (p.1, p.2) (body_refuses t c.args.text.now c.if-text-gt-MAX_TRACE.false head.version c.in-Ok.setup _ read.has read.parts fine (head.lines + 1) read.first c.in_err-body.field-0.0 refused)
+    rw (p.1, p.2) (body_refuses t c.args.text.now c.if-text-gt-MAX_TRACE.false head.version c.in-Ok.setup _ read.has
+    read.parts fine (head.lines + 1) read.first c.in_err-body.field-0.0 refused)
 
 pub judge_end-requires : goal.judge_end-requires
 judge_end-requires g c =
@@ -59,7 +61,9 @@ returns-in_err-judge_end g c = λ t is.
     let playable = playable_of t c.play.new.session c.in-Ok.setup h c.play.ensures.kept.1 played.0 in
     let report = rw c.play.ensures.kept.1 at (c.report-report.ensures t h played.0) in
     let refused = rw (c.text_from-end.ensures, c.text_from-rest.ensures) at c.in_err-judge_end.ensures in
-    rw (p.1, p.2) (end_refuses t c.args.text.now c.if-text-gt-MAX_TRACE.false head.version c.in-Ok.setup _ read.has read.parts fine (head.lines + 1) read.first c.in_ok-body.body body playable c.report-report.result report c.in_err-judge_end.field-0.0 refused)
+    rw (p.1, p.2) (end_refuses t c.args.text.now c.if-text-gt-MAX_TRACE.false head.version c.in-Ok.setup _ read.has
+    read.parts fine (head.lines + 1) read.first c.in_ok-body.body body playable c.report-report.result report
+    c.in_err-judge_end.field-0.0 refused)
 
 pub returns : goal.returns
 returns g c = λ t is.
@@ -78,7 +82,9 @@ returns g c = λ t is.
     record {
       replayed = record {
         version = head.version;
-        trace = is_trace t c.args.text.now c.if-text-gt-MAX_TRACE.false head.version c.in-Ok.setup _ read.has read.parts fine (head.lines + 1) read.first c.in_ok-body.body body playable c.report-report.result report end;
+        trace =
+            is_trace t c.args.text.now c.if-text-gt-MAX_TRACE.false head.version c.in-Ok.setup _ read.has read.parts
+            fine (head.lines + 1) read.first c.in_ok-body.body body playable c.report-report.result report end;
         printed = rw c.play.ensures.kept.1 at played.1;
         report = report;
       };

@@ -29,4 +29,5 @@ loop-bit-preserved g c =
 pub returns : goal.returns
 returns g c =
     let none : slice_get c.args.setup.now.init c.loop-bit.n ≡ None = cc in
-    all_digits c.args.setup.now.init c.loop-bit.n (g.W.Write.contents c.args.out.now) (g.W.Write.contents c.loop-bit.out) (g.W.Write.contents c.loop-bit.out) c.loop-bit.invariant.grown none
+    all_digits c.args.setup.now.init c.loop-bit.n (g.W.Write.contents c.args.out.now)
+    (g.W.Write.contents c.loop-bit.out) (g.W.Write.contents c.loop-bit.out) c.loop-bit.invariant.grown none

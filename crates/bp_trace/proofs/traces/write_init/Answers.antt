@@ -12,7 +12,8 @@ returns-in_err-put g c =
 pub returns-in_err-write_digits : goal.returns-in_err-write_digits
 returns-in_err-write_digits g c =
     let p = err_from_is_err_and c.from_residual-in_err-write_digits.result c.from_residual-in_err-write_digits.ensures.1 in
-    rw p.1 (part_then _ _ _ (codes "init ") (init_digits c.args.setup.now.init ++ codes "\n") c.in_ok-put.ensures (part_first _ _ (init_digits c.args.setup.now.init) (codes "\n") c.in_err-write_digits.ensures))
+    rw p.1 (part_then _ _ _ (codes "init ") (init_digits c.args.setup.now.init ++ codes "\n") c.in_ok-put.ensures
+    (part_first _ _ (init_digits c.args.setup.now.init) (codes "\n") c.in_err-write_digits.ensures))
 
 pub returns : goal.returns
 returns g c =

@@ -6,8 +6,14 @@ use Rattle.bp_code.proofs.code.Code.try_copy.Goals as goal
 
 pub invariant_of-result : goal.invariant_of-result
 invariant_of-result c =
-    let headings = c.loop-heading.invariant ∙ taken_all c.as_slice-heading-items.result.now c.loop-heading.heading-index c.loop-heading-test.false ∙ c.as_slice-heading-items.ensures.value in
-    let instrs = c.loop-instr.invariant ∙ (taken_all c.as_slice-instr-items.result.now c.loop-instr.instr-index c.loop-instr-test.false ∙ c.as_slice-instr-items.ensures.value) in
+    let headings =
+    c.loop-heading.invariant
+    ∙ taken_all c.as_slice-heading-items.result.now c.loop-heading.heading-index c.loop-heading-test.false
+    ∙ c.as_slice-heading-items.ensures.value in
+    let instrs =
+    c.loop-instr.invariant
+    ∙ (taken_all c.as_slice-instr-items.result.now c.loop-instr.instr-index c.loop-instr-test.false
+    ∙ c.as_slice-instr-items.ensures.value) in
     rw (headings, instrs) c.self.invariant
 
 pub loop-heading-preserved : goal.loop-heading-preserved

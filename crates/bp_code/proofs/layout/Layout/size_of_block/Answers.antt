@@ -45,5 +45,8 @@ loop-stmt-preserved c =
     let moved : c.args.number + c.loop-stmt.total + size statement ≡ c.args.number + (c.loop-stmt.total + c.size_at-total.result) = omega arith in
     record {
       total = omega arith;
-      placed = subst (λ n. AreSizesOf c.args.self.now n next) moved (behind c.args.self.now.sizes.items c.args.self.now.start (c.args.number + c.loop-stmt.total) (size statement) statement next placed);
+      placed =
+          subst (λ n. AreSizesOf c.args.self.now n next) moved
+          (behind c.args.self.now.sizes.items c.args.self.now.start (c.args.number + c.loop-stmt.total)
+          (size statement) statement next placed);
     }

@@ -12,7 +12,8 @@ use Rattle.bp_commands.proofs.Answered.{refused_with, cut_short}
 use Rattle.bp_commands.proofs.outlining.ShowContextsTraceCommand.apply_to_trace.Goals as goal
 
 -- the contexts of a trace are what the command writes, and it answers the trace's report
-module _ (format : ViewFormat) (given : Pair) (t : Program) (of : IsLawfulText given.text t) (written : List ℕ) (r : Report) (are : AreContextsOfTrace format t given.text given.input written r) where
+module _ (format : ViewFormat) (given : Pair) (t : Program) (of : IsLawfulText given.text t) (written : List ℕ)
+    (r : Report) (are : AreContextsOfTrace format t given.text given.input written r) where
   reported_of : IsReport are.replayed.setup are.replayed.history.items r
   reported_of = subst (IsReport are.replayed.setup are.replayed.history.items) (sym are.report_is) are.is.report
 
@@ -43,7 +44,8 @@ returns-in_err-put g c =
     let given : Pair = record { text = c.args.text.now; input = c.args.trace.now } in
     let t = c.in_ok-checked.checked in
     let are = subst (λ w. AreContextsOfTrace format t given.text given.input w c.in_ok-lines.report) (sym c.deref.ensures.value) c.in_ok-lines.ensures in
-    rw (p.1, p.2) (cut_short (lists_contexts format) given _ _ _ (listed format given t c.in_ok-checked.ensures.0 c.deref.result.now _ are) c.in_err-put.ensures)
+    rw (p.1, p.2) (cut_short (lists_contexts format) given _ _ _
+    (listed format given t c.in_ok-checked.ensures.0 c.deref.result.now _ are) c.in_err-put.ensures)
 
 pub returns : goal.returns
 returns g c =

@@ -11,7 +11,13 @@ returns-in_err-replayed g c =
     let p = err_from_is_err_and c.from_residual-in_err-replayed.result c.from_residual-in_err-replayed.ensures.1 in
     let code = c.in_ok-code.ensures in
     rw (p.1, p.2) (refused_with replays (record { text = c.args.text.now; input = c.args.trace.now }) _ _
-    (inr (record { program = code.program; lawful = code.of; cause = c.in_err-replayed.field-0.0; why = c.in_err-replayed.ensures code.program code.stands; is = refl })))
+    (inr (record {
+      program = code.program;
+      lawful = code.of;
+      cause = c.in_err-replayed.field-0.0;
+      why = c.in_err-replayed.ensures code.program code.stands;
+      is = refl;
+    })))
 
 pub returns : goal.returns
 returns g c =

@@ -12,7 +12,8 @@ use Rattle.bp_commands.proofs.Answered.{refused_with, cut_short}
 use Rattle.bp_commands.proofs.stating.ShowStateTraceCommand.apply_to_trace.Goals as goal
 
 -- the state after calls of a trace is what the command writes and reports
-module _ (format : ViewFormat) (n : ℕ) (given : Pair) (t : Program) (of : IsLawfulText given.text t) (written : List ℕ) (r : Report) (is : IsStateOfTrace format n t given.text given.input written r) where
+module _ (format : ViewFormat) (n : ℕ) (given : Pair) (t : Program) (of : IsLawfulText given.text t) (written : List ℕ)
+    (r : Report) (is : IsStateOfTrace format n t given.text given.input written r) where
   reported_of : IsReport is.replayed.setup is.replayed.history.items r
   reported_of = subst (IsReport is.replayed.setup is.replayed.history.items) (sym is.report_is) is.is.report
 

@@ -11,7 +11,8 @@ use Rattle.bp_commands.proofs.Answered.{refused_with, cut_short}
 use Rattle.bp_commands.proofs.stepping.ShowStepsTraceCommand.apply_to_trace.Goals as goal
 
 -- the steps of a trace are what the command writes, and it answers the trace's report
-module _ (given : Pair) (t : Program) (of : IsLawfulText given.text t) (steps : List OwnStep) (r : Report) (are : AreStepsOfTrace given.text t given.input steps r) where
+module _ (given : Pair) (t : Program) (of : IsLawfulText given.text t) (steps : List OwnStep) (r : Report)
+    (are : AreStepsOfTrace given.text t given.input steps r) where
   listed : IsOfTrace AreStepsOf given (own_steps_text steps)
   listed = record {
     program = t;
@@ -37,7 +38,9 @@ returns-in_err-put_steps g c =
     let p = err_from_is_err_and c.from_residual-in_err-put_steps.result c.from_residual-in_err-put_steps.ensures.1 in
     let given : Pair = record { text = c.args.text.now; input = c.args.trace.now } in
     let found = c.in_ok-found.found in
-    rw (p.1, p.2) (cut_short lists_steps given _ _ _ (listed given c.in_ok-checked.checked c.in_ok-checked.ensures.0 found.steps.items found.report c.in_ok-found.ensures) (rw c.as_slice.ensures.value at c.in_err-put_steps.ensures))
+    rw (p.1, p.2) (cut_short lists_steps given _ _ _
+    (listed given c.in_ok-checked.checked c.in_ok-checked.ensures.0 found.steps.items found.report c.in_ok-found.ensures)
+    (rw c.as_slice.ensures.value at c.in_err-put_steps.ensures))
 
 pub returns : goal.returns
 returns g c =

@@ -18,10 +18,13 @@ returns-in_ok-note-clause-sees c = λ first t h code stands seen. (
       let old = c.args.self.now.steps.items in
       let spots = ap (λ b. b.now) seen.0 ∙ are in
       let same = c.in_ok-call.ensures.asked.0 in
-      let position = c.position_of-position.ensures text t h code spots stands ∙ ap (λ i. option_map (position_at text) (next_start (stack_of now i))) (sym same) in
+      let position =
+      c.position_of-position.ensures text t h code spots stands
+      ∙ ap (λ i. option_map (position_at text) (next_start (stack_of now i))) (sym same) in
       let made : OwnStep = record { thread = call.thread; position = c.position_of-position.result } in
       let step : made ≡ own_step text now call = (λ j. record { thread = call.thread; position = position j }) in
-      noted text t s h call first.steps.items old c.note.new.steps.items (seen.1 text are) (sym c.is_granted.ensures ∙ c.if-is_granted.true) (c.in_ok-note.ensures ∙ ap (λ y. old ++ y ∷ []) step),
+      noted text t s h call first.steps.items old c.note.new.steps.items (seen.1 text are)
+      (sym c.is_granted.ensures ∙ c.if-is_granted.true) (c.in_ok-note.ensures ∙ ap (λ y. old ++ y ∷ []) step),
 )
 
 pub returns-else-is_granted-clause-sees : goal.returns-else-is_granted-clause-sees

@@ -15,7 +15,9 @@ loop-thread-init c = record {
 
 pub overflow_add-sum : goal.overflow_add-sum
 overflow_add-sum c =
-    let count = ap length c.as_slice-thread-items.ensures.value ∙ sym (length-map c.self.inside.threads.items (λ k. k.guest)) ∙ ap (λ m. length m.state.threads) c.self.view_is in
+    let count =
+    ap length c.as_slice-thread-items.ensures.value ∙ sym (length-map c.self.inside.threads.items (λ k. k.guest))
+    ∙ ap (λ m. length m.state.threads) c.self.view_is in
     omega (arith, c.loop-thread.invariant.few, c.loop-thread-test.true, count, c.requires, c.from-sum.ensures, c.calls.type_inv)
 
 pub loop-thread-preserved : goal.loop-thread-preserved
@@ -33,6 +35,9 @@ loop-thread-preserved c =
 
 pub returns : goal.returns
 returns c = λ t s h stands.
-    let count = ap length c.as_slice-thread-items.ensures.value ∙ sym (length-map c.self.inside.threads.items (λ k. k.guest)) ∙ ap (λ m. length m.state.threads) c.self.view_is ∙ stands.thread_count in
-    let ended : c.loop-thread.thread-index ≡ length c.as_slice-thread-items.result.now = omega (arith, c.loop-thread.auto.thread-index-end, c.loop-thread-test.false) in
+    let count =
+    ap length c.as_slice-thread-items.ensures.value ∙ sym (length-map c.self.inside.threads.items (λ k. k.guest))
+    ∙ ap (λ m. length m.state.threads) c.self.view_is ∙ stands.thread_count in
+    let ended : c.loop-thread.thread-index ≡ length c.as_slice-thread-items.result.now =
+    omega (arith, c.loop-thread.auto.thread-index-end, c.loop-thread-test.false) in
     c.loop-thread.invariant.counted t s h stands ∙ ap (λ n. total n h) (ended ∙ count) ∙ all_calls t s h stands.legal

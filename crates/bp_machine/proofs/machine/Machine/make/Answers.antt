@@ -18,12 +18,32 @@ make-requires-clause-room c =
 
 pub returns-in-Stays : goal.returns-in-Stays
 returns-in-Stays c = λ guest has.
-    stays_after c.args.self.now.state c.self.inside.globals c.self.inside.threads.items c.self.inside.contexts c.self.inside.outcome (ap (λ m. m.state) c.self.view_is) c.args.thread guest c.index_mut.result.now c.make.new.self c.args.transition has (omega (arith, counted c.args.self.now c.self.inside.threads.items (ap (λ m. m.state.threads) c.self.view_is), c.requires.within)) c.index_mut.ensures.value c.make.ensures c.in-Stays.field-0 c.in-Stays.is
+    stays_after c.args.self.now.state c.self.inside.globals c.self.inside.threads.items c.self.inside.contexts
+    c.self.inside.outcome (ap (λ m. m.state) c.self.view_is) c.args.thread guest c.index_mut.result.now
+    c.make.new.self c.args.transition has (omega (
+      arith,
+      counted c.args.self.now c.self.inside.threads.items (ap (λ m. m.state.threads) c.self.view_is),
+      c.requires.within,
+    )) c.index_mut.ensures.value c.make.ensures c.in-Stays.field-0 c.in-Stays.is
 
 pub returns-in-Fails : goal.returns-in-Fails
 returns-in-Fails c = λ guest has.
-    fails_after c.args.self.now.state c.self.inside.globals c.self.inside.threads.items c.self.inside.contexts c.self.inside.outcome (ap (λ m. m.state) c.self.view_is) c.args.thread guest c.index_mut.result.now c.make.new.self c.args.transition has (omega (arith, counted c.args.self.now c.self.inside.threads.items (ap (λ m. m.state.threads) c.self.view_is), c.requires.within)) c.index_mut.ensures.value c.make.ensures c.in-Fails.is c.with-self-inside.result c.with-self-inside.ensures.value
+    fails_after c.args.self.now.state c.self.inside.globals c.self.inside.threads.items c.self.inside.contexts
+    c.self.inside.outcome (ap (λ m. m.state) c.self.view_is) c.args.thread guest c.index_mut.result.now
+    c.make.new.self c.args.transition has (omega (
+      arith,
+      counted c.args.self.now c.self.inside.threads.items (ap (λ m. m.state.threads) c.self.view_is),
+      c.requires.within,
+    )) c.index_mut.ensures.value c.make.ensures c.in-Fails.is c.with-self-inside.result
+    c.with-self-inside.ensures.value
 
 pub returns-in-Steps : goal.returns-in-Steps
 returns-in-Steps c = λ guest has.
-    steps_after c.args.self.now.state c.self.inside.globals c.self.inside.threads.items c.self.inside.contexts c.self.inside.outcome (ap (λ m. m.state) c.self.view_is) c.args.thread guest c.index_mut.result.now c.make.new.self c.args.transition has (omega (arith, counted c.args.self.now c.self.inside.threads.items (ap (λ m. m.state.threads) c.self.view_is), c.requires.within)) c.index_mut.ensures.value c.make.ensures c.in-Steps.effect c.in-Steps.is c.with-self-inside-in-Steps.result c.with-self-inside-in-Steps.ensures.value c.globals_after-self-inside.result c.globals_after-self-inside.ensures
+    steps_after c.args.self.now.state c.self.inside.globals c.self.inside.threads.items c.self.inside.contexts
+    c.self.inside.outcome (ap (λ m. m.state) c.self.view_is) c.args.thread guest c.index_mut.result.now
+    c.make.new.self c.args.transition has (omega (
+      arith,
+      counted c.args.self.now c.self.inside.threads.items (ap (λ m. m.state.threads) c.self.view_is),
+      c.requires.within,
+    )) c.index_mut.ensures.value c.make.ensures c.in-Steps.effect c.in-Steps.is c.with-self-inside-in-Steps.result
+    c.with-self-inside-in-Steps.ensures.value c.globals_after-self-inside.result c.globals_after-self-inside.ensures

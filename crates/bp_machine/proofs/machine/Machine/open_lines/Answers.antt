@@ -19,14 +19,16 @@ loop-thread-preserved c =
         few = omega arith;
         counted = λ t s h calls stands.
             let over = c.is_finished.ensures ∙ ap (λ n. guest.ended || nat_le n guest.calls) (sym calls) in
-            let base = count_more t s c.args.self.now.state h stands i guest has c.is_finished.result over c.loop-thread.count (c.loop-thread.invariant.counted t s h calls stands) in
+            let base = count_more t s c.args.self.now.state h stands i guest has c.is_finished.result over
+            c.loop-thread.count (c.loop-thread.invariant.counted t s h calls stands) in
             w.count-is ∙ (rw w.if-not-is_finished.true at base);
       }
       | else-not-is_finished w ↦ record {
         few = omega arith;
         counted = λ t s h calls stands.
             let over = c.is_finished.ensures ∙ ap (λ n. guest.ended || nat_le n guest.calls) (sym calls) in
-            let base = count_more t s c.args.self.now.state h stands i guest has c.is_finished.result over c.loop-thread.count (c.loop-thread.invariant.counted t s h calls stands) in
+            let base = count_more t s c.args.self.now.state h stands i guest has c.is_finished.result over
+            c.loop-thread.count (c.loop-thread.invariant.counted t s h calls stands) in
             w.count-is ∙ (rw w.if-not-is_finished.false at base);
       }
     ]

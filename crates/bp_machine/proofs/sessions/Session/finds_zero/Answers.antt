@@ -20,6 +20,8 @@ returns c = λ t h i is stands has.
     let now = configuration_after t x.setup h in
     let alike = subst AllAlike c.self.view_is c.steps_alike.ensures in
     let shown = (stands.state.thread i guest has).stack in
-    let judged = subst (λ (y : SessionOf). IsTransitionOn y.code.instructions y.machine.state.globals c.args.bit true guest.stack c.judge_step-transition.result) c.self.view_is c.judge_step-transition.ensures in
-    let answer = on_stack x.code t (alike t is) c.args.bit x.machine.state.globals now.globals stands.state.globals guest.stack (stack_of now i) true c.judge_step-transition.result shown judged in
+    let judged = subst (λ (y : SessionOf). IsTransitionOn y.code.instructions y.machine.state.globals c.args.bit true
+    guest.stack c.judge_step-transition.result) c.self.view_is c.judge_step-transition.ensures in
+    let answer = on_stack x.code t (alike t is) c.args.bit x.machine.state.globals now.globals stands.state.globals
+    guest.stack (stack_of now i) true c.judge_step-transition.result shown judged in
     c.is_blocked.ensures ∙ ap is_blocked (ap Some c.reply.ensures ∙ sym answer.reply)

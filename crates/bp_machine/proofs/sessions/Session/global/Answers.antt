@@ -8,7 +8,8 @@ pub returns-then-n-globals : goal.returns-then-n-globals
 returns-then-n-globals c = λ t h is stands.
     let code_is = ap (λ x. x.code.globals) c.self.view_is in
     let past = c.if-n-globals.true in
-    no_global t c.args.self.now.code c.args.self.now.setup c.args.self.now.machine.state h is stands.state c.args.n (omega (arith, past, c.globals.ensures, code_is))
+    no_global t c.args.self.now.code c.args.self.now.setup c.args.self.now.machine.state h is stands.state c.args.n
+    (omega (arith, past, c.globals.ensures, code_is))
 
 pub overflow_cast-n : goal.overflow_cast-n
 overflow_cast-n c = omega (arith, c.if-n-globals.false, c.globals.ensures, few_globals c.self.inside.code c.is_of_a_program.ensures)
@@ -19,5 +20,6 @@ global-requires c = omega (arith, c.if-n-globals.false, c.globals.ensures, few_g
 pub returns : goal.returns
 returns c = λ t h is stands.
     let code_is = ap (λ x. x.code.globals) c.self.view_is in
-    let here = global_here t c.args.self.now.code c.args.self.now.setup c.args.self.now.machine.state h is stands.state c.args.n (omega (arith, c.if-n-globals.false, c.globals.ensures, code_is)) in
+    let here = global_here t c.args.self.now.code c.args.self.now.setup c.args.self.now.machine.state h is stands.state
+    c.args.n (omega (arith, c.if-n-globals.false, c.globals.ensures, code_is)) in
     ap Some (c.global.ensures ∙ ap (λ x. bits_of x.machine.state.globals c.args.n) c.self.view_is) ∙ here

@@ -12,7 +12,8 @@ pub returns-in_default : goal.returns-in_default
 returns-in_default c = λ t h is stands.
     let x = c.args.self.now in
     let none = c.in_default.ensures ∙ ap (λ y. slice_get y.machine.state.threads c.args.thread) c.self.view_is in
-    ap (λ fs. is_some (values_printed (configuration_after t x.setup h).globals fs)) (sym (no_stack t x.setup x.machine.state h stands.state c.args.thread none))
+    ap (λ fs. is_some (values_printed (configuration_after t x.setup h).globals fs))
+    (sym (no_stack t x.setup x.machine.state h stands.state c.args.thread none))
 
 pub returns-in_default-top : goal.returns-in_default-top
 returns-in_default-top c = λ t h is stands.
@@ -38,7 +39,8 @@ returns-in-Print c = λ t h is stands.
     let has = ap (λ y. slice_get y.machine.state.threads c.args.thread) (sym c.self.view_is) ∙ sym c.in-Some.ensures in
     let top = c.in-Some-top.ensures ∙ ap top_of c.stack.ensures in
     let found = c.in-Some-get.ensures ∙ ap (λ y. slice_get y.code.instructions c.in-Some-top.top.number) c.self.view_is in
-    let prints = instruction_printed x.code t is x.setup x.machine.state h stands.state c.args.thread guest has c.in-Some-top.top top c.in-Some-get.instr.now found in
+    let prints = instruction_printed x.code t is x.setup x.machine.state h stands.state c.args.thread guest has
+    c.in-Some-top.top top c.in-Some-get.instr.now found in
     print_prints c.in-Some-get.instr.now _ (sym c.in-Print.ensures) ∙ ap is_some prints
 
 pub returns-in_default-matches : goal.returns-in_default-matches
@@ -48,5 +50,6 @@ returns-in_default-matches c = λ t h is stands.
     let has = ap (λ y. slice_get y.machine.state.threads c.args.thread) (sym c.self.view_is) ∙ sym c.in-Some.ensures in
     let top = c.in-Some-top.ensures ∙ ap top_of c.stack.ensures in
     let found = c.in-Some-get.ensures ∙ ap (λ y. slice_get y.code.instructions c.in-Some-top.top.number) c.self.view_is in
-    let prints = instruction_printed x.code t is x.setup x.machine.state h stands.state c.args.thread guest has c.in-Some-top.top top c.in-Some-get.instr.now found in
+    let prints = instruction_printed x.code t is x.setup x.machine.state h stands.state c.args.thread guest has
+    c.in-Some-top.top top c.in-Some-get.instr.now found in
     other_prints_nothing c.in-Some-get.instr.now _ (λ e. c.in_default-matches.not-Print (c.kind.ensures ∙ e)) ∙ ap is_some prints

@@ -14,7 +14,9 @@ loop-thread-preserved c = λ t h is stands.
     let n = c.loop-thread.thread in
     let seen = c.loop-thread.invariant t h is stands in
     let frames = c.has_frames.ensures t h is stands in elim c.if-has_frames.branch [
-      | then-has_frames+else-not-waits w ↦ rw w.is_any_left-is (seen_waiting t now n _ seen (sym frames ∙ w.if-has_frames.true) (sym (w.waits.ensures t h is stands) ∙ w.if-not-waits.false))
+      | then-has_frames+else-not-waits w ↦
+          rw w.is_any_left-is (seen_waiting t now n _ seen (sym frames ∙ w.if-has_frames.true)
+          (sym (w.waits.ensures t h is stands) ∙ w.if-not-waits.false))
       | else-has_frames w ↦ rw w.is_any_left-is (seen_ended t now n _ seen (sym frames ∙ w.if-has_frames.false))
     ]
 

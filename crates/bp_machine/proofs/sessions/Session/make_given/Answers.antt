@@ -15,7 +15,10 @@ abbrev AllAlike : SessionOf → Type 0
 AllAlike x = (t : Program) → StandsFor x.code t → StepsAlike x.code t
 
 -- what was judged, of the session as it is kept
-judged : (c : In_ok-made) → IsJudged (session_of c.self.inside.code c.self.inside.setup c.self.inside.machine c.self.inside.choices.items c.self.inside.prepared) c.args.thread c.args.given c.in_ok-made.made
+judged : (c : In_ok-made)
+    → IsJudged
+    (session_of c.self.inside.code c.self.inside.setup c.self.inside.machine c.self.inside.choices.items c.self.inside.prepared)
+    c.args.thread c.args.given c.in_ok-made.made
 judged c = rw (← c.self.view_is) at c.in_ok-made.ensures
 
 pub returns-in_err-made-clause-answer : goal.returns-in_err-made-clause-answer
@@ -37,27 +40,36 @@ returns-in_err-reserve-clause-answer c = λ t h is stands.
     let order = subst IsInOrder c.self.view_is c.self.invariant.0 in
     let alike = subst AllAlike c.self.view_is c.steps_alike.ensures in
     let p = err_from_is_err_and c.from_residual-in_err-reserve.result c.from_residual-in_err-reserve.ensures.1 in
-    rw (p.1, p.2) (refused_for_memory t c.args.self.now h stands order.choice_count c.args.thread c.args.given (alike t is) c.in_ok-made.made c.in_ok-made.ensures c.in_err-reserve.ensures.entering)
+    rw (p.1, p.2) (refused_for_memory t c.args.self.now h stands order.choice_count c.args.thread c.args.given
+    (alike t is) c.in_ok-made.made c.in_ok-made.ensures c.in_err-reserve.ensures.entering)
 
 pub make-requires-clause-within : goal.make-requires-clause-within
 make-requires-clause-within c =
     let d = (goal.at.make-requires-clause-within c).In_ok-made in
-    within c.self.inside.code c.self.inside.setup c.self.inside.machine c.reserve.new.self c.in_ok-reserve.ensures.state c.self.inside.choices.items c.self.inside.prepared c.args.thread c.args.given c.in_ok-made.made c.self.invariant.0 (judged d) c.in_ok-reserve.ensures.ok
+    within c.self.inside.code c.self.inside.setup c.self.inside.machine c.reserve.new.self c.in_ok-reserve.ensures.state
+    c.self.inside.choices.items c.self.inside.prepared c.args.thread c.args.given c.in_ok-made.made
+    c.self.invariant.0 (judged d) c.in_ok-reserve.ensures.ok
 
 pub make-requires-clause-calls : goal.make-requires-clause-calls
 make-requires-clause-calls c =
     let d = (goal.at.make-requires-clause-calls c).In_ok-made in
-    few c.self.inside.code c.self.inside.setup c.self.inside.machine c.reserve.new.self c.in_ok-reserve.ensures.state c.self.inside.choices.items c.self.inside.prepared c.args.thread c.args.given c.in_ok-made.made c.self.invariant.0 (judged d) c.in_ok-reserve.ensures.ok
+    few c.self.inside.code c.self.inside.setup c.self.inside.machine c.reserve.new.self c.in_ok-reserve.ensures.state
+    c.self.inside.choices.items c.self.inside.prepared c.args.thread c.args.given c.in_ok-made.made
+    c.self.invariant.0 (judged d) c.in_ok-reserve.ensures.ok
 
 pub make-requires-clause-contexts : goal.make-requires-clause-contexts
 make-requires-clause-contexts c =
     let d = (goal.at.make-requires-clause-contexts c).In_ok-made in
-    grows c.self.inside.code c.self.inside.setup c.self.inside.machine c.reserve.new.self c.in_ok-reserve.ensures.state c.self.inside.choices.items c.self.inside.prepared c.args.thread c.args.given c.in_ok-made.made c.self.invariant.0 (judged d) c.in_ok-reserve.ensures.ok
+    grows c.self.inside.code c.self.inside.setup c.self.inside.machine c.reserve.new.self c.in_ok-reserve.ensures.state
+    c.self.inside.choices.items c.self.inside.prepared c.args.thread c.args.given c.in_ok-made.made
+    c.self.invariant.0 (judged d) c.in_ok-reserve.ensures.ok
 
 pub invariant_of-self-2 : goal.invariant_of-self-2
 invariant_of-self-2 c =
     let d = (goal.at.invariant_of-self-2 c).In_ok-made in
-    made_in_order c.self.inside.code c.self.inside.setup c.self.inside.machine c.reserve.new.self c.in_ok-reserve.ensures.state c.self.inside.choices.items c.self.inside.prepared c.args.thread c.args.given c.in_ok-made.made c.self.invariant.0 (judged d) c.in_ok-reserve.ensures.ok
+    made_in_order c.self.inside.code c.self.inside.setup c.self.inside.machine c.reserve.new.self
+    c.in_ok-reserve.ensures.state c.self.inside.choices.items c.self.inside.prepared c.args.thread c.args.given
+    c.in_ok-made.made c.self.invariant.0 (judged d) c.in_ok-reserve.ensures.ok
     c.make.new.self c.make.ensures c.draw.new.choices.items c.draw.ensures c.steps_alike.ensures
 
 pub returns-clause-answer : goal.returns-clause-answer
@@ -76,5 +88,7 @@ returns-clause-stands c = λ t h is stands.
     let d = (goal.at.returns-clause-stands c).In_ok-made in
     let is_kept = rw (← c.self.view_is) at is in
     let stood = rw (← c.self.view_is) at stands in
-    made_stands c.self.inside.code c.self.inside.setup c.self.inside.machine c.reserve.new.self c.in_ok-reserve.ensures.state c.self.inside.choices.items c.self.inside.prepared c.args.thread c.args.given c.in_ok-made.made c.self.invariant.0 (judged d) c.in_ok-reserve.ensures.ok
+    made_stands c.self.inside.code c.self.inside.setup c.self.inside.machine c.reserve.new.self
+    c.in_ok-reserve.ensures.state c.self.inside.choices.items c.self.inside.prepared c.args.thread c.args.given
+    c.in_ok-made.made c.self.invariant.0 (judged d) c.in_ok-reserve.ensures.ok
     c.make.new.self c.make.ensures c.draw.new.choices.items c.draw.ensures t h (c.steps_alike.ensures t is_kept) stood

@@ -32,15 +32,22 @@ returns-in_err-reserve-clause-answer c = λ t h is stands.
     let order = subst IsInOrder c.self.view_is c.self.invariant.0 in
     let alike = subst AllAlike c.self.view_is c.steps_alike.ensures in
     let p = err_from_is_err_and c.from_residual-in_err-reserve.result c.from_residual-in_err-reserve.ensures.1 in
-    rw (p.1, p.2) (refused_for_memory t c.args.self.now h stands order.choice_count c.args.thread None (alike t is) c.in_ok-prepared.prepared c.in_ok-prepared.ensures c.in_err-reserve.ensures.entering)
+    rw (p.1, p.2) (refused_for_memory t c.args.self.now h stands order.choice_count c.args.thread None
+    (alike t is) c.in_ok-prepared.prepared c.in_ok-prepared.ensures c.in_err-reserve.ensures.entering)
 
 pub invariant_of-self-2 : goal.invariant_of-self-2
 invariant_of-self-2 c =
     let judged = rw (← c.self.view_is) at c.in_ok-prepared.ensures in
     let p = c.in_ok-prepared.prepared in
-    let ready = is_prepared c.self.inside.code c.self.inside.setup c.self.inside.machine c.reserve.new.self c.in_ok-reserve.ensures.state c.self.inside.choices.items c.self.inside.prepared (Some p) c.args.thread None p judged c.in_ok-reserve.ensures.ok in (
-      still_ready c.self.inside.code c.self.inside.setup c.self.inside.machine c.reserve.new.self c.in_ok-reserve.ensures.state c.self.inside.choices.items c.self.inside.prepared (Some p) c.self.invariant.0,
-      λ q e. let same : p ≡ q = cc in subst (λ r. IsPrepared (session_of c.self.inside.code c.self.inside.setup c.reserve.new.self c.self.inside.choices.items (Some p)) r) same ready,
+    let ready = is_prepared c.self.inside.code c.self.inside.setup c.self.inside.machine c.reserve.new.self
+    c.in_ok-reserve.ensures.state c.self.inside.choices.items c.self.inside.prepared
+    (Some p) c.args.thread None p judged c.in_ok-reserve.ensures.ok in (
+      still_ready c.self.inside.code c.self.inside.setup c.self.inside.machine c.reserve.new.self
+          c.in_ok-reserve.ensures.state c.self.inside.choices.items c.self.inside.prepared (Some p) c.self.invariant.0,
+      λ q e. let same : p ≡ q = cc in
+          subst (λ r. IsPrepared
+          (session_of c.self.inside.code c.self.inside.setup c.reserve.new.self c.self.inside.choices.items (Some p)) r)
+          same ready,
     )
 
 pub returns-clause-answer : goal.returns-clause-answer
@@ -57,4 +64,6 @@ returns-clause-asked c =
 pub returns-clause-stands : goal.returns-clause-stands
 returns-clause-stands c = λ t h stands.
     let stood = rw (← c.self.view_is) at stands in
-    still_stands c.self.inside.code c.self.inside.setup c.self.inside.machine c.reserve.new.self c.in_ok-reserve.ensures.state c.self.inside.choices.items c.self.inside.prepared (Some c.in_ok-prepared.prepared) t h stood
+    still_stands c.self.inside.code c.self.inside.setup c.self.inside.machine c.reserve.new.self
+    c.in_ok-reserve.ensures.state c.self.inside.choices.items c.self.inside.prepared
+    (Some c.in_ok-prepared.prepared) t h stood

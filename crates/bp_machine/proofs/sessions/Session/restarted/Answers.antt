@@ -14,7 +14,9 @@ invariant_of-result c =
     let threads = c.in_ok-threads.ensures ∙ ap (map (first_thread c.self.inside.code)) c.entries.ensures in
     let fitted = subst (λ y. FitsCode y.code y.setup) (sym x) c.requires in
     let fits = fits_anew c.self.inside.code c.self.inside.setup z _ c.with_seed-setup.ensures fitted in
-    in_order_at_start c.self.inside.code z c.start-machine.result c.in_ok-choices.choices.items _ _ c.start-machine.ensures word threads fits c.in_ok-choices.ensures c.is_in_range.ensures c.is_of_a_program.ensures
+    in_order_at_start c.self.inside.code z c.start-machine.result c.in_ok-choices.choices.items _ _
+    c.start-machine.ensures word threads fits c.in_ok-choices.ensures c.is_in_range.ensures
+    c.is_of_a_program.ensures
 
 pub returns-clause-stands : goal.returns-clause-stands
 returns-clause-stands c = λ t is.
@@ -24,4 +26,5 @@ returns-clause-stands c = λ t is.
     let threads = c.in_ok-threads.ensures ∙ ap (map (first_thread c.self.inside.code)) c.entries.ensures in
     let fitted = subst (λ y. FitsCode y.code y.setup) (sym x) c.requires in
     let fits = fits_anew c.self.inside.code c.self.inside.setup z _ c.with_seed-setup.ensures fitted in
-    stands_at_start c.self.inside.code z c.start-machine.result c.in_ok-choices.choices.items _ _ c.start-machine.ensures word threads fits c.in_ok-choices.ensures t (subst (λ y. StandsFor y.code t) (sym x) is)
+    stands_at_start c.self.inside.code z c.start-machine.result c.in_ok-choices.choices.items _ _
+    c.start-machine.ensures word threads fits c.in_ok-choices.ensures t (subst (λ y. StandsFor y.code t) (sym x) is)

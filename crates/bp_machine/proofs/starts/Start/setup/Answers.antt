@@ -13,12 +13,17 @@ bits_are c t stands =
     let few = c.has_few_globals.ensures in
     let view = ap (λ s. initial_bits s.init (length t.globals)) c.self.view_is in
     elim c.match-self.branch [
-      | in-Some w ↦ bits_given (λ v. v.items) c.self.inside.init _ (length t.globals) w.in-Some.bits w.in-Some.is (ap (λ b. b.now) w.init-is ∙ w.as_slice-init.ensures.value) ∙ view
-      | in-None w ↦ bits_not_given (λ v. v.items) c.self.inside.init _ (length t.globals) w.globals.result w.in-None.is (ap (λ b. b.now) w.init-is) (rw w.globals.ensures few) (w.globals.ensures ∙ stands.globals) ∙ view
+      | in-Some w ↦
+          bits_given (λ v. v.items) c.self.inside.init _ (length t.globals) w.in-Some.bits w.in-Some.is
+          (ap (λ b. b.now) w.init-is ∙ w.as_slice-init.ensures.value) ∙ view
+      | in-None w ↦
+          bits_not_given (λ v. v.items) c.self.inside.init _ (length t.globals) w.globals.result w.in-None.is
+          (ap (λ b. b.now) w.init-is) (rw w.globals.ensures few) (w.globals.ensures ∙ stands.globals) ∙ view
     ]
 
 setup_is : (c : goal.After-new) (t : Program) → StandsFor c.args.code.now t
-    → setup_of (map string_bytes c.deref.result.now) c.match-self.init.now c.self.inside.contexts c.self.inside.calls c.args.seed ≡ setup_from c.args.self.now c.args.seed t
+    → setup_of (map string_bytes c.deref.result.now) c.match-self.init.now c.self.inside.contexts c.self.inside.calls
+    c.args.seed ≡ setup_from c.args.self.now c.args.seed t
 setup_is c t stands =
     let entries = ap (map string_bytes) c.deref.ensures.value ∙ ap (λ s. s.entries) c.self.view_is in
     let contexts = ap (λ s. s.contexts) c.self.view_is in

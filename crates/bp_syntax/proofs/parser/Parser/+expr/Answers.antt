@@ -58,26 +58,35 @@ expr-returns-clause-reads t c next =
 
 pub operand-returns-clause-reads : goal.operand-returns-clause-reads
 operand-returns-clause-reads t c next =
-    passed_on c.tighter.result (OperandThen c.args.precedence next) (MoreTighter c.args.precedence (expression_of c.in_ok-first.first) next) c.args.self.now c.unary.new.self c.tighter.new.self _
+    passed_on c.tighter.result (OperandThen c.args.precedence next)
+    (MoreTighter c.args.precedence (expression_of c.in_ok-first.first) next) c.args.self.now c.unary.new.self
+    c.tighter.new.self _
     (c.in_ok-first.ensures.reads (λ e. MoreTighter c.args.precedence e next))
     (c.tighter.ensures.reads next)
 
 pub tighter-returns-in-Conjunction-clause-reads : goal.tighter-returns-in-Conjunction-clause-reads
 tighter-returns-in-Conjunction-clause-reads t c next =
-    subst (λ s. ReadsBy c.operators.result (MoreTighter s (expression_of c.args.first) next) c.args.self.now c.operators.new.self (λ e. next (expression_of e))) (sym c.in-Conjunction.is)
+    subst (λ s. ReadsBy c.operators.result (MoreTighter s (expression_of c.args.first) next) c.args.self.now
+    c.operators.new.self (λ e. next (expression_of e))) (sym c.in-Conjunction.is)
     (c.operators.ensures.reads next)
 
 pub tighter-returns-in_ok-left-in-Exclusion-clause-reads : goal.tighter-returns-in_ok-left-in-Exclusion-clause-reads
 tighter-returns-in_ok-left-in-Exclusion-clause-reads t c next =
-    subst (λ s. ReadsBy c.operators-in-Exclusion-2.result (MoreTighter s (expression_of c.args.first) next) c.args.self.now c.operators-in-Exclusion-2.new.self (λ e. next (expression_of e))) (sym c.in-Exclusion.is)
-    (passed_on c.operators-in-Exclusion-2.result (MoreTighter Exclusion (expression_of c.args.first) next) (MoreOperands Conjunction (expression_of c.in_ok-left-in-Exclusion.left) next) c.args.self.now c.operators-in-Exclusion.new.self c.operators-in-Exclusion-2.new.self _
+    subst (λ s. ReadsBy c.operators-in-Exclusion-2.result (MoreTighter s (expression_of c.args.first) next)
+    c.args.self.now c.operators-in-Exclusion-2.new.self (λ e. next (expression_of e))) (sym c.in-Exclusion.is)
+    (passed_on c.operators-in-Exclusion-2.result (MoreTighter Exclusion (expression_of c.args.first) next)
+    (MoreOperands Conjunction (expression_of c.in_ok-left-in-Exclusion.left) next) c.args.self.now
+    c.operators-in-Exclusion.new.self c.operators-in-Exclusion-2.new.self _
     (c.in_ok-left-in-Exclusion.ensures.reads (λ a. MoreOperands Conjunction a next))
     (c.operators-in-Exclusion-2.ensures.reads next))
 
 pub tighter-returns-in_ok-left-in-Disjunction-2-clause-reads : goal.tighter-returns-in_ok-left-in-Disjunction-2-clause-reads
 tighter-returns-in_ok-left-in-Disjunction-2-clause-reads t c next =
-    subst (λ s. ReadsBy c.operators-in-Disjunction-3.result (MoreTighter s (expression_of c.args.first) next) c.args.self.now c.operators-in-Disjunction-3.new.self (λ e. next (expression_of e))) (sym c.in-Disjunction.is)
-    (passed_on c.operators-in-Disjunction-3.result (MoreTighter Disjunction (expression_of c.args.first) next) (MoreOperands Exclusion (expression_of c.in_ok-left-in-Disjunction-2.left) next) c.args.self.now c.operators-in-Disjunction-2.new.self c.operators-in-Disjunction-3.new.self _
+    subst (λ s. ReadsBy c.operators-in-Disjunction-3.result (MoreTighter s (expression_of c.args.first) next)
+    c.args.self.now c.operators-in-Disjunction-3.new.self (λ e. next (expression_of e))) (sym c.in-Disjunction.is)
+    (passed_on c.operators-in-Disjunction-3.result (MoreTighter Disjunction (expression_of c.args.first) next)
+    (MoreOperands Exclusion (expression_of c.in_ok-left-in-Disjunction-2.left) next) c.args.self.now
+    c.operators-in-Disjunction-2.new.self c.operators-in-Disjunction-3.new.self _
     (c.in_ok-left-in-Disjunction.ensures.reads (λ a. MoreOperands Conjunction a (λ b. MoreOperands Exclusion b next))
     ∙ c.in_ok-left-in-Disjunction-2.ensures.reads (λ b. MoreOperands Exclusion b next))
     (c.operators-in-Disjunction-3.ensures.reads next))
@@ -85,7 +94,9 @@ tighter-returns-in_ok-left-in-Disjunction-2-clause-reads t c next =
 pub unary-returns-in_err-name-in-Some-Name-clause-reads : goal.unary-returns-in_err-name-in-Some-Name-clause-reads
 unary-returns-in_err-name-in-Some-Name-clause-reads t c next =
     let h : kind_ahead c.args.self.now ≡ Some kind.Name = cc in
-    at_exit _ c.in_err-name-in-Some-Name.field-0.0 (UnThen next) c.args.self.now c.name.new.self _ _ c.from_residual-in_err-name-in-Some-Name.ensures.1 (ahead_name next c.args.self.now h) (c.in_err-name-in-Some-Name.ensures.reads (λ n. next (Variable n)))
+    at_exit _ c.in_err-name-in-Some-Name.field-0.0 (UnThen next) c.args.self.now c.name.new.self _ _
+    c.from_residual-in_err-name-in-Some-Name.ensures.1 (ahead_name next c.args.self.now h)
+    (c.in_err-name-in-Some-Name.ensures.reads (λ n. next (Variable n)))
 
 pub unary-returns-in_ok-name-in-Some-Name-clause-reads : goal.unary-returns-in_ok-name-in-Some-Name-clause-reads
 unary-returns-in_ok-name-in-Some-Name-clause-reads t c next =

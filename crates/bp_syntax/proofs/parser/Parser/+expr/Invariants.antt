@@ -21,7 +21,9 @@ decreases-expr l = 10 * length l.self.now + 9
 
 abbrev pub invariant-operators-loop-op : goal.invariant-operators-loop-op
 invariant-operators-loop-op l = record {
-  reads : (next : tree.Expression → Wanted) → parse_result (MoreOperands l.precedence (expression_of l.fn.first) next) l.fn.self ≡ parse_result (MoreOperands l.precedence (expression_of l.left) next) l.self;
+  reads : (next : tree.Expression → Wanted)
+      → parse_result (MoreOperands l.precedence (expression_of l.fn.first) next) l.fn.self
+      ≡ parse_result (MoreOperands l.precedence (expression_of l.left) next) l.self;
   shorter : length l.self ≤ length l.fn.self;
 }
 

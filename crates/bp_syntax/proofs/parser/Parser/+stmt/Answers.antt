@@ -22,7 +22,8 @@ form-returns-in-Some-Return-clause-reads t c next =
     let old = c.args.self.now in
     let then = next (place_ahead old) in
     let h : kind_ahead old ≡ Some kind.Return = cc in
-    passed_on c.leave.result (FormThen next) (WordThen kind.Return (WordThen kind.Semicolon (then Returns))) old old c.leave.new.self (λ f. then (statement_of f))
+    passed_on c.leave.result (FormThen next) (WordThen kind.Return (WordThen kind.Semicolon (then Returns))) old old
+    c.leave.new.self (λ f. then (statement_of f))
     (word_comes kind.Return next old (WordThen kind.Semicolon (then Returns)) h (λ x. refl)) (c.leave.ensures.reads then)
 
 pub form-returns-in-Some-Goto-clause-reads : goal.form-returns-in-Some-Goto-clause-reads
@@ -117,11 +118,15 @@ branch-returns-in_err-yes-clause-reads t c next =
 pub branch-returns-in_err-no-clause-reads : goal.branch-returns-in_err-no-clause-reads
 branch-returns-in_err-no-clause-reads t c next =
     at_exit _ c.in_err-no.field-0.0 (KeywordThen kind.If IfThen next) c.args.self.now c.stmts_to-2.new.self _ _ c.from_residual-in_err-no.ensures.1
-    (c.in_ok-decider.ensures.reads (λ d. StmtsTo kind.Else (λ a. StmtsTo kind.Fi (λ b. next (Branches d a b)))) ∙ c.in_ok-yes.ensures.reads (λ a. StmtsTo kind.Fi (λ b. next (Branches (decision_of c.in_ok-decider.decider) a b))))
+    (c.in_ok-decider.ensures.reads (λ d. StmtsTo kind.Else (λ a. StmtsTo kind.Fi (λ b. next (Branches d a b))))
+    ∙ c.in_ok-yes.ensures.reads (λ a. StmtsTo kind.Fi (λ b. next (Branches (decision_of c.in_ok-decider.decider) a b))))
     (c.in_err-no.ensures.reads (λ b. next (Branches (decision_of c.in_ok-decider.decider) c.in_ok-yes.yes b)))
 
 pub branch-returns-clause-reads : goal.branch-returns-clause-reads
-branch-returns-clause-reads t c next = c.in_ok-decider.ensures.reads (λ d. StmtsTo kind.Else (λ a. StmtsTo kind.Fi (λ b. next (Branches d a b)))) ∙ c.in_ok-yes.ensures.reads (λ a. StmtsTo kind.Fi (λ b. next (Branches (decision_of c.in_ok-decider.decider) a b))) ∙ c.in_ok-no.ensures.reads (λ b. next (Branches (decision_of c.in_ok-decider.decider) c.in_ok-yes.yes b))
+branch-returns-clause-reads t c next =
+    c.in_ok-decider.ensures.reads (λ d. StmtsTo kind.Else (λ a. StmtsTo kind.Fi (λ b. next (Branches d a b))))
+    ∙ c.in_ok-yes.ensures.reads (λ a. StmtsTo kind.Fi (λ b. next (Branches (decision_of c.in_ok-decider.decider) a b)))
+    ∙ c.in_ok-no.ensures.reads (λ b. next (Branches (decision_of c.in_ok-decider.decider) c.in_ok-yes.yes b))
 
 pub repetition-returns-in_err-decider-clause-reads : goal.repetition-returns-in_err-decider-clause-reads
 repetition-returns-in_err-decider-clause-reads t c next =
@@ -136,4 +141,6 @@ repetition-returns-in_err-body-clause-reads t c next =
     (c.in_err-body.ensures.reads (λ b. next (Loops (decision_of c.in_ok-decider.decider) b)))
 
 pub repetition-returns-clause-reads : goal.repetition-returns-clause-reads
-repetition-returns-clause-reads t c next = c.in_ok-decider.ensures.reads (λ d. StmtsTo kind.Od (λ b. next (Loops d b))) ∙ c.in_ok-body.ensures.reads (λ b. next (Loops (decision_of c.in_ok-decider.decider) b))
+repetition-returns-clause-reads t c next =
+    c.in_ok-decider.ensures.reads (λ d. StmtsTo kind.Od (λ b. next (Loops d b)))
+    ∙ c.in_ok-body.ensures.reads (λ b. next (Loops (decision_of c.in_ok-decider.decider) b))

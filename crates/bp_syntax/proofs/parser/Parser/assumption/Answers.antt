@@ -7,7 +7,8 @@ use Rattle.bp_syntax.proofs.parser.Parser.assumption.Goals as goal
 
 pub returns-in_err-decider-clause-reads : goal.returns-in_err-decider-clause-reads
 returns-in_err-decider-clause-reads c next =
-    at_exit _ c.in_err-decider.field-0.0 (KeywordThen kind.Assume AssumeThen next) c.args.self.now c.condition_between.new.self _ _ c.from_residual.ensures.1 refl
+    at_exit _ c.in_err-decider.field-0.0 (KeywordThen kind.Assume AssumeThen next) c.args.self.now
+    c.condition_between.new.self _ _ c.from_residual.ensures.1 refl
     (c.in_err-decider.ensures.reads (λ d. next (Assumes d)))
 
 pub returns-clause-reads : goal.returns-clause-reads

@@ -15,6 +15,8 @@ invariant-loop-used l = record {
   stepped : MarksGrow (λ i. Some i) (λ n. is_marked l.other.stepped.items n ≡ true) l.fn.self.stepped.items l.self.stepped.items;
   reached : MarksGrow (λ i. Some i) (λ n. is_marked l.other.reached.items n ≡ true) l.fn.self.reached.items l.self.reached.items;
   keys : l.self.keys.items ≡ take MAX_KEYS (l.fn.self.keys.items ++ l.other.keys.items);
-  below : (k : ℕ) → k < l.used → slice_index_or l.self.contexts.items k 0 ≡ capped (slice_index_or l.fn.self.contexts.items k 0 + slice_index_or l.other.contexts.items k 0);
+  below : (k : ℕ) → k < l.used
+      → slice_index_or l.self.contexts.items k 0
+      ≡ capped (slice_index_or l.fn.self.contexts.items k 0 + slice_index_or l.other.contexts.items k 0);
   above : (k : ℕ) → l.used ≤ k → slice_index_or l.self.contexts.items k 0 ≡ slice_index_or l.fn.self.contexts.items k 0;
 }

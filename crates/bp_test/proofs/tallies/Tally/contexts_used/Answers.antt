@@ -17,7 +17,9 @@ loop-contexts-preserved c = record {
       let before = c.loop-contexts.before in
       let used = c.loop-contexts.used in
       let was = c.loop-contexts.invariant.so_far s runs few is in elim c.if-runs-gt0.branch [
-        | then-runs-gt0 w ↦ rw (w.used-is, w.before-is) (seen_some s runs tally few is items all i before used was w.if-runs-gt0.true _ c.div_ceil-half.ensures _ w.saturating_add-before.ensures _ w.add.ensures)
+        | then-runs-gt0 w ↦
+            rw (w.used-is, w.before-is) (seen_some s runs tally few is items all i before used was w.if-runs-gt0.true _
+            c.div_ceil-half.ensures _ w.saturating_add-before.ensures _ w.add.ensures)
         | else-runs-gt0 w ↦ rw (w.used-is, w.before-is) (seen_none s runs tally few is items all i before used was w.if-runs-gt0.false)
       ];
 }
@@ -25,4 +27,5 @@ loop-contexts-preserved c = record {
 pub returns : goal.returns
 returns c = λ s runs few is.
     let past = subst (λ v. length v ≤ c.loop-contexts.contexts) c.loop-contexts.invariant.items c.loop-contexts-test.false in
-    all_seen s runs c.args.self.now few is c.loop-contexts.contexts c.loop-contexts.before c.loop-contexts.used past (c.loop-contexts.invariant.so_far s runs few is)
+    all_seen s runs c.args.self.now few is c.loop-contexts.contexts c.loop-contexts.before c.loop-contexts.used past
+    (c.loop-contexts.invariant.so_far s runs few is)
