@@ -1,13 +1,24 @@
 -- What the arguments after `code` ask for.
-use Rattle.std.specs.Prelude.{◌≡◌, List, codes}
+use Rattle.std.specs.Prelude.{◌≡◌, true, false, List, codes}
 use Rattle.clap.specs.Walk.{Row, one_of}
+use Rattle.bp_tasks.specs.declared.listing_forms.ListingForm.{ListingForm}
+use Rattle.bp_tasks.specs.declared.listing_forms.ListingForm.TheVariants.{Lines, Sourced, Json}
+use Rattle.bp_tasks.specs.declared.tasks.CodeTask.{CodeTask}
+use Rattle.bp_arguments.specs.Explains.{IsExplainingOf}
 use Rattle.bp_arguments.specs.Values.{value_of, IsFlagOf}
-use Rattle.bp_arguments.specs.ExplainArguments.{IsExplainOf}
-use Rattle.bp_arguments.specs.declared.code.CodeArguments.{CodeArguments}
+
+-- the listing is JSON where that is asked for, and else has the source where that is
+abbrev pub IsFormOf : List Row → ListingForm → Type 0
+IsFormOf rows Json = IsFlagOf (one_of (codes "json") rows) true
+IsFormOf rows Sourced =
+    IsFlagOf (one_of (codes "json") rows) false
+    × IsFlagOf (one_of (codes "source") rows) true
+IsFormOf rows Lines =
+    IsFlagOf (one_of (codes "json") rows) false
+    × IsFlagOf (one_of (codes "source") rows) false
 
 -- the file and the flags are those of the arguments
-pub record IsCodeArgumentsOf (rows : List Row) (arguments : CodeArguments) : Type 0 where
-  pub program : arguments.program.now ≡ value_of (codes "FILE") rows
-  pub source : IsFlagOf (one_of (codes "source") rows) arguments.source
-  pub json : IsFlagOf (one_of (codes "json") rows) arguments.json
-  pub explain : IsExplainOf rows arguments.explain
+pub record IsCodeArgumentsOf (rows : List Row) (task : CodeTask) : Type 0 where
+  pub program : task.program.now ≡ value_of (codes "FILE") rows
+  pub form : IsFormOf rows task.form
+  pub explain : IsExplainingOf rows task.explain

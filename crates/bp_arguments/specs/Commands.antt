@@ -24,8 +24,16 @@ use Rattle.bp_arguments.specs.RunArguments.{IsRunOf}
 use Rattle.bp_arguments.specs.ShowArguments.{IsShowOf}
 use Rattle.bp_arguments.specs.TestArguments.{IsTestOf}
 use Rattle.bp_arguments.specs.TraceArguments.{IsTraceArgumentsOf}
-use Rattle.bp_arguments.specs.declared.commands.Task.{Task}
-use Rattle.bp_arguments.specs.declared.commands.Task.TheVariants.{Bundle, Check, Code, Drive, Confirm, Run, Test, Replay, Show, Migrate, Shrink}
+use Rattle.bp_tasks.specs.declared.tasks.CheckTask.{CheckTask}
+use Rattle.bp_tasks.specs.declared.tasks.CodeTask.{CodeTask}
+use Rattle.bp_tasks.specs.declared.tasks.ConfirmTask.{ConfirmTask}
+use Rattle.bp_tasks.specs.declared.tasks.DriveTask.{DriveTask}
+use Rattle.bp_tasks.specs.declared.tasks.RunTask.{RunTask}
+use Rattle.bp_tasks.specs.declared.tasks.ShowTask.{ShowTask}
+use Rattle.bp_tasks.specs.declared.tasks.Task.{Task}
+use Rattle.bp_tasks.specs.declared.tasks.Task.TheVariants.{Bundle, Check, Code, Drive, Confirm, Run, Test, Replay, Show, Migrate, Shrink}
+use Rattle.bp_tasks.specs.declared.tasks.TestTask.{TestTask}
+use Rattle.bp_tasks.specs.declared.tasks.TraceTask.{TraceTask}
 
 -- an argument that has to be there
 abbrev pub required_rule : Text → Rule
@@ -215,34 +223,30 @@ abbrev pub IsOurs : Option (Text × List Row) → Type 0
 IsOurs None = Unit {0}
 IsOurs (Some command) = IsNamed command.0
 
--- what the command of this name asks for, with its arguments; a bundle is asked for without one
-abbrev pub IsTaskOfCommand : Text → List Row → Task → Type 0
-IsTaskOfCommand name rows Bundle = ⊥
-IsTaskOfCommand name rows (Check arguments) =
-    (name ≡ codes "check") × IsCheckArgumentsOf rows arguments
-IsTaskOfCommand name rows (Code arguments) =
-    (name ≡ codes "code") × IsCodeArgumentsOf rows arguments
-IsTaskOfCommand name rows (Drive arguments) =
-    (name ≡ codes "drive") × IsDriveOf rows arguments
-IsTaskOfCommand name rows (Confirm arguments) =
-    (name ≡ codes "confirm") × IsConfirmOf rows arguments
-IsTaskOfCommand name rows (Run arguments) =
-    (name ≡ codes "run") × IsRunOf rows arguments
-IsTaskOfCommand name rows (Test arguments) =
-    (name ≡ codes "test") × IsTestOf rows arguments
-IsTaskOfCommand name rows (Replay arguments) =
-    (name ≡ codes "replay") × IsTraceArgumentsOf rows arguments
-IsTaskOfCommand name rows (Show arguments) =
-    (name ≡ codes "show") × IsShowOf rows arguments
-IsTaskOfCommand name rows (Migrate arguments) =
-    (name ≡ codes "migrate") × IsTraceArgumentsOf rows arguments
-IsTaskOfCommand name rows (Shrink arguments) =
-    (name ≡ codes "shrink") × IsTraceArgumentsOf rows arguments
+-- the task is what a command asks for, with its arguments
+abbrev pub IsTaskOfCommand : Named → List Row → Task → Type 0
+IsTaskOfCommand name.Check rows task =
+    (t : CheckTask) × (task ≡ Check t) × IsCheckArgumentsOf rows t
+IsTaskOfCommand name.Code rows task =
+    (t : CodeTask) × (task ≡ Code t) × IsCodeArgumentsOf rows t
+IsTaskOfCommand name.Drive rows task = (t : DriveTask) × (task ≡ Drive t) × IsDriveOf rows t
+IsTaskOfCommand name.Confirm rows task =
+    (t : ConfirmTask) × (task ≡ Confirm t) × IsConfirmOf rows t
+IsTaskOfCommand name.Run rows task = (t : RunTask) × (task ≡ Run t) × IsRunOf rows t
+IsTaskOfCommand name.Test rows task = (t : TestTask) × (task ≡ Test t) × IsTestOf rows t
+IsTaskOfCommand name.Show rows task = (t : ShowTask) × (task ≡ Show t) × IsShowOf rows t
+IsTaskOfCommand name.Replay rows task =
+    (t : TraceTask) × (task ≡ Replay t) × IsTraceArgumentsOf rows t
+IsTaskOfCommand name.Migrate rows task =
+    (t : TraceTask) × (task ≡ Migrate t) × IsTraceArgumentsOf rows t
+IsTaskOfCommand name.Shrink rows task =
+    (t : TraceTask) × (task ≡ Shrink t) × IsTraceArgumentsOf rows t
 
--- what the arguments ask for, by the command that they name
+-- what the arguments ask for, by the command that they name; without one, a bundle
 abbrev pub IsTaskOf : Option (Text × List Row) → Task → Type 0
 IsTaskOf None task = task ≡ Bundle
-IsTaskOf (Some command) task = IsTaskOfCommand command.0 command.1 task
+IsTaskOf (Some (name, rows)) task =
+    (command : Named) × (name ≡ command_name command) × IsTaskOfCommand command rows task
 
 -- why arguments are refused: as `clap` says, or else for options that are wrong together or by
 -- value

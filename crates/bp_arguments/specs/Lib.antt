@@ -3,7 +3,7 @@ pub mod CodeArguments
 pub mod Commands
 pub mod ConfirmArguments
 pub mod DriveArguments
-pub mod ExplainArguments
+pub mod Explains
 pub mod Misuses
 pub mod Names
 pub mod NoTasks

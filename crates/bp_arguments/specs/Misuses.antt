@@ -8,7 +8,7 @@ use Rattle.clap.specs.declared.error.kind.ErrorKind.{ErrorKind}
 use Rattle.clap.specs.declared.error.kind.ErrorKind.TheVariants.{ArgumentConflict, InvalidValue}
 use Rattle.clap.specs.declared.parser.matches.ValueSource.{ValueSource}
 use Rattle.clap.specs.declared.parser.matches.ValueSource.TheVariants.{CommandLine, DefaultValue}
-use Rattle.bp_test.specs.declared.limits.TheConstants.{MAX_JOBS}
+use Rattle.bp_tasks.specs.declared.limits.TheConstants.{MAX_JOBS}
 use Rattle.bp_arguments.specs.Values.{has_bad_init, number_in}
 use Rattle.bp_arguments.specs.declared.misuses.Misuse.{Misuse}
 use Rattle.bp_arguments.specs.declared.misuses.Misuse.TheVariants.{BadInit, ManyJobs, Together, Backwards}

@@ -1,179 +1,155 @@
 -- Plain uses of the program: a command and its files, without an option. What they ask for is said
 -- in arguments that do not need the rules of `clap`.
-use Rattle.std.specs.Prelude.{◌≡◌, ◌==◌, ⊤, Bool, true, false, not, List, [], ◌∷◌, None, codes}
+use Rattle.std.specs.Prelude.{◌≡◌, ◌==◌, ⊤, ℕ, Bool, true, false, not, List, [], ◌∷◌, ◌++◌, None, filter, get_or, length, All}
 use Rattle.clap.specs.Walk.{Text}
 use Rattle.bp_machine.specs.Starts.{default_start}
-use Rattle.bp_run.specs.Options.{default_options}
-use Rattle.bp_run.specs.declared.limits.TheConstants.{DEFAULT_SEED}
-use Rattle.bp_test.specs.declared.limits.TheConstants.{DEFAULT_JOBS, DEFAULT_RUNS}
-use Rattle.bp_arguments.specs.ExplainArguments.{on_terminals}
-use Rattle.bp_arguments.specs.declared.trace.TraceArguments.{TraceArguments}
-use Rattle.bp_arguments.specs.declared.commands.Task.{Task}
-use Rattle.bp_arguments.specs.declared.commands.Task.TheVariants as task
+use Rattle.bp_tasks.specs.FaultFormats.{on_terminals}
+use Rattle.bp_tasks.specs.RunOptions.{default_options}
+use Rattle.bp_tasks.specs.declared.context_bounds.ContextBound.TheVariants.{AsUsed}
+use Rattle.bp_tasks.specs.declared.limits.TheConstants.{DEFAULT_JOBS, DEFAULT_RUNS, DEFAULT_SEED}
+use Rattle.bp_tasks.specs.declared.listing_forms.ListingForm.TheVariants.{Lines}
+use Rattle.bp_tasks.specs.declared.tasks.CheckTask.{CheckTask}
+use Rattle.bp_tasks.specs.declared.tasks.CodeTask.{CodeTask}
+use Rattle.bp_tasks.specs.declared.tasks.ConfirmTask.{ConfirmTask}
+use Rattle.bp_tasks.specs.declared.tasks.DriveTask.{DriveTask}
+use Rattle.bp_tasks.specs.declared.tasks.RunTask.{RunTask}
+use Rattle.bp_tasks.specs.declared.tasks.ShowTask.{ShowTask}
+use Rattle.bp_tasks.specs.declared.tasks.Task.{Task}
+use Rattle.bp_tasks.specs.declared.tasks.Task.TheVariants as asked
+use Rattle.bp_tasks.specs.declared.tasks.TestTask.{TestTask}
+use Rattle.bp_tasks.specs.declared.tasks.TraceTask.{TraceTask}
+use Rattle.bp_tasks.specs.declared.test_options.TestOptions.{TestOptions}
+use Rattle.bp_tasks.specs.declared.view_options.ViewFormat.TheVariants.{Columns}
+use Rattle.bp_tasks.specs.declared.view_options.ViewOptions.{ViewOptions}
+use Rattle.bp_arguments.specs.Commands.{command_rules, file_rules}
+use Rattle.bp_arguments.specs.Names.{command_name}
+use Rattle.bp_arguments.specs.declared.names.Named.{Named}
+use Rattle.bp_arguments.specs.declared.names.Named.TheVariants.{Check, Code, Drive, Confirm, Run, Test, Replay, Show, Migrate, Shrink}
 
--- a plain use: the command, and the paths of its files
+-- a plain use: a command and the paths of its files, or none of both, which asks for a bundle
 pub data PlainUse : Type 0 where
   bundle : PlainUse
-  check : (file : Text) → PlainUse
-  code : (file : Text) → PlainUse
-  drive : (file schedule : Text) → PlainUse
-  confirm : (file steps : Text) → PlainUse
-  run : (file : Text) → PlainUse
-  test : (file : Text) → PlainUse
-  replay : (file trace : Text) → PlainUse
-  show : (file trace : Text) → PlainUse
-  migrate : (file trace : Text) → PlainUse
-  shrink : (file trace : Text) → PlainUse
+  command_on : (command : Named) (files : List Text) → PlainUse
 
 -- the arguments after the program's name
 abbrev pub arguments_of : PlainUse → List Text
 arguments_of bundle = []
-arguments_of (check file) = codes "check" ∷ file ∷ []
-arguments_of (code file) = codes "code" ∷ file ∷ []
-arguments_of (drive file schedule) = codes "drive" ∷ file ∷ schedule ∷ []
-arguments_of (confirm file steps) = codes "confirm" ∷ file ∷ steps ∷ []
-arguments_of (run file) = codes "run" ∷ file ∷ []
-arguments_of (test file) = codes "test" ∷ file ∷ []
-arguments_of (replay file trace) = codes "replay" ∷ file ∷ trace ∷ []
-arguments_of (show file trace) = codes "show" ∷ file ∷ trace ∷ []
-arguments_of (migrate file trace) = codes "migrate" ∷ file ∷ trace ∷ []
-arguments_of (shrink file trace) = codes "shrink" ∷ file ∷ trace ∷ []
+arguments_of (command_on command files) = command_name command ∷ files
+
+-- how many files a command takes: as many as it has arguments that have to be there
+abbrev pub file_count : Named → ℕ
+file_count command = length (filter (λ r. r.required) (file_rules ++ command_rules command))
 
 -- the word is no option, and does not end the options
 abbrev pub is_plain : Text → Bool
 is_plain [] = true
 is_plain (b ∷ bs) = not (b == 45)
 
--- the paths of the files are plain arguments
+-- there is a path for each file of the command, and the paths are plain arguments
 abbrev pub HasPlainFiles : PlainUse → Type 0
 HasPlainFiles bundle = ⊤
-HasPlainFiles (check file) = is_plain file ≡ true
-HasPlainFiles (code file) = is_plain file ≡ true
-HasPlainFiles (drive file schedule) = (is_plain file ≡ true) × (is_plain schedule ≡ true)
-HasPlainFiles (confirm file steps) = (is_plain file ≡ true) × (is_plain steps ≡ true)
-HasPlainFiles (run file) = is_plain file ≡ true
-HasPlainFiles (test file) = is_plain file ≡ true
-HasPlainFiles (replay file trace) = (is_plain file ≡ true) × (is_plain trace ≡ true)
-HasPlainFiles (show file trace) = (is_plain file ≡ true) × (is_plain trace ≡ true)
-HasPlainFiles (migrate file trace) = (is_plain file ≡ true) × (is_plain trace ≡ true)
-HasPlainFiles (shrink file trace) = (is_plain file ≡ true) × (is_plain trace ≡ true)
+HasPlainFiles (command_on command files) =
+    (length files ≡ file_count command)
+    × All (λ file. is_plain file ≡ true) files
 
--- the task is to check this file, and faults are explained on terminals alone
-abbrev pub IsCheckOf : Text → Task → Type 0
-IsCheckOf file (task.Check arguments) =
-    (arguments.program.now ≡ file) × (arguments.json ≡ false) × (arguments.explain ≡ on_terminals)
-IsCheckOf file other = ⊥
+-- the paths of the program and of the second file
+abbrev pub program_of : List Text → Text
+program_of files = get_or files 0 []
 
--- the task is to list the code of this file, and faults are explained on terminals alone
-abbrev pub IsCodeOf : Text → Task → Type 0
-IsCodeOf file (task.Code arguments) =
-    (arguments.program.now ≡ file)
-    × (arguments.source ≡ false)
-    × (arguments.json ≡ false)
-    × (arguments.explain ≡ on_terminals)
-IsCodeOf file other = ⊥
+abbrev pub second_of : List Text → Text
+second_of files = get_or files 1 []
 
--- the task is to drive the program of this file by the schedule of that one, under the defaults
-abbrev pub IsPlainDriveOf : Text → Text → Task → Type 0
-IsPlainDriveOf file schedule (task.Drive arguments) =
-    (arguments.program.now ≡ file)
-    × (arguments.schedule.now ≡ schedule)
-    × (arguments.explain ≡ on_terminals)
-    × (arguments.start ≡ default_start)
-    × (arguments.named ≡ [])
-IsPlainDriveOf file schedule other = ⊥
+-- a test of the default number of runs, for failed assertions alone
+abbrev pub default_test : TestOptions
+default_test = record {
+  seed = DEFAULT_SEED;
+  runs = DEFAULT_RUNS;
+  seconds = None;
+  jobs = DEFAULT_JOBS;
+  with_deadlock = false;
+}
 
--- the task is to confirm the steps of that file by the program of this one, under the defaults and
--- within as many contexts as they use
-abbrev pub IsPlainConfirmOf : Text → Text → Task → Type 0
-IsPlainConfirmOf file steps (task.Confirm arguments) =
-    (arguments.program.now ≡ file)
-    × (arguments.steps.now ≡ steps)
-    × (arguments.explain ≡ on_terminals)
-    × (arguments.contexts ≡ None)
-    × (arguments.start ≡ default_start)
-    × (arguments.named ≡ [])
-    × (arguments.json ≡ false)
-IsPlainConfirmOf file steps other = ⊥
+-- all calls in columns of any width, without colours
+abbrev pub all_calls : ViewOptions
+all_calls = record {
+  thread = None;
+  last = None;
+  from = None;
+  to = None;
+  watch = None;
+  fold = false;
+  has_state = false;
+  is_brief = false;
+  has_colour = false;
+  columns = None;
+  format = Columns;
+}
 
--- the task is to run the program of this file under the defaults, its workers as they come
-abbrev pub IsPlainRunOf : Text → Task → Type 0
-IsPlainRunOf file (task.Run arguments) =
-    (arguments.program.now ≡ file)
-    × (arguments.spread ≡ false)
-    × (arguments.explain ≡ on_terminals)
-    × (arguments.options ≡ default_options)
-    × (arguments.named ≡ [])
-IsPlainRunOf file other = ⊥
+-- it is a task on this program and this trace, whose faults are explained on terminals alone
+abbrev pub IsOnTrace : List Text → TraceTask → Type 0
+IsOnTrace files t =
+    (t.program.now ≡ program_of files)
+    × (t.trace.now ≡ second_of files)
+    × (t.explain ≡ on_terminals)
 
--- the task is to test the program of this file under the defaults
-abbrev pub IsPlainTestOf : Text → Task → Type 0
-IsPlainTestOf file (task.Test arguments) =
-    (arguments.program.now ≡ file)
-    × (arguments.explain ≡ on_terminals)
-    × (arguments.start ≡ default_start)
-    × (arguments.named ≡ [])
-    × (arguments.seed ≡ DEFAULT_SEED)
-    × (arguments.runs ≡ DEFAULT_RUNS)
-    × (arguments.seconds ≡ None)
-    × (arguments.jobs ≡ DEFAULT_JOBS)
-    × (arguments.deadlock ≡ false)
-    × (arguments.unreached ≡ false)
-    × (arguments.json ≡ false)
-IsPlainTestOf file other = ⊥
-
--- the files are these, and faults are explained on terminals alone
-abbrev pub HasFiles : Text → Text → TraceArguments → Type 0
-HasFiles file trace arguments =
-    (arguments.program.now ≡ file)
-    × (arguments.trace.now ≡ trace)
-    × (arguments.explain ≡ on_terminals)
-
--- the task is to replay this trace of the program of this file
-abbrev pub IsReplayOf : Text → Text → Task → Type 0
-IsReplayOf file trace (task.Replay arguments) = HasFiles file trace arguments
-IsReplayOf file trace other = ⊥
-
--- the task is to show all calls of this trace of the program of this file
-abbrev pub IsPlainShowOf : Text → Text → Task → Type 0
-IsPlainShowOf file trace (task.Show arguments) =
-    (arguments.program.now ≡ file)
-    × (arguments.trace.now ≡ trace)
-    × (arguments.thread ≡ None)
-    × (arguments.last ≡ None)
-    × (arguments.from ≡ None)
-    × (arguments.to ≡ None)
-    × (arguments.watch ≡ None)
-    × (arguments.fold ≡ false)
-    × (arguments.state ≡ false)
-    × (arguments.brief ≡ false)
-    × (arguments.at ≡ None)
-    × (arguments.contexts ≡ false)
-    × (arguments.steps ≡ false)
-    × (arguments.json ≡ false)
-    × (arguments.explain ≡ on_terminals)
-IsPlainShowOf file trace other = ⊥
-
--- the task is to migrate this trace of the program of this file
-abbrev pub IsMigrateOf : Text → Text → Task → Type 0
-IsMigrateOf file trace (task.Migrate arguments) = HasFiles file trace arguments
-IsMigrateOf file trace other = ⊥
-
--- the task is to shrink this trace of the program of this file
-abbrev pub IsShrinkOf : Text → Text → Task → Type 0
-IsShrinkOf file trace (task.Shrink arguments) = HasFiles file trace arguments
-IsShrinkOf file trace other = ⊥
+-- the task is to do what the command of this name does on these files, under the defaults
+abbrev pub IsPlainTask : Named → (files : List Text) → Task → Type 0
+IsPlainTask Check files task =
+    (t : CheckTask) × (task ≡ asked.Check t)
+    × (t.program.now ≡ program_of files)
+    × (t.json ≡ false)
+    × (t.explain ≡ on_terminals)
+IsPlainTask Code files task =
+    (t : CodeTask) × (task ≡ asked.Code t)
+    × (t.program.now ≡ program_of files)
+    × (t.form ≡ Lines)
+    × (t.explain ≡ on_terminals)
+IsPlainTask Drive files task =
+    (t : DriveTask) × (task ≡ asked.Drive t)
+    × (t.program.now ≡ program_of files)
+    × (t.schedule.now ≡ second_of files)
+    × (t.start ≡ default_start)
+    × (t.named ≡ [])
+    × (t.explain ≡ on_terminals)
+IsPlainTask Confirm files task =
+    (t : ConfirmTask) × (task ≡ asked.Confirm t)
+    × (t.program.now ≡ program_of files)
+    × (t.steps.now ≡ second_of files)
+    × (t.start ≡ default_start)
+    × (t.named ≡ [])
+    × (t.bound ≡ AsUsed)
+    × (t.json ≡ false)
+    × (t.explain ≡ on_terminals)
+IsPlainTask Run files task =
+    (t : RunTask) × (task ≡ asked.Run t)
+    × (t.program.now ≡ program_of files)
+    × (t.options ≡ default_options)
+    × (t.named ≡ [])
+    × (t.spread ≡ false)
+    × (t.explain ≡ on_terminals)
+IsPlainTask Test files task =
+    (t : TestTask) × (task ≡ asked.Test t)
+    × (t.program.now ≡ program_of files)
+    × (t.start ≡ default_start)
+    × (t.named ≡ [])
+    × (t.options ≡ default_test)
+    × (t.unreached ≡ false)
+    × (t.json ≡ false)
+    × (t.explain ≡ on_terminals)
+IsPlainTask Show files task =
+    (t : ShowTask) × (task ≡ asked.Show t)
+    × (t.program.now ≡ program_of files)
+    × (t.trace.now ≡ second_of files)
+    × (t.at ≡ None)
+    × (t.contexts ≡ false)
+    × (t.steps ≡ false)
+    × (t.options ≡ all_calls)
+    × (t.explain ≡ on_terminals)
+IsPlainTask Replay files task = (t : TraceTask) × (task ≡ asked.Replay t) × IsOnTrace files t
+IsPlainTask Migrate files task = (t : TraceTask) × (task ≡ asked.Migrate t) × IsOnTrace files t
+IsPlainTask Shrink files task = (t : TraceTask) × (task ≡ asked.Shrink t) × IsOnTrace files t
 
 -- the task is what a plain use asks for
 abbrev pub IsAskedBy : PlainUse → Task → Type 0
-IsAskedBy bundle = λ t. t ≡ task.Bundle
-IsAskedBy (check file) = IsCheckOf file
-IsAskedBy (code file) = IsCodeOf file
-IsAskedBy (drive file schedule) = IsPlainDriveOf file schedule
-IsAskedBy (confirm file steps) = IsPlainConfirmOf file steps
-IsAskedBy (run file) = IsPlainRunOf file
-IsAskedBy (test file) = IsPlainTestOf file
-IsAskedBy (replay file trace) = IsReplayOf file trace
-IsAskedBy (show file trace) = IsPlainShowOf file trace
-IsAskedBy (migrate file trace) = IsMigrateOf file trace
-IsAskedBy (shrink file trace) = IsShrinkOf file trace
+IsAskedBy bundle task = task ≡ asked.Bundle
+IsAskedBy (command_on command files) task = IsPlainTask command files task

@@ -3,20 +3,10 @@ ghost use Rattle.clap.specs.Words.{found_of, rows_of};
 ghost use Rattle.bp_arguments.specs.CheckArguments.{IsCheckArgumentsOf};
 
 use crate::arguments::{Row, Takes};
-use crate::explain::{ExplainArguments, explain_arguments};
+use crate::explain::explaining;
 use crate::values::is_given;
+use bp_tasks::CheckTask;
 use clap::ArgMatches;
-
-/// A program that is checked.
-#[derive(Drop)]
-pub struct CheckArguments<'a> {
-    /// The path of the program's text.
-    pub program: &'a str,
-    /// Whether `--json` was given: what is printed is then a JSON object, and so is a fault.
-    pub json: bool,
-    /// When a fault is explained.
-    pub explain: ExplainArguments,
-}
 
 /// What help says of the command first.
 pub const ABOUT: &str = "Check a program and print 'ok' and its numbers of procedures and globals";
@@ -36,13 +26,13 @@ pub static ROWS: [Row<'static>; 1] = [Row {
 }];
 
 /// What the arguments after `check` ask for.
-pub fn check_arguments<'a>(arguments: &ArgMatches<'a>) -> CheckArguments<'a>
+pub fn check_arguments<'a>(arguments: &ArgMatches<'a>) -> CheckTask<'a>
     ensures { IsCheckArgumentsOf (rows_of (found_of arguments.now)) result }
 {
     // FILE is required, so it is there.
-    CheckArguments {
+    CheckTask {
         program: arguments.get_str("FILE").unwrap_or(""),
         json: is_given(arguments, "json"),
-        explain: explain_arguments(arguments),
+        explain: explaining(arguments),
     }
 }

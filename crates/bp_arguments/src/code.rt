@@ -1,24 +1,12 @@
 //! The arguments of `code`.
 ghost use Rattle.clap.specs.Words.{found_of, rows_of};
-ghost use Rattle.bp_arguments.specs.CodeArguments.{IsCodeArgumentsOf};
+ghost use Rattle.bp_arguments.specs.CodeArguments.{IsCodeArgumentsOf, IsFormOf};
 
 use crate::arguments::{Row, Takes};
-use crate::explain::{ExplainArguments, explain_arguments};
+use crate::explain::explaining;
 use crate::values::is_given;
+use bp_tasks::{CodeTask, ListingForm};
 use clap::ArgMatches;
-
-/// A program whose code is listed.
-#[derive(Drop)]
-pub struct CodeArguments<'a> {
-    /// The path of the program's text.
-    pub program: &'a str,
-    /// Whether `--source` was given: the statement of each instruction is then listed too.
-    pub source: bool,
-    /// Whether `--json` was given: what is printed is then JSON objects, and so is a fault.
-    pub json: bool,
-    /// When a fault is explained.
-    pub explain: ExplainArguments,
-}
 
 /// What help says of the command first.
 pub const ABOUT: &str = "Print the listing of a program's code";
@@ -46,15 +34,27 @@ pub static ROWS: [Row<'static>; 2] = [
     },
 ];
 
+/// How the code is listed. JSON has the source of each instruction too.
+fn listing_form(arguments: &ArgMatches<'_>) -> ListingForm
+    ensures { IsFormOf (rows_of (found_of arguments.now)) result }
+{
+    if is_given(arguments, "json") {
+        ListingForm::Json
+    } else if is_given(arguments, "source") {
+        ListingForm::Sourced
+    } else {
+        ListingForm::Lines
+    }
+}
+
 /// What the arguments after `code` ask for.
-pub fn code_arguments<'a>(arguments: &ArgMatches<'a>) -> CodeArguments<'a>
+pub fn code_arguments<'a>(arguments: &ArgMatches<'a>) -> CodeTask<'a>
     ensures { IsCodeArgumentsOf (rows_of (found_of arguments.now)) result }
 {
     // FILE is required, so it is there.
-    CodeArguments {
+    CodeTask {
         program: arguments.get_str("FILE").unwrap_or(""),
-        source: is_given(arguments, "source"),
-        json: is_given(arguments, "json"),
-        explain: explain_arguments(arguments),
+        form: listing_form(arguments),
+        explain: explaining(arguments),
     }
 }

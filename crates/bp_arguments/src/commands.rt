@@ -3,51 +3,24 @@ ghost use Rattle.std.specs.Prelude.{◌≡◌, false, ℕ, List, ◌∷◌, map,
 ghost use Rattle.clap.specs.Words.{FailsBy, app_of, found_of, kind_of, rows_of, subcommand_of, subcommand_rows_of};
 ghost use Rattle.bp_arguments.specs.Commands.{btrun_app, program_app, arguments_fault, IsOurs, IsTaskOf, IsTaskOfCommand};
 ghost use Rattle.bp_arguments.specs.Misuses.{misuse_kind};
-ghost use Rattle.bp_arguments.specs.Names.{command_name};
 ghost use Rattle.bp_arguments.specs.PlainUses.{PlainUse, arguments_of, HasPlainFiles, IsAskedBy};
 
-use crate::check::{CheckArguments, check_arguments};
-use crate::code::{CodeArguments, code_arguments};
-use crate::confirm::{ConfirmArguments, confirm_arguments};
-use crate::drive::{DriveArguments, drive_arguments};
+use crate::check::check_arguments;
+use crate::code::code_arguments;
+use crate::confirm::confirm_arguments;
+use crate::drive::drive_arguments;
 use crate::misuses::{Misuse, misuse_kind, misuse_of, misuse_text};
 use crate::names::{NAMED, Named, command_named};
-use crate::run::{RunArguments, run_arguments};
-use crate::show::{ShowArguments, show_arguments};
+use crate::run::run_arguments;
+use crate::show::show_arguments;
 use crate::table::with_help;
-use crate::test::{TestArguments, test_arguments};
-use crate::trace::{TraceArguments, trace_arguments};
+use crate::test::test_arguments;
+use crate::trace::trace_arguments;
 use crate::version::version;
+use bp_tasks::Task;
 use clap::error::ErrorKind;
 use clap::{ArgMatches, Command, Error};
 use std::alloc::{AllocError, Global};
-
-/// What the user wants done.
-#[derive(Drop)]
-pub enum Task<'a> {
-    /// Drive the bundle that standard input has.
-    Bundle,
-    /// `check FILE`
-    Check(CheckArguments<'a>),
-    /// `code FILE`
-    Code(CodeArguments<'a>),
-    /// `drive FILE SCHEDULE [ENTRY]..`
-    Drive(DriveArguments<'a>),
-    /// `confirm FILE STEPS [ENTRY]..`
-    Confirm(ConfirmArguments<'a>),
-    /// `run FILE [ENTRY]..`
-    Run(RunArguments<'a>),
-    /// `test FILE [ENTRY]..`
-    Test(TestArguments<'a>),
-    /// `replay FILE TRACE`
-    Replay(TraceArguments<'a>),
-    /// `show FILE TRACE`
-    Show(ShowArguments<'a>),
-    /// `migrate FILE TRACE`
-    Migrate(TraceArguments<'a>),
-    /// `shrink FILE TRACE`
-    Shrink(TraceArguments<'a>),
-}
 
 /// What `--help` says after the commands.
 const NOTES: &str = "\
@@ -93,7 +66,7 @@ fn task_named<'a>(
     arguments: &ArgMatches<'a>,
 ) -> Result<Task<'a>, AllocError>
     ensures { let rows = rows_of (found_of arguments.now) in
-        IfOk result (IsTaskOfCommand (command_name command) rows) }
+        IfOk result (IsTaskOfCommand command rows) }
 {
     match command {
         Named::Check => Ok(Task::Check(check_arguments(arguments))),
@@ -159,6 +132,6 @@ pub(crate) fn no_command(alloc: Global, message: &str) -> Result<Error, AllocErr
 }
 
 /// The error of arguments that are not UTF-8.
-pub(crate) fn not_text_error(alloc: Global) -> Result<Error, AllocError> {
+pub(crate) fn not_utf8_error(alloc: Global) -> Result<Error, AllocError> {
     command(alloc)?.error(ErrorKind::InvalidValue, "a word is not UTF-8")
 }

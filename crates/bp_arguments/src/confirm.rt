@@ -1,35 +1,17 @@
 //! The arguments of `confirm`.
 ghost use Rattle.std.specs.Prelude.{IfOk};
 ghost use Rattle.clap.specs.Words.{found_of, rows_of};
-ghost use Rattle.bp_arguments.specs.ConfirmArguments.{IsConfirmOf};
+ghost use Rattle.bp_arguments.specs.ConfirmArguments.{IsBoundOf, IsConfirmOf};
 
 use crate::arguments::{Row, Takes};
-use crate::explain::{ExplainArguments, explain_arguments};
+use crate::explain::explaining;
 use crate::rows::{CALLS, ENTRY, INIT};
 use crate::values::{entries, given_number, init, is_given, named, number};
-use bp_init::NamedBits;
 use bp_machine::Start;
 use bp_machine::limits::{DEFAULT_CALLS, DEFAULT_CONTEXTS};
+use bp_tasks::{ConfirmTask, ContextBound};
 use clap::ArgMatches;
 use std::alloc::{AllocError, Global};
-
-/// A program and reported steps, and what they start from.
-#[derive(Drop)]
-pub struct ConfirmArguments<'a> {
-    /// The path of the program's text.
-    pub program: &'a str,
-    /// The path of the steps.
-    pub steps: &'a str,
-    /// Whether `--json` was given: a fault is then a JSON object.
-    pub json: bool,
-    /// When a fault is explained.
-    pub explain: ExplainArguments,
-    /// The number of contexts, if one is given.
-    pub contexts: Option<u32>,
-    pub start: Start,
-    /// The globals whose initial bits are given by name.
-    pub named: NamedBits<'a>,
-}
 
 /// What help says of the command first.
 pub const ABOUT: &str =
@@ -68,20 +50,30 @@ pub static ROWS: [Row<'static>; 6] = [
     },
 ];
 
+/// How many contexts are allowed: as many as the steps use, unless a number is given.
+fn context_bound(arguments: &ArgMatches<'_>) -> ContextBound
+    ensures { IsBoundOf (rows_of (found_of arguments.now)) result }
+{
+    match given_number(arguments, "contexts") {
+        Some(_) => ContextBound::Kept,
+        None => ContextBound::AsUsed,
+    }
+}
+
 /// What the arguments after `confirm` ask for.
 pub fn confirm_arguments<'a>(
     alloc: Global,
     arguments: &ArgMatches<'a>,
-) -> Result<ConfirmArguments<'a>, AllocError>
+) -> Result<ConfirmTask<'a>, AllocError>
     ensures { IfOk result (IsConfirmOf (rows_of (found_of arguments.now))) }
 {
     // FILE and STEPS are required, so they are there.
-    Ok(ConfirmArguments {
+    Ok(ConfirmTask {
         program: arguments.get_str("FILE").unwrap_or(""),
         steps: arguments.get_str("STEPS").unwrap_or(""),
         json: is_given(arguments, "json"),
-        explain: explain_arguments(arguments),
-        contexts: given_number(arguments, "contexts"),
+        explain: explaining(arguments),
+        bound: context_bound(arguments),
         start: Start {
             entries: entries(alloc, arguments)?,
             init: init(alloc, arguments)?,

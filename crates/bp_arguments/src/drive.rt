@@ -4,28 +4,14 @@ ghost use Rattle.clap.specs.Words.{found_of, rows_of};
 ghost use Rattle.bp_arguments.specs.DriveArguments.{IsDriveOf};
 
 use crate::arguments::{Row, Takes};
-use crate::explain::{ExplainArguments, explain_arguments};
+use crate::explain::explaining;
 use crate::rows::{CALLS, CONTEXTS, ENTRY, INIT};
 use crate::values::{entries, init, named, number};
-use bp_init::NamedBits;
 use bp_machine::Start;
 use bp_machine::limits::{DEFAULT_CALLS, DEFAULT_CONTEXTS};
+use bp_tasks::DriveTask;
 use clap::ArgMatches;
 use std::alloc::{AllocError, Global};
-
-/// A program and a schedule, and what driving starts from beside them.
-#[derive(Drop)]
-pub struct DriveArguments<'a> {
-    /// The path of the program's text.
-    pub program: &'a str,
-    /// The path of the schedule.
-    pub schedule: &'a str,
-    /// When a fault is explained.
-    pub explain: ExplainArguments,
-    pub start: Start,
-    /// The globals whose initial bits are given by name.
-    pub named: NamedBits<'a>,
-}
 
 /// What help says of the command first.
 pub const ABOUT: &str = "Drive a program by a schedule and print the trace of the run";
@@ -56,14 +42,14 @@ pub static ROWS: [Row<'static>; 5] = [
 pub fn drive_arguments<'a>(
     alloc: Global,
     arguments: &ArgMatches<'a>,
-) -> Result<DriveArguments<'a>, AllocError>
+) -> Result<DriveTask<'a>, AllocError>
     ensures { IfOk result (IsDriveOf (rows_of (found_of arguments.now))) }
 {
     // FILE and SCHEDULE are required, so they are there.
-    Ok(DriveArguments {
+    Ok(DriveTask {
         program: arguments.get_str("FILE").unwrap_or(""),
         schedule: arguments.get_str("SCHEDULE").unwrap_or(""),
-        explain: explain_arguments(arguments),
+        explain: explaining(arguments),
         start: Start {
             entries: entries(alloc, arguments)?,
             init: init(alloc, arguments)?,

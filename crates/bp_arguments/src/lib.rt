@@ -24,15 +24,5 @@ mod usages;
 mod values;
 mod version;
 
-pub use check::CheckArguments;
-pub use code::CodeArguments;
-pub use commands::Task;
-pub use confirm::ConfirmArguments;
-pub use drive::DriveArguments;
-pub use explain::ExplainArguments;
-pub use no_tasks::{NoTask, Refusal, not_text, read_arguments};
-pub use run::RunArguments;
-pub use show::ShowArguments;
-pub use test::TestArguments;
-pub use trace::TraceArguments;
+pub use no_tasks::{NoTask, Refusal, not_utf8, read_arguments};
 pub use usages::asks_for_json;

@@ -1,7 +1,7 @@
 //! What was meant by arguments that are refused.
 
 use bp_machine::limits::{MAX_CALLS, MAX_CONTEXTS};
-use bp_test::limits::MAX_JOBS;
+use bp_tasks::limits::MAX_JOBS;
 use std::alloc::{AllocError, Global};
 
 /// What the name of a program's file ends with.

@@ -4,7 +4,7 @@ ghost use Rattle.clap.specs.Words.{found_of, kind_of, rows_of, subcommand_rows_o
 ghost use Rattle.bp_arguments.specs.Misuses.{are_on_line, are_many, backwards_in, clash_in, descending, has_many_jobs, is_from_line, is_on_line, misuse_in, misuse_kind, misuse_of, option_name};
 
 use crate::values::{given_long_number, given_number, has_bad_init};
-use bp_test::limits::MAX_JOBS;
+use bp_tasks::limits::MAX_JOBS;
 use clap::ArgMatches;
 use clap::error::ErrorKind;
 use clap::parser::ValueSource;

@@ -5,9 +5,10 @@ ghost use Rattle.bp_arguments.specs.Commands.{btrun_app, arguments_fault, IsTask
 ghost use Rattle.bp_arguments.specs.NoTasks.{EndsBy, IsOfKind, IsPrinted, IsRefused};
 ghost use Rattle.bp_arguments.specs.PlainUses.{PlainUse, arguments_of, HasPlainFiles, IsAskedBy};
 
-use crate::commands::{Task, not_text_error, task_of_arguments};
+use crate::commands::{not_utf8_error, task_of_arguments};
 use crate::echoes::{error_on_lines, escaped};
 use crate::usages::message_of;
+use bp_tasks::Task;
 use clap::Error;
 use clap::error::ErrorKind;
 use std::alloc::{AllocError, Global};
@@ -106,10 +107,10 @@ pub fn read_arguments<'a>(alloc: Global, arguments: &'a [String]) -> Result<Task
 }
 
 /// What is said of arguments that are not UTF-8.
-pub fn not_text(alloc: Global) -> NoTask
+pub fn not_utf8(alloc: Global) -> NoTask
     ensures { (result ≡ NoTask.Memory) ⊎ IsRefused result }
 {
-    match not_text_error(alloc) {
+    match not_utf8_error(alloc) {
         Ok(error) => said_or_memory(refused(alloc, &error)),
         Err(_) => NoTask::Memory,
     }

@@ -4,31 +4,15 @@ ghost use Rattle.clap.specs.Words.{found_of, rows_of};
 ghost use Rattle.bp_arguments.specs.RunArguments.{IsRunOf};
 
 use crate::arguments::{Row, Takes};
-use crate::explain::{ExplainArguments, explain_arguments};
+use crate::explain::explaining;
 use crate::rows::{CALLS, CONTEXTS, ENTRY, INIT};
 use crate::values::{entries, init, is_given, long_number, named, number};
-use bp_init::NamedBits;
 use bp_machine::Start;
 use bp_machine::limits::{DEFAULT_CALLS, DEFAULT_CONTEXTS};
-use bp_run::RunOptions;
-use bp_run::limits::{DEFAULT_RING, DEFAULT_SEED, DEFAULT_TURN};
+use bp_tasks::limits::{DEFAULT_RING, DEFAULT_SEED, DEFAULT_TURN};
+use bp_tasks::{RunOptions, RunTask};
 use clap::ArgMatches;
 use std::alloc::{AllocError, Global};
-
-/// A program, and what its run starts from beside it.
-#[derive(Drop)]
-pub struct RunArguments<'a> {
-    /// The path of the program's text.
-    pub program: &'a str,
-    /// Whether the workers start together and take turns as they are drawn.
-    pub spread: bool,
-    /// When a fault is explained.
-    pub explain: ExplainArguments,
-    /// What the run starts from.
-    pub options: RunOptions,
-    /// The globals whose initial bits are given by name.
-    pub named: NamedBits<'a>,
-}
 
 /// What help says of the command first.
 pub const ABOUT: &str =
@@ -80,14 +64,14 @@ pub static ADVANCED: [Row<'static>; 3] = [
 pub fn run_arguments<'a>(
     alloc: Global,
     arguments: &ArgMatches<'a>,
-) -> Result<RunArguments<'a>, AllocError>
+) -> Result<RunTask<'a>, AllocError>
     ensures { IfOk result (IsRunOf (rows_of (found_of arguments.now))) }
 {
     // FILE is required, so it is there.
-    Ok(RunArguments {
+    Ok(RunTask {
         program: arguments.get_str("FILE").unwrap_or(""),
         spread: is_given(arguments, "spread"),
-        explain: explain_arguments(arguments),
+        explain: explaining(arguments),
         options: RunOptions {
             start: Start {
                 entries: entries(alloc, arguments)?,

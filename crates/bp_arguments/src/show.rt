@@ -1,48 +1,13 @@
 //! The arguments of `show`.
 ghost use Rattle.clap.specs.Words.{found_of, rows_of};
-ghost use Rattle.bp_arguments.specs.ShowArguments.{IsShowOf};
+ghost use Rattle.bp_arguments.specs.ShowArguments.{IsShowOf, IsViewFormatOf, IsViewOf};
 
 use crate::arguments::{Row, Takes};
-use crate::explain::{ExplainArguments, explain_arguments};
+use crate::explain::explaining;
 use crate::rows::TRACE;
 use crate::values::{given_long_number, given_number, is_given};
+use bp_tasks::{ShowTask, ViewFormat, ViewOptions};
 use clap::ArgMatches;
-
-/// A program, a trace of it, and which of its calls are shown.
-#[derive(Drop)]
-pub struct ShowArguments<'a> {
-    /// The path of the program's text.
-    pub program: &'a str,
-    /// The path of the trace.
-    pub trace: &'a str,
-    /// The calls of this thread alone.
-    pub thread: Option<u32>,
-    /// How many of the last calls of the history are shown.
-    pub last: Option<u64>,
-    /// The number of the first call that is shown.
-    pub from: Option<u64>,
-    /// The number of the last call that is shown.
-    pub to: Option<u64>,
-    /// The names of variables, which commas separate: the calls that change one of these alone.
-    pub watch: Option<&'a str>,
-    /// Whether `--fold` was given: equal waits have one line.
-    pub fold: bool,
-    /// Whether `--state` was given: the state after the last call follows.
-    pub state: bool,
-    /// Whether `--brief` was given: the setup is left out.
-    pub brief: bool,
-    /// After how many calls the state is shown, in place of the calls.
-    pub at: Option<u64>,
-    /// Whether `--contexts` was given: the contexts are shown, in place of the calls.
-    pub contexts: bool,
-    /// Whether `--steps` was given: the steps are shown as `confirm` takes them, in place of the
-    /// calls.
-    pub steps: bool,
-    /// Whether `--json` was given: each line is then a JSON object.
-    pub json: bool,
-    /// When a fault is explained.
-    pub explain: ExplainArguments,
-}
 
 /// What help says of the command first.
 pub const ABOUT: &str = "Replay a trace and show what happened, call by call";
@@ -125,26 +90,48 @@ pub static ROWS: [Row<'static>; 13] = [
     },
 ];
 
-/// What the arguments after `show` ask for.
-pub fn show_arguments<'a>(arguments: &ArgMatches<'a>) -> ShowArguments<'a>
-    ensures { IsShowOf (rows_of (found_of arguments.now)) result }
+/// How what is shown is written.
+fn view_format(arguments: &ArgMatches<'_>) -> ViewFormat
+    ensures { IsViewFormatOf (rows_of (found_of arguments.now)) result }
 {
-    // FILE and TRACE are required, so they are there.
-    ShowArguments {
-        program: arguments.get_str("FILE").unwrap_or(""),
-        trace: arguments.get_str("TRACE").unwrap_or(""),
+    if is_given(arguments, "json") {
+        ViewFormat::Json
+    } else {
+        ViewFormat::Columns
+    }
+}
+
+/// Which calls are shown, and how, on a screen without colours and of any width.
+fn view_options<'a>(arguments: &ArgMatches<'a>) -> ViewOptions<'a>
+    ensures { IsViewOf (rows_of (found_of arguments.now)) result }
+{
+    ViewOptions {
         thread: given_number(arguments, "thread"),
         last: given_long_number(arguments, "last"),
         from: given_long_number(arguments, "from"),
         to: given_long_number(arguments, "to"),
         watch: arguments.get_str("watch"),
         fold: is_given(arguments, "fold"),
-        state: is_given(arguments, "state"),
-        brief: is_given(arguments, "brief"),
+        has_state: is_given(arguments, "state"),
+        is_brief: is_given(arguments, "brief"),
+        has_colour: false,
+        columns: None,
+        format: view_format(arguments),
+    }
+}
+
+/// What the arguments after `show` ask for.
+pub fn show_arguments<'a>(arguments: &ArgMatches<'a>) -> ShowTask<'a>
+    ensures { IsShowOf (rows_of (found_of arguments.now)) result }
+{
+    // FILE and TRACE are required, so they are there.
+    ShowTask {
+        program: arguments.get_str("FILE").unwrap_or(""),
+        trace: arguments.get_str("TRACE").unwrap_or(""),
         at: given_long_number(arguments, "at"),
         contexts: is_given(arguments, "contexts"),
         steps: is_given(arguments, "steps"),
-        json: is_given(arguments, "json"),
-        explain: explain_arguments(arguments),
+        options: view_options(arguments),
+        explain: explaining(arguments),
     }
 }

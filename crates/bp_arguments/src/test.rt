@@ -4,43 +4,15 @@ ghost use Rattle.clap.specs.Words.{found_of, rows_of};
 ghost use Rattle.bp_arguments.specs.TestArguments.{contexts_for, IsTestOf};
 
 use crate::arguments::{Row, Takes};
-use crate::explain::{ExplainArguments, explain_arguments};
+use crate::explain::explaining;
 use crate::rows::{CALLS, ENTRY, INIT};
 use crate::values::{entries, given_long_number, init, is_given, long_number, named, number};
-use bp_init::NamedBits;
 use bp_machine::Start;
 use bp_machine::limits::{DEFAULT_CALLS, MAX_THREADS};
-use bp_run::limits::DEFAULT_SEED;
-use bp_test::limits::{DEFAULT_JOBS, DEFAULT_RUNS};
+use bp_tasks::limits::{DEFAULT_JOBS, DEFAULT_RUNS, DEFAULT_SEED};
+use bp_tasks::{TestOptions, TestTask};
 use clap::ArgMatches;
 use std::alloc::{AllocError, Global};
-
-/// A program, and by how many runs it is tested.
-#[derive(Drop)]
-pub struct TestArguments<'a> {
-    /// The path of the program's text.
-    pub program: &'a str,
-    /// When a fault is explained.
-    pub explain: ExplainArguments,
-    /// What each run starts from.
-    pub start: Start,
-    /// The globals whose initial bits are given by name.
-    pub named: NamedBits<'a>,
-    /// The seed of the first run. Each other run has the seed after that of the run before it.
-    pub seed: u64,
-    /// How many runs there are at most.
-    pub runs: u64,
-    /// After how many seconds no run begins, if that is said.
-    pub seconds: Option<u64>,
-    /// How many blocks of runs are made side by side.
-    pub jobs: u32,
-    /// Whether `--deadlock` was given: the test then also looks for a run that ends in a deadlock.
-    pub deadlock: bool,
-    /// Whether `--unreached` was given: the statements that no run reached are then listed.
-    pub unreached: bool,
-    /// Whether `--json` was given: the summary is then JSON objects, and so is a fault.
-    pub json: bool,
-}
 
 /// What help says of the command first.
 pub const ABOUT: &str =
@@ -122,15 +94,15 @@ fn default_contexts(entries: &[String]) -> u32
 pub fn test_arguments<'a>(
     alloc: Global,
     arguments: &ArgMatches<'a>,
-) -> Result<TestArguments<'a>, AllocError>
+) -> Result<TestTask<'a>, AllocError>
     ensures { IfOk result (IsTestOf (rows_of (found_of arguments.now))) }
 {
     let entries = entries(alloc, arguments)?;
     let contexts = default_contexts(entries.as_slice());
     // FILE is required, so it is there.
-    Ok(TestArguments {
+    Ok(TestTask {
         program: arguments.get_str("FILE").unwrap_or(""),
-        explain: explain_arguments(arguments),
+        explain: explaining(arguments),
         start: Start {
             entries,
             init: init(alloc, arguments)?,
@@ -138,11 +110,13 @@ pub fn test_arguments<'a>(
             calls: number(arguments, "calls", DEFAULT_CALLS),
         },
         named: named(alloc, arguments)?,
-        seed: long_number(arguments, "seed", DEFAULT_SEED),
-        runs: long_number(arguments, "runs", DEFAULT_RUNS),
-        seconds: given_long_number(arguments, "time"),
-        jobs: number(arguments, "jobs", DEFAULT_JOBS),
-        deadlock: is_given(arguments, "deadlock"),
+        options: TestOptions {
+            seed: long_number(arguments, "seed", DEFAULT_SEED),
+            runs: long_number(arguments, "runs", DEFAULT_RUNS),
+            seconds: given_long_number(arguments, "time"),
+            jobs: number(arguments, "jobs", DEFAULT_JOBS),
+            with_deadlock: is_given(arguments, "deadlock"),
+        },
         unreached: is_given(arguments, "unreached"),
         json: is_given(arguments, "json"),
     })

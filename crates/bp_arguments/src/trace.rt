@@ -3,20 +3,10 @@ ghost use Rattle.clap.specs.Words.{found_of, rows_of};
 ghost use Rattle.bp_arguments.specs.TraceArguments.{IsTraceArgumentsOf};
 
 use crate::arguments::Row;
-use crate::explain::{ExplainArguments, explain_arguments};
+use crate::explain::explaining;
 use crate::rows::TRACE;
+use bp_tasks::TraceTask;
 use clap::ArgMatches;
-
-/// A program and a trace of it.
-#[derive(Drop)]
-pub struct TraceArguments<'a> {
-    /// The path of the program's text.
-    pub program: &'a str,
-    /// The path of the trace.
-    pub trace: &'a str,
-    /// When a fault is explained.
-    pub explain: ExplainArguments,
-}
 
 pub const REPLAY_ABOUT: &str = "Replay a trace and print what its steps printed, and the outcome";
 
@@ -58,13 +48,13 @@ pub const SHRINK_NOTES: &str = "\
 pub static ROWS: [Row<'static>; 1] = [TRACE];
 
 /// What the arguments after `replay`, `migrate` or `shrink` ask for.
-pub fn trace_arguments<'a>(arguments: &ArgMatches<'a>) -> TraceArguments<'a>
+pub fn trace_arguments<'a>(arguments: &ArgMatches<'a>) -> TraceTask<'a>
     ensures { IsTraceArgumentsOf (rows_of (found_of arguments.now)) result }
 {
     // FILE and TRACE are required, so they are there.
-    TraceArguments {
+    TraceTask {
         program: arguments.get_str("FILE").unwrap_or(""),
         trace: arguments.get_str("TRACE").unwrap_or(""),
-        explain: explain_arguments(arguments),
+        explain: explaining(arguments),
     }
 }

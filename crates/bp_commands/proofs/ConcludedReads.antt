@@ -1,17 +1,17 @@
 -- What a run tells of a fault is of the inputs that were read, or of why they were not.
 use Rattle.std.proofs.Common.{◌≡◌, ◌⊎◌, ℕ, List, Option, Result, Ok, Err, refl, subst, sym, inl, inr}
-use Rattle.bp_commands.specs.declared.fault_formats.FaultFormat.{FaultFormat}
-use Rattle.bp_commands.specs.declared.fault_formats.FaultFormat.TheVariants as format
+use Rattle.bp_tasks.specs.declared.fault_formats.FaultFormat.{FaultFormat}
+use Rattle.bp_tasks.specs.declared.fault_formats.FaultFormat.TheVariants as format
 use Rattle.bp_advice.specs.declared.explanations.Explanation.{Explanation}
 use Rattle.bp_messages.specs.declared.faults.Fault.{Fault}
 use Rattle.bp_text.specs.declared.writing.WriteFault.{WriteFault}
-use Rattle.bp_commands.specs.declared.ends.Explained.{Explained}
-use Rattle.bp_commands.specs.declared.ends.RunEnd.{RunEnd}
-use Rattle.bp_commands.specs.Ends.{Ending, Ends}
+use Rattle.bp_commands.specs.declared.run_ends.Explained.{Explained}
+use Rattle.bp_commands.specs.declared.run_ends.RunEnd.{RunEnd}
+use Rattle.bp_commands.specs.RunEnds.{AnswerRule, IsEndOf}
 use Rattle.bp_commands.specs.Explanations.{AreReadOr, IsSaid, IsSaidOfRead, IsTold}
 use Rattle.bp_commands.specs.Flushes.{IsFlushed}
 use Rattle.bp_commands.specs.Given.{Inputs}
-use Rattle.bp_commands.specs.Tellings.{IsConcluded, IsObjectRead, IsReported}
+use Rattle.bp_commands.specs.FaultReports.{IsConcluded, IsObjectRead, IsReported}
 
 module _ {X : Type 0} (inputs : Inputs X) (given : X) (IsObject : X → Explained → Fault → List ℕ → Type 0) (e : Explained) where
   reports : (kind : FaultFormat) (f : Fault) (old new : Option (List ℕ)) (told : Result (Unit {0}) WriteFault) → inputs.Holds given ⊎ inputs.Unread f
@@ -34,11 +34,11 @@ module _ {X R : Type 0} (inputs : Inputs X) (given : X) where
   read_or_why (Err g) final held now f (inr why) flushed is = inr (subst inputs.Unread (sym (same_fault f g final held now flushed is)) why)
 
   module _ (IsObject : X → Explained → Fault → List ℕ → Type 0) (x : Explained) where
-    ends_read : (ending : Ending R) (kind : FaultFormat) (done final : Result R Fault) (held now : Option (List ℕ)) (e : RunEnd) (old new : Option (List ℕ))
+    ends_read : (rule : AnswerRule R) (kind : FaultFormat) (done final : Result R Fault) (held now : Option (List ℕ)) (e : RunEnd) (old new : Option (List ℕ))
         → AreReadOr inputs given done → IsFlushed done held final now
-        → Ends ending (IsReported kind (IsObject given x)) final e old new → Ends ending (IsReported kind (IsObjectRead inputs IsObject x)) final e old new
-    ends_read ending kind done (Ok r) held now e old new read flushed ends = ends
-    ends_read ending kind done (Err f) held now e old new read flushed (status_is, reported) =
+        → IsEndOf rule (IsReported kind (IsObject given x)) final e old new → IsEndOf rule (IsReported kind (IsObjectRead inputs IsObject x)) final e old new
+    ends_read rule kind done (Ok r) held now e old new read flushed ends = ends
+    ends_read rule kind done (Err f) held now e old new read flushed (status_is, reported) =
         (status_is, reports inputs given IsObject x kind f old new e.told (read_or_why done (Err f) held now f read flushed refl) reported)
 
   module _ (Explains : X → Fault → Explanation → Type 0) where
@@ -53,12 +53,12 @@ module _ {X R : Type 0} (inputs : Inputs X) (given : X) where
 
   -- so a run ends as it is concluded of what was read
   pub concluded_read : (IsObject : X → Explained → Fault → List ℕ → Type 0) (Explains : X → Fault → Explanation → Type 0)
-      (ending : Ending R) (kind : FaultFormat) (done final : Result R Fault) (held now : Option (List ℕ)) (e : RunEnd) (old new : Option (List ℕ))
+      (rule : AnswerRule R) (kind : FaultFormat) (done final : Result R Fault) (held now : Option (List ℕ)) (e : RunEnd) (old new : Option (List ℕ))
       → AreReadOr inputs given done → IsFlushed done held final now
-      → IsConcluded ending kind (IsObject given) (λ f. IsSaid (Explains given f)) final e old new
-      → IsConcluded ending kind (IsObjectRead inputs IsObject) (IsSaidOfRead inputs Explains) final e old new
-  concluded_read IsObject Explains ending kind done final held now e old new read flushed (between, ends, told) = (
+      → IsConcluded rule kind (IsObject given) (λ f. IsSaid (Explains given f)) final e old new
+      → IsConcluded rule kind (IsObjectRead inputs IsObject) (IsSaidOfRead inputs Explains) final e old new
+  concluded_read IsObject Explains rule kind done final held now e old new read flushed (between, ends, told) = (
     between,
-    ends_read IsObject e.explained ending kind done final held now e old between read flushed ends,
+    ends_read IsObject e.explained rule kind done final held now e old between read flushed ends,
     tells Explains kind done final held now e.explained between new read flushed told,
   )

@@ -5,28 +5,29 @@ use Rattle.bp_text.specs.Writing.{Writes}
 use Rattle.std.proofs.Common.{◌≡◌, ℕ, List, true, Option, None, Some, Result, Ok, Err, IfOk, Vec, ◌∙◌, subst, inl, inr}
 use Rattle.bp_advice.specs.declared.explanations.Explanation.{Explanation}
 use Rattle.bp_messages.specs.declared.faults.Fault.{Fault}
-use Rattle.bp_commands.specs.declared.ends.Explained.{Explained}
-use Rattle.bp_commands.specs.declared.ends.RunEnd.{RunEnd}
-use Rattle.bp_commands.specs.declared.fault_formats.FaultFormat.{FaultFormat}
-use Rattle.bp_commands.specs.declared.fault_formats.FaultFormat.TheVariants as format
-use Rattle.bp_commands.specs.Ends.{Ending, Ends}
+use Rattle.bp_commands.specs.declared.run_ends.Explained.{Explained}
+use Rattle.bp_commands.specs.declared.run_ends.RunEnd.{RunEnd}
+use Rattle.bp_tasks.specs.declared.fault_formats.FaultFormat.{FaultFormat}
+use Rattle.bp_tasks.specs.declared.fault_formats.FaultFormat.TheVariants as format
+use Rattle.bp_commands.specs.RunEnds.{AnswerRule, IsEndOf}
 use Rattle.bp_commands.specs.Explanations.{IsSaid, IsSaidFor, IsTextOf}
-use Rattle.bp_commands.specs.Tellings.{is_explained, IsConcluded, IsReported}
+use Rattle.bp_commands.specs.FaultReports.{IsConcluded, IsReported}
+use Rattle.bp_tasks.specs.FaultFormats.{is_explained}
 
 -- what is said of a fault, where its lines were made or memory for them was refused
 pub says : (Explains : Explanation → Type 0) (e : Explained) (r : Result (Option (Vec ℕ Global)) AllocError) (said : List ℕ)
     → IfOk r (IsTextOf true Explains) → IsSaidFor r e said → IsSaid Explains e said
-says Explains e (Ok (Some lines)) said (x, is, lines_are) (made, same) = inl (made, (x, is, same ∙ lines_are))
-says Explains e (Ok None) said none (made, words) = inr (inl none, words)
-says Explains e (Err x) said made (refused, words) = inr (inr refused, words)
+says Explains e (Ok (Some lines)) said (x, is, lines_are) (made, same) = inl (made, inl (x, is, same ∙ lines_are))
+says Explains e (Ok None) said none (made, sentence) = inl (made, inr (none, sentence))
+says Explains e (Err x) said made (refused, sentence) = inr (refused, sentence)
 
 -- a run whose refusal is explained by lines is concluded by how it ends and by what is said then
-module _ {R : Type 0} (ending : Ending R) (IsObject : Explained → Fault → List ℕ → Type 0) (Explains : Fault → Explanation → Type 0)
+module _ {R : Type 0} (rule : AnswerRule R) (IsObject : Explained → Fault → List ℕ → Type 0) (Explains : Fault → Explanation → Type 0)
     (e : RunEnd) (old between new : Option (List ℕ)) where
   pub by_lines : (x : Explained) (f : Fault) (kind : FaultFormat) (done : Result R Fault) → is_explained kind ≡ true → done ≡ Err f
-      → Ends ending (IsReported kind (IsObject e.explained)) done e old between
+      → IsEndOf rule (IsReported kind (IsObject e.explained)) done e old between
       → (said : List ℕ) × IsSaid (Explains f) x said × Writes between new said x.told
-      → IsConcluded ending kind IsObject (λ g. IsSaid (Explains g)) done (record { status = e.status; told = e.told; explained = x }) old new
+      → IsConcluded rule kind IsObject (λ g. IsSaid (Explains g)) done (record { status = e.status; told = e.told; explained = x }) old new
   by_lines x f format.Explained (Err g) on is ends (said, saying, written) =
       let same : f ≡ g = cc in
       (between, ends, (said, subst (λ h. IsSaid (Explains h) x said) same saying, written))

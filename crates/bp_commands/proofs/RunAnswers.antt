@@ -5,7 +5,8 @@ use Rattle.std.proofs.KnownBytes.{Keeps-refl}
 use Rattle.bp_run.specs.declared.answers.RunReport.{RunReport}
 use Rattle.bp_run.specs.declared.run_faults.RunFault.{RunFault}
 use Rattle.bp_run.specs.declared.run_faults.RunFault.TheVariants as run
-use Rattle.bp_run.specs.Options.{OptionsOf, setup_under}
+use Rattle.bp_tasks.specs.RunOptions.{OptionsOf}
+use Rattle.bp_run.specs.Options.{setup_under}
 use Rattle.bp_run.specs.Runs.{IsTracedRun, IsRunRefusal}
 use Rattle.bp_trace.specs.TraceText.{trace_text}
 use Rattle.bp_commands.specs.Commands.{IsDoneWith, IsRefusedWith}

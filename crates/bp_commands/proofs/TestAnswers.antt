@@ -14,7 +14,7 @@ use Rattle.bp_machine.specs.Starts.{StartOf, setup_from}
 use Rattle.bp_trace.specs.TraceText.{trace_text}
 use Rattle.bp_test.specs.declared.faults.TestFault.{TestFault}
 use Rattle.bp_test.specs.declared.faults.TestFault.TheVariants as fault
-use Rattle.bp_test.specs.declared.options.TestOptions.{TestOptions}
+use Rattle.bp_tasks.specs.declared.test_options.TestOptions.{TestOptions}
 use Rattle.bp_test.specs.declared.testing.Found.{Found}
 use Rattle.bp_test.specs.declared.testing.Found.TheVariants.{Nothing, Failed, Deadlock}
 use Rattle.bp_test.specs.declared.testing.Tested.{Tested as Made}
@@ -26,7 +26,7 @@ use Rattle.bp_test.specs.Tests.{setup_of_run, IsFound, IsTest, IsTestRefusal, Is
 use Rattle.bp_commands.specs.Commands.{IsDoneWith, IsRefusedWith}
 use Rattle.bp_messages.specs.Faults.{fault_of_setup, fault_of_test}
 use Rattle.bp_messages.specs.declared.faults.Fault.TheVariants.{Memory}
-use Rattle.bp_messages.specs.declared.tested.Tested.{Tested}
+use Rattle.bp_messages.specs.declared.test_reports.TestReport.{TestReport}
 use Rattle.bp_messages.specs.Notes.{notes_of}
 use Rattle.bp_commands.specs.Tests.{tests, AreListed, IsTestable}
 use Rattle.bp_source.specs.Scenes.{AreStatements}
@@ -79,7 +79,7 @@ module _ (start : StartOf) (x : TestOptions) (listed : Option (List ℕ)) (json 
       written = is.written;
     }
 
-    pub done : (made : Made) → IsTest t s x old new made → (tested : Tested) → tested.found ≡ made.found
+    pub done : (made : Made) → IsTest t s x old new made → (tested : TestReport) → tested.found ≡ made.found
         → tested.failed ≡ made.failed → tested.waiting ≡ made.waiting → tested.positions.items ≡ positions_of text t
         → AreStatements text (places_of t.procedures) (map (λ v. v.items) tested.statements.items)
         → tested.reached ≡ made.tally.reached

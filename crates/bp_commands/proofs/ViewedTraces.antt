@@ -8,7 +8,7 @@ use Rattle.bp_machine.specs.declared.reports.Report.{Report}
 use Rattle.bp_machine.specs.Reports.{IsReport}
 use Rattle.bp_view.specs.declared.faults.ViewFault.{ViewFault}
 use Rattle.bp_view.specs.declared.faults.ViewFault.TheVariants as view
-use Rattle.bp_view.specs.declared.options.ViewOptions.{ViewOptions}
+use Rattle.bp_tasks.specs.declared.view_options.ViewOptions.{ViewOptions}
 use Rattle.bp_view.specs.Views.{IsViewed, IsViewOfTrace, IsViewRefusal}
 use Rattle.bp_commands.specs.Commands.{IsDoneWith, IsRefusedWith}
 use Rattle.bp_messages.specs.Faults.{fault_of_view}

@@ -7,7 +7,7 @@ use Rattle.bp_machine.specs.Setups.{SetupOf, setup_fault}
 use Rattle.bp_machine.specs.Starts.{StartOf, setup_from}
 use Rattle.bp_trace.specs.TraceText.{trace_text}
 use Rattle.bp_confirm.specs.declared.confirming.ConfirmFault.{ConfirmFault}
-use Rattle.bp_confirm.specs.declared.context_bounds.ContextBound.{ContextBound}
+use Rattle.bp_tasks.specs.declared.context_bounds.ContextBound.{ContextBound}
 use Rattle.bp_confirm.specs.declared.histories.ConfirmReport.{ConfirmReport}
 use Rattle.bp_confirm.specs.ConfirmReports.{IsConfirmReport}
 use Rattle.bp_confirm.specs.ConfirmedTexts.{IsConfirmedText, IsStepsRefusal}
@@ -15,7 +15,7 @@ use Rattle.bp_messages.specs.declared.faults.Fault.{Fault}
 use Rattle.bp_init.specs.NamedBits.{NamedBitOf}
 use Rattle.bp_commands.specs.Commands.{Command}
 use Rattle.bp_commands.specs.Drives.{IsSetupRefused}
-use Rattle.bp_commands.specs.Ends.{report_failed, Ending}
+use Rattle.bp_commands.specs.RunEnds.{report_failed, AnswerRule}
 use Rattle.bp_messages.specs.Faults.{fault_of_steps}
 use Rattle.bp_commands.specs.Given.{Pair}
 use Rattle.bp_commands.specs.Listings.{HasNoCode}
@@ -37,7 +37,7 @@ confirm_summary x =
     if report_failed x.report then []
     else if x.is_deadlocked then deadlock_line else not_failed_line
 
-abbrev pub of_confirm : Ending ConfirmReport
+abbrev pub of_confirm : AnswerRule ConfirmReport
 of_confirm = record {
   failed = λ x. report_failed x.report;
   summary = confirm_summary;

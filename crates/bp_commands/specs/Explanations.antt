@@ -12,14 +12,14 @@ use Rattle.bp_advice.specs.declared.explanations.Explanation.{Explanation}
 use Rattle.bp_advice.specs.ExplainedPrograms.{ExplainsProgram}
 use Rattle.bp_advice.specs.Explanations.{lines_of, sentence_of, IsUnexplained}
 use Rattle.bp_explain.specs.Explained.{ExplainsTrace, ExplainsSchedule, ExplainsSteps}
-use Rattle.bp_commands.specs.declared.explanations.Beside.{Beside}
-use Rattle.bp_commands.specs.declared.explanations.Beside.TheVariants as beside
+use Rattle.bp_commands.specs.declared.explanations.SecondInput.{SecondInput}
+use Rattle.bp_commands.specs.declared.explanations.SecondInput.TheVariants as second
 use Rattle.bp_messages.specs.declared.faults.Fault.{Fault}
 use Rattle.bp_messages.specs.declared.faults.Fault.TheVariants.{Program, Setup, Schedule, Steps, Trace}
-use Rattle.bp_commands.specs.declared.ends.Explained.{Explained}
-use Rattle.bp_commands.specs.Ends.{nothing_explained}
-use Rattle.bp_commands.specs.declared.fault_formats.FaultFormat.{FaultFormat}
-use Rattle.bp_commands.specs.declared.fault_formats.FaultFormat.TheVariants as format
+use Rattle.bp_commands.specs.declared.run_ends.Explained.{Explained}
+use Rattle.bp_commands.specs.RunEnds.{nothing_explained}
+use Rattle.bp_tasks.specs.declared.fault_formats.FaultFormat.{FaultFormat}
+use Rattle.bp_tasks.specs.declared.fault_formats.FaultFormat.TheVariants as format
 use Rattle.bp_commands.specs.Given.{Inputs, Pair}
 
 -- this explains a fault of the program's text in the file of this name: nothing explains that the
@@ -30,23 +30,23 @@ ExplainsText name text (Program f) e = ExplainsProgram name text f e
 ExplainsText name text f e = ⊥
 
 -- this explains a fault of the input beside the program, in the file of this name
-abbrev pub ExplainsInput : Beside → List ℕ → List ℕ → Fault → Explanation → Type 0
-ExplainsInput beside.Trace name trace (Trace f) e = ExplainsTrace name trace f e
-ExplainsInput beside.Trace name trace (Setup f) e = ExplainsTrace name trace (replay.Setup f) e
-ExplainsInput beside.Schedule name schedule (Schedule f) e = ExplainsSchedule name schedule f e
-ExplainsInput beside.Steps name steps (Steps f) e = ExplainsSteps name steps f e
+abbrev pub ExplainsInput : SecondInput → List ℕ → List ℕ → Fault → Explanation → Type 0
+ExplainsInput second.Trace name trace (Trace f) e = ExplainsTrace name trace f e
+ExplainsInput second.Trace name trace (Setup f) e = ExplainsTrace name trace (replay.Setup f) e
+ExplainsInput second.Schedule name schedule (Schedule f) e = ExplainsSchedule name schedule f e
+ExplainsInput second.Steps name steps (Steps f) e = ExplainsSteps name steps f e
 ExplainsInput kind name input f e = ⊥
 
 -- this explains a fault of either
-abbrev pub ExplainsPair : Beside → List ℕ → List ℕ → Pair → Fault → Explanation → Type 0
+abbrev pub ExplainsPair : SecondInput → List ℕ → List ℕ → Pair → Fault → Explanation → Type 0
 ExplainsPair kind name input_name given f e =
     ExplainsText name given.text f e ⊎ ExplainsInput kind input_name given.input f e
 
--- words on one line
-pub record IsInWords (said : List ℕ) : Type 0 where
-  pub words : List ℕ
-  pub one_line : IsOneLine words
-  pub is : said ≡ words ++ 10 ∷ []
+-- a sentence on one line
+pub record IsSentenceLine (said : List ℕ) : Type 0 where
+  pub sentence : List ℕ
+  pub one_line : IsOneLine sentence
+  pub is : said ≡ sentence ++ 10 ∷ []
 
 -- the text is the lines of what explains a fault, or its sentence; there is none where nothing does
 abbrev pub IsTextOf
@@ -66,19 +66,24 @@ abbrev pub IsMessage : (Explanation → Type 0) → Explained → List ℕ → T
 IsMessage Explains told message =
     ((told.lines ≡ Ok tt) × IsSentence Explains message) ⊎ IsErr told.lines
 
--- What is said of a fault: the lines of what explains it; or its words, where nothing does or
--- memory for the lines was refused.
+-- what is said is the lines of what explains a fault, and a sentence where nothing does
+abbrev pub AreLinesOf : (Explanation → Type 0) → List ℕ → Type 0
+AreLinesOf Explains said =
+    ((e : Explanation) × Explains e × (said ≡ lines_of e))
+    ⊎ (IsUnexplained Explains × IsSentenceLine said)
+
+-- the same, or a sentence where memory for the lines was refused
 abbrev pub IsSaid : (Explanation → Type 0) → Explained → List ℕ → Type 0
 IsSaid Explains told said =
-    ((told.lines ≡ Ok tt) × ((e : Explanation) × Explains e × (said ≡ lines_of e)))
-    ⊎ ((IsUnexplained Explains ⊎ IsErr told.lines) × IsInWords said)
+    ((told.lines ≡ Ok tt) × AreLinesOf Explains said)
+    ⊎ (IsErr told.lines × IsSentenceLine said)
 
 -- what is said where these lines were made, or memory for them was refused
 abbrev pub IsSaidFor
     : Result (Option (Vec ℕ Global)) AllocError → Explained → List ℕ → Type 0
 IsSaidFor (Ok (Some lines)) told said = (told.lines ≡ Ok tt) × (said ≡ lines.items)
-IsSaidFor (Ok None) told said = (told.lines ≡ Ok tt) × IsInWords said
-IsSaidFor (Err refused) told said = IsErr told.lines × IsInWords said
+IsSaidFor (Ok None) told said = (told.lines ≡ Ok tt) × IsSentenceLine said
+IsSaidFor (Err refused) told said = IsErr told.lines × IsSentenceLine said
 
 -- No line of an explanation was to be written. In JSON its sentence is in the object, and otherwise
 -- nothing was to be explained.

@@ -3,17 +3,17 @@ use Rattle.std.specs.Prelude.{ℕ, List, Option, Result}
 use Rattle.bp_machine.specs.declared.reports.Report.{Report}
 use Rattle.bp_commands.specs.Bundles.{bundles}
 use Rattle.bp_commands.specs.Commands.{Command, Answers}
-use Rattle.bp_commands.specs.declared.ends.RunEnd.{RunEnd}
-use Rattle.bp_commands.specs.declared.explanations.Beside.{Beside}
-use Rattle.bp_commands.specs.declared.fault_formats.FaultFormat.{FaultFormat}
-use Rattle.bp_commands.specs.declared.fault_formats.FaultFormat.TheVariants.{Line}
+use Rattle.bp_commands.specs.declared.run_ends.RunEnd.{RunEnd}
+use Rattle.bp_commands.specs.declared.explanations.SecondInput.{SecondInput}
+use Rattle.bp_tasks.specs.declared.fault_formats.FaultFormat.{FaultFormat}
+use Rattle.bp_tasks.specs.declared.fault_formats.FaultFormat.TheVariants.{Line}
 use Rattle.bp_messages.specs.declared.faults.Fault.{Fault}
-use Rattle.bp_commands.specs.Ends.{of_report, Ending}
+use Rattle.bp_commands.specs.RunEnds.{of_report, AnswerRule}
 use Rattle.bp_commands.specs.Explanations.{IsSaidOfRead}
 use Rattle.bp_commands.specs.Files.{pair_of_files}
 use Rattle.bp_commands.specs.Flushes.{IsFlushed}
 use Rattle.bp_commands.specs.Given.{bundle_alone, text_alone, Inputs, Pair}
-use Rattle.bp_commands.specs.Tellings.{on_nothing, on_pair, on_text, IsConcluded, IsObjectRead, Telling}
+use Rattle.bp_commands.specs.FaultReports.{FaultReport, on_nothing, on_pair, on_text, IsConcluded, IsObjectRead}
 
 -- a command on the inputs that it may leave unread in part, how it ends, what is told of faults of
 -- the inputs, and in which format
@@ -22,9 +22,9 @@ pub record Job : Type 1 where
   pub Given : Type 0
   pub Answer : Type 0
   pub command : Command Given Answer
-  pub ending : Ending Answer
+  pub rule : AnswerRule Answer
   pub inputs : Left → Inputs Given
-  pub telling : Telling Given
+  pub report : FaultReport Given
   pub format : FaultFormat
 
 -- what the output and standard error hold
@@ -46,35 +46,36 @@ pub record IsRun (job : Job) (before after : Held) (end : RunEnd) : Type 0 where
   pub final : Result job.Answer Fault
   pub flushed : IsFlushed done buffered final after.output
   pub concluded :
-      let IsObject = IsObjectRead (job.inputs left) job.telling.IsObject in
-      let IsSaid = IsSaidOfRead (job.inputs left) job.telling.Explains in
-      IsConcluded job.ending job.format IsObject IsSaid final end before.errors after.errors
+      let IsObject = IsObjectRead (job.inputs left) job.report.IsObject in
+      let IsSaid = IsSaidOfRead (job.inputs left) job.report.Explains in
+      IsConcluded job.rule job.format IsObject IsSaid final end before.errors after.errors
 
 module _ (bytes : List ℕ → Option (List ℕ)) (format : FaultFormat) where
   -- a command on the program of a file
-  abbrev pub on_file : {R : Type 0} → Command (List ℕ) R → Ending R → List ℕ → Job
-  on_file {R} command ending path = record {
+  abbrev pub on_file : {R : Type 0} → Command (List ℕ) R → AnswerRule R → List ℕ → Job
+  on_file {R} command rule path = record {
     Left = Option (List ℕ);
     Given = List ℕ;
     Answer = R;
     command = command;
-    ending = ending;
+    rule = rule;
     inputs = text_alone (bytes path);
-    telling = on_text path;
+    report = on_text path;
     format = format;
   }
 
   -- a command on the program of a file and the input beside it, which has a limit
   abbrev pub on_files
-      : {R : Type 0} → Command Pair R → Ending R → ℕ → Beside → (path input_path : List ℕ) → Job
-  on_files {R} command ending limit kind path input_path = record {
+      : {R : Type 0} → Command Pair R → AnswerRule R → ℕ → SecondInput
+      → (path input_path : List ℕ) → Job
+  on_files {R} command rule limit kind path input_path = record {
     Left = Option (List ℕ) × Option (List ℕ);
     Given = Pair;
     Answer = R;
     command = command;
-    ending = ending;
+    rule = rule;
     inputs = pair_of_files limit (bytes path) (bytes input_path);
-    telling = on_pair kind path input_path;
+    report = on_pair kind path input_path;
     format = format;
   }
 
@@ -85,8 +86,8 @@ on_bundle bytes = record {
   Given = List ℕ;
   Answer = Report;
   command = bundles;
-  ending = of_report;
+  rule = of_report;
   inputs = bundle_alone bytes;
-  telling = on_nothing;
+  report = on_nothing;
   format = Line;
 }

@@ -4,8 +4,8 @@ pub mod Checks
 pub mod Commands
 pub mod Confirms
 pub mod Drives
-pub mod Ends
 pub mod Explanations
+pub mod FaultReports
 pub mod Files
 pub mod Flushes
 pub mod Given
@@ -13,8 +13,8 @@ pub mod Inputs
 pub mod Jobs
 pub mod Listings
 pub mod NamedStarts
+pub mod RunEnds
 pub mod Runs
 pub mod Shrinks
-pub mod Tellings
 pub mod Tests
 pub mod Traces

@@ -5,8 +5,8 @@ use Rattle.bp_code.specs.Compiled.{flat_of}
 use Rattle.bp_code.specs.LawfulTexts.{IsCodeRefusal, IsLawfulText}
 use Rattle.bp_code.specs.Listing.{listing_text}
 use Rattle.bp_code.specs.declared.texts.CodeFault.{CodeFault}
-use Rattle.bp_commands.specs.declared.coding.ListingForm.{ListingForm}
-use Rattle.bp_commands.specs.declared.coding.ListingForm.TheVariants.{Lines, Sourced, Json}
+use Rattle.bp_tasks.specs.declared.listing_forms.ListingForm.{ListingForm}
+use Rattle.bp_tasks.specs.declared.listing_forms.ListingForm.TheVariants.{Lines, Sourced, Json}
 use Rattle.bp_messages.specs.declared.faults.Fault.{Fault}
 use Rattle.bp_messages.specs.Faults.{fault_of_code}
 use Rattle.bp_commands.specs.Commands.{Command}

@@ -7,7 +7,8 @@ use Rattle.bp_machine.specs.SeededHistories.{HasSeededBits}
 use Rattle.bp_run.specs.declared.answers.RunReport.{RunReport}
 use Rattle.bp_run.specs.declared.run_faults.RunFault.TheVariants as run
 use Rattle.bp_init.specs.NamedBits.{NamedBitOf}
-use Rattle.bp_run.specs.Options.{OptionsOf, options_of, setup_under, options_fault, IsOptionsRefusal}
+use Rattle.bp_tasks.specs.RunOptions.{OptionsOf, options_of}
+use Rattle.bp_run.specs.Options.{setup_under, options_fault, IsOptionsRefusal}
 use Rattle.bp_run.specs.Runs.{OfProgram, IsTracedRun, IsRefusedInPlay}
 use Rattle.bp_trace.specs.TraceText.{trace_text}
 use Rattle.bp_messages.specs.declared.faults.Fault.{Fault}

@@ -8,7 +8,7 @@ use Rattle.bp_machine.specs.declared.reports.Report.{Report}
 use Rattle.bp_machine.specs.declared.setup_faults.SetupFault.{SetupFault}
 use Rattle.bp_machine.specs.Setups.{setup_fault, IsSetupRefusal}
 use Rattle.bp_machine.specs.Starts.{StartOf, setup_from}
-use Rattle.bp_test.specs.declared.options.TestOptions.{TestOptions}
+use Rattle.bp_tasks.specs.declared.test_options.TestOptions.{TestOptions}
 use Rattle.bp_test.specs.declared.testing.Found.{Found}
 use Rattle.bp_test.specs.declared.testing.Found.TheVariants.{Nothing, Failed, Deadlock}
 use Rattle.bp_test.specs.Counts.{AreCounts}
@@ -17,10 +17,10 @@ use Rattle.bp_test.specs.Tallies.{MadeRun, HasReached}
 use Rattle.bp_test.specs.Tests.{IsFound, IsSought, IsWrittenRun}
 use Rattle.bp_messages.specs.declared.faults.Fault.{Fault}
 use Rattle.bp_messages.specs.declared.faults.Fault.TheVariants.{Memory}
-use Rattle.bp_messages.specs.declared.tested.Tested.{Tested}
+use Rattle.bp_messages.specs.declared.test_reports.TestReport.{TestReport}
 use Rattle.bp_init.specs.NamedBits.{NamedBitOf}
 use Rattle.bp_commands.specs.Commands.{Command}
-use Rattle.bp_commands.specs.Ends.{Ending}
+use Rattle.bp_commands.specs.RunEnds.{AnswerRule}
 use Rattle.bp_messages.specs.Faults.{fault_of_setup}
 use Rattle.bp_commands.specs.Listings.{HasNoCode}
 use Rattle.bp_commands.specs.NamedStarts.{by_names}
@@ -38,11 +38,11 @@ has_found (Failed run report) = true
 has_found (Deadlock run report) = true
 
 -- what a user reads of a test, as JSON or not
-abbrev pub summary_of : Tested → List ℕ
+abbrev pub summary_of : TestReport → List ℕ
 summary_of x = if x.json then summary_objects x else summary_text x
 
 -- a test has a summary
-abbrev pub of_test : Ending Tested
+abbrev pub of_test : AnswerRule TestReport
 of_test = record { failed = λ x. has_found x.found; summary = summary_of }
 
 abbrev pub name_of : Option (Bor (List ℕ)) → Option (List ℕ)
@@ -79,7 +79,7 @@ module _
 
   -- what an empty output has after the test, and what is answered: what was found, and the counts
   -- and the marks of the runs up to it, that one included
-  pub record IsTestReport (written : List ℕ) (tested : Tested) : Type 0 where
+  pub record IsTestReport (written : List ℕ) (tested : TestReport) : Type 0 where
     pub testable : IsTestable
     pub runs : List MadeRun
     pub found :
@@ -123,7 +123,7 @@ module _
 -- It writes the trace of the first run that the test looks for, or nothing. The statements that no
 -- run reached are listed by a name or not, and the summary is JSON or not.
 abbrev pub tests
-    : StartOf → TestOptions → Option (List ℕ) → (json : Bool) → Command (List ℕ) Tested
+    : StartOf → TestOptions → Option (List ℕ) → (json : Bool) → Command (List ℕ) TestReport
 tests start x listed json = record {
   Writes = IsOfTest start x listed json;
   Reports = IsTestReport start x listed json;
@@ -134,6 +134,6 @@ tests start x listed json = record {
 -- the same from a start in which these globals have their bits by name
 abbrev pub tests_by_names
     : StartOf → List NamedBitOf → TestOptions → Option (List ℕ) → (json : Bool)
-    → Command (List ℕ) Tested
+    → Command (List ℕ) TestReport
 tests_by_names start named x listed json =
     by_names (λ text. text) start named (λ s. tests s x listed json)

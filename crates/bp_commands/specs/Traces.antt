@@ -13,8 +13,8 @@ use Rattle.bp_trace.specs.declared.versions.Version.{Version}
 use Rattle.bp_trace.specs.Replays.{IsTrace, IsReplayRefusal}
 use Rattle.bp_trace.specs.TraceText.{trace_text_2}
 use Rattle.bp_confirm.specs.OwnSteps.{own_steps, own_steps_text}
-use Rattle.bp_view.specs.declared.options.ViewFormat.{ViewFormat}
-use Rattle.bp_view.specs.declared.options.ViewOptions.{ViewOptions}
+use Rattle.bp_tasks.specs.declared.view_options.ViewFormat.{ViewFormat}
+use Rattle.bp_tasks.specs.declared.view_options.ViewOptions.{ViewOptions}
 use Rattle.bp_view.specs.ContextLines.{AreContextLines}
 use Rattle.bp_view.specs.States.{IsStateText}
 use Rattle.bp_view.specs.Views.{IsThere, IsView}

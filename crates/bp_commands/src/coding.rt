@@ -8,26 +8,16 @@ ghost use Rattle.bp_source.specs.Listings.{IsSourcedListing};
 
 use crate::commands::ProgramCommand;
 use bp_check::Checked;
-use bp_code::{Code as Flat, compile, lawful_program, list};
+use bp_code::{Code, compile, lawful_program, list};
 use bp_messages::Fault;
 use bp_source::{code_objects, sourced_listing};
+use bp_tasks::ListingForm;
 use bp_text::put;
 use std::alloc::{AllocError, Global};
 use std::io::Write;
 
-/// How the code of a program is listed.
-#[derive(Clone, Copy, Debug, PartialEq, Eq)]
-pub enum ListingForm {
-    /// A line for each procedure and each instruction.
-    Lines,
-    /// The same, and on the line of an instruction its place and its statement.
-    Sourced,
-    /// A JSON object on each line, with the place and the statement of each instruction.
-    Json,
-}
-
 /// The listing of a program's code.
-fn plain(alloc: Global, code: &Flat) -> Result<Vec<u8>, AllocError>
+fn plain(alloc: Global, code: &Code) -> Result<Vec<u8>, AllocError>
     ensures { IfOk result (λ v. v.items ≡ listing_text code.now) }
 {
     let mut listing = Vec::new(alloc);
@@ -43,7 +33,7 @@ fn sourced(
     alloc: Global,
     text: &[u8],
     checked: &Checked,
-    code: &Flat,
+    code: &Code,
 ) -> Result<Vec<u8>, AllocError>
     ensures { let listing = listing_text code.now in
         IfOk result (λ v. IsSourcedListing text.now checked.now listing v.items) }
@@ -58,7 +48,7 @@ fn listing_in(
     form: ListingForm,
     text: &[u8],
     checked: &Checked,
-    code: &Flat,
+    code: &Code,
 ) -> Result<Vec<u8>, AllocError>
     requires stands { StandsFor code.now checked.now }
     requires compiled { code.now ≡ flat_of checked.now }
@@ -73,11 +63,11 @@ fn listing_in(
 
 /// `code`: writes the listing of a program's code, with the source of each instruction or without.
 #[derive(Clone, Copy)]
-pub struct Code {
+pub struct ListCode {
     pub form: ListingForm,
 }
 
-impl ProgramCommand for Code {
+impl ProgramCommand for ListCode {
     ghost use Rattle.bp_commands.specs.Listings.{lists};
 
     type Answer = ();

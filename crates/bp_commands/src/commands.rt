@@ -1,15 +1,15 @@
 //! Commands on what they are given, and on what they read.
 ghost use Rattle.std.specs.Prelude.{◌≡◌, List, ℕ};
 ghost use Rattle.bp_commands.specs.Commands.{Answers, AnswersOf, Command};
-ghost use Rattle.bp_commands.specs.declared.explanations.Beside.{Beside};
+ghost use Rattle.bp_commands.specs.declared.explanations.SecondInput.{SecondInput};
 ghost use Rattle.bp_commands.specs.Explanations.{AreReadOr};
 ghost use Rattle.bp_commands.specs.Given.{text_alone, text_and, Pair};
 ghost use Rattle.bp_machine.specs.declared.reports.Report.{Report};
 ghost use Rattle.bp_trace.specs.declared.limits.TheConstants.{MAX_TRACE};
 
-use crate::ends::Ended;
-use crate::explanations::Beside;
+use crate::explanations::SecondInput;
 use crate::inputs::{Source, read_pair, read_text};
+use crate::run_ends::CommandAnswer;
 use bp_init::NamedStart;
 use bp_machine::Report;
 use bp_messages::Fault;
@@ -20,7 +20,7 @@ use std::io::{Read, Write};
 /// A command on a program.
 pub trait ProgramCommand {
     /// What it reports where it is done.
-    type Answer: Ended + Drop;
+    type Answer: CommandAnswer + Drop;
 
     ghost command: { Self → Command (List ℕ) Self.Answer };
 
@@ -46,13 +46,13 @@ pub trait ProgramCommand {
 /// A command on a program and an input beside it.
 pub trait PairCommand {
     /// What it reports where it is done.
-    type Answer: Ended + Drop;
+    type Answer: CommandAnswer + Drop;
 
     ghost command: { Self → Command Pair Self.Answer };
 
     ghost limit: { Self → ℕ };
 
-    ghost beside: { Self → Beside };
+    ghost second_input: { Self → SecondInput };
 
     /// How many bytes the input beside the program has at most.
     fn limit(&self) -> usize
@@ -70,8 +70,8 @@ pub trait PairCommand {
             AnswersOf (command self.now) given (W.contents out.old) (W.contents out.new) result };
 
     /// What the input beside the program is.
-    fn beside(&self) -> Beside
-        ensures { result ≡ beside self.now };
+    fn second_input(&self) -> SecondInput
+        ensures { result ≡ second_input self.now };
 
     /// What the run starts from, where the input does not say it.
     fn start(&self) -> Option<NamedStart<'_>> {
@@ -113,7 +113,7 @@ impl<C: TraceCommand> PairCommand for C {
 
     ghost limit = { λ _. MAX_TRACE };
 
-    ghost beside = { λ _. Beside.Trace };
+    ghost second_input = { λ _. SecondInput.Trace };
 
     fn limit(&self) -> usize {
         MAX_TRACE
@@ -129,8 +129,8 @@ impl<C: TraceCommand> PairCommand for C {
         self.apply_to_trace(alloc, text, trace, out)
     }
 
-    fn beside(&self) -> Beside {
-        Beside::Trace
+    fn second_input(&self) -> SecondInput {
+        SecondInput::Trace
     }
 
     fn watch(&self) -> Option<&str> {

@@ -4,14 +4,15 @@ ghost use Rattle.bp_commands.specs.Confirms.{confirms, of_confirm};
 ghost use Rattle.bp_commands.specs.Given.{Pair};
 
 use crate::commands::PairCommand;
-use crate::ends::Ended;
-use crate::explanations::Beside;
+use crate::explanations::SecondInput;
 use crate::named_starts::start_by_names;
-use crate::showing::program_of;
-use bp_confirm::{ConfirmReport, ContextBound, confirm};
+use crate::run_ends::CommandAnswer;
+use crate::show_calls::program_of;
+use bp_confirm::{ConfirmReport, confirm};
 use bp_init::NamedStart;
 use bp_machine::Start;
 use bp_messages::Fault;
+use bp_tasks::ContextBound;
 use bp_text::{WriteFault, put};
 use bp_trace::limits::MAX_SCHEDULE;
 use std::alloc::Global;
@@ -33,8 +34,8 @@ const NOT_FAILED: &[u8] = b"the steps are a run of the program; \
 /// What a user reads where the steps end in a deadlock.
 const DEADLOCKED: &[u8] = b"the steps are a run of the program; they end in a deadlock\n";
 
-impl Ended for ConfirmReport {
-    ghost ending = { of_confirm };
+impl CommandAnswer for ConfirmReport {
+    ghost rule = { of_confirm };
 
     fn has_failed(&self) -> bool {
         self.report.has_failed()
@@ -71,7 +72,7 @@ fn confirm_from<W: Write>(
 }
 
 impl PairCommand for Confirm<'_> {
-    ghost use Rattle.bp_commands.specs.declared.explanations.Beside.{Beside};
+    ghost use Rattle.bp_commands.specs.declared.explanations.SecondInput.{SecondInput};
     ghost use Rattle.bp_trace.specs.declared.limits.TheConstants.{MAX_SCHEDULE};
     ghost use Rattle.bp_commands.specs.Confirms.{confirms_by_names};
 
@@ -81,7 +82,7 @@ impl PairCommand for Confirm<'_> {
 
     ghost limit = { λ _. MAX_SCHEDULE };
 
-    ghost beside = { λ _. Beside.Steps };
+    ghost second_input = { λ _. SecondInput.Steps };
 
     fn limit(&self) -> usize {
         MAX_SCHEDULE
@@ -101,8 +102,8 @@ impl PairCommand for Confirm<'_> {
         }
     }
 
-    fn beside(&self) -> Beside {
-        Beside::Steps
+    fn second_input(&self) -> SecondInput {
+        SecondInput::Steps
     }
 
     fn start(&self) -> Option<NamedStart<'_>> {

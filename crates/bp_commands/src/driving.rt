@@ -4,7 +4,7 @@ ghost use Rattle.bp_commands.specs.Drives.{drives};
 ghost use Rattle.bp_commands.specs.Given.{Pair};
 
 use crate::commands::PairCommand;
-use crate::explanations::Beside;
+use crate::explanations::SecondInput;
 use crate::named_starts::start_by_names;
 use bp_code::code_of;
 use bp_init::NamedStart;
@@ -39,7 +39,7 @@ pub(crate) fn drive_from<W: Write>(
 }
 
 impl PairCommand for Drive<'_> {
-    ghost use Rattle.bp_commands.specs.declared.explanations.Beside.{Beside};
+    ghost use Rattle.bp_commands.specs.declared.explanations.SecondInput.{SecondInput};
     ghost use Rattle.bp_trace.specs.declared.limits.TheConstants.{MAX_SCHEDULE};
     ghost use Rattle.bp_commands.specs.Drives.{drives_by_names};
 
@@ -49,7 +49,7 @@ impl PairCommand for Drive<'_> {
 
     ghost limit = { λ _. MAX_SCHEDULE };
 
-    ghost beside = { λ _. Beside.Schedule };
+    ghost second_input = { λ _. SecondInput.Schedule };
 
     fn limit(&self) -> usize {
         MAX_SCHEDULE
@@ -69,8 +69,8 @@ impl PairCommand for Drive<'_> {
         }
     }
 
-    fn beside(&self) -> Beside {
-        Beside::Schedule
+    fn second_input(&self) -> SecondInput {
+        SecondInput::Schedule
     }
 
     fn start(&self) -> Option<NamedStart<'_>> {

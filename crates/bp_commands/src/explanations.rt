@@ -2,13 +2,13 @@
 ghost use Rattle.std.specs.Prelude.{ℕ, List, IfOk};
 ghost use Rattle.bp_advice.specs.Explanations.{IsExplanationOf};
 ghost use Rattle.bp_text.specs.Writing.{Writes};
-ghost use Rattle.bp_commands.specs.Explanations.{ExplainsInput, ExplainsPair, ExplainsText, IsInWords, IsSaidFor};
+ghost use Rattle.bp_commands.specs.Explanations.{ExplainsInput, ExplainsPair, ExplainsText, IsSentenceLine, IsSaidFor};
 ghost use Rattle.bp_commands.specs.Given.{Pair};
 
-use crate::ends::Explained;
-use crate::hints::Hints;
+use crate::fault_contexts::FaultContext;
 use crate::messages::shown_sentence;
 use crate::named_starts::start_of_run;
+use crate::run_ends::Explained;
 use bp_advice::{Explanation, explain_program};
 use bp_code::ProgramFault;
 use bp_explain::{explain_schedule, explain_steps, explain_trace};
@@ -24,14 +24,14 @@ use std::io::Write;
 
 /// A text that a command has read, and the name of its file.
 #[derive(Clone, Copy)]
-pub(crate) struct Named<'a> {
+pub(crate) struct NamedText<'a> {
     pub(crate) name: &'a str,
     pub(crate) text: &'a [u8],
 }
 
 /// What stands beside the program of a command on two files.
 #[derive(Clone, Copy, Debug, PartialEq, Eq)]
-pub enum Beside {
+pub enum SecondInput {
     Schedule,
     Steps,
     Trace,
@@ -41,7 +41,7 @@ pub enum Beside {
 pub(crate) fn of_program<'a>(
     alloc: Global,
     fault: &Fault,
-    program: Named<'a>,
+    program: NamedText<'a>,
 ) -> Result<Option<Explanation<'a>>, AllocError>
     ensures { let Explains = ExplainsText program.entry.name.now program.entry.text.now in
         IfOk result (IsExplanationOf (Explains fault.now)) }
@@ -58,25 +58,25 @@ pub(crate) fn of_program<'a>(
 /// does. A schedule and steps are of a run from this start.
 fn of_input<'a>(
     alloc: Global,
-    beside: Beside,
+    second_input: SecondInput,
     fault: &Fault,
     start: &Start,
-    program: Named<'_>,
-    input: Named<'a>,
+    program: NamedText<'_>,
+    input: NamedText<'a>,
 ) -> Result<Option<Explanation<'a>>, AllocError>
-    ensures { let Explains = ExplainsInput beside input.entry.name.now input.entry.text.now in
+    ensures { let Explains = ExplainsInput second_input input.entry.name.now input.entry.text.now in
         IfOk result (IsExplanationOf (Explains fault.now)) }
 {
     let (text, name, lines) = (program.text, input.name, input.text);
-    match (beside, fault) {
-        (Beside::Schedule, Fault::Schedule(fault)) => {
+    match (second_input, fault) {
+        (SecondInput::Schedule, Fault::Schedule(fault)) => {
             explain_schedule(alloc, text, start, name, lines, fault)
         }
-        (Beside::Steps, Fault::Steps(fault)) => {
+        (SecondInput::Steps, Fault::Steps(fault)) => {
             explain_steps(alloc, text, start, name, lines, fault)
         }
-        (Beside::Trace, Fault::Trace(fault)) => explain_trace(alloc, text, name, lines, fault),
-        (Beside::Trace, Fault::Setup(fault)) => {
+        (SecondInput::Trace, Fault::Trace(fault)) => explain_trace(alloc, text, name, lines, fault),
+        (SecondInput::Trace, Fault::Setup(fault)) => {
             let fault = ReplayFault::Setup(*fault);
             explain_trace(alloc, text, name, lines, &fault)
         }
@@ -88,15 +88,16 @@ fn of_input<'a>(
 /// start, the defaults apply.
 pub(crate) fn of_pair<'a>(
     alloc: Global,
-    beside: Beside,
+    second_input: SecondInput,
     fault: &Fault,
     start: Option<NamedStart<'_>>,
-    program: Named<'a>,
-    input: Named<'a>,
+    program: NamedText<'a>,
+    input: NamedText<'a>,
 ) -> Result<Option<Explanation<'a>>, AllocError>
     ensures { let given : Pair =
         record { text = program.entry.text.now; input = input.entry.text.now } in
-        let Explains = ExplainsPair beside program.entry.name.now input.entry.name.now given in
+        let Explains =
+        ExplainsPair second_input program.entry.name.now input.entry.name.now given in
         IfOk result (IsExplanationOf (Explains fault.now)) }
 {
     if let Fault::Program(_) = fault {
@@ -108,32 +109,32 @@ pub(crate) fn of_pair<'a>(
         named: &none,
     });
     match &start_of_run(alloc, program.text, asked)? {
-        Some(start) => of_input(alloc, beside, fault, start, program, input),
-        None => of_input(alloc, beside, fault, asked.start, program, input),
+        Some(start) => of_input(alloc, second_input, fault, start, program, input),
+        None => of_input(alloc, second_input, fault, asked.start, program, input),
     }
 }
 
-/// Writes a fault in its words, on one line.
-fn put_words<E: Write>(words: &[u8], errors: &mut E) -> Result<(), WriteFault>
-    ensures { (said : List ℕ) × IsInWords said
+/// Writes the sentence of a fault on one line.
+fn put_line<E: Write>(sentence: &[u8], errors: &mut E) -> Result<(), WriteFault>
+    ensures { (said : List ℕ) × IsSentenceLine said
         × Writes (E.contents errors.old) (E.contents errors.new) said result }
 {
-    put_pieces(errors, &[Bytes(first_line(words)), Bytes(b"\n")])
+    put_pieces(errors, &[Bytes(first_line(sentence)), Bytes(b"\n")])
 }
 
 /// Writes the fault in a sentence, which says what is known of the command line.
 fn put_sentence<E: Write>(
     alloc: Global,
     fault: &Fault,
-    hints: Hints<'_, '_>,
+    context: FaultContext<'_, '_>,
     errors: &mut E,
 ) -> Result<(), WriteFault>
-    ensures { (said : List ℕ) × IsInWords said
+    ensures { (said : List ℕ) × IsSentenceLine said
         × Writes (E.contents errors.old) (E.contents errors.new) said result }
 {
-    match shown_sentence(alloc, fault, hints) {
-        Ok(sentence) => put_words(sentence.as_slice(), errors),
-        Err(_) => put_words(b"out of memory", errors),
+    match shown_sentence(alloc, fault, context) {
+        Ok(sentence) => put_line(sentence.as_slice(), errors),
+        Err(_) => put_line(b"out of memory", errors),
     }
 }
 
@@ -143,7 +144,7 @@ pub(crate) fn put_explanation<E: Write>(
     alloc: Global,
     lines: &Result<Option<Vec<u8>>, AllocError>,
     fault: &Fault,
-    hints: Hints<'_, '_>,
+    context: FaultContext<'_, '_>,
     errors: &mut E,
 ) -> Explained
     ensures { (said : List ℕ) × IsSaidFor lines.now result said
@@ -156,11 +157,11 @@ pub(crate) fn put_explanation<E: Write>(
         },
         Ok(None) => Explained {
             lines: Ok(()),
-            told: put_sentence(alloc, fault, hints, errors),
+            told: put_sentence(alloc, fault, context, errors),
         },
         Err(_) => Explained {
             lines: Err(AllocError),
-            told: put_sentence(alloc, fault, hints, errors),
+            told: put_sentence(alloc, fault, context, errors),
         },
     }
 }

@@ -1,7 +1,7 @@
 //! Files that a command reads, by their paths.
 ghost use Rattle.std.specs.Prelude.{◌≡◌, List, ℕ, Option, IfOk};
 
-use crate::hints::Unread;
+use crate::fault_contexts::FailedFile;
 use crate::inputs::Source;
 use std::alloc::Global;
 use std::io::{self, ErrorKind, Read};
@@ -100,9 +100,9 @@ impl<'a, F: Files> InputFile<'a, F> {
     }
 
     /// What is known of the file's failure, by its name.
-    pub(crate) fn unread(&self) -> Option<Unread<'a>> {
+    pub(crate) fn unread(&self) -> Option<FailedFile<'a>> {
         let failure = self.failure?;
-        Some(Unread {
+        Some(FailedFile {
             name: self.path,
             failure,
         })

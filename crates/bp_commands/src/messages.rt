@@ -1,6 +1,6 @@
 //! The sentence that says what a fault is, alone.
 
-use crate::hints::Hints;
+use crate::fault_contexts::FaultContext;
 use bp_messages::Fault;
 use bp_text::push_bytes;
 use std::alloc::{AllocError, Global};
@@ -9,14 +9,14 @@ use std::alloc::{AllocError, Global};
 pub(crate) fn sentence(
     alloc: Global,
     fault: &Fault,
-    hints: Hints<'_, '_>,
+    context: FaultContext<'_, '_>,
 ) -> Result<Vec<u8>, AllocError> {
-    if let Some(words) = hints.words(alloc, fault) {
-        return Ok(words);
+    if let Some(sentence) = context.sentence(alloc, fault) {
+        return Ok(sentence);
     }
-    let words = format!(in alloc; "{fault}")?;
+    let text = format!(in alloc; "{fault}")?;
     let mut sentence = Vec::new(alloc);
-    push_bytes(&mut sentence, words.as_bytes())?;
+    push_bytes(&mut sentence, text.as_bytes())?;
     Ok(sentence)
 }
 
@@ -24,11 +24,11 @@ pub(crate) fn sentence(
 pub(crate) fn shown_sentence(
     alloc: Global,
     fault: &Fault,
-    hints: Hints<'_, '_>,
+    context: FaultContext<'_, '_>,
 ) -> Result<Vec<u8>, AllocError> {
-    let words = sentence(alloc, fault, hints)?;
+    let sentence = sentence(alloc, fault, context)?;
     let mut shown = Vec::new(alloc);
-    for byte in words.as_slice() {
+    for byte in sentence.as_slice() {
         shown.push(if byte.is_ascii_control() { b'?' } else { *byte })?;
     }
     Ok(shown)

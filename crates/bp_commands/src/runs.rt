@@ -1,22 +1,22 @@
 //! Runs of the commands, from the paths of their files to the exit status.
 ghost use Rattle.std.specs.Io.Buffered.{writer_contents};
-ghost use Rattle.bp_commands.specs.Ends.{of_run};
+ghost use Rattle.bp_commands.specs.RunEnds.{of_run};
 ghost use Rattle.bp_commands.specs.Jobs.{held, on_bundle, on_file, on_files, IsRun};
 ghost use Rattle.bp_commands.specs.Runs.{runs_by_names};
 
 use crate::bundles::drive_bundle;
 use crate::commands::{PairCommand, ProgramCommand, do_on_pair, do_on_program};
-use crate::ends::{RunEnd, end};
-use crate::explanations::Named;
-use crate::fault_formats::FaultFormat;
+use crate::explanations::NamedText;
+use crate::fault_contexts::{Asked, FailedFile, FaultContext, Limited, OptionNumbers};
+use crate::fault_reports::{NamedPair, conclude};
 use crate::files::{Files, InputFile};
 use crate::flushes::flushed;
-use crate::hints::{Asked, Hints, Limited, Numbers, Unread};
 use crate::inputs::Source;
+use crate::run_ends::{RunEnd, end};
 use crate::running::{Run, run_program};
-use crate::tellings::{NamedPair, conclude};
 use bp_init::NamedStart;
 use bp_run::Gate;
+use bp_tasks::FaultFormat;
 use std::alloc::Global;
 use std::io::{BufWriter, Read, Write};
 use std::sync::Wait;
@@ -39,19 +39,19 @@ pub struct Streams<O: Write + Drop, E: Write + Drop> {
 }
 
 /// The numbers of what a run starts from, where there is such a start.
-fn numbers_of(asked: Option<NamedStart<'_>>) -> Option<Numbers> {
+fn numbers_of(asked: Option<NamedStart<'_>>) -> Option<OptionNumbers> {
     let asked = asked?;
-    Some(Numbers::of_start(asked.start))
+    Some(OptionNumbers::of_start(asked.start))
 }
 
 /// What is known of the command line of a run on a program alone.
 fn hints_on<'a>(
-    program: Named<'a>,
-    unread: Option<Unread<'a>>,
-    numbers: Option<Numbers>,
+    program: NamedText<'a>,
+    unread: Option<FailedFile<'a>>,
+    numbers: Option<OptionNumbers>,
     start: Option<NamedStart<'a>>,
-) -> Hints<'a, 'a> {
-    Hints {
+) -> FaultContext<'a, 'a> {
+    FaultContext {
         unread,
         numbers,
         asked: Asked {
@@ -76,7 +76,7 @@ pub fn run_on_program<'a, C: ProgramCommand, F: Files, W: Write + Drop, E: Write
         held (writer_contents W.contents streams.output) (E.contents streams.errors) in
         let after = held (W.contents result.1.output) (E.contents result.1.errors) in
         let job = on_file (F.bytes io.entry.files.now) io.entry.format (C.command command.now)
-        C.Answer.ending path.now in
+        C.Answer.rule path.now in
         IsRun job before after result.0 }
 {
     let Streams {
@@ -87,13 +87,13 @@ pub fn run_on_program<'a, C: ProgramCommand, F: Files, W: Write + Drop, E: Write
     let done = do_on_program(io.alloc, command, &mut program, &mut out);
     let (done, output) = flushed(done, out);
     let unread = program.reader.unread();
-    let given = Named {
+    let given = NamedText {
         name: path,
         text: &program.bytes,
     };
     let start = command.start();
-    let hints = hints_on(given, unread, numbers_of(start), start);
-    let end = conclude(io.alloc, io.format, &given, &done, hints, &mut errors);
+    let context = hints_on(given, unread, numbers_of(start), start);
+    let end = conclude(io.alloc, io.format, &given, &done, context, &mut errors);
     (end, Streams { output, errors })
 }
 
@@ -126,15 +126,15 @@ pub fn run_by_workers<
     let done = run_program(io.alloc, asked, &mut program, &mut out);
     let (done, output) = flushed(done, out);
     let unread = program.reader.unread();
-    let given = Named {
+    let given = NamedText {
         name: path,
         text: &program.bytes,
     };
     let (options, named) = (asked.options, asked.named);
     let start = &options.start;
     let start = Some(NamedStart { start, named });
-    let hints = hints_on(given, unread, Some(Numbers::of_run(options)), start);
-    let end = conclude(io.alloc, io.format, &given, &done, hints, &mut errors);
+    let context = hints_on(given, unread, Some(OptionNumbers::of_run(options)), start);
+    let end = conclude(io.alloc, io.format, &given, &done, context, &mut errors);
     (end, Streams { output, errors })
 }
 
@@ -151,7 +151,8 @@ pub fn run_on_pair<'a, C: PairCommand, F: Files, W: Write + Drop, E: Write + Dro
         held (writer_contents W.contents streams.output) (E.contents streams.errors) in
         let after = held (W.contents result.1.output) (E.contents result.1.errors) in
         let job = on_files (F.bytes io.entry.files.now) io.entry.format (C.command command.now)
-        C.Answer.ending (C.limit command.now) (C.beside command.now) path.now input_path.now in
+        C.Answer.rule (C.limit command.now) (C.second_input command.now)
+        path.now input_path.now in
         IsRun job before after result.0 }
 {
     let Streams {
@@ -164,18 +165,18 @@ pub fn run_on_pair<'a, C: PairCommand, F: Files, W: Write + Drop, E: Write + Dro
     let (done, output) = flushed(done, out);
     let unread = program.reader.unread().or(input.reader.unread());
     let given = NamedPair {
-        program: Named {
+        program: NamedText {
             name: path,
             text: &program.bytes,
         },
-        input: Named {
+        input: NamedText {
             name: input_path,
             text: &input.bytes,
         },
-        beside: command.beside(),
+        second_input: command.second_input(),
         start: command.start(),
     };
-    let hints = Hints {
+    let context = FaultContext {
         unread,
         numbers: numbers_of(command.start()),
         asked: Asked {
@@ -189,7 +190,7 @@ pub fn run_on_pair<'a, C: PairCommand, F: Files, W: Write + Drop, E: Write + Dro
             limit: command.limit(),
         }),
     };
-    let end = conclude(io.alloc, io.format, &given, &done, hints, &mut errors);
+    let end = conclude(io.alloc, io.format, &given, &done, context, &mut errors);
     (end, Streams { output, errors })
 }
 

@@ -8,13 +8,13 @@ ghost use Rattle.bp_commands.specs.Commands.{AnswersOf};
 ghost use Rattle.bp_commands.specs.Tests.{name_of, tests, AreListed};
 
 use crate::commands::ProgramCommand;
-use crate::ends::Ended;
 use crate::named_starts::start_by_names;
-use crate::showing::program_of;
+use crate::run_ends::CommandAnswer;
+use crate::show_calls::program_of;
 use bp_check::Checked;
 use bp_init::NamedStart;
 use bp_machine::Start;
-use bp_messages::{Fault, Notes, Tested, notes_of, put_summary, put_summary_objects};
+use bp_messages::{Fault, Notes, TestReport, notes_of, put_summary, put_summary_objects};
 use bp_source::{statement_lines, statement_positions, statement_texts, unreached_objects};
 use bp_test::{
     Counts, Distinct, Found, Progress, Runtimes, Tally, TestOptions, Waiting, distinct_of, test,
@@ -44,10 +44,10 @@ pub struct Test<'a, R, P> {
     pub json: bool,
 }
 
-impl Ended for Tested {
+impl CommandAnswer for TestReport {
     ghost use Rattle.bp_commands.specs.Tests.{of_test};
 
-    ghost ending = { of_test };
+    ghost rule = { of_test };
 
     fn has_failed(&self) -> bool {
         !matches!(self.found, Found::Nothing)
@@ -126,7 +126,7 @@ fn test_from<R: Threads + Sync, P: Progress, W: Write>(
     start: &Start,
     text: &[u8],
     out: &mut W,
-) -> Result<Tested, Fault>
+) -> Result<TestReport, Fault>
     requires { IsSync R.row }
     ensures { let asked = asked.now in
         AnswersOf (tests start.now asked.options (name_of asked.listed) asked.json) text.now
@@ -151,7 +151,7 @@ fn test_from<R: Threads + Sync, P: Progress, W: Write>(
         tally,
     } = tested;
     let Tally { reached, keys, .. } = tally;
-    Ok(Tested {
+    Ok(TestReport {
         options,
         found,
         failed,
@@ -171,14 +171,19 @@ impl<R: Threads + Sync, P: Progress> ProgramCommand for Test<'_, R, P> {
     ghost use Rattle.std.specs.Thread.{IsSync};
     ghost use Rattle.bp_commands.specs.Tests.{name_of, tests_by_names};
 
-    type Answer = Tested;
+    type Answer = TestReport;
 
     ghost command = { λ x. tests_by_names x.start.start.now x.start.named.now
         x.options (name_of x.listed) x.json };
 
     ghost allowed = { λ _. IsSync R.row };
 
-    fn apply<W: Write>(&self, alloc: Global, text: &[u8], out: &mut W) -> Result<Tested, Fault> {
+    fn apply<W: Write>(
+        &self,
+        alloc: Global,
+        text: &[u8],
+        out: &mut W,
+    ) -> Result<TestReport, Fault> {
         let found = start_by_names(alloc, text, self.start)?;
         match found {
             Some(start) => test_from(alloc, self, &start, text, out),

@@ -7,7 +7,7 @@ use Rattle.std.proofs.lemmas.List.Folds.{length-prefix_len}
 use Rattle.std.proofs.lemmas.Bool.{cases_order}
 use Rattle.std.proofs.Math.Seq.{drop-cons}
 use Rattle.bp_text.specs.declared.positions.Position.{Position}
-use Rattle.bp_text.specs.Positions.{position_behind, position_at}
+use Rattle.bp_text.specs.Positions.{position_after, position_at}
 
 parts : (n m : ℕ) (xs : List ℕ) → take n xs ++ take m (drop n xs) ≡ take (n + m) xs
 parts n m xs =
@@ -28,13 +28,13 @@ apart : (p q : Position) → IsBefore p q → p ≢ q
 apart p q (inl a) same = omega (arith, a, ap (λ (x : Position). x.line) same)
 apart p q (inr (a, b)) same = omega (arith, b, ap (λ (x : Position). x.column) same)
 
-one_byte : (front : List ℕ) (b : ℕ) → IsBefore (position_behind front) (position_behind (front ++ b ∷ []))
+one_byte : (front : List ℕ) (b : ℕ) → IsBefore (position_after front) (position_after (front ++ b ∷ []))
 one_byte front b = by_test (b == 10) refl
   where
     counted : length (filter (λ x. x == 10) (front ++ b ∷ [])) ≡ length (filter (λ x. x == 10) front) + length (filter (λ x. x == 10) (b ∷ []))
     counted = ap length (filter-append (λ x. x == 10) front (b ∷ [])) ∙ length-append (filter (λ x. x == 10) front) (filter (λ x. x == 10) (b ∷ []))
 
-    by_test : (t : Bool) → (b == 10) ≡ t → IsBefore (position_behind front) (position_behind (front ++ b ∷ []))
+    by_test : (t : Bool) → (b == 10) ≡ t → IsBefore (position_after front) (position_after (front ++ b ∷ []))
     by_test true e =
         let own : length (filter (λ x. x == 10) (b ∷ [])) ≡ 1 = ap (λ t. length (cond t (b ∷ []) [])) e in
         inl (omega (arith, counted, own))
@@ -47,11 +47,11 @@ one_byte front b = by_test (b == 10) refl
         let two = length-prefix_len (λ x. not (x == 10)) (reverse front) in
         inr (omega (arith, counted, own), omega (arith, column, one, two))
 
-some_bytes : (front : List ℕ) (b : ℕ) (rest : List ℕ) → IsBefore (position_behind front) (position_behind (front ++ b ∷ rest))
+some_bytes : (front : List ℕ) (b : ℕ) (rest : List ℕ) → IsBefore (position_after front) (position_after (front ++ b ∷ rest))
 some_bytes front b [] = one_byte front b
 some_bytes front b (d ∷ rest) =
-    before_trans (position_behind front) (position_behind (front ++ b ∷ [])) (position_behind (front ++ b ∷ d ∷ rest)) (one_byte front b)
-    (subst (λ ys. IsBefore (position_behind (front ++ b ∷ [])) (position_behind ys))
+    before_trans (position_after front) (position_after (front ++ b ∷ [])) (position_after (front ++ b ∷ d ∷ rest)) (one_byte front b)
+    (subst (λ ys. IsBefore (position_after (front ++ b ∷ [])) (position_after ys))
     (append_assoc front (b ∷ []) (d ∷ rest)) (some_bytes (front ++ b ∷ []) d rest))
 
 -- no two bytes of a text have one position
@@ -63,7 +63,7 @@ other_position text a b up within =
     parts a (suc m) text ∙ (let size : a + suc m ≡ b = omega arith in ap (λ k. take k text) size) in
     let split : take a text ++ get_or text a 0 ∷ take m (drop (suc a) text) ≡ take b text = ap (λ ys. take a text ++ take (suc m) ys) (sym next) ∙ whole in
     apart (position_at text a) (position_at text b)
-    (subst (λ ys. IsBefore (position_at text a) (position_behind ys)) split
+    (subst (λ ys. IsBefore (position_at text a) (position_after ys)) split
     (some_bytes (take a text) (get_or text a 0) (take m (drop (suc a) text))))
 
 -- bytes of one position are one byte

@@ -11,8 +11,8 @@ use Rattle.bp_machine.proofs.ContextCounts.{least_opened}
 use Rattle.bp_trace.specs.declared.limits.TheConstants.{MAX_SCHEDULE}
 use Rattle.bp_confirm.specs.declared.confirming.ConfirmFault.{ConfirmFault}
 use Rattle.bp_confirm.specs.declared.confirming.ConfirmFault.TheVariants.{TooLong, Line, NoThread, NoVariable, Step, Memory, Write}
-use Rattle.bp_confirm.specs.declared.context_bounds.ContextBound.{ContextBound}
-use Rattle.bp_confirm.specs.declared.context_bounds.ContextBound.TheVariants.{Kept, AsUsed}
+use Rattle.bp_tasks.specs.declared.context_bounds.ContextBound.{ContextBound}
+use Rattle.bp_tasks.specs.declared.context_bounds.ContextBound.TheVariants.{Kept, AsUsed}
 use Rattle.bp_confirm.specs.declared.faults.StepRefusal.{StepRefusal}
 use Rattle.bp_confirm.specs.Confirms.{IsStepRefusal}
 use Rattle.bp_confirm.specs.ConfirmedTexts.{AreRead, IsConfirmedText, IsShortText, IsStepsRefusal}

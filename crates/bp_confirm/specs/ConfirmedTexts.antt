@@ -8,7 +8,7 @@ use Rattle.bp_trace.specs.declared.limits.TheConstants.{MAX_SCHEDULE}
 use Rattle.bp_trace.specs.TraceText.{trace_text}
 use Rattle.bp_confirm.specs.declared.confirming.ConfirmFault.{ConfirmFault}
 use Rattle.bp_confirm.specs.declared.confirming.ConfirmFault.TheVariants as fault
-use Rattle.bp_confirm.specs.declared.context_bounds.ContextBound.{ContextBound}
+use Rattle.bp_tasks.specs.declared.context_bounds.ContextBound.{ContextBound}
 use Rattle.bp_confirm.specs.declared.faults.StepRefusal.{StepRefusal}
 use Rattle.bp_confirm.specs.declared.histories.ConfirmReport.{ConfirmReport}
 use Rattle.bp_confirm.specs.ConfirmReports.{IsConfirmReport}

@@ -3,8 +3,8 @@ use Rattle.std.specs.Prelude.{if◌then◌else◌, ◌≡◌, ℕ, List, map, na
 use Rattle.bp_machine.specs.declared.limits.TheConstants.{MAX_CONTEXTS}
 use Rattle.bp_machine.specs.Contexts.{IsLeastWithin}
 use Rattle.bp_machine.specs.Setups.{SetupOf}
-use Rattle.bp_confirm.specs.declared.context_bounds.ContextBound.{ContextBound}
-use Rattle.bp_confirm.specs.declared.context_bounds.ContextBound.TheVariants.{Kept, AsUsed}
+use Rattle.bp_tasks.specs.declared.context_bounds.ContextBound.{ContextBound}
+use Rattle.bp_tasks.specs.declared.context_bounds.ContextBound.TheVariants.{Kept, AsUsed}
 use Rattle.bp_confirm.specs.StepLines.{StepLineOf}
 
 abbrev pub thread_of : StepLineOf → ℕ

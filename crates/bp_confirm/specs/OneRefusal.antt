@@ -6,7 +6,7 @@ use Rattle.bp_machine.specs.declared.calls.Call.{Call}
 use Rattle.bp_machine.specs.Setups.{SetupOf}
 use Rattle.bp_confirm.specs.declared.confirming.ConfirmFault.{ConfirmFault}
 use Rattle.bp_confirm.specs.declared.confirming.ConfirmFault.TheVariants.{Memory}
-use Rattle.bp_confirm.specs.declared.context_bounds.ContextBound.{ContextBound}
+use Rattle.bp_tasks.specs.declared.context_bounds.ContextBound.{ContextBound}
 use Rattle.bp_confirm.specs.ConfirmedTexts.{IsConfirmedText, IsStepsRefusal}
 
 -- steps of the lawful program of a text have at most one refusal, memory aside

@@ -6,7 +6,7 @@ ghost use Rattle.bp_confirm.specs.ConfirmedTexts.{AreTold, ConfirmsTo, IsConfirm
 ghost use Rattle.bp_confirm.specs.StrayLines.{fault_of_stray};
 
 use crate::confirmed_traces::write_confirmed;
-use crate::context_bounds::{ContextBound, setup_for};
+use crate::context_bounds::setup_for;
 use crate::declared::{Stray, check_lines};
 use crate::faults::{StepFault, StepRefusal};
 use crate::histories::{ConfirmReport, confirm_lines};
@@ -15,6 +15,7 @@ use crate::step_texts::{StepsFault, read_steps};
 use bp_check::Checked;
 use bp_code::Code;
 use bp_machine::Setup;
+use bp_tasks::ContextBound;
 use bp_trace::limits::MAX_SCHEDULE;
 use std::alloc::Global;
 use std::io::Write;

@@ -11,16 +11,8 @@ use crate::step_lines::StepLine;
 use bp_code::Code;
 use bp_machine::limits::MAX_CONTEXTS;
 use bp_machine::{Setup, SetupFault};
+use bp_tasks::ContextBound;
 use std::alloc::{AllocError, Global};
-
-/// How many contexts are allowed to reported steps.
-#[derive(Clone, Copy, Debug, PartialEq, Eq)]
-pub enum ContextBound {
-    /// As many as the setup allows.
-    Kept,
-    /// As many as the steps use, and at most 1,000. The trace says so in place of the setup.
-    AsUsed,
-}
 
 /// The contexts that a step of a thread opens after one of the last thread.
 fn opened(last: Option<u32>, thread: u32) -> usize

@@ -24,8 +24,8 @@ mod step_lines;
 mod step_texts;
 mod values;
 
+pub use bp_tasks::ContextBound;
 pub use confirming::{ConfirmFault, confirm};
-pub use context_bounds::ContextBound;
 pub use faults::{Difference, StepReason, StepRefusal};
 pub use histories::ConfirmReport;
 pub use laws::{

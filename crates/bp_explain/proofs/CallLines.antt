@@ -1,7 +1,8 @@
 -- The lines of the calls of a trace, and passing over them.
-use Rattle.std.proofs.Common.{◌≡◌, ◌↔◌, IsTrue, ◌==◌, ◌+◌, ◌-◌, ◌<◌, ◌^◌, ℕ, Bool, true, false, not, cond, List, [], ◌∷◌, ◌++◌, length, map, flat_map, drop, refl, ap, sym, subst, ◌∙◌, arith, append_assoc, length-append, decimal}
+use Rattle.std.proofs.Common.{◌≡◌, ◌↔◌, IsTrue, ◌==◌, ◌+◌, ◌-◌, ◌<◌, ◌^◌, ℕ, Bool, true, false, not, cond, List, [], ◌∷◌, ◌++◌, length, map, flat_map, drop, refl, ap, sym, subst, ◌∙◌, arith, length-append, decimal}
 use Rattle.std.proofs.lemmas.Bool.{false≢true}
 use Rattle.std.specs.List.{AllByRecursion}
+use Rattle.bp_text.proofs.GrownLists.{others_after, regrouped}
 use Rattle.bp_machine.specs.declared.calls.Call.{Call}
 use Rattle.bp_machine.specs.Replies.{letter_of}
 use Rattle.bp_trace.specs.declared.versions.Version.{Version}
@@ -61,7 +62,7 @@ module _ (v : Version) (more : List ℕ) (count all : ℕ) where
         has = record {
           few = omega (arith, h.few);
           is =
-              ap (λ n. drop n rest) is ∙ ap (drop (symbol_size v)) (h.is ∙ append_assoc (symbol_fields v x) (flat_map (symbol_fields v) xs) more)
+              ap (λ n. drop n rest) is ∙ ap (drop (symbol_size v)) (others_after rest (symbol_fields v x) (flat_map (symbol_fields v) xs) more h.is)
               ∙ drop_symbol v x (flat_map (symbol_fields v) xs ++ more);
           ends = λ less. h.ends (omega (arith, less, some));
         };
@@ -75,7 +76,7 @@ module _ (v : Version) (more : List ℕ) (count all : ℕ) where
       go : (xs : List Symbol) → HasSymbols v left rest xs more → left + all ≡ count + length xs → (rest ≡ more) × (left + all ≡ count)
       go [] h passed = (h.is, omega (arith, passed))
       go (x ∷ xs) h passed =
-          let starts = h.is ∙ append_assoc (symbol_fields v x) (flat_map (symbol_fields v) xs) more in
+          let starts = others_after rest (symbol_fields v x) (flat_map (symbol_fields v) xs) more h.is in
           absurd (stops (omega (arith, h.few)) (ap goes_on starts ∙ symbol_goes_on v x (flat_map (symbol_fields v) xs ++ more)))
 
 -- ---- the lines of a history
@@ -96,10 +97,10 @@ abbrev Fit : List Piece → Type 0
 Fit ps = AllByRecursion (λ (p : Piece). p.thread < 2 ^ 64) ps
 
 one_row : (x : Call) → call_line x ≡ row_text One (piece_of x [])
-one_row x = sym (append_assoc (decimal x.thread) (32 ∷ bit_digit x.bit ∷ 32 ∷ letter_of x.reply ∷ []) (10 ∷ []))
+one_row x = simp regrouped
 
 piece_row : (p : Piece) → piece_line p ≡ row_text Two p
-piece_row p = sym (append_assoc (decimal p.thread) (32 ∷ flat_map symbol_text (p.first ∷ p.others)) (10 ∷ []))
+piece_row p = simp regrouped
 
 calls_text_one : (h : List Call) → flat_map call_line h ≡ flat_map (row_text One) (rows One h)
 calls_text_one [] = refl
@@ -168,16 +169,13 @@ module _ (v : Version) (thread : ℕ) (fits : thread < 2 ^ 64) (before : List Sy
 
   -- the line of the call, and one before it
   last_is : last_line ≡ decimal thread ++ 32 ∷ (flat_map (symbol_fields v) before ++ call_on)
-  last_is = append_assoc (decimal thread) (32 ∷ flat_map (symbol_fields v) before) call_on
+  last_is = simp regrouped
 
   row_is : (p : Piece) (ps : List Piece)
       → flat_map (row_text v) (p ∷ ps) ++ last_line
       ≡ decimal p.thread ++ 32
       ∷ (flat_map (symbol_fields v) (p.first ∷ p.others) ++ 10 ∷ (flat_map (row_text v) ps ++ last_line))
-  row_is p ps =
-      append_assoc (row_text v p) (flat_map (row_text v) ps) last_line
-      ∙ append_assoc (line_front v p.thread (p.first ∷ p.others)) (10 ∷ []) (flat_map (row_text v) ps ++ last_line)
-      ∙ append_assoc (decimal p.thread) (32 ∷ flat_map (symbol_fields v) (p.first ∷ p.others)) (10 ∷ (flat_map (row_text v) ps ++ last_line))
+  row_is p ps = simp regrouped
 
   no_space : (a t : List ℕ) → Without 32 (a ++ 32 ∷ t) → ⊥
   no_space [] t p = p.0 refl

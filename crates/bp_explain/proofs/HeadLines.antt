@@ -1,11 +1,12 @@
 -- The lines of a head, taken one after the other.
-use Rattle.std.proofs.Common.{◌≡◌, ◌==◌, ◌+◌, ◌<◌, ◌≢◌, ◌^◌, ℕ, Bool, true, false, List, [], ◌∷◌, ◌++◌, Option, None, Some, length, map, refl, ap, sym, ◌∙◌, arith, append_assoc, codes, decimal, rules}
+use Rattle.std.proofs.Common.{◌≡◌, ◌==◌, ◌+◌, ◌<◌, ◌≢◌, ◌^◌, ℕ, Bool, true, false, List, [], ◌∷◌, ◌++◌, Option, None, Some, length, map, refl, ap, sym, ◌∙◌, arith, codes, decimal, rules}
 use Rattle.std.specs.List.{AllByRecursion, concat, after_first}
 use Rattle.std.specs.Str.Parse.{AllDigits}
 use Rattle.std.proofs.lemmas.Str.Parse.{digit_from_value}
 use Rattle.std.proofs.lemmas.Fmt.{digits_decimal}
 use Rattle.std.proofs.lemmas.List.{append_cancel_left}
 use Rattle.std.proofs.lemmas.List.Folds.{concat-append}
+use Rattle.bp_text.proofs.GrownLists.{others_after, regrouped}
 use Rattle.bp_text.proofs.Numerals.{numerals}
 use Rattle.bp_text.specs.Excerpts.{first_line}
 use Rattle.bp_machine.specs.Setups.{SetupOf, threads}
@@ -49,9 +50,7 @@ seed_without (Some n) fits = decimal_without 10 (omega arith) n (fits n refl)
 
 module _ (word value more : List ℕ) (p : Without 10 word) (q : Without 10 value) where
   cut_field : field_line word value ++ more ≡ (word ++ value) ++ 10 ∷ more
-  cut_field =
-      append_assoc word (value ++ codes "\n") more ∙ ap (λ t. word ++ t) (append_assoc value (codes "\n") more)
-      ∙ sym (append_assoc word value (10 ∷ more))
+  cut_field = simp regrouped
 
   field_without : Without 10 (word ++ value)
   field_without = all_of_both (λ b. b ≢ 10) word value p q
@@ -75,7 +74,7 @@ module _ (s : SetupOf) (has : HasHead s) (rest : List ℕ) where
   contexts_on = field_line (codes "contexts ") (decimal s.contexts) ++ calls_on
 
   settings_are : concat (setting_lines s) ++ rest ≡ init_line s.init ++ contexts_on
-  settings_are = simp append_assoc
+  settings_are = simp regrouped
 
   pub after_init : (text : List ℕ) → text ≡ concat (setting_lines s) ++ rest → after_line text ≡ contexts_on
   after_init text e =
@@ -123,22 +122,23 @@ module _ (v : Version) (s : SetupOf) (has : HasHead s) (rest : List ℕ) where
     named = has.names;
     count_is = omega arith;
     text_is =
-        taken ∙ ap after_line e ∙ after_version v ∙ ap (λ t. t ++ rest) (concat-append (map entry_line s.entries) (setting_lines s))
-        ∙ append_assoc (concat (map entry_line s.entries)) (concat (setting_lines s)) rest;
+        others_after text (concat (map entry_line s.entries)) (concat (setting_lines s)) rest
+        (taken ∙ ap after_line e ∙ after_version v ∙ ap (λ t. t ++ rest) (concat-append (map entry_line s.entries) (setting_lines s)));
   }
 
 -- what follows the word that begins an entry line
 pub entry_cut : (name after rest text : List ℕ) → text ≡ entry_line name ++ after → text ≡ codes "entry " ++ rest → rest ≡ name ++ 10 ∷ after
 entry_cut name after rest text line word =
-    append_cancel_left (codes "entry ") rest (name ++ 10 ∷ after) (sym word ∙ line ∙ ap (λ t. codes "entry " ++ t) (append_assoc name (codes "\n") after))
+    append_cancel_left (codes "entry ") rest (name ++ 10 ∷ after)
+    (sym word ∙ line ∙ ap (λ t. codes "entry " ++ t) (others_after _ name (codes "\n") after refl))
 
 module _ (s : SetupOf) (rest text : List ℕ) (count : ℕ) where
   at_init : text ≡ concat (setting_lines s) ++ rest → text ≡ init_line s.init ++ (concat (limit_lines s) ++ rest)
-  at_init e = e ∙ append_assoc (init_line s.init) (concat (limit_lines s)) rest
+  at_init e = others_after text (init_line s.init) (concat (limit_lines s)) rest e
 
   at_entry : (name : List ℕ) (names : List (List ℕ)) → text ≡ concat (map entry_line (name ∷ names)) ++ (concat (setting_lines s) ++ rest)
       → text ≡ entry_line name ++ (concat (map entry_line names) ++ (concat (setting_lines s) ++ rest))
-  at_entry name names e = e ∙ append_assoc (entry_line name) (concat (map entry_line names)) (concat (setting_lines s) ++ rest)
+  at_entry name names e = others_after text (entry_line name) (concat (map entry_line names)) (concat (setting_lines s) ++ rest) e
 
   -- where a line of an entry was taken, it was that of the first one that was left
   pub entry_passed : (more : List ℕ)

@@ -8,8 +8,6 @@ pub mod EqualWaits
 pub mod FailedConditions
 pub mod FailedStatements
 pub mod FilledFacts
-pub mod GrownLists
-pub mod ItemsOfLists
 pub mod LastReplies
 pub mod LastSteps
 pub mod ListedNames

@@ -9,9 +9,9 @@ use Rattle.bp_machine.specs.Contexts.{IsWithin, IsLeastWithin}
 use Rattle.bp_machine.specs.Histories.{granted_threads}
 use Rattle.bp_machine.specs.Replies.{is_granted}
 use Rattle.bp_machine.proofs.ContextFronts.{within_front}
+use Rattle.bp_text.proofs.ItemsOfLists.{one_before, one_last, within}
 use Rattle.bp_facts.specs.ContextFacts.{IsContextOf, IsStepIn}
 use Rattle.bp_facts.specs.Moments.{IsContext}
-use Rattle.bp_facts.proofs.ItemsOfLists.{one_before, one_last, within}
 
 -- the threads of the steps of a history in two parts
 granted-append : (g h : List Call) → granted_threads (g ++ h) ≡ granted_threads g ++ granted_threads h

@@ -1,6 +1,7 @@
 -- A walk over the pieces of a text.
-use Rattle.std.proofs.Common.{◌≡◌, ◌∙◌, ◌++◌, ◌∷◌, ℕ, suc, List, [], false, true, length, map, append_assoc, ap, refl, sym, Bor, Option, Some, None}
+use Rattle.std.proofs.Common.{◌≡◌, ◌∙◌, ◌++◌, ◌∷◌, ℕ, suc, List, [], false, true, length, map, ap, refl, sym, Bor, Option, Some, None}
 use Rattle.std.specs.Prelude.{bytes_eq}
+use Rattle.bp_text.proofs.GrownLists.{rest_left}
 use Rattle.bp_init.specs.NamedBits.{NamedBitOf}
 use Rattle.bp_init.specs.Texts.{are_named, is_named_bit, is_named_in, name_in, named_bit_in}
 
@@ -22,5 +23,4 @@ module _ (parts others : List (List ℕ)) (piece : List ℕ) (is : parts ≡ pie
   pub taken : (values more : List NamedBitOf) → more ≡ values ++ named_bit_in piece ∷ [] → values ++ map named_bit_in parts ≡ more ++ map named_bit_in others
   taken values more added =
       ap (λ ps. values ++ map named_bit_in ps) is
-      ∙ sym (append_assoc values (named_bit_in piece ∷ []) (map named_bit_in others))
-      ∙ ap (λ vs. vs ++ map named_bit_in others) (sym added)
+      ∙ sym (rest_left values more (named_bit_in piece ∷ []) (map named_bit_in others) _ added refl)

@@ -10,7 +10,7 @@ use Rattle.bp_text.specs.JsonStrings.{string_text}
 use Rattle.bp_text.specs.Pieces.{key_text}
 use Rattle.bp_text.specs.declared.positions.Position.{Position}
 use Rattle.bp_messages.specs.declared.failures.FailedAssertion.{FailedAssertion}
-use Rattle.bp_messages.specs.declared.tested.Tested.{Tested}
+use Rattle.bp_messages.specs.declared.test_reports.TestReport.{TestReport}
 use Rattle.bp_messages.specs.Waits.{position_of}
 
 -- the assertion of thread i at instruction n, where that begins somewhere
@@ -32,7 +32,7 @@ failure_found positions number Nothing = None
 failure_found positions number (Failed run report) = failure_in positions number report.outcome
 failure_found positions number (Deadlock run report) = None
 
-abbrev pub failed_assertion : Tested → Option FailedAssertion
+abbrev pub failed_assertion : TestReport → Option FailedAssertion
 failed_assertion x = failure_found x.positions.items x.failed x.found
 
 abbrev pub items_of : Option (Vec ℕ Global) → List ℕ

@@ -6,7 +6,7 @@ use Rattle.bp_test.specs.declared.counts.Counts.{Counts}
 use Rattle.bp_test.specs.declared.distinct.Distinct.{Distinct}
 use Rattle.bp_test.specs.declared.testing.Found.{Found}
 use Rattle.bp_test.specs.declared.testing.Found.TheVariants.{Nothing, Failed, Deadlock}
-use Rattle.bp_messages.specs.declared.tested.Tested.{Tested}
+use Rattle.bp_messages.specs.declared.test_reports.TestReport.{TestReport}
 use Rattle.bp_messages.specs.Failures.{failed_assertion, failure_text, statement_of}
 use Rattle.bp_messages.specs.Notes.{notes_text}
 use Rattle.bp_messages.specs.Waits.{waits_text}
@@ -16,7 +16,7 @@ found_words words run runs =
     concat (words ∷ codes " in run " ∷ decimal run ∷ codes " of " ∷ decimal runs ∷ [])
 
 -- a deadlock in a run of this test, and where its threads wait
-abbrev pub deadlock_text : Tested → (run : ℕ) → List ℕ
+abbrev pub deadlock_text : TestReport → (run : ℕ) → List ℕ
 deadlock_text x run =
     found_words (codes "deadlock") run x.options.runs
     ++ (waits_text x.positions.items x.waiting.items ++ codes "\n")
@@ -38,7 +38,7 @@ nothing_words false = codes "no assertion failed"
 nothing_words true = codes "no assertion failed and no deadlock"
 
 -- the first line: what was found
-abbrev pub finding_text : Tested → Found → List ℕ
+abbrev pub finding_text : TestReport → Found → List ℕ
 finding_text x Nothing =
     nothing_text (nothing_words x.options.with_deadlock) x.counts.runs x.options.runs
 finding_text x (Failed run report) =
@@ -90,7 +90,7 @@ unreached_text (line ∷ lines) [] = []
 unreached_text (line ∷ lines) (is_reached ∷ marks) =
     line_unless is_reached line ++ unreached_text lines marks
 
-abbrev pub summary_text : Tested → List ℕ
+abbrev pub summary_text : TestReport → List ℕ
 summary_text x =
     finding_text x x.found
     ++ (counts_text x.counts

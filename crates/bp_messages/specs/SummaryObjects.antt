@@ -8,7 +8,7 @@ use Rattle.bp_test.specs.declared.testing.Found.{Found}
 use Rattle.bp_test.specs.declared.testing.Found.TheVariants.{Nothing, Failed, Deadlock}
 use Rattle.bp_text.specs.JsonStrings.{string_text}
 use Rattle.bp_text.specs.Pieces.{key_text, number_or_null}
-use Rattle.bp_messages.specs.declared.tested.Tested.{Tested}
+use Rattle.bp_messages.specs.declared.test_reports.TestReport.{TestReport}
 use Rattle.bp_messages.specs.Failures.{failure_member, failed_assertion, statement_of}
 use Rattle.bp_messages.specs.Notes.{notes_members}
 use Rattle.bp_messages.specs.Summaries.{unreached_text}
@@ -66,7 +66,7 @@ distinct_member x =
     ∷ key_text (codes "once") ∷ decimal x.once
     ∷ codes "}" ∷ [])
 
-abbrev pub summary_object : Tested → List ℕ
+abbrev pub summary_object : TestReport → List ℕ
 summary_object x =
     let failure = failed_assertion x in
     finding_members x.found x.options.runs
@@ -76,5 +76,5 @@ summary_object x =
     ++ (distinct_member x.distinct ++ notes_members x.notes))))
 
 -- the summary, and the objects of the statements that were not reached
-abbrev pub summary_objects : Tested → List ℕ
+abbrev pub summary_objects : TestReport → List ℕ
 summary_objects x = summary_object x ++ unreached_text x.lines.items x.reached.items

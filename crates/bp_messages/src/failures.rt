@@ -3,7 +3,7 @@ ghost use Rattle.std.specs.Prelude.{◌≡◌};
 ghost use Rattle.bp_text.specs.Writing.{Writes};
 ghost use Rattle.bp_messages.specs.Failures.{failure_member, failed_assertion, failure_text, statement_of};
 
-use crate::tested::Tested;
+use crate::test_reports::TestReport;
 use crate::waits::position_of;
 use bp_machine::Outcome;
 use bp_test::Found;
@@ -22,7 +22,7 @@ pub(crate) struct FailedAssertion {
 }
 
 /// The assertion that failed, where one did.
-pub(crate) fn failed_assertion(tested: &Tested) -> Option<FailedAssertion>
+pub(crate) fn failed_assertion(tested: &TestReport) -> Option<FailedAssertion>
     ensures { result ≡ failed_assertion tested.now }
 {
     let Found::Failed { report, .. } = tested.found else {

@@ -14,7 +14,7 @@ mod replay_lines;
 mod step_objects;
 mod summaries;
 mod summary_objects;
-mod tested;
+mod test_reports;
 mod waits;
 
 pub use fault_lines::show_fault;
@@ -28,4 +28,4 @@ pub use replay_lines::show_replay;
 pub use step_objects::value_in;
 pub use summaries::put_summary;
 pub use summary_objects::put_summary_objects;
-pub use tested::Tested;
+pub use test_reports::TestReport;

@@ -6,7 +6,7 @@ ghost use Rattle.bp_messages.specs.Summaries.{line_unless, nothing_text, nothing
 
 use crate::failures::{failed_assertion, put_failure, statement_of};
 use crate::notes::put_notes;
-use crate::tested::Tested;
+use crate::test_reports::TestReport;
 use crate::waits::put_waits;
 use bp_test::{Counts, Distinct, Found};
 use bp_text::Piece::{Bytes, Number};
@@ -31,7 +31,7 @@ fn put_found<W: Write>(words: &[u8], run: u64, runs: u64, out: &mut W) -> Result
 }
 
 /// Writes that a deadlock was found in a run of this test, and where its threads wait.
-fn put_deadlock<W: Write>(tested: &Tested, run: u64, out: &mut W) -> Result<(), WriteFault>
+fn put_deadlock<W: Write>(tested: &TestReport, run: u64, out: &mut W) -> Result<(), WriteFault>
     ensures { let text = deadlock_text tested.now run in
         Writes (W.contents out.old) (W.contents out.new) text result }
 {
@@ -81,7 +81,7 @@ fn put_nothing<W: Write>(words: &[u8], made: u64, runs: u64, out: &mut W) -> Res
 }
 
 /// Writes what was found.
-fn put_finding<W: Write>(tested: &Tested, out: &mut W) -> Result<(), WriteFault>
+fn put_finding<W: Write>(tested: &TestReport, out: &mut W) -> Result<(), WriteFault>
     ensures { let text = finding_text tested.now tested.now.found in
         Writes (W.contents out.old) (W.contents out.new) text result }
 {
@@ -196,7 +196,7 @@ pub(crate) fn put_unreached<W: Write>(
 }
 
 /// Writes the summary of a test.
-pub fn put_summary<W: Write>(tested: &Tested, out: &mut W) -> Result<(), WriteFault>
+pub fn put_summary<W: Write>(tested: &TestReport, out: &mut W) -> Result<(), WriteFault>
     ensures { let text = summary_text tested.now in
         Writes (W.contents out.old) (W.contents out.new) text result }
 {

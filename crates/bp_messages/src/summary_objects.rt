@@ -7,7 +7,7 @@ ghost use Rattle.bp_messages.specs.SummaryObjects.{counts_members, distinct_memb
 use crate::failures::{failed_assertion, put_failure_member, statement_of};
 use crate::notes::put_notes_members;
 use crate::summaries::put_unreached;
-use crate::tested::Tested;
+use crate::test_reports::TestReport;
 use crate::waits::put_waits_member;
 use bp_test::{Counts, Distinct, Found};
 use bp_text::Piece::{Bytes, Key, Number, NumberOrNull, Text};
@@ -121,7 +121,7 @@ fn put_distinct_member<W: Write>(distinct: Distinct, out: &mut W) -> Result<(), 
 }
 
 /// Writes the object of what was found and of what the runs reached.
-fn put_summary_object<W: Write>(tested: &Tested, out: &mut W) -> Result<(), WriteFault>
+fn put_summary_object<W: Write>(tested: &TestReport, out: &mut W) -> Result<(), WriteFault>
     ensures { let text = summary_object tested.now in
         Writes (W.contents out.old) (W.contents out.new) text result }
 {
@@ -136,7 +136,7 @@ fn put_summary_object<W: Write>(tested: &Tested, out: &mut W) -> Result<(), Writ
 }
 
 /// Writes the summary of a test as objects, each on a line.
-pub fn put_summary_objects<W: Write>(tested: &Tested, out: &mut W) -> Result<(), WriteFault>
+pub fn put_summary_objects<W: Write>(tested: &TestReport, out: &mut W) -> Result<(), WriteFault>
     ensures { let text = summary_objects tested.now in
         Writes (W.contents out.old) (W.contents out.new) text result }
 {

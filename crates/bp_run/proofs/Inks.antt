@@ -1,10 +1,11 @@
 -- How what a pen has written adds up.
-use Rattle.std.proofs.Common.{◌≡◌, ℕ, Bool, false, true, List, [], ◌++◌, Option, Result, Ok, Err, sym, subst, append_assoc}
+use Rattle.std.proofs.Common.{◌≡◌, ℕ, Bool, false, true, List, [], ◌++◌, Option, Result, Ok, Err, sym, subst}
 use Rattle.std.proofs.lemmas.List.{append-nil}
 use Rattle.std.proofs.KnownBytes.{Appends-nil}
 use Rattle.std.specs.Result.{is_err}
 use Rattle.bp_text.specs.Writing.{Writes}
 use Rattle.bp_text.proofs.Appends.{all_then, part_then}
+use Rattle.bp_text.proofs.GrownLists.{regrouped}
 use Rattle.bp_run.specs.Inks.{IsInked, Inks}
 
 -- a new pen
@@ -32,5 +33,4 @@ pub inks_none : (old : Option (List ℕ)) (had : Bool) → Inks old had old had 
 inks_none old had first before b = subst (λ w. IsInked first old had w) (sym (append-nil before)) b
 
 pub inks_then : (old mid now : Option (List ℕ)) (f g h : Bool) (xs ys : List ℕ) → Inks old f mid g xs → Inks mid g now h ys → Inks old f now h (xs ++ ys)
-inks_then old mid now f g h xs ys a b first before i =
-    subst (λ w. IsInked first now h w) (append_assoc before xs ys) (b first (before ++ xs) (a first before i))
+inks_then old mid now f g h xs ys a b first before i = simp regrouped at (b first (before ++ xs) (a first before i))

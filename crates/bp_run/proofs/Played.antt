@@ -1,10 +1,11 @@
 -- What playing a setup comes to, from what the stage, the gathering and the rest promise.
-use Rattle.std.proofs.Common.{◌≡◌, ◌<◌, ℕ, length, length-append, arith, is_some, Bool, true, false, List, [], ◌++◌, Option, None, Some, sym, ◌∙◌, ap, subst, append_assoc}
+use Rattle.std.proofs.Common.{◌≡◌, ◌<◌, ℕ, length, length-append, arith, is_some, Bool, true, false, List, [], ◌++◌, Option, None, Some, sym, ◌∙◌, ap, subst}
 use Rattle.std.proofs.lemmas.List.{append-nil}
 use Rattle.std.proofs.lemmas.Option.{same_Some}
 use Rattle.bp_tree.specs.Ast.{Program}
 use Rattle.bp_text.specs.Writing.{AppendsAll, AppendsPart}
 use Rattle.bp_text.proofs.Appends.{part_first, part_then}
+use Rattle.bp_text.proofs.GrownLists.{regrouped}
 use Rattle.std.proofs.KnownBytes.{Appends-nil}
 use Rattle.bp_machine.specs.declared.calls.Call.{Call}
 use Rattle.bp_machine.specs.declared.reports.Report.{Report}
@@ -27,6 +28,10 @@ pub has_rest : (t : Program) (s : SetupOf) (taken : List Call) (seats : List Sea
     (b : Option ℕ) (a : Bool) → IsGathered t s taken seats tap r b a → is_some tap.rest ≡ true
 has_rest t s taken seats tap r b a g = ap is_some g.rest
 
+-- a head, the lines of some calls and those of the others, and an end
+both_lines : (head end : List ℕ) (cs ds : List Call) → (head ++ lines_of cs) ++ (lines_of ds ++ end) ≡ head ++ (lines_of (cs ++ ds) ++ end)
+both_lines head end cs ds = simp (regrouped, lines_append)
+
 module _ (t : Program) (s : SetupOf) (old c1 c2 c3 : Option (List ℕ)) (f1 f2 f3 : Bool) (taken : List Call)
     (rest_now : Option (List Call)) (seats : List SeatOf) (tap : TapOf) (r : Report) (early : Option ℕ) (agree : Bool)
     (staged : IsInked old c1 f1 (head_text One s ++ lines_of taken)) (g : IsGathered t s taken seats tap r early agree)
@@ -44,12 +49,9 @@ module _ (t : Program) (s : SetupOf) (old c1 c2 c3 : Option (List ℕ)) (f1 f2 f
 
   bytes : (head_text One s ++ lines_of taken) ++ (lines_of rest.more ++ end_line r.calls r.left_open) ≡ trace_text s (taken ++ g.left)
   bytes =
-      append_assoc (head_text One s) (lines_of taken) (lines_of rest.more ++ end_line r.calls r.left_open)
-      ∙ ap (λ w. head_text One s ++ w)
-      (sym (append_assoc (lines_of taken) (lines_of rest.more) (end_line r.calls r.left_open))
-      ∙ (ap (λ w. w ++ end_line r.calls r.left_open) (sym (lines_append taken rest.more))
-      ∙ (ap (λ x. lines_of (taken ++ x) ++ end_line r.calls r.left_open) same
-      ∙ ap (λ w. lines_of (taken ++ g.left) ++ w) the_end)))
+      both_lines (head_text One s) (end_line r.calls r.left_open) taken rest.more
+      ∙ ap (λ x. head_text One s ++ (lines_of (taken ++ x) ++ end_line r.calls r.left_open)) same
+      ∙ ap (λ w. head_text One s ++ (lines_of (taken ++ g.left) ++ w)) the_end
 
   pub inked : IsInked old c3 f3 (trace_text s (taken ++ g.left))
   inked =
@@ -114,11 +116,7 @@ module _ (t : Program) (s : SetupOf) (old now : Option (List ℕ)) (failed : Boo
 
   whole : begun ++ the_rest ≡ trace_text s (taken ++ g.left)
   unfolding the_rest begun
-  whole =
-      append_assoc (head_text One s) (lines_of taken) the_rest
-      ∙ ap (λ w. head_text One s ++ w)
-      (sym (append_assoc (lines_of taken) (lines_of g.left) (end_line (length (taken ++ g.left)) (open_lines s (taken ++ g.left))))
-      ∙ ap (λ w. w ++ end_line (length (taken ++ g.left)) (open_lines s (taken ++ g.left))) (sym (lines_append taken g.left)))
+  whole = both_lines (head_text One s) (end_line (length (taken ++ g.left)) (open_lines s (taken ++ g.left))) taken g.left
 
   part : (b : Bool) → IsInked old now b begun → AppendsPart old now (begun ++ the_rest)
   part false all = part_then old now now begun the_rest all (record { count = 0; short = has_end; grown = Appends-nil now })

@@ -1,8 +1,9 @@
 -- How the lines of calls add up.
-use Rattle.std.proofs.Common.{◌≡◌, ℕ, Bool, false, true, List, [], ◌∷◌, ◌++◌, Option, Some, None, is_some, refl, sym, ◌∙◌, ap, subst, append_assoc}
+use Rattle.std.proofs.Common.{◌≡◌, ℕ, Bool, false, true, List, [], ◌∷◌, ◌++◌, Option, Some, None, is_some, refl, sym, ◌∙◌, ap, subst}
 use Rattle.std.proofs.lemmas.List.{append-nil}
 use Rattle.std.proofs.lemmas.Bool.{false≢true}
 use Rattle.std.proofs.lemmas.Grind.{flat_map-append}
+use Rattle.bp_text.proofs.GrownLists.{both_added, regrouped}
 use Rattle.bp_machine.specs.declared.calls.Call.{Call}
 use Rattle.bp_machine.specs.Setups.{SetupOf}
 use Rattle.bp_board.specs.Taps.{IsTakenOf}
@@ -32,7 +33,7 @@ pub scribed_more : (old mid new : Option (List ℕ)) (had f f' : Bool) (taken t1
     → IsScribed old had mid f taken t1 → t2 ≡ t1 ++ c ∷ [] → Inks mid f new f' (call_line c) → IsScribed old had new f' taken t2
 scribed_more old mid new had f f' taken t1 t2 c s e w = record {
   more = s.more ++ c ∷ [];
-  grown = e ∙ (ap (λ x. x ++ c ∷ []) s.grown ∙ append_assoc taken s.more (c ∷ []));
+  grown = both_added taken t1 t2 s.more (c ∷ []) _ e s.grown refl;
   inks = inks_line old mid new had f f' s.more c s.inks w;
 }
 
@@ -47,7 +48,7 @@ rest_more old mid new had f f' rest r1 r2 c s next w =
     let step = subst (λ o. IsTakenOf o (Some c) r2) s.are next in record {
       more = s.more ++ c ∷ [];
       left = step.others;
-      were = s.were ∙ ap (λ x. Some x) (ap (λ x. s.more ++ x) step.first ∙ sym (append_assoc s.more (c ∷ []) step.others));
+      were = s.were ∙ ap (λ x. Some x) (ap (λ x. s.more ++ x) step.first ∙ simp regrouped);
       are = step.are;
       inks = inks_line old mid new had f f' s.more c s.inks w;
     }

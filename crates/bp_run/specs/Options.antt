@@ -5,24 +5,9 @@ use Rattle.bp_code.specs.Flat.{Flat}
 use Rattle.bp_machine.specs.declared.setup_faults.SetupFault.{SetupFault}
 use Rattle.bp_machine.specs.declared.setup_faults.SetupFault.TheVariants.{OutOfRange, Memory}
 use Rattle.bp_machine.specs.Setups.{SetupOf, setup_fault, fault_if, first_of, FitsCode}
-use Rattle.bp_machine.specs.Starts.{StartOf, default_start, setup_from}
-use Rattle.bp_run.specs.declared.limits.TheConstants.{DEFAULT_TURN, DEFAULT_SEED, DEFAULT_RING}
+use Rattle.bp_machine.specs.Starts.{setup_from}
+use Rattle.bp_tasks.specs.RunOptions.{OptionsOf}
 use Rattle.bp_board.specs.declared.limits.TheConstants.{MAX_TURN, MAX_RING}
-
--- what each run starts from, the calls of a turn, the seed of the choice bits, and the calls that
--- the ring holds
-pub record OptionsOf : Type 0 where
-  pub start : StartOf
-  pub turn : ℕ
-  pub seed : ℕ
-  pub ring : ℕ
-
-abbrev pub options_of : StartOf → ℕ → ℕ → ℕ → OptionsOf
-options_of start turn seed ring = record { start = start; turn = turn; seed = seed; ring = ring }
-
--- a run starts from the defaults, a turn is one call, and the seed is 42
-abbrev pub default_options : OptionsOf
-default_options = options_of default_start DEFAULT_TURN DEFAULT_SEED DEFAULT_RING
 
 -- the setup of a program under the options, with their seed
 abbrev pub setup_under : OptionsOf → Program → SetupOf

@@ -7,7 +7,8 @@ use Rattle.bp_run.specs.declared.answers.RunReport.{RunReport}
 use Rattle.bp_run.specs.declared.run_faults.RunFault.{RunFault}
 use Rattle.bp_run.specs.declared.run_faults.RunFault.TheVariants as fault
 use Rattle.bp_run.specs.Counts.{seat_of_worker}
-use Rattle.bp_run.specs.Options.{OptionsOf, setup_under, options_fault, IsOptionsRefusal}
+use Rattle.bp_tasks.specs.RunOptions.{OptionsOf}
+use Rattle.bp_run.specs.Options.{setup_under, options_fault, IsOptionsRefusal}
 use Rattle.bp_run.specs.Played.{IsPlayedFrom, IsPlayRefusal}
 
 -- the text is that of a lawful program, which has this property

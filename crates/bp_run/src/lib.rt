@@ -5,11 +5,10 @@
 mod answers;
 mod bells;
 mod gates;
-pub mod limits;
 mod pens;
 mod playing;
 mod run_faults;
-mod run_options;
+mod run_setups;
 mod runner;
 mod scribes;
 mod signals;
@@ -18,10 +17,10 @@ mod stages;
 mod workers;
 
 pub use answers::{RunReport, WorkerCount};
+pub use bp_tasks::RunOptions;
 pub use gates::{Gate, Open, Turns};
 pub use playing::{OpenedBoard, PlayedBoard, play};
 pub use run_faults::RunFault;
-pub use run_options::RunOptions;
 pub use runner::run;
 pub use signals::Signals;
 pub use spreads::Spread;

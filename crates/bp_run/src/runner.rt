@@ -13,10 +13,11 @@ use crate::answers::{RunReport, counts_of};
 use crate::gates::{Gate, Turns};
 use crate::playing::{OpenedBoard, play};
 use crate::run_faults::RunFault;
-use crate::run_options::RunOptions;
+use crate::run_setups::setup_under;
 use bp_board::{Board, Calls, Kit};
 use bp_code::{Code, code_of};
 use bp_machine::Setup;
+use bp_tasks::RunOptions;
 use std::alloc::{AllocError, Global};
 use std::io::Write;
 use std::marker::Brand;
@@ -110,7 +111,7 @@ pub fn run<G: Gate, W: Write, R: Threads + Wait + Clock + Sync>(
         (IsRunRefusal options.now text.now old new) }
 {
     let code = code_of(alloc, text)?;
-    let setup = options.setup(alloc, &code)?;
+    let setup = setup_under(alloc, options, &code)?;
     let kit = kit_of(alloc, &setup, options)?;
     let calls = options.turn;
     let turns = Turns { calls, gate };

@@ -1,6 +1,7 @@
 -- What decides the assertions of a program's places is what its statements are decided by.
-use Rattle.std.proofs.Common.{◌≡◌, ◌∙◌, ◌+◌, ◌<◌, ◌≤◌, zero, suc, refl, ap, ap₂, ℕ, List, [], ◌∷◌, ◌++◌, Option, None, Bor, map, length, drop, get_or, append_assoc, arith}
+use Rattle.std.proofs.Common.{◌≡◌, ◌∙◌, ◌+◌, ◌<◌, ◌≤◌, zero, suc, refl, ap, ap₂, ℕ, List, [], ◌∷◌, ◌++◌, Option, None, Bor, map, length, drop, get_or, arith}
 use Rattle.std.proofs.lemmas.List.{map-append}
+use Rattle.bp_text.proofs.GrownLists.{rest_left}
 use Rattle.bp_tree.specs.Blocks.{block_of, statement_of}
 use Rattle.bp_tree.specs.Depth.{depth, statement_depth}
 use Rattle.bp_tree.specs.declared.exprs.Decider.{Decider}
@@ -50,7 +51,7 @@ noted_one xs ys d r is same = ap (map reading_of) is ∙ map-append reading_of x
 three_parts : {X : Type 0} (old mid new one more rest all : List X) → mid ≡ old ++ one → new ≡ mid ++ more → old ++ (one ++ (more ++ rest)) ≡ all
     → new ++ rest ≡ all
 three_parts old mid new one more rest all first second before =
-    rw (second, first) (append_assoc (old ++ one) more rest ∙ append_assoc old one (more ++ rest) ∙ before)
+    rest_left mid new more rest all second (rest_left old mid one (more ++ rest) all first before)
 
 module _ (items : List Stmt) (i : ℕ) (s : Stmt) (h : i < length items) (e : s ≡ get_or items i s) where
   -- one more statement, and those inside it

@@ -1,7 +1,8 @@
 -- The words of a statement, lexeme by lexeme.
-use Rattle.std.proofs.Common.{◌≡◌, ◌∙◌, ℕ, Bool, true, false, List, [], ◌∷◌, ◌++◌, ap, sym, refl, append_assoc, append-nil}
+use Rattle.std.proofs.Common.{◌≡◌, ◌∙◌, ℕ, Bool, true, false, List, [], ◌∷◌, ◌++◌, sym, refl, append-nil}
 use Rattle.std.specs.Prelude.{◌||◌}
 use Rattle.std.specs.List.{list_any}
+use Rattle.bp_text.proofs.GrownLists.{rest_left}
 use Rattle.bp_source.specs.Statements.{HasLexemes, IsAtEnd, Lexeme, Takes, ends, more, is_choice, is_gap, word_after, words_after}
 
 -- the text begins with a statement of these words, before they are cut
@@ -38,7 +39,7 @@ module _ (text words : List ℕ) (gap reads : Bool) (rest : List ℕ) (read : Re
         record {
           lexemes = all.lexemes;
           lexemes_are = all.lexemes_are;
-          words_are = ap (λ x. x ++ others) is ∙ append_assoc words (word_after gap l.kind l.bytes) others ∙ all.words_are;
+          words_are = rest_left words new (word_after gap l.kind l.bytes) others _ is all.words_are;
           reads_is = or_assoc reads (is_choice l.bytes) (list_any (λ x. is_choice x.bytes) left) ∙ all.reads_is;
         };
   }

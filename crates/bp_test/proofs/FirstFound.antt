@@ -11,7 +11,7 @@ use Rattle.bp_machine.specs.Reports.{outcome_of, is_failure}
 use Rattle.bp_text.specs.Writing.{AppendsAll, AppendsPart}
 use Rattle.bp_trace.specs.TraceText.{trace_text}
 use Rattle.bp_test.specs.declared.blocks.FoundRun.{FoundRun}
-use Rattle.bp_test.specs.declared.options.TestOptions.{TestOptions}
+use Rattle.bp_tasks.specs.declared.test_options.TestOptions.{TestOptions}
 use Rattle.bp_test.specs.Failing.{FailsAt}
 use Rattle.bp_test.specs.Tallies.{MadeRun}
 use Rattle.bp_test.specs.Tests.{setup_of_run, found_by, found_in, IsDeadlock, IsCleanRun, AreCleanRuns, IsFirstFound, IsFoundRun, IsWrittenRun, IsFound, IsCutRun, HasFailed, Wait}

@@ -1,14 +1,5 @@
 //! Numbers of tests.
 
-/// How many runs a test has, where no number is given.
-pub const DEFAULT_RUNS: u64 = 10_000;
-
-/// How many blocks of runs are made side by side, where no number is given.
-pub const DEFAULT_JOBS: u32 = 1;
-
-/// How many blocks of runs are made side by side at most.
-pub const MAX_JOBS: u32 = 64;
-
 /// How many runs a block has.
 pub const BLOCK: u64 = 5_000;
 

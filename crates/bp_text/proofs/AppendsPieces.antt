@@ -23,7 +23,9 @@ pub AppendsPart_within : (a b c : Option (List ℕ)) (before text rest : List �
 AppendsPart_within a b c before text rest p q = record {
   count = length before + q.count;
   short = let h = q.short in rw (length-append before (text ++ rest), length-append text rest) (omega arith);
-  grown = rw (take-append-add before (text ++ rest) q.count) (Appends-trans a b c _ _ p (subst (Appends b c) (sym (take_within text rest q.count q.short)) q.grown));
+  grown =
+      rw (take-append-add before (text ++ rest) q.count)
+      (Appends-trans a b c _ _ p (subst (Appends b c) (sym (take_within text rest q.count q.short)) q.grown));
 }
   where
     take_within : (text rest : List ℕ) (n : ℕ) → n < length text → take n (text ++ rest) ≡ take n text

@@ -8,7 +8,8 @@ pub first_on_one_line : (text : List ℕ) → IsOneLine (first_line text)
 first_on_one_line [] = tt
 first_on_one_line (b ∷ bs) = by_byte (b == 10) refl (first_on_one_line bs)
   where
-    by_byte : (feed : Bool) → (b == 10) ≡ feed → IsOneLine (first_line bs) → IsOneLine (take (cond (not feed) (1 + position_or_len (λ x. x == 10) bs) 0) (b ∷ bs))
+    by_byte : (feed : Bool) → (b == 10) ≡ feed → IsOneLine (first_line bs)
+        → IsOneLine (take (cond (not feed) (1 + position_or_len (λ x. x == 10) bs) 0) (b ∷ bs))
     by_byte true is rest = tt
     by_byte false is rest =
         let next : suc (position_or_len (λ x. x == 10) bs) ≡ 1 + position_or_len (λ x. x == 10) bs = omega arith in

@@ -1,11 +1,15 @@
 pub mod Appends
 pub mod AppendsPieces
 pub mod FirstLines
+pub mod GrownLists
+pub mod ItemsOfLists
 pub mod Lengths
 mod LinesOfTexts
 mod NumberOfDigits
 pub mod Numerals
+pub mod PartsOfTexts
 pub mod PiecesInTurn
 pub mod PositionsOfParts
 mod StringsReadBack
 pub mod TextsOnOneLine
+pub mod WrittenParts

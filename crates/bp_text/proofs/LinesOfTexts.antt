@@ -13,7 +13,8 @@ module _ (p : ℕ → Bool) (text : List ℕ) where
   pub first_of_lines : slice_index_or (slice_split p text) 0 [] ≡ before_first p text
   first_of_lines = ⊎_elim
       (λ (ended : position_or_len p text < length text). ap (λ (ls : List (List ℕ)). slice_index_or ls 0 []) (slice_split_first p text 0 ended))
-      (λ (all : length text ≤ position_or_len p text). ap (λ (ls : List (List ℕ)). slice_index_or ls 0 []) (one_line all) ∙ sym (take_all (position_or_len p text) text all))
+      (λ (all : length text ≤ position_or_len p text). ap (λ (ls : List (List ℕ)). slice_index_or ls 0 []) (one_line all)
+      ∙ sym (take_all (position_or_len p text) text all))
       (cases_lt (position_or_len p text) (length text))
 
   none_follow : (k : ℕ) → length text ≤ position_or_len p text

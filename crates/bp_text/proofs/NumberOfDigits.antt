@@ -44,7 +44,8 @@ module _ (digits : List ℕ) where
       pub one_more_digit : AllDigits 10 (take i digits) → AllDigits 10 (take (i + 1) digits)
       one_more_digit before = digits_more 10 digits i within before (omega (arith, digit_value_digit (get_or digits i 0) (low, high)))
 
-      pub one_more_value : (number next : ℕ) → number ≡ digits_value 10 (take i digits) → next ≡ number * 10 + (get_or digits i 0 - 48) → next ≡ digits_value 10 (take (i + 1) digits)
+      pub one_more_value : (number next : ℕ) → number ≡ digits_value 10 (take i digits)
+          → next ≡ number * 10 + (get_or digits i 0 - 48) → next ≡ digits_value 10 (take (i + 1) digits)
       one_more_value number next is e = omega (arith, is, e, value_here)
 
   some_digits : digits ≢ [] → 0 < length digits

@@ -11,7 +11,8 @@ read_back [] = ends
 read_back (b ∷ bs) = by_tests (is_marked b) refl (is_control b) refl (read_back bs)
   where
     by_tests : (m : Bool) → is_marked b ≡ m → (c : Bool) → is_control b ≡ c → IsReadAs (flat_map string_byte bs) bs
-        → IsReadAs ((if m then 92 ∷ b ∷ [] else if c then codes "\\u00" ++ hex_digit (b / 16) ∷ hex_digit (b % 16) ∷ [] else b ∷ []) ++ flat_map string_byte bs) (b ∷ bs)
+        → IsReadAs ((if m then 92 ∷ b ∷ [] else if c then codes "\\u00" ++ hex_digit (b / 16) ∷ hex_digit (b % 16) ∷ []
+        else b ∷ []) ++ flat_map string_byte bs) (b ∷ bs)
     by_tests true is c control rest = marked b (flat_map string_byte bs) bs is rest
     by_tests false is true control rest = numbered b (flat_map string_byte bs) bs (small b control) rest
     by_tests false is false control rest = plain b (flat_map string_byte bs) bs is control rest

@@ -1,7 +1,8 @@
 -- Texts on one line, one after the other.
-use Rattle.std.proofs.Common.{if◌then◌else◌, ◌≡◌, ◌==◌, ℕ, false, true, Bool, List, [], ◌∷◌, ◌++◌, map, refl, take, zero, suc, ap, ◌∙◌, append_assoc}
+use Rattle.std.proofs.Common.{if◌then◌else◌, ◌≡◌, ◌==◌, ℕ, false, true, Bool, List, [], ◌∷◌, ◌++◌, map, refl, take, zero, suc}
 use Rattle.bp_text.specs.OneLine.{IsOneLine, AddsOneLine, on_one_line}
 use Rattle.bp_text.specs.Columns.{spaces}
+use Rattle.bp_text.proofs.GrownLists.{both_added}
 
 pub one_line_append : (xs ys : List ℕ) → IsOneLine xs → IsOneLine ys → IsOneLine (xs ++ ys)
 one_line_append [] ys is second = second
@@ -10,7 +11,7 @@ one_line_append (x ∷ xs) ys is second = (is.0, one_line_append xs ys is.1 seco
 pub adds_then : (a b c : List ℕ) → AddsOneLine a b → AddsOneLine b c → AddsOneLine a c
 adds_then a b c first second = record {
   more = first.more ++ second.more;
-  is = second.is ∙ ap (λ x. x ++ second.more) first.is ∙ append_assoc a first.more second.more;
+  is = both_added a b c first.more second.more _ second.is first.is refl;
   one_line = one_line_append first.more second.more first.one_line second.one_line;
 }
 

@@ -2,7 +2,7 @@
 use Rattle.std.specs.Prelude.{if◌then◌else◌, ◌==◌, ◌&&◌, ◌+◌, ◌-◌, nat_lt, ℕ, List, [], ◌∷◌, ◌++◌, Option, None, Some, length, take, drop, slice_index_or}
 use Rattle.std.specs.List.{before_first, after_last, slice_split}
 use Rattle.bp_text.specs.Columns.{spaces}
-use Rattle.bp_text.specs.declared.excerpts.TheConstants.{INDENT, MAX_BEFORE, MAX_BEHIND}
+use Rattle.bp_text.specs.declared.excerpts.TheConstants.{INDENT, MAX_BEFORE, MAX_AFTER}
 
 -- the bytes before the first line feed
 abbrev pub first_line : List ℕ → List ℕ
@@ -34,22 +34,22 @@ indented line = spaces INDENT ++ line ++ 10 ∷ []
 
 -- a line, and in the next one a caret below the first byte after its front
 abbrev pub with_caret : List ℕ → List ℕ → List ℕ
-with_caret front behind =
-    indented (front ++ behind) ++ indented (spaces (length front) ++ 94 ∷ [])
+with_caret front after =
+    indented (front ++ after) ++ indented (spaces (length front) ++ 94 ∷ [])
 
 -- the line of this place, cut at both ends, and a caret below the place: nothing of an empty line
 abbrev pub excerpt_of_place : List ℕ → ℕ → List ℕ
 excerpt_of_place text at =
     let before = last_line (take at text) in
-    let behind = first_line (drop at text) in
-    if length before == 0 && length behind == 0 then []
-    else with_caret (end_of before MAX_BEFORE) (front_of behind MAX_BEHIND)
+    let after = first_line (drop at text) in
+    if length before == 0 && length after == 0 then []
+    else with_caret (end_of before MAX_BEFORE) (front_of after MAX_AFTER)
 
 -- the line of this number, cut at its end: nothing of an empty line
 abbrev pub excerpt_of_line : List ℕ → ℕ → List ℕ
 excerpt_of_line text number =
     let line = line_at text number in
-    if length line == 0 then [] else indented (front_of line (MAX_BEFORE + MAX_BEHIND))
+    if length line == 0 then [] else indented (front_of line (MAX_BEFORE + MAX_AFTER))
 
 -- the excerpt for a fault that names this byte of the text, or none
 abbrev pub excerpt_of_fault : List ℕ → Option ℕ → List ℕ

@@ -3,6 +3,8 @@ pub mod Decimals
 pub mod Excerpts
 pub mod JsonStrings
 pub mod OneLine
+pub mod Parts
 pub mod Pieces
 pub mod Positions
 pub mod Writing
+pub mod WrittenTexts

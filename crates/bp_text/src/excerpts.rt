@@ -15,7 +15,7 @@ const INDENT: usize = 4;
 const MAX_BEFORE: usize = 60;
 
 /// How many bytes of a line are shown from a place on.
-const MAX_BEHIND: usize = 40;
+const MAX_AFTER: usize = 40;
 
 /// What stands for the bytes of a line that are not shown.
 const CUT: &[u8] = b"..";
@@ -68,11 +68,11 @@ fn push_caret(out: &mut Vec<u8>, column: usize) -> Result<(), AllocError>
 }
 
 /// Adds a line of these parts, and a line with a caret below the second.
-fn push_with_caret(out: &mut Vec<u8>, front: &[u8], behind: &[u8]) -> Result<(), AllocError>
+fn push_with_caret(out: &mut Vec<u8>, front: &[u8], after: &[u8]) -> Result<(), AllocError>
     ensures { OnOk result (out.new.items
-        ≡ out.old.items ++ with_caret front.now (front_of behind.now MAX_BEHIND)) }
+        ≡ out.old.items ++ with_caret front.now (front_of after.now MAX_AFTER)) }
 {
-    push_indented(out, front, behind, MAX_BEHIND)?;
+    push_indented(out, front, after, MAX_AFTER)?;
     push_caret(out, front.len())
 }
 
@@ -82,12 +82,12 @@ pub fn push_place(out: &mut Vec<u8>, text: &[u8], at: usize) -> Result<(), Alloc
     ensures { OnOk result (out.new.items ≡ out.old.items ++ excerpt_of_place text.now at) }
 {
     let before = last_line(part_before(text, at));
-    let behind = first_line(part_from(text, at));
-    if before.is_empty() && behind.is_empty() {
+    let after = first_line(part_from(text, at));
+    if before.is_empty() && after.is_empty() {
         return Ok(());
     }
     let front = end_of(*out.allocator(), before, MAX_BEFORE)?;
-    push_with_caret(out, front.as_slice(), behind)
+    push_with_caret(out, front.as_slice(), after)
 }
 
 /// The excerpt for a fault that names this byte of the text, or none.
@@ -111,5 +111,5 @@ pub fn push_line(out: &mut Vec<u8>, text: &[u8], number: usize) -> Result<(), Al
     if line.is_empty() {
         return Ok(());
     }
-    push_indented(out, b"", line, MAX_BEFORE + MAX_BEHIND)
+    push_indented(out, b"", line, MAX_BEFORE + MAX_AFTER)
 }

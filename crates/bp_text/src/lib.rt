@@ -21,5 +21,5 @@ pub use lines::{Line, line_of, take_line, text_from_line};
 pub use one_line::push_on_one_line;
 pub use parts::{first_line, last_line, part_before, part_from};
 pub use pieces::{Piece, push_piece, push_pieces, put_pieces};
-pub use positions::{FIRST, Position, behind_all, position_from, position_of};
+pub use positions::{FIRST, Position, after_all, position_from, position_of};
 pub use writing::{WriteFault, put};

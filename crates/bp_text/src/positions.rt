@@ -1,6 +1,6 @@
 //! Where in a text a byte stands, as editors count.
 ghost use Rattle.std.specs.Prelude.{◌≡◌, ◌∷◌, ◌++◌, ◌<◌, ◌≤◌, ◌+◌, ◌^◌, [], ℕ, List, length};
-ghost use Rattle.bp_text.specs.Positions.{position_behind, position_at};
+ghost use Rattle.bp_text.specs.Positions.{position_after, position_at};
 
 /// A line and a column, both from 1. A column is a byte.
 #[derive(Clone, Copy, Debug, PartialEq, Eq)]
@@ -13,12 +13,12 @@ pub struct Position {
 pub const FIRST: Position = Position { line: 1, column: 1 };
 
 /// The position after one more byte.
-fn behind(position: Position, byte: u8) -> Position
+fn after(position: Position, byte: u8) -> Position
     requires line { position.line + 1 < 2 ^ 64 }
     requires column { position.column + 1 < 2 ^ 64 }
     ensures is { (before : List ℕ)
-        → position ≡ position_behind before
-        → result ≡ position_behind (before ++ byte ∷ []) }
+        → position ≡ position_after before
+        → result ≡ position_after (before ++ byte ∷ []) }
     ensures line { result.line ≤ position.line + 1 }
     ensures column { result.column ≤ position.column + 1 }
 {
@@ -35,16 +35,16 @@ fn behind(position: Position, byte: u8) -> Position
 }
 
 /// The position after the bytes.
-pub fn behind_all(position: Position, bytes: &[u8]) -> Position
+pub fn after_all(position: Position, bytes: &[u8]) -> Position
     requires line { position.line + length bytes.now < 2 ^ 64 }
     requires column { position.column + length bytes.now < 2 ^ 64 }
     ensures { (before : List ℕ)
-        → position ≡ position_behind before
-        → result ≡ position_behind (before ++ bytes.now) }
+        → position ≡ position_after before
+        → result ≡ position_after (before ++ bytes.now) }
 {
     let mut position = position;
     for byte in bytes {
-        position = behind(position, *byte);
+        position = after(position, *byte);
     }
     position
 }
@@ -54,9 +54,9 @@ pub fn position_of(text: &[u8], at: usize) -> Position
     ensures { result ≡ position_at text.now at }
 {
     if at < text.len() {
-        return behind_all(FIRST, &text[..at]);
+        return after_all(FIRST, &text[..at]);
     }
-    behind_all(FIRST, text)
+    after_all(FIRST, text)
 }
 
 /// The position of the byte at this offset, from that of another byte: quickly where that one is
@@ -67,7 +67,7 @@ pub fn position_from(text: &[u8], from: usize, position: Position, at: usize) ->
 {
     let size = text.len();
     if from <= at && at < size {
-        return behind_all(position, &text[from..at]);
+        return after_all(position, &text[from..at]);
     }
     position_of(text, at)
 }

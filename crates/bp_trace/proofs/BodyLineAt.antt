@@ -13,7 +13,7 @@ use Rattle.bp_trace.specs.TraceText.{symbol_text, piece_line}
 use Rattle.bp_trace.specs.TraceReading.{IsThreadAt}
 use Rattle.bp_trace.specs.BodyReading.{IsSymbolAt, HasSymbols, IsBodyLineAt, HasNoBodyLine}
 use Rattle.bp_trace.proofs.OneText.{piece_then, symbols_alike, no_symbol_at_end}
-use Rattle.bp_trace.proofs.ThreadAt.{behind, one_thread}
+use Rattle.bp_trace.proofs.ThreadAt.{after, one_thread}
 
 -- ---- the symbols
 
@@ -50,27 +50,27 @@ module _ (i : ℕ) (text : List ℕ) (old : List Call) where
 
 -- ---- the line of a piece
 
--- the byte behind a front of a text
-byte_behind : (front more : List ℕ) (d : ℕ) → slice_get (front ++ more) (length front) ≡ Some d → more ≡ d ∷ drop 1 more
-byte_behind [] [] d e = absurd (cc)
-byte_behind [] (m ∷ ms) d e = ap (λ x. x ∷ ms) (same_Some m d e)
-byte_behind (f ∷ fs) more d e = byte_behind fs more d e
+-- the byte after a front of a text
+byte_after : (front more : List ℕ) (d : ℕ) → slice_get (front ++ more) (length front) ≡ Some d → more ≡ d ∷ drop 1 more
+byte_after [] [] d e = absurd (cc)
+byte_after [] (m ∷ ms) d e = ap (λ x. x ∷ ms) (same_Some m d e)
+byte_after (f ∷ fs) more d e = byte_after fs more d e
 
-reads_behind : (front more : List ℕ) (d : ℕ) → slice_get (front ++ d ∷ more) (length front) ≡ Some d
-reads_behind [] more d = refl
-reads_behind (f ∷ fs) more d = reads_behind fs more d
+reads_after : (front more : List ℕ) (d : ℕ) → slice_get (front ++ d ∷ more) (length front) ≡ Some d
+reads_after [] more d = refl
+reads_after (f ∷ fs) more d = reads_after fs more d
 
 module _ (n : ℕ) (last : Option ℕ) (text : List ℕ) where
   module _ (few : n ≤ MAX_THREADS) (t : ℕ) (at : IsThreadAt n text t) where
     abbrev rest : List ℕ
     rest = drop (length (decimal t) + 1) text
 
-    -- the thread of a piece that begins the text, and what is behind it
+    -- the thread of a piece that begins the text, and what is after it
     same_thread : (p : Piece) (more : List ℕ) → p.thread < n → text ≡ piece_line p ++ more
         → (t ≡ p.thread) × (rest ≡ flat_map symbol_text (p.first ∷ p.others) ++ 10 ∷ more)
     same_thread p more below begins =
         let same = one_thread n text few t at p.thread _ below (begins ∙ piece_then p more) in
-        (same.0, behind n text few t at ∙ same.1)
+        (same.0, after n text few t at ∙ same.1)
 
     pub no_piece_of_last : last ≡ Some t → HasNoBodyLine Two n last text
     no_piece_of_last is = λ line calls more b begins.
@@ -86,7 +86,7 @@ module _ (n : ℕ) (last : Option ℕ) (text : List ℕ) where
           let long : size ≡ length (flat_map symbol_text symbols) = read.size_is ∙ ap (λ ts. length (flat_map symbol_text ts)) alike.0 in
           none (omega (arith, long))
           (ap (λ text. slice_get text size) same.1 ∙ ap (slice_get (flat_map symbol_text symbols ++ 10 ∷ more)) long
-          ∙ reads_behind (flat_map symbol_text symbols) more 10)
+          ∙ reads_after (flat_map symbol_text symbols) more 10)
 
       pub has_piece : last ≢ Some t → 0 < size → slice_get rest size ≡ Some 10 → IsBodyLineAt Two n last text calls (length (decimal t) + size + 2)
       has_piece other some ended = go read.symbols read.more read.added read.begins read.size_is
@@ -100,14 +100,14 @@ module _ (n : ℕ) (last : Option ℕ) (text : List ℕ) where
               let p : Piece = record { thread = t; first = u; others = us } in
               let at_end : slice_get (symbols ++ more) (length symbols) ≡ Some 10 =
               ap (slice_get (symbols ++ more)) (sym long) ∙ ap (λ text. slice_get text size) (sym begins) ∙ ended in
-              let line = byte_behind symbols more 10 at_end in
+              let line = byte_after symbols more 10 at_end in
               record {
                 line = piece_line p;
                 more = drop 1 more;
                 is_line = record { piece = p; thread = at.1; other = λ e. other (sym e); is = refl; holds = added };
                 begins =
                     at.2
-                    ∙ ap (λ r. decimal t ++ 32 ∷ r) (sym (behind n text few t at) ∙ begins ∙ ap (λ r. symbols ++ r) line)
+                    ∙ ap (λ r. decimal t ++ 32 ∷ r) (sym (after n text few t at) ∙ begins ∙ ap (λ r. symbols ++ r) line)
                     ∙ sym (piece_then p (drop 1 more));
                 size_is = omega (arith, long, length-append (decimal t) (32 ∷ (symbols ++ codes "\n")), length-append symbols (codes "\n"));
               }

@@ -11,7 +11,7 @@ use Rattle.bp_trace.specs.EndReading.{IsNoDigit, IsDecimalAt, HasNoDecimal, IsEn
 use Rattle.bp_trace.proofs.Cuts.{one_cut, digits_without}
 use Rattle.bp_trace.proofs.OneText.{front_cut}
 
--- ---- a decimal and the byte behind it
+-- ---- a decimal and the byte after it
 
 no_digit : (ds : List ℕ) (i : ℕ) → AllDigits 10 ds → i < length ds → IsNoDigit (get_or ds i 0) → ⊥
 no_digit ds i p within (inl low) = omega (arith, digit_at ds i p within)
@@ -86,7 +86,7 @@ module _ (byte : ℕ) (low : byte < 48) (text : List ℕ) (count : ℕ) (within 
 
 -- ---- the end line
 
--- an end line, and what is behind it
+-- an end line, and what is after it
 pub end_then : (line more : List ℕ) (e : IsEndLine line) → line ++ more ≡ codes "end " ++ (e.calls ++ 32 ∷ (e.left_open ++ 10 ∷ more))
 end_then line more e =
     ap (λ l. l ++ more) e.is
@@ -94,7 +94,7 @@ end_then line more e =
     ∙ ap (λ t. e.calls ++ 32 ∷ t) (append_assoc e.left_open (codes "\n") more))
 
 module _ (text : List ℕ) where
-  -- behind the word
+  -- after the word
   module _ (word : text ≡ codes "end " ++ drop 4 text) where
     both_then : (line more : List ℕ) (e : IsEndLine line) → text ≡ line ++ more → drop 4 text ≡ e.calls ++ 32 ∷ (e.left_open ++ 10 ∷ more)
     both_then line more e begins = front_cut (codes "end ") _ _ (sym word ∙ begins ∙ end_then line more e)

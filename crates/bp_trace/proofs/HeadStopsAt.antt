@@ -17,7 +17,7 @@ contexts_line n = field_line (codes "contexts ") (decimal n)
 abbrev pub calls_line : ℕ → List ℕ
 calls_line n = field_line (codes "calls ") (decimal n)
 
--- the lines of a version and of entries, and these behind them
+-- the lines of a version and of entries, and these after them
 abbrev pub lines_of : Version → List (List ℕ) → List (List ℕ) → List (List ℕ)
 lines_of v es ss = version_line v ∷ (map entry_line es ++ ss)
 

@@ -8,15 +8,15 @@ use Rattle.bp_trace.proofs.OneText.{front_cut}
 module _ {X : Type 0} (f : X → List ℕ) (xs : List X) (i : ℕ) (x : X) (within : i < length xs) (text rest : List ℕ)
     (before : text ≡ flat_map f (take i xs) ++ rest) where
   -- the i-th begins the rest
-  pub one_more : (behind : List ℕ) → rest ≡ f (get_or xs i x) ++ behind → text ≡ flat_map f (take (i + 1) xs) ++ behind
-  one_more behind e =
+  pub one_more : (after : List ℕ) → rest ≡ f (get_or xs i x) ++ after → text ≡ flat_map f (take (i + 1) xs) ++ after
+  one_more after e =
       let next : flat_map f (take (i + 1) xs) ≡ flat_map f (take i xs) ++ f (get_or xs i x) =
       ap (flat_map f) (take_more xs i x within) ∙ flat_map-append f (take i xs) (get_or xs i x ∷ [])
       ∙ ap (λ t. flat_map f (take i xs) ++ t) (append-nil (f (get_or xs i x))) in
       before ∙ ap (λ t. flat_map f (take i xs) ++ t) e
-      ∙ sym (append_assoc (flat_map f (take i xs)) (f (get_or xs i x)) behind) ∙ ap (λ t. t ++ behind) (sym next)
+      ∙ sym (append_assoc (flat_map f (take i xs)) (f (get_or xs i x)) after) ∙ ap (λ t. t ++ after) (sym next)
 
   -- it does not
-  pub one_missing : ((behind : List ℕ) → rest ≢ f (get_or xs i x) ++ behind) → text ≢ flat_map f xs
+  pub one_missing : ((after : List ℕ) → rest ≢ f (get_or xs i x) ++ after) → text ≢ flat_map f xs
   one_missing none = λ whole.
       none (flat_map f (drop (i + 1) xs)) (front_cut (flat_map f (take i xs)) rest _ (sym before ∙ whole ∙ flat_map_at f xs i x within))

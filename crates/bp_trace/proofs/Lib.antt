@@ -13,7 +13,7 @@ pub mod LinesDriveAgain
 mod LinesOfHistory
 mod OneField
 mod OneHead
-mod OneHistoryBehind
+mod OneHistoryAfter
 mod OneLine
 mod OneMoreEntry
 mod OneRefusal

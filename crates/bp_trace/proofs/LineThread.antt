@@ -1,4 +1,4 @@
--- The calls of a line are of one thread, which is the last behind them.
+-- The calls of a line are of one thread, which is the last after them.
 use Rattle.std.proofs.Common.{◌≡◌, ◌≢◌, ℕ, ◌<◌, List, [], ◌∷◌, ◌++◌, map, Option, Some, refl, ap, sym, ◌∙◌, subst, arith}
 use Rattle.std.specs.List.{AllByRecursion}
 use Rattle.bp_machine.specs.declared.calls.Call.{Call}
@@ -48,7 +48,7 @@ line_below v n last line calls b =
     let one = line_thread v n last line calls b in
     all_below n one.thread calls one.below one.are.each
 
--- the last of some threads is that behind the others
+-- the last of some threads is that after the others
 last_behind : (ts : List ℕ) (u : ℕ) (us : List ℕ) → last_thread (ts ++ u ∷ us) ≡ last_thread (u ∷ us)
 last_behind [] u us = refl
 last_behind (t ∷ []) u us = refl
@@ -58,11 +58,11 @@ last_of_one : (i : ℕ) (x : Call) (xs : List Call) → AllByRecursion (λ (y : 
 last_of_one i x [] each = ap Some each.0
 last_of_one i x (y ∷ ys) each = last_of_one i y ys each.1
 
-threads_behind : (h calls : List Call) → map thread_of (h ++ calls) ≡ map thread_of h ++ map thread_of calls
-threads_behind [] calls = refl
-threads_behind (x ∷ xs) calls = ap (λ ts. x.thread ∷ ts) (threads_behind xs calls)
+threads_after : (h calls : List Call) → map thread_of (h ++ calls) ≡ map thread_of h ++ map thread_of calls
+threads_after [] calls = refl
+threads_after (x ∷ xs) calls = ap (λ ts. x.thread ∷ ts) (threads_after xs calls)
 
 pub last_is_thread : (i : ℕ) (h calls : List Call) → AreOfThread i calls → last_thread (map thread_of (h ++ calls)) ≡ Some i
 last_is_thread i h [] are = absurd (are.some refl)
 last_is_thread i h (x ∷ xs) are =
-    ap last_thread (threads_behind h (x ∷ xs)) ∙ last_behind (map thread_of h) x.thread (map thread_of xs) ∙ last_of_one i x xs are.each
+    ap last_thread (threads_after h (x ∷ xs)) ∙ last_behind (map thread_of h) x.thread (map thread_of xs) ∙ last_of_one i x xs are.each

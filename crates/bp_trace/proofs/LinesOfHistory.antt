@@ -1,4 +1,4 @@
--- The lines of a history: its text is theirs, one behind the other, and each may follow those before it.
+-- The lines of a history: its text is theirs, one after the other, and each may follow those before it.
 use Rattle.std.proofs.Common.{◌≡◌, ℕ, ◌<◌, List, [], ◌∷◌, ◌++◌, map, flat_map, refl, ap, sym, ◌∙◌, subst}
 use Rattle.std.specs.List.{AllByRecursion}
 use Rattle.bp_machine.specs.declared.calls.Call.{Call}

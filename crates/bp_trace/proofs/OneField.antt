@@ -21,11 +21,11 @@ module _ (word text : List ℕ) where
   pub no_word : ((rest : List ℕ) → text ≢ word ++ rest) → HasNoField word text
   no_word none = λ value rest p e. none (value ++ 10 ∷ rest) (e ∙ field_then value rest)
 
-  module _ (behind : List ℕ) (is : text ≡ word ++ behind) where
-    pub no_line : Without 10 behind → HasNoField word text
-    no_line none = λ value rest p e. no_cut behind value rest none (append_cancel_left word _ _ (sym is ∙ e ∙ field_then value rest))
+  module _ (after : List ℕ) (is : text ≡ word ++ after) where
+    pub no_line : Without 10 after → HasNoField word text
+    no_line none = λ value rest p e. no_cut after value rest none (append_cancel_left word _ _ (sym is ∙ e ∙ field_then value rest))
 
-    pub has_field : (value rest : List ℕ) → BeginsWithLine behind value rest → IsFieldAt word text value rest
+    pub has_field : (value rest : List ℕ) → BeginsWithLine after value rest → IsFieldAt word text value rest
     has_field value rest p = record { value_is = p.line_is; parts = is ∙ ap (λ t. word ++ t) p.parts ∙ sym (field_then value rest) }
 
   pub no_field_no_number : HasNoField word text → HasNoNumber word text

@@ -89,16 +89,16 @@ data Fork (a b : List (List ℕ)) (x y : List ℕ) : Type 0 where
   second : (more : List (List ℕ)) → b ≡ a ++ more → x ≡ concat more ++ y → Fork a b x y
   first : (more : List (List ℕ)) → a ≡ b ++ more → y ≡ concat more ++ x → Fork a b x y
 
-fork_behind : (k l : List ℕ) (a b : List (List ℕ)) (x y : List ℕ) → k ≡ l → Fork a b x y → Fork (k ∷ a) (l ∷ b) x y
-fork_behind k l a b x y same (second more e f) = second more (cc (same, e)) f
-fork_behind k l a b x y same (first more e f) = first more (cc (same, e)) f
+fork_after : (k l : List ℕ) (a b : List (List ℕ)) (x y : List ℕ) → k ≡ l → Fork a b x y → Fork (k ∷ a) (l ∷ b) x y
+fork_after k l a b x y same (second more e f) = second more (cc (same, e)) f
+fork_after k l a b x y same (first more e f) = first more (cc (same, e)) f
 
 fork : (a b : List (List ℕ)) (x y : List ℕ) → AreLines a → AreLines b → concat a ++ x ≡ concat b ++ y → Fork a b x y
 fork [] b x y p q e = second b refl e
 fork (k ∷ a) [] x y p q e = first (k ∷ a) refl (sym e)
 fork (k ∷ a) (l ∷ b) x y p q e =
     let same = one_line k l (concat a ++ x) (concat b ++ y) p.0 q.0 (sym (append_assoc k (concat a) x) ∙ e ∙ append_assoc l (concat b) y) in
-    fork_behind k l a b x y same.0 (fork a b x y p.1 q.1 same.1)
+    fork_after k l a b x y same.0 (fork a b x y p.1 q.1 same.1)
 
 -- ---- a head stops at one line
 

@@ -25,11 +25,11 @@ use Rattle.bp_trace.proofs.OneHead.{one_head, one_head_stop, whole_head_stops_no
 use Rattle.bp_trace.proofs.OneText.{front_cut}
 use Rattle.bp_trace.proofs.OwnEnds.{own_end}
 use Rattle.bp_trace.proofs.TraceLength.{trace_short}
-use Rattle.bp_trace.proofs.OneHistoryBehind.{one_history}
+use Rattle.bp_trace.proofs.OneHistoryAfter.{one_history}
 use Rattle.bp_trace.proofs.OneRest.{refused, stops, one_rest, end_stops, end_not_refused}
 
 module _ (t : Program) (text : List ℕ) where
-  -- a text that reaches what is behind two histories, and what refuses it there
+  -- a text that reaches what is after two histories, and what refuses it there
   module _ (v : Version) (s : SetupOf) (h g : List Call) (n m : ℕ) (x y : List ℕ) (p : Reaches t text v s h n x) (q : Reaches t text v s g m y) where
     abbrev few : threads s ≤ MAX_THREADS
     few = few_threads t s p.fine
@@ -47,20 +47,20 @@ module _ (t : Program) (text : List ℕ) where
     one_of_rests f k a b =
         let here = refused t v s few h own_h n x f a in
         let there = refused t v s few g own_g m y k b in
-        let (calls, behind) = one_history t v s few h g x y p.playable q.playable (stops t v s few h own_h n x f here)
+        let (calls, after) = one_history t v s few h g x y p.playable q.playable (stops t v s few h own_h n x f here)
         (stops t v s few g own_g m y k there) alike in
         let number : m ≡ n = omega (arith, p.number, q.number, ap (line_count v) calls) in
-        let moved = subst (λ z. IsRestRefused t v s h n z k) (sym behind)
+        let moved = subst (λ z. IsRestRefused t v s h n z k) (sym after)
         (subst (λ z. IsRestRefused t v s h z y k) number (subst (λ z. IsRestRefused t v s z m y k) (sym calls) b)) in
         one_rest t v s few h own_h n x f k here (refused t v s few h own_h n x k moved)
 
-    -- where what is behind the first is its end
+    -- where what is after the first is its end
     ended_not_refused : (k : ReplayFault) → x ≡ end_line (length h) (open_lines s h) → IsRestRefused t v s g m y k → ⊥
     ended_not_refused k end b =
         let there = refused t v s few g own_g m y k b in
-        let (calls, behind) = one_history t v s few h g x y p.playable q.playable (end_stops t v s few h own_h n x end)
+        let (calls, after) = one_history t v s few h g x y p.playable q.playable (end_stops t v s few h own_h n x end)
         (stops t v s few g own_g m y k there) alike in
-        let moved = subst (λ z. IsRestRefused t v s h m z k) (sym behind) (subst (λ z. IsRestRefused t v s z m y k) (sym calls) b) in
+        let moved = subst (λ z. IsRestRefused t v s h m z k) (sym after) (subst (λ z. IsRestRefused t v s z m y k) (sym calls) b) in
         end_not_refused t v s few h own_h m x k end (refused t v s few h own_h m x k moved)
 
   no_stop : (v : Version) (s : SetupOf) (rest : List ℕ) (k : ℕ) → HasHead s → text ≡ head_text v s ++ rest → HeadStops text k → ⊥

@@ -12,13 +12,13 @@ abbrev Places : List Call → Call → List Call → Call → Type 0
 Places a x b y =
     ((a ≡ b) × (x ≡ y)) ⊎ (((k : List Call) × (b ≡ a ++ x ∷ k)) ⊎ ((k : List Call) × (a ≡ b ++ y ∷ k)))
 
-one_place : (a b behind others : List Call) (x y : Call) → a ++ x ∷ behind ≡ b ++ y ∷ others → Places a x b y
-one_place [] [] behind others x y e = inl (refl, cc)
-one_place [] (c ∷ b) behind others x y e = let same : x ≡ c = cc in inr (inl (b, ap (λ z. z ∷ b) (sym same)))
-one_place (c ∷ a) [] behind others x y e = let same : c ≡ y = cc in inr (inr (a, ap (λ z. z ∷ a) same))
-one_place (c ∷ a) (d ∷ b) behind others x y e =
+one_place : (a b after others : List Call) (x y : Call) → a ++ x ∷ after ≡ b ++ y ∷ others → Places a x b y
+one_place [] [] after others x y e = inl (refl, cc)
+one_place [] (c ∷ b) after others x y e = let same : x ≡ c = cc in inr (inl (b, ap (λ z. z ∷ b) (sym same)))
+one_place (c ∷ a) [] after others x y e = let same : c ≡ y = cc in inr (inr (a, ap (λ z. z ∷ a) same))
+one_place (c ∷ a) (d ∷ b) after others x y e =
     let same : c ≡ d = cc in
-    go same (one_place a b behind others x y cc)
+    go same (one_place a b after others x y cc)
   where
     go : c ≡ d → Places a x b y → Places (c ∷ a) x (d ∷ b) y
     go same (inl p) = inl (ap (λ z. z ∷ a) same ∙ ap (λ z. d ∷ z) p.0, p.1)
@@ -38,6 +38,6 @@ module _ (t : Program) (s : SetupOf) (h : List Call) (n : ℕ) (calls : List Cal
         one_call_fault t s (h ++ q.good) n q.call f g (subst (λ x. IsCallFault t s (h ++ q.good) n x f) same.1 refused) q.refused
     | inr other ↦ elim other [
       | inl before ↦ absurd (not_before f g p q before.0 before.1)
-      | inr behind ↦ absurd (not_before g f q p behind.0 behind.1)
+      | inr after ↦ absurd (not_before g f q p after.0 after.1)
     ]
   ]

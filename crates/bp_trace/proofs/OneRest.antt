@@ -1,4 +1,4 @@
--- What is behind the calls of a history is refused once, or is its end.
+-- What is after the calls of a history is refused once, or is its end.
 use Rattle.std.proofs.Common.{◌≡◌, ℕ, ◌+◌, ◌≤◌, List, [], ◌∷◌, ◌++◌, length, map, ap, sym, ◌∙◌, ◌⊎◌, inl, inr, subst, append_assoc, length-append, arith}
 use Rattle.std.proofs.lemmas.List.{append-nil}
 use Rattle.bp_tree.specs.Ast.{Program}
@@ -13,7 +13,7 @@ use Rattle.bp_trace.specs.declared.replay_faults.ReplayFault.TheVariants as faul
 use Rattle.bp_trace.specs.Replays.{counts_of, IsPlayable, IsBodyLine, IsEndLine, HasOtherEnd, HasMoreBehind, IsRefusedAmong, HasNoNextLine, HasRefusedCall, IsRestRefused}
 use Rattle.bp_trace.specs.TraceText.{end_line}
 use Rattle.bp_trace.proofs.GrowsByLine.{some_line}
-use Rattle.bp_trace.proofs.OneHistoryBehind.{Stops}
+use Rattle.bp_trace.proofs.OneHistoryAfter.{Stops}
 use Rattle.bp_trace.proofs.OneLine.{one_body_line, one_end_line, not_both}
 use Rattle.bp_trace.proofs.OneRefusedCall.{one_among}
 use Rattle.bp_trace.proofs.PlayableFronts.{not_refused}

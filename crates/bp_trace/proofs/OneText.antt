@@ -248,7 +248,7 @@ calls_alike (c ∷ h) (d ∷ g) x y p q e =
 
 -- ---- the pieces
 
--- symbols that no other symbol is behind
+-- symbols that no other symbol is after
 pub symbols_alike : (ts us : List Symbol) (x y : List ℕ) → HasNoSymbol x → HasNoSymbol y
     → flat_map symbol_text ts ++ x ≡ flat_map symbol_text us ++ y → (ts ≡ us) × (x ≡ y)
 symbols_alike [] [] x y p q e = (refl, e)
@@ -318,5 +318,5 @@ module _ (v w : Version) (s r : SetupOf) (h g : List Call) (p : IsWritable s h) 
 
   pub one_text : (v ≡ w) × (s ≡ r) × (h ≡ g)
   one_text =
-      let behind = heads.2 ∙ ap (λ u. calls_text u g ++ end r g) (sym heads.0) in
-      (heads.0, heads.1, histories_alike v h g _ _ p.threads q.threads behind)
+      let after = heads.2 ∙ ap (λ u. calls_text u g ++ end r g) (sym heads.0) in
+      (heads.0, heads.1, histories_alike v h g _ _ p.threads q.threads after)

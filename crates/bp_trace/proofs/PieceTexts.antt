@@ -5,7 +5,7 @@ use Rattle.std.proofs.lemmas.List.{append-nil, take_more}
 use Rattle.bp_machine.specs.declared.calls.Call.{Call}
 use Rattle.bp_trace.specs.Pieces.{Piece, symbol_of, piece_of, with_call, pieces_of}
 use Rattle.bp_trace.specs.TraceText.{symbol_text, piece_line}
-use Rattle.bp_trace.specs.SymbolTexts.{symbol_behind, symbols_behind, last_of}
+use Rattle.bp_trace.specs.SymbolTexts.{symbol_after, symbols_after, last_of}
 
 abbrev symbols_text : Piece → List ℕ
 symbols_text p = flat_map symbol_text (p.first ∷ p.others)
@@ -19,37 +19,37 @@ record Begins (y : Call) (ys : List Call) : Type 0 where
   rest : List Piece
   is : pieces_of (y ∷ ys) ≡ piece ∷ rest
   thread : piece.thread ≡ y.thread
-  body : symbols_text piece ++ (10 ∷ pieces_text rest) ≡ symbol_text (symbol_of y) ++ (symbols_behind (Some y.thread) ys ++ codes "\n")
+  body : symbols_text piece ++ (10 ∷ pieces_text rest) ≡ symbol_text (symbol_of y) ++ (symbols_after (Some y.thread) ys ++ codes "\n")
 
 assoc4 : (a b c d : List ℕ) → ((a ++ b) ++ c) ++ d ≡ a ++ (b ++ (c ++ d))
 assoc4 a b c d = append_assoc (a ++ b) c d ∙ append_assoc a b (c ++ d)
 
--- a call behind one of its thread
+-- a call after one of its thread
 goes_on : (x y : Call) (ys : List Call) → (x.thread == y.thread) ≡ true
-    → symbol_text (symbol_of y) ++ (symbols_behind (Some y.thread) ys ++ codes "\n") ≡ symbols_behind (Some x.thread) (y ∷ ys) ++ codes "\n"
+    → symbol_text (symbol_of y) ++ (symbols_after (Some y.thread) ys ++ codes "\n") ≡ symbols_after (Some x.thread) (y ∷ ys) ++ codes "\n"
 goes_on x y ys e =
-    sym (append_assoc (symbol_text (symbol_of y)) (symbols_behind (Some y.thread) ys) (codes "\n"))
+    sym (append_assoc (symbol_text (symbol_of y)) (symbols_after (Some y.thread) ys) (codes "\n"))
     ∙ ap (λ b. ((cond b [] (codes "\n" ++ (decimal y.thread ++ codes " ")) ++ symbol_text (symbol_of y))
-    ++ symbols_behind (Some y.thread) ys) ++ codes "\n") (sym e)
+    ++ symbols_after (Some y.thread) ys) ++ codes "\n") (sym e)
 
--- a call behind one of another thread
+-- a call after one of another thread
 breaks : (x y : Call) (ys : List Call) → (x.thread == y.thread) ≡ false
-    → 10 ∷ (decimal y.thread ++ 32 ∷ (symbol_text (symbol_of y) ++ (symbols_behind (Some y.thread) ys ++ codes "\n")))
-    ≡ symbols_behind (Some x.thread) (y ∷ ys) ++ codes "\n"
+    → 10 ∷ (decimal y.thread ++ 32 ∷ (symbol_text (symbol_of y) ++ (symbols_after (Some y.thread) ys ++ codes "\n")))
+    ≡ symbols_after (Some x.thread) (y ∷ ys) ++ codes "\n"
 breaks x y ys e =
     ap (λ t. 10 ∷ t)
-    (sym (assoc4 (decimal y.thread ++ 32 ∷ []) (symbol_text (symbol_of y)) (symbols_behind (Some y.thread) ys)
+    (sym (assoc4 (decimal y.thread ++ 32 ∷ []) (symbol_text (symbol_of y)) (symbols_after (Some y.thread) ys)
     (codes "\n") ∙ append_assoc (decimal y.thread) (32 ∷ []) _))
     ∙ ap (λ b. ((cond b [] (codes "\n" ++ (decimal y.thread ++ codes " ")) ++ symbol_text (symbol_of y))
-    ++ symbols_behind (Some y.thread) ys) ++ codes "\n") (sym e)
+    ++ symbols_after (Some y.thread) ys) ++ codes "\n") (sym e)
 
--- the line of the first piece and those behind it
+-- the line of the first piece and those after it
 next_line : (y : Call) (ys : List Call) (b : Begins y ys)
-    → piece_line b.piece ++ pieces_text b.rest ≡ decimal y.thread ++ 32 ∷ (symbol_text (symbol_of y) ++ (symbols_behind (Some y.thread) ys ++ codes "\n"))
+    → piece_line b.piece ++ pieces_text b.rest ≡ decimal y.thread ++ 32 ∷ (symbol_text (symbol_of y) ++ (symbols_after (Some y.thread) ys ++ codes "\n"))
 next_line y ys b =
     append_assoc (decimal b.piece.thread) (32 ∷ (symbols_text b.piece ++ codes "\n")) (pieces_text b.rest)
     ∙ ap (λ t. decimal b.piece.thread ++ 32 ∷ t) (append_assoc (symbols_text b.piece) (codes "\n") (pieces_text b.rest) ∙ b.body)
-    ∙ ap (λ n. decimal n ++ 32 ∷ (symbol_text (symbol_of y) ++ (symbols_behind (Some y.thread) ys ++ codes "\n"))) b.thread
+    ∙ ap (λ n. decimal n ++ 32 ∷ (symbol_text (symbol_of y) ++ (symbols_after (Some y.thread) ys ++ codes "\n"))) b.thread
 
 begins : (y : Call) (ys : List Call) → Begins y ys
 begins y [] = record { piece = piece_of y []; rest = []; is = refl; thread = refl; body = refl }
@@ -87,35 +87,35 @@ begins x (y ∷ ys) = go (begins y ys) (x.thread == (begins y ys).piece.thread) 
     go b false e = other b e
 
 -- the text of the pieces is that of the calls one by one, and the end of the last line
-pieces_are_symbols : (x : Call) (xs : List Call) → flat_map piece_line (pieces_of (x ∷ xs)) ≡ symbols_behind None (x ∷ xs) ++ codes "\n"
+pieces_are_symbols : (x : Call) (xs : List Call) → flat_map piece_line (pieces_of (x ∷ xs)) ≡ symbols_after None (x ∷ xs) ++ codes "\n"
 pieces_are_symbols x xs =
     let b = begins x xs in
     ap pieces_text b.is
     ∙ next_line x xs b
     ∙ sym
-    (assoc4 (decimal x.thread ++ 32 ∷ []) (symbol_text (symbol_of x)) (symbols_behind (Some x.thread) xs) (codes "\n")
+    (assoc4 (decimal x.thread ++ 32 ∷ []) (symbol_text (symbol_of x)) (symbols_after (Some x.thread) xs) (codes "\n")
     ∙ append_assoc (decimal x.thread) (32 ∷ []) _)
 
-pub some_pieces : (h : List Call) → 0 < length h → flat_map piece_line (pieces_of h) ≡ symbols_behind None h ++ codes "\n"
+pub some_pieces : (h : List Call) → 0 < length h → flat_map piece_line (pieces_of h) ≡ symbols_after None h ++ codes "\n"
 some_pieces [] some = absurd (omega arith)
 some_pieces (x ∷ xs) some = pieces_are_symbols x xs
 
 -- one more call at the end
-symbols-append : (last : Option ℕ) (h : List Call) (x : Call) → symbols_behind last (h ++ x ∷ []) ≡ symbols_behind last h ++ symbol_behind (last_of last h) x
-symbols-append last [] x = append-nil (symbol_behind last x)
+symbols-append : (last : Option ℕ) (h : List Call) (x : Call) → symbols_after last (h ++ x ∷ []) ≡ symbols_after last h ++ symbol_after (last_of last h) x
+symbols-append last [] x = append-nil (symbol_after last x)
 symbols-append last (y ∷ ys) x =
-    ap (λ t. symbol_behind last y ++ t) (symbols-append (Some y.thread) ys x)
-    ∙ sym (append_assoc (symbol_behind last y) (symbols_behind (Some y.thread) ys) (symbol_behind (last_of (Some y.thread) ys) x))
+    ap (λ t. symbol_after last y ++ t) (symbols-append (Some y.thread) ys x)
+    ∙ sym (append_assoc (symbol_after last y) (symbols_after (Some y.thread) ys) (symbol_after (last_of (Some y.thread) ys) x))
 
 last-append : (last : Option ℕ) (h : List Call) (x : Call) → last_of last (h ++ x ∷ []) ≡ Some x.thread
 last-append last [] x = refl
 last-append last (y ∷ ys) x = last-append (Some y.thread) ys x
 
-symbols-split : (last : Option ℕ) (h k : List Call) → symbols_behind last (h ++ k) ≡ symbols_behind last h ++ symbols_behind (last_of last h) k
+symbols-split : (last : Option ℕ) (h k : List Call) → symbols_after last (h ++ k) ≡ symbols_after last h ++ symbols_after (last_of last h) k
 symbols-split last [] k = refl
 symbols-split last (y ∷ ys) k =
-    ap (λ t. symbol_behind last y ++ t) (symbols-split (Some y.thread) ys k)
-    ∙ sym (append_assoc (symbol_behind last y) (symbols_behind (Some y.thread) ys) (symbols_behind (last_of (Some y.thread) ys) k))
+    ap (λ t. symbol_after last y ++ t) (symbols-split (Some y.thread) ys k)
+    ∙ sym (append_assoc (symbol_after last y) (symbols_after (Some y.thread) ys) (symbols_after (last_of (Some y.thread) ys) k))
 
 module _ (h : List Call) (i : ℕ) (d : Call) (within : i < length h) where
   abbrev x : Call
@@ -125,18 +125,18 @@ module _ (h : List Call) (i : ℕ) (d : Call) (within : i < length h) where
   rest_is = rw (add-one) (drop-cons h i d within)
 
   -- the calls before the i-th, the i-th and the others
-  pub symbols_at : symbols_behind None h
-      ≡ symbols_behind None (take i h)
-      ++ (symbol_behind (last_of None (take i h)) x ++ symbols_behind (Some x.thread) (drop (i + 1) h))
+  pub symbols_at : symbols_after None h
+      ≡ symbols_after None (take i h)
+      ++ (symbol_after (last_of None (take i h)) x ++ symbols_after (Some x.thread) (drop (i + 1) h))
   symbols_at =
-      subst (λ ys. symbols_behind None ys
-      ≡ symbols_behind None (take i h)
-      ++ (symbol_behind (last_of None (take i h)) x ++ symbols_behind (Some x.thread) (drop (i + 1) h)))
+      subst (λ ys. symbols_after None ys
+      ≡ symbols_after None (take i h)
+      ++ (symbol_after (last_of None (take i h)) x ++ symbols_after (Some x.thread) (drop (i + 1) h)))
       (take-append-drop i h)
-      (symbols-split None (take i h) (drop i h) ∙ ap (λ ys. symbols_behind None (take i h) ++ symbols_behind (last_of None (take i h)) ys) rest_is)
+      (symbols-split None (take i h) (drop i h) ∙ ap (λ ys. symbols_after None (take i h) ++ symbols_after (last_of None (take i h)) ys) rest_is)
 
-  pub symbols_more : symbols_behind None (take (i + 1) h) ≡ symbols_behind None (take i h) ++ symbol_behind (last_of None (take i h)) x
-  symbols_more = ap (symbols_behind None) (take_more h i d within) ∙ symbols-append None (take i h) x
+  pub symbols_more : symbols_after None (take (i + 1) h) ≡ symbols_after None (take i h) ++ symbol_after (last_of None (take i h)) x
+  symbols_more = ap (symbols_after None) (take_more h i d within) ∙ symbols-append None (take i h) x
 
   pub last_more : Some x.thread ≡ last_of None (take (i + 1) h)
   last_more = sym (ap (last_of None) (take_more h i d within) ∙ last-append None (take i h) x)

@@ -1,4 +1,4 @@
--- A history that may be played is played call by call: its fronts may be, and the call behind a front is refused by nothing.
+-- A history that may be played is played call by call: its fronts may be, and the call after a front is refused by nothing.
 use Rattle.std.proofs.Common.{◌≡◌, ◌≢◌, ℕ, ◌==◌, zero, suc, Bool, true, false, cond, List, [], ◌∷◌, ◌++◌, length, Option, None, Some, is_some, refl, ap, sym, ◌∙◌, ◌⊎◌, inl, inr, subst, append_assoc, arith}
 use Rattle.std.specs.Prelude.{slice_get}
 use Rattle.std.proofs.lemmas.Bool.{false≢true}
@@ -18,9 +18,9 @@ use Rattle.bp_trace.specs.declared.replay_faults.ReplayFault.TheVariants as faul
 use Rattle.bp_trace.specs.Replays.{IsPlayable, IsDue, IsCallFault}
 use Rattle.bp_trace.proofs.LinesDriveAgain.{same_answer}
 
-calls_behind : (i : ℕ) (h g : List Call) → calls_of_thread i (h ++ g) ≡ calls_of_thread i h ++ calls_of_thread i g
-calls_behind i [] g = refl
-calls_behind i (x ∷ xs) g = go (x.thread == i) (calls_behind i xs g)
+calls_after : (i : ℕ) (h g : List Call) → calls_of_thread i (h ++ g) ≡ calls_of_thread i h ++ calls_of_thread i g
+calls_after i [] g = refl
+calls_after i (x ∷ xs) g = go (x.thread == i) (calls_after i xs g)
   where
     go : (b : Bool) → calls_of_thread i (xs ++ g) ≡ calls_of_thread i xs ++ calls_of_thread i g
         → cond b (x ∷ calls_of_thread i (xs ++ g)) (calls_of_thread i (xs ++ g))
@@ -33,15 +33,15 @@ own_first x g =
     let same : (x.thread == x.thread) ≡ true = grind (arith, nat_tests) in
     ap (λ b. cond b (x ∷ calls_of_thread x.thread g) (calls_of_thread x.thread g)) same
 
--- an item of the front of a list is one of the list; the item behind the front
+-- an item of the front of a list is one of the list; the item after the front
 in_front : (xs ys : List Call) (n : ℕ) (x : Call) → slice_get xs n ≡ Some x → slice_get (xs ++ ys) n ≡ Some x
 in_front [] ys n x e = absurd cc
 in_front (y ∷ xs) ys zero x e = e
 in_front (y ∷ xs) ys (suc n) x e = in_front xs ys n x e
 
-behind_front : (xs ys : List Call) (x : Call) → slice_get (xs ++ x ∷ ys) (length xs) ≡ Some x
-behind_front [] ys x = refl
-behind_front (y ∷ xs) ys x = behind_front xs ys x
+after_front : (xs ys : List Call) (x : Call) → slice_get (xs ++ x ∷ ys) (length xs) ≡ Some x
+after_front [] ys x = refl
+after_front (y ∷ xs) ys x = after_front xs ys x
 
 module _ (t : Program) (s : SetupOf) where
   legal_front : (p h g : List Call) → IsLegalAfter t s p (h ++ g) → IsLegalAfter t s p h
@@ -57,7 +57,7 @@ module _ (t : Program) (s : SetupOf) where
     legal = legal_front [] h g playable.legal;
     seeded = λ seed has i n x at.
         playable.seeded seed has i n x
-        (ap (λ cs. slice_get cs n) (calls_behind i h g) ∙ in_front (calls_of_thread i h) (calls_of_thread i g) n x at);
+        (ap (λ cs. slice_get cs n) (calls_after i h g) ∙ in_front (calls_of_thread i h) (calls_of_thread i g) n x at);
   }
 
   -- the machine has one own call
@@ -84,10 +84,10 @@ module _ (t : Program) (s : SetupOf) where
 
     bit_of_seed : (seed : ℕ) → s.seed ≡ Some seed → x.bit ≡ choice_bit seed x.thread (length (calls_of_thread x.thread h))
     bit_of_seed seed has =
-        let calls = calls_behind x.thread h (x ∷ g) ∙ ap (λ cs. calls_of_thread x.thread h ++ cs) (own_first x g) in
+        let calls = calls_after x.thread h (x ∷ g) ∙ ap (λ cs. calls_of_thread x.thread h ++ cs) (own_first x g) in
         let at =
         ap (λ cs. slice_get cs (length (calls_of_thread x.thread h))) calls
-        ∙ behind_front (calls_of_thread x.thread h) (calls_of_thread x.thread g) x in
+        ∙ after_front (calls_of_thread x.thread h) (calls_of_thread x.thread g) x in
         playable.seeded seed has x.thread (length (calls_of_thread x.thread h)) x at
 
     has_own_bit : (b : Bool) → s.seed ≡ None ⊎ ((seed : ℕ) × (s.seed ≡ Some seed)) → is_some s.seed ≡ b

@@ -71,8 +71,8 @@ module _ (t : Program) (text : List ℕ) (short : length text ≤ MAX_TRACE) (v 
   setup_refused setup.Memory r = short
 
   module _ (fine : setup_fault t s ≡ None) (first : ℕ) (first_is : first ≡ length (head_lines v s) + 1) where
-    module _ (h : List Call) (behind : List ℕ) (playable : IsPlayable t s h) (body : rest ≡ calls_text v h ++ behind) where
-      reaches : Reaches t text v s h (first + line_count v h) behind
+    module _ (h : List Call) (after : List ℕ) (playable : IsPlayable t s h) (body : rest ≡ calls_text v h ++ after) where
+      reaches : Reaches t text v s h (first + line_count v h) after
       reaches = record {
         head = has;
         fine = fine;
@@ -81,8 +81,8 @@ module _ (t : Program) (text : List ℕ) (short : length text ≤ MAX_TRACE) (v 
         number = omega (arith, first_is);
       }
 
-      refused_rest : (f : ReplayFault) → IsRestRefused t v s h (first + line_count v h) behind f → HasRefusedRest t text f
-      refused_rest f r = record { version = v; setup = s; history = h; number = first + line_count v h; rest = behind; reached = reaches; refused = r }
+      refused_rest : (f : ReplayFault) → IsRestRefused t v s h (first + line_count v h) after f → HasRefusedRest t text f
+      refused_rest f r = record { version = v; setup = s; history = h; number = first + line_count v h; rest = after; reached = reaches; refused = r }
 
     -- a call is refused
     call_refused : (f : ReplayFault) (r : HasRefusedBody t v s rest first f) → IsReplayRefusal t text f
@@ -107,8 +107,8 @@ module _ (t : Program) (text : List ℕ) (short : length text ≤ MAX_TRACE) (v 
       abbrev h : List Call
       h = b.played.history.items
 
-      abbrev behind : List ℕ
-      behind = drop b.size rest
+      abbrev after : List ℕ
+      after = drop b.size rest
 
       own_is : end_line r.calls r.left_open ≡ end_line (length h) (open_lines s h)
       own_is = ap (λ n. end_line n r.left_open) report.calls ∙ ap (end_line (length h)) report.left_open
@@ -116,18 +116,18 @@ module _ (t : Program) (text : List ℕ) (short : length text ≤ MAX_TRACE) (v 
       counts_are : counts r.calls r.left_open ≡ counts_of s h
       counts_are = λ i. record { calls = report.calls i; left_open = report.left_open i }
 
-      at_end : (f : ReplayFault) → IsRestRefused t v s h (first + line_count v h) behind f → HasRefusedRest t text f
-      at_end f q = refused_rest h behind playable body.parts f q
+      at_end : (f : ReplayFault) → IsRestRefused t v s h (first + line_count v h) after f → HasRefusedRest t text f
+      at_end f q = refused_rest h after playable body.parts f q
 
-      -- what is behind the calls is refused
-      pub end_refuses : (f : ReplayFault) → IsEndRefusal behind r.calls r.left_open b.line f → IsReplayRefusal t text f
+      -- what is after the calls is refused
+      pub end_refuses : (f : ReplayFault) → IsEndRefusal after r.calls r.left_open b.line f → IsReplayRefusal t text f
       end_refuses (fault.NoEnd c) q = (short, at_end (fault.NoEnd c) (q.0, q.1 ∙ counts_are))
       end_refuses (fault.EndCount m c) q =
-          (short, at_end (fault.EndCount m c) (q.0 ∙ body.number, q.1 ∙ counts_are, subst (λ own. HasOtherEnd own behind) own_is q.2))
+          (short, at_end (fault.EndCount m c) (q.0 ∙ body.number, q.1 ∙ counts_are, subst (λ own. HasOtherEnd own after) own_is q.2))
       end_refuses (fault.Line m) (inl q) =
           (short, at_end (fault.Line m) (inl (q.0 ∙ body.number, record { some = q.1.some; calls = body.ends; ends = q.1.ends })))
       end_refuses (fault.Line m) (inr q) =
-          (short, at_end (fault.Line m) (inr (q.0 ∙ ap (λ n. n + 1) body.number, subst (λ own. HasMoreBehind own behind) own_is q.1)))
+          (short, at_end (fault.Line m) (inr (q.0 ∙ ap (λ n. n + 1) body.number, subst (λ own. HasMoreBehind own after) own_is q.1)))
       end_refuses fault.TooLong q = absurd q
       end_refuses (fault.Head k) q = absurd q
       end_refuses (fault.Setup g) q = absurd q
@@ -136,8 +136,8 @@ module _ (t : Program) (text : List ℕ) (short : length text ≤ MAX_TRACE) (v 
       end_refuses (fault.Reply m d) q = absurd q
       end_refuses fault.Memory q = absurd q
 
-      -- the end is behind the calls, alone
-      pub is_trace : behind ≡ end_line r.calls r.left_open → IsTrace t v s h text
+      -- the end is after the calls, alone
+      pub is_trace : after ≡ end_line r.calls r.left_open → IsTrace t v s h text
       is_trace end = record {
         head = has;
         fine = fine;

@@ -1,4 +1,4 @@
--- The thread that begins a text, with a space behind it.
+-- The thread that begins a text, with a space after it.
 use Rattle.std.proofs.Common.{◌≡◌, ◌≢◌, ℕ, ◌+◌, ◌<◌, ◌≤◌, Bool, List, [], ◌∷◌, ◌++◌, length, drop, None, Some, ap, sym, ◌∙◌, arith, append_assoc, length-append, decimal}
 use Rattle.bp_machine.specs.declared.calls.Reply.{Reply}
 use Rattle.bp_trace.proofs.Cuts.{one_number}
@@ -43,8 +43,8 @@ module _ (n : ℕ) (text : List ℕ) where
   no_thread_no_call none = λ x more below e. none x.thread _ below (e ∙ call_then x more)
 
   module _ (few : n ≤ MAX_THREADS) (t : ℕ) (at : IsThreadAt n text t) where
-    pub behind : drop (length (decimal t) + 1) text ≡ at.0
-    behind = ap (drop (length (decimal t) + 1)) at.2 ∙ drop_more (decimal t) 32 at.0
+    pub after : drop (length (decimal t) + 1) text ≡ at.0
+    after = ap (drop (length (decimal t) + 1)) at.2 ∙ drop_more (decimal t) 32 at.0
 
     pub one_thread : (i : ℕ) (more : List ℕ) → i < n → text ≡ decimal i ++ 32 ∷ more → (t ≡ i) × (at.0 ≡ more)
     one_thread i more below e = one_number 32 (omega arith) t i at.0 more (omega (arith, at.1, few)) (omega (arith, below, few)) (sym at.2 ∙ e)
@@ -55,9 +55,9 @@ module _ (n : ℕ) (text : List ℕ) where
     pub no_tail_no_call : HasNoTail (drop (length (decimal t) + 1) text) → HasNoCall n text
     no_tail_no_call none = λ x more below e.
         let same = one_thread x.thread _ below (e ∙ call_then x more) in
-        none x.bit x.reply more (behind ∙ same.1)
+        none x.bit x.reply more (after ∙ same.1)
 
     pub tail_is_call : (bit : Bool) (reply : Reply) → IsTailAt (drop (length (decimal t) + 1) text) (bit, reply)
         → IsCallAt n text (record { thread = t; bit = bit; reply = reply })
     tail_is_call bit reply tail =
-        (tail.0, at.1, at.2 ∙ ap (λ r. decimal t ++ 32 ∷ r) (sym behind ∙ tail.1) ∙ sym (call_then (record { thread = t; bit = bit; reply = reply }) tail.0))
+        (tail.0, at.1, at.2 ∙ ap (λ r. decimal t ++ 32 ∷ r) (sym after ∙ tail.1) ∙ sym (call_then (record { thread = t; bit = bit; reply = reply }) tail.0))

@@ -15,13 +15,13 @@ abbrev pub opening : Option ℕ → ℕ → List ℕ
 opening None i = line_start true i
 opening (Some l) i = if l == i then [] else line_start false i
 
-abbrev pub symbol_behind : Option ℕ → Call → List ℕ
-symbol_behind last x = opening last x.thread ++ symbol_text (symbol_of x)
+abbrev pub symbol_after : Option ℕ → Call → List ℕ
+symbol_after last x = opening last x.thread ++ symbol_text (symbol_of x)
 
 -- the calls after one of this thread, without the end of the last line
-abbrev pub symbols_behind : Option ℕ → List Call → List ℕ
-symbols_behind last [] = []
-symbols_behind last (x ∷ xs) = symbol_behind last x ++ symbols_behind (Some x.thread) xs
+abbrev pub symbols_after : Option ℕ → List Call → List ℕ
+symbols_after last [] = []
+symbols_after last (x ∷ xs) = symbol_after last x ++ symbols_after (Some x.thread) xs
 
 -- the thread of the last call, or this one where there is none
 abbrev pub last_of : Option ℕ → List Call → Option ℕ

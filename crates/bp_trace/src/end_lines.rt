@@ -64,7 +64,7 @@ fn is_joined(text: &[u8], pieces: &[&[u8]]) -> bool
     for piece in pieces {
         match rest.strip_prefix(*piece) {
             None => return false,
-            Some(behind) => rest = behind,
+            Some(after) => rest = after,
         }
     }
     rest.is_empty()

@@ -42,7 +42,7 @@ fn cut_line(text: &[u8]) -> Option<(&[u8], &[u8])>
 }
 
 /// What is after the word, where the word begins the text.
-pub(crate) fn behind<'a>(text: &'a [u8], word: &[u8]) -> Option<&'a [u8]>
+pub(crate) fn after<'a>(text: &'a [u8], word: &[u8]) -> Option<&'a [u8]>
     ensures { MatchOption result
         (HasNoFront word.now text.now)
         (λ rest. text.now ≡ word.now ++ rest.now) }
@@ -56,7 +56,7 @@ fn field_at<'a>(text: &'a [u8], word: &[u8]) -> Option<(&'a [u8], &'a [u8])>
         (HasNoField word.now text.now)
         (λ p. IsFieldAt word.now text.now p.0.now p.1.now) }
 {
-    let Some(line) = behind(text, word) else {
+    let Some(line) = after(text, word) else {
         return None;
     };
     match cut_line(line) {
@@ -71,10 +71,10 @@ fn version_at(text: &[u8]) -> Option<(Version, &[u8])>
         (HasNoVersion text.now)
         (λ p. text.now ≡ version_line p.0 ++ p.1.now) }
 {
-    if let Some(rest) = behind(text, b"btrace 1\n") {
+    if let Some(rest) = after(text, b"btrace 1\n") {
         return Some((Version::One, rest));
     }
-    match behind(text, b"btrace 2\n") {
+    match after(text, b"btrace 2\n") {
         None => None,
         Some(rest) => Some((Version::Two, rest)),
     }
@@ -99,7 +99,7 @@ fn entry_at(text: &[u8]) -> Option<(&[u8], &[u8])>
 fn entries_at(alloc: Global, text: &[u8]) -> Result<(Vec<&[u8]>, &[u8]), AllocError>
     ensures entries { IfOk result (λ p.
         AreEntriesAt text.now (map (λ n. n.now) p.0.items) p.1.now) }
-    ensures behind { IfOk result (λ p. HasNoEntry p.1.now) }
+    ensures after { IfOk result (λ p. HasNoEntry p.1.now) }
     ensures few { IfOk result (λ p. length p.0.items + length p.1.now ≤ length text.now) }
 {
     let mut names = Vec::new(alloc);

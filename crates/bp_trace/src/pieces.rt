@@ -3,7 +3,7 @@ ghost use Rattle.std.specs.Prelude.{None, flat_map};
 ghost use Rattle.bp_text.specs.Writing.{Writes};
 ghost use Rattle.bp_trace.specs.Pieces.{pieces_of, symbol_of};
 ghost use Rattle.bp_trace.specs.TraceText.{piece_line, symbol_text};
-ghost use Rattle.bp_trace.specs.SymbolTexts.{line_start, opening, symbol_behind, symbols_behind};
+ghost use Rattle.bp_trace.specs.SymbolTexts.{line_start, opening, symbol_after, symbols_after};
 
 use crate::traces::bit_digit;
 use bp_machine::Call;
@@ -38,7 +38,7 @@ fn write_opening<W: Write>(last: Option<u32>, thread: u32, out: &mut W) -> Resul
 /// Writes a call after one of this thread, or after none.
 fn write_symbol<W: Write>(last: Option<u32>, call: &Call, out: &mut W) -> Result<(), WriteFault>
     ensures { Writes (W.contents out.old) (W.contents out.new)
-        (symbol_behind last call.now) result }
+        (symbol_after last call.now) result }
 {
     write_opening(last, call.thread, out)?;
     put(out, &[bit_digit(call.bit), call.reply.letter()])
@@ -47,7 +47,7 @@ fn write_symbol<W: Write>(last: Option<u32>, call: &Call, out: &mut W) -> Result
 /// Writes the calls of a history without the end of the last line.
 fn write_symbols<W: Write>(history: &[Call], out: &mut W) -> Result<(), WriteFault>
     ensures { Writes (W.contents out.old) (W.contents out.new)
-        (symbols_behind None history.now) result }
+        (symbols_after None history.now) result }
 {
     let mut last = None;
     for call in history {

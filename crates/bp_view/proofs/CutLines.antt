@@ -1,7 +1,7 @@
 -- What is after the first bytes of a line, cut.
 use Rattle.std.proofs.Common.{if◌then◌else◌, ◌≡◌, ◌∙◌, ◌+◌, ◌-◌, ◌<◌, ◌≤◌, ◌++◌, ℕ, zero, suc, true, List, [], ◌∷◌, Option, codes, nat_lt, take, drop, length, length-drop, ap, ap₂, refl, sym, arith}
 use Rattle.std.proofs.lemmas.Bool.Decides.{nat_tests}
-use Rattle.bp_facts.proofs.GrownLists.{both_added}
+use Rattle.bp_text.proofs.GrownLists.{both_added}
 use Rattle.bp_view.specs.StatementColumns.{shortened, within}
 
 abbrev nothing : List ℕ

@@ -8,10 +8,8 @@ pub mod OneFootText
 pub mod OneStateText
 pub mod OneView
 pub mod PartsOfHeads
-pub mod PartsOfTexts
 pub mod PrintedValues
 pub mod ShownLines
-pub mod ViewableSettings
+pub mod ViewableContexts
 pub mod WholeEnds
 pub mod WholeViews
-pub mod WrittenParts

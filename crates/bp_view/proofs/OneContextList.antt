@@ -7,16 +7,16 @@ use Rattle.bp_machine.specs.declared.calls.Call.{Call}
 use Rattle.bp_machine.specs.Histories.{granted_threads}
 use Rattle.bp_machine.specs.Setups.{SetupOf}
 use Rattle.bp_machine.proofs.ContextCounts.{least_opened}
+use Rattle.bp_text.specs.Parts.{IsInParts}
+use Rattle.bp_text.proofs.PartsOfTexts.{one_of_parts}
 use Rattle.bp_source.specs.Places.{place_text}
 use Rattle.bp_source.proofs.OneStatement.{one_list_of_statements}
 use Rattle.bp_facts.proofs.OneContext.{one_context}
-use Rattle.bp_view.specs.declared.options.ViewFormat.{ViewFormat}
-use Rattle.bp_view.specs.declared.settings.Widths.{Widths}
+use Rattle.bp_tasks.specs.declared.view_options.ViewFormat.{ViewFormat}
+use Rattle.bp_view.specs.declared.view_contexts.Widths.{Widths}
 use Rattle.bp_view.specs.ContextLines.{context_text, contexts_head, AreContextLines, IsContextLine}
-use Rattle.bp_view.specs.Parts.{IsInParts}
 use Rattle.bp_view.specs.Widths.{extent, AreWidths}
 use Rattle.bp_view.proofs.OneView.{one_widths}
-use Rattle.bp_view.proofs.PartsOfTexts.{one_of_parts}
 
 pub one_list : (format : ViewFormat) (t : Program) (text : List ℕ) (s : SetupOf) (h : List Call) (v w : List ℕ)
     → AreContextLines format t text s h v → AreContextLines format t text s h w → v ≡ w
@@ -28,7 +28,7 @@ one_list format t text s h v w x y =
     let count = least_opened x.count (granted_threads h) x.count_is ∙ sym (least_opened y.count (granted_threads h) y.count_is) in
     let in_widths = subst (λ z. IsInParts (λ k line. IsContextLine format t text s h z (suc k) line) x.count x.lines) widths x.lines_are in
     let in_count = subst (λ n. IsInParts (λ k line. IsContextLine format t text s h y.widths (suc k) line) n x.lines) count in_widths in
-    let lines = one_of_parts _ y.count (each y.widths) x.lines y.lines in_count y.lines_are in
+    let lines = one_of_parts y.count (each y.widths) x.lines y.lines in_count y.lines_are in
     x.is ∙ ap₂ (λ n lines. contexts_head format (length h) n ++ lines) count lines ∙ sym y.is
   where
     each : (z : Widths) (k : ℕ) (p q : List ℕ) → k < y.count → IsContextLine format t text s h z (suc k) p → IsContextLine format t text s h z (suc k) q → p ≡ q

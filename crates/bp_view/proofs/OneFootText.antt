@@ -5,7 +5,7 @@ use Rattle.bp_machine.specs.declared.calls.Call.{Call}
 use Rattle.bp_machine.specs.declared.reports.Report.{Report}
 use Rattle.bp_machine.specs.Setups.{SetupOf}
 use Rattle.bp_facts.proofs.OneFoot as facts
-use Rattle.bp_view.specs.declared.options.ViewFormat.{ViewFormat}
+use Rattle.bp_tasks.specs.declared.view_options.ViewFormat.{ViewFormat}
 use Rattle.bp_view.specs.Outcomes.{foot_text, IsFoot}
 
 pub one_foot : (format : ViewFormat) (t : Program) (text : List ℕ) (s : SetupOf) (h : List Call) (r : Report) (v w : List ℕ)

@@ -4,7 +4,7 @@ use Rattle.bp_tree.specs.Ast.{Program}
 use Rattle.bp_machine.specs.declared.calls.Call.{Call}
 use Rattle.bp_machine.specs.Setups.{SetupOf}
 use Rattle.bp_facts.proofs.OneState as facts
-use Rattle.bp_view.specs.declared.options.ViewFormat.{ViewFormat}
+use Rattle.bp_tasks.specs.declared.view_options.ViewFormat.{ViewFormat}
 use Rattle.bp_view.specs.States.{state_text, IsStateText}
 
 pub one_state : (format : ViewFormat) (t : Program) (text : List ℕ) (s : SetupOf) (h : List Call) (count : ℕ) (v w : List ℕ)

@@ -7,22 +7,22 @@ use Rattle.bp_machine.specs.declared.calls.Call.{Call}
 use Rattle.bp_machine.specs.declared.reports.Report.{Report}
 use Rattle.bp_machine.specs.Histories.{configuration_after}
 use Rattle.bp_machine.specs.Setups.{SetupOf}
+use Rattle.bp_text.proofs.ItemsOfLists.{item_at}
+use Rattle.bp_text.proofs.PartsOfTexts.{one_of_parts}
 use Rattle.bp_source.specs.Places.{place_text}
 use Rattle.bp_source.proofs.OneStatement.{one_list_of_statements}
 use Rattle.bp_facts.specs.CallFacts.{printed_by, ShownCall}
 use Rattle.bp_facts.specs.Filters.{calls_of}
-use Rattle.bp_facts.proofs.ItemsOfLists.{item_at}
 use Rattle.bp_facts.proofs.OneCall.{one_call}
-use Rattle.bp_view.specs.declared.options.ViewOptions.{ViewOptions}
-use Rattle.bp_view.specs.declared.settings.Widths.{Widths}
+use Rattle.bp_tasks.specs.declared.view_options.ViewOptions.{ViewOptions}
+use Rattle.bp_view.specs.declared.view_contexts.Widths.{Widths}
 use Rattle.bp_view.specs.Ends.{after_foot, IsEnd, IsStateIf}
-use Rattle.bp_view.specs.Heads.{view_head}
+use Rattle.bp_view.specs.SetupLines.{view_head}
 use Rattle.bp_view.specs.Options.{filter_of}
 use Rattle.bp_view.specs.Views.{has_line, line_in, AreLines, IsShownLine, IsView, IsViewLineIf}
 use Rattle.bp_view.specs.Widths.{extent, AreWidths, Extent}
 use Rattle.bp_view.proofs.OneFootText.{one_foot}
 use Rattle.bp_view.proofs.OneStateText.{one_state}
-use Rattle.bp_view.proofs.PartsOfTexts.{one_of_parts}
 
 pub one_widths : (s : SetupOf) (e : Extent) (a b : Widths) → AreWidths s e a → AreWidths s e b → a ≡ b
 one_widths s e a b x y = λ i. record {
@@ -44,7 +44,7 @@ module _ (t : Program) (text : List ℕ) (s : SetupOf) (o : ViewOptions) (w : Wi
       a.is ∙ ap line (one_call t text s h x a.facts b.facts a.facts_are b.facts_are) ∙ sym b.is
 
   one_lines : (n : ℕ) → n ≡ length whole → (p q : List ℕ) → AreLines t text s o w whole n p → AreLines t text s o w whole n q → p ≡ q
-  one_lines n count = one_of_parts _ n each
+  one_lines n count = one_of_parts n each
     where
       each : (k : ℕ) (p q : List ℕ) → k < n → ((x : Call) → slice_get whole k ≡ Some x → IsShownLine t text s o w whole (take k whole) x p)
           → ((x : Call) → slice_get whole k ≡ Some x → IsShownLine t text s o w whole (take k whole) x q) → p ≡ q

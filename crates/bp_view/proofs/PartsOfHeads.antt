@@ -1,10 +1,18 @@
 -- One thread more, and the line of globals where there are some.
-use Rattle.std.proofs.Common.{codes, ◌≡◌, ◌∙◌, ◌++◌, ◌+◌, ◌<◌, ℕ, zero, suc, Bool, None, List, [], ◌∷◌, take, length, slice_get, unwrap_or, ap, sym, refl, append_assoc, append-nil, add-zero, arith}
+use Rattle.std.proofs.Common.{codes, decimal, ◌≡◌, ◌∙◌, ◌++◌, ◌+◌, ◌<◌, ℕ, zero, suc, Bool, None, List, [], ◌∷◌, take, length, slice_get, unwrap_or, ap, sym, refl, append-nil, add-zero, arith}
+use Rattle.std.specs.List.{concat}
 use Rattle.bp_tree.specs.Ast.{Name}
 use Rattle.bp_code.specs.Values.{binding}
-use Rattle.bp_view.specs.declared.options.ViewFormat.TheVariants.{Columns}
-use Rattle.bp_view.specs.Heads.{globals_line, thread_line, thread_lines}
+use Rattle.bp_text.proofs.GrownLists.{both_added, regrouped}
+use Rattle.bp_tasks.specs.declared.view_options.ViewFormat.TheVariants.{Columns}
+use Rattle.bp_view.specs.SetupLines.{globals_line, thread_line, thread_lines}
 use Rattle.bp_view.specs.Variables.{variables_text}
+
+five_parts : (a b c d e : List ℕ) → concat (a ∷ b ∷ c ∷ d ∷ e ∷ []) ≡ a ++ b ++ c ++ d ++ e
+five_parts a b c d e = simp regrouped
+
+pub line_of_pieces : (i : ℕ) (entry : List ℕ) → concat (codes "thread " ∷ decimal i ∷ codes " begins in " ∷ entry ∷ codes "\n" ∷ []) ≡ thread_line i entry
+line_of_pieces i entry = five_parts (codes "thread ") (decimal i) (codes " begins in ") entry (codes "\n")
 
 pub thread_more : (i n : ℕ) (es : List (List ℕ)) → n < length es
     → thread_lines i (take (suc n) es) ≡ thread_lines i (take n es) ++ thread_line (i + n) (unwrap_or (slice_get es n) [])
@@ -15,8 +23,8 @@ thread_more i (suc n) (x ∷ es) h =
     let place : suc i + n ≡ i + suc n = omega arith in
     let entry = unwrap_or (slice_get es n) [] in
     let others = thread_lines (suc i) (take n es) in
-    ap (λ y. thread_line i x ++ y) (thread_more (suc i) n es within ∙ ap (λ k. others ++ thread_line k entry) place)
-    ∙ sym (append_assoc (thread_line i x) others (thread_line (i + suc n) entry))
+    let more = thread_more (suc i) n es within ∙ ap (λ k. others ++ thread_line k entry) place in
+    sym (both_added (thread_line i x) _ _ others (thread_line (i + suc n) entry) _ refl refl (sym more))
 
 -- there is a line where there is a global
 pub line_of_some : (xs : List Name) (bits : List Bool) → 0 < length xs

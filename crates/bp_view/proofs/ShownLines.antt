@@ -5,39 +5,39 @@ use Rattle.bp_code.specs.Configurations.{Configuration}
 use Rattle.bp_machine.specs.declared.calls.Call.{Call}
 use Rattle.bp_machine.specs.Histories.{configuration_after}
 use Rattle.bp_machine.specs.Setups.{SetupOf}
+use Rattle.bp_text.specs.Parts.{Adds}
 use Rattle.bp_facts.specs.declared.filters.CallFilter.{CallFilter}
 use Rattle.bp_facts.specs.declared.moments.Moment.{Moment}
 use Rattle.bp_facts.specs.CallFacts.{changes_by, printed_by, AreCallFacts, ShownCall}
 use Rattle.bp_facts.specs.Filters.{calls_at, calls_of, is_asked}
 use Rattle.bp_facts.specs.Moments.{IsMomentOf}
 use Rattle.bp_facts.specs.Watches.{is_seen, watched_names}
-use Rattle.bp_view.specs.declared.options.ViewOptions.{ViewOptions}
-use Rattle.bp_view.specs.declared.settings.Setting.{Setting}
-use Rattle.bp_view.specs.declared.settings.Widths.{Widths}
+use Rattle.bp_tasks.specs.declared.view_options.ViewOptions.{ViewOptions}
+use Rattle.bp_view.specs.declared.view_contexts.ViewContext.{ViewContext}
+use Rattle.bp_view.specs.declared.view_contexts.Widths.{Widths}
 use Rattle.bp_view.specs.Options.{filter_of}
-use Rattle.bp_view.specs.Parts.{Adds}
 use Rattle.bp_view.specs.Views.{has_line, line_in, printed_in, IsShownLine, IsViewLineIf}
 use Rattle.bp_view.proofs.PrintedValues.{printed_line}
 
-module _ (t : Program) (text : List ℕ) (s : SetupOf) (setting : Setting) (h : List Call) (x : Call) where
+module _ (t : Program) (text : List ℕ) (s : SetupOf) (context : ViewContext) (h : List Call) (x : Call) where
   abbrev o : ViewOptions
-  o = setting.options
+  o = context.options
 
   abbrev w : Widths
-  w = setting.widths
+  w = context.widths
 
   abbrev whole : List Call
-  whole = setting.history.now
+  whole = context.history.now
 
   abbrev has : Bool
   has = has_line t text s o w whole h x
 
   -- what is asked of the call is asked of its moment
   module _ (m : Moment) (of : IsMomentOf t s h x m) (f : CallFilter) (filter : f ≡ filter_of o) where
-    pub asked_of : (count : ℕ) → count ≡ length whole → (b : Bool) → is_asked f count m.number m.call.thread ≡ b
+    pub asked_of : (b : Bool) → is_asked f (length whole) m.number m.call.thread ≡ b
         → is_asked (filter_of o) (length whole) (suc (length h)) x.thread ≡ b
-    asked_of count all b is =
-        let by_filter = ap₂ (λ g n. is_asked g n m.number m.call.thread) filter all in
+    asked_of b is =
+        let by_filter = ap (λ g. is_asked g (length whole) m.number m.call.thread) filter in
         let by_moment = ap₂ (λ k y. is_asked (filter_of o) (length whole) k y.thread) of.number of.call in
         sym (by_filter ∙ by_moment) ∙ is
 

@@ -11,8 +11,8 @@ use Rattle.bp_machine.specs.Setups.{SetupOf}
 use Rattle.bp_source.specs.declared.scenes.Scene.{Scene}
 use Rattle.bp_source.specs.Scenes.{AreScenes}
 use Rattle.bp_facts.proofs.WholeStates as facts
-use Rattle.bp_view.specs.declared.options.ViewFormat.{ViewFormat}
-use Rattle.bp_view.specs.declared.options.ViewOptions.{ViewOptions}
+use Rattle.bp_tasks.specs.declared.view_options.ViewFormat.{ViewFormat}
+use Rattle.bp_tasks.specs.declared.view_options.ViewOptions.{ViewOptions}
 use Rattle.bp_view.specs.Ends.{after_foot, IsEnd, IsStateIf}
 use Rattle.bp_view.specs.States.{state_text, IsStateText}
 use Rattle.bp_view.proofs.WholeViews.{some_foot}

@@ -8,18 +8,18 @@ use Rattle.bp_machine.specs.declared.reports.Report.{Report}
 use Rattle.bp_machine.specs.Histories.{configuration_after, IsLegal}
 use Rattle.bp_machine.specs.Reports.{outcome_of}
 use Rattle.bp_machine.specs.Setups.{SetupOf}
+use Rattle.bp_text.proofs.PartsOfTexts.{part_of_each}
 use Rattle.bp_source.specs.declared.scenes.Scene.{Scene}
 use Rattle.bp_source.specs.Scenes.{AreScenes}
 use Rattle.bp_facts.specs.CallFacts.{printed_by}
 use Rattle.bp_facts.specs.Filters.{calls_of}
 use Rattle.bp_facts.proofs.WholeFacts as facts
-use Rattle.bp_view.specs.declared.options.ViewFormat.{ViewFormat}
-use Rattle.bp_view.specs.declared.options.ViewOptions.{ViewOptions}
-use Rattle.bp_view.specs.declared.settings.Widths.{Widths}
+use Rattle.bp_tasks.specs.declared.view_options.ViewFormat.{ViewFormat}
+use Rattle.bp_tasks.specs.declared.view_options.ViewOptions.{ViewOptions}
+use Rattle.bp_view.specs.declared.view_contexts.Widths.{Widths}
 use Rattle.bp_view.specs.Options.{filter_of}
 use Rattle.bp_view.specs.Outcomes.{foot_text, IsFoot}
 use Rattle.bp_view.specs.Views.{has_line, line_in, IsShownLine, IsViewLine, IsViewLineIf}
-use Rattle.bp_view.proofs.PartsOfTexts.{part_of_each}
 
 module _ (c : Flat) (t : Program) (code : StandsFor c t) (text : List ℕ) (scenes : List Scene) (are : AreScenes text t scenes) (s : SetupOf) where
   module _ (o : ViewOptions) (w : Widths) (whole : List Call) where

@@ -6,8 +6,8 @@ use Rattle.bp_text.specs.JsonStrings.{string_text}
 use Rattle.bp_text.specs.Pieces.{key_text, list_text}
 use Rattle.bp_source.specs.Places.{position_text}
 use Rattle.bp_facts.specs.FootFacts.{ShownCondition}
-use Rattle.bp_view.specs.declared.options.ViewFormat.{ViewFormat}
-use Rattle.bp_view.specs.declared.options.ViewFormat.TheVariants.{Columns, Json}
+use Rattle.bp_tasks.specs.declared.view_options.ViewFormat.{ViewFormat}
+use Rattle.bp_tasks.specs.declared.view_options.ViewFormat.TheVariants.{Columns, Json}
 use Rattle.bp_view.specs.Variables.{entries_text}
 
 -- a line of values, and none where there are none

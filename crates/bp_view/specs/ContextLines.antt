@@ -15,14 +15,14 @@ use Rattle.bp_text.specs.Columns.{at_left, at_right}
 use Rattle.bp_text.specs.Pieces.{key_text, list_text}
 use Rattle.bp_trace.specs.declared.replaying.Replayed.{Replayed}
 use Rattle.bp_trace.specs.Replayed.{IsReplayed}
+use Rattle.bp_text.specs.Parts.{IsInParts}
 use Rattle.bp_source.specs.Scenes.{AreStatements}
 use Rattle.bp_source.specs.Places.{place_text}
 use Rattle.bp_facts.specs.ContextFacts.{AreContextFacts, ShownContext}
-use Rattle.bp_view.specs.declared.options.ViewFormat.{ViewFormat}
-use Rattle.bp_view.specs.declared.options.ViewFormat.TheVariants.{Columns, Json}
-use Rattle.bp_view.specs.declared.settings.Widths.{Widths}
+use Rattle.bp_tasks.specs.declared.view_options.ViewFormat.{ViewFormat}
+use Rattle.bp_tasks.specs.declared.view_options.ViewFormat.TheVariants.{Columns, Json}
+use Rattle.bp_view.specs.declared.view_contexts.Widths.{Widths}
 use Rattle.bp_view.specs.Lines.{after_room}
-use Rattle.bp_view.specs.Parts.{IsInParts}
 use Rattle.bp_view.specs.Variables.{entries_text}
 use Rattle.bp_view.specs.Widths.{extent, AreWidths}
 

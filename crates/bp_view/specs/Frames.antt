@@ -6,8 +6,8 @@ use Rattle.bp_text.specs.OneLine.{on_one_line}
 use Rattle.bp_text.specs.Pieces.{key_text, list_text, number_or_null}
 use Rattle.bp_source.specs.JsonPlaces.{column_of, line_of}
 use Rattle.bp_facts.specs.StateFacts.{ShownFrame}
-use Rattle.bp_view.specs.declared.options.ViewFormat.{ViewFormat}
-use Rattle.bp_view.specs.declared.options.ViewFormat.TheVariants.{Columns, Json}
+use Rattle.bp_tasks.specs.declared.view_options.ViewFormat.{ViewFormat}
+use Rattle.bp_tasks.specs.declared.view_options.ViewFormat.TheVariants.{Columns, Json}
 use Rattle.bp_view.specs.Conditions.{condition_lines}
 use Rattle.bp_view.specs.Variables.{variables_text}
 

@@ -2,9 +2,9 @@
 use Rattle.std.specs.Prelude.{ℕ, List, [], ◌∷◌, codes, max}
 use Rattle.std.specs.List.{concat}
 use Rattle.bp_text.specs.Columns.{at_left, at_right}
-use Rattle.bp_view.specs.declared.options.ViewFormat.{ViewFormat}
-use Rattle.bp_view.specs.declared.options.ViewFormat.TheVariants.{Columns, Json}
-use Rattle.bp_view.specs.declared.settings.Widths.{Widths}
+use Rattle.bp_tasks.specs.declared.view_options.ViewFormat.{ViewFormat}
+use Rattle.bp_tasks.specs.declared.view_options.ViewFormat.TheVariants.{Columns, Json}
+use Rattle.bp_view.specs.declared.view_contexts.Widths.{Widths}
 
 -- each column is as wide as its heading at least
 abbrev pub under_headings : Widths → Widths

@@ -7,7 +7,7 @@ use Rattle.bp_text.specs.JsonStrings.{string_text}
 use Rattle.bp_text.specs.Pieces.{bit_or_null, bit_text, key_text, list_text, number_or_null, string_or_null, truth_text}
 use Rattle.bp_source.specs.JsonPlaces.{column_of, line_of}
 use Rattle.bp_facts.specs.CallFacts.{choice_of, ShownCall}
-use Rattle.bp_view.specs.declared.options.ViewFormat.TheVariants.{Json}
+use Rattle.bp_tasks.specs.declared.view_options.ViewFormat.TheVariants.{Json}
 use Rattle.bp_view.specs.Variables.{entries_text}
 
 -- what is said of a reply

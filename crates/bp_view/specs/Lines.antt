@@ -6,9 +6,9 @@ use Rattle.bp_machine.specs.declared.calls.Reply.TheVariants.{Stopped, Ended, No
 use Rattle.bp_text.specs.Columns.{at_left, at_right, spaces}
 use Rattle.bp_facts.specs.CallFacts.{choice_of, ShownCall}
 use Rattle.bp_view.specs.declared.colours.Colour.{Colour}
-use Rattle.bp_view.specs.declared.options.ViewFormat.TheVariants.{Columns}
-use Rattle.bp_view.specs.declared.settings.TheConstants.{MAX_INDENTS}
-use Rattle.bp_view.specs.declared.settings.Widths.{Widths}
+use Rattle.bp_tasks.specs.declared.view_options.ViewFormat.TheVariants.{Columns}
+use Rattle.bp_view.specs.declared.view_contexts.TheConstants.{MAX_INDENTS}
+use Rattle.bp_view.specs.declared.view_contexts.Widths.{Widths}
 use Rattle.bp_view.specs.Colours.{closing, colour_of, opening}
 use Rattle.bp_view.specs.StatementColumns.{shortened, within}
 use Rattle.bp_view.specs.Variables.{entries_text}

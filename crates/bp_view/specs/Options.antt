@@ -1,9 +1,9 @@
 -- Which calls a view shows, by its options.
 use Rattle.std.specs.Prelude.{Bool, false}
 use Rattle.bp_facts.specs.declared.filters.CallFilter.{CallFilter}
-use Rattle.bp_view.specs.declared.options.ViewFormat.{ViewFormat}
-use Rattle.bp_view.specs.declared.options.ViewFormat.TheVariants.{Columns, Json}
-use Rattle.bp_view.specs.declared.options.ViewOptions.{ViewOptions}
+use Rattle.bp_tasks.specs.declared.view_options.ViewFormat.{ViewFormat}
+use Rattle.bp_tasks.specs.declared.view_options.ViewFormat.TheVariants.{Columns, Json}
+use Rattle.bp_tasks.specs.declared.view_options.ViewOptions.{ViewOptions}
 
 -- equal waits have one line: objects are never folded
 abbrev pub folds_in : ViewFormat → Bool → Bool

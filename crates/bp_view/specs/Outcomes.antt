@@ -7,8 +7,8 @@ use Rattle.bp_machine.specs.declared.reports.Report.{Report}
 use Rattle.bp_machine.specs.Setups.{SetupOf}
 use Rattle.bp_text.specs.Pieces.{key_text, list_text}
 use Rattle.bp_facts.specs.FootFacts.{AreFootFacts, ShownCondition, ShownFoot}
-use Rattle.bp_view.specs.declared.options.ViewFormat.{ViewFormat}
-use Rattle.bp_view.specs.declared.options.ViewFormat.TheVariants.{Columns, Json}
+use Rattle.bp_tasks.specs.declared.view_options.ViewFormat.{ViewFormat}
+use Rattle.bp_tasks.specs.declared.view_options.ViewFormat.TheVariants.{Columns, Json}
 use Rattle.bp_view.specs.Conditions.{condition_object, condition_text}
 
 -- the calls of a history, the contexts of its steps, and the threads that may continue

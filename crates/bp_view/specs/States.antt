@@ -14,10 +14,10 @@ use Rattle.bp_trace.specs.Replayed.{IsReplayed}
 use Rattle.bp_facts.specs.declared.standings.Standing.{Standing}
 use Rattle.bp_facts.specs.declared.standings.Standing.TheVariants as standing
 use Rattle.bp_facts.specs.StateFacts.{AreStateFacts, ShownState, ShownThread}
-use Rattle.bp_view.specs.declared.options.ViewFormat.{ViewFormat}
-use Rattle.bp_view.specs.declared.options.ViewFormat.TheVariants.{Columns, Json}
+use Rattle.bp_tasks.specs.declared.view_options.ViewFormat.{ViewFormat}
+use Rattle.bp_tasks.specs.declared.view_options.ViewFormat.TheVariants.{Columns, Json}
 use Rattle.bp_view.specs.Frames.{frames_text}
-use Rattle.bp_view.specs.Heads.{globals_line}
+use Rattle.bp_view.specs.SetupLines.{globals_line}
 use Rattle.bp_view.specs.Variables.{variables_text}
 
 -- how a thread stands, for people

@@ -7,8 +7,8 @@ use Rattle.bp_text.specs.JsonStrings.{string_text}
 use Rattle.bp_text.specs.OneLine.{on_one_line}
 use Rattle.bp_text.specs.Pieces.{bit_text, key_text, string_or_null}
 use Rattle.bp_facts.specs.ChangeFacts.{owned, Entry}
-use Rattle.bp_view.specs.declared.options.ViewFormat.{ViewFormat}
-use Rattle.bp_view.specs.declared.options.ViewFormat.TheVariants.{Columns, Json}
+use Rattle.bp_tasks.specs.declared.view_options.ViewFormat.{ViewFormat}
+use Rattle.bp_tasks.specs.declared.view_options.ViewFormat.TheVariants.{Columns, Json}
 
 -- the procedure of a local, and a dot; a global has none
 abbrev pub owner_text : Option Procedure → List ℕ

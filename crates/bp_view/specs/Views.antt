@@ -14,6 +14,8 @@ use Rattle.bp_machine.specs.PrintedRows.{values_printed}
 use Rattle.bp_machine.specs.Reports.{outcome_of}
 use Rattle.bp_machine.specs.Sessions.{Stands}
 use Rattle.bp_machine.specs.Setups.{SetupOf, threads}
+use Rattle.bp_text.specs.Parts.{IsInParts}
+use Rattle.bp_text.specs.WrittenTexts.{IsBegun, IsCutShort, IsWritten}
 use Rattle.bp_trace.specs.declared.replaying.Replayed.{Replayed}
 use Rattle.bp_trace.specs.Replayed.{IsReplayed}
 use Rattle.bp_trace.specs.Replays.{IsPlayable, IsReplayRefusal}
@@ -23,23 +25,21 @@ use Rattle.bp_facts.specs.CallFacts.{changes_by, printed_by, AreCallFacts, Shown
 use Rattle.bp_facts.specs.Filters.{calls_of, is_asked}
 use Rattle.bp_facts.specs.Watches.{is_seen, watched_names, AreDeclared, IsUndeclared}
 use Rattle.bp_view.specs.declared.faults.ViewFault.{ViewFault}
-use Rattle.bp_view.specs.declared.faults.ViewFault.TheVariants.{NoThread, NoVariable, Replay}
-use Rattle.bp_view.specs.declared.options.ViewFormat.{ViewFormat}
-use Rattle.bp_view.specs.declared.options.ViewFormat.TheVariants.{Columns, Json}
-use Rattle.bp_view.specs.declared.options.ViewOptions.{ViewOptions}
-use Rattle.bp_view.specs.declared.settings.Setting.{Setting}
-use Rattle.bp_view.specs.declared.settings.Widths.{Widths}
+use Rattle.bp_view.specs.declared.faults.ViewFault.TheVariants.{Memory, NoThread, NoVariable, Replay, Write}
+use Rattle.bp_tasks.specs.declared.view_options.ViewFormat.{ViewFormat}
+use Rattle.bp_tasks.specs.declared.view_options.ViewFormat.TheVariants.{Columns, Json}
+use Rattle.bp_tasks.specs.declared.view_options.ViewOptions.{ViewOptions}
+use Rattle.bp_view.specs.declared.view_contexts.ViewContext.{ViewContext}
+use Rattle.bp_view.specs.declared.view_contexts.Widths.{Widths}
 use Rattle.bp_view.specs.declared.writers.ViewWriter.{ViewWriter}
 use Rattle.bp_view.specs.Ends.{IsEnd}
 use Rattle.bp_view.specs.Headings.{under_headings}
-use Rattle.bp_view.specs.Heads.{view_head}
+use Rattle.bp_view.specs.SetupLines.{view_head}
 use Rattle.bp_view.specs.JsonCalls.{call_object}
 use Rattle.bp_view.specs.Lines.{column_line}
 use Rattle.bp_view.specs.Options.{filter_of}
-use Rattle.bp_view.specs.Parts.{IsInParts}
-use Rattle.bp_view.specs.Settings.{IsSettingOf}
+use Rattle.bp_view.specs.ViewContexts.{IsViewContextOf}
 use Rattle.bp_view.specs.Widths.{extent, extent_of, AreWidths}
-use Rattle.bp_view.specs.Writing.{IsStopped, IsWritten}
 
 -- a thread whose calls alone are to be shown is one of n threads
 abbrev pub IsThere : Option ℕ → (n : ℕ) → Type 0
@@ -121,6 +121,13 @@ pub record IsViewOfTrace
   pub there : IsThere o.thread (threads replayed.setup)
   pub declared : AreDeclared t (watched_names o.watch)
 
+-- why a text of this kind was not written whole; the bytes of the writer are those before and after
+-- it
+abbrev pub IsStopped : (List ℕ → Type 0) → (old new : Option (List ℕ)) → ViewFault → Type 0
+IsStopped IsText old new Memory = IsBegun IsText old new
+IsStopped IsText old new Write = IsCutShort IsText old new
+IsStopped IsText old new f = ⊥
+
 -- A view of a trace was to be written; the bytes of the writer are those before and after it.
 module _ (t : Program) (text trace : List ℕ) (o : ViewOptions) (old new : Option (List ℕ)) where
   -- a view with this report was written
@@ -154,10 +161,6 @@ module _ (t : Program) (text trace : List ℕ) (o : ViewOptions) (old new : Opti
 abbrev pub IsMissing : Option ℕ → (n : ℕ) → ViewFault → Type 0
 IsMissing only n f = (i : ℕ) × (only ≡ Some i) × (n ≤ i) × (f ≡ NoThread i)
 
--- A device: name n of these is why a view is refused.
-abbrev pub IsNameFault : Program → List (List ℕ) → ViewFault → Type 0
-IsNameFault t names f = (n : ℕ) × (f ≡ NoVariable n) × IsUndeclared t names n
-
 -- A device: the printed values that a view of this format shows of a call.
 abbrev pub printed_in : ViewFormat → Configuration → Call → Option (List Bool)
 printed_in Columns c x = None
@@ -176,13 +179,13 @@ pub record HasMade (t : Program) (h : List Call) (w : ViewWriter) : Type 0 where
   pub last : w.last ≡ last_thread (granted_threads h)
   pub made : w.made ≡ length h
 
--- A device: of this setting a view can be made, with this report: a code stands for the program,
+-- A device: of this context a view can be made, with this report: a code stands for the program,
 -- and the history may be played.
 pub record IsViewable
-    (c : Flat) (t : Program) (text : List ℕ) (s : SetupOf) (r : Report) (x : Setting)
+    (c : Flat) (t : Program) (text : List ℕ) (s : SetupOf) (r : Report) (x : ViewContext)
     : Type 0 where
   pub code : StandsFor c t
-  pub known : IsSettingOf t text x
+  pub known : IsViewContextOf t text x
   pub widths : AreWidths s (extent_of x) x.widths
   pub playable : IsPlayable t s x.history.now
   pub outcome : r.outcome ≡ outcome_of x.history.now

@@ -1,9 +1,9 @@
 -- How wide the columns of a view are: one width of each for all its lines.
 use Rattle.std.specs.Prelude.{◌≡◌, ◌+◌, ◌*◌, ℕ, List, [], ◌∷◌, Option, length, map, max, min, decimal}
 use Rattle.bp_machine.specs.Setups.{SetupOf, threads}
-use Rattle.bp_view.specs.declared.settings.Setting.{Setting}
-use Rattle.bp_view.specs.declared.settings.TheConstants.{MAX_INDENTS}
-use Rattle.bp_view.specs.declared.settings.Widths.{Widths}
+use Rattle.bp_view.specs.declared.view_contexts.ViewContext.{ViewContext}
+use Rattle.bp_view.specs.declared.view_contexts.TheConstants.{MAX_INDENTS}
+use Rattle.bp_view.specs.declared.view_contexts.Widths.{Widths}
 use Rattle.bp_view.specs.StatementColumns.{shortened, statement_room}
 
 -- the length of the longest of these texts
@@ -45,8 +45,8 @@ pub record AreWidths (s : SetupOf) (e : Extent) (w : Widths) : Type 0 where
   pub statement : w.statement ≡ statement_room e.columns
   pub line : w.line ≡ e.columns
 
--- a device: the extent that the code reads from its setting
-abbrev pub extent_of : Setting → Extent
+-- a device: the extent that the code reads from its context
+abbrev pub extent_of : ViewContext → Extent
 extent_of x =
     let places = map (λ s. s.place.items) x.program.scenes.now in
     let statements = map (λ s. s.excerpt.words.items) x.program.scenes.now in

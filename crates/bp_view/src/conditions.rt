@@ -5,9 +5,9 @@ ghost use Rattle.bp_facts.specs.FootFacts.{condition_in};
 ghost use Rattle.bp_view.specs.Conditions.{condition_lines, condition_members, condition_object, condition_text, values_line};
 
 use crate::lines::push_changed;
-use crate::options::ViewFormat;
 use bp_facts::ConditionFacts;
 use bp_source::push_two;
+use bp_tasks::ViewFormat;
 use bp_text::Piece::{Bytes, Key, List, Number, Text};
 use bp_text::{push_bytes, push_pieces};
 use std::alloc::AllocError;

@@ -6,25 +6,25 @@ ghost use Rattle.bp_machine.specs.declared.calls.Call.{Call as Answered};
 ghost use Rattle.bp_machine.specs.Setups.{FitsCode, SetupOf};
 ghost use Rattle.bp_trace.specs.Replays.{IsPlayable, IsReplayRefusal};
 ghost use Rattle.bp_text.specs.Pieces.{key_text};
+ghost use Rattle.bp_text.specs.Parts.{Adds, IsInParts};
 ghost use Rattle.bp_source.specs.Scenes.{AreScenes};
 ghost use Rattle.bp_facts.specs.ChangeFacts.{entry_of};
 ghost use Rattle.bp_facts.specs.ContextFacts.{context_in};
 ghost use Rattle.bp_facts.specs.Spans.{AreSpans, IsSpan};
-ghost use Rattle.bp_view.specs.declared.options.ViewFormat.TheVariants.{Columns, Json};
+ghost use Rattle.bp_tasks.specs.declared.view_options.ViewFormat.TheVariants.{Columns, Json};
 ghost use Rattle.bp_view.specs.ContextLines.{context_line, context_object, context_text, contexts_head, position_or_null, AreContextLines, AreContextsOfTrace, IsContextLine};
-ghost use Rattle.bp_view.specs.Parts.{Adds, IsInParts};
-ghost use Rattle.bp_view.specs.Settings.{IsSettingOf};
+ghost use Rattle.bp_view.specs.ViewContexts.{IsViewContextOf};
 ghost use Rattle.bp_view.specs.Variables.{entries_text};
 
 use crate::lines::{push_changed, spaces_before};
-use crate::options::ViewFormat;
-use crate::settings::{Setting, Widths};
 use crate::shown_traces::{ShownTrace, shown_trace_of};
+use crate::view_contexts::{ViewContext, Widths};
 use bp_check::Checked;
 use bp_code::Code;
 use bp_facts::{Change, ContextFacts, Span, facts_of_context, fill_changes_within, spans_of};
 use bp_machine::Report;
 use bp_source::{push_three, push_two};
+use bp_tasks::ViewFormat;
 use bp_text::Piece::{Bytes, Key, Left, List, Number, NumberRight, Spaces};
 use bp_text::{Position, push_pieces};
 use bp_trace::ReplayFault;
@@ -123,16 +123,16 @@ fn push_context_object(
 fn push_context_in(
     view: &mut Vec<u8>,
     note: &[u8],
-    setting: &Setting<'_>,
+    context: &ViewContext<'_>,
     facts: &ContextFacts<'_>,
 ) -> Result<(), AllocError>
-    ensures { let format = setting.now.options.format in
+    ensures { let format = context.now.options.format in
         note.now ≡ entries_text format (map entry_of facts.now.changes.now)
-        → let context = context_text format setting.now.widths (context_in facts.now) in
-        OnOk result (view.new.items ≡ view.old.items ++ context) }
+        → let line = context_text format context.now.widths (context_in facts.now) in
+        OnOk result (view.new.items ≡ view.old.items ++ line) }
 {
-    match setting.options.format {
-        ViewFormat::Columns => push_context_line(view, note, setting.widths, facts),
+    match context.options.format {
+        ViewFormat::Columns => push_context_line(view, note, context.widths, facts),
         ViewFormat::Json => push_context_object(view, note, facts),
     }
 }
@@ -142,22 +142,22 @@ fn push_context<'a>(
     view: &mut Vec<u8>,
     note: &mut Vec<u8>,
     changes: &mut Vec<Change<'a>>,
-    setting: &Setting<'a>,
+    context: &ViewContext<'a>,
     number: u64,
     span: &Span,
 ) -> Result<(), AllocError>
     ensures { (t : Program) (text : List ℕ) (s : SetupOf) (h : List Answered)
-        → IsSettingOf t text setting.now
+        → IsViewContextOf t text context.now
         → IsSpan t s h number span.now
-        → let format = setting.now.options.format in
-        let line = IsContextLine format t text s h setting.now.widths number in
+        → let format = context.now.options.format in
+        let line = IsContextLine format t text s h context.now.widths number in
         OnOk result (Adds line view.old.items view.new.items) }
 {
-    fill_changes_within(changes, &setting.program, span)?;
+    fill_changes_within(changes, &context.program, span)?;
     note.clear();
-    push_changed(note, setting.options.format, changes)?;
-    let facts = facts_of_context(&setting.program, number, span, changes);
-    push_context_in(view, note, setting, &facts)
+    push_changed(note, context.options.format, changes)?;
+    let facts = facts_of_context(&context.program, number, span, changes);
+    push_context_in(view, note, context, &facts)
 }
 
 /// Adds a line for each context. `note` and `changes` are room for what one changed.
@@ -165,18 +165,18 @@ fn push_contexts<'a>(
     view: &mut Vec<u8>,
     note: &mut Vec<u8>,
     changes: &mut Vec<Change<'a>>,
-    setting: &Setting<'a>,
+    context: &ViewContext<'a>,
     spans: &[Span],
 ) -> Result<(), AllocError>
     ensures { (t : Program) (text : List ℕ) (s : SetupOf) (h : List Answered)
-        → IsSettingOf t text setting.now
+        → IsViewContextOf t text context.now
         → AreSpans t s h spans.now
-        → let line = IsContextLine setting.now.options.format t text s h setting.now.widths in
+        → let line = IsContextLine context.now.options.format t text s h context.now.widths in
         let lines = IsInParts (λ k part. line (suc k) part) (length spans.now) in
         OnOk result (Adds lines view.old.items view.new.items) }
 {
     for (n, span) in spans.iter().enumerate() {
-        push_context(view, note, changes, setting, n as u64 + 1, span)?;
+        push_context(view, note, changes, context, n as u64 + 1, span)?;
     }
     Ok(())
 }
@@ -207,31 +207,6 @@ fn push_contexts_head(
     }
 }
 
-/// The lines of all contexts of a history, after their head.
-fn contexts_text(
-    alloc: Global,
-    setting: &Setting<'_>,
-    spans: &[Span],
-) -> Result<Vec<u8>, AllocError>
-    ensures { (t : Program) (text : List ℕ) (s : SetupOf) (h : List Answered)
-        → IsSettingOf t text setting.now
-        → AreSpans t s h spans.now
-        → let format = setting.now.options.format in
-        let line = IsContextLine format t text s h setting.now.widths in
-        let lines = IsInParts (λ k part. line (suc k) part) (length spans.now) in
-        let calls = length setting.now.history.now in
-        let head = contexts_head format calls (length spans.now) in
-        IfOk result (λ v. Adds lines head v.items) }
-{
-    let format = setting.options.format;
-    let mut view = Vec::new(alloc);
-    push_contexts_head(&mut view, format, setting.count(), spans.len() as u64)?;
-    let mut note = Vec::new(alloc);
-    let mut changes = Vec::new(alloc);
-    push_contexts(&mut view, &mut note, &mut changes, setting, spans)?;
-    Ok(view)
-}
-
 /// A line for each context of a trace that was replayed.
 fn contexts_in(
     alloc: Global,
@@ -255,8 +230,14 @@ fn contexts_in(
     let Ok(spans) = spans_of(alloc, code, &shown.replayed.setup, history) else {
         return Err(AllocError);
     };
-    let setting = shown.setting(checked, format);
-    contexts_text(alloc, &setting, &spans)
+    let context = shown.context(checked, format);
+    let mut view = Vec::new(alloc);
+    let calls = context.history.len() as u64;
+    push_contexts_head(&mut view, format, calls, spans.len() as u64)?;
+    let mut note = Vec::new(alloc);
+    let mut changes = Vec::new(alloc);
+    push_contexts(&mut view, &mut note, &mut changes, &context, &spans)?;
+    Ok(view)
 }
 
 /// A line for each context of a trace, and the report of the trace: the thread of the context, its

@@ -4,10 +4,10 @@ ghost use Rattle.bp_facts.specs.StateFacts.{frame_in};
 ghost use Rattle.bp_view.specs.Frames.{frame_lines, frame_object, frame_text, frames_text, lead, locals_text};
 
 use crate::conditions::values_lead;
-use crate::options::ViewFormat;
 use crate::variables::push_values;
 use bp_facts::FrameFacts;
 use bp_source::{column_of, line_of};
+use bp_tasks::ViewFormat;
 use bp_text::Piece::{Bytes, Key, List, NumberOrNull, OneLine, Text};
 use bp_text::push_pieces;
 use std::alloc::AllocError;

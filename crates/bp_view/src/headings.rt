@@ -2,8 +2,8 @@
 ghost use Rattle.std.specs.Prelude.{◌≡◌, ◌++◌, OnOk};
 ghost use Rattle.bp_view.specs.Headings.{headings_in, headings_line, under_headings};
 
-use crate::options::ViewFormat;
-use crate::settings::Widths;
+use crate::view_contexts::Widths;
+use bp_tasks::ViewFormat;
 use bp_text::Piece::{Bytes, Left, Right};
 use bp_text::push_pieces;
 use std::alloc::AllocError;

@@ -2,14 +2,14 @@
 ghost use Rattle.std.specs.Prelude.{◌≡◌, ◌++◌, flat_map, option_map, OnOk};
 ghost use Rattle.std.specs.List.{concat};
 ghost use Rattle.bp_facts.specs.CallFacts.{facts_in};
-ghost use Rattle.bp_view.specs.declared.options.ViewFormat.TheVariants.{Json};
+ghost use Rattle.bp_tasks.specs.declared.view_options.ViewFormat.TheVariants.{Json};
 ghost use Rattle.bp_view.specs.JsonCalls.{bit_item, call_object, member_texts, printed_text, reply_name};
 
 use crate::lines::push_changed;
-use crate::options::ViewFormat;
 use bp_facts::CallFacts;
 use bp_machine::Reply;
 use bp_source::{column_of, line_of, push_four, push_three, push_two, wide};
+use bp_tasks::ViewFormat;
 use bp_text::Piece::{
     Bit, BitOrNull, Bytes, Key, List, Number, NumberOrNull, Text, TextOrNull, Truth,
 };

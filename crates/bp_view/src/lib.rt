@@ -8,27 +8,27 @@ mod ends;
 mod faults;
 mod frames;
 mod headings;
-mod heads;
 mod json_calls;
 mod laws;
 mod lines;
 mod options;
 mod outcomes;
-mod settings;
+mod setup_lines;
 mod shown;
 mod shown_traces;
 mod statement_columns;
 mod states;
 mod variables;
+mod view_contexts;
 mod views;
 mod writers;
 
 pub use bp_facts::{
     changes_replay, lines_stand_for_each_call_once, listed_names_are_watched, watched_names,
 };
+pub use bp_tasks::{ViewFormat, ViewOptions};
 pub use contexts::contexts_of;
 pub use faults::ViewFault;
 pub use laws::views_are_single;
-pub use options::{ViewFormat, ViewOptions};
 pub use states::state_at;
 pub use views::view;

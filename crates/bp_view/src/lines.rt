@@ -9,13 +9,13 @@ ghost use Rattle.bp_view.specs.Lines.{after_room, call_text, choice_text, column
 ghost use Rattle.bp_view.specs.Variables.{entries_text};
 
 use crate::colours::Colour;
-use crate::options::ViewFormat;
-use crate::settings::{MAX_INDENTS, Widths};
 use crate::statement_columns::{cut_after, in_column};
 use crate::variables::push_value;
+use crate::view_contexts::{MAX_INDENTS, Widths};
 use bp_facts::{CallFacts, Change, Next};
 use bp_machine::Reply;
 use bp_source::{push_four, push_three, push_two};
+use bp_tasks::ViewFormat;
 use bp_text::Piece::{Bytes, Left, Number, NumberRight, Right, Spaces};
 use bp_text::{Piece, push_piece};
 use std::alloc::AllocError;

@@ -5,17 +5,17 @@ ghost use Rattle.bp_code.specs.StandsFor.{StandsFor};
 ghost use Rattle.bp_machine.specs.declared.calls.Call.{Call as Answered};
 ghost use Rattle.bp_machine.specs.Reports.{outcome_of};
 ghost use Rattle.bp_machine.specs.Sessions.{Stands};
-ghost use Rattle.bp_facts.specs.FootFacts.{condition_in, foot_in};
-ghost use Rattle.bp_view.specs.declared.options.ViewFormat.TheVariants.{Columns, Json};
-ghost use Rattle.bp_view.specs.Outcomes.{clean_text, failure_text, foot_in_format, foot_text, outcome_text, wait_text, waits_text, IsFoot};
-ghost use Rattle.bp_view.specs.Settings.{IsSettingOf};
+ghost use Rattle.bp_facts.specs.FootFacts.{condition_in};
+ghost use Rattle.bp_tasks.specs.declared.view_options.ViewFormat.TheVariants.{Columns, Json};
+ghost use Rattle.bp_view.specs.Outcomes.{clean_text, failure_text, foot_in_format, outcome_text, wait_text, waits_text, IsFoot};
+ghost use Rattle.bp_view.specs.ViewContexts.{IsViewContextOf};
 
 use crate::conditions::{push_condition, push_condition_object};
-use crate::options::ViewFormat;
-use crate::settings::Setting;
-use bp_facts::{ConditionFacts, FootFacts, facts_of_foot};
+use crate::view_contexts::ViewContext;
+use bp_facts::{ConditionFacts, facts_of_foot};
 use bp_machine::{Report, Session};
 use bp_source::push_three;
+use bp_tasks::ViewFormat;
 use bp_text::Piece::{Bytes, Key, List, Number};
 use bp_text::{push_bytes, push_pieces};
 use std::alloc::{AllocError, Global};
@@ -190,32 +190,26 @@ fn foot_in_format(
     Ok(foot)
 }
 
-/// The text of a foot.
-fn foot_text(alloc: Global, format: ViewFormat, foot: &FootFacts<'_>) -> Result<Vec<u8>, AllocError>
-    ensures { IfOk result (λ v. v.items ≡ foot_text format (foot_in foot.now)) }
-{
-    let outcome = outcome_text(alloc, format, foot.deadlocked, foot.failure.as_ref())?;
-    let waits = waits_text(alloc, format, foot.waits.as_slice())?;
-    foot_in_format(alloc, format, foot.report, &outcome, &waits)
-}
-
 /// The report of the history after which the session stands, and what is said of an assertion
 /// that failed in it, or of the threads that are deadlocked after it.
 pub(crate) fn foot_of(
     alloc: Global,
-    setting: &Setting<'_>,
+    context: &ViewContext<'_>,
     session: &Session,
     report: Report,
 ) -> Result<Vec<u8>, AllocError>
     ensures { (t : Program) (text : List ℕ) (h : List Answered)
-        → IsSettingOf t text setting.now
+        → IsViewContextOf t text context.now
         → StandsFor session.now.code t
         → Stands t session.now h
         → report.outcome ≡ outcome_of h
-        → let format = setting.now.options.format in
+        → let format = context.now.options.format in
         let s = session.now.setup in
         IfOk result (λ v. IsFoot format t text s h report v.items) }
 {
-    let facts = facts_of_foot(alloc, &setting.program, session, report)?;
-    foot_text(alloc, setting.options.format, &facts)
+    let format = context.options.format;
+    let foot = facts_of_foot(alloc, &context.program, session, report)?;
+    let outcome = outcome_text(alloc, format, foot.deadlocked, foot.failure.as_ref())?;
+    let waits = waits_text(alloc, format, foot.waits.as_slice())?;
+    foot_in_format(alloc, format, foot.report, &outcome, &waits)
 }

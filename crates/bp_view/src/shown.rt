@@ -4,17 +4,17 @@ ghost use Rattle.bp_tree.specs.Ast.{Program};
 ghost use Rattle.bp_machine.specs.declared.calls.Call.{Call as Answered};
 ghost use Rattle.bp_machine.specs.Histories.{configuration_after};
 ghost use Rattle.bp_machine.specs.Setups.{SetupOf};
+ghost use Rattle.bp_text.specs.Parts.{Adds};
 ghost use Rattle.bp_facts.specs.CallFacts.{facts_in};
 ghost use Rattle.bp_facts.specs.Moments.{IsMomentOf};
-ghost use Rattle.bp_view.specs.Parts.{Adds};
-ghost use Rattle.bp_view.specs.Settings.{IsSettingOf};
+ghost use Rattle.bp_view.specs.ViewContexts.{IsViewContextOf};
 ghost use Rattle.bp_view.specs.Views.{line_in, printed_in, IsShownLine};
 
 use crate::json_calls::push_object;
 use crate::lines::push_line;
-use crate::options::ViewFormat;
-use crate::settings::Setting;
+use crate::view_contexts::ViewContext;
 use bp_facts::{CallFacts, Change, Moment, facts_of_call, fill_changes, has_watched};
+use bp_tasks::ViewFormat;
 use std::alloc::AllocError;
 
 /// Adds the line of a call in the format of the view, which stands for this many calls; the call
@@ -22,21 +22,21 @@ use std::alloc::AllocError;
 fn push_line_in(
     view: &mut Vec<u8>,
     note: &mut Vec<u8>,
-    setting: &Setting<'_>,
+    context: &ViewContext<'_>,
     facts: &CallFacts<'_>,
     calls: usize,
     printed: Option<&[bool]>,
 ) -> Result<(), AllocError>
-    ensures { let o = setting.now.options in
+    ensures { let o = context.now.options in
         let printed = option_map (λ v. v.now) printed.entry in
         let f = facts_in facts.now in
-        let line = line_in o.format o.has_colour setting.now.widths f calls printed in
+        let line = line_in o.format o.has_colour context.now.widths f calls printed in
         OnOk result (view.new.items ≡ view.old.items ++ line) }
 {
-    let options = setting.options;
+    let options = context.options;
     match options.format {
         ViewFormat::Columns => {
-            let widths = setting.widths.under_headings();
+            let widths = context.widths.under_headings();
             push_line(view, note, widths, options.has_colour, facts, calls)
         }
         ViewFormat::Json => push_object(view, note, facts, printed),
@@ -49,34 +49,35 @@ pub(crate) fn push_shown<'a>(
     view: &mut Vec<u8>,
     note: &mut Vec<u8>,
     changes: &mut Vec<Change<'a>>,
-    setting: &Setting<'a>,
+    context: &ViewContext<'a>,
     moment: &Moment,
     printed: Option<&[bool]>,
 ) -> Result<(), AllocError>
     ensures { (t : Program) (text : List ℕ) (s : SetupOf) (h : List Answered) (x : Answered)
-        → IsSettingOf t text setting.now
+        → IsViewContextOf t text context.now
         → IsMomentOf t s h x moment.now
-        → let o = setting.now.options in
+        → let o = context.now.options in
         option_map (λ v. v.now) printed.entry ≡ printed_in o.format (configuration_after t s h) x
-        → let line = IsShownLine t text s o setting.now.widths setting.now.history.now h x in
+        → let line = IsShownLine t text s o context.now.widths context.now.history.now h x in
         OnOk result (Adds line view.old.items view.new.items) }
 {
-    if !setting
+    let count = context.history.len() as u64;
+    if !context
         .filter
-        .asks_for(moment.call.thread, moment.number, setting.count())
+        .asks_for(moment.call.thread, moment.number, count)
     {
         return Ok(());
     }
-    fill_changes(changes, &setting.program, moment)?;
-    if !has_watched(setting.names, changes) {
+    fill_changes(changes, &context.program, moment)?;
+    if !has_watched(context.names, changes) {
         return Ok(());
     }
-    let calls = setting
+    let calls = context
         .filter
-        .calls_in_line(setting.history, &moment.call, moment.number);
+        .calls_in_line(context.history, &moment.call, moment.number);
     if calls > 0 {
-        let facts = facts_of_call(&setting.program, moment, changes);
-        push_line_in(view, note, setting, &facts, calls, printed)?;
+        let facts = facts_of_call(&context.program, moment, changes);
+        push_line_in(view, note, context, &facts, calls, printed)?;
     }
     Ok(())
 }

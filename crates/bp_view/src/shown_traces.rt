@@ -4,15 +4,16 @@ ghost use Rattle.bp_tree.specs.Ast.{Program};
 ghost use Rattle.bp_code.specs.StandsFor.{StandsFor};
 ghost use Rattle.bp_trace.specs.Replays.{IsReplayRefusal};
 ghost use Rattle.bp_source.specs.Scenes.{AreScenes};
-ghost use Rattle.bp_view.specs.Settings.{IsSettingOf};
+ghost use Rattle.bp_view.specs.ViewContexts.{IsViewContextOf};
 ghost use Rattle.bp_view.specs.ShownTraces.{IsShownTrace};
 ghost use Rattle.bp_view.specs.Widths.{extent_of, AreWidths};
 
-use crate::options::{ViewFormat, ViewOptions};
-use crate::settings::{Setting, setting_of};
+use crate::options::all_calls;
+use crate::view_contexts::{ViewContext, view_context_of};
 use bp_check::Checked;
 use bp_code::Code;
 use bp_source::{Scene, scenes_of};
+use bp_tasks::ViewFormat;
 use bp_trace::limits::MAX_TRACE;
 use bp_trace::{ReplayFault, Replayed, replay};
 use std::alloc::Global;
@@ -48,22 +49,22 @@ pub(crate) fn shown_trace_of(
 }
 
 impl ShownTrace {
-    /// The setting of a view of all calls, without watched names.
-    pub(crate) fn setting<'a>(&'a self, checked: &'a Checked, format: ViewFormat) -> Setting<'a>
+    /// The context of a view of all calls, without watched names.
+    pub(crate) fn context<'a>(&'a self, checked: &'a Checked, format: ViewFormat) -> ViewContext<'a>
         ensures known { (text : List ℕ)
             → AreScenes text checked.now self.now.scenes.items
-            → IsSettingOf checked.now text result }
+            → IsViewContextOf checked.now text result }
         ensures widths { AreWidths self.now.replayed.setup (extent_of result) result.widths }
         ensures history { result.history.now ≡ self.now.replayed.history.items }
         ensures format { result.options.format ≡ format }
         ensures columns { result.options.columns ≡ None }
     {
-        setting_of(
+        view_context_of(
             self.scenes.as_slice(),
             checked,
             &self.replayed.setup,
             self.replayed.history.as_slice(),
-            ViewOptions::all(format),
+            all_calls(format),
             &[],
         )
     }

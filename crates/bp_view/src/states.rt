@@ -8,20 +8,20 @@ ghost use Rattle.bp_machine.specs.Setups.{FitsCode};
 ghost use Rattle.bp_trace.specs.Replays.{IsPlayable, IsReplayRefusal};
 ghost use Rattle.bp_source.specs.Scenes.{AreScenes};
 ghost use Rattle.bp_facts.specs.StateFacts.{state_in, thread_in};
-ghost use Rattle.bp_view.specs.Heads.{globals_line};
-ghost use Rattle.bp_view.specs.Settings.{IsSettingOf};
+ghost use Rattle.bp_view.specs.SetupLines.{globals_line};
+ghost use Rattle.bp_view.specs.ViewContexts.{IsViewContextOf};
 ghost use Rattle.bp_view.specs.States.{failed_line, failed_thread, standing_name, standing_words, state_lines, state_members, state_object, state_text, thread_lines, thread_object, thread_text, threads_text, IsStateOfTrace, IsStateText};
 
 use crate::frames::push_frames;
-use crate::options::ViewFormat;
-use crate::settings::Setting;
 use crate::shown_traces::{ShownTrace, shown_trace_of};
 use crate::variables::push_values;
+use crate::view_contexts::ViewContext;
 use bp_check::Checked;
 use bp_code::Code;
 use bp_facts::{Standing, StateFacts, ThreadFacts, calls_to, facts_of_state, session_after};
 use bp_machine::{Call, Outcome, Report, Session};
 use bp_source::push_four;
+use bp_tasks::ViewFormat;
 use bp_text::Piece::{Bytes, Key, List, Number, NumberOrNull, Text};
 use bp_text::{push_bytes, push_pieces};
 use bp_trace::ReplayFault;
@@ -283,21 +283,21 @@ fn state_text(
 /// The state of the session, which stands after this history, the front of one of `count` calls.
 pub(crate) fn state_of(
     alloc: Global,
-    setting: &Setting<'_>,
+    context: &ViewContext<'_>,
     session: &Session,
     history: &[Call],
     count: u64,
 ) -> Result<Vec<u8>, AllocError>
     ensures { (t : Program) (text : List ℕ)
-        → IsSettingOf t text setting.now
+        → IsViewContextOf t text context.now
         → StandsFor session.now.code t
         → Stands t session.now history.now
-        → let format = setting.now.options.format in
+        → let format = context.now.options.format in
         let s = session.now.setup in
         IfOk result (λ v. IsStateText format t text s history.now count v.items) }
 {
-    let facts = facts_of_state(alloc, &setting.program, session, history, count)?;
-    state_text(alloc, setting.options.format, &facts)
+    let facts = facts_of_state(alloc, &context.program, session, history, count)?;
+    state_text(alloc, context.options.format, &facts)
 }
 
 /// The state after the first `number` calls of a trace that was replayed, or after the last where
@@ -326,8 +326,9 @@ fn state_after(
     let Ok(session) = session_after(alloc, code, &shown.replayed.setup, calls) else {
         return Err(AllocError);
     };
-    let setting = shown.setting(checked, format);
-    state_of(alloc, &setting, &session, calls, setting.count())
+    let context = shown.context(checked, format);
+    let count = context.history.len() as u64;
+    state_of(alloc, &context, &session, calls, count)
 }
 
 /// The state after the first `number` calls of a trace, or after the last where there are fewer,

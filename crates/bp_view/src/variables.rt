@@ -5,9 +5,9 @@ ghost use Rattle.bp_code.specs.StandsFor.{valuation_of};
 ghost use Rattle.bp_view.specs.Variables.{owner_text, variable_object, variable_text, variable_words, variables_text};
 ghost use Rattle.bp_text.specs.Pieces.{piece_text};
 
-use crate::options::ViewFormat;
 use bp_code::bit_of;
 use bp_source::{push_four, push_three, push_two};
+use bp_tasks::ViewFormat;
 use bp_text::Piece;
 use bp_text::Piece::{Bit, Bytes, Key, OneLine, Text, TextOrNull};
 use bp_tree::{Name, Proc};

@@ -3,35 +3,27 @@ ghost use Rattle.std.specs.Prelude.{◌≡◌, [], ℕ, List, map, MatchResult};
 ghost use Rattle.bp_tree.specs.Ast.{Program};
 ghost use Rattle.bp_code.specs.StandsFor.{StandsFor};
 ghost use Rattle.bp_machine.specs.Setups.{threads, FitsCode};
-ghost use Rattle.bp_facts.specs.Watches.{watched_names, AreDeclared};
-ghost use Rattle.bp_view.specs.Heads.{view_head};
+ghost use Rattle.bp_text.specs.WrittenTexts.{IsWritten};
+ghost use Rattle.bp_facts.specs.Watches.{watched_names};
+ghost use Rattle.bp_view.specs.SetupLines.{view_head};
 ghost use Rattle.bp_view.specs.ShownTraces.{IsShownTrace};
-ghost use Rattle.bp_view.specs.Views.{HasMade, IsMissing, IsNameFault, IsThere, IsView, IsViewRefusal, IsViewable, IsViewed};
-ghost use Rattle.bp_view.specs.Writing.{IsStopped, IsWritten};
+ghost use Rattle.bp_view.specs.Views.{HasMade, IsMissing, IsStopped, IsThere, IsView, IsViewRefusal, IsViewable, IsViewed};
 
 use crate::ends::end_of;
 use crate::faults::ViewFault;
-use crate::heads::head_of;
-use crate::options::ViewOptions;
-use crate::settings::setting_of;
+use crate::setup_lines::head_of;
 use crate::shown_traces::{ShownTrace, shown_trace_of};
+use crate::view_contexts::view_context_of;
 use crate::writers::ViewWriter;
 use bp_check::Checked;
 use bp_code::Code;
 use bp_facts::{undeclared, watched_names};
-use bp_machine::{AskFault, Report, Session, Setup};
+use bp_machine::{Report, Session, Setup};
+use bp_tasks::ViewOptions;
 use bp_text::put;
 use bp_trace::ReplayFault;
 use std::alloc::Global;
 use std::io::Write;
-
-/// The fault of a view whose session was refused a call for memory.
-fn memory_of(fault: AskFault) -> ViewFault
-    ensures { fault ≡ AskFault.Memory → result ≡ ViewFault.Memory }
-{
-    let _ = fault;
-    ViewFault::Memory
-}
 
 /// Refuses a thread that is not there, where the calls of one thread alone are to be shown.
 fn check_thread(options: ViewOptions<'_>, setup: &Setup) -> Result<(), ViewFault>
@@ -42,17 +34,6 @@ fn check_thread(options: ViewOptions<'_>, setup: &Setup) -> Result<(), ViewFault
     match options.thread {
         Some(thread) if setup.threads() <= thread => Err(ViewFault::NoThread(thread)),
         _ => Ok(()),
-    }
-}
-
-/// Refuses the first of these names that no variable has.
-fn check_names(checked: &Checked, names: &[&[u8]]) -> Result<(), ViewFault>
-    ensures { let names = map (λ n. n.now) names.now in
-        MatchResult result (λ _. AreDeclared checked.now names) (IsNameFault checked.now names) }
-{
-    match undeclared(checked, names) {
-        Some(n) => Err(ViewFault::NoVariable(n)),
-        None => Ok(()),
     }
 }
 
@@ -67,7 +48,7 @@ fn write_parts<W: Write>(
 ) -> Result<(), ViewFault>
     ensures { (t : Program) (text : List ℕ)
         → let s = writer.old.session.setup in
-        let x = writer.old.setting in
+        let x = writer.old.context in
         IsViewable writer.old.session.code t text s report x
         → HasMade t [] writer.old
         → head.now ≡ view_head x.options x.program.globals.now s x.widths
@@ -76,15 +57,16 @@ fn write_parts<W: Write>(
         (λ _. IsWritten is_view (W.contents out.old) (W.contents out.new))
         (IsStopped is_view (W.contents out.old) (W.contents out.new)) }
 {
-    let history = writer.setting.history;
+    let history = writer.context.history;
     put(out, head)?;
     for recorded in history {
-        if let Err(fault) = writer.make_line(recorded) {
-            return Err(memory_of(fault));
-        }
+        // A call of a history that may be played is refused for memory alone.
+        let Ok(()) = writer.make_line(recorded) else {
+            return Err(ViewFault::Memory);
+        };
         put(out, &writer.line)?;
     }
-    let end = end_of(alloc, &writer.setting, &writer.session, report)?;
+    let end = end_of(alloc, &writer.context, &writer.session, report)?;
     put(out, &end)?;
     Ok(())
 }
@@ -113,14 +95,16 @@ fn write_view<W: Write>(
         (IsViewRefusal checked.now text trace options old new) }
 {
     check_thread(options, &shown.replayed.setup)?;
-    check_names(checked, names)?;
+    if let Some(n) = undeclared(checked, names) {
+        return Err(ViewFault::NoVariable(n));
+    }
     let setup = &shown.replayed.setup;
     let history = shown.replayed.history.as_slice();
-    let setting = setting_of(&shown.scenes, checked, setup, history, options, names);
-    let head = head_of(alloc, &setting, setup)?;
+    let context = view_context_of(&shown.scenes, checked, setup, history, options, names);
+    let head = head_of(alloc, &context, setup)?;
     let session = Session::new(alloc, code, setup)?;
     let mut writer = ViewWriter {
-        setting,
+        context,
         session,
         line: Vec::new(alloc),
         note: Vec::new(alloc),

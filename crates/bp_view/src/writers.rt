@@ -8,14 +8,14 @@ ghost use Rattle.bp_machine.specs.Histories.{configuration_after};
 ghost use Rattle.bp_machine.specs.PrintedRows.{values_printed};
 ghost use Rattle.bp_machine.specs.Sessions.{Stands, IsPrintRefusal};
 ghost use Rattle.bp_trace.specs.Replays.{IsPlayable};
-ghost use Rattle.bp_view.specs.Settings.{IsSettingOf};
+ghost use Rattle.bp_view.specs.ViewContexts.{IsViewContextOf};
 ghost use Rattle.bp_view.specs.Views.{next_print_in};
 
-use crate::options::ViewFormat;
-use crate::settings::Setting;
 use crate::shown::push_shown;
+use crate::view_contexts::ViewContext;
 use bp_facts::{Change, last_step, moment_of, printed_by};
 use bp_machine::{AskFault, Call, Session};
+use bp_tasks::ViewFormat;
 
 /// The values that the next statement of a thread prints, where a view of this format shows them.
 fn next_print(
@@ -41,7 +41,7 @@ fn next_print(
 /// Who makes the lines of a view, one for each call of its history.
 #[derive(Drop)]
 pub(crate) struct ViewWriter<'a> {
-    pub(crate) setting: Setting<'a>,
+    pub(crate) context: ViewContext<'a>,
     /// It stands after the calls that were made.
     pub(crate) session: Session,
     /// The line of the last of them, or nothing where it is not shown.
@@ -71,18 +71,18 @@ impl ViewWriter<'_> {
         ensures line { (t : Program) (text : List ℕ) (h : List Answered)
             → HasMade t h self.old
             → IsPlayable t self.old.session.setup (h ++ recorded.now ∷ [])
-            → IsSettingOf t text self.old.setting
+            → IsViewContextOf t text self.old.context
             → let s = self.old.session.setup in
-            let x = self.old.setting in
+            let x = self.old.context in
             let whole = x.history.now in
             let line = self.new.line.items in
             OnOk result (IsShownLine t text s x.options x.widths whole h recorded.now line) }
         ensures kept { (self.new.session.setup ≡ self.old.session.setup)
-            × (self.new.setting ≡ self.old.setting) }
+            × (self.new.context ≡ self.old.context) }
     {
         self.session.setup().is_in_range();
         let number = self.made.saturating_add(1);
-        let format = self.setting.options.format;
+        let format = self.context.options.format;
         let next = next_print(&self.session, format, recorded.thread)?;
         let moment = moment_of(&mut self.session, self.last, number, recorded)?;
         let printed = printed_by(next.as_deref(), moment.call.reply);
@@ -91,7 +91,7 @@ impl ViewWriter<'_> {
             &mut self.line,
             &mut self.note,
             &mut self.changes,
-            &self.setting,
+            &self.context,
             &moment,
             printed,
         )?;

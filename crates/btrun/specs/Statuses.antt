@@ -5,9 +5,9 @@ use Rattle.std.specs.declared.io.ErrorKind.TheVariants as io
 use Rattle.bp_text.specs.Writing.{Writes}
 use Rattle.bp_text.specs.declared.writing.WriteFault.{WriteFault}
 use Rattle.bp_text.specs.declared.writing.WriteFault.TheVariants as write
-use Rattle.bp_commands.specs.Ends.{HasFaultLine}
+use Rattle.bp_commands.specs.RunEnds.{HasFaultLine}
 use Rattle.bp_commands.specs.Jobs.{Held}
-use Rattle.bp_commands.specs.declared.ends.RunEnd.{RunEnd}
+use Rattle.bp_commands.specs.declared.run_ends.RunEnd.{RunEnd}
 use Rattle.bp_messages.specs.declared.faults.Fault.TheVariants as fault
 use Rattle.bp_arguments.specs.declared.no_tasks.NoTask.{NoTask}
 use Rattle.bp_arguments.specs.declared.no_tasks.NoTask.TheVariants.{Memory, Printed, Refused}

@@ -2,10 +2,11 @@
 
 use crate::host_files::HostFiles;
 use crate::progress_lines::ProgressLine;
-use crate::tasks::{Host, Screen, carry_out, reporting};
+use crate::tasks::{Host, Screen, carry_out};
 use crate::usage::{end_without_task, refuse_memory, unread};
-use bp_arguments::{NoTask, Task, asks_for_json, read_arguments};
+use bp_arguments::{NoTask, asks_for_json, read_arguments};
 use bp_commands::Streams;
+use bp_tasks::{FaultFormat, Task};
 use bp_text::{number_of, put};
 use std::env;
 use std::io::{self, BufWriter, IsTerminal};
@@ -64,14 +65,15 @@ fn explains_faults(rt: &HostRuntime) -> bool {
 /// The seconds that a task has, where they are limited.
 fn seconds_of(task: &Task<'_>) -> Option<u64> {
     match task {
-        Task::Test(arguments) => arguments.seconds,
+        Task::Test(task) => task.options.seconds,
         _ => None,
     }
 }
 
 /// The line of progress of a test that starts now.
 fn progress_line<'a>(rt: &'a HostRuntime, task: &Task<'_>) -> ProgressLine<'a> {
-    let is_asked_not_to = reporting(task).0 || is_set(rt, "NO_PROGRESS");
+    let is_json = matches!(task.fault_format(false), FaultFormat::Json);
+    let is_asked_not_to = is_json || is_set(rt, "NO_PROGRESS");
     let is_wanted = !is_asked_not_to && rt.stderr().is_terminal();
     let start = if is_wanted {
         Instant::now(rt).ok()

@@ -5,7 +5,7 @@ ghost use Rattle.bp_commands.specs.Jobs.{held};
 ghost use Rattle.btrun.specs.Statuses.{refusal_text, IsEndWithout, IsLackOfMemory, IsPrintedEnd, IsUnread};
 
 use crate::refusals::put_refusal;
-use bp_arguments::{NoTask, Refusal, not_text};
+use bp_arguments::{NoTask, Refusal, not_utf8};
 use bp_commands::{Explained, RunEnd, end};
 use bp_messages::Fault;
 use bp_text::{WriteFault, put};
@@ -21,7 +21,7 @@ pub fn unread(alloc: Global, error: &io::Error) -> NoTask
 {
     match error.kind() {
         io::ErrorKind::OutOfMemory => NoTask::Memory,
-        _ => not_text(alloc),
+        _ => not_utf8(alloc),
     }
 }
 

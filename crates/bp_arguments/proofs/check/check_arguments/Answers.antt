@@ -8,5 +8,5 @@ pub returns : goal.returns
 returns c = record {
   program = value_read _ _ (c.get_str.ensures ∙ first_value-rows (found_of c.args.arguments.now) (codes "FILE")) c.unwrap_or.result _ c.unwrap_or.ensures refl;
   json = c.is_given.ensures;
-  explain = c.explain_arguments.ensures;
+  explain = c.explaining.ensures;
 }

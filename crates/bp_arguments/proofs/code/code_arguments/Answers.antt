@@ -7,7 +7,6 @@ use Rattle.bp_arguments.proofs.code.code_arguments.Goals as goal
 pub returns : goal.returns
 returns c = record {
   program = value_read _ _ (c.get_str.ensures ∙ first_value-rows (found_of c.args.arguments.now) (codes "FILE")) c.unwrap_or.result _ c.unwrap_or.ensures refl;
-  source = c.is_given.ensures;
-  json = c.is_given-2.ensures;
-  explain = c.explain_arguments.ensures;
+  form = c.listing_form.ensures;
+  explain = c.explaining.ensures;
 }

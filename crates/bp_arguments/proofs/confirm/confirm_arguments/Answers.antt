@@ -13,9 +13,9 @@ returns c = record {
   entries = c.in_ok-entries.ensures;
   init = c.in_ok-init.ensures;
   named = c.in_ok-named.ensures;
-  bound = c.given_number.ensures;
+  bound = c.context_bound.ensures;
   contexts = c.number.ensures;
   calls = c.number-2.ensures;
   json = c.is_given.ensures;
-  explain = c.explain_arguments.ensures;
+  explain = c.explaining.ensures;
 }

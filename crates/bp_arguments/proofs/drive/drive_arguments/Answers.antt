@@ -15,5 +15,5 @@ returns c = record {
   named = c.in_ok-named.ensures;
   contexts = c.number.ensures;
   calls = c.number-2.ensures;
-  explain = c.explain_arguments.ensures;
+  explain = c.explaining.ensures;
 }

@@ -16,5 +16,5 @@ returns c = record {
   seed = c.long_number.ensures;
   ring = c.number-4.ensures;
   spread = c.is_given.ensures;
-  explain = c.explain_arguments.ensures;
+  explain = c.explaining.ensures;
 }

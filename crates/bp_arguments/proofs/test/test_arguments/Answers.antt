@@ -33,5 +33,5 @@ returns c =
       deadlock = c.is_given.ensures;
       unreached = c.is_given-2.ensures;
       json = c.is_given-3.ensures;
-      explain = c.explain_arguments.ensures;
+      explain = c.explaining.ensures;
     }

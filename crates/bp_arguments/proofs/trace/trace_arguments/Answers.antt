@@ -10,5 +10,5 @@ returns c = record {
   trace =
       value_read _ _ (c.get_str-2.ensures ∙ first_value-rows (found_of c.args.arguments.now) (codes "TRACE"))
       c.unwrap_or-2.result _ c.unwrap_or-2.ensures refl;
-  explain = c.explain_arguments.ensures;
+  explain = c.explaining.ensures;
 }

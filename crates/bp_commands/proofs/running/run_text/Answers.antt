@@ -1,6 +1,6 @@
 use Rattle.std.proofs.Common.{ap, subst}
 use Rattle.std.proofs.lemmas.Result.{err_from_is_err_and}
-use Rattle.bp_run.specs.Options.{options_of}
+use Rattle.bp_tasks.specs.RunOptions.{options_of}
 use Rattle.bp_commands.specs.Commands.{AnswersOf}
 use Rattle.bp_commands.specs.NamedStarts.{AreNamesRefused}
 use Rattle.bp_commands.specs.Runs.{runs, runs_by_names}

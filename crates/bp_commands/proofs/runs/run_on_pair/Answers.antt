@@ -3,7 +3,7 @@ use Rattle.std.specs.Io.Buffered.{writer_contents}
 use Rattle.bp_commands.specs.Explanations.{ExplainsPair, AreReadOr}
 use Rattle.bp_commands.specs.Files.{rest_of, pair_of_files}
 use Rattle.bp_commands.specs.Given.{Pair}
-use Rattle.bp_commands.specs.Tellings.{IsFileOfPair, IsObjectIn}
+use Rattle.bp_commands.specs.FaultReports.{IsFileOfPair, IsObjectIn}
 use Rattle.bp_commands.proofs.ConcludedReads.{concluded_read}
 use Rattle.bp_commands.proofs.runs.run_on_pair.Goals as goal
 
@@ -18,7 +18,7 @@ returns g c =
       rest_of (g.F.Files.bytes input.files.now input.path.now) g.F.Input.Read.remaining input.file,
     ) in
     let given : Pair = record { text = c.do_on_pair-done.new.program.bytes.items; input = c.do_on_pair-done.new.input.bytes.items } in
-    let kind = g.C.PairCommand.beside c.args.command.now in
+    let kind = g.C.PairCommand.second_input c.args.command.now in
     let inputs = pair_of_files (g.C.PairCommand.limit c.args.command.now) (g.F.Files.bytes c.args.io.files.now path)
     (g.F.Files.bytes c.args.io.files.now input_path) left in
     let holds : AreReadOr inputs given c.do_on_pair-done.result = rw (← c.source-program.ensures, ← c.source-input.ensures) c.do_on_pair-done.ensures.holds in
@@ -32,6 +32,6 @@ returns g c =
       concluded =
           concluded_read inputs given
           (λ (x : Pair). IsObjectIn (IsFileOfPair kind path input_path) x (ExplainsPair kind path input_path x)) (ExplainsPair kind path input_path)
-          g.C.Answer.Ended.ending c.args.io.format _ _ _ _ _ _ _
-          holds c.flushed-done.ensures (rw (c.beside.ensures, c.deref.ensures.value, c.deref-2.ensures.value) at c.conclude-end.ensures);
+          g.C.Answer.CommandAnswer.rule c.args.io.format _ _ _ _ _ _ _
+          holds c.flushed-done.ensures (rw (c.second_input.ensures, c.deref.ensures.value, c.deref-2.ensures.value) at c.conclude-end.ensures);
     }

@@ -2,7 +2,7 @@ use Rattle.std.specs.Io.Buffered.{writer_contents}
 use Rattle.bp_commands.specs.Explanations.{ExplainsText, AreReadOr}
 use Rattle.bp_commands.specs.Files.{rest_of}
 use Rattle.bp_commands.specs.Given.{text_alone, text_alone_of}
-use Rattle.bp_commands.specs.Tellings.{IsFileOfText, IsObjectIn}
+use Rattle.bp_commands.specs.FaultReports.{IsFileOfText, IsObjectIn}
 use Rattle.bp_commands.proofs.ConcludedReads.{concluded_read}
 use Rattle.bp_commands.proofs.runs.run_on_program.Goals as goal
 
@@ -23,6 +23,6 @@ returns g c =
       flushed = c.flushed-done.ensures;
       concluded =
           concluded_read inputs text (λ t. IsObjectIn (IsFileOfText path) (text_alone_of t) (ExplainsText path t)) (ExplainsText path)
-          g.C.Answer.Ended.ending c.args.io.format _ _ _ _ _ _ _
+          g.C.Answer.CommandAnswer.rule c.args.io.format _ _ _ _ _ _ _
           holds c.flushed-done.ensures (rw c.deref.ensures.value at c.conclude-end.ensures);
     }

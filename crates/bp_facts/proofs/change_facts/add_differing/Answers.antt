@@ -6,11 +6,11 @@ use Rattle.bp_code.specs.Bits.{bits_of}
 use Rattle.bp_code.specs.Steps.{Bits}
 use Rattle.bp_code.specs.StandsFor.{valuation_of}
 use Rattle.bp_code.specs.Values.{Valuation}
+use Rattle.bp_text.proofs.GrownLists.{both_added}
 use Rattle.bp_facts.specs.ChangeFacts.{entry_of, owned, slot_entry}
 use Rattle.bp_facts.specs.Changes.{changed}
 use Rattle.bp_facts.proofs.ChangedEntries.{changes_more, differing}
 use Rattle.bp_facts.proofs.ChangedVariables.{none_changed}
-use Rattle.bp_facts.proofs.GrownLists.{both_added}
 use Rattle.bp_facts.proofs.change_facts.add_differing.Goals as goal
 
 pub loop-n-preserved : goal.loop-n-preserved

@@ -3,8 +3,8 @@ use Rattle.std.specs.Prelude.{option_map}
 use Rattle.std.proofs.lemmas.List.{map-append}
 use Rattle.bp_code.specs.Bits.{bits_of}
 use Rattle.bp_code.specs.StandsFor.{valuation_of}
+use Rattle.bp_text.proofs.GrownLists.{both_added}
 use Rattle.bp_facts.specs.ChangeFacts.{entry_of, owned, Entry}
-use Rattle.bp_facts.proofs.GrownLists.{both_added}
 use Rattle.bp_facts.proofs.OwnedEntries.{values_more}
 use Rattle.bp_facts.proofs.change_facts.add_values.Goals as goal
 

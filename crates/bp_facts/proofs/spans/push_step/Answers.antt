@@ -1,8 +1,8 @@
 use Rattle.std.proofs.Common.{if◌then◌else◌, ◌≡◌, ◌∙◌, ◌++◌, ◌∷◌, [], ◌==◌, false, true, ap, refl, sym, arith}
 use Rattle.std.specs.Option.{option_to_list}
 use Rattle.std.proofs.lemmas.Bool.Decides.{nat_tests}
+use Rattle.bp_text.proofs.GrownLists.{both_added}
 use Rattle.bp_facts.specs.Spans.{joined, with_step}
-use Rattle.bp_facts.proofs.GrownLists.{both_added}
 use Rattle.bp_facts.proofs.SpansOfHistories.{with_step_after}
 use Rattle.bp_facts.proofs.spans.push_step.Goals as goal
 

@@ -2,9 +2,9 @@ use Rattle.std.proofs.Common.{◌≡◌, ◌<◌, ◌≤◌, ◌++◌, ◌∷◌
 use Rattle.std.proofs.lemmas.List.{map-append, take_all}
 use Rattle.bp_machine.specs.Answers.{stack_of}
 use Rattle.bp_machine.specs.Histories.{configuration_after}
+use Rattle.bp_text.proofs.ItemsOfLists.{item_at}
 use Rattle.bp_facts.specs.StateFacts.{frame_in, AreStackFacts}
 use Rattle.bp_facts.proofs.FilledFacts.{one_frame_more}
-use Rattle.bp_facts.proofs.ItemsOfLists.{item_at}
 use Rattle.bp_facts.proofs.state_facts.frames_of.Goals as goal
 
 -- each frame within the depth is there

@@ -1,6 +1,6 @@
-use Rattle.std.proofs.Common.{◌≡◌, ◌∙◌, ◌&&◌, ◌++◌, Bool, false, bytes_eq, codes, drop, length, ap, sym, append_assoc}
+use Rattle.std.proofs.Common.{◌≡◌, ◌∙◌, ◌&&◌, ◌++◌, Bool, false, bytes_eq, codes, drop, length, ap, sym}
 use Rattle.bp_facts.specs.Watches.{qualified}
-use Rattle.bp_facts.proofs.QualifiedNames.{both_parts}
+use Rattle.bp_facts.proofs.QualifiedNames.{qualified_parts}
 use Rattle.bp_facts.proofs.watches.is_qualified.Goals as goal
 
 pub returns-then-eq : goal.returns-then-eq
@@ -12,8 +12,7 @@ returns-then-eq c =
     c.is_after_dot.ensures
     ∙ ap (λ t. bytes_eq t (codes "." ++ name)) c.part_from.ensures
     ∙ ap (λ (b : Bool). b && bytes_eq (drop (length own) text) (codes "." ++ name)) first
-    ∙ both_parts text own (codes "." ++ name)
-    ∙ ap (bytes_eq text) (sym (append_assoc own (codes ".") name))
+    ∙ qualified_parts text own name
 
 pub returns-else-eq : goal.returns-else-eq
 returns-else-eq c =
@@ -22,8 +21,7 @@ returns-else-eq c =
     let name = c.args.name.now in
     let first = sym (ap (λ t. bytes_eq t own) c.part_before.ensures) ∙ sym c.eq.ensures ∙ c.if-eq.false in
     let whole : bytes_eq text (qualified own name) ≡ false =
-    ap (bytes_eq text) (append_assoc own (codes ".") name)
-    ∙ sym (both_parts text own (codes "." ++ name))
+    sym (qualified_parts text own name)
     ∙ ap (λ (b : Bool). b && bytes_eq (drop (length own) text) (codes "." ++ name)) first
     in
     c.if-eq.false ∙ sym whole

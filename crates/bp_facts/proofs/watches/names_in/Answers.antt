@@ -1,8 +1,8 @@
 use Rattle.std.proofs.Common.{◌≡◌, ◌∙◌, ◌+◌, ◌<◌, ◌≤◌, ◌++◌, ◌∷◌, [], false, length, map, take, drop, ap, refl, sym, arith}
 use Rattle.std.proofs.lemmas.List.{map-append}
+use Rattle.bp_text.proofs.GrownLists.{both_added}
 use Rattle.bp_source.specs.Lists.{piece_size, pieces}
 use Rattle.bp_facts.specs.Watches.{trimmed}
-use Rattle.bp_facts.proofs.GrownLists.{both_added}
 use Rattle.bp_facts.proofs.watches.names_in.Goals as goal
 use Rattle.bp_source.proofs.FirstPieces.{first_piece, one_piece}
 

@@ -12,5 +12,7 @@ loop-rest-preserved c =
     let items = c.loop-rest.items.items in
     let values = values_of items in
     let value = λ (it : NamedBit). named_bit it.name.now it.bit in
-    let added = ap values_of c.in_ok-push.ensures.items ∙ map-append value items (c.named_bit_in.result ∷ []) ∙ ap (λ x. values ++ x ∷ []) c.named_bit_in.ensures in
+    let added =
+    ap values_of c.in_ok-push.ensures.items ∙ map-append value items (c.named_bit_in.result ∷ [])
+    ∙ ap (λ x. values ++ x ∷ []) c.named_bit_in.ensures in
     c.loop-rest.invariant ∙ ap (λ o. values ++ map named_bit_in (pieces_left o)) c.in-Some.is ∙ taken _ _ _ c.first_piece.ensures.pieces values _ added

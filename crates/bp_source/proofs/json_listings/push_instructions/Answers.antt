@@ -1,5 +1,6 @@
-use Rattle.std.proofs.Common.{◌≡◌, ◌∙◌, ◌++◌, ◌≤◌, Some, suc, length, drop, slice_get, ap, sym, add-one, append_assoc, arith}
+use Rattle.std.proofs.Common.{◌≡◌, ◌∙◌, ◌++◌, ◌≤◌, Some, suc, length, drop, slice_get, ap, sym, add-one, arith}
 use Rattle.std.specs.Option.{option_copied}
+use Rattle.bp_text.proofs.GrownLists.{rest_left}
 use Rattle.bp_source.specs.JsonListings.{instruction_object, instruction_objects}
 use Rattle.bp_source.proofs.CodeObjects.{next_object, without_instruction, without_scene}
 use Rattle.bp_source.proofs.json_listings.push_instructions.Goals as goal
@@ -19,14 +20,13 @@ loop-number-preserved c =
     let i = c.in-Some.instr.now in
     let scene = c.index-scenes-number.result in
     let old = c.loop-number.out.items in
+    let new = c.push_instruction.new.out.items in
     let object = instruction_object ps n i scene in
     let left = instruction_objects ps (suc n) (drop (suc n) is) (drop (suc n) scenes) in
     let at : slice_get is n ≡ Some i = sym c.get.ensures ∙ ap option_copied c.in-Some.is in
-    ap (λ k. c.push_instruction.new.out.items ++ instruction_objects ps k (drop k is) (drop k scenes)) (add-one n)
-    ∙ ap (λ x. x ++ left) c.in_ok-push_instruction.ensures
-    ∙ append_assoc old object left
-    ∙ ap (λ x. old ++ x) (sym (next_object ps n n is scenes i scene at c.loop-number-test.true c.index-scenes-number.is))
-    ∙ c.loop-number.invariant
+    let next = next_object ps n n is scenes i scene at c.loop-number-test.true c.index-scenes-number.is in
+    ap (λ k. new ++ instruction_objects ps k (drop k is) (drop k scenes)) (add-one n)
+    ∙ rest_left old new object left _ c.in_ok-push_instruction.ensures (ap (λ x. old ++ x) (sym next) ∙ c.loop-number.invariant)
 
 pub returns : goal.returns
 returns c =

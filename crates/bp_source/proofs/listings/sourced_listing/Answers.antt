@@ -1,6 +1,7 @@
-use Rattle.std.proofs.Common.{◌≡◌, ◌∙◌, ◌++◌, ◌==◌, ◌<◌, ℕ, List, [], ◌∷◌, length, ap, sym, subst, append_assoc, append-nil, arith}
+use Rattle.std.proofs.Common.{◌≡◌, ◌∙◌, ◌++◌, ◌==◌, ◌<◌, ℕ, List, [], ◌∷◌, length, ap, sym, refl, subst, append-nil, arith}
 use Rattle.std.specs.List.{after_first}
 use Rattle.bp_text.specs.Excerpts.{first_line}
+use Rattle.bp_text.proofs.GrownLists.{rest_left}
 use Rattle.bp_source.specs.declared.scenes.Scene.{Scene}
 use Rattle.bp_source.specs.Listings.{line_with, scenes_after, IsSourced, nothing, line}
 use Rattle.bp_source.proofs.listings.sourced_listing.Goals as goal
@@ -27,7 +28,7 @@ loop-line-preserved c = λ written sourced.
     let from_line = one_line rest c.take_line.new.text.now words written left c.push_listed.new.scenes.now some
     c.in-Some.ensures.line c.take_line.ensures.rest c.in_ok-push_listed.ensures.left sourced in
     subst (IsSourced c.args.listing.now c.as_slice-left.result.now)
-    (sym (append_assoc c.loop-line.out.items (line_with words left) written) ∙ ap (λ x. x ++ written) (sym c.in_ok-push_listed.ensures.line))
+    (sym (rest_left c.loop-line.out.items _ (line_with words left) written _ c.in_ok-push_listed.ensures.line refl))
     (c.loop-line.invariant (line_with words left ++ written) from_line)
 
 pub returns : goal.returns

@@ -18,4 +18,5 @@ returns-in_err-put_escaped g c =
 pub returns : goal.returns
 returns g c =
     let escaped = flat_map string_byte c.args.text.now in
-    writes_then _ _ _ (codes "\"") (escaped ++ codes "\"") _ c.in_ok-put.ensures (writes_then _ _ _ escaped (codes "\"") _ c.in_ok-put_escaped.ensures c.put-2.ensures)
+    writes_then _ _ _ (codes "\"") (escaped ++ codes "\"") _ c.in_ok-put.ensures
+    (writes_then _ _ _ escaped (codes "\"") _ c.in_ok-put_escaped.ensures c.put-2.ensures)

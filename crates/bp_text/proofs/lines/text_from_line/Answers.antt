@@ -21,7 +21,8 @@ module _ (text rest : List ℕ) (taken : ℕ) (lines : (k : ℕ) → line rest k
       let at : suc k + (taken - 1) ≡ k + (taken + 1 - 1) = omega (arith, some) in
       ap (λ (xs : List ℕ). line xs k) is ∙ next_of_lines (λ b. b == 10) rest k ∙ lines (suc k) ∙ ap (line text) at
 
-  none_left : (new : List ℕ) → new ≡ after_first (λ b. b == 10) rest → length rest ≡ 0 → (number : ℕ) → 1 ≤ taken → taken ≤ number → first_line new ≡ line_at text number
+  none_left : (new : List ℕ) → new ≡ after_first (λ b. b == 10) rest → length rest ≡ 0 → (number : ℕ) → 1 ≤ taken
+      → taken ≤ number → first_line new ≡ line_at text number
   none_left new is empty number some more =
       let none : rest ≡ [] = nil_from_length rest empty in
       let at : (number - taken) + (taken - 1) ≡ number - 1 = omega (arith, some, more) in
@@ -37,14 +38,19 @@ module _ (text rest : List ℕ) (taken : ℕ) (lines : (k : ℕ) → line rest k
 
 pub returns-then-is_none : goal.returns-then-is_none
 returns-then-is_none c =
-    none_left c.args.text.now c.loop-taken.rest.now c.loop-taken._taken c.loop-taken.invariant.lines c.take_line.new.text.now c.take_line.ensures.rest (search rules) c.args.number c.loop-taken.auto._taken (omega arith)
+    none_left c.args.text.now c.loop-taken.rest.now c.loop-taken._taken c.loop-taken.invariant.lines
+    c.take_line.new.text.now c.take_line.ensures.rest (search rules) c.args.number c.loop-taken.auto._taken
+    (omega arith)
 
 pub loop-taken-preserved : goal.loop-taken-preserved
 loop-taken-preserved c = record {
   few = omega arith;
-  lines = one_more c.args.text.now c.loop-taken.rest.now c.loop-taken._taken c.loop-taken.invariant.lines c.take_line.new.text.now c.take_line.ensures.rest c.loop-taken.auto._taken;
+  lines =
+      one_more c.args.text.now c.loop-taken.rest.now c.loop-taken._taken c.loop-taken.invariant.lines
+      c.take_line.new.text.now c.take_line.ensures.rest c.loop-taken.auto._taken;
 }
 
 pub returns : goal.returns
 returns c =
-    first_is c.args.text.now c.loop-taken.rest.now c.loop-taken._taken c.loop-taken.invariant.lines c.args.number (omega (arith, c.loop-taken-test.false, c.loop-taken.invariant.few))
+    first_is c.args.text.now c.loop-taken.rest.now c.loop-taken._taken c.loop-taken.invariant.lines c.args.number
+    (omega (arith, c.loop-taken-test.false, c.loop-taken.invariant.few))

@@ -1,18 +1,18 @@
 use Rattle.std.proofs.Common.{◌∙◌, ◌-◌, ap, take, drop, arith}
-use Rattle.bp_text.specs.Positions.{position_behind}
+use Rattle.bp_text.specs.Positions.{position_after}
 use Rattle.bp_text.proofs.PositionsOfParts.{take_parts, taken_within, line_within, column_within}
 use Rattle.bp_text.proofs.positions.position_from.Goals as goal
 
-pub behind_all-requires-clause-line : goal.behind_all-requires-clause-line
-behind_all-requires-clause-line c =
+pub after_all-requires-clause-line : goal.after_all-requires-clause-line
+after_all-requires-clause-line c =
     let is = ap (λ p. p.line) c.requires in
     let before = line_within (take c.args.from c.args.text.now) in
     let front = taken_within c.args.from c.args.text.now in
     let more = taken_within (c.args.at - c.args.from) (drop c.args.from c.args.text.now) in
     omega (arith, is, before, front, more, c)
 
-pub behind_all-requires-clause-column : goal.behind_all-requires-clause-column
-behind_all-requires-clause-column c =
+pub after_all-requires-clause-column : goal.after_all-requires-clause-column
+after_all-requires-clause-column c =
     let is = ap (λ p. p.column) c.requires in
     let before = column_within (take c.args.from c.args.text.now) in
     let front = taken_within c.args.from c.args.text.now in
@@ -21,5 +21,5 @@ behind_all-requires-clause-column c =
 
 pub returns-then-at-size : goal.returns-then-at-size
 returns-then-at-size c =
-    c.behind_all.ensures (take c.args.from c.args.text.now) c.requires
-    ∙ ap position_behind (take_parts c.args.from (c.args.at - c.args.from) c.args.text.now ∙ ap (λ n. take n c.args.text.now) (omega (arith, c.if-from-at.true)))
+    c.after_all.ensures (take c.args.from c.args.text.now) c.requires
+    ∙ ap position_after (take_parts c.args.from (c.args.at - c.args.from) c.args.text.now ∙ ap (λ n. take n c.args.text.now) (omega (arith, c.if-from-at.true)))

@@ -15,6 +15,6 @@ returns-in-None c =
 
 pub loop-piece-preserved : goal.loop-piece-preserved
 loop-piece-preserved c =
-    let some = strip_prefix_is Decides-eqb c.loop-piece.rest.now _ (Some c.in-Some.behind) c.in-Some.ensures.cases in
+    let some = strip_prefix_is Decides-eqb c.loop-piece.rest.now _ (Some c.in-Some.after) c.in-Some.ensures.cases in
     one_more (λ p. p.now) c.args.pieces.now c.loop-piece.piece-index _ c.loop-piece-test.true c.args.text.now
-    c.loop-piece.rest.now c.loop-piece.invariant c.in-Some.behind.now some
+    c.loop-piece.rest.now c.loop-piece.invariant c.in-Some.after.now some

@@ -20,7 +20,7 @@ returns-in_default-2 c =
     let entries = at_settings text c.in-Some.first.now settings v es c.in-Some.ensures c.in_ok-entries.ensures.entries in
     let none = rw c.in_default-2.is at c.in_ok-init.ensures in
     let many = length-map c.in_ok-entries.entries.items (λ n. n.now) in
-    stops_at_init text v es settings (c.len.result + 2) entries c.in_ok-entries.ensures.behind none (omega (arith, many, c.len.ensures))
+    stops_at_init text v es settings (c.len.result + 2) entries c.in_ok-entries.ensures.after none (omega (arith, many, c.len.ensures))
 
 pub returns-in_default-number_at : goal.returns-in_default-number_at
 returns-in_default-number_at c =

@@ -6,7 +6,7 @@ use Rattle.bp_text.specs.Writing.{AppendsPart}
 use Rattle.bp_text.proofs.AppendsPieces.{AppendsPart_within}
 use Rattle.bp_machine.specs.declared.calls.Call.{Call}
 use Rattle.bp_machine.specs.declared.calls.Reply.TheVariants.{Stopped}
-use Rattle.bp_trace.specs.SymbolTexts.{symbol_behind, symbols_behind, last_of}
+use Rattle.bp_trace.specs.SymbolTexts.{symbol_after, symbols_after, last_of}
 use Rattle.bp_trace.proofs.PieceTexts.{symbols_at, symbols_more, last_more}
 use Rattle.bp_trace.proofs.pieces.write_symbols.Goals as goal
 
@@ -22,8 +22,8 @@ returns-in_err-write_symbol g c =
     let part = rw c.loop-call.invariant.last at c.in_err-write_symbol.ensures in
     rw p.1 (subst (AppendsPart (g.W.Write.contents c.args.out.now) (g.W.Write.contents c.write_symbol.new.out))
     (sym (symbols_at h i none c.loop-call-test.true))
-    (AppendsPart_within _ _ _ (symbols_behind None (take i h)) (symbol_behind (last_of None (take i h)) x)
-    (symbols_behind (Some x.thread) (drop (i + 1) h)) c.loop-call.invariant.written part))
+    (AppendsPart_within _ _ _ (symbols_after None (take i h)) (symbol_after (last_of None (take i h)) x)
+    (symbols_after (Some x.thread) (drop (i + 1) h)) c.loop-call.invariant.written part))
 
 pub loop-call-preserved : goal.loop-call-preserved
 loop-call-preserved g c =
@@ -35,6 +35,6 @@ loop-call-preserved g c =
       written =
           subst (Appends (g.W.Write.contents c.args.out.now) (g.W.Write.contents c.write_symbol.new.out))
           (sym (symbols_more h i none c.loop-call-test.true))
-          (Appends-trans _ _ _ (symbols_behind None (take i h))
-          (symbol_behind (last_of None (take i h)) (get_or h i none)) c.loop-call.invariant.written all.grown);
+          (Appends-trans _ _ _ (symbols_after None (take i h))
+          (symbol_after (last_of None (take i h)) (get_or h i none)) c.loop-call.invariant.written all.grown);
     }

@@ -1,5 +1,4 @@
-use Rattle.std.proofs.Common.{ap, length, subst, sym}
-use Rattle.std.proofs.lemmas.Result.{IfOk-weaker}
+use Rattle.std.proofs.Common.{◌≡◌, ◌∙◌, ◌++◌, ap, length, rules, subst, sym, vec_len}
 use Rattle.bp_trace.specs.Replays.{IsPlayable}
 use Rattle.bp_facts.specs.Spans.{AreSpans}
 use Rattle.bp_view.specs.ContextLines.{AreContextLines}
@@ -14,13 +13,19 @@ pub returns : goal.returns
 returns c = λ text are.
     let t = c.args.checked.now in
     let r = c.args.shown.now.replayed in
-    let x = c.setting-setting.result in
-    let setting = c.setting-setting.ensures in
+    let x = c.context-context.result in
+    let context = c.context-context.ensures in
     let h = r.history.items in
-    let known = setting.known text are in
+    let known = context.known text are in
     let spans = subst (λ g. AreSpans t r.setup g c.in-Ok.spans.items) c.as_slice-history.ensures.value (c.in-Ok.ensures t c.requires.code) in
     let spans_are = subst (AreSpans t r.setup h) (sym c.deref.ensures.value) spans in
-    IfOk-weaker c.contexts_text.result _ _ (λ v lines.
-    let own = all_contexts t text r.setup h x known setting.widths setting.columns (ap length setting.history) c.deref.result.now spans_are v.items lines in
-    subst (λ f. AreContextLines f t text r.setup h v.items) setting.format own)
-    (c.contexts_text.ensures t text r.setup h known spans_are)
+    let said = c.push_contexts.new.view.items in
+    let lines = c.in_ok-push_contexts.ensures t text r.setup h known spans_are in
+    let size : length c.in-Ok.spans.items ≡ vec_len c.in-Ok.spans = search rules in
+    let count = c.len.ensures ∙ sym size ∙ ap length (sym c.deref.ensures.value) in
+    let head = rw (c.new-view.ensures.items, count, sym context.format) at c.in_ok-push_contexts_head.ensures in
+    let is = lines.is ∙ ap (λ z. z ++ lines.more) head in
+    let own =
+    all_contexts t text r.setup h x known context.widths context.columns (ap length context.history) c.deref.result.now spans_are said
+    (record { more = lines.more; is = is; more_are = lines.more_are }) in
+    subst (λ f. AreContextLines f t text r.setup h said) context.format own

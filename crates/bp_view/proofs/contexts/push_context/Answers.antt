@@ -9,8 +9,8 @@ use Rattle.bp_view.proofs.contexts.push_context.Goals as goal
 
 pub returns : goal.returns
 returns c = λ t text s h set is.
-    let setting = c.args.setting.now in
-    let format = setting.options.format in
+    let context = c.args.context.now in
+    let format = context.options.format in
     let filled = c.in_ok-fill_changes_within.ensures t text s h c.args.number set.program is in
     let shown_changes = ap (λ (xs : List Change). map entry_of xs) c.deref-2.ensures.value ∙ filled in
     let facts = context_in c.facts_of_context-facts.result in
@@ -22,7 +22,7 @@ returns c = λ t text s h set is.
     ∙ ap (λ y. y ++ entries_text format (map entry_of c.deref.result.now)) c.clear.ensures.items
     ∙ ap (λ (xs : List Change). entries_text format (map entry_of xs)) same in
     on_ok_weaker c.push_context_in.result (λ added. record {
-      more = context_text format setting.widths facts;
+      more = context_text format context.widths facts;
       is = added;
       more_are = record { facts = facts; facts_are = facts_are; is = refl };
     })

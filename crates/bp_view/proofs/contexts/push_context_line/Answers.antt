@@ -1,11 +1,11 @@
 use Rattle.std.proofs.Common.{◌≡◌, ◌∙◌, ◌++◌, ◌-◌, [], ◌∷◌, ap, codes, decimal, length, arith}
 use Rattle.std.specs.List.{concat}
 use Rattle.bp_text.specs.Columns.{at_left, at_right, spaces}
+use Rattle.bp_text.proofs.PiecesInTurn.{pair_joined, two_joined}
 use Rattle.bp_facts.specs.ContextFacts.{context_in}
-use Rattle.bp_view.specs.declared.options.ViewFormat.TheVariants.{Columns}
+use Rattle.bp_tasks.specs.declared.view_options.ViewFormat.TheVariants.{Columns}
 use Rattle.bp_view.specs.Lines.{after_room}
 use Rattle.bp_view.specs.Variables.{entries_text}
-use Rattle.bp_view.proofs.JoinedTexts.{pair_joined, two_joined}
 use Rattle.bp_view.proofs.contexts.push_context_line.Goals as goal
 use Rattle.bp_source.proofs.JoinedPieces.{when_ok}
 

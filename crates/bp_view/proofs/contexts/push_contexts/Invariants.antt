@@ -2,13 +2,13 @@ use Rattle.std.proofs.Common.{List, ℕ, suc}
 use Rattle.bp_tree.specs.Ast.{Program}
 use Rattle.bp_machine.specs.declared.calls.Call.{Call}
 use Rattle.bp_machine.specs.Setups.{SetupOf}
+use Rattle.bp_text.specs.Parts.{Adds, IsInParts}
 use Rattle.bp_facts.specs.Spans.{AreSpans}
 use Rattle.bp_view.specs.ContextLines.{IsContextLine}
-use Rattle.bp_view.specs.Parts.{Adds, IsInParts}
-use Rattle.bp_view.specs.Settings.{IsSettingOf}
+use Rattle.bp_view.specs.ViewContexts.{IsViewContextOf}
 use Rattle.bp_view.proofs.contexts.push_contexts.Given as goal
 
 abbrev pub invariant-loop-n : goal.invariant-loop-n
 invariant-loop-n l =
-    (t : Program) (text : List ℕ) (s : SetupOf) (h : List Call) → IsSettingOf t text l.setting → AreSpans t s h l.spans
-    → Adds (IsInParts (λ k part. IsContextLine l.setting.options.format t text s h l.setting.widths (suc k) part) l.n) l.initial.view.items l.view.items
+    (t : Program) (text : List ℕ) (s : SetupOf) (h : List Call) → IsViewContextOf t text l.context → AreSpans t s h l.spans
+    → Adds (IsInParts (λ k part. IsContextLine l.context.options.format t text s h l.context.widths (suc k) part) l.n) l.initial.view.items l.view.items

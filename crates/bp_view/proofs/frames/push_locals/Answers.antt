@@ -5,9 +5,9 @@ use Rattle.bp_tree.specs.Ast.{Name}
 use Rattle.bp_code.specs.Bits.{bits_of}
 use Rattle.bp_code.specs.Steps.{Bits}
 use Rattle.bp_code.specs.StandsFor.{valuation_of}
+use Rattle.bp_text.proofs.GrownLists.{both_added}
 use Rattle.bp_facts.specs.ChangeFacts.{owned, Entry}
 use Rattle.bp_facts.proofs.ChangedVariables.{from_first}
-use Rattle.bp_facts.proofs.GrownLists.{both_added}
 use Rattle.bp_facts.proofs.OwnedEntries.{values_both}
 use Rattle.bp_view.specs.Variables.{entries_text, entry_text, variables_text}
 use Rattle.bp_view.proofs.frames.push_locals.Goals as goal

@@ -4,7 +4,7 @@ use Rattle.std.specs.List.{concat}
 use Rattle.bp_text.proofs.PiecesInTurn.{all_added}
 use Rattle.bp_text.specs.Pieces.{key_text, list_text}
 use Rattle.bp_facts.specs.CallFacts.{facts_in}
-use Rattle.bp_view.specs.declared.options.ViewFormat.TheVariants.{Json}
+use Rattle.bp_tasks.specs.declared.view_options.ViewFormat.TheVariants.{Json}
 use Rattle.bp_view.specs.JsonCalls.{member_texts, printed_text}
 use Rattle.bp_view.specs.Variables.{entries_text}
 use Rattle.bp_view.proofs.json_calls.push_object.Goals as goal

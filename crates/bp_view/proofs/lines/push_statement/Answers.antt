@@ -1,9 +1,8 @@
 use Rattle.std.proofs.Common.{◌∙◌, ◌++◌, ◌*◌, [], ◌∷◌, min}
 use Rattle.bp_text.specs.Columns.{spaces}
-use Rattle.bp_text.proofs.PiecesInTurn.{all_added}
-use Rattle.bp_view.specs.declared.settings.TheConstants.{MAX_INDENTS}
+use Rattle.bp_text.proofs.PiecesInTurn.{all_added, pair_added}
+use Rattle.bp_view.specs.declared.view_contexts.TheConstants.{MAX_INDENTS}
 use Rattle.bp_view.specs.StatementColumns.{shortened}
-use Rattle.bp_view.proofs.JoinedTexts.{pair_added}
 use Rattle.bp_view.proofs.lines.push_statement.Goals as goal
 use Rattle.bp_source.proofs.JoinedPieces.{when_ok}
 

@@ -1,7 +1,7 @@
 use Rattle.std.proofs.Common.{[], ◌∷◌}
 use Rattle.bp_text.proofs.PiecesInTurn.{all_added}
 use Rattle.bp_facts.specs.CallFacts.{choice_of, facts_in}
-use Rattle.bp_view.specs.declared.options.ViewFormat.TheVariants.{Columns}
+use Rattle.bp_tasks.specs.declared.view_options.ViewFormat.TheVariants.{Columns}
 use Rattle.bp_view.specs.Lines.{choice_text, reply_words, times_text}
 use Rattle.bp_view.specs.Variables.{entries_text}
 use Rattle.bp_view.proofs.lines.write_note.Goals as goal

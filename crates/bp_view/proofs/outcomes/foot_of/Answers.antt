@@ -1,8 +1,24 @@
+use Rattle.std.proofs.Common.{◌≡◌, ◌∙◌, Option, None, Some, Bor, ap, refl}
+use Rattle.std.specs.Option.{option_copied}
+use Rattle.std.specs.Prelude.{option_map}
 use Rattle.std.proofs.lemmas.Result.{IfOk-weaker}
-use Rattle.bp_facts.specs.FootFacts.{foot_in}
+use Rattle.bp_facts.specs.FootFacts.{condition_in, foot_in}
 use Rattle.bp_view.proofs.outcomes.foot_of.Goals as goal
+
+copied : {A B : Type 0} (f : A → B) (x : Option (Bor A)) → option_map (λ r. f r.now) x ≡ option_map f (option_copied x)
+copied f None = refl
+copied f (Some r) = refl
 
 pub returns : goal.returns
 returns c = λ t text h set code stands outcome.
-    let are = c.in_ok-facts.ensures t text h set.program code stands outcome in
-    IfOk-weaker c.foot_text.result _ _ (λ v is. record { facts = foot_in c.in_ok-facts.facts; facts_are = are; is = is }) c.foot_text.ensures
+    let foot = c.in_ok-foot.foot in
+    let are = c.in_ok-foot.ensures t text h set.program code stands outcome in
+    let failure = copied condition_in c.as_ref.result ∙ ap (option_map condition_in) c.as_ref.ensures.value in
+    let own = c.deref.ensures.value ∙ c.in_ok-outcome.ensures in
+    let waits = c.deref-2.ensures.value ∙ c.in_ok-waits.ensures in
+    IfOk-weaker c.foot_in_format.result _ _ (λ v is. record {
+      facts = foot_in foot;
+      facts_are = are;
+      is = rw (own, waits, failure, c.as_slice.ensures.value) at is;
+    })
+    c.foot_in_format.ensures

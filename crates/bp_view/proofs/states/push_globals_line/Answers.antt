@@ -4,10 +4,10 @@ use Rattle.bp_tree.specs.Ast.{Name}
 use Rattle.bp_code.specs.Bits.{bits_of}
 use Rattle.bp_code.specs.Steps.{Bits}
 use Rattle.bp_code.specs.StandsFor.{valuation_of}
+use Rattle.bp_text.proofs.GrownLists.{both_added}
 use Rattle.bp_facts.proofs.ChangedVariables.{from_first}
-use Rattle.bp_facts.proofs.GrownLists.{both_added}
-use Rattle.bp_view.specs.declared.options.ViewFormat.TheVariants.{Columns}
-use Rattle.bp_view.specs.Heads.{globals_line}
+use Rattle.bp_tasks.specs.declared.view_options.ViewFormat.TheVariants.{Columns}
+use Rattle.bp_view.specs.SetupLines.{globals_line}
 use Rattle.bp_view.specs.Variables.{variables_text}
 use Rattle.bp_view.proofs.states.push_globals_line.Goals as goal
 

@@ -3,7 +3,7 @@ use Rattle.std.specs.List.{concat}
 use Rattle.bp_code.specs.Bits.{bits_of}
 use Rattle.bp_code.specs.StandsFor.{valuation_of}
 use Rattle.bp_text.proofs.PiecesInTurn.{all_added}
-use Rattle.bp_view.specs.Heads.{globals_line}
+use Rattle.bp_view.specs.SetupLines.{globals_line}
 use Rattle.bp_view.specs.States.{failed_line}
 use Rattle.bp_view.proofs.states.push_state_lines.Goals as goal
 use Rattle.bp_source.proofs.JoinedPieces.{when_ok}

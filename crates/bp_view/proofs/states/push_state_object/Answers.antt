@@ -5,7 +5,7 @@ use Rattle.bp_text.proofs.PiecesInTurn.{all_added}
 use Rattle.bp_text.specs.Pieces.{key_text, list_text}
 use Rattle.bp_facts.specs.StateFacts.{state_in}
 use Rattle.bp_facts.proofs.ChangedVariables.{from_first}
-use Rattle.bp_view.specs.declared.options.ViewFormat.TheVariants.{Json}
+use Rattle.bp_tasks.specs.declared.view_options.ViewFormat.TheVariants.{Json}
 use Rattle.bp_view.specs.States.{state_members}
 use Rattle.bp_view.specs.Variables.{variables_text}
 use Rattle.bp_view.proofs.states.push_state_object.Goals as goal

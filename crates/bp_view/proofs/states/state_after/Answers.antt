@@ -13,9 +13,9 @@ session_after-requires-clause-playable c = λ t is.
 pub returns : goal.returns
 returns c = λ text are.
     let t = c.args.checked.now in
-    let setting = c.setting-setting.ensures in
+    let context = c.context-context.ensures in
     let code = subst (λ k. StandsFor k t) (sym c.in-Ok.ensures.kept.0) c.requires.code in
-    let made = c.state_of.ensures t text (setting.known text are) code (c.in-Ok.ensures.stands t c.requires.code) in
-    let count = c.count.ensures ∙ ap length setting.history in
+    let made = c.state_of.ensures t text (context.known text are) code (c.in-Ok.ensures.stands t c.requires.code) in
+    let count = ap length context.history in
     let calls = c.calls_to-calls.ensures ∙ ap (take c.args.number) c.as_slice.ensures.value in
-    rw (count, setting.format, c.in-Ok.ensures.kept.1, calls) at made
+    rw (count, context.format, c.in-Ok.ensures.kept.1, calls) at made

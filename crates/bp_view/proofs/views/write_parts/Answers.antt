@@ -1,92 +1,56 @@
-use Rattle.std.proofs.Common.{ap, refl, take}
+use Rattle.std.proofs.Common.{refl, arith}
 use Rattle.std.proofs.lemmas.Result.{err_from_is_err_and}
-use Rattle.bp_view.specs.declared.settings.Setting.{Setting}
-use Rattle.bp_view.proofs.BegunViews.{end_cut, end_written, head_cut, head_written, known_there, line_cut, line_written, lines_begun, made_all, playable_next}
+use Rattle.bp_text.proofs.WrittenParts.{end_cut, end_written, head_cut, head_written, part_cut, parts_begun}
+use Rattle.bp_view.proofs.BegunViews.{end_there, kind, line_there, line_written, playable_next}
 use Rattle.bp_view.proofs.views.write_parts.Goals as goal
 
 pub returns-in_err-put : goal.returns-in_err-put
 returns-in_err-put g c = λ t text can made same.
     let p = err_from_is_err_and c.from_residual.result c.from_residual.ensures.1 in
-    let w = c.args.writer.now in
-    rw (p.1, p.2) (head_cut t text w.session.setup w.setting w.session.code c.args.report can _ _ _ same c.in_err-put.ensures)
+    rw (p.1, p.2) (head_cut (kind can) (rw same at c.in_err-put.ensures))
 
 pub loop-recorded-init : goal.loop-recorded-init
 loop-recorded-init g c = λ t text can made same.
-    let w = c.args.writer.now in
-    head_written t text w.session.setup w.setting w _ _ _ made refl refl same c.in_ok-put.ensures
+    record { made = made; setup = refl; context = refl; few = omega arith; parts = head_written (rw same at c.in_ok-put.ensures) }
 
-pub returns-in-Err : goal.returns-in-Err
-returns-in-Err g c = λ t text can made same.
-    let w = c.args.writer.now in
-    let i = c.loop-recorded.recorded-index in
-    let now = c.loop-recorded.writer in
+pub returns-in_default : goal.returns-in_default
+returns-in_default g c = λ t text can made same.
     let has = c.loop-recorded.invariant t text can made same in
-    let playable = playable_next t text w.session.setup w.setting w.session.code c.args.report can i now _ _ has _ c.loop-recorded-test.true in
-    let fault = c.memory_of.ensures (c.in-Err.ensures.made t (take i w.setting.history.now) has.made playable) in
-    rw fault (lines_begun t text w.session.setup w.setting w.session.code c.args.report can i now _ _ has)
+    parts_begun (kind can) has.parts has.few
 
 pub returns-in_err-put-2 : goal.returns-in_err-put-2
 returns-in_err-put-2 g c = λ t text can made same.
     let p = err_from_is_err_and c.from_residual-in_err-put-2.result c.from_residual-in_err-put-2.ensures.1 in
-    let w = c.args.writer.now in
-    let i = c.loop-recorded.recorded-index in
-    let now = c.loop-recorded.writer in
     let has = c.loop-recorded.invariant t text can made same in
     let within = c.loop-recorded-test.true in
-    let playable = playable_next t text w.session.setup w.setting w.session.code c.args.report can i now _ _ has _ within in
-    let known = known_there t text w.session.setup w.setting w.session.code c.args.report can i now _ _ has in
-    let line = c.in_default.ensures.line t text (take i w.setting.history.now) has.made playable known in
-    let put = c.in_err-put-2.ensures in
-    rw (p.1, p.2)
-    (line_cut t text w.session.setup w.setting w.session.code c.args.report can i now _ _ has _ within _ _ c.deref.ensures.value line _ put)
+    let line = line_there can has _ within _ c.in-Ok.ensures.line in
+    rw (p.1, p.2) (part_cut (kind can) has.parts within line (rw c.deref.ensures.value at c.in_err-put-2.ensures))
 
 pub loop-recorded-preserved : goal.loop-recorded-preserved
 loop-recorded-preserved g c = λ t text can made same.
-    let w = c.args.writer.now in
-    let i = c.loop-recorded.recorded-index in
-    let now = c.loop-recorded.writer in
     let has = c.loop-recorded.invariant t text can made same in
     let within = c.loop-recorded-test.true in
-    let playable = playable_next t text w.session.setup w.setting w.session.code c.args.report can i now _ _ has _ within in
-    let known = known_there t text w.session.setup w.setting w.session.code c.args.report can i now _ _ has in
-    let h = take i w.setting.history.now in
-    let line = c.in_default.ensures.line t text h has.made playable known in
-    let after = c.in_default.ensures.made t h has.made playable in
-    let kept = c.in_default.ensures.kept in
-    let same = c.deref.ensures.value in
-    let made_by = c.make_line.new.self in
-    let put = c.in_ok-put-2.ensures in
-    line_written t text w.session.setup w.setting w.session.code c.args.report can i now _ _ has _ within _ _ same line made_by _ after kept.0 kept.1 put
+    let line = line_there can has _ within _ c.in-Ok.ensures.line in
+    let after = c.in-Ok.ensures.made t _ has.made (playable_next can has _ within) in
+    line_written can has _ within line after c.in-Ok.ensures.kept (rw c.deref.ensures.value at c.in_ok-put-2.ensures)
 
 pub returns-in_err-end : goal.returns-in_err-end
 returns-in_err-end g c = λ t text can made same.
     let p = err_from_is_err_and c.from_residual-in_err-end.result c.from_residual-in_err-end.ensures.1 in
-    let w = c.args.writer.now in
     let has = c.loop-recorded.invariant t text can made same in
-    rw (p.1, p.2) (lines_begun t text w.session.setup w.setting w.session.code c.args.report can c.loop-recorded.recorded-index c.loop-recorded.writer _ _ has)
+    rw (p.1, p.2) (parts_begun (kind can) has.parts has.few)
 
 pub returns-in_err-put-3 : goal.returns-in_err-put-3
 returns-in_err-put-3 g c = λ t text can made same.
     let p = err_from_is_err_and c.from_residual-in_err-put-3.result c.from_residual-in_err-put-3.ensures.1 in
-    let w = c.args.writer.now in
-    let i = c.loop-recorded.recorded-index in
-    let now = c.loop-recorded.writer in
     let has = c.loop-recorded.invariant t text can made same in
     let past = c.loop-recorded-test.false in
-    let known = known_there t text w.session.setup w.setting w.session.code c.args.report can i now _ _ has in
-    let done = made_all t text w.session.setup w.setting w.session.code c.args.report can i now _ _ has past in
-    let end = c.in_ok-end.ensures t text w.setting.history.now known done.code done.stands (ap (λ (y : Setting). y.history.now) has.setting) can.outcome in
-    rw (p.1, p.2)
-    (end_cut t text w.session.setup w.setting w.session.code c.args.report can i now _ _ has past _ _ c.deref-2.ensures.value end _ c.in_err-put-3.ensures)
+    let end = end_there can has past c.in_ok-end.ensures in
+    rw (p.1, p.2) (end_cut (kind can) has.parts (omega (arith, past, has.few)) end (rw c.deref-2.ensures.value at c.in_err-put-3.ensures))
 
 pub returns : goal.returns
 returns g c = λ t text can made same.
-    let w = c.args.writer.now in
-    let i = c.loop-recorded.recorded-index in
-    let now = c.loop-recorded.writer in
     let has = c.loop-recorded.invariant t text can made same in
     let past = c.loop-recorded-test.false in
-    let known = known_there t text w.session.setup w.setting w.session.code c.args.report can i now _ _ has in
-    let done = made_all t text w.session.setup w.setting w.session.code c.args.report can i now _ _ has past in
-    let end = c.in_ok-end.ensures t text w.setting.history.now known done.code done.stands (ap (λ (y : Setting). y.history.now) has.setting) can.outcome in
-    end_written t text w.session.setup w.setting w.session.code c.args.report can i now _ _ has past _ _ c.deref-2.ensures.value end _ c.in_ok-put-3.ensures
+    let end = end_there can has past c.in_ok-end.ensures in
+    end_written (kind can) has.parts (omega (arith, past, has.few)) end (rw c.deref-2.ensures.value at c.in_ok-put-3.ensures)

@@ -30,7 +30,7 @@ pub returns-clause-line : goal.returns-clause-line
 returns-clause-line c = λ t text h has playable known.
     let s = c.args.self.now.session.setup in
     let x = c.args.recorded.now in
-    let setting = c.args.self.now.setting in
+    let context = c.args.self.now.context in
     let y = c.in_ok-moment.moment.call in
     let answer = c.in_ok-moment.ensures.answer t h has.code has.stands in
     let own = own_is t s h x [] playable y answer in
@@ -41,13 +41,13 @@ returns-clause-line c = λ t text h has playable known.
     let next = c.in_ok-next.ensures t h has.code has.stands in
     let values = option_map (λ v. v.items) c.in_ok-next.next in
     let thread = answer.thread in
-    let own_next = next ∙ ap (next_print_in setting.options.format now) (sym thread) in
+    let own_next = next ∙ ap (next_print_in context.options.format now) (sym thread) in
     let is = c.printed_by-printed.ensures ∙ ap (λ o. if is_granted y.reply then o else None) c.as_deref.ensures.value in
-    let printed = printed_of setting.options.format now y _ values own_next is in
+    let printed = printed_of context.options.format now y _ values own_next is in
     let shown = c.in_ok-push_shown.ensures t text s h y known moment printed in
     let line = shown.is ∙ ap (λ old. old ++ shown.more) c.clear.ensures.items in
-    subst (λ l. IsShownLine t text s setting.options setting.widths setting.history.now h x l) (sym line)
-    (subst (λ z. IsShownLine t text s setting.options setting.widths setting.history.now h z shown.more) own shown.more_are)
+    subst (λ l. IsShownLine t text s context.options context.widths context.history.now h x l) (sym line)
+    (subst (λ z. IsShownLine t text s context.options context.widths context.history.now h z shown.more) own shown.more_are)
 
 pub returns-in_err-next-clause-made : goal.returns-in_err-next-clause-made
 returns-in_err-next-clause-made c = λ t h has playable.

@@ -1,0 +1,12 @@
+use Rattle.std.proofs.Common.{sym}
+use Rattle.bp_commands.specs.FaultReports.{IsObjectIn}
+use Rattle.bp_commands.proofs.ExplainedRuns.{by_lines}
+use Rattle.bp_commands.proofs.fault_reports.conclude.Goals as goal
+
+pub returns-in-true-Err : goal.returns-in-true-Err
+returns-in-true-Err g c =
+    let given = c.args.given.now in
+    let Explains = g.G.Texts.explains given in
+    by_lines g.T.CommandAnswer.rule (IsObjectIn (g.G.Texts.is_in given) (g.G.Texts.given given) Explains) Explains c.report-end.result _ _ _
+    c.explain-explained.result c.in-true-Err.fault c.args.format c.args.done.now (sym c.in-true-Err.ensures) c.in-true-Err.is-1
+    c.report-end.ensures.ends c.explain-explained.ensures

@@ -1,0 +1,65 @@
+-- How a run ends: its exit status, and what it leaves on standard error.
+use Rattle.std.specs.Prelude.{◌≡◌, ℕ, List, [], ◌∷◌, Option, None, Result, Ok, Err, Bool, true, false}
+use Rattle.bp_text.specs.Writing.{Writes}
+use Rattle.bp_text.specs.declared.writing.WriteFault.{WriteFault}
+use Rattle.bp_machine.specs.declared.reports.Outcome.{Outcome}
+use Rattle.bp_machine.specs.declared.reports.Outcome.TheVariants.{Clean, Failed}
+use Rattle.bp_machine.specs.declared.reports.Report.{Report}
+use Rattle.bp_run.specs.declared.answers.RunReport.{RunReport}
+use Rattle.bp_commands.specs.declared.run_ends.Explained.{Explained}
+use Rattle.bp_commands.specs.declared.run_ends.RunEnd.{RunEnd}
+use Rattle.bp_messages.specs.declared.faults.Fault.{Fault}
+use Rattle.bp_messages.specs.FaultTable.{exit_status, fault_line, status_of}
+
+-- an assertion failed
+abbrev pub has_failed : Outcome → Bool
+has_failed Clean = false
+has_failed (Failed thread) = true
+
+abbrev pub report_failed : Report → Bool
+report_failed r = has_failed r.outcome
+
+-- what a command's answers say: whether an assertion failed, and what a user reads of it on
+-- standard error
+pub record AnswerRule (T : Type 0) : Type 0 where
+  pub failed : T → Bool
+  pub summary : T → List ℕ
+
+-- a report has no summary
+abbrev pub of_report : AnswerRule Report
+of_report = record { failed = report_failed; summary = λ _. [] }
+
+-- nor has what a run by workers answers
+abbrev pub of_run : AnswerRule RunReport
+of_run = record { failed = λ r. report_failed r.report; summary = λ _. [] }
+
+-- no assertion fails, and there is no summary
+abbrev pub never : {T : Type 0} → AnswerRule T
+never = record { failed = λ _. false; summary = λ _. [] }
+
+-- nothing was to be explained
+abbrev pub nothing_explained : Explained
+nothing_explained = record { lines = Ok tt; told = Ok tt }
+
+-- a summary was written, and whether it was written whole was told; nothing was written where
+-- there is none
+abbrev pub HasSummary
+    : List ℕ → Option (List ℕ) → Option (List ℕ) → Result (Unit {0}) WriteFault → Type 0
+HasSummary [] old new told = (new ≡ old) × (told ≡ Ok tt)
+HasSummary (b ∷ bs) old new told = Writes old new (b ∷ bs) told
+
+-- the line of a fault was written, and whether it was written whole was told
+abbrev pub HasFaultLine
+    : Fault → Option (List ℕ) → Option (List ℕ) → Result (Unit {0}) WriteFault → Type 0
+HasFaultLine f old new told = Writes old new (fault_line f) told
+
+module _
+    {T : Type 0} (rule : AnswerRule T)
+    (IsReported
+    : Fault → Option (List ℕ) → Option (List ℕ) → Result (Unit {0}) WriteFault → Type 0) where
+  -- the status of the answer, and its summary or the report of its fault
+  abbrev pub IsEndOf : Result T Fault → RunEnd → Option (List ℕ) → Option (List ℕ) → Type 0
+  IsEndOf (Ok answer) e old new =
+      (e.status ≡ exit_status (rule.failed answer) None)
+      × HasSummary (rule.summary answer) old new e.told
+  IsEndOf (Err f) e old new = (e.status ≡ status_of f) × IsReported f old new e.told

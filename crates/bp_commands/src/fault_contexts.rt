@@ -1,0 +1,208 @@
+//! What the sentence of a fault says of the command line: which file, or which option.
+
+use crate::files::Failure;
+use bp_board::limits::{MAX_RING, MAX_TURN};
+use bp_code::ProgramFault;
+use bp_explain::{global_sentence, start_sentence, variable_sentence};
+use bp_init::NamedStart;
+use bp_machine::limits::{MAX_CALLS, MAX_CONTEXTS};
+use bp_machine::{SetupFault, Start};
+use bp_messages::Fault;
+use bp_syntax::ReadFault;
+use bp_syntax::limits::TEXT_LIMIT;
+use bp_tasks::RunOptions;
+use bp_view::watched_names;
+use std::alloc::Global;
+
+/// The numbers among the options of a command that have a range.
+#[derive(Clone, Copy, PartialEq, Eq)]
+pub(crate) struct OptionNumbers {
+    contexts: u32,
+    calls: u32,
+    turn: Option<u32>,
+    ring: Option<u32>,
+}
+
+impl OptionNumbers {
+    pub(crate) fn of_start(start: &Start) -> OptionNumbers {
+        OptionNumbers {
+            contexts: start.contexts,
+            calls: start.calls,
+            turn: None,
+            ring: None,
+        }
+    }
+
+    pub(crate) fn of_run(options: &RunOptions) -> OptionNumbers {
+        OptionNumbers {
+            turn: Some(options.turn),
+            ring: Some(options.ring),
+            ..OptionNumbers::of_start(&options.start)
+        }
+    }
+}
+
+/// The bytes of a text that was made.
+fn bytes_of(alloc: Global, text: &str) -> Option<Vec<u8>> {
+    let mut bytes = Vec::new(alloc);
+    bytes.extend_from_slice(text.as_bytes()).ok()?;
+    Some(bytes)
+}
+
+/// The option of a setup whose number is out of its range, and that range.
+fn of_setup(alloc: Global, numbers: OptionNumbers) -> Option<String> {
+    let OptionNumbers {
+        contexts,
+        calls,
+        ..
+    } = numbers;
+    if contexts > MAX_CONTEXTS {
+        return format!(in alloc; "--contexts {contexts}: at most {MAX_CONTEXTS} are allowed").ok();
+    }
+    if calls == 0 || calls > MAX_CALLS {
+        return format!(in alloc; "--calls {calls}: a thread has 1 to {MAX_CALLS} calls").ok();
+    }
+    None
+}
+
+/// The option of a run by workers whose number is out of its range, and that range.
+fn of_run(alloc: Global, numbers: OptionNumbers) -> Option<String> {
+    let (turn, ring) = (numbers.turn.unwrap_or(1), numbers.ring.unwrap_or(1));
+    if turn == 0 || turn > MAX_TURN {
+        return format!(in alloc; "--turn {turn}: a turn has 1 to {MAX_TURN} calls").ok();
+    }
+    if ring == 0 || ring > MAX_RING {
+        return format!(in alloc; "--ring {ring}: the ring holds 1 to {MAX_RING} calls").ok();
+    }
+    None
+}
+
+/// The option whose number is out of its range, and that range.
+fn of_numbers(alloc: Global, numbers: Option<OptionNumbers>) -> Option<String> {
+    let numbers = numbers?;
+    match of_setup(alloc, numbers) {
+        Some(sentence) => Some(sentence),
+        None => of_run(alloc, numbers),
+    }
+}
+
+/// A file of a command, and why it could not be opened or read.
+#[derive(Clone, Copy)]
+pub(crate) struct FailedFile<'a> {
+    pub(crate) name: &'a str,
+    pub(crate) failure: Failure,
+}
+
+/// The file that could not be opened or read, and the system's reason.
+fn of_file(alloc: Global, unread: Option<FailedFile<'_>>) -> Option<String> {
+    let FailedFile { name, failure } = unread?;
+    let verb = failure.verb();
+    let reason = failure.reason(alloc)?;
+    format!(in alloc; "cannot {verb} '{name}': {reason}").ok()
+}
+
+/// A file and how many bytes it may have.
+#[derive(Clone, Copy)]
+pub(crate) struct Limited<'a> {
+    pub(crate) name: &'a str,
+    pub(crate) limit: usize,
+}
+
+/// That a file has more bytes than it may have. The number has a comma before each three digits.
+fn of_limit(alloc: Global, file: Limited<'_>) -> Option<String> {
+    let Limited { name, limit } = file;
+    let (millions, thousands, ones) = (limit / 1_000_000, limit / 1_000 % 1_000, limit % 1_000);
+    if millions > 0 {
+        format!(in alloc; "{name} has over {millions},{thousands:03},{ones:03} bytes").ok()
+    } else {
+        format!(in alloc; "{name} has over {thousands},{ones:03} bytes").ok()
+    }
+}
+
+/// The arguments that are of the program: its text, what a run of it starts from, and the names of
+/// variables that are watched.
+#[derive(Clone, Copy)]
+pub(crate) struct Asked<'a, 't> {
+    pub(crate) program: &'t [u8],
+    pub(crate) start: Option<NamedStart<'a>>,
+    pub(crate) watch: Option<&'a str>,
+}
+
+/// What does not fit the program in what a run starts from.
+fn of_start(alloc: Global, asked: Asked<'_, '_>, fault: SetupFault) -> Option<Vec<u8>> {
+    let sentence = start_sentence(alloc, asked.program, asked.start?.start, fault).ok()?;
+    if sentence.is_empty() {
+        None
+    } else {
+        Some(sentence)
+    }
+}
+
+/// What is said of the watched name at this place, from 1. No variable has that name.
+fn of_watch(alloc: Global, asked: Asked<'_, '_>, number: u64) -> Option<Vec<u8>> {
+    let names = watched_names(alloc, asked.watch).ok()?;
+    let name = names.get((number as usize).checked_sub(1)?)?;
+    variable_sentence(alloc, asked.program, name).ok()
+}
+
+/// What is said of the global at this place, from 1, among those that have their bits by name. No
+/// global has that name.
+fn of_named(alloc: Global, asked: Asked<'_, '_>, number: u64) -> Option<Vec<u8>> {
+    let name = asked.start?.named.name((number as usize).checked_sub(1)?)?;
+    global_sentence(alloc, asked.program, name).ok()
+}
+
+/// What is said of the name at this place, from 1. A command has names of one option at most.
+fn of_name(alloc: Global, asked: Asked<'_, '_>, number: u64) -> Option<Vec<u8>> {
+    match asked.watch {
+        Some(_) => of_watch(alloc, asked, number),
+        None => of_named(alloc, asked, number),
+    }
+}
+
+/// What is known of the command line of a run.
+#[derive(Clone, Copy)]
+pub(crate) struct FaultContext<'a, 't> {
+    pub(crate) unread: Option<FailedFile<'a>>,
+    pub(crate) numbers: Option<OptionNumbers>,
+    pub(crate) asked: Asked<'a, 't>,
+    /// The file of the program, and that of the input beside it.
+    pub(crate) program: &'a str,
+    pub(crate) input: Option<Limited<'a>>,
+}
+
+impl FaultContext<'_, '_> {
+    /// Whether it is the file of this name that could not be opened or read.
+    pub(crate) fn is_unread(&self, name: &str) -> bool {
+        match self.unread {
+            Some(unread) => unread.name == name,
+            None => false,
+        }
+    }
+
+    /// What is said of a fault of a file or of a number, where there is more to say.
+    fn of_files(&self, alloc: Global, fault: &Fault) -> Option<String> {
+        match fault {
+            Fault::Device => of_file(alloc, self.unread),
+            Fault::Program(ProgramFault::Read(ReadFault::TooLong)) => {
+                let (name, limit) = (self.program, TEXT_LIMIT);
+                of_limit(alloc, Limited { name, limit })
+            }
+            Fault::TooLong => of_limit(alloc, self.input?),
+            Fault::Setup(SetupFault::OutOfRange) => of_numbers(alloc, self.numbers),
+            _ => None,
+        }
+    }
+
+    /// What is said of a fault in place of its sentence, where there is more to say.
+    pub(crate) fn sentence(&self, alloc: Global, fault: &Fault) -> Option<Vec<u8>> {
+        if let Some(sentence) = self.of_files(alloc, fault) {
+            return bytes_of(alloc, sentence.as_str());
+        }
+        match fault {
+            Fault::Setup(fault) => of_start(alloc, self.asked, *fault),
+            Fault::NoVariable(number) => of_name(alloc, self.asked, *number),
+            _ => None,
+        }
+    }
+}

@@ -1,0 +1,56 @@
+-- In which form a task reports its faults.
+use Rattle.std.specs.Prelude.{if◌then◌else◌, ◌&&◌, ◌||◌, Bool, true, false, not}
+use Rattle.bp_tasks.specs.declared.explaining.Explaining.{Explaining}
+use Rattle.bp_tasks.specs.declared.fault_formats.FaultFormat.{FaultFormat}
+use Rattle.bp_tasks.specs.declared.fault_formats.FaultFormat.TheVariants as fault
+use Rattle.bp_tasks.specs.declared.listing_forms.ListingForm.{ListingForm}
+use Rattle.bp_tasks.specs.declared.listing_forms.ListingForm.TheVariants as listing
+use Rattle.bp_tasks.specs.declared.tasks.Task.{Task}
+use Rattle.bp_tasks.specs.declared.tasks.Task.TheVariants.{Bundle, Check, Code, Drive, Confirm, Run, Test, Replay, Show, Migrate, Shrink}
+use Rattle.bp_tasks.specs.declared.view_options.ViewFormat.{ViewFormat}
+use Rattle.bp_tasks.specs.declared.view_options.ViewFormat.TheVariants as view
+
+-- lines explain the fault after its line
+abbrev pub is_explained : FaultFormat → Bool
+is_explained fault.Explained = true
+is_explained other = false
+
+-- a fault is explained on a standard error that is a terminal or not
+abbrev pub explains : Explaining → (on_terminal : Bool) → Bool
+explains x on_terminal = not x.never && (x.always || on_terminal)
+
+-- faults are explained on a terminal alone
+abbrev pub on_terminals : Explaining
+on_terminals = record { always = false; never = false }
+
+-- the listing is JSON
+abbrev pub is_listed_in_json : ListingForm → Bool
+is_listed_in_json listing.Json = true
+is_listed_in_json other = false
+
+-- the view is JSON
+abbrev pub is_viewed_in_json : ViewFormat → Bool
+is_viewed_in_json view.Json = true
+is_viewed_in_json view.Columns = false
+
+-- whether a task reports its faults as JSON, and when it explains them
+abbrev pub reporting : Task → Bool × Explaining
+reporting Bundle = (false, record { always = false; never = true })
+reporting (Check task) = (task.json, task.explain)
+reporting (Code task) = (is_listed_in_json task.form, task.explain)
+reporting (Drive task) = (false, task.explain)
+reporting (Confirm task) = (task.json, task.explain)
+reporting (Run task) = (false, task.explain)
+reporting (Test task) = (task.json, task.explain)
+reporting (Replay task) = (false, task.explain)
+reporting (Show task) = (is_viewed_in_json task.options.format, task.explain)
+reporting (Migrate task) = (false, task.explain)
+reporting (Shrink task) = (false, task.explain)
+
+-- as JSON where that is asked for, and else with their explanation where that is
+abbrev pub fault_format : Task → (on_terminal : Bool) → FaultFormat
+fault_format task on_terminal =
+    let asked = reporting task in
+    if asked.0 then fault.Json
+    else if explains asked.1 on_terminal then fault.Explained
+    else fault.Line

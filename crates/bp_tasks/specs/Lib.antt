@@ -1,0 +1,2 @@
+pub mod FaultFormats
+pub mod RunOptions

@@ -1,0 +1,19 @@
+-- What a run by real threads starts from.
+use Rattle.std.specs.Prelude.{ℕ}
+use Rattle.bp_machine.specs.Starts.{StartOf, default_start}
+use Rattle.bp_tasks.specs.declared.limits.TheConstants.{DEFAULT_RING, DEFAULT_SEED, DEFAULT_TURN}
+
+-- what each run starts from, the calls of a turn, the seed of the choice bits, and the calls that
+-- the ring holds
+pub record OptionsOf : Type 0 where
+  pub start : StartOf
+  pub turn : ℕ
+  pub seed : ℕ
+  pub ring : ℕ
+
+abbrev pub options_of : StartOf → ℕ → ℕ → ℕ → OptionsOf
+options_of start turn seed ring = record { start = start; turn = turn; seed = seed; ring = ring }
+
+-- a run starts from the defaults, a turn is one call, and the seed is 42
+abbrev pub default_options : OptionsOf
+default_options = options_of default_start DEFAULT_TURN DEFAULT_SEED DEFAULT_RING

@@ -1,0 +1,23 @@
+//! What a user asks for, as plain data: the tasks, their files and their options.
+#![tactic(auto)]
+
+mod context_bounds;
+mod explaining;
+mod fault_formats;
+pub mod limits;
+mod listing_forms;
+mod run_options;
+mod tasks;
+mod test_options;
+mod view_options;
+
+pub use context_bounds::ContextBound;
+pub use explaining::Explaining;
+pub use fault_formats::FaultFormat;
+pub use listing_forms::ListingForm;
+pub use run_options::RunOptions;
+pub use tasks::{
+    CheckTask, CodeTask, ConfirmTask, DriveTask, RunTask, ShowTask, Task, TestTask, TraceTask,
+};
+pub use test_options::TestOptions;
+pub use view_options::{ViewFormat, ViewOptions};

@@ -1,0 +1,190 @@
+//! What a user wants done: a task, its files and its options.
+ghost use Rattle.std.specs.Prelude.{◌≡◌};
+ghost use Rattle.bp_tasks.specs.FaultFormats.{fault_format, reporting};
+
+use crate::context_bounds::ContextBound;
+use crate::explaining::Explaining;
+use crate::fault_formats::FaultFormat;
+use crate::listing_forms::ListingForm;
+use crate::run_options::RunOptions;
+use crate::test_options::TestOptions;
+use crate::view_options::{ViewFormat, ViewOptions};
+use bp_init::NamedBits;
+use bp_machine::Start;
+
+/// A program that is checked.
+#[derive(Drop)]
+pub struct CheckTask<'a> {
+    /// The path of the program's text.
+    pub program: &'a str,
+    /// Whether what is printed is a JSON object, and a fault too.
+    pub json: bool,
+    pub explain: Explaining,
+}
+
+/// A program whose code is listed.
+#[derive(Drop)]
+pub struct CodeTask<'a> {
+    /// The path of the program's text.
+    pub program: &'a str,
+    /// In JSON a fault is an object too.
+    pub form: ListingForm,
+    pub explain: Explaining,
+}
+
+/// A program and a schedule, and what driving starts from beside them.
+#[derive(Drop)]
+pub struct DriveTask<'a> {
+    /// The path of the program's text.
+    pub program: &'a str,
+    /// The path of the schedule.
+    pub schedule: &'a str,
+    pub start: Start,
+    /// The globals whose initial bits are given by name.
+    pub named: NamedBits<'a>,
+    pub explain: Explaining,
+}
+
+/// A program and reported steps, and what they start from.
+#[derive(Drop)]
+pub struct ConfirmTask<'a> {
+    /// The path of the program's text.
+    pub program: &'a str,
+    /// The path of the steps.
+    pub steps: &'a str,
+    pub start: Start,
+    /// The globals whose initial bits are given by name.
+    pub named: NamedBits<'a>,
+    pub bound: ContextBound,
+    /// Whether a fault is a JSON object.
+    pub json: bool,
+    pub explain: Explaining,
+}
+
+/// A program, and what its run starts from beside it.
+#[derive(Drop)]
+pub struct RunTask<'a> {
+    /// The path of the program's text.
+    pub program: &'a str,
+    pub options: RunOptions,
+    /// The globals whose initial bits are given by name.
+    pub named: NamedBits<'a>,
+    /// Whether the workers start together and take turns as they are drawn.
+    pub spread: bool,
+    pub explain: Explaining,
+}
+
+/// A program, and by how many runs it is tested.
+#[derive(Drop)]
+pub struct TestTask<'a> {
+    /// The path of the program's text.
+    pub program: &'a str,
+    /// What each run starts from.
+    pub start: Start,
+    /// The globals whose initial bits are given by name.
+    pub named: NamedBits<'a>,
+    pub options: TestOptions,
+    /// Whether the statements that no run reached are listed.
+    pub unreached: bool,
+    /// Whether the summary is JSON objects, and a fault too.
+    pub json: bool,
+    pub explain: Explaining,
+}
+
+/// A program and a trace of it.
+#[derive(Drop)]
+pub struct TraceTask<'a> {
+    /// The path of the program's text.
+    pub program: &'a str,
+    /// The path of the trace.
+    pub trace: &'a str,
+    pub explain: Explaining,
+}
+
+/// A program, a trace of it, and what is shown of it: the state after a number of calls, the
+/// contexts, the steps, or the calls, by the first of these that is asked for.
+#[derive(Drop)]
+pub struct ShowTask<'a> {
+    /// The path of the program's text.
+    pub program: &'a str,
+    /// The path of the trace.
+    pub trace: &'a str,
+    /// After how many calls the state is shown.
+    pub at: Option<u64>,
+    /// Whether a line for each context is shown.
+    pub contexts: bool,
+    /// Whether the steps are shown as `confirm` takes them.
+    pub steps: bool,
+    /// Which calls are shown, and how. In JSON a fault is an object too.
+    pub options: ViewOptions<'a>,
+    pub explain: Explaining,
+}
+
+/// What the user wants done.
+#[derive(Drop)]
+pub enum Task<'a> {
+    /// Drive the bundle that standard input has.
+    Bundle,
+    /// `check FILE`
+    Check(CheckTask<'a>),
+    /// `code FILE`
+    Code(CodeTask<'a>),
+    /// `drive FILE SCHEDULE [ENTRY]..`
+    Drive(DriveTask<'a>),
+    /// `confirm FILE STEPS [ENTRY]..`
+    Confirm(ConfirmTask<'a>),
+    /// `run FILE [ENTRY]..`
+    Run(RunTask<'a>),
+    /// `test FILE [ENTRY]..`
+    Test(TestTask<'a>),
+    /// `replay FILE TRACE`
+    Replay(TraceTask<'a>),
+    /// `show FILE TRACE`
+    Show(ShowTask<'a>),
+    /// `migrate FILE TRACE`
+    Migrate(TraceTask<'a>),
+    /// `shrink FILE TRACE`
+    Shrink(TraceTask<'a>),
+}
+
+/// Explanations of a task that explains nothing.
+const NEVER: Explaining = Explaining {
+    always: false,
+    never: true,
+};
+
+impl Task<'_> {
+    /// Whether the task reports its faults as JSON, and when it explains them.
+    fn reporting(&self) -> (bool, Explaining)
+        ensures { result ≡ reporting self.now }
+    {
+        match self {
+            Task::Bundle => (false, NEVER),
+            Task::Check(task) => (task.json, task.explain),
+            Task::Code(task) => (matches!(task.form, ListingForm::Json), task.explain),
+            Task::Drive(task) => (false, task.explain),
+            Task::Confirm(task) => (task.json, task.explain),
+            Task::Run(task) => (false, task.explain),
+            Task::Test(task) => (task.json, task.explain),
+            Task::Show(task) => (
+                matches!(task.options.format, ViewFormat::Json),
+                task.explain,
+            ),
+            Task::Replay(task) | Task::Migrate(task) | Task::Shrink(task) => (false, task.explain),
+        }
+    }
+
+    /// In which form the task reports its faults on a standard error that is a terminal or not.
+    pub fn fault_format(&self, on_terminal: bool) -> FaultFormat
+        ensures { result ≡ fault_format self.now on_terminal }
+    {
+        let (json, explain) = self.reporting();
+        if json {
+            FaultFormat::Json
+        } else if explain.explains(on_terminal) {
+            FaultFormat::Explained
+        } else {
+            FaultFormat::Line
+        }
+    }
+}

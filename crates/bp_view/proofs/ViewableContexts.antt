@@ -1,0 +1,71 @@
+-- The context of a replayed trace is one of which a view can be made, and its view is one of the trace.
+use Rattle.std.proofs.Common.{◌≡◌, ◌∙◌, ℕ, List, Option, ap, refl, subst, sym}
+use Rattle.bp_tree.specs.Ast.{Program}
+use Rattle.bp_code.specs.Flat.{Flat}
+use Rattle.bp_code.specs.StandsFor.{StandsFor}
+use Rattle.bp_machine.specs.declared.calls.Call.{Call}
+use Rattle.bp_machine.specs.Reports.{outcome_of}
+use Rattle.bp_machine.specs.Setups.{SetupOf, threads}
+use Rattle.bp_text.specs.WrittenTexts.{IsWritten}
+use Rattle.bp_text.proofs.WrittenParts.{begun_as, cut_as, written_as}
+use Rattle.bp_trace.specs.declared.replaying.Replayed.{Replayed}
+use Rattle.bp_trace.specs.Replays.{IsPlayable}
+use Rattle.bp_source.specs.declared.scenes.Scene.{Scene}
+use Rattle.bp_source.specs.Scenes.{AreScenes}
+use Rattle.bp_facts.specs.Watches.{watched_names, AreDeclared, IsUndeclared}
+use Rattle.bp_view.specs.declared.faults.ViewFault.{ViewFault}
+use Rattle.bp_view.specs.declared.faults.ViewFault.TheVariants.{Memory, NoThread, NoVariable, Replay, Write}
+use Rattle.bp_tasks.specs.declared.view_options.ViewOptions.{ViewOptions}
+use Rattle.bp_view.specs.declared.view_contexts.ViewContext.{ViewContext}
+use Rattle.bp_view.specs.declared.shown_traces.ShownTrace.{ShownTrace}
+use Rattle.bp_view.specs.ViewContexts.{IsViewContextOf}
+use Rattle.bp_view.specs.ShownTraces.{IsShownTrace}
+use Rattle.bp_view.specs.Views.{IsMissing, IsStopped, IsThere, IsView, IsViewOfTrace, IsViewRefusal, IsViewable, IsViewed}
+use Rattle.bp_view.specs.Widths.{extent_of, AreWidths}
+
+module _ {t : Program} {text trace : List ℕ} {shown : ShownTrace} (is : IsShownTrace t text t trace shown) where
+  abbrev r : Replayed
+  r = shown.replayed
+
+  pub viewable : {c : Flat} {x : ViewContext} {scenes : List Scene} → StandsFor c t → scenes ≡ shown.scenes.items
+      → (AreScenes text t scenes → IsViewContextOf t text x)
+      → AreWidths r.setup (extent_of x) x.widths → x.history.now ≡ r.history.items → IsViewable c t text r.setup r.report x
+  viewable code scenes known widths history = record {
+    code = code;
+    known = known (subst (AreScenes text t) (sym scenes) is.scenes);
+    widths = widths;
+    playable = subst (IsPlayable t r.setup) (sym history) is.is.trace.playable;
+    outcome = is.is.report.outcome ∙ ap outcome_of (sym history);
+  }
+
+  module _ (o : ViewOptions) (a : Option (List ℕ)) where
+    pub missing : (f : ViewFault) → IsMissing o.thread (threads r.setup) f → IsViewRefusal t text trace o a a f
+    missing f (i, asked, past, same) =
+        subst (IsViewRefusal t text trace o a a) (sym same) (refl, record { replayed = r; is = is.is; asked = asked; past = past })
+
+    pub unnamed : IsThere o.thread (threads r.setup) → (n : ℕ) → IsUndeclared t (watched_names o.watch) n → IsViewRefusal t text trace o a a (NoVariable n)
+    unnamed there n undeclared = (refl, record { replayed = r; is = is.is; there = there; undeclared = undeclared })
+
+  -- what a view is made of is the history of the trace
+  module _
+      {o : ViewOptions} (there : IsThere o.thread (threads r.setup)) (declared : AreDeclared t (watched_names o.watch))
+      {s : SetupOf} {h : List Call} {p : ViewOptions} (setup : s ≡ r.setup) (history : h ≡ r.history.items) (same : p ≡ o) where
+    of_trace : (view : List ℕ) → IsView t text s h r.report p view → IsViewOfTrace t text trace o view r.report
+    of_trace view view_is = record {
+      replayed = r;
+      is = is.is;
+      view_is = rw (setup, history, same) at view_is;
+      report_is = refl;
+      there = there;
+      declared = declared;
+    }
+
+    pub viewed : {a b : Option (List ℕ)} → IsWritten (IsView t text s h r.report p) a b → IsViewed t text trace o a b r.report
+    viewed done = written_as of_trace done
+
+    pub stopped : (a b : Option (List ℕ)) (f : ViewFault) → IsStopped (IsView t text s h r.report p) a b f → IsViewRefusal t text trace o a b f
+    stopped a b (Replay f) why = absurd why
+    stopped a b (NoThread i) why = absurd why
+    stopped a b (NoVariable n) why = absurd why
+    stopped a b Memory why = begun_as (λ view is. (r.report, of_trace view is)) why
+    stopped a b Write why = cut_as (λ view is. (r.report, of_trace view is)) why

@@ -1,6 +1,0 @@
-use Rattle.std.proofs.Common.{◌≡◌, ◌++◌, flat_map, take}
-use Rattle.bp_source.specs.Programs.{string_item}
-use Rattle.bp_view.proofs.heads.push_entries.Given as goal
-
-abbrev pub invariant-loop-thread : goal.invariant-loop-thread
-invariant-loop-thread l = l.items.items ≡ l.initial.items.items ++ flat_map string_item (take l.thread l.setup.entries)

@@ -1,7 +1,0 @@
-use Rattle.std.proofs.Common.{◌≡◌, ◌++◌, None, take}
-use Rattle.bp_code.specs.Values.{binding}
-use Rattle.bp_view.specs.Variables.{variables_text}
-use Rattle.bp_view.proofs.heads.push_values.Given as goal
-
-abbrev pub invariant-loop-n : goal.invariant-loop-n
-invariant-loop-n l = l.view.items ≡ l.initial.view.items ++ variables_text l.format None (binding (take l.n l.globals) l.setup.init)

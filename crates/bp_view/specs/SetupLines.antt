@@ -1,0 +1,82 @@
+-- The head of a view: the setup of its history.
+use Rattle.std.specs.Prelude.{if◌then◌else◌, ℕ, suc, List, [], ◌∷◌, ◌++◌, Option, None, Some, codes, decimal, flat_map}
+use Rattle.std.specs.List.{concat}
+use Rattle.bp_tree.specs.Ast.{Name}
+use Rattle.bp_code.specs.Values.{Valuation, binding}
+use Rattle.bp_machine.specs.Setups.{SetupOf}
+use Rattle.bp_text.specs.Pieces.{key_text, list_text, number_or_null}
+use Rattle.bp_source.specs.Programs.{string_item}
+use Rattle.bp_tasks.specs.declared.view_options.ViewFormat.{ViewFormat}
+use Rattle.bp_tasks.specs.declared.view_options.ViewFormat.TheVariants.{Columns, Json}
+use Rattle.bp_tasks.specs.declared.view_options.ViewOptions.{ViewOptions}
+use Rattle.bp_view.specs.declared.view_contexts.Widths.{Widths}
+use Rattle.bp_view.specs.Headings.{headings_in}
+use Rattle.bp_view.specs.Variables.{variables_text}
+
+-- the number of a thread, and the procedure in which it begins
+abbrev pub thread_line : ℕ → List ℕ → List ℕ
+thread_line i entry = codes "thread " ++ decimal i ++ codes " begins in " ++ entry ++ codes "\n"
+
+-- a line for each of these entries, whose first is that of thread i
+abbrev pub thread_lines : ℕ → List (List ℕ) → List ℕ
+thread_lines i [] = []
+thread_lines i (e ∷ es) = thread_line i e ++ thread_lines (suc i) es
+
+-- the values of the globals, and no line where there are none
+abbrev pub globals_line : Valuation → List ℕ
+globals_line [] = []
+globals_line (x ∷ xs) =
+    codes "globals" ++ variables_text Columns None (x ∷ xs) ++ codes "\n"
+
+abbrev pub number_line : List ℕ → ℕ → List ℕ
+number_line words n = words ++ decimal n ++ codes "\n"
+
+abbrev pub seed_line : Option ℕ → List ℕ
+seed_line None = codes "seed none\n"
+seed_line (Some n) = number_line (codes "seed ") n
+
+-- where the threads begin, the globals with their first values, the limits and the seed, and an
+-- empty line
+abbrev pub head_lines : List Name → SetupOf → List ℕ
+head_lines globals s =
+    thread_lines 0 s.entries
+    ++ globals_line (binding globals s.init)
+    ++ number_line (codes "contexts at most ") s.contexts
+    ++ number_line (codes "calls of a thread at most ") s.calls
+    ++ seed_line s.seed
+    ++ codes "\n"
+
+-- the limits of a setup and its seed, and the end of its object
+abbrev pub limit_members : SetupOf → List ℕ
+limit_members s =
+    concat (
+    key_text (codes "max_contexts") ∷ decimal s.contexts
+    ∷ key_text (codes "max_calls") ∷ decimal s.calls
+    ∷ key_text (codes "seed") ∷ number_or_null s.seed
+    ∷ codes "}\n" ∷ [])
+
+-- the same as an object of JSON, which says the version of the format
+abbrev pub head_object : List Name → SetupOf → List ℕ
+head_object globals s =
+    concat (
+    concat (
+    codes "{\"kind\":\"setup\",\"version\":2"
+    ∷ key_text (codes "threads") ∷ list_text (flat_map string_item s.entries) ∷ [])
+    ∷ concat (
+    key_text (codes "globals")
+    ∷ list_text (variables_text Json None (binding globals s.init)) ∷ [])
+    ∷ limit_members s
+    ∷ [])
+
+-- the setup in this format
+abbrev pub head_in : ViewFormat → List Name → SetupOf → List ℕ
+head_in Columns globals s = head_lines globals s
+head_in Json globals s = head_object globals s
+
+-- the setup, which a brief view leaves out
+abbrev pub setup_head : ViewOptions → List Name → SetupOf → List ℕ
+setup_head o globals s = if o.is_brief then [] else head_in o.format globals s
+
+-- the head of a view: the setup, and the headings over columns of these widths
+abbrev pub view_head : ViewOptions → List Name → SetupOf → Widths → List ℕ
+view_head o globals s w = setup_head o globals s ++ headings_in o.format w
