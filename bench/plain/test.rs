@@ -1,6 +1,6 @@
 //! The yardstick of bench/drawing.py: a plain Rust program, without proofs, that makes the runs of `btrun test` over
-//! examples/bluetooth/mended.bp, draw for draw, and prints the same summary. The code is written down here, so it reads
-//! no program. It draws by the same generator: PCG XSH RR 64/32 (O'Neill), written out.
+//! examples/bluetooth/mended.bp, draw for draw, and prints the same summary. The code is written down here, with the steps
+//! that are visible, so it reads no program. It draws by the same generator: PCG XSH RR 64/32 (O'Neill), written out.
 //!
 //! Usage: test RUNS CONTEXTS CALLS SEED
 const PILOTS: u64 = 64;
@@ -8,6 +8,7 @@ const COMPARED: usize = 1 << 20;
 const NOWHERE: u32 = 1 << 20;
 const POWERS: u32 = 14;
 const FEW: u32 = 2;
+const UNMOVED: u32 = 3;
 const SCHEDULE_STREAM: u64 = 118;
 const BITS_STREAM: u64 = 54;
 
@@ -118,6 +119,11 @@ fn program() -> Vec<Instr> {
     ]
 }
 
+/// Whether the step of an instruction touches what the other thread does.
+fn is_visible(number: u32) -> bool {
+    matches!(number, 1 | 3 | 6 | 8 | 9 | 11 | 13 | 14 | 16)
+}
+
 #[derive(Clone, Copy, PartialEq)]
 enum Reply {
     Ended,
@@ -152,6 +158,8 @@ struct Test<'a> {
     used: u32,
     last: Option<u32>,
     history: Vec<Call>,
+    /// How many steps were visible.
+    visible: u64,
     /// Of the threads and instructions of the steps.
     key: u64,
 }
@@ -167,6 +175,7 @@ impl Test<'_> {
         self.used = 0;
         self.last = None;
         self.history.clear();
+        self.visible = 0;
         self.key = 1;
         for (number, thread) in self.threads.iter_mut().enumerate() {
             thread.frames.clear();
@@ -193,6 +202,11 @@ impl Test<'_> {
             },
             None => false,
         }
+    }
+
+    /// Whether the next step of a thread is visible.
+    fn is_visible(&self, thread: u32) -> bool {
+        self.threads[thread as usize].frames.last().is_some_and(|number| is_visible(*number))
     }
 
     fn may_step(&self, thread: u32) -> bool {
@@ -235,6 +249,7 @@ impl Test<'_> {
         self.used = used;
         self.last = Some(thread);
         self.key = mixed(self.key, thread, *number);
+        self.visible += u64::from(is_visible(*number));
         match &self.code[*number as usize] {
             Instr::Skip(next) | Instr::Assume(_, next) => *number = *next,
             Instr::Call(callee, next) => {
@@ -270,6 +285,7 @@ impl Test<'_> {
 struct Scheduler {
     generator: Generator,
     current: u32,
+    has_stepped: bool,
     switches: u32,
     places: u64,
 }
@@ -280,15 +296,19 @@ impl Scheduler {
         let current = generator.below(ENTRIES.len() as u32);
         let drawn = generator.below(lengths.len() as u32);
         let places = match lengths.get(drawn as usize) {
-            Some(length) => *length,
+            Some(length) => length - length / 2 + u64::from(generator.below(*length as u32 / 2 + 1)),
             None => 8 << generator.below(POWERS),
         };
         let switches = switches(&mut generator, contexts, places);
-        Scheduler { generator, current, switches, places }
+        Scheduler { generator, current, has_stepped: false, switches, places }
     }
 
-    fn switches_now(&mut self) -> bool {
-        if self.switches == 0 || self.places == 0 {
+    fn switches_now(&mut self, test: &Test) -> bool {
+        if self.switches == 0 || self.places == 0 || !test.is_visible(self.current) {
+            return false;
+        }
+        if !self.has_stepped {
+            self.has_stepped = true;
             return false;
         }
         let place = u64::from(self.generator.word()) % self.places;
@@ -298,19 +318,38 @@ impl Scheduler {
         is_here
     }
 
+    /// How likely a switch goes to a thread.
+    fn weight(&self, test: &Test, thread: u32) -> u32 {
+        if thread == self.current || !test.may_step(thread) {
+            0
+        } else if test.threads[thread as usize].calls == 0 {
+            UNMOVED
+        } else {
+            1
+        }
+    }
+
     fn next(&mut self, test: &Test) -> Option<u32> {
-        if !self.switches_now() && test.may_step(self.current) {
+        if test.may_step(self.current) && !self.switches_now(test) {
             return Some(self.current);
         }
         let threads = 0..ENTRIES.len() as u32;
-        let others = threads.clone().filter(|thread| *thread != self.current && test.may_step(*thread)).count();
-        let next = if others > 0 {
-            let drawn = self.generator.below(others as u32) as usize;
-            threads.filter(|thread| *thread != self.current && test.may_step(*thread)).nth(drawn)
+        let sum = threads.clone().map(|thread| self.weight(test, thread)).sum();
+        let next = if sum > 0 {
+            let mut left = self.generator.below(sum);
+            threads.clone().find(|thread| {
+                let weight = self.weight(test, *thread);
+                let is_it = left < weight;
+                left = left.saturating_sub(weight);
+                is_it
+            })
         } else {
             threads.clone().find(|thread| test.may_step(*thread))
         };
-        self.current = next.unwrap_or(self.current);
+        if let Some(thread) = next {
+            self.current = thread;
+            self.has_stepped = test.is_visible(thread);
+        }
         next
     }
 }
@@ -319,33 +358,46 @@ fn switches(generator: &mut Generator, contexts: u32, places: u64) -> u32 {
     if contexts < 2 {
         return 0;
     }
-    let most = u64::from(contexts - 1).min(places - places / 4) as u32;
+    let room = (places - places / 8).saturating_sub(1).max(1);
+    let most = u64::from(contexts - 1).min(room) as u32;
     if generator.below(5) < 2 {
         return generator.below(most.min(FEW)) + 1;
     }
     most - generator.below(most - most / 2)
 }
 
+/// Marks the instruction at which a thread has to wait.
+fn reach_wait(test: &Test, thread: u32, reached: &mut [bool]) {
+    let Some(number) = test.threads[thread as usize].frames.last() else {
+        return;
+    };
+    if !reached[*number as usize] && !test.is_finished(thread) && test.waits(thread) {
+        reached[*number as usize] = true;
+    }
+}
+
+fn reach_waits(test: &Test, reached: &mut [bool]) {
+    for thread in 0..ENTRIES.len() as u32 {
+        reach_wait(test, thread, reached);
+    }
+}
+
 fn run(test: &mut Test, seed: u64, lengths: &[u64], reached: &mut [bool]) {
     test.restart(seed);
     let mut scheduler = Scheduler::new(seed, test.contexts, lengths);
+    reach_waits(test, reached);
     while let Some(thread) = scheduler.next(test) {
         let number = test.threads[thread as usize].frames.last().copied();
         let reply = test.ask(thread);
         if let (Some(number), true) = (number, reply != Reply::NoContexts) {
             reached[number as usize] = true;
         }
+        reach_wait(test, thread, reached);
         if reply == Reply::Failed {
             break;
         }
     }
-    for thread in 0..ENTRIES.len() as u32 {
-        if !test.is_finished(thread) && test.waits(thread) {
-            if let Some(number) = test.threads[thread as usize].frames.last() {
-                reached[*number as usize] = true;
-            }
-        }
-    }
+    reach_waits(test, reached);
 }
 
 #[derive(Default)]
@@ -433,13 +485,13 @@ fn main() {
     let code = program();
     let thread = |_| Thread { frames: Vec::new(), calls: 0, is_ended: false, choices: Generator::new(0, 0), word: 0, place: 0 };
     let threads = (0..ENTRIES.len()).map(thread).collect();
-    let mut test = Test { code: &code, contexts, calls, globals: 0, threads, used: 0, last: None, history: Vec::new(), key: 1 };
+    let mut test = Test { code: &code, contexts, calls, globals: 0, threads, used: 0, last: None, history: Vec::new(), visible: 0, key: 1 };
     let mut lengths = Vec::new();
     let mut reached = vec![false; code.len()];
     for pilot in 0..PILOTS {
         run(&mut test, seed.wrapping_add(pilot), &[], &mut reached);
-        if test.threads.iter().all(|thread| thread.calls < calls) {
-            lengths.push(test.history.len() as u64);
+        if test.visible > 0 && test.threads.iter().all(|thread| thread.calls < calls) {
+            lengths.push(test.visible);
         }
     }
     let mut reached = vec![false; code.len()];

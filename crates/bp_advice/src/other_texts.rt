@@ -24,5 +24,5 @@ pub(crate) fn other_than_program(text: &[u8]) -> Option<&'static [u8]> {
 
 /// Whether a line ends in a carriage return and a line feed.
 pub fn ends_in_cr_lf(line: Line<'_>) -> bool {
-    line.is_ended && line.words.last() == Some(&b'\r')
+    line.is_ended && line.text.last() == Some(&b'\r')
 }

@@ -16,7 +16,7 @@ pub const NOTES: &str = "\
     The first fault is one line on standard error, with the offset of its byte. With --json the\n\
     names of procedures and variables are printed, and a fault is an object too.\n\n\
     Example:\n  btrun check lock.bp\n\nExit status:\n  0  the program is lawful\n  \
-    2  it is refused, or the words were\n  3  memory, a device or the output failed";
+    2  it is refused, or the arguments were\n  3  memory, a device or the output failed";
 
 /// The arguments of the command after its file.
 pub static ROWS: [Row<'static>; 1] = [Row {

@@ -17,8 +17,8 @@ pub const NOTES: &str = "\
     with its number and those of its successors. With --json each line is a JSON object, and\n\
     so is a fault. The first fault is one line on standard error, with the offset of its byte.\n\n\
     Example:\n  btrun code lock.bp\n\n\
-    Exit status:\n  0  the listing is printed\n  2  the program is refused, or the words were\n  \
-    3  memory, a device or the output failed";
+    Exit status:\n  0  the listing is printed\n  \
+    2  the program is refused, or the arguments were\n  3  memory, a device or the output failed";
 
 /// The arguments of the command after its file.
 pub static ROWS: [Row<'static>; 2] = [

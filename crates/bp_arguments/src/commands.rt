@@ -32,7 +32,7 @@ const NOTES: &str = "\
     btrun replay FILE TRACE\n  btrun show FILE TRACE\n  \
     btrun migrate FILE TRACE\n  btrun shrink FILE TRACE\n\n\
     Exit status:\n  0  done, and no assertion failed\n  1  an assertion failed\n  \
-    2  the input or the words were refused\n  3  memory, a device or the output failed";
+    2  the input or the arguments were refused\n  3  memory, a device or the output failed";
 
 /// What stands before the commands.
 fn program<'a>(alloc: Global) -> Command<'a>

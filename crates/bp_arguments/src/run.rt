@@ -25,7 +25,7 @@ pub const NOTES: &str = "\
     run goes on. The first fault is one line on standard error.\n\n\
     Example:\n  btrun run race.bp writer reader --contexts 4 --seed 7\n\n\
     Exit status:\n  0  done, and no assertion failed\n  1  an assertion failed\n  \
-    2  the program was refused, or the words were\n  \
+    2  the program was refused, or the arguments were\n  \
     3  memory, a device, a thread or the output failed";
 
 /// The arguments of the command after its file.

@@ -23,7 +23,7 @@ pub const NOTES: &str = "\
     error.\n\n\
     Example:\n  btrun show race.bp race.trace --last 20\n\n\
     Exit status:\n  0  done, and no assertion failed\n  1  an assertion failed\n  \
-    2  an input was refused, or the words were\n  3  memory, a device or the output failed";
+    2  an input was refused, or the arguments were\n  3  memory, a device or the output failed";
 
 /// The arguments of the command after its file.
 pub static ROWS: [Row<'static>; 13] = [

@@ -31,7 +31,7 @@ pub const NOTES: &str = "\
     Example:\n  btrun test race.bp writer reader --contexts 4 --runs 100000\n\n\
     Exit status:\n  0  nothing was found in any run\n  \
     1  an assertion failed, or a run ended in a deadlock\n  \
-    2  the program was refused, or the words were\n  \
+    2  the program was refused, or the arguments were\n  \
     3  memory, a device or the output failed";
 
 /// The arguments of the command after its file.

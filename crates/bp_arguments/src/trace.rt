@@ -18,7 +18,7 @@ pub const REPLAY_NOTES: &str = "\
     standard error.\n\n\
     Example:\n  btrun replay race.bp race.trace\n\n\
     Exit status:\n  0  done, and no assertion failed\n  1  an assertion failed\n  \
-    2  an input was refused, or the words were\n  3  memory, a device or the output failed";
+    2  an input was refused, or the arguments were\n  3  memory, a device or the output failed";
 
 pub const MIGRATE_ABOUT: &str = "Print a trace of either version in version 2";
 
@@ -29,7 +29,7 @@ pub const MIGRATE_NOTES: &str = "\
     is replayed first. The first fault is one line on standard error.\n\n\
     Example:\n  btrun migrate race.bp race.trace\n\n\
     Exit status:\n  0  done, and no assertion failed\n  1  an assertion failed\n  \
-    2  an input was refused, or the words were\n  3  memory, a device or the output failed";
+    2  an input was refused, or the arguments were\n  3  memory, a device or the output failed";
 
 pub const SHRINK_ABOUT: &str = "Print a smaller trace with the same failure or deadlock";
 
@@ -42,7 +42,7 @@ pub const SHRINK_NOTES: &str = "\
     Example:\n  btrun shrink race.bp race.trace\n\n\
     Exit status:\n  0  the trace of a deadlock is printed\n  \
     1  an assertion failed, and the trace is printed\n  \
-    2  an input was refused, or the words were\n  3  memory, a device or the output failed";
+    2  an input was refused, or the arguments were\n  3  memory, a device or the output failed";
 
 /// The arguments of the command after its file.
 pub static ROWS: [Row<'static>; 1] = [TRACE];

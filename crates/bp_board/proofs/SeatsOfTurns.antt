@@ -1,6 +1,7 @@
 -- What the seat says of a turn, from what the turn did at the desk.
-use Rattle.std.proofs.Common.{◌≡◌, ◌≢◌, ℕ, ◌+◌, true, not, [], ◌∷◌, ◌++◌, Result, Ok, Err, MatchResult, refl, sym, ◌∙◌, ap, subst, arith, append_assoc, inl, inr}
+use Rattle.std.proofs.Common.{◌≡◌, ◌≢◌, ℕ, ◌+◌, true, not, [], ◌∷◌, ◌++◌, Result, Ok, Err, MatchResult, refl, sym, ◌∙◌, ap, subst, arith, inl, inr}
 use Rattle.std.proofs.lemmas.Bool.{false≢true}
+use Rattle.bp_tree.proofs.GrownLists.{regrouped}
 use Rattle.bp_machine.specs.declared.calls.Reply.{Reply}
 use Rattle.bp_machine.specs.declared.calls.Reply.TheVariants.{Stepped}
 use Rattle.bp_machine.specs.declared.ask_faults.AskFault.{AskFault}
@@ -41,9 +42,7 @@ module _ (old new : DeskOf) (seat after : SeatOf) (n : ℕ) where
     line_of_last : is_last reply ≡ true → is_finished new.setup new.history seat.thread ≡ true
     line_of_last e =
         let finished = last_finishes new.setup (old.history ++ turn.steps) turn.last (ap is_last turn.answered ∙ e) in
-        ap (λ h. is_finished new.setup h seat.thread) (turn.sent ∙ sym (append_assoc old.history turn.steps (turn.last ∷ [])))
-        ∙ ap (λ i. is_finished new.setup ((old.history ++ turn.steps) ++ turn.last ∷ []) i) (sym turn.thread)
-        ∙ finished
+        rw (turn.sent, ← turn.thread) (simp regrouped at finished)
 
     all_made : reply ≡ Stepped → after.is_open ≡ true → after.calls ≡ seat.calls + n
     all_made stepped is_open = elim turn.ended [

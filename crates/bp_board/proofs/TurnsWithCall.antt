@@ -1,7 +1,8 @@
 -- Turns grow by one call, and are cut short before one.
-use Rattle.std.proofs.Common.{◌≡◌, ℕ, ◌+◌, ◌<◌, ◌≤◌, Bool, true, false, not, List, [], ◌∷◌, ◌++◌, length, refl, sym, ◌∙◌, ap, subst, arith, append_assoc, inl, inr}
+use Rattle.std.proofs.Common.{◌≡◌, ℕ, ◌+◌, ◌<◌, ◌≤◌, Bool, true, false, not, List, [], ◌∷◌, ◌++◌, length, refl, sym, ◌∙◌, ap, subst, arith, inl, inr}
 use Rattle.std.proofs.lemmas.List.{append-nil}
 use Rattle.std.proofs.lemmas.Bool.{false≢true}
+use Rattle.bp_tree.proofs.GrownLists.{regrouped}
 use Rattle.bp_machine.specs.declared.calls.Call.{Call}
 use Rattle.bp_machine.specs.declared.calls.Reply.TheVariants.{Stepped}
 use Rattle.bp_machine.specs.declared.ask_faults.AskFault.{AskFault}
@@ -17,7 +18,7 @@ one_more_step i (c ∷ cs) x (first, steps) thread reply = (first, one_more_step
 
 -- what was sent with one more call
 pub sent_with : (h mid new cs : List Call) (x : Call) → mid ≡ h ++ cs → new ≡ mid ++ x ∷ [] → new ≡ h ++ (cs ++ x ∷ [])
-sent_with h mid new cs x before with_call = with_call ∙ ap (λ g. g ++ x ∷ []) before ∙ append_assoc h cs (x ∷ [])
+sent_with h mid new cs x before with_call = with_call ∙ ap (λ g. g ++ x ∷ []) before ∙ simp regrouped
 
 -- a first call that is refused
 pub cut_at_once : (d new : DeskOf) (seat after : SeatOf) (n : ℕ) (f : AskFault) → 0 < n → IsDeskRefusal d seat f

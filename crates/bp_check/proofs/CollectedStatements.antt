@@ -1,8 +1,9 @@
 -- Walks over the statements of a block.
-use Rattle.std.proofs.Common.{◌≡◌, ℕ, zero, suc, ◌+◌, ◌<◌, ◌≤◌, List, [], ◌∷◌, ◌++◌, length, get_or, take, Option, None, Some, refl, ap, sym, ◌∙◌, arith, append_assoc}
+use Rattle.std.proofs.Common.{◌≡◌, ℕ, zero, suc, ◌+◌, ◌<◌, ◌≤◌, List, [], ◌∷◌, ◌++◌, length, get_or, take, Option, None, Some, refl, ap, sym, ◌∙◌, arith}
 use Rattle.std.specs.Option.{option_to_list}
 use Rattle.std.specs.Borrow.{Bor}
 use Rattle.std.proofs.lemmas.List.{take_more, map-append, append-nil}
+use Rattle.bp_tree.proofs.GrownLists.{regrouped}
 use Rattle.bp_tree.specs.Ast.{Name}
 use Rattle.bp_tree.specs.declared.stmts.Stmt.{Stmt}
 use Rattle.bp_tree.specs.Blocks.{block_of, statement_of}
@@ -15,8 +16,7 @@ statements_more : (xs : List Stmt) (s : Stmt)
 statements_more [] s = ap (λ ys. labelled_of s ∷ ys) (append-nil (statements_inside (statement_of s.form)))
 statements_more (x ∷ xs) s =
     ap (λ ys. labelled_of x ∷ (statements_inside (statement_of x.form) ++ ys)) (statements_more xs s)
-    ∙ ap (λ ys. labelled_of x ∷ ys) (sym (append_assoc (statements_inside (statement_of x.form))
-    (statements (block_of xs)) (labelled_of s ∷ statements_inside (statement_of s.form))))
+    ∙ simp regrouped
 
 -- one more statement with those inside it
 pub collect_more : (first : List Labelled) (old pushed grown : List (Bor Stmt)) (r : Bor Stmt) (stmts : List Stmt) (i : ℕ)
@@ -30,9 +30,7 @@ collect_more first old pushed grown r stmts i within is so_far push inside =
     let pushed_is = ap all_labelled push ∙ map-append (λ (s : Bor Stmt). labelled_of s.now) old (r ∷ []) in
     inside
     ∙ ap (λ xs. xs ++ statements_inside (statement_of r.now.form)) (pushed_is ∙ ap (λ xs. xs ++ labelled_of r.now ∷ []) so_far)
-    ∙ append_assoc (first ++ statements (block_of (take i stmts))) (labelled_of r.now ∷ []) (statements_inside (statement_of r.now.form))
-    ∙ append_assoc first (statements (block_of (take i stmts))) (labelled_of r.now ∷ statements_inside (statement_of r.now.form))
-    ∙ ap (λ xs. first ++ xs) (sym more)
+    ∙ rw more (simp regrouped)
 
 pub inside_depth : (stmts : List Stmt) (i : ℕ) (s : Stmt) → i < length stmts → s ≡ get_or stmts i s
     → statement_depth (statement_of s.form) ≤ depth (block_of stmts)
@@ -43,8 +41,7 @@ inside_depth (x ∷ xs) (suc i) s within is = omega (arith, inside_depth xs i s 
 labels_of-append : (xs ys : List Labelled) → labels_of (xs ++ ys) ≡ labels_of xs ++ labels_of ys
 labels_of-append [] ys = refl
 labels_of-append (x ∷ xs) ys =
-    ap (λ zs. option_to_list x.label ++ zs) (labels_of-append xs ys)
-    ∙ sym (append_assoc (option_to_list x.label) (labels_of xs) (labels_of ys))
+    ap (λ zs. option_to_list x.label ++ zs) (labels_of-append xs ys) ∙ simp regrouped
 
 -- one more statement of a list, labelled
 pub labelled_more : (stmts : List (Bor Stmt)) (i : ℕ) (r : Bor Stmt) → i < length stmts → r ≡ get_or stmts i r
@@ -62,8 +59,7 @@ labels_more first old new stmts i r within is so_far grown =
     ∙ ap (λ xs. labels_of (all_labelled (take i stmts)) ++ xs) (append-nil (option_to_list r.now.label)) in
     grown
     ∙ ap (λ xs. xs ++ option_to_list r.now.label) so_far
-    ∙ append_assoc first (labels_of (all_labelled (take i stmts))) (option_to_list r.now.label)
-    ∙ ap (λ xs. first ++ xs) (sym more)
+    ∙ rw more (simp regrouped)
 
 pub pushed_label : (old new : List (Bor Name)) (l : Bor Name) (label : Option Name) → Some l.now ≡ label
     → new ≡ old ++ l ∷ [] → names_of new ≡ names_of old ++ option_to_list label

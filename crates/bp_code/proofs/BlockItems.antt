@@ -1,6 +1,7 @@
 -- Items of blocks: the i-th statement and those after it, its depth, and the code that it adds.
-use Rattle.std.proofs.Common.{◌≡◌, refl, ap, ◌∙◌, ℕ, zero, suc, ◌+◌, ◌<◌, ◌≤◌, false, List, [], ◌∷◌, ◌++◌, Option, None, Some, is_some, length, drop, get_or, arith, append_assoc}
+use Rattle.std.proofs.Common.{◌≡◌, refl, ap, ℕ, zero, suc, ◌+◌, ◌<◌, ◌≤◌, false, List, [], ◌∷◌, ◌++◌, Option, None, Some, is_some, length, drop, get_or, arith}
 use Rattle.std.specs.Option.{option_or}
+use Rattle.bp_text.proofs.GrownLists.{regrouped}
 use Rattle.bp_tree.specs.declared.stmts.Stmt.{Stmt}
 use Rattle.bp_tree.specs.Blocks.{block_of, statement_of}
 use Rattle.bp_tree.specs.Depth.{depth, statement_depth}
@@ -52,4 +53,4 @@ pub code_more : (environment : Environment) (items : List Stmt) (i : ℕ) (s : S
     → new ++ block_code environment (block_of (drop (i + 1) items)) m next ≡ all
 code_more environment items i s old new all n m follows next h e f code grown before =
     let split = rw (block_item items i s h e) at before in
-    rw (code, grown, f) (append_assoc old _ _ ∙ split)
+    rw (code, grown, f) (simp regrouped split)

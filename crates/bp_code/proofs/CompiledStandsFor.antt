@@ -1,6 +1,7 @@
 -- What a program is compiled to stands for it.
-use Rattle.std.proofs.Common.{◌≡◌, refl, sym, ap, subst, ◌∙◌, ℕ, zero, suc, ◌+◌, true, false, cond, List, [], ◌∷◌, ◌++◌, Option, None, Some, IsSome, option_map, unwrap_or, length, length-append, append_assoc, slice_get, bytes_eq, arith, add-one, add-zero}
+use Rattle.std.proofs.Common.{◌≡◌, refl, sym, ap, subst, ◌∙◌, ℕ, zero, suc, ◌+◌, true, false, cond, List, [], ◌∷◌, ◌++◌, Option, None, Some, IsSome, option_map, unwrap_or, length, length-append, slice_get, bytes_eq, arith, add-one, add-zero}
 use Rattle.std.specs.Option.{option_or}
+use Rattle.bp_text.proofs.GrownLists.{regrouped}
 use Rattle.bp_tree.specs.Ast.{Name, Block, Done, Then, Statement, Skips, GoesTo, Returns, Assigns, Branches, Loops, Asserts, Assumes, Prints, Calls, Procedure, Program}
 use Rattle.bp_code.specs.Flat.{Instruction, Heading}
 use Rattle.bp_code.specs.Continuations.{chain, has_label, from_label, from_inside}
@@ -37,7 +38,7 @@ stands_after pre (q ∷ qs) =
     let longer : length (pre ++ q ∷ []) ≡ suc (length pre) = simp length-append (omega arith) in (
       at_seam pre q qs,
       subst (λ n. StandsAt (pre ++ q ∷ qs) n qs) longer
-          (subst (λ t. StandsAt t (length (pre ++ q ∷ [])) qs) (append_assoc pre (q ∷ []) qs) (stands_after (pre ++ q ∷ []) qs)),
+          (simp regrouped at (stands_after (pre ++ q ∷ []) qs)),
     )
 
 pub stands_whole : (table : List Place) → StandsAt table 0 table

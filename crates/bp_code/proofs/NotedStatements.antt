@@ -1,7 +1,8 @@
 -- One more statement whose size and label are noted: what is noted of all statements stays the same.
-use Rattle.std.proofs.Common.{◌≡◌, refl, sym, ap, ◌∙◌, ℕ, ◌+◌, ◌<◌, Bool, true, false, if◌then◌else◌, List, ◌∷◌, ◌++◌, Option, None, Some, length, drop, get_or, append_assoc, bytes_eq, arith}
+use Rattle.std.proofs.Common.{◌≡◌, refl, sym, ap, ◌∙◌, ℕ, ◌+◌, ◌<◌, Bool, true, false, if◌then◌else◌, List, ◌∷◌, ◌++◌, Option, None, Some, length, drop, get_or, bytes_eq, arith}
 use Rattle.std.specs.Option.{option_or}
 use Rattle.std.proofs.lemmas.Slice.Eq.{bytes_eq-Decides}
+use Rattle.bp_text.proofs.GrownLists.{regrouped}
 use Rattle.bp_tree.specs.declared.stmts.Stmt.{Stmt}
 use Rattle.bp_tree.specs.Blocks.{block_of, statement_of}
 use Rattle.bp_tree.specs.Ast.{Block, Branches, Decision}
@@ -43,7 +44,7 @@ module _ (items : List Stmt) (i : ℕ) (s : Stmt) (h : i < length items) (e : s 
       → old ++ block_sizes (block_of (drop i items)) ≡ all → new ++ block_sizes (block_of (drop (i + 1) items)) ≡ all
   sizes_more old new all noted before =
       let split = rw (block_item items i s h e) at before in
-      rw noted (append_assoc old _ _ ∙ split)
+      rw noted (simp regrouped split)
 
   pub labels_more : (x : List ℕ) (n m : ℕ) (old new all : Option ℕ)
       → new ≡ option_or old (if has_label s.label x then Some n else inner_number (statement_of s.form) n x) → m ≡ n + size (statement_of s.form)

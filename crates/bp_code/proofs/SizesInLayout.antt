@@ -1,7 +1,8 @@
 -- Where the sizes of statements are in the table of a layout: from a statement to those inside it
 -- and to the next one.
-use Rattle.std.proofs.Common.{◌≡◌, refl, sym, ap, subst, ◌∙◌, ℕ, ◌+◌, ◌<◌, List, [], ◌∷◌, ◌++◌, length, length-append, drop, get_or, append_assoc, append-nil, add-zero, arith}
+use Rattle.std.proofs.Common.{◌≡◌, refl, sym, ap, subst, ◌∙◌, ℕ, ◌+◌, ◌<◌, List, [], ◌∷◌, ◌++◌, length, length-append, drop, get_or, append-nil, add-zero, arith}
 use Rattle.std.proofs.lemmas.List.{drop-drop, drop_at, get_or-drop, length-drop}
+use Rattle.bp_text.proofs.GrownLists.{regrouped}
 use Rattle.bp_tree.specs.Ast.{Block, Done, Then, Statement, Skips, GoesTo, Returns, Assigns, Branches, Loops, Asserts, Assumes, Prints, Calls}
 use Rattle.bp_tree.specs.Sizes.{block_size, size}
 use Rattle.bp_code.specs.Layouts.{block_sizes, inner_sizes, AreSizesAt}
@@ -39,14 +40,14 @@ module _ (table : List ℕ) (start : ℕ) where
   }
 
   sizes_left : (n : ℕ) (xs ys : List ℕ) → AreSizesAt table start n (xs ++ ys) → AreSizesAt table start n xs
-  sizes_left n xs ys h = record { index = h.index; number = h.number; rest = ys ++ h.rest; are = h.are ∙ append_assoc xs ys h.rest }
+  sizes_left n xs ys h = record { index = h.index; number = h.number; rest = ys ++ h.rest; are = simp regrouped at h.are }
 
   sizes_right : (n : ℕ) (xs ys : List ℕ) → AreSizesAt table start n (xs ++ ys) → AreSizesAt table start (n + length xs) ys
   sizes_right n xs ys h = record {
     index = h.index + length xs;
     number = omega (arith, h.number);
     rest = h.rest;
-    are = sym (drop-drop (length xs) h.index table) ∙ ap (drop (length xs)) (h.are ∙ append_assoc xs ys h.rest) ∙ drop_at xs (ys ++ h.rest) (length xs) refl;
+    are = sym (drop-drop (length xs) h.index table) ∙ ap (drop (length xs)) (simp regrouped at h.are) ∙ drop_at xs (ys ++ h.rest) (length xs) refl;
   }
 
   -- a size is within the table, and read there

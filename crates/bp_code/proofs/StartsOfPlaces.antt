@@ -1,5 +1,6 @@
 -- The starts of a program's places are those of its statements, procedure by procedure.
-use Rattle.std.proofs.Common.{◌≡◌, refl, ap, ap₂, ◌∙◌, ℕ, ◌+◌, ◌<◌, List, [], ◌∷◌, ◌++◌, Option, None, Some, map, length, drop, get_or, append_assoc}
+use Rattle.std.proofs.Common.{◌≡◌, refl, ap, ap₂, ◌∙◌, ℕ, ◌+◌, ◌<◌, List, [], ◌∷◌, ◌++◌, Option, None, Some, map, length, drop, get_or}
+use Rattle.bp_text.proofs.GrownLists.{regrouped}
 use Rattle.bp_tree.specs.declared.stmts.Stmt.{Stmt}
 use Rattle.bp_tree.specs.Blocks.{block_of, statement_of}
 use Rattle.bp_tree.specs.Ast.{Name, Block, Done, Then, Statement, Skips, GoesTo, Returns, Assigns, Branches, Loops, Asserts, Assumes, Prints, Calls, Procedure}
@@ -48,7 +49,7 @@ module _ (items : List Stmt) (i : ℕ) (s : Stmt) (h : i < length items) (e : s 
       → old ++ block_starts (block_of (drop i items)) ≡ all → new ++ block_starts (block_of (drop (i + 1) items)) ≡ all
   starts_more old new all noted before =
       let split = rw (block_item items i s h e) at before in
-      rw noted (append_assoc (old ++ Some s.at ∷ []) (inner_starts (statement_of s.form)) _ ∙ (append_assoc old (Some s.at ∷ []) _ ∙ split))
+      rw noted (simp regrouped split)
 
 -- one more procedure whose starts are noted, and its end
 pub procs_more : (ps : List Procedure) (i : ℕ) (p : Procedure) → i < length ps → p ≡ get_or ps i p → (old mid new all : List (Option ℕ))
@@ -56,4 +57,4 @@ pub procs_more : (ps : List Procedure) (i : ℕ) (p : Procedure) → i < length 
     → new ++ starts (places_of (drop (i + 1) ps)) ≡ all
 procs_more ps i p h e old mid new all noted last before =
     let split = rw (drop_item ps i p h e, starts_of_first p (drop (i + 1) ps)) at before in
-    rw (last, noted) (append_assoc (old ++ block_starts p.body) (None ∷ []) _ ∙ (append_assoc old (block_starts p.body) _ ∙ split))
+    rw (last, noted) (simp regrouped split)

@@ -7,9 +7,9 @@ use Rattle.bp_code.specs.Flat.{Instruction, Skip, Goto, Return, Assign, If, Whil
 abbrev pub number_field : ℕ → List ℕ
 number_field n = concat (codes " " ∷ decimal n ∷ [])
 
--- a line with numbers after its words
+-- a line with numbers after its front
 abbrev pub line : List ℕ → List ℕ → List ℕ
-line words numbers = words ++ (flat_map number_field numbers ++ codes "\n")
+line front numbers = front ++ (flat_map number_field numbers ++ codes "\n")
 
 -- the procedure's name, and its numbers of formals and of declared locals
 abbrev pub heading_line : Heading → List ℕ

@@ -78,6 +78,12 @@ impl SlotSub {
         self.inner.value(store)
     }
 
+    /// The globals in the operand.
+    #[cycle(slot_globals)]
+    pub fn globals(&self) -> u128 {
+        self.inner.globals()
+    }
+
     /// A copy. Fails only if memory is refused.
     #[cycle(slot_copy)]
     pub fn try_copy(&self) -> Result<SlotSub, AllocError>
@@ -113,6 +119,17 @@ impl SlotExpr {
                 let left = left.value(store);
                 apply(*op, left, right.value(store))
             }
+        }
+    }
+
+    /// The globals in the expression, as a word of bits.
+    #[cycle(slot_globals)]
+    pub fn globals(&self) -> u128 {
+        match self {
+            SlotExpr::Const(_) => 0,
+            SlotExpr::Var(slot) => slot.globals(),
+            SlotExpr::Not(e) => e.globals(),
+            SlotExpr::Binary(_, left, right) => left.globals() | right.globals(),
         }
     }
 
@@ -166,6 +183,14 @@ impl Test {
         match self {
             Test::Choice => bit,
             Test::Value(e) => e.value(store),
+        }
+    }
+
+    /// The globals in the test, as a word of bits.
+    pub fn globals(&self) -> u128 {
+        match self {
+            Test::Choice => 0,
+            Test::Value(e) => e.globals(),
         }
     }
 

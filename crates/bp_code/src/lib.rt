@@ -22,6 +22,7 @@ mod slots;
 pub mod starts;
 pub mod stores;
 pub mod texts;
+pub mod touched;
 mod translate;
 pub mod variables;
 
@@ -36,4 +37,5 @@ pub use programs::compile;
 pub use starts::statement_starts;
 pub use stores::Store;
 pub use texts::{CodeFault, ProgramFault, code_of, lawful_program};
+pub use touched::Touched;
 pub use variables::{bit_of, global_value, local_slot_of, local_value, slot_of};

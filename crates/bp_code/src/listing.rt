@@ -25,12 +25,12 @@ fn write_numbers<W: Write>(numbers: &[u32], out: &mut W) -> Result<(), WriteFaul
     Ok(())
 }
 
-/// Writes a line with numbers after its words.
-fn write_line<W: Write>(words: &[Piece<'_>], numbers: &[u32], out: &mut W) -> Result<(), WriteFault>
-    ensures { let text = flat_map piece_text words.now in
+/// Writes a line with numbers after its front.
+fn write_line<W: Write>(front: &[Piece<'_>], numbers: &[u32], out: &mut W) -> Result<(), WriteFault>
+    ensures { let text = flat_map piece_text front.now in
         Writes (W.contents out.old) (W.contents out.new) (line text numbers.now) result }
 {
-    put_pieces(out, words)?;
+    put_pieces(out, front)?;
     write_numbers(numbers, out)?;
     put(out, b"\n")
 }
@@ -39,8 +39,8 @@ fn write_line<W: Write>(words: &[Piece<'_>], numbers: &[u32], out: &mut W) -> Re
 fn write_heading<W: Write>(heading: &Heading, out: &mut W) -> Result<(), WriteFault>
     ensures { Writes (W.contents out.old) (W.contents out.new) (heading_line heading.now) result }
 {
-    let words = [Bytes(b"proc "), Bytes(heading.name().as_bytes())];
-    write_line(&words, &[heading.formals(), heading.locals()], out)
+    let front = [Bytes(b"proc "), Bytes(heading.name().as_bytes())];
+    write_line(&front, &[heading.formals(), heading.locals()], out)
 }
 
 /// What an instruction does.
@@ -88,8 +88,8 @@ fn write_instruction<W: Write>(number: usize, instr: &Instr, out: &mut W) -> Res
 {
     let word = Bytes(word_of(instr.action()));
     let (numbers, count) = successors(instr.action());
-    let words = [Number(number as u64), Bytes(b" "), word];
-    write_line(&words, &numbers[..count], out)
+    let front = [Number(number as u64), Bytes(b" "), word];
+    write_line(&front, &numbers[..count], out)
 }
 
 /// Writes the lines of the instructions from one number to before another.

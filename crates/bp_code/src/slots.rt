@@ -64,6 +64,14 @@ impl Slot {
         }
     }
 
+    /// The bit of this variable among the globals, where it is one.
+    pub fn globals(self) -> u128 {
+        match self {
+            Slot::Global(index) => 1 << index.number(),
+            Slot::Local(_) => 0,
+        }
+    }
+
     /// Writes the variable.
     pub fn set(self, store: &mut Store, bit: bool)
         ensures { store_of store.new ≡ with_slot (store_of store.old) self bit }

@@ -1,4 +1,4 @@
-//! The store that an instruction sees, and the words of bits in it.
+//! The store that an instruction sees, and the bits in its words.
 ghost use Rattle.std.specs.Prelude.{◌≡◌, ◌<◌, ◌≤◌, length};
 ghost use Rattle.bp_code.specs.declared.limits.TheConstants.{SLOTS};
 ghost use Rattle.bp_code.specs.Steps.{bits_from};

@@ -29,7 +29,7 @@ use Rattle.bp_messages.specs.declared.faults.Fault.TheVariants.{Memory}
 use Rattle.bp_messages.specs.declared.test_reports.TestReport.{TestReport}
 use Rattle.bp_messages.specs.Notes.{notes_of}
 use Rattle.bp_commands.specs.Tests.{tests, AreListed, IsTestable}
-use Rattle.bp_source.specs.Scenes.{AreStatements}
+use Rattle.bp_source.specs.SourceStatements.{AreStatements}
 use Rattle.bp_source.specs.StatementLines.{positions_of}
 
 module _ (start : StartOf) (x : TestOptions) (listed : Option (List ℕ)) (json : Bool) (text : List ℕ) (t : Program) (lawful : IsLawfulText text t) where

@@ -27,7 +27,7 @@ use Rattle.bp_commands.specs.NamedStarts.{by_names}
 use Rattle.bp_messages.specs.Notes.{notes_of}
 use Rattle.bp_messages.specs.Summaries.{summary_text}
 use Rattle.bp_messages.specs.SummaryObjects.{summary_objects}
-use Rattle.bp_source.specs.Scenes.{AreStatements}
+use Rattle.bp_source.specs.SourceStatements.{AreStatements}
 use Rattle.bp_source.specs.StatementLines.{positions_of, AreStatementLines}
 use Rattle.bp_source.specs.Unreached.{AreUnreachedObjects}
 

@@ -1,7 +1,7 @@
 //! The command `test`.
 ghost use Rattle.std.specs.Prelude.{◌≡◌, map, IfOk};
 ghost use Rattle.bp_code.specs.StandsFor.{places_of};
-ghost use Rattle.bp_source.specs.Scenes.{AreStatements};
+ghost use Rattle.bp_source.specs.SourceStatements.{AreStatements};
 ghost use Rattle.bp_source.specs.StatementLines.{positions_of};
 ghost use Rattle.std.specs.Thread.{IsSync};
 ghost use Rattle.bp_commands.specs.Commands.{AnswersOf};
@@ -106,7 +106,7 @@ fn description_of(
     ensures positions { IfOk result (λ d.
         d.positions.items ≡ positions_of text.now checked.now) }
     ensures statements { IfOk result (λ d.
-        let statements = map (λ words. words.items) d.statements.items in
+        let statements = map (λ v. v.items) d.statements.items in
         AreStatements text.now (places_of checked.now.procedures) statements) }
 {
     let lines = lines_of(alloc, json, listed, text, checked)?;

@@ -16,7 +16,7 @@ use Rattle.bp_code.specs.InstrEffects.{effect_of}
 use Rattle.bp_code.specs.StandsFor.{Place, place, places_of, Remains, Does, IsTestOf}
 use Rattle.bp_code.specs.Starts.{start_of_block, starts_of}
 use Rattle.bp_code.specs.Steps.{Bits, Activation, activation, instruction_effect, step_to, test_value}
-use Rattle.bp_confirm.specs.Places as spot
+use Rattle.bp_confirm.specs.Places as point
 use Rattle.bp_confirm.specs.Inferred.{bit_towards, bit_of_block, IsClearWay, IsClear, AreBothWays, IsAmbiguous}
 use Rattle.bp_confirm.specs.EffectBits.{NextNumbers, bit_towards_number, bit_of_effects, are_both_there, splits}
 
@@ -113,12 +113,12 @@ blocks s instr.Fails same = absurd cc
 blocks s instr.Blocks same = refl
 
 -- whether what begins there is at the place
-abbrev pub start_is_at : spot.Place → Option (Option ℕ) → Bool
+abbrev pub start_is_at : point.Place → Option (Option ℕ) → Bool
 start_is_at p None = false
 start_is_at p (Some start) = p start
 
 -- the instructions at the place of a thread's next step
-abbrev pub numbers_at : List (Option ℕ) → Option spot.Place → NextNumbers
+abbrev pub numbers_at : List (Option ℕ) → Option point.Place → NextNumbers
 numbers_at starts None = None
 numbers_at starts (Some p) = Some (λ n. start_is_at p (slice_get starts n))
 
@@ -133,12 +133,12 @@ module _ (t : Program) (p : Procedure) where
   there n r remains =
       slice_get-map (λ (x : Place). start_of_block x.left) table n ∙ ap (option_map (λ (x : Place). start_of_block x.left)) remains
 
-  towards : (next : Option spot.Place) (m n : ℕ) (taken other : Block) → Remains table m p taken → Remains table n p other
+  towards : (next : Option point.Place) (m n : ℕ) (taken other : Block) → Remains table m p taken → Remains table n p other
       → bit_towards_number (numbers_at starts next) m n ≡ bit_towards next taken other
   towards None m n taken other one two = refl
   towards (Some q) m n taken other one two = λ j. start_is_at q (there m taken one j) && not (start_is_at q (there n other two j))
 
-  module _ (next : Option spot.Place) (follow : Bool) (s : Store) (d e : Effect) where
+  module _ (next : Option point.Place) (follow : Bool) (s : Store) (d e : Effect) where
     -- the test of a choice is the bit
     chosen : (test : Option Formula) → IsTestOf t p test Choose → (bit : Bool) → test_value (store_of s) bit test ≡ bit
     chosen test is bit = is.equal (store_of s) bit
@@ -230,7 +230,7 @@ module _ (t : Program) (p : Procedure) where
         let places : place p taken ≡ place p other = cc in
         ap (λ (x : Place). x.left) places
 
-    by_numbers : (o : Option spot.Place) (m k : ℕ) (taken other : Block) → Remains table m p taken → Remains table k p other
+    by_numbers : (o : Option point.Place) (m k : ℕ) (taken other : Block) → Remains table m p taken → Remains table k p other
         → SplitTells (are_both_there (numbers_at starts o) m k) (IsClearWay o taken other) (AreBothWays t o taken other)
     by_numbers None m k taken other one two = record { no = λ e. tt; split = λ e. absurd (false≢true e) }
     by_numbers (Some q) m k taken other one two =

@@ -4,7 +4,7 @@ pub mod StepMoves
 pub mod Transfer
 pub mod LocalRefusals
 pub mod BitsOfEffects
-pub mod SpotsOfInstructions
+pub mod PointsOfInstructions
 pub mod StandsOfInstructions
 pub mod NextLocations
 pub mod ValuesSeen

@@ -1,5 +1,6 @@
 -- A text begins with at most one name, and with at most one value.
-use Rattle.std.proofs.Common.{◌≡◌, ◌≢◌, inl, inr, ℕ, suc, Bool, true, false, List, [], ◌∷◌, ◌++◌, refl, sym, ap, ◌∙◌, subst, append_assoc, ◌+◌, length, take, arith}
+use Rattle.std.proofs.Common.{◌≡◌, ◌≢◌, inl, inr, ℕ, suc, Bool, true, false, List, [], ◌∷◌, ◌++◌, refl, sym, ap, ◌∙◌, subst, ◌+◌, length, take, arith}
+use Rattle.bp_text.proofs.GrownLists.{regrouped}
 use Rattle.bp_trace.specs.Schedules.{bit_digit}
 use Rattle.bp_trace.specs.Writable.{Without}
 use Rattle.bp_confirm.specs.StepTexts.{value_text, IsBraced, IsPlain, IsStepName}
@@ -7,11 +8,8 @@ use Rattle.bp_confirm.specs.LineReading.{BeginsWith, IsCut, IsNameAt, HasNoName,
 use Rattle.bp_confirm.proofs.Cuts.{same_head, one_cut, no_cut, without_front}
 
 -- a braced name, and what comes after it
-braced_then : (inner more : List ℕ) → (123 ∷ (inner ++ 125 ∷ [])) ++ more ≡ (123 ∷ inner) ++ 125 ∷ more
-braced_then inner more = ap (λ x. 123 ∷ x) (append_assoc inner (125 ∷ []) more)
-
 braced_cut : (name : List ℕ) (is : IsBraced name) (more : List ℕ) → name ++ more ≡ (123 ∷ is.inner) ++ 125 ∷ more
-braced_cut name is more = ap (λ x. x ++ more) is.is ∙ braced_then is.inner more
+braced_cut name is more = ap (λ x. x ++ more) is.is ∙ simp regrouped
 
 braced_closed : (name : List ℕ) (is : IsBraced name) → Without 125 (123 ∷ is.inner)
 braced_closed name is = (λ e. absurd (omega (arith, e)), is.closed)
@@ -77,7 +75,7 @@ module _ (text : List ℕ) (line : Without 10 text) where
           ∙ take_one_more inner 125 rest in
           record {
             name_is = inl (subst IsBraced (sym own) (inner_braced inner refl));
-            parts = cut.parts ∙ ap (λ x. inner ++ 125 ∷ x) sign ∙ sym (append_assoc inner (125 ∷ []) (61 ∷ more)) ∙ ap (λ x. x ++ 61 ∷ more) (sym own);
+            parts = cut.parts ∙ rw (sign, own) (simp regrouped);
           }
 
   module _ (unbraced : BeginsWith 123 text → ⊥) where
@@ -119,7 +117,7 @@ module _ (text : List ℕ) (line : Without 10 text) where
 
 -- a value: a space, the name, an equals sign and the bit
 pub value_then : (v : List ℕ × Bool) (rest : List ℕ) → value_text v ++ rest ≡ 32 ∷ (v.0 ++ 61 ∷ bit_digit v.1 ∷ rest)
-value_then v rest = ap (λ x. 32 ∷ x) (append_assoc v.0 (61 ∷ bit_digit v.1 ∷ []) rest)
+value_then v rest = simp regrouped
 
 one_bit : (a b : Bool) → bit_digit a ≡ bit_digit b → a ≡ b
 one_bit true true e = refl
@@ -129,8 +127,8 @@ one_bit false false e = refl
 
 pub one_value : (v w : List ℕ × Bool) (x y : List ℕ) → IsStepName v.0 → IsStepName w.0 → value_text v ++ x ≡ value_text w ++ y → (v ≡ w) × (x ≡ y)
 one_value v w x y p q e =
-    let words = (same_head 32 32 _ _ (sym (value_then v x) ∙ e ∙ value_then w y)).1 in
-    let name = one_name v.0 w.0 (bit_digit v.1 ∷ x) (bit_digit w.1 ∷ y) p q words in
+    let field = (same_head 32 32 _ _ (sym (value_then v x) ∙ e ∙ value_then w y)).1 in
+    let name = one_name v.0 w.0 (bit_digit v.1 ∷ x) (bit_digit w.1 ∷ y) p q field in
     let bits = same_head (bit_digit v.1) (bit_digit w.1) x y name.1 in
     let bit = one_bit v.1 w.1 bits.0 in
     (λ j. (name.0 j, bit j), bits.1)
@@ -139,20 +137,20 @@ module _ (text : List ℕ) where
   pub no_space_no_value : ((rest : List ℕ) → text ≢ 32 ∷ rest) → HasNoValue text
   no_space_no_value none = λ v rest is e. none (v.0 ++ 61 ∷ bit_digit v.1 ∷ rest) (e ∙ value_then v rest)
 
-  module _ (words : List ℕ) (spaced : text ≡ 32 ∷ words) where
-    words_are : (v : List ℕ × Bool) (rest : List ℕ) → text ≡ value_text v ++ rest → words ≡ v.0 ++ 61 ∷ bit_digit v.1 ∷ rest
-    words_are v rest e = (same_head 32 32 words (v.0 ++ 61 ∷ bit_digit v.1 ∷ rest) (sym spaced ∙ e ∙ value_then v rest)).1
+  module _ (field : List ℕ) (spaced : text ≡ 32 ∷ field) where
+    field_is : (v : List ℕ × Bool) (rest : List ℕ) → text ≡ value_text v ++ rest → field ≡ v.0 ++ 61 ∷ bit_digit v.1 ∷ rest
+    field_is v rest e = (same_head 32 32 field (v.0 ++ 61 ∷ bit_digit v.1 ∷ rest) (sym spaced ∙ e ∙ value_then v rest)).1
 
-    pub words_line : Without 10 text → Without 10 words
-    words_line line = (subst (Without 10) spaced line).1
+    pub field_line : Without 10 text → Without 10 field
+    field_line line = (subst (Without 10) spaced line).1
 
-    pub no_name_no_value : HasNoName words → HasNoValue text
-    no_name_no_value none = λ v rest is e. none v.0 (bit_digit v.1 ∷ rest) is (words_are v rest e)
+    pub no_name_no_value : HasNoName field → HasNoValue text
+    no_name_no_value none = λ v rest is e. none v.0 (bit_digit v.1 ∷ rest) is (field_is v rest e)
 
-    module _ (name digit : List ℕ) (at : IsNameAt words name digit) where
+    module _ (name digit : List ℕ) (at : IsNameAt field name digit) where
       pub no_bit_no_value : ((b : Bool) (rest : List ℕ) → digit ≢ bit_digit b ∷ rest) → HasNoValue text
       no_bit_no_value none = λ v rest is e.
-          none v.1 rest (one_name name v.0 digit (bit_digit v.1 ∷ rest) at.name_is is (sym at.parts ∙ words_are v rest e)).1
+          none v.1 rest (one_name name v.0 digit (bit_digit v.1 ∷ rest) at.name_is is (sym at.parts ∙ field_is v rest e)).1
 
       pub has_value : (b : Bool) (rest : List ℕ) → digit ≡ bit_digit b ∷ rest → IsValueAt text (name, b) rest
       has_value b rest is = record {

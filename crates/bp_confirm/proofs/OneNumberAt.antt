@@ -1,11 +1,12 @@
 -- A text begins with at most one number; and the first bytes of a text that are digits.
-use Rattle.std.proofs.Common.{◌≡◌, ◌≢◌, ◌⊎◌, inl, inr, ℕ, ◌+◌, ◌-◌, ◌*◌, ◌<◌, ◌≤◌, ◌^◌, List, [], ◌∷◌, ◌++◌, length, length-append, append_assoc, take, get_or, refl, sym, ap, ◌∙◌, arith, decimal}
+use Rattle.std.proofs.Common.{◌≡◌, ◌≢◌, ◌⊎◌, inl, inr, ℕ, ◌+◌, ◌-◌, ◌*◌, ◌<◌, ◌≤◌, ◌^◌, List, [], ◌∷◌, ◌++◌, length, length-append, take, get_or, refl, sym, ap, ◌∙◌, arith, decimal}
 use Rattle.std.specs.Str.Parse.{AllDigits, digits_value}
 use Rattle.std.proofs.lemmas.Bool.{cases_lt}
 use Rattle.std.proofs.lemmas.Int.Digits.{digits_push, digits_value_push}
 use Rattle.std.proofs.lemmas.Str.{digit_value_digit}
 use Rattle.std.proofs.lemmas.Str.Parse.{digit_from_value, digits_value-take-le}
 use Rattle.std.proofs.lemmas.Fmt.{decimal_digit, decimal_nonempty, decimal-digits_value, digits_decimal, digits_value-decimal, first_decimal}
+use Rattle.bp_text.proofs.GrownLists.{regrouped}
 use Rattle.bp_text.proofs.Numerals.{numerals}
 use Rattle.bp_confirm.specs.StepTexts.{IsShort}
 use Rattle.bp_confirm.specs.LineReading.{EndsNumber, IsNumberAt, HasNoNumber}
@@ -119,7 +120,7 @@ module _ (text : List ℕ) where
       all_longer = digits_push 10 front.digits c front.all (omega (arith, digit_value_digit c (low, high)))
 
       longer_parts : text ≡ (front.digits ++ c ∷ []) ++ more
-      longer_parts = front.parts ∙ ap (λ xs. front.digits ++ xs) is ∙ sym (append_assoc front.digits (c ∷ []) more)
+      longer_parts = front.parts ∙ ap (λ xs. front.digits ++ xs) is ∙ simp regrouped
 
       longer_value : digits_value 10 (front.digits ++ c ∷ []) ≡ number * 10 + (c - 48)
       longer_value = omega (arith, digits_value_push 10 front.digits c, front.value, digit_value_digit c (low, high))
@@ -149,7 +150,7 @@ module _ (text : List ℕ) where
 
           padded_by : (tail ds : List ℕ) → ds ≡ (front.digits ++ c ∷ []) ++ tail → (1 < length ds) × (get_or ds 0 0 ≡ 48)
           padded_by tail ds e =
-              let whole = e ∙ append_assoc front.digits (c ∷ []) tail in (
+              let whole = simp regrouped at e in (
                 omega (arith, ap length whole, length-append front.digits (c ∷ tail), front.some),
                 ap (λ xs. get_or xs 0 0) whole ∙ first_zero front.digits front.all front.some (sym front.value ∙ zero) (c ∷ tail),
               )

@@ -1,11 +1,12 @@
 -- No two bytes of a text have one position.
-use Rattle.std.proofs.Common.{◌≡◌, ◌≢◌, ◌<◌, ◌≤◌, ◌+◌, ◌-◌, ◌==◌, ◌++◌, ℕ, suc, Bool, true, false, cond, not, List, [], ◌∷◌, length, reverse, take, drop, get_or, refl, ap, sym, ◌∙◌, subst, arith, inl, inr, ◌⊎◌, append_assoc, length-append}
+use Rattle.std.proofs.Common.{◌≡◌, ◌≢◌, ◌<◌, ◌≤◌, ◌+◌, ◌-◌, ◌==◌, ◌++◌, ℕ, suc, Bool, true, false, cond, not, List, [], ◌∷◌, length, reverse, take, drop, get_or, refl, ap, sym, ◌∙◌, subst, arith, inl, inr, ◌⊎◌, length-append}
 use Rattle.std.specs.List.{prefix_len, filter}
 use Rattle.std.proofs.lemmas.List.{take-take, drop-take, take-append-drop, reverse-append}
 use Rattle.std.proofs.lemmas.List.Elements.{filter-append}
 use Rattle.std.proofs.lemmas.List.Folds.{length-prefix_len}
 use Rattle.std.proofs.lemmas.Bool.{cases_order}
 use Rattle.std.proofs.Math.Seq.{drop-cons}
+use Rattle.bp_text.proofs.GrownLists.{regrouped}
 use Rattle.bp_text.specs.declared.positions.Position.{Position}
 use Rattle.bp_text.specs.Positions.{position_after, position_at}
 
@@ -51,8 +52,7 @@ some_bytes : (front : List ℕ) (b : ℕ) (rest : List ℕ) → IsBefore (positi
 some_bytes front b [] = one_byte front b
 some_bytes front b (d ∷ rest) =
     before_trans (position_after front) (position_after (front ++ b ∷ [])) (position_after (front ++ b ∷ d ∷ rest)) (one_byte front b)
-    (subst (λ ys. IsBefore (position_after (front ++ b ∷ [])) (position_after ys))
-    (append_assoc front (b ∷ []) (d ∷ rest)) (some_bytes (front ++ b ∷ []) d rest))
+    (simp regrouped at (some_bytes (front ++ b ∷ []) d rest))
 
 -- no two bytes of a text have one position
 pub other_position : (text : List ℕ) (a b : ℕ) → a < b → b ≤ length text → position_at text a ≢ position_at text b

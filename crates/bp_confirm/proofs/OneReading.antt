@@ -1,7 +1,8 @@
 -- A text has at most one list of steps, and none where one of its lines is malformed.
-use Rattle.std.proofs.Common.{◌≡◌, ◌≢◌, ◌+◌, ◌≤◌, ℕ, suc, List, [], ◌∷◌, ◌++◌, length, refl, sym, ap, ◌∙◌, append_assoc, length-append, arith, codes}
+use Rattle.std.proofs.Common.{◌≡◌, ◌≢◌, ◌+◌, ◌≤◌, ℕ, suc, List, [], ◌∷◌, ◌++◌, length, refl, sym, ap, ◌∙◌, length-append, arith, codes}
 use Rattle.std.specs.List.{AllByRecursion}
 use Rattle.std.proofs.lemmas.List.{append-nil}
+use Rattle.bp_text.proofs.GrownLists.{others_after, regrouped}
 use Rattle.bp_confirm.specs.StepLines.{StepLineOf}
 use Rattle.bp_confirm.specs.StepTexts.{HasLine, line_text, steps_text}
 use Rattle.bp_confirm.specs.LineReading.{HasNoStep, IsStepAt}
@@ -10,7 +11,11 @@ use Rattle.bp_confirm.proofs.OneStepLine.{one_step, line_without_feed}
 
 -- a line, and the text after it
 pub steps_then : (x : StepLineOf) (more : List ℕ) → (line_text x ++ codes "\n") ++ more ≡ line_text x ++ 10 ∷ more
-steps_then x more = append_assoc (line_text x) (10 ∷ []) more
+steps_then x more = simp regrouped
+
+-- the first of some lines, and the others with the text after them
+first_line : (x : StepLineOf) (xs : List StepLineOf) (rest : List ℕ) → steps_text (x ∷ xs) ++ rest ≡ (line_text x ++ codes "\n") ++ (steps_text xs ++ rest)
+first_line x xs rest = others_after _ (line_text x ++ codes "\n") (steps_text xs) rest refl
 
 -- no line begins the rest
 abbrev pub BeginsNoLine : List ℕ → Type 0
@@ -42,9 +47,9 @@ pub bad_begins : (xs before : List StepLineOf) (rest : List ℕ) → AllByRecurs
 bad_begins [] [] rest p q e some none = some (sym e)
 bad_begins (x ∷ xs) [] rest p q e some none = none x (steps_text xs) p.0 (sym e ∙ steps_then x (steps_text xs))
 bad_begins [] (y ∷ before) rest p q e some none =
-    starts_not y (steps_text before ++ rest) (e ∙ append_assoc (line_text y ++ codes "\n") (steps_text before) rest ∙ steps_then y (steps_text before ++ rest))
+    starts_not y (steps_text before ++ rest) (e ∙ first_line y before rest ∙ steps_then y (steps_text before ++ rest))
 bad_begins (x ∷ xs) (y ∷ before) rest p q e some none =
-    let both = one_line x y (steps_text xs) (steps_text before ++ rest) p.0 q.0 (e ∙ append_assoc (line_text y ++ codes "\n") (steps_text before) rest) in
+    let both = one_line x y (steps_text xs) (steps_text before ++ rest) p.0 q.0 (e ∙ first_line y before rest) in
     bad_begins xs before rest p.1 q.1 both.1 some none
 
 -- two bad lines are the same
@@ -52,19 +57,17 @@ pub one_bad : (a b : List StepLineOf) (x y : List ℕ) → AllByRecursion HasLin
     → BeginsNoLine x → BeginsNoLine y → length a ≡ length b
 one_bad [] [] x y p q e none other = refl
 one_bad (c ∷ a) [] x y p q e none other =
-    absurd (other c (steps_text a ++ x) p.0 (sym e ∙ append_assoc (line_text c ++ codes "\n") (steps_text a) x ∙ steps_then c (steps_text a ++ x)))
+    absurd (other c (steps_text a ++ x) p.0 (sym e ∙ first_line c a x ∙ steps_then c (steps_text a ++ x)))
 one_bad [] (d ∷ b) x y p q e none other =
-    absurd (none d (steps_text b ++ y) q.0 (e ∙ append_assoc (line_text d ++ codes "\n") (steps_text b) y ∙ steps_then d (steps_text b ++ y)))
+    absurd (none d (steps_text b ++ y) q.0 (e ∙ first_line d b y ∙ steps_then d (steps_text b ++ y)))
 one_bad (c ∷ a) (d ∷ b) x y p q e none other =
-    let whole = sym (append_assoc (line_text c ++ codes "\n") (steps_text a) x) ∙ e ∙ append_assoc (line_text d ++ codes "\n") (steps_text b) y in
-    let both = one_line c d (steps_text a ++ x) (steps_text b ++ y) p.0 q.0 whole in
+    let both = one_line c d (steps_text a ++ x) (steps_text b ++ y) p.0 q.0 (sym (first_line c a x) ∙ e ∙ first_line d b y) in
     ap suc (one_bad a b x y p.1 q.1 both.1 none other)
 
 steps_append : (xs : List StepLineOf) (x : StepLineOf) → steps_text (xs ++ x ∷ []) ≡ steps_text xs ++ (line_text x ++ codes "\n")
 steps_append [] x = append-nil (line_text x ++ codes "\n")
 steps_append (y ∷ xs) x =
-    ap (λ z. (line_text y ++ codes "\n") ++ z) (steps_append xs x)
-    ∙ sym (append_assoc (line_text y ++ codes "\n") (steps_text xs) (line_text x ++ codes "\n"))
+    ap (λ z. (line_text y ++ codes "\n") ++ z) (steps_append xs x) ∙ sym (first_line y xs (line_text x ++ codes "\n"))
 
 each_append : (xs : List StepLineOf) (x : StepLineOf) → AllByRecursion HasLine xs → HasLine x → AllByRecursion HasLine (xs ++ x ∷ [])
 each_append [] x p q = (q, tt)
@@ -76,8 +79,7 @@ pub line_more : (text : List ℕ) (xs : List StepLineOf) (rest more : List ℕ) 
     → AllByRecursion HasLine (xs ++ x ∷ []) × (text ≡ steps_text (xs ++ x ∷ []) ++ more)
 line_more text xs rest more x each is at = (
   each_append xs x each at.has,
-  is ∙ ap (λ z. steps_text xs ++ z) (at.parts ∙ sym (steps_then x more)) ∙ sym (append_assoc (steps_text xs) (line_text x ++ codes "\n") more)
-      ∙ ap (λ z. z ++ more) (sym (steps_append xs x)),
+  is ∙ ap (λ z. steps_text xs ++ z) at.parts ∙ rw (steps_append xs x) (simp regrouped),
 )
 
 pub rest_shorter : (rest more : List ℕ) (x : StepLineOf) → IsStepAt rest x more → length more + 1 ≤ length rest

@@ -1,5 +1,6 @@
 -- A text begins with at most one location, and with the line of at most one step.
-use Rattle.std.proofs.Common.{◌≡◌, ◌≢◌, ℕ, List, [], ◌∷◌, ◌++◌, refl, sym, ap, ◌∙◌, append_assoc, arith, decimal}
+use Rattle.std.proofs.Common.{◌≡◌, ◌≢◌, ℕ, List, [], ◌∷◌, ◌++◌, refl, sym, ap, ◌∙◌, arith, decimal}
+use Rattle.bp_text.proofs.GrownLists.{regrouped}
 use Rattle.bp_code.specs.Values.{Valuation}
 use Rattle.bp_trace.specs.Writable.{Without}
 use Rattle.bp_confirm.specs.declared.locations.Location.{Location}
@@ -13,7 +14,7 @@ use Rattle.bp_confirm.proofs.OneNumberAt.{ends_at, one_number}
 use Rattle.bp_confirm.proofs.OneStepLine.{digit_no_dash, values_without_feed}
 
 colon_then : (n m : ℕ) (rest : List ℕ) → location_text (Column n m) ++ rest ≡ decimal n ++ 58 ∷ (decimal m ++ rest)
-colon_then n m rest = append_assoc (decimal n) (58 ∷ decimal m) rest
+colon_then n m rest = simp regrouped
 
 one_location_at : (x y : Location) (a b : List ℕ) → IsShortLocation x → IsShortLocation y → EndsLocation x a → EndsLocation y b
     → location_text x ++ a ≡ location_text y ++ b → (x ≡ y) × (a ≡ b)
@@ -106,9 +107,7 @@ abbrev after_thread : StepLineOf → List ℕ → List ℕ
 after_thread x more = location_text x.location ++ after_location x more
 
 line_then : (x : StepLineOf) (more : List ℕ) → line_text x ++ 10 ∷ more ≡ decimal x.thread ++ 32 ∷ after_thread x more
-line_then x more =
-    append_assoc (decimal x.thread) (32 ∷ (location_text x.location ++ values_text x.values)) (10 ∷ more)
-    ∙ ap (λ z. decimal x.thread ++ 32 ∷ z) (append_assoc (location_text x.location) (values_text x.values) (10 ∷ more))
+line_then x more = simp regrouped
 
 -- the values that begin a text before its first line feed
 module _ (text : List ℕ) where
@@ -135,23 +134,23 @@ module _ (text : List ℕ) where
         one_number thread x.thread rest (32 ∷ after_thread x more) number.short at.has.thread number.ends (ends_at 32 no_space (after_thread x more))
         (sym number.parts ∙ at.parts ∙ line_then x more)
 
-    pub no_space_after : ((words : List ℕ) → rest ≢ 32 ∷ words) → HasNoStep text
+    pub no_space_after : ((field : List ℕ) → rest ≢ 32 ∷ field) → HasNoStep text
     no_space_after none = λ x more at. none (after_thread x more) (thread_is x more at).1
 
-    module _ (words : List ℕ) (spaced : rest ≡ 32 ∷ words) where
-      words_are : (x : StepLineOf) (more : List ℕ) → IsStepAt text x more → words ≡ after_thread x more
-      words_are x more at = (same_head 32 32 words (after_thread x more) (sym spaced ∙ (thread_is x more at).1)).1
+    module _ (field : List ℕ) (spaced : rest ≡ 32 ∷ field) where
+      field_is : (x : StepLineOf) (more : List ℕ) → IsStepAt text x more → field ≡ after_thread x more
+      field_is x more at = (same_head 32 32 field (after_thread x more) (sym spaced ∙ (thread_is x more at).1)).1
 
-      pub no_location : HasNoLocation words → HasNoStep text
+      pub no_location : HasNoLocation field → HasNoStep text
       no_location none = λ x more at.
           none x.location (after_location x more)
-          (record { short = at.has.location; parts = words_are x more at; ends = location_ends x.location x.values more })
+          (record { short = at.has.location; parts = field_is x more at; ends = location_ends x.location x.values more })
 
-      module _ (location : Location) (values : List ℕ) (there : IsLocationAt words location values) where
+      module _ (location : Location) (values : List ℕ) (there : IsLocationAt field location values) where
         values_are : (x : StepLineOf) (more : List ℕ) → IsStepAt text x more → values ≡ after_location x more
         values_are x more at =
             (one_location_at location x.location values (after_location x more) there.short at.has.location there.ends (location_ends x.location x.values more)
-            (sym there.parts ∙ words_are x more at)).1
+            (sym there.parts ∙ field_is x more at)).1
 
         pub no_values_line : HasNoValuesLine values → HasNoStep text
         no_values_line none = λ x more at. none x.values more at.has.values (values_are x more at)
@@ -163,8 +162,8 @@ module _ (text : List ℕ) where
           parts =
               let vs = values_in own in
               let values_is : values ≡ values_text (values_in own) ++ 10 ∷ next = is.parts ∙ ap (λ z. z ++ 10 ∷ next) is.says.1 in
-              let words_is : words ≡ location_text location ++ (values_text (values_in own) ++ 10 ∷ next) =
+              let fields_are : field ≡ location_text location ++ (values_text (values_in own) ++ 10 ∷ next) =
               there.parts ∙ ap (λ z. location_text location ++ z) values_is in
-              number.parts ∙ ap (λ z. decimal thread ++ z) (spaced ∙ ap (λ z. 32 ∷ z) words_is)
+              number.parts ∙ ap (λ z. decimal thread ++ z) (spaced ∙ ap (λ z. 32 ∷ z) fields_are)
               ∙ sym (line_then (record { thread = thread; location = location; values = values_in own }) next);
         }

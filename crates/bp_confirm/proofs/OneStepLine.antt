@@ -1,7 +1,8 @@
 -- A line says at most one step.
-use Rattle.std.proofs.Common.{◌≡◌, ◌≢◌, inl, inr, ℕ, ◌<◌, Bool, true, false, List, [], ◌∷◌, ◌++◌, ◌+◌, length, refl, sym, ap, ◌∙◌, subst, append_assoc, arith, codes, decimal}
+use Rattle.std.proofs.Common.{◌≡◌, ◌≢◌, inl, inr, ℕ, ◌<◌, Bool, true, false, List, [], ◌∷◌, ◌++◌, length, refl, sym, ap, ◌∙◌, subst, arith, codes, decimal}
 use Rattle.std.proofs.lemmas.Fmt.{decimal_nonempty}
 use Rattle.std.proofs.lemmas.List.{append-nil}
+use Rattle.bp_text.proofs.GrownLists.{regrouped}
 use Rattle.bp_code.specs.Values.{Valuation}
 use Rattle.bp_trace.specs.Schedules.{bit_digit}
 use Rattle.bp_trace.specs.Writable.{Without}
@@ -61,9 +62,9 @@ values_begin : (vs ws : Valuation) (rest : List ℕ) → AreNamed vs → AreName
     → (others : Valuation) × AreNamed others × (rest ≡ values_text others) × (ws ≡ vs ++ others)
 values_begin [] ws rest p q e = (ws, q, e, refl)
 values_begin (v ∷ vs) [] rest p q e =
-    absurd (let whole = sym (value_then v (values_text vs ++ rest)) ∙ sym (append_assoc (value_text v) (values_text vs) rest) ∙ e in cc)
+    absurd (let whole = simp regrouped at e in cc)
 values_begin (v ∷ vs) (w ∷ ws) rest p q e =
-    let one = one_value v w (values_text vs ++ rest) (values_text ws) p.0 q.0 (sym (append_assoc (value_text v) (values_text vs) rest) ∙ e) in
+    let one = one_value v w (values_text vs ++ rest) (values_text ws) p.0 q.0 (simp regrouped (simp regrouped at e)) in
     let (others, named, is, parts) = values_begin vs ws rest p.1 q.1 one.1 in
     (others, named, is, λ j. sym one.0 j ∷ parts j)
 
@@ -88,7 +89,7 @@ no_value_no_values text vs rest named is some none = λ ws q e.
 
 values_append : (vs : Valuation) (v : List ℕ × Bool) → values_text (vs ++ v ∷ []) ≡ values_text vs ++ value_text v
 values_append [] v = append-nil (value_text v)
-values_append (w ∷ vs) v = ap (λ x. value_text w ++ x) (values_append vs v) ∙ sym (append_assoc (value_text w) (values_text vs) (value_text v))
+values_append (w ∷ vs) v = ap (λ x. value_text w ++ x) (values_append vs v) ∙ simp regrouped
 
 named_append : (vs : Valuation) (v : List ℕ × Bool) → AreNamed vs → IsStepName v.0 → AreNamed (vs ++ v ∷ [])
 named_append [] v p q = (q, tt)
@@ -100,7 +101,7 @@ pub values_more : (text : List ℕ) (vs : Valuation) (rest : List ℕ) (v : List
     → AreNamed (vs ++ v ∷ []) × (text ≡ values_text (vs ++ v ∷ []) ++ more)
 values_more text vs rest v more named is at = (
   named_append vs v named at.name,
-  is ∙ ap (λ x. values_text vs ++ x) at.parts ∙ sym (append_assoc (values_text vs) (value_text v) more) ∙ ap (λ x. x ++ more) (sym (values_append vs v)),
+  is ∙ ap (λ x. values_text vs ++ x) at.parts ∙ rw (values_append vs v) (simp regrouped),
 )
 
 pub line_rest : (rest : List ℕ) (v : List ℕ × Bool) (more : List ℕ) → IsValueAt rest v more → Without 10 rest → Without 10 more

@@ -1,6 +1,7 @@
 -- Steps have at most one refusal, and none where a history confirms them.
-use Rattle.std.proofs.Common.{◌≡◌, ◌∙◌, ◌⊎◌, inl, inr, ◌+◌, ℕ, List, [], ◌∷◌, ◌++◌, length, refl, ap, sym, subst, append_assoc}
+use Rattle.std.proofs.Common.{◌≡◌, ◌∙◌, ◌⊎◌, inl, inr, ◌+◌, ℕ, List, [], ◌∷◌, ◌++◌, length, refl, ap, sym, subst}
 use Rattle.std.proofs.lemmas.List.{append-nil, map-append, map_push}
+use Rattle.bp_text.proofs.GrownLists.{regrouped}
 use Rattle.bp_tree.specs.Ast.{Program}
 use Rattle.bp_code.specs.LawfulTexts.{IsLawfulText}
 use Rattle.bp_machine.specs.declared.calls.Call.{Call}
@@ -62,11 +63,12 @@ module _ (t : Program) (s : SetupOf) where
   follow_to h (z ∷ zs) x ys later [] f = absurd f
   follow_to h (z ∷ zs) x ys later (m ∷ ms) f =
       let rest = follow_to (h ++ m ∷ []) zs x ys later ms f.1 in
+      let first : Follows t s h z ((zs ++ x ∷ ys) ++ later) m = f.0 in
       record {
         front = m ∷ rest.front;
-        before = (subst (λ ws. Follows t s h z ws m) (append_assoc zs (x ∷ ys) later) f.0, rest.before);
+        before = (simp regrouped at first, rest.before);
         call = rest.call;
-        here = subst (λ k. Follows t s k x (ys ++ later) rest.call) (append_assoc h (m ∷ []) rest.front) rest.here;
+        here = simp regrouped at rest.here;
       }
 
 module _ (text : List ℕ) (t : Program) (is : IsLawfulText text t) (s : SetupOf) (lines : List StepLineOf)

@@ -1,7 +1,8 @@
--- The steps that a history makes are told by the spots of instructions, and are those of its run.
-use Rattle.std.proofs.Common.{◌≡◌, ◌∙◌, ℕ, ◌+◌, zero, suc, Bool, true, false, cond, List, [], ◌∷◌, ◌++◌, Option, None, Some, refl, ap, sym, subst, option_map, unwrap_or, append_assoc}
+-- The steps that a history makes are told by the points of instructions, and are those of its run.
+use Rattle.std.proofs.Common.{◌≡◌, ◌∙◌, ℕ, ◌+◌, zero, suc, Bool, true, false, cond, List, [], ◌∷◌, ◌++◌, Option, None, Some, refl, ap, sym, subst, option_map, unwrap_or}
 use Rattle.std.proofs.lemmas.List.{append-nil}
 use Rattle.std.specs.Prelude.{slice_get}
+use Rattle.bp_text.proofs.GrownLists.{both_added}
 use Rattle.bp_tree.specs.Ast.{Program}
 use Rattle.bp_text.specs.Positions.{position_at}
 use Rattle.bp_code.specs.Configurations.{Configuration}
@@ -16,39 +17,39 @@ use Rattle.bp_machine.specs.Tops.{IsTop}
 use Rattle.bp_machine.proofs.GrantedSteps.{is_step, step_moves}
 use Rattle.bp_machine.proofs.HistoryWithCall.{configuration_after-append}
 use Rattle.bp_confirm.specs.declared.noted_steps.OwnStep.{OwnStep}
-use Rattle.bp_confirm.specs.declared.spots.Spot.{Spot}
+use Rattle.bp_confirm.specs.declared.source_points.SourcePoint.{SourcePoint}
 use Rattle.bp_confirm.specs.OwnLines.{next_start, AreOwnLines}
 use Rattle.bp_confirm.specs.OwnSteps.{own_step, own_steps, own_steps_from, lines_of_steps, step_line, StepsAreOfTheRun, TextIsOfLines}
-use Rattle.bp_confirm.specs.Spots.{spots_from, spots_of}
+use Rattle.bp_confirm.specs.SourcePoints.{points_from, source_points_of}
 use Rattle.bp_confirm.proofs.ValuesSeen.{top_start}
 
--- the position of a spot
+-- the position of a point
 module _ (text : List ℕ) where
   position_from : (k : ℕ) (starts : List (Option ℕ)) (n : ℕ) (start : Option ℕ) → slice_get starts n ≡ Some start
-      → option_map (λ (s : Spot). s.position) (slice_get (spots_from text k starts) n) ≡ Some (option_map (position_at text) start)
+      → option_map (λ (s : SourcePoint). s.position) (slice_get (points_from text k starts) n) ≡ Some (option_map (position_at text) start)
   position_from k [] n start at = absurd cc
   position_from k (None ∷ starts) zero start at = ap (option_map (option_map (position_at text))) at
   position_from k (Some a ∷ starts) zero start at = ap (option_map (option_map (position_at text))) at
   position_from k (None ∷ starts) (suc n) start at = position_from (k + 1) starts n start at
   position_from k (Some a ∷ starts) (suc n) start at = position_from k starts n start at
 
-  spot_start : (t : Program) (spots : List Spot) (c : Configuration) (i : ℕ) (x : Top) → spots ≡ spots_of text t → IsTop t c i x
-      → option_map (λ (s : Spot). s.position) (slice_get spots x.number) ≡ Some (option_map (position_at text) (next_start (stack_of c i)))
-  spot_start t spots c i x are is =
-      ap (λ ss. option_map (λ (s : Spot). s.position) (slice_get ss x.number)) are
+  point_start : (t : Program) (points : List SourcePoint) (c : Configuration) (i : ℕ) (x : Top) → points ≡ source_points_of text t → IsTop t c i x
+      → option_map (λ (s : SourcePoint). s.position) (slice_get points x.number) ≡ Some (option_map (position_at text) (next_start (stack_of c i)))
+  point_start t points c i x are is =
+      ap (λ ss. option_map (λ (s : SourcePoint). s.position) (slice_get ss x.number)) are
       ∙ position_from 0 (starts_of t) x.number (start_of_block is.frame.left) (top_start t c i x is)
       ∙ ap (λ S. Some (option_map (position_at text) (next_start S))) (sym is.stack)
 
-  pub spot_there : (t : Program) (spots : List Spot) (c : Configuration) (i : ℕ) (x : Top) (spot : Spot)
-      → spots ≡ spots_of text t → IsTop t c i x → slice_get spots x.number ≡ Some spot
-      → spot.position ≡ option_map (position_at text) (next_start (stack_of c i))
-  spot_there t spots c i x spot are is at =
-      let same = sym (ap (option_map (λ (s : Spot). s.position)) at) ∙ spot_start t spots c i x are is in
+  pub point_there : (t : Program) (points : List SourcePoint) (c : Configuration) (i : ℕ) (x : Top) (point : SourcePoint)
+      → points ≡ source_points_of text t → IsTop t c i x → slice_get points x.number ≡ Some point
+      → point.position ≡ option_map (position_at text) (next_start (stack_of c i))
+  point_there t points c i x point are is at =
+      let same = sym (ap (option_map (λ (s : SourcePoint). s.position)) at) ∙ point_start t points c i x are is in
       ap (λ o. unwrap_or o None) same
 
-  pub spot_missing : (t : Program) (spots : List Spot) (c : Configuration) (i : ℕ) (x : Top) → spots ≡ spots_of text t
-      → IsTop t c i x → slice_get spots x.number ≡ None → ⊥
-  spot_missing t spots c i x are is at = let same = sym (ap (option_map (λ (s : Spot). s.position)) at) ∙ spot_start t spots c i x are is in cc
+  pub point_missing : (t : Program) (points : List SourcePoint) (c : Configuration) (i : ℕ) (x : Top) → points ≡ source_points_of text t
+      → IsTop t c i x → slice_get points x.number ≡ None → ⊥
+  point_missing t points c i x are is at = let same = sym (ap (option_map (λ (s : SourcePoint). s.position)) at) ∙ point_start t points c i x are is in cc
 
 -- one more call
 module _ (text : List ℕ) (t : Program) where
@@ -71,8 +72,7 @@ module _ (text : List ℕ) (t : Program) where
     pub noted : is_granted x.reply ≡ true → new ≡ old ++ own_step text (configuration_after t s h) x ∷ [] → new ≡ first ++ own_steps text t s (h ++ x ∷ [])
     noted made is =
         let last = own_step text (configuration_after t s h) x ∷ [] in
-        is ∙ ap (λ xs. xs ++ last) had ∙ append_assoc first (own_steps text t s h) last
-        ∙ ap (λ xs. first ++ xs) (sym (more_steps ∙ ap (λ b. own_steps text t s h ++ cond b last []) made))
+        both_added first old new (own_steps text t s h) last _ is had (sym (more_steps ∙ ap (λ b. own_steps text t s h ++ cond b last []) made))
 
     pub not_noted : is_granted x.reply ≡ false → new ≡ old → new ≡ first ++ own_steps text t s (h ++ x ∷ [])
     not_noted refused is =

@@ -1,5 +1,5 @@
 -- One more step that is followed, and one that is refused.
-use Rattle.std.proofs.Common.{◌≡◌, ◌≢◌, ◌≤◌, ◌<◌, ◌+◌, ℕ, zero, suc, Bool, true, false, List, [], ◌∷◌, ◌++◌, length, take, drop, get_or, None, Some, refl, ap, sym, ◌∙◌, subst, append_assoc, arith}
+use Rattle.std.proofs.Common.{◌≡◌, ◌≤◌, ◌<◌, ◌+◌, ℕ, zero, suc, Bool, true, false, List, [], ◌∷◌, ◌++◌, length, take, drop, get_or, None, Some, refl, ap, sym, ◌∙◌, subst, arith}
 use Rattle.std.specs.Prelude.{is_some, slice_get}
 use Rattle.std.proofs.Common.{Option}
 use Rattle.bp_code.specs.Configurations.{Configuration}
@@ -8,6 +8,7 @@ use Rattle.std.proofs.lemmas.Bool.{false≢true}
 use Rattle.std.proofs.lemmas.List.{append-nil, map_push, take_all, take_more, take-append-drop}
 use Rattle.std.proofs.Math.ListN.{length-take, drop_of_length-le}
 use Rattle.std.proofs.Math.Seq.{drop-cons}
+use Rattle.bp_text.proofs.GrownLists.{regrouped}
 use Rattle.bp_tree.specs.Ast.{Program}
 use Rattle.bp_machine.specs.declared.ask_faults.AskFault.{AskFault}
 use Rattle.bp_machine.specs.declared.ask_faults.AskFault.TheVariants as refused
@@ -29,8 +30,8 @@ use Rattle.bp_confirm.specs.Inferred.{bit_of_stack, IsAmbiguousOnStack, IsClearO
 use Rattle.bp_confirm.specs.Changes.{IsDifference}
 use Rattle.bp_confirm.specs.Confirms.{GoesOnAt, StandsAtPlace, StandsThere, IsStuck, IsReason, ForStuck, IsStepRefusal, IsNotConfirmed, IsConfirmed}
 use Rattle.bp_confirm.specs.StepRefusals.{IsRefusedHere, IsNotTaken, refusal_of}
-use Rattle.bp_confirm.specs.declared.spots.Spot.{Spot}
-use Rattle.bp_confirm.specs.Spots.{spots_of}
+use Rattle.bp_confirm.specs.declared.source_points.SourcePoint.{SourcePoint}
+use Rattle.bp_confirm.specs.SourcePoints.{source_points_of}
 use Rattle.bp_confirm.proofs.StandsOfInstructions.{stands_as}
 use Rattle.bp_confirm.proofs.LocalRefusals.{same_reply, refused_for_all, other_values}
 use Rattle.bp_confirm.proofs.Transfer.{transfer}
@@ -48,10 +49,9 @@ module _ (t : Program) (s : SetupOf) where
   follow_more h [] x later [] a follow next = (subst (λ k. Follows t s k x later a) (append-nil h) next, tt)
   follow_more h [] x later (m ∷ ms) a follow next = absurd follow
   follow_more h (z ∷ zs) x later [] a follow next = absurd follow
-  follow_more h (z ∷ zs) x later (m ∷ ms) a (here, rest) next = (
-    subst (λ ys. Follows t s h z ys m) (sym (append_assoc zs (x ∷ []) later)) here,
-    follow_more (h ++ m ∷ []) zs x later ms a rest (subst (λ k. Follows t s k x later a) (sym (append_assoc h (m ∷ []) ms)) next),
-  )
+  follow_more h (z ∷ zs) x later (m ∷ ms) a (here, rest) next =
+      let grown : Follows t s h z ((zs ++ x ∷ []) ++ later) m = simp regrouped here in
+      (grown, follow_more (h ++ m ∷ []) zs x later ms a rest (simp regrouped next))
 
 -- the lines of steps, and what they say
 module _ (text : List ℕ) (t : Program) (s : SetupOf) (lines : List StepLineOf) (n : ℕ) where
@@ -155,12 +155,12 @@ module _ (c : Configuration) (i : ℕ) (v : List ℕ × Bool) where
 
 -- the refusals of the step of one line, whose thread goes on at this instruction
 module _ (text : List ℕ) (t : Program) (s : SetupOf) (h : List Call) (x : StepLineOf) (later : List StepOf) (n : ℕ) (number : Option ℕ)
-    (goes_on : GoesOnAt t (configuration_after t s h) x.thread number) (spots : List Spot) (are : spots ≡ spots_of text t) where
+    (goes_on : GoesOnAt t (configuration_after t s h) x.thread number) (points : List SourcePoint) (are : points ≡ source_points_of text t) where
   abbrev step : StepOf
   step = step_of text x
 
   abbrev IsRefusedFor : StepReason → Type 0
-  IsRefusedFor reason = IsNotTaken text t s h x later n (refusal_of spots x n number reason)
+  IsRefusedFor reason = IsNotTaken text t s h x later n (refusal_of points x n number reason)
 
   refused_for : (reason : StepReason) → IsReason t s h (step_of text x) later reason → ForStuck reason (IsStuck t s h (step_of text x)) → IsRefusedFor reason
   refused_for reason why stuck = record {
@@ -168,7 +168,7 @@ module _ (text : List ℕ) (t : Program) (s : SetupOf) (h : List Call) (x : Step
     thread = refl;
     location = refl;
     number = goes_on;
-    stand = stands_as text t spots number are;
+    stand = stands_as text t points number are;
     reason = why;
     stuck = stuck;
   }

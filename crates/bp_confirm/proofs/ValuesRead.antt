@@ -1,7 +1,8 @@
 -- Reading the text of values gives these values.
-use Rattle.std.proofs.Common.{◌≡◌, ◌==◌, inl, inr, ℕ, Bool, true, false, cond, List, [], ◌∷◌, ◌++◌, refl, sym, ap, ◌∙◌, subst, append_assoc}
+use Rattle.std.proofs.Common.{◌≡◌, ◌==◌, inl, inr, ℕ, Bool, true, false, cond, List, [], ◌∷◌, ◌++◌, refl, sym, ap, ◌∙◌, subst}
 use Rattle.std.proofs.lemmas.Bool.{ne_eqb}
 use Rattle.std.proofs.lemmas.List.{append-nil}
+use Rattle.bp_text.proofs.GrownLists.{regrouped}
 use Rattle.bp_code.specs.Values.{Valuation}
 use Rattle.bp_trace.specs.Schedules.{bit_digit}
 use Rattle.bp_trace.specs.Writable.{Without}
@@ -16,7 +17,7 @@ plain_read front [] rest none = ap (λ name. values_from (Bit name) rest) (sym (
 plain_read front (c ∷ others) rest none =
     ap (λ b. cond b (values_from (Bit front) (others ++ 61 ∷ rest)) (values_from (Plain (front ++ c ∷ [])) (others ++ 61 ∷ rest))) (ne_eqb c 61 none.0)
     ∙ plain_read (front ++ c ∷ []) others rest none.1
-    ∙ ap (λ name. values_from (Bit name) rest) (append_assoc front (c ∷ []) others)
+    ∙ simp regrouped
 
 braced_read : (front inner rest : List ℕ) → Without 125 inner
     → values_from (Braced front) (inner ++ 125 ∷ 61 ∷ rest) ≡ values_from (Bit (front ++ (inner ++ 125 ∷ []))) rest
@@ -25,12 +26,11 @@ braced_read front (c ∷ inner) rest none =
     ap (λ b. cond b (values_from (Sign (front ++ c ∷ [])) (inner ++ 125 ∷ 61 ∷ rest))
     (values_from (Braced (front ++ c ∷ [])) (inner ++ 125 ∷ 61 ∷ rest))) (ne_eqb c 125 none.0)
     ∙ braced_read (front ++ c ∷ []) inner rest none.1
-    ∙ ap (λ name. values_from (Bit name) rest) (append_assoc front (c ∷ []) (inner ++ 125 ∷ []))
+    ∙ simp regrouped
 
 name_read : (name : List ℕ) → IsStepName name → (rest : List ℕ) → values_from First (name ++ 61 ∷ rest) ≡ values_from (Bit name) rest
 name_read name (inl p) rest =
-    ap (λ xs. values_from First (xs ++ 61 ∷ rest)) p.is
-    ∙ ap (values_from (Braced (123 ∷ []))) (append_assoc p.inner (125 ∷ []) (61 ∷ rest))
+    (simp regrouped at (ap (λ xs. values_from First (xs ++ 61 ∷ rest)) p.is))
     ∙ braced_read (123 ∷ []) p.inner rest p.closed
     ∙ ap (λ xs. values_from (Bit xs) rest) (sym p.is)
 name_read name (inr q) rest =

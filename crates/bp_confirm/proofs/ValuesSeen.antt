@@ -13,11 +13,11 @@ use Rattle.bp_machine.specs.declared.tops.Top.{Top}
 use Rattle.bp_machine.specs.Answers.{stack_of}
 use Rattle.bp_machine.specs.Tops.{IsTop}
 use Rattle.bp_confirm.specs.declared.locations.Location.{Location}
-use Rattle.bp_confirm.specs.declared.spots.Spot.{Spot}
+use Rattle.bp_confirm.specs.declared.source_points.SourcePoint.{SourcePoint}
 use Rattle.bp_confirm.specs.Places.{place_of, stands_at}
-use Rattle.bp_confirm.specs.Spots.{is_there, spots_of}
+use Rattle.bp_confirm.specs.SourcePoints.{is_there, source_points_of}
 use Rattle.bp_confirm.specs.Steps.{local_seen}
-use Rattle.bp_confirm.proofs.SpotsOfInstructions.{procedure_at, is_there_at}
+use Rattle.bp_confirm.proofs.PointsOfInstructions.{procedure_at, is_there_at}
 use Rattle.bp_confirm.proofs.BitsOfEffects.{start_is_at}
 
 -- where a thread's top begins
@@ -27,12 +27,12 @@ top_start t c i x is =
     slice_get-map (λ (y : Place). start_of_block y.left) (places_of t.procedures) x.number ∙ ap (option_map (λ (y : Place). start_of_block y.left)) is.next
 
 -- it stands at a location where its instruction is there
-pub stands_where : (text : List ℕ) (t : Program) (spots : List Spot) (c : Configuration) (i : ℕ) (x : Top) (here : Location)
-    → spots ≡ spots_of text t → IsTop t c i x
-    → stands_at (place_of text here) (stack_of c i) ≡ is_there spots here x.number
-stands_where text t spots c i x here are is =
+pub stands_where : (text : List ℕ) (t : Program) (points : List SourcePoint) (c : Configuration) (i : ℕ) (x : Top) (here : Location)
+    → points ≡ source_points_of text t → IsTop t c i x
+    → stands_at (place_of text here) (stack_of c i) ≡ is_there points here x.number
+stands_where text t points c i x here are is =
     ap (stands_at (place_of text here)) is.stack
-    ∙ sym (is_there_at text t spots here x.number are ∙ ap (start_is_at (place_of text here)) (top_start t c i x is))
+    ∙ sym (is_there_at text t points here x.number are ∙ ap (start_is_at (place_of text here)) (top_start t c i x is))
 
 -- the locals of its frame
 pub top_locals : (t : Program) (c : Configuration) (i : ℕ) (x : Top) (p : Procedure) (name : List ℕ) → (is : IsTop t c i x) → p ≡ is.frame.procedure
@@ -48,23 +48,23 @@ pub got_item : {X : Type 0} (o : Option (Bor X)) (xs : List X) (n : ℕ) → is_
 got_item None xs n e h = let past : length xs ≤ n = grind arith in sym (slice_get_past xs n past)
 got_item (Some x) xs n e h = let within : n < length xs = grind arith in ap Some h ∙ sym (slice_get-get_or xs n x.now within)
 
-abbrev pub number_of : List Spot → ℕ → Option ℕ
-number_of spots n = option_map (λ s. s.procedure) (slice_get spots n)
+abbrev pub number_of : List SourcePoint → ℕ → Option ℕ
+number_of points n = option_map (λ s. s.procedure) (slice_get points n)
 
 -- the procedure of a thread's top
-module _ (text : List ℕ) (t : Program) (spots : List Spot) (top : Option Top) (x : Top) (is_top : top ≡ Some x) (c : Configuration) (i : ℕ)
-    (are : spots ≡ spots_of text t) (stands : MatchOption top (stack_of c i ≡ []) (IsTop t c i)) where
+module _ (text : List ℕ) (t : Program) (points : List SourcePoint) (top : Option Top) (x : Top) (is_top : top ≡ Some x) (c : Configuration) (i : ℕ)
+    (are : points ≡ source_points_of text t) (stands : MatchOption top (stack_of c i ≡ []) (IsTop t c i)) where
   own_top : IsTop t c i x
   own_top = subst (λ o. MatchOption o (stack_of c i ≡ []) (IsTop t c i)) is_top stands
 
-  number_is : number_of spots x.number ≡ Some (ends (take x.number (starts_of t)))
-  number_is = procedure_at text t spots x.number (start_of_block own_top.frame.left) are (top_start t c i x own_top)
+  number_is : number_of points x.number ≡ Some (ends (take x.number (starts_of t)))
+  number_is = procedure_at text t points x.number (start_of_block own_top.frame.left) are (top_start t c i x own_top)
 
-  pub none_numbered : (o : Option ℕ) → o ≡ number_of spots x.number → o ≡ None → ⊥
+  pub none_numbered : (o : Option ℕ) → o ≡ number_of points x.number → o ≡ None → ⊥
   none_numbered o is none = let e = sym none ∙ is ∙ number_is in cc
 
   -- it is found by its number
-  module _ (o : Option ℕ) (o_is : o ≡ number_of spots x.number) (n : ℕ) (some : o ≡ Some n) (procs : List Procedure) (procs_are : procs ≡ t.procedures)
+  module _ (o : Option ℕ) (o_is : o ≡ number_of points x.number) (n : ℕ) (some : o ≡ Some n) (procs : List Procedure) (procs_are : procs ≡ t.procedures)
       (found : Option (Bor Procedure)) (lookup_is : option_map (λ (q : Bor Procedure). q.now) found ≡ slice_get procs n) where
     number_found : n ≡ ends (take x.number (starts_of t))
     number_found = let e = sym some ∙ o_is ∙ number_is in cc

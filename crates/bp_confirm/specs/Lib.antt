@@ -1,6 +1,6 @@
 pub mod Inferred
 pub mod Places
-pub mod Spots
+pub mod SourcePoints
 pub mod Stands
 pub mod Steps
 pub mod Changes

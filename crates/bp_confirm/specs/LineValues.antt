@@ -23,13 +23,13 @@ IsValueOnLine text n k value =
 abbrev pub HasNoLine : (text : List ℕ) → (n : ℕ) → Type 0
 HasNoLine text n = (lines : List StepLineOf) → HasLines text lines → slice_get lines (n - 1) ≡ None
 
--- A device: these are the words of line n, if the text has lines. They have no line feed.
-pub record AreWordsOf (text : List ℕ) (n : ℕ) (words : List ℕ) : Type 0 where
-  pub line : Without 10 words
+-- A device: this is line n of the text, if it has lines, without its line feed.
+pub record IsTextOfLine (text : List ℕ) (n : ℕ) (own : List ℕ) : Type 0 where
+  pub line : Without 10 own
   pub are :
       (lines : List StepLineOf)
       → HasLines text lines
-      → (x : StepLineOf) × (slice_get lines (n - 1) ≡ Some x) × IsStepLine words x
+      → (x : StepLineOf) × (slice_get lines (n - 1) ≡ Some x) × IsStepLine own x
 
 -- A device: these are the values of line n, if the text has lines. They have no line feed.
 pub record AreValuesOf (text : List ℕ) (n : ℕ) (values : List ℕ) : Type 0 where

@@ -4,7 +4,7 @@ use Rattle.bp_tree.specs.Ast.{Program}
 use Rattle.bp_text.specs.declared.positions.Position.{Position}
 use Rattle.bp_text.specs.Positions.{position_at}
 use Rattle.bp_code.specs.Starts.{starts_of}
-use Rattle.bp_confirm.specs.declared.spots.Spot.{Spot}
+use Rattle.bp_confirm.specs.declared.source_points.SourcePoint.{SourcePoint}
 use Rattle.bp_confirm.specs.declared.stands.Stand.{Stand}
 use Rattle.bp_confirm.specs.declared.stands.Stand.TheVariants.{Ended, End, Statement}
 
@@ -20,15 +20,15 @@ abbrev pub stand_of : List ℕ → Program → Option ℕ → Stand
 stand_of text t None = Ended
 stand_of text t (Some number) = stand_at_start text (slice_get (starts_of t) number)
 
--- A device: the same by the spots of the instructions.
+-- A device: the same by the points of the instructions.
 abbrev pub stand_at : Option Position → Stand
 stand_at None = End
 stand_at (Some position) = Statement position
 
-abbrev pub stand_at_spot : Option Spot → Stand
-stand_at_spot None = Ended
-stand_at_spot (Some spot) = stand_at spot.position
+abbrev pub stand_at_point : Option SourcePoint → Stand
+stand_at_point None = Ended
+stand_at_point (Some point) = stand_at point.position
 
-abbrev pub stand_in : List Spot → Option ℕ → Stand
-stand_in spots None = Ended
-stand_in spots (Some number) = stand_at_spot (slice_get spots number)
+abbrev pub stand_in : List SourcePoint → Option ℕ → Stand
+stand_in points None = Ended
+stand_in points (Some number) = stand_at_point (slice_get points number)

@@ -12,7 +12,7 @@ use Rattle.bp_confirm.specs.declared.following.Next.{Next}
 use Rattle.bp_confirm.specs.declared.following.NotCalled.{NotCalled}
 use Rattle.bp_confirm.specs.declared.following.NotCalled.TheVariants as call
 use Rattle.bp_confirm.specs.Inferred.{some_follow}
-use Rattle.bp_confirm.specs.declared.spots.Spot.{Spot}
+use Rattle.bp_confirm.specs.declared.source_points.SourcePoint.{SourcePoint}
 use Rattle.bp_confirm.specs.Places.{place_of}
 use Rattle.bp_confirm.specs.Stands.{stand_in, stand_of}
 use Rattle.bp_confirm.specs.Steps.{StepOf, next_place}
@@ -44,13 +44,13 @@ IsNotCalled s h i call.Finished = is_finished s h i ≡ true
 IsNotCalled s h i call.Memory = Unit {0}
 
 -- the refusal of the step of this line, the n-th
-abbrev pub refusal_of : List Spot → StepLineOf → ℕ → Option ℕ → StepReason → StepFault
-refusal_of spots x n number reason = fault.Refusal (record {
+abbrev pub refusal_of : List SourcePoint → StepLineOf → ℕ → Option ℕ → StepReason → StepFault
+refusal_of points x n number reason = fault.Refusal (record {
   line = n;
   thread = x.thread;
   location = x.location;
   number = number;
-  stand = stand_in spots number;
+  stand = stand_in points number;
   reason = reason;
 })
 

@@ -4,9 +4,9 @@ ghost use Rattle.bp_code.specs.StandsFor.{StandsFor};
 ghost use Rattle.bp_machine.specs.Setups.{FitsCode};
 ghost use Rattle.bp_trace.specs.Replays.{IsPlayable};
 ghost use Rattle.bp_confirm.specs.Changes.{seen_after, IsLastChange};
-ghost use Rattle.bp_confirm.specs.Spots.{spots_of};
+ghost use Rattle.bp_confirm.specs.SourcePoints.{source_points_of};
 
-use crate::spots::Spot;
+use crate::source_points::SourcePoint;
 use crate::values::value_seen;
 use bp_check::Checked;
 use bp_machine::{Call, Session};
@@ -43,7 +43,7 @@ pub(crate) fn sight_after(before: Sight, seen: Option<bool>, n: u32) -> Sight
 pub(crate) fn sight_of(
     alloc: Global,
     checked: &Checked,
-    spots: &[Spot],
+    points: &[SourcePoint],
     session: &Session,
     history: &[Call],
     thread: u32,
@@ -54,7 +54,7 @@ pub(crate) fn sight_of(
     requires playable { IsPlayable checked.now session.now.setup history.now }
     requires short { length history.now < 2 ^ 32 }
     ensures { (text : List ℕ)
-        → spots.now ≡ spots_of text checked.now
+        → points.now ≡ source_points_of text checked.now
         → let sees = seen_after checked.now session.now.setup history.now thread name.now in
         IfOk result (λ r.
         (r.seen ≡ sees (length history.now))
@@ -62,7 +62,7 @@ pub(crate) fn sight_of(
 {
     let mut again = Session::new(alloc, session.code(), session.setup())?;
     let mut sight = Sight {
-        seen: value_seen(checked, spots, &again, thread, name),
+        seen: value_seen(checked, points, &again, thread, name),
         changed: None,
     };
     for (n, call) in history.iter().enumerate() {
@@ -70,7 +70,7 @@ pub(crate) fn sight_of(
         let Ok(_made) = again.ask_as_recorded(call.thread, call.bit) else {
             return Err(AllocError);
         };
-        let seen = value_seen(checked, spots, &again, thread, name);
+        let seen = value_seen(checked, points, &again, thread, name);
         sight = sight_after(sight, seen, n as u32 + 1);
     }
     Ok(sight)

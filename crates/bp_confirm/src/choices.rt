@@ -5,28 +5,28 @@ ghost use Rattle.bp_code.specs.StandsFor.{Does, places_of};
 ghost use Rattle.bp_confirm.specs.EffectBits.{bit_of_effects, has_test, splits};
 ghost use Rattle.bp_confirm.specs.Inferred.{bit_of_block, IsAmbiguous, IsClear};
 ghost use Rattle.bp_confirm.specs.Places.{place_of};
-ghost use Rattle.bp_confirm.specs.Spots.{is_there, spots_of};
+ghost use Rattle.bp_confirm.specs.SourcePoints.{is_there, source_points_of};
 
 use crate::locations::Location;
-use crate::spots::{Spot, is_there};
+use crate::source_points::{SourcePoint, is_there};
 use bp_code::{Effect, Instr, Kind, Store};
 
 /// The inferred bit of an instruction that has these effects with the bits 0 and 1.
 fn bit_of_effects(
-    spots: &[Spot],
+    points: &[SourcePoint],
     next: Option<Location>,
     follow: bool,
     zero: Effect,
     one: Effect,
 ) -> bool
-    ensures { result ≡ bit_of_effects (option_map (is_there spots.now) next) follow zero one }
+    ensures { result ≡ bit_of_effects (option_map (is_there points.now) next) follow zero one }
 {
     match (zero, one) {
         (Effect::Blocks, Effect::Continues { .. }) => true,
         (Effect::Fails, Effect::Continues { .. }) => follow,
         (Effect::Continues { next: other, .. }, Effect::Continues { next: taken, .. }) =>
             match next {
-                Some(place) => is_there(spots, place, taken) && !is_there(spots, place, other),
+                Some(place) => is_there(points, place, taken) && !is_there(points, place, other),
                 None => false,
             },
         _ => false,
@@ -34,14 +34,16 @@ fn bit_of_effects(
 }
 
 /// Whether both bits lead to the location of the next step, and to different instructions.
-fn splits(spots: &[Spot], next: Option<Location>, zero: Effect, one: Effect) -> bool
-    ensures { result ≡ splits (option_map (is_there spots.now) next) zero one }
+fn splits(points: &[SourcePoint], next: Option<Location>, zero: Effect, one: Effect) -> bool
+    ensures { result ≡ splits (option_map (is_there points.now) next) zero one }
 {
     match (zero, one) {
         (Effect::Continues { next: other, .. }, Effect::Continues { next: taken, .. }) =>
             match next {
                 Some(place) => {
-                    taken != other && is_there(spots, place, taken) && is_there(spots, place, other)
+                    taken != other
+                        && is_there(points, place, taken)
+                        && is_there(points, place, other)
                 }
                 None => false,
             },
@@ -64,13 +66,13 @@ fn has_test(instr: &Instr) -> bool
 pub(crate) fn inferred_bit(
     instr: &Instr,
     store: Store,
-    spots: &[Spot],
+    points: &[SourcePoint],
     next: Option<Location>,
     follow: bool,
 ) -> Option<bool>
     ensures { (text : List ℕ) (t : Program) (p : Procedure) (left : Block)
         → Does t (places_of t.procedures) p left instr.now
-        → spots.now ≡ spots_of text t
+        → points.now ≡ source_points_of text t
         → let place = option_map (place_of text) next in
         MatchOption result
         (IsAmbiguous t left place)
@@ -82,8 +84,8 @@ pub(crate) fn inferred_bit(
     }
     let zero = instr.effect(store, false);
     let one = instr.effect(store, true);
-    if splits(spots, next, zero, one) {
+    if splits(points, next, zero, one) {
         return None;
     }
-    Some(bit_of_effects(spots, next, follow, zero, one))
+    Some(bit_of_effects(points, next, follow, zero, one))
 }

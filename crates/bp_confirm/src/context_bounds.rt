@@ -88,7 +88,7 @@ fn with_contexts(
 {
     let entries = entries_of(alloc, setup)?;
     let bits = bits_of(alloc, setup)?;
-    Setup::from_words(
+    Setup::from_names(
         alloc,
         code,
         entries.as_slice(),

@@ -175,10 +175,10 @@ pub(crate) fn value_at(text: &[u8]) -> Option<(SeenValue<'_>, &[u8])>
         (HasNoValue text.now)
         (λ p. IsValueAt text.now (value_of p.0) p.1.now) }
 {
-    let Some(words) = after(text, b' ') else {
+    let Some(field) = after(text, b' ') else {
         return None;
     };
-    let Some((name, digit)) = name_at(words) else {
+    let Some((name, digit)) = name_at(field) else {
         return None;
     };
     match bit_at(digit) {

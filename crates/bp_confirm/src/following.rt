@@ -15,7 +15,7 @@ ghost use Rattle.bp_confirm.specs.Changes.{IsDifference};
 ghost use Rattle.bp_confirm.specs.Confirms.{AreOfThreads, GoesOnAt, IsConfirmed, IsNotConfirmed};
 ghost use Rattle.bp_confirm.specs.Inferred.{bit_of_stack, IsAmbiguousOnStack, IsClearOnStack, Follows};
 ghost use Rattle.bp_confirm.specs.Places.{place_of, stands_at};
-ghost use Rattle.bp_confirm.specs.Spots.{spots_of};
+ghost use Rattle.bp_confirm.specs.SourcePoints.{source_points_of};
 ghost use Rattle.bp_confirm.specs.StepLines.{location_in, next_locations, step_of, steps_of};
 ghost use Rattle.bp_confirm.specs.StepRefusals.{refusal_of, IsNotCalled, IsNotTaken, TellsNext};
 ghost use Rattle.bp_confirm.specs.Steps.{StepOf, SeesValues};
@@ -26,7 +26,7 @@ use crate::faults::{Difference, StepFault, StepReason, StepRefusal};
 use crate::locations::Location;
 use crate::next_steps::location_in;
 use crate::noted_steps::is_granted;
-use crate::spots::{Spot, is_there};
+use crate::source_points::{SourcePoint, is_there};
 use crate::stands::stand_in;
 use crate::step_lines::StepLine;
 use crate::values::first_unseen;
@@ -55,13 +55,13 @@ pub(crate) enum NotCalled {
 /// goes on, or none where it has ended.
 fn top_at(
     session: &Session,
-    spots: &[Spot],
+    points: &[SourcePoint],
     thread: u32,
     location: Location,
 ) -> Result<Top, Option<u32>>
     ensures { (text : List ℕ) (t : Program) (h : List Answered)
         → StandsFor session.now.code t
-        → spots.now ≡ spots_of text t
+        → points.now ≡ source_points_of text t
         → Stands t session.now h
         → let now = configuration_after t session.now.setup h in
         let place = place_of text location in
@@ -73,7 +73,7 @@ fn top_at(
     let Some(top) = session.top(thread) else {
         return Err(None);
     };
-    if !is_there(spots, location, top.number) {
+    if !is_there(points, location, top.number) {
         return Err(Some(top.number));
     }
     Ok(top)
@@ -81,10 +81,10 @@ fn top_at(
 
 /// The inferred bit of the next step of a thread with this top; none where the later steps do not
 /// tell which way a `?` went.
-fn bit_at(session: &Session, spots: &[Spot], top: Top, next: Next) -> Option<bool>
+fn bit_at(session: &Session, points: &[SourcePoint], top: Top, next: Next) -> Option<bool>
     ensures { (text : List ℕ) (t : Program) (h : List Answered) (x : StepOf) (later : List StepOf)
         → StandsFor session.now.code t
-        → spots.now ≡ spots_of text t
+        → points.now ≡ source_points_of text t
         → TellsNext text x later next
         → let now = configuration_after t session.now.setup h in
         IsTop t now x.thread top
@@ -97,7 +97,7 @@ fn bit_at(session: &Session, spots: &[Spot], top: Top, next: Next) -> Option<boo
     let Some(instr) = session.code().get(top.number) else {
         return None;
     };
-    inferred_bit(instr, top.store, spots, next.location, next.follows)
+    inferred_bit(instr, top.store, points, next.location, next.follows)
 }
 
 /// Makes the call of a thread that is there.
@@ -126,20 +126,20 @@ fn call_of(session: &mut Session, thread: u32, bit: bool) -> Result<Call, NotCal
 
 /// The refusal of the step of line `n`, whose thread stands at the instruction of this number.
 fn refusal_of(
-    spots: &[Spot],
+    points: &[SourcePoint],
     line: &StepLine,
     n: u32,
     number: Option<u32>,
     reason: StepReason,
 ) -> StepFault
-    ensures { result ≡ refusal_of spots.now line.now n number reason }
+    ensures { result ≡ refusal_of points.now line.now n number reason }
 {
     StepFault::Refusal(StepRefusal {
         line: n,
         thread: line.thread,
         location: line.location,
         number,
-        stand: stand_in(spots, number),
+        stand: stand_in(points, number),
         reason,
     })
 }
@@ -149,7 +149,7 @@ fn refusal_of(
 fn first_difference(
     alloc: Global,
     checked: &Checked,
-    spots: &[Spot],
+    points: &[SourcePoint],
     session: &Session,
     history: &[Call],
     line: &StepLine,
@@ -159,7 +159,7 @@ fn first_difference(
     requires playable { IsPlayable checked.now session.now.setup history.now }
     requires short { length history.now + 1 < 2 ^ 32 }
     ensures { (text : List ℕ) (call : Answered)
-        → spots.now ≡ spots_of text checked.now
+        → points.now ≡ source_points_of text checked.now
         → let after = history.now ++ call ∷ [] in
         let i = line.now.thread in
         Stands checked.now session.now after
@@ -167,11 +167,11 @@ fn first_difference(
         (SeesValues (configuration_after checked.now session.now.setup after) i line.now.values)
         (IsDifference checked.now session.now.setup after i line.now.values)) }
 {
-    let Some(unseen) = first_unseen(checked, spots, session, line.thread, line.values) else {
+    let Some(unseen) = first_unseen(checked, points, session, line.thread, line.values) else {
         return Ok(None);
     };
     let name = unseen.name;
-    let before = sight_of(alloc, checked, spots, session, history, line.thread, name)?;
+    let before = sight_of(alloc, checked, points, session, history, line.thread, name)?;
     let changed = sight_after(before, unseen.seen, history.len() as u32 + 1).changed;
     Ok(Some(Difference {
         place: unseen.place,
@@ -184,7 +184,7 @@ fn first_difference(
 fn take_step(
     alloc: Global,
     checked: &Checked,
-    spots: &[Spot],
+    points: &[SourcePoint],
     session: &mut Session,
     history: &[Call],
     line: &StepLine,
@@ -198,12 +198,12 @@ fn take_step(
     requires short { length history.now + 1 < 2 ^ 32 }
     ensures stands { IfOk result (λ c. Stands checked.now session.new (history.now ++ c ∷ [])) }
     ensures follows { (text : List ℕ) (later : List StepOf)
-        → spots.now ≡ spots_of text checked.now
+        → points.now ≡ source_points_of text checked.now
         → TellsNext text (step_of text line.now) later next
         → IfOk result
         (Follows checked.now session.old.setup history.now (step_of text line.now) later) }
     ensures refused { (text : List ℕ) (later : List StepOf)
-        → spots.now ≡ spots_of text checked.now
+        → points.now ≡ source_points_of text checked.now
         → TellsNext text (step_of text line.now) later next
         → let n = length history.now + 1 in
         IfErr result
@@ -211,18 +211,18 @@ fn take_step(
     ensures kept { (session.new.code ≡ session.old.code) × (session.new.setup ≡ session.old.setup) }
 {
     let n = history.len() as u32 + 1;
-    let top = match top_at(session, spots, line.thread, line.location) {
+    let top = match top_at(session, points, line.thread, line.location) {
         Ok(top) => top,
-        Err(number) => return Err(refusal_of(spots, line, n, number, StepReason::Elsewhere)),
+        Err(number) => return Err(refusal_of(points, line, n, number, StepReason::Elsewhere)),
     };
     let number = Some(top.number);
-    let Some(bit) = bit_at(session, spots, top, next) else {
-        return Err(refusal_of(spots, line, n, number, StepReason::Ambiguous));
+    let Some(bit) = bit_at(session, points, top, next) else {
+        return Err(refusal_of(points, line, n, number, StepReason::Ambiguous));
     };
     let call = match call_of(session, line.thread, bit) {
         Ok(call) => call,
         Err(NotCalled::Finished) => return Err(refusal_of(
-            spots,
+            points,
             line,
             n,
             number,
@@ -231,11 +231,11 @@ fn take_step(
         Err(NotCalled::Memory) => return Err(StepFault::Memory),
     };
     if !is_granted(call.reply) {
-        return Err(refusal_of(spots, line, n, number, StepReason::Refused(call.reply)));
+        return Err(refusal_of(points, line, n, number, StepReason::Refused(call.reply)));
     }
-    match first_difference(alloc, checked, spots, session, history, line) {
+    match first_difference(alloc, checked, points, session, history, line) {
         Ok(None) => Ok(call),
-        Ok(Some(found)) => Err(refusal_of(spots, line, n, number, StepReason::Differs(found))),
+        Ok(Some(found)) => Err(refusal_of(points, line, n, number, StepReason::Differs(found))),
         Err(_) => Err(StepFault::Memory),
     }
 }
@@ -255,7 +255,7 @@ fn keep(history: &mut Vec<Call>, call: Call) -> Result<(), StepFault>
 pub(crate) fn take_steps(
     alloc: Global,
     checked: &Checked,
-    spots: &[Spot],
+    points: &[SourcePoint],
     nexts: &[u32],
     session: &mut Session,
     lines: &[StepLine],
@@ -269,11 +269,11 @@ pub(crate) fn take_steps(
     requires short { length lines.now < 2 ^ 32 }
     ensures stands { IfOk result (λ h. Stands checked.now session.new h.items) }
     ensures confirmed { (text : List ℕ)
-        → spots.now ≡ spots_of text checked.now
+        → points.now ≡ source_points_of text checked.now
         → IfOk result (λ h.
         IsConfirmed checked.now session.old.setup (steps_of text lines.now) h.items) }
     ensures refused { (text : List ℕ)
-        → spots.now ≡ spots_of text checked.now
+        → points.now ≡ source_points_of text checked.now
         → IfErr result (IsNotConfirmed text checked.now session.old.setup lines.now) }
     ensures kept { (session.new.code ≡ session.old.code) × (session.new.setup ≡ session.old.setup) }
 {
@@ -285,7 +285,7 @@ pub(crate) fn take_steps(
             follows: n + 1 < lines.len(),
         };
         let made = history.as_slice();
-        let call = take_step(alloc, checked, spots, session, made, &lines[n], next)?;
+        let call = take_step(alloc, checked, points, session, made, &lines[n], next)?;
         keep(&mut history, call)?;
         n += 1;
     }

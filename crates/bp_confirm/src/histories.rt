@@ -9,7 +9,7 @@ ghost use Rattle.bp_confirm.specs.StepLines.{steps_of};
 use crate::faults::StepFault;
 use crate::following::take_steps;
 use crate::next_steps::next_steps;
-use crate::spots::spots_of;
+use crate::source_points::source_points_of;
 use crate::step_lines::StepLine;
 use bp_check::Checked;
 use bp_code::Code;
@@ -54,13 +54,13 @@ pub(crate) fn confirm_lines(
         (IsNotConfirmed text.now checked.now setup.now lines.now) }
 {
     setup.is_in_range();
-    let spots = spots_of(alloc, text, checked)?;
+    let points = source_points_of(alloc, text, checked)?;
     let nexts = next_steps(alloc, lines)?;
     let mut session = Session::new(alloc, code, setup)?;
     let history = take_steps(
         alloc,
         checked,
-        spots.as_slice(),
+        points.as_slice(),
         nexts.as_slice(),
         &mut session,
         lines,

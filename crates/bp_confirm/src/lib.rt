@@ -18,7 +18,7 @@ mod locations;
 mod next_steps;
 mod noted_steps;
 mod own_step_texts;
-mod spots;
+mod source_points;
 mod stands;
 mod step_lines;
 mod step_texts;

@@ -1,16 +1,16 @@
 //! A value on a line of a text of steps.
 ghost use Rattle.std.specs.Prelude.{option_map, MatchOption};
-ghost use Rattle.bp_confirm.specs.LineValues.{AreValuesOf, AreWordsOf, HasNoLine, IsValueOnLine};
+ghost use Rattle.bp_confirm.specs.LineValues.{AreValuesOf, IsTextOfLine, HasNoLine, IsValueOnLine};
 ghost use Rattle.bp_confirm.specs.StepLines.{value_of};
 
 use crate::fields::{cut_at, field_at, value_at};
 use crate::step_lines::SeenValue;
 
-/// The words of this line, counted from 1.
-fn words_of(steps: &[u8], line: u32) -> Option<&[u8]>
+/// The text of this line, counted from 1.
+fn line_text(steps: &[u8], line: u32) -> Option<&[u8]>
     ensures { MatchOption result
         (HasNoLine steps.now line)
-        (λ words. AreWordsOf steps.now line words.now) }
+        (λ text. IsTextOfLine steps.now line text.now) }
 {
     let mut rest = steps;
     for _before in 1..line {
@@ -21,7 +21,7 @@ fn words_of(steps: &[u8], line: u32) -> Option<&[u8]>
     }
     match cut_at(rest, b'\n') {
         None => None,
-        Some((words, _)) => Some(words),
+        Some((own, _)) => Some(own),
     }
 }
 
@@ -31,10 +31,10 @@ fn values_on(steps: &[u8], line: u32) -> Option<&[u8]>
         (HasNoLine steps.now line)
         (λ values. AreValuesOf steps.now line values.now) }
 {
-    let Some(words) = words_of(steps, line) else {
+    let Some(text) = line_text(steps, line) else {
         return None;
     };
-    let Some((_, rest)) = cut_at(words, b' ') else {
+    let Some((_, rest)) = cut_at(text, b' ') else {
         return None;
     };
     let (_, values) = field_at(rest);

@@ -11,9 +11,9 @@ ghost use Rattle.bp_machine.specs.Sessions.{Stands};
 ghost use Rattle.bp_trace.specs.Replays.{IsReplayRefusal};
 ghost use Rattle.bp_confirm.specs.OwnLines.{next_start};
 ghost use Rattle.bp_confirm.specs.OwnSteps.{AreStepsOfTrace};
-ghost use Rattle.bp_confirm.specs.Spots.{spots_of};
+ghost use Rattle.bp_confirm.specs.SourcePoints.{source_points_of};
 
-use crate::spots::{Spot, spot_of, spots_of};
+use crate::source_points::{SourcePoint, point_of, source_points_of};
 use bp_check::Checked;
 use bp_code::Code;
 use bp_machine::{AskFault, Call, Reply, Report, Session, Setup};
@@ -47,10 +47,10 @@ pub(crate) fn is_granted(reply: Reply) -> bool
 }
 
 /// Where the next statement of a thread begins.
-fn position_of(session: &Session, spots: &[Spot], thread: u32) -> Option<Position>
+fn position_of(session: &Session, points: &[SourcePoint], thread: u32) -> Option<Position>
     ensures { (text : List ℕ) (t : Program) (h : List Answered)
         → StandsFor session.now.code t
-        → spots.now ≡ spots_of text t
+        → points.now ≡ source_points_of text t
         → Stands t session.now h
         → let now = configuration_after t session.now.setup h in
         result ≡ option_map (position_at text) (next_start (stack_of now thread)) }
@@ -58,10 +58,10 @@ fn position_of(session: &Session, spots: &[Spot], thread: u32) -> Option<Positio
     let Some(top) = session.top(thread) else {
         return None;
     };
-    let Some(spot) = spot_of(spots, top.number) else {
+    let Some(point) = point_of(points, top.number) else {
         return None;
     };
-    spot.position
+    point.position
 }
 
 /// Adds a step.
@@ -75,19 +75,19 @@ fn note(steps: &mut Vec<OwnStep>, step: OwnStep) -> Result<(), AllocError>
 /// Notes the steps of a replay.
 #[derive(Drop)]
 struct StepWatcher<'a> {
-    spots: &'a [Spot],
+    points: &'a [SourcePoint],
     steps: Vec<OwnStep>,
 }
 
 impl Watcher for StepWatcher<'_> {
     ghost use Rattle.std.specs.Prelude.{◌≡◌, ◌++◌, List, ℕ};
     ghost use Rattle.bp_confirm.specs.OwnSteps.{own_steps};
-    ghost use Rattle.bp_confirm.specs.Spots.{spots_of};
+    ghost use Rattle.bp_confirm.specs.SourcePoints.{source_points_of};
 
     ghost sees = { λ first last t s h.
-        (last.spots ≡ first.spots)
+        (last.points ≡ first.points)
         × ((text : List ℕ)
-        → first.spots.now ≡ spots_of text t
+        → first.points.now ≡ source_points_of text t
         → last.steps.items ≡ first.steps.items ++ own_steps text t s h) };
 
     fn begin(&mut self, _setup: &Setup) -> Result<(), AllocError> {
@@ -95,7 +95,7 @@ impl Watcher for StepWatcher<'_> {
     }
 
     fn make(&mut self, session: &mut Session, recorded: &Call) -> Result<Call, AskFault> {
-        let position = position_of(session, self.spots, recorded.thread);
+        let position = position_of(session, self.points, recorded.thread);
         let call = session.ask_as_recorded(recorded.thread, recorded.bit)?;
         if is_granted(call.reply) {
             let thread = call.thread;
@@ -123,9 +123,9 @@ pub fn own_steps(
     if trace.len() > MAX_TRACE {
         return Err(ReplayFault::TooLong);
     }
-    let spots = spots_of(alloc, text, checked)?;
+    let points = source_points_of(alloc, text, checked)?;
     let watcher = StepWatcher {
-        spots: spots.as_slice(),
+        points: points.as_slice(),
         steps: Vec::new(alloc),
     };
     let watched = replay_watched(alloc, code, trace, watcher)?;

@@ -2,7 +2,7 @@
 ghost use Rattle.std.specs.Prelude.{◌≡◌};
 ghost use Rattle.bp_confirm.specs.Stands.{stand_in};
 
-use crate::spots::Spot;
+use crate::source_points::SourcePoint;
 use bp_text::Position;
 
 /// Where a thread stands in the text of a program.
@@ -17,17 +17,17 @@ pub enum Stand {
 }
 
 /// Where a thread stands that goes on at the instruction of this number, or that has ended.
-pub(crate) fn stand_in(spots: &[Spot], number: Option<u32>) -> Stand
-    ensures { result ≡ stand_in spots.now number }
+pub(crate) fn stand_in(points: &[SourcePoint], number: Option<u32>) -> Stand
+    ensures { result ≡ stand_in points.now number }
 {
     let Some(number) = number else {
         return Stand::Ended;
     };
-    match spots.get(number as usize) {
+    match points.get(number as usize) {
         None => Stand::Ended,
-        Some(Spot { position: None, .. }) => Stand::End,
+        Some(SourcePoint { position: None, .. }) => Stand::End,
         Some(
-            Spot {
+            SourcePoint {
                 position: Some(position),
                 ..
             },

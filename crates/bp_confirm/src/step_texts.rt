@@ -79,10 +79,10 @@ fn step_at(text: &[u8]) -> Option<(StepLine<'_>, &[u8])>
     let Some((thread, rest)) = number_at(text) else {
         return None;
     };
-    let Some(words) = after(rest, b' ') else {
+    let Some(field) = after(rest, b' ') else {
         return None;
     };
-    let Some((location, rest)) = location_at(words) else {
+    let Some((location, rest)) = location_at(field) else {
         return None;
     };
     let Some((values, more)) = values_at(rest) else {

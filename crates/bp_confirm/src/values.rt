@@ -7,27 +7,32 @@ ghost use Rattle.bp_machine.specs.Answers.{stack_of};
 ghost use Rattle.bp_machine.specs.Histories.{configuration_after};
 ghost use Rattle.bp_machine.specs.Sessions.{Stands};
 ghost use Rattle.bp_machine.specs.Tops.{IsTop};
-ghost use Rattle.bp_confirm.specs.Spots.{spots_of};
+ghost use Rattle.bp_confirm.specs.SourcePoints.{source_points_of};
 ghost use Rattle.bp_confirm.specs.Steps.{local_seen, value_seen, IsFirstUnseen, SeesValues};
 ghost use Rattle.bp_confirm.specs.ValuesIn.{values_in, IsNameIn, SaysValues};
 
 use crate::fields::value_at;
-use crate::spots::{Spot, procedure_of};
+use crate::source_points::{SourcePoint, procedure_of};
 use bp_check::Checked;
 use bp_code::{global_value, local_value};
 use bp_machine::{Session, Top};
 
 /// The value of a local of the frame at the top, where it has one of this name.
-fn local_seen(checked: &Checked, spots: &[Spot], top: Option<Top>, name: &[u8]) -> Option<bool>
+fn local_seen(
+    checked: &Checked,
+    points: &[SourcePoint],
+    top: Option<Top>,
+    name: &[u8],
+) -> Option<bool>
     ensures { (text : List ℕ) (c : Configuration) (i : ℕ)
-        → spots.now ≡ spots_of text checked.now
+        → points.now ≡ source_points_of text checked.now
         → MatchOption top (stack_of c i ≡ []) (IsTop checked.now c i)
         → result ≡ local_seen (stack_of c i) name.now }
 {
     let Some(top) = top else {
         return None;
     };
-    let Some(procedure) = procedure_of(spots, top.number) else {
+    let Some(procedure) = procedure_of(points, top.number) else {
         return None;
     };
     let Some(proc) = checked.tree().procs().get(procedure) else {
@@ -39,20 +44,20 @@ fn local_seen(checked: &Checked, spots: &[Spot], top: Option<Top>, name: &[u8]) 
 /// The value of a variable as a thread sees it: a local hides a global of its name.
 pub(crate) fn value_seen(
     checked: &Checked,
-    spots: &[Spot],
+    points: &[SourcePoint],
     session: &Session,
     thread: u32,
     name: &[u8],
 ) -> Option<bool>
     ensures { (text : List ℕ) (h : List Answered)
         → StandsFor session.now.code checked.now
-        → spots.now ≡ spots_of text checked.now
+        → points.now ≡ source_points_of text checked.now
         → Stands checked.now session.now h
         → let c = configuration_after checked.now session.now.setup h in
         result ≡ value_seen c.globals (stack_of c thread) name.now }
 {
     let top = session.top(thread);
-    match local_seen(checked, spots, top, name) {
+    match local_seen(checked, points, top, name) {
         Some(bit) => Some(bit),
         None => global_value(checked.tree().globals(), session.globals(), name),
     }
@@ -81,7 +86,7 @@ pub(crate) struct Unseen<'a> {
 /// The first of the values that a text says that a thread does not see.
 pub(crate) fn first_unseen<'a>(
     checked: &Checked,
-    spots: &[Spot],
+    points: &[SourcePoint],
     session: &Session,
     thread: u32,
     values: &'a [u8],
@@ -90,7 +95,7 @@ pub(crate) fn first_unseen<'a>(
     ensures name { IfSome result (λ r. IsNameIn values.now r.place r.name.now) }
     ensures first { (text : List ℕ) (h : List Answered)
         → StandsFor session.now.code checked.now
-        → spots.now ≡ spots_of text checked.now
+        → points.now ≡ source_points_of text checked.now
         → Stands checked.now session.now h
         → let c = configuration_after checked.now session.now.setup h in
         MatchOption result
@@ -101,7 +106,7 @@ pub(crate) fn first_unseen<'a>(
     let mut place: usize = 0;
     while let Some((value, more)) = value_at(rest) {
         let name = value.name;
-        let seen = value_seen(checked, spots, session, thread, name);
+        let seen = value_seen(checked, points, session, thread, name);
         if !is_value(seen, value.bit) {
             return Some(Unseen { place, name, seen });
         }

@@ -5,7 +5,7 @@ use crate::trace_heads::is_version_two;
 use bp_advice::Part::{Number, Words};
 use bp_advice::{push_all, push_parts};
 use bp_machine::{Call, Reply};
-use bp_trace::{Counts, Due};
+use bp_trace::{Due, EndCounts};
 use std::alloc::AllocError;
 
 /// The digit of a choice bit.
@@ -30,7 +30,7 @@ fn reason(reply: Reply) -> &'static [u8] {
 fn push_end_line<'a>(
     out: &mut Vec<u8>,
     before: &'a [u8],
-    counts: Counts,
+    counts: EndCounts,
     after: &'a [u8],
 ) -> Result<(), AllocError> {
     push_parts(
@@ -48,13 +48,13 @@ fn push_end_line<'a>(
 }
 
 /// Adds that the end line of a trace has to have these counts.
-pub(crate) fn push_other_end(out: &mut Vec<u8>, counts: Counts) -> Result<(), AllocError> {
+pub(crate) fn push_other_end(out: &mut Vec<u8>, counts: EndCounts) -> Result<(), AllocError> {
     let after = b": the number of calls, and of threads that may go on".as_slice();
     push_end_line(out, b"expected ", counts, after)
 }
 
 /// Adds that an end line with these counts has to follow a trace.
-pub(crate) fn push_no_end(out: &mut Vec<u8>, counts: Counts) -> Result<(), AllocError> {
+pub(crate) fn push_no_end(out: &mut Vec<u8>, counts: EndCounts) -> Result<(), AllocError> {
     let after: &[u8] = if counts.left_open > 0 {
         b" or another line of calls"
     } else {

@@ -63,7 +63,7 @@ fn last_call_before(
     let mut last = None;
     for line in 1..number {
         let words = match take_line(&mut rest) {
-            Some(line) => line.words,
+            Some(line) => line.text,
             None => return Ok(last),
         };
         match reply_to(session, words)? {
@@ -94,7 +94,7 @@ pub(crate) fn last_call(
     let Some(line) = line_of(schedule, number) else {
         return Ok(None);
     };
-    let (Some((thread, _)), Some(code)) = (call_of(line.words), code_where_lawful(alloc, program)?)
+    let (Some((thread, _)), Some(code)) = (call_of(line.text), code_where_lawful(alloc, program)?)
     else {
         return Ok(None);
     };

@@ -11,7 +11,7 @@ const END: &[u8] = b"end ";
 
 /// The thread that the line names, where its front is that of a line of calls.
 fn thread_of(line: Option<Line<'_>>) -> Option<u32> {
-    let (thread, _) = number_at_front(line?.words)?;
+    let (thread, _) = number_at_front(line?.text)?;
     Some(thread)
 }
 
@@ -61,7 +61,7 @@ fn push_sentence(
 ) -> Result<(), AllocError> {
     let threads = entry_count(trace);
     let thread = thread_of(Some(line));
-    if before.is_some_and(|line| line.words.starts_with(END)) {
+    if before.is_some_and(|line| line.text.starts_with(END)) {
         return push_all(out, &[b"nothing may follow the end line"]);
     }
     match thread {

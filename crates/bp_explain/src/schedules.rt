@@ -30,7 +30,7 @@ pub(crate) fn push_no_entry(out: &mut Vec<u8>, thread: u32) -> Result<(), AllocE
 /// Adds why this line is none of a schedule. One that is a thread and a choice bit is refused for
 /// its thread.
 fn push_line_sentence(out: &mut Vec<u8>, line: Line<'_>) -> Result<(), AllocError> {
-    match number_at_front(line.words) {
+    match number_at_front(line.text) {
         Some((thread, b"0" | b"1")) if line.is_ended => push_no_entry(out, thread),
         Some((_, b"0" | b"1")) => push_all(out, &[b"there is no line feed after this line"]),
         _ if ends_in_cr_lf(line) => push_all(out, &[ENDS_IN_CR_LF]),

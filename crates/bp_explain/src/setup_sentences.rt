@@ -35,7 +35,7 @@ fn has_many_contexts(trace: &[u8]) -> bool
     let Some(line) = take_line(&mut rest) else {
         return false;
     };
-    match number_of(part_from(line.words, CONTEXTS.len())) {
+    match number_of(part_from(line.text, CONTEXTS.len())) {
         Some(number) => number > u64::from(MAX_CONTEXTS),
         None => true,
     }

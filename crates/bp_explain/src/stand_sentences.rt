@@ -22,7 +22,7 @@ fn source_at(program: &[u8], position: Position) -> &[u8] {
     let Some(line) = line_of(program, position.line) else {
         return b"";
     };
-    let source = part_from(line.words, position.column.saturating_sub(1));
+    let source = part_from(line.text, position.column.saturating_sub(1));
     match source.iter().position(|byte| *byte == b';') {
         Some(end) => part_before(source, end),
         None => source,

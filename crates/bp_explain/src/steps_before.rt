@@ -21,7 +21,7 @@ pub(crate) struct StepsBefore {
 
 /// The thread that a line of steps names.
 fn thread_of(line: Option<Line<'_>>) -> Option<u32> {
-    let (thread, _) = number_at_front(line?.words)?;
+    let (thread, _) = number_at_front(line?.text)?;
     Some(thread)
 }
 

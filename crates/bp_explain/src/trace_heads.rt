@@ -37,7 +37,7 @@ fn after_entry(text: &[u8]) -> Option<&[u8]>
 {
     let mut rest = after_word(text)?;
     let line = take_line(&mut rest)?;
-    if line.words.is_empty() || !line.is_ended {
+    if line.text.is_empty() || !line.is_ended {
         return None;
     }
     Some(rest)
@@ -80,7 +80,7 @@ pub(crate) fn entry_count(trace: &[u8]) -> usize
 /// The name on the entry line of a thread.
 pub(crate) fn entry_of(trace: &[u8], thread: usize) -> &[u8] {
     match line_of(trace, thread.saturating_add(FIRST_ENTRY)) {
-        Some(line) => part_from(line.words, ENTRY.len()),
+        Some(line) => part_from(line.text, ENTRY.len()),
         None => part_before(trace, 0),
     }
 }

@@ -14,7 +14,7 @@ use bp_advice::{Explanation, about_excerpt, about_line, explain_too_long, tree_o
 use bp_machine::SetupFault;
 use bp_text::position_of;
 use bp_trace::limits::MAX_TRACE;
-use bp_trace::{Counts, ReplayFault};
+use bp_trace::{EndCounts, ReplayFault};
 use std::alloc::{AllocError, Global};
 
 /// Explains that the head of a trace says no setup of the program of a text.
@@ -39,7 +39,7 @@ fn explain_no_end<'a>(
     alloc: Global,
     file: &'a str,
     trace: &[u8],
-    counts: Counts,
+    counts: EndCounts,
 ) -> Result<Explanation<'a>, AllocError>
     ensures { IfOk result (λ e. ExplainsNoEnd file.now trace.now e) }
 {

@@ -11,19 +11,19 @@ use Rattle.bp_machine.specs.Setups.{SetupOf}
 use Rattle.bp_machine.proofs.ContextCounts.{least_opened}
 use Rattle.bp_source.proofs.OneStatement.{one_statement_at}
 use Rattle.bp_facts.specs.CallFacts.{AreCallFacts, IsNextOf, Next, ShownCall}
-use Rattle.bp_facts.specs.Moments.{IsContext}
+use Rattle.bp_facts.specs.ReplayedCalls.{IsContext}
 
 pub one_next : (text : List ℕ) (stack : List Frame) (m n : Next) → IsNextOf text stack m → IsNextOf text stack n → m ≡ n
 one_next text [] m n x y = x ∙ sym y
 one_next text (f ∷ fs) m n x y =
-    let statement = one_statement_at text f.procedure (start_of_block f.left) x.words y.words m.reads n.reads x.words_are y.words_are in
-    let words = x.said ∙ ap Some statement.0 ∙ sym y.said in
+    let statement = one_statement_at text f.procedure (start_of_block f.left) x.shown y.shown m.reads n.reads x.statement y.statement in
+    let same = x.said ∙ ap Some statement.0 ∙ sym y.said in
     λ i. record {
       place = (x.place ∙ sym y.place) i;
       position = (x.position ∙ sym y.position) i;
       procedure = (x.procedure ∙ sym y.procedure) i;
       depth = (x.depth_is ∙ sym y.depth_is) i;
-      words = words i;
+      text = same i;
       reads = statement.1 i;
     }
 

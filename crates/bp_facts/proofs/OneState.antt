@@ -13,13 +13,13 @@ use Rattle.bp_facts.specs.StateFacts.{AreFrameFacts, AreStackFacts, AreStateFact
 module _ (text : List ℕ) where
   one_frame : (n : ℕ) (f : Frame) (x y : ShownFrame) → AreFrameFacts text n f x → AreFrameFacts text n f y → x ≡ y
   one_frame n f x y a b =
-      let words = (one_statement_at text f.procedure (start_of_block f.left) x.words y.words a.reads b.reads a.words b.words).0 in
+      let same = (one_statement_at text f.procedure (start_of_block f.left) x.text y.text a.reads b.reads a.statement b.statement).0 in
       λ i. record {
         above = (a.above ∙ sym b.above) i;
         procedure = (a.procedure ∙ sym b.procedure) i;
         place = (a.place ∙ sym b.place) i;
         position = (a.position ∙ sym b.position) i;
-        words = words i;
+        text = same i;
         locals = (a.locals ∙ sym b.locals) i;
       }
 

@@ -14,8 +14,8 @@ use Rattle.bp_machine.proofs.ContextCounts.{count_of_none, counts_more}
 use Rattle.bp_machine.proofs.HistoryWithCall.{granted_threads-append}
 use Rattle.bp_facts.specs.declared.spans.Span.{Span}
 use Rattle.bp_facts.specs.ContextFacts.{IsContextOf, IsStepIn}
-use Rattle.bp_facts.specs.Moments.{IsContext}
-use Rattle.bp_facts.specs.Spans.{count_of, joined, with_step, AreSpans, AreSpansFrom, IsSpan, IsSpot}
+use Rattle.bp_facts.specs.ReplayedCalls.{IsContext}
+use Rattle.bp_facts.specs.Spans.{count_of, joined, with_step, AreSpans, AreSpansFrom, IsSpan, IsStandingPoint}
 use Rattle.bp_facts.proofs.StepsInContexts.{context_joined, context_kept, context_new, one_context, steps_within, take_front}
 
 abbrev threads_of : List Span → List ℕ
@@ -86,8 +86,10 @@ module _ (t : Program) (s : SetupOf) where
           context = context_kept h x n y.thread is.first is.last is.context not;
           first_is = is.first_is;
           last_is = is.last_is;
-          before = subst (λ g. IsSpot t (configuration_after t s g) y.thread y.before) (sym (take_front h x is.first (omega (arith, begins)))) is.before;
-          after = subst (λ g. IsSpot t (configuration_after t s g) y.thread y.after) (sym (take_front h x (suc is.last) (omega (arith, ends)))) is.after;
+          before = subst (λ g. IsStandingPoint t (configuration_after t s g) y.thread y.before)
+              (sym (take_front h x is.first (omega (arith, begins)))) is.before;
+          after = subst (λ g. IsStandingPoint t (configuration_after t s g) y.thread y.after)
+              (sym (take_front h x (suc is.last) (omega (arith, ends)))) is.after;
         }
 
     all_kept : (is_granted x.reply ≡ false) → (n : ℕ) (ys : List Span) → AreSpansFrom t s h n ys → AreSpansFrom t s (h ++ x ∷ []) n ys
@@ -108,12 +110,12 @@ module _ (t : Program) (s : SetupOf) where
       pub thread : step.thread ≡ x.thread
       pub first : step.first ≡ suc (length h)
       pub last : step.last ≡ suc (length h)
-      pub before : IsSpot t (configuration_after t s h) step.thread step.before
-      pub after : IsSpot t (configuration_after t s (h ++ x ∷ [])) step.thread step.after
+      pub before : IsStandingPoint t (configuration_after t s h) step.thread step.before
+      pub after : IsStandingPoint t (configuration_after t s (h ++ x ∷ [])) step.thread step.after
 
     module _ (step : Span) (own : IsOwnStep step) where
-      after_whole : IsSpot t (configuration_after t s (take (suc (length h)) (h ++ x ∷ []))) step.thread step.after
-      after_whole = subst (λ g. IsSpot t (configuration_after t s g) step.thread step.after) (sym (take_whole h x)) own.after
+      after_whole : IsStandingPoint t (configuration_after t s (take (suc (length h)) (h ++ x ∷ []))) step.thread step.after
+      after_whole = subst (λ g. IsStandingPoint t (configuration_after t s g) step.thread step.after) (sym (take_whole h x)) own.after
 
       span_joined : (n : ℕ) (y : Span) → IsContext h x (Some n) → y.thread ≡ step.thread → IsSpan t s h n y → IsSpan t s (h ++ x ∷ []) n (joined y step)
       span_joined n y here same is =
@@ -124,8 +126,9 @@ module _ (t : Program) (s : SetupOf) where
             context = context_joined h x n y.thread is.first is.last is.context here (sym (same ∙ own.thread));
             first_is = is.first_is;
             last_is = own.last;
-            before = subst (λ g. IsSpot t (configuration_after t s g) y.thread y.before) (sym (take_front h x is.first (omega (arith, begins)))) is.before;
-            after = subst (λ i. IsSpot t (configuration_after t s (take (suc (length h)) (h ++ x ∷ []))) i step.after) (sym same) after_whole;
+            before = subst (λ g. IsStandingPoint t (configuration_after t s g) y.thread y.before)
+                (sym (take_front h x is.first (omega (arith, begins)))) is.before;
+            after = subst (λ i. IsStandingPoint t (configuration_after t s (take (suc (length h)) (h ++ x ∷ []))) i step.after) (sym same) after_whole;
           }
 
       span_new : (n : ℕ) → IsContext h x (Some n) → ((k : ℕ) (y : Call) → IsStepIn n h k y → ⊥) → IsSpan t s (h ++ x ∷ []) n step
@@ -135,7 +138,7 @@ module _ (t : Program) (s : SetupOf) where
         context = subst (λ i. IsContextOf n (h ++ x ∷ []) i (length h) (length h)) (sym own.thread) (context_new h x n here none);
         first_is = own.first;
         last_is = own.last;
-        before = subst (λ g. IsSpot t (configuration_after t s g) step.thread step.before) (sym before_whole) own.before;
+        before = subst (λ g. IsStandingPoint t (configuration_after t s g) step.thread step.before) (sym before_whole) own.before;
         after = after_whole;
       }
         where

@@ -1,4 +1,4 @@
--- What is shown of the condition at which a thread stands is what the scene of its top shows.
+-- What is shown of the condition at which a thread stands is what the source statement of its top shows.
 use Rattle.std.proofs.Common.{◌≡◌, ◌∙◌, ℕ, List, Some, ap, drop, subst, sym}
 use Rattle.std.specs.Prelude.{option_map}
 use Rattle.bp_tree.specs.Ast.{Decision, Procedure, Program}
@@ -14,8 +14,8 @@ use Rattle.bp_machine.specs.Tops.{IsTop}
 use Rattle.bp_text.specs.declared.positions.Position.{Position}
 use Rattle.bp_text.specs.Positions.{position_at}
 use Rattle.bp_source.specs.Assertions.{next_decision, variables_read}
-use Rattle.bp_source.specs.declared.scenes.Scene.{Scene}
-use Rattle.bp_source.specs.Scenes.{IsScene, IsStatementAt}
+use Rattle.bp_source.specs.declared.source_statements.SourceStatement.{SourceStatement}
+use Rattle.bp_source.specs.SourceStatements.{IsSourceStatement, IsStatementAt}
 use Rattle.bp_source.specs.Statements.{IsStatement}
 use Rattle.bp_source.proofs.OneStatement.{one_statement}
 use Rattle.bp_facts.specs.ChangeFacts.{Entry}
@@ -25,11 +25,11 @@ use Rattle.bp_facts.specs.FootFacts.{named_entries, AreConditionFacts, AreStandi
 pub one_condition : (text : List ℕ) (at : ℕ) (d : Decision) (p : Procedure) (s : Store Valuation) (x y : ShownCondition) → x.thread ≡ y.thread
     → AreConditionFacts text at d p s x → AreConditionFacts text at d p s y → x ≡ y
 one_condition text at d p s x y same a b =
-    let words = (one_statement (drop at text) x.words y.words a.reads b.reads a.words b.words).0 in
+    let own = (one_statement (drop at text) x.text y.text a.reads b.reads a.statement b.statement).0 in
     λ i. record {
       thread = same i;
       position = (a.position ∙ sym b.position) i;
-      words = words i;
+      text = own i;
       values = (a.values ∙ sym b.values) i;
     }
 
@@ -55,25 +55,25 @@ module _ (c : Configuration) (i j : ℕ) (same : i ≡ j) (a : IsAtCondition c i
 
 module _
     (t : Program) (text : List ℕ) (c : Configuration) (i : ℕ) (stands : IsAtCondition c i) (x : Top) (top : IsTop t c i x)
-    (scene : Scene) (shown : IsScene text t.procedures (place top.frame.procedure top.frame.left) scene) where
+    (statement : SourceStatement) (shown : IsSourceStatement text t.procedures (place top.frame.procedure top.frame.left) statement) where
   frame_is : top.frame ≡ stands.frame
   frame_is = let own = top.stack in let same = stands.stack in cc
 
   begins : start_of_block top.frame.left ≡ Some stands.at
   begins = ap (λ (f : Frame). start_of_block f.left) frame_is ∙ stands.begins
 
-  statement : IsStatement (drop stands.at text) scene.excerpt.words.items scene.excerpt.reads_choice
-  statement = subst (λ at. IsStatementAt text top.frame.procedure at scene.excerpt.words.items scene.excerpt.reads_choice) begins shown.statement
+  excerpt_is : IsStatement (drop stands.at text) statement.excerpt.text.items statement.excerpt.reads_choice
+  excerpt_is = subst (λ at. IsStatementAt text top.frame.procedure at statement.excerpt.text.items statement.excerpt.reads_choice) begins shown.excerpt
 
-  pub position_is : scene.position ≡ Some (position_at text stands.at)
+  pub position_is : statement.position ≡ Some (position_at text stands.at)
   position_is = shown.position ∙ ap (option_map (position_at text)) begins
 
   pub decision_is : next_decision top.frame.left ≡ Some stands.decision
   decision_is = ap (λ (f : Frame). next_decision f.left) frame_is ∙ stands.decides
 
-  pub standing_facts : (position : Position) (d : Decision) (values : List Entry) → scene.position ≡ Some position → next_decision top.frame.left ≡ Some d
+  pub standing_facts : (position : Position) (d : Decision) (values : List Entry) → statement.position ≡ Some position → next_decision top.frame.left ≡ Some d
       → values ≡ named_entries top.frame.procedure (frame_store c.globals top.frame) (variables_read d)
-      → AreStandingFacts text c (record { thread = i; position = position; words = scene.excerpt.words.items; values = values })
+      → AreStandingFacts text c (record { thread = i; position = position; text = statement.excerpt.text.items; values = values })
   standing_facts position d values at decides read =
       let here : position ≡ position_at text stands.at = let own = position_is in cc in
       record {
@@ -86,5 +86,5 @@ module _
           decision = d;
           decides = decides;
         };
-        are = record { position = here; reads = scene.excerpt.reads_choice; words = statement; values = read };
+        are = record { position = here; reads = statement.excerpt.reads_choice; statement = excerpt_is; values = read };
       }

@@ -11,7 +11,7 @@ use Rattle.bp_machine.specs.Replies.{is_granted}
 use Rattle.bp_machine.proofs.ContextFronts.{within_front}
 use Rattle.bp_text.proofs.ItemsOfLists.{one_before, one_last, within}
 use Rattle.bp_facts.specs.ContextFacts.{IsContextOf, IsStepIn}
-use Rattle.bp_facts.specs.Moments.{IsContext}
+use Rattle.bp_facts.specs.ReplayedCalls.{IsContext}
 
 -- the threads of the steps of a history in two parts
 granted-append : (g h : List Call) → granted_threads (g ++ h) ≡ granted_threads g ++ granted_threads h

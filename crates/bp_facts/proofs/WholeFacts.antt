@@ -21,48 +21,50 @@ use Rattle.bp_machine.specs.Waiting.{waits}
 use Rattle.bp_machine.proofs.ContextCounts.{opened, opened_least}
 use Rattle.bp_machine.proofs.RealFailures.{real}
 use Rattle.bp_text.specs.Positions.{position_at}
-use Rattle.bp_source.specs.declared.scenes.Scene.{Scene}
+use Rattle.bp_source.specs.declared.source_statements.SourceStatement.{SourceStatement}
 use Rattle.bp_source.specs.Assertions.{variables_read}
-use Rattle.bp_source.specs.Scenes.{AreScenes, IsStatementAt}
+use Rattle.bp_source.specs.SourceStatements.{AreSourceStatements, IsStatementAt}
 use Rattle.bp_source.specs.Places.{place_text}
 use Rattle.bp_source.specs.Statements.{IsStatement}
-use Rattle.bp_source.proofs.SceneLists.{scene_at, SceneAt}
+use Rattle.bp_source.proofs.SourceStatementLists.{source_statement_at, SourceStatementAt}
 use Rattle.bp_facts.specs.CallFacts.{changes_by, nothing_next, AreCallFacts, IsNextOf, Next, ShownCall}
 use Rattle.bp_facts.specs.FootFacts.{named_entries, waiting, AreFailureFacts, AreFootFacts, AreStandingFacts, AreWaitsFacts, IsAtCondition, ShownCondition, ShownFoot}
-use Rattle.bp_facts.specs.Moments.{is_switch, IsContext}
+use Rattle.bp_facts.specs.ReplayedCalls.{is_switch, IsContext}
 use Rattle.bp_facts.proofs.DecidedDeadlocks.{decided}
 use Rattle.bp_facts.proofs.FailedConditions.{assertion_facts, at_assertion}
 use Rattle.bp_facts.proofs.FilledFacts.{no_wait_more, one_wait_more}
 use Rattle.bp_facts.proofs.PlacedStacks.{stack_placed, ArePlaced, IsPlaced}
 use Rattle.bp_facts.proofs.WaitingConditions.{at_assumption}
 
-module _ (c : Flat) (t : Program) (code : StandsFor c t) (text : List ℕ) (scenes : List Scene) (are : AreScenes text t scenes) (s : SetupOf) where
-  -- the scene of a frame
-  scene_of : (f : Frame) → IsPlaced t f → (n : ℕ) × SceneAt text t.procedures (place f.procedure f.left) scenes n
-  scene_of f placed = (placed.number, scene_at text t.procedures (places_of t.procedures) scenes placed.number (place f.procedure f.left) are placed.at)
+module _ (c : Flat) (t : Program) (code : StandsFor c t) (text : List ℕ) (statements : List SourceStatement)
+    (are : AreSourceStatements text t statements) (s : SetupOf) where
+  -- the source statement of a frame
+  source_statement_of : (f : Frame) → IsPlaced t f → (n : ℕ) × SourceStatementAt text t.procedures (place f.procedure f.left) statements n
+  source_statement_of f placed =
+      (placed.number, source_statement_at text t.procedures (places_of t.procedures) statements placed.number (place f.procedure f.left) are placed.at)
 
   some_next : (stack : List Frame) → ArePlaced t stack → (next : Next) × IsNextOf text stack next
   some_next [] placed = (nothing_next, refl)
   some_next (f ∷ fs) (here, below) =
-      let (n, found) = scene_of f here in
-      let words = found.scene.excerpt.words.items in (
+      let (n, found) = source_statement_of f here in
+      let shown = found.statement.excerpt.text.items in (
         record {
           place = place_text text (start_of_block f.left);
           position = option_map (position_at text) (start_of_block f.left);
           procedure = Some f.procedure.name.text;
           depth = length (f ∷ fs);
-          words = Some words;
-          reads = found.scene.excerpt.reads_choice;
+          text = Some shown;
+          reads = found.statement.excerpt.reads_choice;
         },
         record {
           place = refl;
           position = refl;
           procedure = refl;
           depth_is = refl;
-          words = words;
+          shown = shown;
           said = refl;
-          words_are = found.is.statement;
-          one_line = found.is.words;
+          statement = found.is.excerpt;
+          one_line = found.is.one_line;
         },
       )
 
@@ -93,19 +95,19 @@ module _ (c : Flat) (t : Program) (code : StandsFor c t) (text : List ℕ) (scen
         let frame = stands.frame in
         let now = configuration_after t s h in
         let placed : ArePlaced t (frame ∷ stands.below) = subst (ArePlaced t) stands.stack (stack_placed c t code s h i) in
-        let (n, found) = scene_of frame placed.0 in
-        let words = found.scene.excerpt.words.items in
-        let own : IsStatement (drop stands.at text) words found.scene.excerpt.reads_choice =
-        subst (λ at. IsStatementAt text frame.procedure at words found.scene.excerpt.reads_choice) stands.begins found.is.statement
+        let (n, found) = source_statement_of frame placed.0 in
+        let shown = found.statement.excerpt.text.items in
+        let own : IsStatement (drop stands.at text) shown found.statement.excerpt.reads_choice =
+        subst (λ at. IsStatementAt text frame.procedure at shown found.statement.excerpt.reads_choice) stands.begins found.is.excerpt
         in (
           record {
             thread = i;
             position = position_at text stands.at;
-            words = words;
+            text = shown;
             values = named_entries frame.procedure (frame_store now.globals frame) (variables_read stands.decision);
           },
           refl,
-          record { stands = stands; are = record { position = refl; reads = found.scene.excerpt.reads_choice; words = own; values = refl } },
+          record { stands = stands; are = record { position = refl; reads = found.statement.excerpt.reads_choice; statement = own; values = refl } },
         )
 
     some_failure : IsLegal t s h → (o : Outcome) → o ≡ outcome_of h → (x : Option ShownCondition) × AreFailureFacts t text s h o x

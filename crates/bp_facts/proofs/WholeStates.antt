@@ -9,21 +9,22 @@ use Rattle.bp_machine.specs.Answers.{stack_of}
 use Rattle.bp_machine.specs.Histories.{configuration_after}
 use Rattle.bp_machine.specs.Reports.{outcome_of}
 use Rattle.bp_machine.specs.Setups.{SetupOf, threads}
-use Rattle.bp_source.specs.declared.scenes.Scene.{Scene}
-use Rattle.bp_source.specs.Scenes.{AreScenes}
-use Rattle.bp_source.proofs.SceneLists.{scene_at}
+use Rattle.bp_source.specs.declared.source_statements.SourceStatement.{SourceStatement}
+use Rattle.bp_source.specs.SourceStatements.{AreSourceStatements}
+use Rattle.bp_source.proofs.SourceStatementLists.{source_statement_at}
 use Rattle.bp_facts.specs.Standings.{standing}
 use Rattle.bp_facts.specs.StateFacts.{AreStackFacts, AreStateFacts, AreThreadFacts, AreThreadsFacts, ShownFrame, ShownState, ShownThread}
 use Rattle.bp_facts.proofs.PlacedStacks.{stack_placed, ArePlaced}
 use Rattle.bp_facts.proofs.PlacesOfTops.{frame_facts, frame_with}
 
-module _ (c : Flat) (t : Program) (code : StandsFor c t) (text : List ℕ) (scenes : List Scene) (are : AreScenes text t scenes) (s : SetupOf) where
+module _ (c : Flat) (t : Program) (code : StandsFor c t) (text : List ℕ) (statements : List SourceStatement)
+    (are : AreSourceStatements text t statements) (s : SetupOf) where
   some_stack : (n : ℕ) (stack : List Frame) → ArePlaced t stack → (xs : List ShownFrame) × AreStackFacts text n stack xs
   some_stack n [] placed = ([], tt)
   some_stack n (f ∷ fs) (here, below) =
-      let found = scene_at text t.procedures (places_of t.procedures) scenes here.number (place f.procedure f.left) are here.at in
+      let found = source_statement_at text t.procedures (places_of t.procedures) statements here.number (place f.procedure f.left) are here.at in
       let (xs, xs_are) = some_stack (suc n) fs below in
-      (frame_with n f.procedure f.locals found.scene ∷ xs, (frame_facts text t.procedures n f found.scene found.is, xs_are))
+      (frame_with n f.procedure f.locals found.statement ∷ xs, (frame_facts text t.procedures n f found.statement found.is, xs_are))
 
   module _ (h : List Call) where
     some_thread : (i : ℕ) → (x : ShownThread) × AreThreadFacts t text s h i x

@@ -15,21 +15,21 @@ use Rattle.bp_text.specs.declared.positions.Position.{Position}
 use Rattle.bp_text.specs.OneLine.{IsOneLine}
 use Rattle.bp_text.specs.Positions.{position_at}
 use Rattle.bp_source.specs.Places.{place_text}
-use Rattle.bp_source.specs.Scenes.{IsStatementAt}
+use Rattle.bp_source.specs.SourceStatements.{IsStatementAt}
 use Rattle.bp_facts.specs.declared.call_facts.CallFacts.{CallFacts}
 use Rattle.bp_facts.specs.declared.call_facts.Next.{Next as NextFacts}
 use Rattle.bp_facts.specs.ChangeFacts.{changes_between, entry_of, Entry}
-use Rattle.bp_facts.specs.Moments.{is_switch, IsContext}
+use Rattle.bp_facts.specs.ReplayedCalls.{is_switch, IsContext}
 
 -- What a thread has next: where its statement begins, as it is printed and as a line and a column;
--- in which procedure; how many frames the stack has; the words of the statement, and whether it
+-- in which procedure; how many frames the stack has; the text of the statement, and whether it
 -- reads a choice bit.
 pub record Next : Type 0 where
   pub place : List ℕ
   pub position : Option Position
   pub procedure : Option (List ℕ)
   pub depth : ℕ
-  pub words : Option (List ℕ)
+  pub text : Option (List ℕ)
   pub reads : Bool
 
 -- a thread that has ended has nothing next
@@ -40,7 +40,7 @@ nothing_next =
       position = None;
       procedure = None;
       depth = 0;
-      words = None;
+      text = None;
       reads = false;
     }
 
@@ -62,7 +62,7 @@ next_in x =
       position = x.position;
       procedure = option_map (λ s. s.now) x.procedure;
       depth = x.depth;
-      words = option_map (λ s. s.now) x.words;
+      text = option_map (λ s. s.now) x.text;
       reads = x.reads_choice;
     }
 
@@ -94,10 +94,10 @@ pub record IsNextAt (text : List ℕ) (f : Frame) (depth : ℕ) (next : Next) : 
   pub position : next.position ≡ option_map (position_at text) (start_of_block f.left)
   pub procedure : next.procedure ≡ Some f.procedure.name.text
   pub depth_is : next.depth ≡ depth
-  pub words : List ℕ
-  pub said : next.words ≡ Some words
-  pub words_are : IsStatementAt text f.procedure (start_of_block f.left) words next.reads
-  pub one_line : IsOneLine words
+  pub shown : List ℕ
+  pub said : next.text ≡ Some shown
+  pub statement : IsStatementAt text f.procedure (start_of_block f.left) shown next.reads
+  pub one_line : IsOneLine shown
 
 -- what a thread with this stack has next
 abbrev pub IsNextOf : List ℕ → List Frame → Next → Type 0

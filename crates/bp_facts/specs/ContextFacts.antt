@@ -9,7 +9,7 @@ use Rattle.bp_facts.specs.declared.context_facts.ContextFacts.{ContextFacts}
 use Rattle.bp_facts.specs.CallFacts.{next_in, IsNextOf, Next}
 use Rattle.bp_facts.specs.ChangeFacts.{entry_of, owned, Entry}
 use Rattle.bp_facts.specs.Changes.{changed}
-use Rattle.bp_facts.specs.Moments.{IsContext}
+use Rattle.bp_facts.specs.ReplayedCalls.{IsContext}
 
 -- the call x, after k others, made a step in context n
 pub record IsStepIn (n : ℕ) (h : List Call) (k : ℕ) (x : Call) : Type 0 where

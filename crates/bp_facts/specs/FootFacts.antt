@@ -26,11 +26,11 @@ use Rattle.bp_facts.specs.declared.foot_facts.FootFacts.{FootFacts}
 use Rattle.bp_facts.specs.ChangeFacts.{entry_of, Entry}
 
 -- What is shown of a condition, which is an assertion or an assumption: the thread that stands at
--- it, where it begins, its words, and the variables that it reads with their values.
+-- it, where it begins, its text, and the variables that it reads with their values.
 pub record ShownCondition : Type 0 where
   pub thread : ℕ
   pub position : Position
-  pub words : List ℕ
+  pub text : List ℕ
   pub values : List Entry
 
 -- What is shown of the end: the report, whether the threads are deadlocked, the assertion that
@@ -47,7 +47,7 @@ condition_in x =
     record {
       thread = x.thread;
       position = x.position;
-      words = x.words.now;
+      text = x.text.now;
       values = map entry_of x.values.items;
     }
 
@@ -83,7 +83,7 @@ pub record AreConditionFacts
     : Type 0 where
   pub position : x.position ≡ position_at text at
   pub reads : Bool
-  pub words : IsStatement (drop at text) x.words reads
+  pub statement : IsStatement (drop at text) x.text reads
   pub values : x.values ≡ named_entries p s (variables_read d)
 
 -- thread i stands at a condition, which begins at this offset and has this decision

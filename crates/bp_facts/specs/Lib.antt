@@ -5,7 +5,7 @@ pub mod ContextFacts
 pub mod Filters
 pub mod FootFacts
 pub mod Laws
-pub mod Moments
+pub mod ReplayedCalls
 pub mod NameLists
 pub mod ProgramFacts
 pub mod ReplayedChanges

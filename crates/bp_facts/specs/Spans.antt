@@ -12,11 +12,12 @@ use Rattle.bp_machine.specs.Histories.{configuration_after, granted_threads}
 use Rattle.bp_machine.specs.Setups.{SetupOf}
 use Rattle.bp_machine.specs.Tops.{IsTop}
 use Rattle.bp_facts.specs.declared.spans.Span.{Span}
-use Rattle.bp_facts.specs.declared.spans.Spot.{Spot}
+use Rattle.bp_facts.specs.declared.spans.StandingPoint.{StandingPoint}
 use Rattle.bp_facts.specs.ContextFacts.{IsContextOf}
 
--- the spot has the top of thread i's stack in a configuration, and the globals
-pub record IsSpot (t : Program) (c : Configuration) (i : ℕ) (x : Spot) : Type 0 where
+-- the point has the top of thread i's stack in a configuration, and the globals
+pub record IsStandingPoint (t : Program) (c : Configuration) (i : ℕ) (x : StandingPoint)
+    : Type 0 where
   pub top : MatchOption x.top (stack_of c i ≡ []) (IsTop t c i)
   pub globals : c.globals ≡ valuation_of t.globals (bits_of x.globals)
 
@@ -49,8 +50,8 @@ module _ (t : Program) (s : SetupOf) (h : List Call) where
     pub context : IsContextOf n h x.thread first last
     pub first_is : x.first ≡ suc first
     pub last_is : x.last ≡ suc last
-    pub before : IsSpot t (configuration_after t s (take first h)) x.thread x.before
-    pub after : IsSpot t (configuration_after t s (take (suc last) h)) x.thread x.after
+    pub before : IsStandingPoint t (configuration_after t s (take first h)) x.thread x.before
+    pub after : IsStandingPoint t (configuration_after t s (take (suc last) h)) x.thread x.after
 
   -- the spans are the contexts from context n on
   abbrev pub AreSpansFrom : ℕ → List Span → Type 0

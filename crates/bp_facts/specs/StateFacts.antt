@@ -15,7 +15,7 @@ use Rattle.bp_machine.specs.Setups.{SetupOf, threads}
 use Rattle.bp_text.specs.declared.positions.Position.{Position}
 use Rattle.bp_text.specs.Positions.{position_at}
 use Rattle.bp_source.specs.Places.{place_text}
-use Rattle.bp_source.specs.Scenes.{IsStatementAt}
+use Rattle.bp_source.specs.SourceStatements.{IsStatementAt}
 use Rattle.bp_facts.specs.declared.standings.Standing.{Standing}
 use Rattle.bp_facts.specs.declared.state_facts.FrameFacts.{FrameFacts}
 use Rattle.bp_facts.specs.declared.state_facts.StateFacts.{StateFacts}
@@ -23,14 +23,14 @@ use Rattle.bp_facts.specs.declared.state_facts.ThreadFacts.{ThreadFacts}
 use Rattle.bp_facts.specs.Standings.{standing}
 
 -- What is shown of a frame: how many frames are above it; its procedure; where its next statement
--- begins, as it is printed and as a line and a column; the words of that statement; and its
+-- begins, as it is printed and as a line and a column; the text of that statement; and its
 -- variables with their values.
 pub record ShownFrame : Type 0 where
   pub above : ℕ
   pub procedure : Procedure
   pub place : List ℕ
   pub position : Option Position
-  pub words : List ℕ
+  pub text : List ℕ
   pub locals : Valuation
 
 -- what is shown of a thread: its number, how it stands, and the frames of its stack from the top
@@ -56,7 +56,7 @@ frame_in x =
       procedure = x.proc.now;
       place = x.place.now;
       position = x.position;
-      words = x.words.now;
+      text = x.text.now;
       locals = valuation_of (variables x.proc.now) (bits_of x.locals);
     }
 
@@ -86,7 +86,7 @@ module _ (text : List ℕ) where
     pub place : x.place ≡ place_text text (start_of_block f.left)
     pub position : x.position ≡ option_map (position_at text) (start_of_block f.left)
     pub reads : Bool
-    pub words : IsStatementAt text f.procedure (start_of_block f.left) x.words reads
+    pub statement : IsStatementAt text f.procedure (start_of_block f.left) x.text reads
     pub locals : x.locals ≡ f.locals
 
   -- these are the facts of the frames below n others, one for each

@@ -8,12 +8,12 @@ ghost use Rattle.bp_machine.specs.Setups.{SetupOf};
 ghost use Rattle.bp_machine.specs.Tops.{IsTop};
 ghost use Rattle.bp_facts.specs.CallFacts.{changes_by, choice_of, facts_in, is_tried, next_in, AreCallFacts, IsNextOf};
 ghost use Rattle.bp_facts.specs.ChangeFacts.{entry_of};
-ghost use Rattle.bp_facts.specs.Moments.{IsMomentOf};
+ghost use Rattle.bp_facts.specs.ReplayedCalls.{IsReplayedCall};
 ghost use Rattle.bp_facts.specs.ProgramFacts.{AreProgramFacts};
 
 use crate::change_facts::Change;
-use crate::moments::Moment;
-use crate::program_facts::{ProgramFacts, scene_of};
+use crate::program_facts::{ProgramFacts, source_statement_of};
+use crate::replayed_calls::ReplayedCall;
 use bp_machine::{Call, Reply, Top};
 use bp_source::name_at;
 use bp_text::Position;
@@ -30,8 +30,8 @@ pub struct Next<'a> {
     pub procedure: Option<&'a [u8]>,
     /// How many frames the stack has.
     pub depth: usize,
-    /// The words of the statement; none where the thread has ended.
-    pub words: Option<&'a [u8]>,
+    /// The text of the statement; none where the thread has ended.
+    pub text: Option<&'a [u8]>,
     /// Whether the statement reads a choice bit.
     pub reads_choice: bool,
 }
@@ -59,7 +59,7 @@ const NOTHING: Next<'static> = Next {
     position: None,
     procedure: None,
     depth: 0,
-    words: None,
+    text: None,
     reads_choice: false,
 };
 
@@ -73,37 +73,37 @@ pub(crate) fn next_of<'a>(program: &ProgramFacts<'a>, top: Option<Top>) -> Next<
     let Some(top) = top else {
         return NOTHING;
     };
-    let Some(scene) = scene_of(program, top) else {
+    let Some(statement) = source_statement_of(program, top) else {
         return NOTHING;
     };
     Next {
-        place: scene.place.as_slice(),
-        position: scene.position,
-        procedure: name_at(program.procs, scene.procedure),
+        place: statement.place.as_slice(),
+        position: statement.position,
+        procedure: name_at(program.procs, statement.procedure),
         depth: top.depth,
-        words: Some(scene.excerpt.words.as_slice()),
-        reads_choice: scene.excerpt.reads_choice,
+        text: Some(statement.excerpt.text.as_slice()),
+        reads_choice: statement.excerpt.reads_choice,
     }
 }
 
 /// The facts of a call that changed these variables.
 pub fn facts_of_call<'a>(
     program: &ProgramFacts<'a>,
-    moment: &Moment,
+    replayed: &ReplayedCall,
     changes: &'a [Change<'a>],
 ) -> CallFacts<'a>
     ensures { (t : Program) (text : List ℕ) (s : SetupOf) (h : List Answered) (x : Answered)
         → AreProgramFacts t text program.now
-        → IsMomentOf t s h x moment.now
+        → IsReplayedCall t s h x replayed.now
         → map entry_of changes.entry.now ≡ changes_by t s h x
         → AreCallFacts t text s h x (facts_in result) }
 {
     CallFacts {
-        number: moment.number,
-        call: moment.call,
-        context: moment.context,
-        is_switch: moment.is_switch,
-        next: next_of(program, moment.before),
+        number: replayed.number,
+        call: replayed.call,
+        context: replayed.context,
+        is_switch: replayed.is_switch,
+        next: next_of(program, replayed.before),
         changes,
     }
 }

@@ -4,17 +4,17 @@ ghost use Rattle.bp_tree.specs.Ast.{Program};
 ghost use Rattle.bp_code.specs.Bits.{bits_of};
 ghost use Rattle.bp_code.specs.Configurations.{Configuration, Frame};
 ghost use Rattle.bp_code.specs.StandsFor.{place, places_of, valuation_of, variables};
-ghost use Rattle.bp_source.specs.Scenes.{AreScenes};
+ghost use Rattle.bp_source.specs.SourceStatements.{AreSourceStatements};
 ghost use Rattle.bp_facts.specs.ChangeFacts.{changes_between, entry_of, frame_entries, owned, slot_entry};
 ghost use Rattle.bp_facts.specs.Changes.{changed};
-ghost use Rattle.bp_facts.specs.Moments.{Leads};
+ghost use Rattle.bp_facts.specs.ReplayedCalls.{Leads};
 ghost use Rattle.bp_facts.specs.ProgramFacts.{AreProgramFacts};
 
-use crate::moments::Moment;
 use crate::program_facts::ProgramFacts;
+use crate::replayed_calls::ReplayedCall;
 use bp_code::bit_of;
 use bp_machine::Top;
-use bp_source::{Scene, procedure_at};
+use bp_source::{SourceStatement, procedure_at};
 use bp_tree::{Name, Proc};
 use std::alloc::AllocError;
 
@@ -46,7 +46,7 @@ fn add_slot<'a>(
     Ok(())
 }
 
-/// Adds those of these variables whose bits differ in the words before and after a step. The first
+/// Adds those of these variables whose bits differ in the bits before and after a step. The first
 /// has this slot.
 pub(crate) fn add_differing<'a>(
     changes: &mut Vec<Change<'a>>,
@@ -120,13 +120,13 @@ fn add_locals<'a>(
 /// Adds the locals that a step changed, or the formals of a procedure that it entered.
 fn add_frame<'a>(
     changes: &mut Vec<Change<'a>>,
-    scenes: &[Scene],
+    statements: &[SourceStatement],
     procs: &'a [Proc],
     before: Top,
     after: Top,
 ) -> Result<(), AllocError>
     ensures { (t : Program) (text : List ℕ) (f g : Frame)
-        → AreScenes text t scenes.now
+        → AreSourceStatements text t statements.now
         → procs.entry.now ≡ t.procedures
         → slice_get (places_of t.procedures) after.number ≡ Some (place g.procedure g.left)
         → f.locals ≡ valuation_of (variables f.procedure) (bits_of before.store.locals)
@@ -135,7 +135,7 @@ fn add_frame<'a>(
         → let more = frame_entries f g before.depth after.depth in
         OnOk result (map entry_of changes.new.items ≡ map entry_of changes.old.items ++ more) }
 {
-    let Some(proc) = procedure_at(scenes, procs, after.number) else {
+    let Some(proc) = procedure_at(statements, procs, after.number) else {
         return Ok(());
     };
     if after.depth < before.depth {
@@ -151,21 +151,21 @@ fn add_frame<'a>(
 pub fn fill_changes<'a>(
     changes: &mut Vec<Change<'a>>,
     program: &ProgramFacts<'a>,
-    moment: &Moment,
+    replayed: &ReplayedCall,
 ) -> Result<(), AllocError>
     ensures { (t : Program) (text : List ℕ) (c d : Configuration) (i : ℕ)
         → AreProgramFacts t text program.now
-        → Leads t c d i moment.now
+        → Leads t c d i replayed.now
         → OnOk result (map entry_of changes.new.items ≡ changes_between c d i) }
 {
     changes.clear();
-    let Some(before) = moment.before else {
+    let Some(before) = replayed.before else {
         return Ok(());
     };
-    let Some(after) = moment.after else {
+    let Some(after) = replayed.after else {
         return Ok(());
     };
     let (old, new) = (before.store.globals, after.store.globals);
     add_differing(changes, None, program.globals, 0, old, new)?;
-    add_frame(changes, program.scenes, program.procs, before, after)
+    add_frame(changes, program.statements, program.procs, before, after)
 }

@@ -18,7 +18,7 @@ ghost use Rattle.bp_facts.specs.FootFacts.{condition_in, foot_in, named_entries,
 ghost use Rattle.bp_facts.specs.ProgramFacts.{AreProgramFacts};
 
 use crate::change_facts::Change;
-use crate::program_facts::{ProgramFacts, scene_of};
+use crate::program_facts::{ProgramFacts, source_statement_of};
 use bp_code::{Store, bit_of, local_slot_of, slot_of};
 use bp_machine::{Outcome, Report, Session, Top};
 use bp_source::{decider_at, procedure_at, variables_read};
@@ -33,8 +33,8 @@ pub struct ConditionFacts<'a> {
     pub thread: u32,
     /// Where it begins.
     pub position: Position,
-    /// The words of its statement.
-    pub words: &'a [u8],
+    /// The text of its statement.
+    pub text: &'a [u8],
     /// The variables that it reads, with their values.
     pub values: Vec<Change<'a>>,
 }
@@ -112,7 +112,7 @@ fn values_read<'a>(
         let read = named_entries is.frame.procedure s names in
         IfOk result (λ v. map entry_of v.items ≡ read) }
 {
-    let Some(proc) = procedure_at(program.scenes, program.procs, top.number) else {
+    let Some(proc) = procedure_at(program.statements, program.procs, top.number) else {
         return Ok(Vec::new(alloc));
     };
     let names = variables_read(alloc, decider)?;
@@ -139,21 +139,21 @@ fn condition_of<'a>(
     let Some(top) = session.top(thread) else {
         return Ok(None);
     };
-    let Some(scene) = scene_of(program, top) else {
+    let Some(statement) = source_statement_of(program, top) else {
         return Ok(None);
     };
-    let Some(position) = scene.position else {
+    let Some(position) = statement.position else {
         return Ok(None);
     };
     let Some(decider) = decider_at(alloc, program.procs, top.number)? else {
         return Ok(None);
     };
     let values = values_read(alloc, program, decider, top)?;
-    let words = scene.excerpt.words.as_slice();
+    let shown = statement.excerpt.text.as_slice();
     Ok(Some(ConditionFacts {
         thread,
         position,
-        words,
+        text: shown,
         values,
     }))
 }

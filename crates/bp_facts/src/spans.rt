@@ -7,16 +7,16 @@ ghost use Rattle.bp_machine.specs.Histories.{configuration_after};
 ghost use Rattle.bp_machine.specs.Sessions.{Stands};
 ghost use Rattle.bp_machine.specs.Setups.{FitsCode};
 ghost use Rattle.bp_trace.specs.Replays.{IsPlayable};
-ghost use Rattle.bp_facts.specs.Spans.{joined, with_step, AreSpans, IsSpot};
+ghost use Rattle.bp_facts.specs.Spans.{joined, with_step, AreSpans, IsStandingPoint};
 
-use crate::moments::is_step;
+use crate::replayed_calls::is_step;
 use bp_code::Code;
 use bp_machine::{AskFault, Call, Session, Setup, Top};
 use std::alloc::{AllocError, Global};
 
 /// Where a thread continues, and the globals at that time.
 #[derive(Clone, Copy)]
-pub struct Spot {
+pub struct StandingPoint {
     /// The top of its stack; none where it is empty.
     pub top: Option<Top>,
     /// The bits of the globals.
@@ -33,19 +33,19 @@ pub struct Span {
     /// The number of the last step's call, from 1.
     pub last: u64,
     /// Where the thread stood before the first of them.
-    pub before: Spot,
+    pub before: StandingPoint,
     /// Where it stood after the last of them.
-    pub after: Spot,
+    pub after: StandingPoint,
 }
 
 /// Where a thread of the session continues.
-fn spot_of(session: &Session, thread: u32) -> Spot
+fn standing_point(session: &Session, thread: u32) -> StandingPoint
     ensures { (t : Program) (h : List Answered)
         → StandsFor session.now.code t
         → Stands t session.now h
-        → IsSpot t (configuration_after t session.now.setup h) thread result }
+        → IsStandingPoint t (configuration_after t session.now.setup h) thread result }
 {
-    Spot {
+    StandingPoint {
         top: session.top(thread),
         globals: session.globals(),
     }
@@ -105,7 +105,7 @@ fn play_call(
     ensures kept { (session.new.code ≡ session.old.code) × (session.new.setup ≡ session.old.setup) }
 {
     let thread = recorded.thread;
-    let before = spot_of(session, thread);
+    let before = standing_point(session, thread);
     let call = session.ask_as_recorded(thread, recorded.bit)?;
     if is_step(call.reply) {
         let step = Span {
@@ -113,7 +113,7 @@ fn play_call(
             first: number,
             last: number,
             before,
-            after: spot_of(session, thread),
+            after: standing_point(session, thread),
         };
         push_step(spans, step)?;
     }

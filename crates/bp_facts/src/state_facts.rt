@@ -11,7 +11,7 @@ ghost use Rattle.bp_machine.specs.Setups.{threads};
 ghost use Rattle.bp_facts.specs.ProgramFacts.{AreProgramFacts};
 ghost use Rattle.bp_facts.specs.StateFacts.{frame_in, state_in, thread_in, AreFrameFacts, AreStackFacts, AreStateFacts, AreThreadFacts, AreThreadsFacts};
 
-use crate::program_facts::{ProgramFacts, scene_of};
+use crate::program_facts::{ProgramFacts, source_statement_of};
 use crate::standings::Standing;
 use bp_machine::{Call, Outcome, Session};
 use bp_source::procedure_at;
@@ -30,8 +30,8 @@ pub struct FrameFacts<'a> {
     pub place: &'a [u8],
     /// The same as a line and a column; none at the end of the procedure.
     pub position: Option<Position>,
-    /// The words of the statement.
-    pub words: &'a [u8],
+    /// The text of the statement.
+    pub text: &'a [u8],
     /// The bits of its formals and its locals.
     pub locals: u128,
 }
@@ -78,14 +78,14 @@ fn frame_below<'a>(
         → IsSomeAnd result (λ x. AreFrameFacts text above f (frame_in x)) }
 {
     let top = session.top_below(thread, above)?;
-    let scene = scene_of(program, top)?;
-    let proc = procedure_at(program.scenes, program.procs, top.number)?;
+    let statement = source_statement_of(program, top)?;
+    let proc = procedure_at(program.statements, program.procs, top.number)?;
     Some(FrameFacts {
         above,
         proc,
-        place: scene.place.as_slice(),
-        position: scene.position,
-        words: scene.excerpt.words.as_slice(),
+        place: statement.place.as_slice(),
+        position: statement.position,
+        text: statement.excerpt.text.as_slice(),
         locals: top.store.locals,
     })
 }

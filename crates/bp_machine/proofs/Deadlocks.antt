@@ -1,8 +1,9 @@
 -- Deadlocks grant nothing, and how the threads are looked through for one.
-use Rattle.std.proofs.Common.{◌≡◌, ℕ, ◌+◌, ◌<◌, ◌≤◌, ◌&&◌, Bool, true, false, cond, List, [], ◌∷◌, ◌++◌, Option, None, Some, refl, ap, sym, ◌∙◌, subst, arith, append_assoc, inl, inr}
+use Rattle.std.proofs.Common.{◌≡◌, ℕ, ◌+◌, ◌<◌, ◌≤◌, ◌&&◌, Bool, true, false, cond, List, [], ◌∷◌, ◌++◌, Option, None, Some, refl, ap, sym, ◌∙◌, subst, arith, inl, inr}
 use Rattle.std.specs.Prelude.{unwrap_or, is_some, MatchOption, IsTrue, ◌↔◌}
 use Rattle.std.proofs.lemmas.Bool.{cases_lt}
 use Rattle.std.proofs.lemmas.List.{append-nil, get_or_past}
+use Rattle.bp_tree.proofs.GrownLists.{regrouped}
 use Rattle.bp_tree.specs.Ast.{Program}
 use Rattle.bp_code.specs.Configurations.{Frame, Configuration}
 use Rattle.bp_machine.specs.declared.calls.Call.{Call}
@@ -75,7 +76,7 @@ module _ (t : Program) (s : SetupOf) where
 
   legal_later : (g h xs : List Call) → IsLegalAfter t s g (h ++ xs) → IsLegalAfter t s (g ++ h) xs
   legal_later g [] xs legal = subst (λ k. IsLegalAfter t s k xs) (sym (append-nil g)) legal
-  legal_later g (x ∷ h) xs (first, rest) = subst (λ k. IsLegalAfter t s k xs) (append_assoc g (x ∷ []) h) (legal_later (g ++ x ∷ []) h xs rest)
+  legal_later g (x ∷ h) xs (first, rest) = simp regrouped at (legal_later (g ++ x ∷ []) h xs rest)
 
   pub none_later : (h more : List Call) → IsLegal t s (h ++ more) → IsDeadlocked t (configuration_after t s h) → granted_calls more ≡ []
   none_later h more legal dead = none_after h more (legal_later [] h more legal) dead

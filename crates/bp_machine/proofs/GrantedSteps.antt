@@ -1,7 +1,8 @@
 -- The granted steps of a legal history are a run within the allowed contexts, and a failure is a false assertion.
-use Rattle.std.proofs.Common.{◌≡◌, ℕ, zero, suc, ◌&&◌, nat_le, Bool, true, false, cond, List, [], ◌∷◌, ◌++◌, length, Option, Some, refl, ap, sym, ◌∙◌, subst, arith, append_assoc}
+use Rattle.std.proofs.Common.{◌≡◌, ℕ, zero, suc, ◌&&◌, nat_le, Bool, true, false, cond, List, [], ◌∷◌, ◌++◌, length, Option, Some, refl, ap, sym, ◌∙◌, subst, arith}
 use Rattle.std.specs.Prelude.{slice_get, slice_index_or, unwrap_or}
 use Rattle.std.proofs.lemmas.List.{append-nil}
+use Rattle.bp_tree.proofs.GrownLists.{regrouped}
 use Rattle.bp_tree.specs.Ast.{Program}
 use Rattle.bp_code.specs.Configurations.{Frame, Configuration, is_call}
 use Rattle.bp_code.specs.Moves.{StatementEffect, Leaves, Fails, Blocks, Misses, effect, after_effect, Moves}
@@ -112,7 +113,7 @@ module _ (t : Program) (s : SetupOf) where
   pub run_from : (h xs : List Call) → IsLegalAfter t s h xs → IsRun t (configuration_after t s h) (granted_calls xs) (configuration_after t s (h ++ xs))
   run_from h [] legal = rw (append-nil h) (ends (configuration_after t s h))
   run_from h (x ∷ xs) (allowed, rest) =
-      rw (← append_assoc h (x ∷ []) xs) (one h x xs (is_granted x.reply) refl allowed (run_from (h ++ x ∷ []) xs rest))
+      simp regrouped at (one h x xs (is_granted x.reply) refl allowed (run_from (h ++ x ∷ []) xs rest))
 
   pub runs : (h : List Call) → IsLegal t s h → IsRun t (start t s) (granted_calls h) (configuration_after t s h)
   runs h legal = run_from [] h legal
@@ -131,7 +132,7 @@ module _ (t : Program) (s : SetupOf) where
   within_from : (h xs : List Call) → IsLegalAfter t s h xs → IsWithin s.contexts (granted_threads h) → IsWithin s.contexts (granted_threads (h ++ xs))
   within_from h [] legal so_far = rw (append-nil h) so_far
   within_from h (x ∷ xs) (allowed, rest) so_far =
-      rw (← append_assoc h (x ∷ []) xs) (within_from (h ++ x ∷ []) xs rest (within_one h x (is_granted x.reply) refl allowed so_far))
+      simp regrouped at (within_from (h ++ x ∷ []) xs rest (within_one h x (is_granted x.reply) refl allowed so_far))
 
   pub within : (h : List Call) → IsLegal t s h → IsWithin s.contexts (granted_threads h)
   within h legal = within_from [] h legal (record { pieces = []; few = omega arith; each = tt; whole = refl })

@@ -1,7 +1,8 @@
 -- The granted calls of a legal history are a run within the bounds of its setup.
-use Rattle.std.proofs.Common.{◌≡◌, ◌<◌, ◌≤◌, ◌==◌, ℕ, Bool, true, false, cond, ◌&&◌, nat_le, List, [], ◌∷◌, ◌++◌, length, Option, Some, refl, ap, sym, ◌∙◌, subst, arith, append_assoc}
+use Rattle.std.proofs.Common.{◌≡◌, ◌<◌, ◌≤◌, ◌==◌, ℕ, Bool, true, false, cond, ◌&&◌, nat_le, List, [], ◌∷◌, ◌++◌, length, Option, Some, refl, ap, sym, ◌∙◌, subst, arith}
 use Rattle.std.specs.Prelude.{map, unwrap_or}
 use Rattle.std.proofs.lemmas.Bool.Decides.{nat_tests}
+use Rattle.bp_tree.proofs.GrownLists.{regrouped}
 use Rattle.bp_tree.specs.Ast.{Program}
 use Rattle.bp_code.specs.Configurations.{Configuration}
 use Rattle.bp_code.specs.Moves.{effect, Moves}
@@ -146,7 +147,7 @@ module _ (t : Program) (s : SetupOf) where
   replies_from : (h xs : List Call) → IsLegalAfter t s h xs → history_of_run (granted_calls xs) (configuration_after t s (h ++ xs)).failed ≡ granted_calls xs
   replies_from h [] legal = refl
   replies_from h (y ∷ ys) (allowed, rest) =
-      rw (← append_assoc h (y ∷ []) ys)
+      simp regrouped at
       (replies_of h y ys (configuration_after t s ((h ++ y ∷ []) ++ ys)) allowed (run_from t s (h ++ y ∷ []) ys rest)
       (replies_from (h ++ y ∷ []) ys rest) (is_granted y.reply) refl)
 

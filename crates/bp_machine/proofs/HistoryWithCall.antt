@@ -1,7 +1,8 @@
 -- A history with one more call.
-use Rattle.std.proofs.Common.{◌≡◌, ◌≢◌, ℕ, zero, suc, ◌+◌, ◌<◌, ◌==◌, Bool, true, false, cond, ◌||◌, nat_le, List, [], ◌∷◌, ◌++◌, length, refl, ap, sym, ◌∙◌, subst, arith, append_assoc}
+use Rattle.std.proofs.Common.{◌≡◌, ◌≢◌, ℕ, zero, suc, ◌+◌, ◌<◌, ◌==◌, Bool, true, false, cond, ◌||◌, nat_le, List, [], ◌∷◌, ◌++◌, length, refl, ap, ◌∙◌, subst, arith}
 use Rattle.std.proofs.lemmas.List.{append-nil}
 use Rattle.std.proofs.lemmas.Bool.Decides.{nat_tests}
+use Rattle.bp_tree.proofs.GrownLists.{regrouped}
 use Rattle.bp_tree.specs.Ast.{Program}
 use Rattle.bp_code.specs.Configurations.{Configuration}
 use Rattle.bp_machine.specs.declared.calls.Call.{Call}
@@ -37,7 +38,7 @@ granted_threads-append (y ∷ ys) x = more (is_granted y.reply) (granted_threads
 legal_after : (t : Program) (s : SetupOf) (h xs : List Call) (x : Call) → IsLegalAfter t s h xs → IsAllowed t s (h ++ xs) x → IsLegalAfter t s h (xs ++ x ∷ [])
 legal_after t s h [] x legal allowed = (subst (λ g. IsAllowed t s g x) (append-nil h) allowed, tt)
 legal_after t s h (y ∷ ys) x (first, rest) allowed =
-    (first, legal_after t s (h ++ y ∷ []) ys x rest (subst (λ g. IsAllowed t s g x) (sym (append_assoc h (y ∷ []) ys)) allowed))
+    (first, legal_after t s (h ++ y ∷ []) ys x rest (simp regrouped allowed))
 
 pub legal-append : (t : Program) (s : SetupOf) (h : List Call) (x : Call) → IsLegal t s h → IsAllowed t s h x → IsLegal t s (h ++ x ∷ [])
 legal-append t s h x legal allowed = legal_after t s [] h x legal allowed

@@ -1,8 +1,9 @@
 -- A legal history has at most as many calls as its threads may make together.
-use Rattle.std.proofs.Common.{◌≡◌, ◌≢◌, ℕ, zero, suc, ◌+◌, ◌*◌, ◌<◌, ◌≤◌, ◌==◌, Bool, true, false, cond, ◌||◌, nat_le, List, [], ◌∷◌, ◌++◌, length, refl, ap, sym, ◌∙◌, subst, arith, append_assoc, add-one, inl, inr}
+use Rattle.std.proofs.Common.{◌≡◌, ◌≢◌, ℕ, zero, suc, ◌+◌, ◌*◌, ◌<◌, ◌≤◌, ◌==◌, Bool, true, false, cond, ◌||◌, nat_le, List, [], ◌∷◌, ◌++◌, length, refl, ap, sym, ◌∙◌, subst, arith, add-one, inl, inr}
 use Rattle.std.proofs.Math.Nat.{suc-mul}
 use Rattle.std.proofs.lemmas.List.{append-nil, length-append}
 use Rattle.std.proofs.lemmas.Bool.Decides.{nat_tests}
+use Rattle.bp_tree.proofs.GrownLists.{regrouped}
 use Rattle.bp_tree.specs.Ast.{Program}
 use Rattle.bp_machine.specs.declared.calls.Call.{Call}
 use Rattle.bp_machine.specs.Setups.{SetupOf, threads}
@@ -100,7 +101,7 @@ module _ (t : Program) (s : SetupOf) where
       → (i : ℕ) → length (calls_of_thread i (p ++ xs)) ≤ s.calls
   bounded p [] legal each i = rw (append-nil p) (each i)
   bounded p (x ∷ xs) (allowed, rest) each i =
-      rw (← append_assoc p (x ∷ []) xs) (bounded (p ++ x ∷ []) xs rest (next p x allowed each) i)
+      simp regrouped at (bounded (p ++ x ∷ []) xs rest (next p x allowed each) i)
 
   below_after : (p xs : List Call) → IsLegalAfter t s p xs → AllBelow (threads s) xs
   below_after p [] legal = tt

@@ -1,7 +1,8 @@
 -- A failure is a false assertion, and the last step.
-use Rattle.std.proofs.Common.{◌≡◌, ℕ, Bool, true, false, cond, List, [], ◌∷◌, ◌++◌, Option, None, Some, refl, ap, sym, ◌∙◌, subst, append_assoc}
+use Rattle.std.proofs.Common.{◌≡◌, ℕ, Bool, true, false, cond, List, [], ◌∷◌, ◌++◌, Option, None, Some, refl, ap, sym, ◌∙◌, subst}
 use Rattle.std.proofs.lemmas.List.{append-nil}
 use Rattle.std.specs.Prelude.{unwrap_or}
+use Rattle.bp_tree.proofs.GrownLists.{regrouped}
 use Rattle.bp_tree.specs.Ast.{Name, Block, Done, Then, Skips, GoesTo, Returns, Assigns, Branches, Loops, Asserts, Assumes, Prints, Calls, Decision, Procedure, Program}
 use Rattle.bp_code.specs.Values.{Valuation, decision_value, expression_values}
 use Rattle.bp_code.specs.Continuations.{from_label}
@@ -151,7 +152,7 @@ module _ (t : Program) (s : SetupOf) where
     thread = r.thread;
     failed = r.failed;
     last = r.last;
-    stands = rw (← append_assoc h (x ∷ []) r.before) r.stands;
+    stands = simp regrouped at r.stands;
   }
 
   by_reply : (h : List Call) (x : Call) (xs : List Call) (i : ℕ) (r : Reply) → x.reply ≡ r

@@ -1,7 +1,8 @@
 -- A run within the bounds of a setup is a legal history.
-use Rattle.std.proofs.Common.{◌≡◌, ◌≢◌, ◌+◌, ◌<◌, ◌≤◌, ◌==◌, ℕ, Bool, true, false, cond, ◌||◌, nat_le, List, [], ◌∷◌, ◌++◌, length, Some, refl, ap, sym, ◌∙◌, subst, arith, append_assoc, length-append, inl, inr}
+use Rattle.std.proofs.Common.{◌≡◌, ◌≢◌, ◌+◌, ◌<◌, ◌≤◌, ◌==◌, ℕ, Bool, true, false, cond, ◌||◌, nat_le, List, [], ◌∷◌, ◌++◌, length, Some, refl, ap, sym, ◌∙◌, subst, arith, length-append, inl, inr}
 use Rattle.std.specs.Prelude.{map}
 use Rattle.std.proofs.lemmas.Bool.Decides.{nat_tests}
+use Rattle.bp_tree.proofs.GrownLists.{regrouped}
 use Rattle.bp_tree.specs.Ast.{Program}
 use Rattle.bp_code.specs.Configurations.{Configuration}
 use Rattle.bp_machine.specs.declared.calls.Call.{Call}
@@ -68,7 +69,7 @@ module _ (t : Program) (s : SetupOf) where
     granted_is = granted_threads-append p made ∙ ap (λ g. granted_threads p ++ cond g (x.thread ∷ []) []) (reply_granted xs e.failed)
 
     all_threads : granted_threads p ++ map thread_of (x ∷ xs) ≡ (granted_threads p ++ x.thread ∷ []) ++ map thread_of xs
-    all_threads = sym (append_assoc (granted_threads p) (x.thread ∷ []) (map thread_of xs))
+    all_threads = simp regrouped
 
     fits_here : IsWithin s.contexts (granted_threads p ++ x.thread ∷ [])
     fits_here = within_front s.contexts (granted_threads p ++ x.thread ∷ []) (map thread_of xs) (subst (λ ts. IsWithin s.contexts ts) all_threads now.contexts)

@@ -1,8 +1,9 @@
 -- A stack that is kept with its top last.
 use Rattle.std.proofs.Common.{◌≡◌, ◌⊎◌, ℕ, zero, suc, ◌+◌, ◌-◌, ◌<◌, List, [], ◌∷◌, ◌++◌, drop, length, reverse, Some, refl, ap, ◌∙◌, arith, inl, inr}
 use Rattle.std.specs.Prelude.{slice_get, slice_set}
-use Rattle.std.proofs.lemmas.List.{reverse-append, length-append, append_assoc}
+use Rattle.std.proofs.lemmas.List.{reverse-append, length-append}
 use Rattle.std.proofs.Math.Seq.{set-append_seam}
+use Rattle.bp_tree.proofs.GrownLists.{regrouped}
 use Rattle.bp_machine.specs.declared.stacks.ActivationRecord.{ActivationRecord}
 use Rattle.bp_machine.specs.Stacks.{top_of, with_top, entered_top}
 
@@ -51,15 +52,8 @@ entered xs f c next n top e = elim (snoc xs) [ inl none ↦ absurd (nothing none
         let size : n - 2 ≡ length ys = omega (arith, e, ap length is, length-append ys (y ∷ [])) in
         let same : y ≡ c = let t = ap (λ zs. top_of (reverse zs)) is ∙ ap top_of (reverse_last ys y) in cc in
         let caller : ActivationRecord = record { number = next; locals = c.locals } in
-        rw (
-          size,
-          is,
-          append_assoc ys (y ∷ []) (f ∷ []),
-          set-append_seam ys y (f ∷ []) caller,
-          reverse-append ys (caller ∷ f ∷ []),
-          reverse_last ys y,
-          same,
-        ) refl
+        rw (size, is)
+        (simp regrouped (rw (set-append_seam ys y (f ∷ []) caller, reverse-append ys (caller ∷ f ∷ []), reverse_last ys y, same)))
 
 front_at : {X : Type 0} (xs ys : List X) (n : ℕ) → n < length xs → slice_get (xs ++ ys) n ≡ slice_get xs n
 front_at [] ys n inside = absurd (omega (arith, inside))

@@ -11,36 +11,36 @@ use Rattle.bp_messages.specs.Failures.{failed_assertion, failure_text, statement
 use Rattle.bp_messages.specs.Notes.{notes_text}
 use Rattle.bp_messages.specs.Waits.{waits_text}
 
-abbrev pub found_words : List ℕ → (run runs : ℕ) → List ℕ
-found_words words run runs =
-    concat (words ∷ codes " in run " ∷ decimal run ∷ codes " of " ∷ decimal runs ∷ [])
+abbrev pub found_phrase : List ℕ → (run runs : ℕ) → List ℕ
+found_phrase phrase run runs =
+    concat (phrase ∷ codes " in run " ∷ decimal run ∷ codes " of " ∷ decimal runs ∷ [])
 
 -- a deadlock in a run of this test, and where its threads wait
 abbrev pub deadlock_text : TestReport → (run : ℕ) → List ℕ
 deadlock_text x run =
-    found_words (codes "deadlock") run x.options.runs
+    found_phrase (codes "deadlock") run x.options.runs
     ++ (waits_text x.positions.items x.waiting.items ++ codes "\n")
 
 -- nothing was found in the runs that were made; if they are not all, the time was over
 abbrev pub nothing_text : List ℕ → (made runs : ℕ) → List ℕ
-nothing_text words made runs =
-    if made == runs then concat (words ∷ codes " in " ∷ decimal runs ∷ codes " runs\n" ∷ [])
+nothing_text phrase made runs =
+    if made == runs then concat (phrase ∷ codes " in " ∷ decimal runs ∷ codes " runs\n" ∷ [])
     else
     concat (
-    words
+    phrase
     ∷ codes " in " ∷ decimal made
     ∷ codes " of " ∷ decimal runs
     ∷ codes " runs: the time is over\n" ∷ [])
 
 -- what was looked for and not found
-abbrev pub nothing_words : Bool → List ℕ
-nothing_words false = codes "no assertion failed"
-nothing_words true = codes "no assertion failed and no deadlock"
+abbrev pub nothing_phrase : Bool → List ℕ
+nothing_phrase false = codes "no assertion failed"
+nothing_phrase true = codes "no assertion failed and no deadlock"
 
 -- the first line: what was found
 abbrev pub finding_text : TestReport → Found → List ℕ
 finding_text x Nothing =
-    nothing_text (nothing_words x.options.with_deadlock) x.counts.runs x.options.runs
+    nothing_text (nothing_phrase x.options.with_deadlock) x.counts.runs x.options.runs
 finding_text x (Failed run report) =
     let failure = failed_assertion x in
     failure_text failure (statement_of x.statements.items failure) run x.options.runs

@@ -1,8 +1,8 @@
 //! The summary of a test: what was found, and how well the program was tested.
 ghost use Rattle.std.specs.Prelude.{◌≡◌};
 ghost use Rattle.bp_text.specs.Writing.{Writes};
-ghost use Rattle.bp_messages.specs.Summaries.{counts_text, deadlock_text, distinct_text, finding_text, found_words};
-ghost use Rattle.bp_messages.specs.Summaries.{line_unless, nothing_text, nothing_words, summary_text, unreached_text};
+ghost use Rattle.bp_messages.specs.Summaries.{counts_text, deadlock_text, distinct_text, finding_text, found_phrase};
+ghost use Rattle.bp_messages.specs.Summaries.{line_unless, nothing_text, nothing_phrase, summary_text, unreached_text};
 
 use crate::failures::{failed_assertion, put_failure, statement_of};
 use crate::notes::put_notes;
@@ -14,14 +14,14 @@ use bp_text::{WriteFault, put, put_pieces};
 use std::io::Write;
 
 /// Writes what was found in one of this many runs.
-fn put_found<W: Write>(words: &[u8], run: u64, runs: u64, out: &mut W) -> Result<(), WriteFault>
-    ensures { let text = found_words words.now run runs in
+fn put_found<W: Write>(phrase: &[u8], run: u64, runs: u64, out: &mut W) -> Result<(), WriteFault>
+    ensures { let text = found_phrase phrase.now run runs in
         Writes (W.contents out.old) (W.contents out.new) text result }
 {
     put_pieces(
         out,
         &[
-            Bytes(words),
+            Bytes(phrase),
             Bytes(b" in run "),
             Number(run),
             Bytes(b" of "),
@@ -41,8 +41,8 @@ fn put_deadlock<W: Write>(tested: &TestReport, run: u64, out: &mut W) -> Result<
 }
 
 /// What was looked for and not found.
-fn nothing_words(with_deadlock: bool) -> &'static [u8]
-    ensures { result.now ≡ nothing_words with_deadlock }
+fn nothing_phrase(with_deadlock: bool) -> &'static [u8]
+    ensures { result.now ≡ nothing_phrase with_deadlock }
 {
     if with_deadlock {
         b"no assertion failed and no deadlock"
@@ -52,15 +52,15 @@ fn nothing_words(with_deadlock: bool) -> &'static [u8]
 }
 
 /// Writes that nothing was found in the runs that were made, and how many were to be made.
-fn put_nothing<W: Write>(words: &[u8], made: u64, runs: u64, out: &mut W) -> Result<(), WriteFault>
-    ensures { let text = nothing_text words.now made runs in
+fn put_nothing<W: Write>(phrase: &[u8], made: u64, runs: u64, out: &mut W) -> Result<(), WriteFault>
+    ensures { let text = nothing_text phrase.now made runs in
         Writes (W.contents out.old) (W.contents out.new) text result }
 {
     if made != runs {
         return put_pieces(
             out,
             &[
-                Bytes(words),
+                Bytes(phrase),
                 Bytes(b" in "),
                 Number(made),
                 Bytes(b" of "),
@@ -72,7 +72,7 @@ fn put_nothing<W: Write>(words: &[u8], made: u64, runs: u64, out: &mut W) -> Res
     put_pieces(
         out,
         &[
-            Bytes(words),
+            Bytes(phrase),
             Bytes(b" in "),
             Number(runs),
             Bytes(b" runs\n"),
@@ -88,8 +88,8 @@ fn put_finding<W: Write>(tested: &TestReport, out: &mut W) -> Result<(), WriteFa
     let runs = tested.options.runs;
     match tested.found {
         Found::Nothing => {
-            let words = nothing_words(tested.options.with_deadlock);
-            put_nothing(words, tested.counts.runs, runs, out)
+            let phrase = nothing_phrase(tested.options.with_deadlock);
+            put_nothing(phrase, tested.counts.runs, runs, out)
         }
         Found::Failed { run, .. } => {
             let failure = failed_assertion(tested);

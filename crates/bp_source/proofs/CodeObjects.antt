@@ -1,4 +1,4 @@
--- The objects of a code's instructions, one more at a time; how many scenes a program has.
+-- The objects of a code's instructions, one more at a time; how many source statements a program has.
 use Rattle.std.proofs.Common.{◌≡◌, ◌∙◌, ◌≤◌, ◌<◌, ◌+◌, ℕ, zero, suc, List, [], ◌∷◌, ◌++◌, Option, None, Some, slice_get, drop, length, get_or, unwrap_or, is_some, ap, ap₂, sym, refl, append-nil, arith}
 use Rattle.std.proofs.lemmas.Bool.{false≢true}
 use Rattle.std.proofs.lemmas.List.{length-append}
@@ -7,9 +7,9 @@ use Rattle.bp_tree.specs.Sizes.{block_size, size, procedures_size}
 use Rattle.bp_code.specs.Continuations.{chain}
 use Rattle.bp_code.specs.Flat.{Instruction}
 use Rattle.bp_code.specs.StandsFor.{Place, places, places_in, places_of}
-use Rattle.bp_source.specs.declared.scenes.Scene.{Scene}
+use Rattle.bp_source.specs.declared.source_statements.SourceStatement.{SourceStatement}
 use Rattle.bp_source.specs.JsonListings.{instruction_object, instruction_objects}
-use Rattle.bp_source.specs.Scenes.{AreScenesAt}
+use Rattle.bp_source.specs.SourceStatements.{AreSourceStatementsAt}
 
 none_left : (is : List Instruction) (n : ℕ) → slice_get is n ≡ None → drop n is ≡ []
 none_left [] zero none = refl
@@ -17,41 +17,41 @@ none_left [] (suc n) none = refl
 none_left (i ∷ is) zero none = absurd (false≢true (sym (ap is_some none)))
 none_left (i ∷ is) (suc n) none = none_left is n none
 
-no_scene_left : (scenes : List Scene) (n : ℕ) → length scenes ≤ n → drop n scenes ≡ []
-no_scene_left [] zero past = refl
-no_scene_left [] (suc n) past = refl
-no_scene_left (s ∷ scenes) zero past = absurd (omega arith)
-no_scene_left (s ∷ scenes) (suc n) past = no_scene_left scenes n (omega arith)
+no_statement_left : (statements : List SourceStatement) (n : ℕ) → length statements ≤ n → drop n statements ≡ []
+no_statement_left [] zero past = refl
+no_statement_left [] (suc n) past = refl
+no_statement_left (s ∷ statements) zero past = absurd (omega arith)
+no_statement_left (s ∷ statements) (suc n) past = no_statement_left statements n (omega arith)
 
-no_scenes : (ps : List Procedure) (n : ℕ) (is : List Instruction) → instruction_objects ps n is [] ≡ []
-no_scenes ps n [] = refl
-no_scenes ps n (i ∷ is) = refl
+no_statements : (ps : List Procedure) (n : ℕ) (is : List Instruction) → instruction_objects ps n is [] ≡ []
+no_statements ps n [] = refl
+no_statements ps n (i ∷ is) = refl
 
 -- what was added is all where no instruction is left
-pub without_instruction : (ps : List Procedure) (n : ℕ) (is : List Instruction) (scenes : List Scene) (added whole : List ℕ)
-    → slice_get is n ≡ None → added ++ instruction_objects ps n (drop n is) (drop n scenes) ≡ whole → added ≡ whole
-without_instruction ps n is scenes added whole none all =
-    sym (append-nil added) ∙ ap (λ left. added ++ instruction_objects ps n left (drop n scenes)) (sym (none_left is n none)) ∙ all
+pub without_instruction : (ps : List Procedure) (n : ℕ) (is : List Instruction) (statements : List SourceStatement) (added whole : List ℕ)
+    → slice_get is n ≡ None → added ++ instruction_objects ps n (drop n is) (drop n statements) ≡ whole → added ≡ whole
+without_instruction ps n is statements added whole none all =
+    sym (append-nil added) ∙ ap (λ left. added ++ instruction_objects ps n left (drop n statements)) (sym (none_left is n none)) ∙ all
 
--- what was added is all where no scene is left
-pub without_scene : (ps : List Procedure) (n : ℕ) (is : List Instruction) (scenes : List Scene) (added whole : List ℕ)
-    → length scenes ≤ n → added ++ instruction_objects ps n (drop n is) (drop n scenes) ≡ whole → added ≡ whole
-without_scene ps n is scenes added whole past all =
+-- what was added is all where no source statement is left
+pub without_statement : (ps : List Procedure) (n : ℕ) (is : List Instruction) (statements : List SourceStatement) (added whole : List ℕ)
+    → length statements ≤ n → added ++ instruction_objects ps n (drop n is) (drop n statements) ≡ whole → added ≡ whole
+without_statement ps n is statements added whole past all =
     sym (append-nil added)
-    ∙ ap (λ y. added ++ y) (sym (no_scenes ps n (drop n is)) ∙ ap (instruction_objects ps n (drop n is)) (sym (no_scene_left scenes n past)))
+    ∙ ap (λ y. added ++ y) (sym (no_statements ps n (drop n is)) ∙ ap (instruction_objects ps n (drop n is)) (sym (no_statement_left statements n past)))
     ∙ all
 
 -- the object of the instruction with number n comes next
-pub next_object : (ps : List Procedure) (k n : ℕ) (is : List Instruction) (scenes : List Scene) (i : Instruction) (scene : Scene)
-    → slice_get is n ≡ Some i → n < length scenes → scene ≡ get_or scenes n scene
-    → instruction_objects ps k (drop n is) (drop n scenes)
-    ≡ instruction_object ps k i scene ++ instruction_objects ps (suc k) (drop (suc n) is) (drop (suc n) scenes)
-next_object ps k n [] scenes i scene at within own = absurd (false≢true (ap is_some at))
-next_object ps k n (j ∷ is) [] i scene at within own = absurd (omega arith)
-next_object ps k zero (j ∷ is) (s ∷ scenes) i scene at within own =
-    ap₂ (λ x y. instruction_object ps k x y ++ instruction_objects ps (suc k) is scenes) (ap (λ o. unwrap_or o j) at) (sym own)
-next_object ps k (suc n) (j ∷ is) (s ∷ scenes) i scene at within own =
-    next_object ps k n is scenes i scene at (omega arith) own
+pub next_object : (ps : List Procedure) (k n : ℕ) (is : List Instruction) (statements : List SourceStatement) (i : Instruction) (statement : SourceStatement)
+    → slice_get is n ≡ Some i → n < length statements → statement ≡ get_or statements n statement
+    → instruction_objects ps k (drop n is) (drop n statements)
+    ≡ instruction_object ps k i statement ++ instruction_objects ps (suc k) (drop (suc n) is) (drop (suc n) statements)
+next_object ps k n [] statements i statement at within own = absurd (false≢true (ap is_some at))
+next_object ps k n (j ∷ is) [] i statement at within own = absurd (omega arith)
+next_object ps k zero (j ∷ is) (s ∷ statements) i statement at within own =
+    ap₂ (λ x y. instruction_object ps k x y ++ instruction_objects ps (suc k) is statements) (ap (λ o. unwrap_or o j) at) (sym own)
+next_object ps k (suc n) (j ∷ is) (s ∷ statements) i statement at within own =
+    next_object ps k n is statements i statement at (omega arith) own
 
 mutual
   block_places : (p : Procedure) (b r : Block) → length (places p b r) ≡ block_size b
@@ -87,8 +87,9 @@ place_count (p ∷ ps) =
     let all = length-append (places p p.body Done) (record { procedure = p; left = Done } ∷ places_of ps) in
     omega (arith, own, rest, all)
 
-pub scene_count : (text : List ℕ) (ps : List Procedure) (xs : List Place) (scenes : List Scene) → AreScenesAt text ps xs scenes → length scenes ≡ length xs
-scene_count text ps [] [] are = refl
-scene_count text ps (x ∷ xs) (s ∷ scenes) are = ap suc (scene_count text ps xs scenes are.1)
-scene_count text ps (x ∷ xs) [] are = elim are [ ]
-scene_count text ps [] (s ∷ scenes) are = elim are [ ]
+pub statement_count : (text : List ℕ) (ps : List Procedure) (xs : List Place) (statements : List SourceStatement)
+    → AreSourceStatementsAt text ps xs statements → length statements ≡ length xs
+statement_count text ps [] [] are = refl
+statement_count text ps (x ∷ xs) (s ∷ statements) are = ap suc (statement_count text ps xs statements are.1)
+statement_count text ps (x ∷ xs) [] are = elim are [ ]
+statement_count text ps [] (s ∷ statements) are = elim are [ ]

@@ -5,7 +5,7 @@ pub mod FirstPieces
 pub mod GotItems
 pub mod JoinedPieces
 pub mod OneStatement
-pub mod PositionsOfScenes
-pub mod SceneLists
-pub mod WordsOfScenes
-pub mod WordsOfStatements
+pub mod PositionsOfStatements
+pub mod SourceStatementLists
+pub mod TextsOfStatements
+pub mod LexemesOfStatements

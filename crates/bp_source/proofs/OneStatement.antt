@@ -10,8 +10,8 @@ use Rattle.std.specs.List.{list_any}
 use Rattle.bp_tree.specs.Ast.{Procedure}
 use Rattle.bp_code.specs.StandsFor.{Place}
 use Rattle.bp_code.specs.Starts.{start_of_block}
-use Rattle.bp_source.specs.Scenes.{AreStatements, IsStatementAt}
-use Rattle.bp_source.specs.Statements.{is_choice, is_ending, words_after, HasLexemes, IsAtEnd, IsStatement, Lexeme, Takes, ends, ending, more, none_left}
+use Rattle.bp_source.specs.SourceStatements.{AreStatements, IsStatementAt}
+use Rattle.bp_source.specs.Statements.{is_choice, is_ending, lexemes_text, HasLexemes, IsAtEnd, IsStatement, Lexeme, Takes, ends, ending, more, none_left}
 
 -- where a lexeme of a cut is, and whether it is a byte that begins none
 abbrev place : cut.Lexeme → ℕ
@@ -135,17 +135,17 @@ one_list_of_lexemes text _ ms (more {rest = q} {l = l} {ls = ls} takes rest) has
 pub one_statement : (text a b : List ℕ) (p q : Bool) → IsStatement text a p → IsStatement text b q → (a ≡ b) × (p ≡ q)
 one_statement text a b p q x y =
     let same = one_list_of_lexemes text x.lexemes y.lexemes x.lexemes_are y.lexemes_are in (
-      x.words_are ∙ ap (λ ls. words_after false ls) same ∙ sym y.words_are,
+      x.shown_is ∙ ap (λ ls. lexemes_text false ls) same ∙ sym y.shown_is,
       x.reads_is ∙ ap (λ ls. list_any (λ l. is_choice l.bytes) ls) same ∙ sym y.reads_is,
     )
 
 pub one_statement_at : (text : List ℕ) (r : Procedure) (start : Option ℕ) (a b : List ℕ) (p q : Bool) → IsStatementAt text r start a p
     → IsStatementAt text r start b q
     → (a ≡ b) × (p ≡ q)
-one_statement_at text r None a b p q x y = (x.words_are ∙ sym y.words_are, x.reads_none ∙ sym y.reads_none)
+one_statement_at text r None a b p q x y = (x.shown_is ∙ sym y.shown_is, x.reads_none ∙ sym y.reads_none)
 one_statement_at text r (Some at) a b p q x y = one_statement (drop at text) a b p q x y
 
--- the words of the statements of places are one list
+-- the texts of the statements of places are one list
 pub one_list_of_statements : (text : List ℕ) (xs : List Place) (a b : List (List ℕ)) → AreStatements text xs a → AreStatements text xs b → a ≡ b
 one_list_of_statements text [] [] [] x y = refl
 one_list_of_statements text [] [] (w ∷ b) x y = elim y [ ]

@@ -7,12 +7,12 @@ use Rattle.bp_code.specs.Flat.{Flat, Heading, Instruction}
 use Rattle.bp_code.specs.Kinds.{callee_of, instruction_kind, next_of, other_of}
 use Rattle.bp_code.specs.declared.instrs.Kind.{Kind}
 use Rattle.bp_code.specs.declared.instrs.Kind.TheVariants.{Skip, Goto, Return, Assign, If, While, Assert, Assume, Print, Call}
-use Rattle.bp_source.specs.declared.scenes.Scene.{Scene}
+use Rattle.bp_source.specs.declared.source_statements.SourceStatement.{SourceStatement}
 use Rattle.bp_text.specs.JsonStrings.{string_text}
 use Rattle.bp_text.specs.Pieces.{key_text, list_text, number_or_null, string_or_null}
 use Rattle.bp_source.specs.Procedures.{name_at}
 use Rattle.bp_source.specs.JsonPlaces.{column_of, line_of}
-use Rattle.bp_source.specs.Scenes.{AreScenes}
+use Rattle.bp_source.specs.SourceStatements.{AreSourceStatements}
 
 -- the word for what an instruction does, as the listing has it
 abbrev pub operation_name : Kind → List ℕ
@@ -48,33 +48,34 @@ code_object c =
     ∷ codes "}\n" ∷ [])
 
 -- an instruction: its number, its procedure, what it does, the numbers of the next one, of the
--- other one where a test is 0, and of a callee's first, and the place and the words of its
--- statement, as its scene shows them
-abbrev pub instruction_object : List Procedure → ℕ → Instruction → Scene → List ℕ
-instruction_object ps n i scene =
+-- other one where a test is 0, and of a callee's first, and the place and the text of its
+-- statement, as its source statement shows them
+abbrev pub instruction_object : List Procedure → ℕ → Instruction → SourceStatement → List ℕ
+instruction_object ps n i statement =
     concat (
     codes "{\"kind\":\"instruction\""
     ∷ key_text (codes "number") ∷ decimal n
-    ∷ key_text (codes "procedure") ∷ string_or_null (name_at ps scene.procedure)
+    ∷ key_text (codes "procedure") ∷ string_or_null (name_at ps statement.procedure)
     ∷ key_text (codes "operation") ∷ string_text (operation_name (instruction_kind i))
     ∷ key_text (codes "next") ∷ number_or_null (next_of i)
     ∷ key_text (codes "other") ∷ number_or_null (other_of i)
     ∷ key_text (codes "callee") ∷ number_or_null (callee_of i)
-    ∷ key_text (codes "line") ∷ number_or_null (line_of scene.position)
-    ∷ key_text (codes "column") ∷ number_or_null (column_of scene.position)
-    ∷ key_text (codes "statement") ∷ string_text scene.excerpt.words.items
+    ∷ key_text (codes "line") ∷ number_or_null (line_of statement.position)
+    ∷ key_text (codes "column") ∷ number_or_null (column_of statement.position)
+    ∷ key_text (codes "statement") ∷ string_text statement.excerpt.text.items
     ∷ codes "}\n" ∷ [])
 
--- the objects of instructions with their scenes, the first of which has the number n
-abbrev pub instruction_objects : List Procedure → ℕ → List Instruction → List Scene → List ℕ
-instruction_objects ps n [] scenes = []
+-- the objects of instructions with their source statements, the first of which has the number n
+abbrev pub instruction_objects
+    : List Procedure → ℕ → List Instruction → List SourceStatement → List ℕ
+instruction_objects ps n [] statements = []
 instruction_objects ps n (i ∷ is) [] = []
-instruction_objects ps n (i ∷ is) (scene ∷ scenes) =
-    instruction_object ps n i scene ++ instruction_objects ps (suc n) is scenes
+instruction_objects ps n (i ∷ is) (statement ∷ statements) =
+    instruction_object ps n i statement ++ instruction_objects ps (suc n) is statements
 
--- the code, and each of its instructions with the scene of its place in the program
+-- the code, and each of its instructions with the source statement of its place in the program
 pub record IsCodeInJson (text : List ℕ) (t : Program) (c : Flat) (written : List ℕ) : Type 0 where
-  pub scenes : List Scene
-  pub are : AreScenes text t scenes
-  pub each_has_one : length scenes ≡ length c.instructions
-  pub is : written ≡ code_object c ++ instruction_objects t.procedures 0 c.instructions scenes
+  pub statements : List SourceStatement
+  pub are : AreSourceStatements text t statements
+  pub each_has_one : length statements ≡ length c.instructions
+  pub is : written ≡ code_object c ++ instruction_objects t.procedures 0 c.instructions statements

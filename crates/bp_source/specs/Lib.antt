@@ -8,7 +8,7 @@ pub mod Places
 pub mod Procedures
 pub mod Programs
 pub mod Said
-pub mod Scenes
+pub mod SourceStatements
 pub mod StatementLines
 pub mod Statements
 pub mod Unreached

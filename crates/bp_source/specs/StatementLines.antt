@@ -6,18 +6,18 @@ use Rattle.bp_code.specs.StandsFor.{Place, places_of}
 use Rattle.bp_code.specs.Starts.{start_of_block}
 use Rattle.bp_text.specs.declared.positions.Position.{Position}
 use Rattle.bp_text.specs.Positions.{position_at}
-use Rattle.bp_source.specs.declared.scenes.Scene.{Scene}
-use Rattle.bp_source.specs.Scenes.{AreScenes}
+use Rattle.bp_source.specs.declared.source_statements.SourceStatement.{SourceStatement}
+use Rattle.bp_source.specs.SourceStatements.{AreSourceStatements}
 
--- the file, the place and the words of a statement that begins somewhere; nothing where none does
-abbrev pub statement_line : Option ℕ → (file place words : List ℕ) → List ℕ
-statement_line None file place words = []
-statement_line (Some at) file place words =
-    concat (file ∷ codes ":" ∷ place ∷ codes " " ∷ words ∷ codes "\n" ∷ [])
+-- the file, the place and the text of a statement that begins somewhere; nothing where none does
+abbrev pub statement_line : Option ℕ → (file place shown : List ℕ) → List ℕ
+statement_line None file place shown = []
+statement_line (Some at) file place shown =
+    concat (file ∷ codes ":" ∷ place ∷ codes " " ∷ shown ∷ codes "\n" ∷ [])
 
-abbrev pub line_of_scene : List ℕ → Scene → List ℕ
-line_of_scene file scene =
-    statement_line scene.start file scene.place.items scene.excerpt.words.items
+abbrev pub line_of_statement : List ℕ → SourceStatement → List ℕ
+line_of_statement file statement =
+    statement_line statement.start file statement.place.items statement.excerpt.text.items
 
 -- where the next statement of a place begins; a procedure's end begins nowhere
 abbrev pub position_of : (text : List ℕ) → Place → Option Position
@@ -30,6 +30,6 @@ positions_of text t = map (position_of text) (places_of t.procedures)
 -- one line for each instruction of the program
 pub record AreStatementLines (file text : List ℕ) (t : Program) (lines : List (List ℕ))
     : Type 0 where
-  pub scenes : List Scene
-  pub are : AreScenes text t scenes
-  pub lines_are : lines ≡ map (line_of_scene file) scenes
+  pub statements : List SourceStatement
+  pub are : AreSourceStatements text t statements
+  pub lines_are : lines ≡ map (line_of_statement file) statements

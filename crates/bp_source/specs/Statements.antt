@@ -50,21 +50,21 @@ abbrev pub spaced : (gap : Bool) → List ℕ → List ℕ
 spaced gap bytes = (if gap then codes " " else []) ++ map on_one_line bytes
 
 -- a lexeme after a gap or after none; a gap has no text of its own
-abbrev pub word_after : (gap : Bool) → Option LexemeKind → List ℕ → List ℕ
-word_after gap kind bytes = if is_gap kind then [] else spaced gap bytes
+abbrev pub lexeme_text : (gap : Bool) → Option LexemeKind → List ℕ → List ℕ
+lexeme_text gap kind bytes = if is_gap kind then [] else spaced gap bytes
 
 -- these lexemes, one after the other
-abbrev pub words_after : (gap : Bool) → List Lexeme → List ℕ
-words_after gap [] = []
-words_after gap (l ∷ ls) =
-    word_after gap l.kind l.bytes ++ words_after (is_gap l.kind) ls
+abbrev pub lexemes_text : (gap : Bool) → List Lexeme → List ℕ
+lexemes_text gap [] = []
+lexemes_text gap (l ∷ ls) =
+    lexeme_text gap l.kind l.bytes ++ lexemes_text (is_gap l.kind) ls
 
 abbrev pub is_choice : List ℕ → Bool
 is_choice bytes = bytes_eq bytes (codes "?")
 
--- the statement with which the text begins has these words, and reads a choice bit or not
-pub record IsStatement (text words : List ℕ) (reads : Bool) : Type 0 where
+-- the statement with which the text begins is shown so, and reads a choice bit or not
+pub record IsStatement (text shown : List ℕ) (reads : Bool) : Type 0 where
   pub lexemes : List Lexeme
   pub lexemes_are : HasLexemes text lexemes
-  pub words_are : words ≡ words_after false lexemes
+  pub shown_is : shown ≡ lexemes_text false lexemes
   pub reads_is : reads ≡ list_any (λ l. is_choice l.bytes) lexemes

@@ -2,13 +2,13 @@
 ghost use Rattle.std.specs.Prelude.{◌≡◌, ◌++◌, ◌∷◌, [], ◌≤◌, ◌<◌, length, IfOk, OnOk, MatchOption};
 ghost use Rattle.std.specs.Prelude.{bytes_eq, codes};
 ghost use Rattle.bp_text.specs.OneLine.{AddsOneLine, IsOneLine};
-ghost use Rattle.bp_source.specs.Statements.{is_choice, is_ending, is_gap, word_after, IsAtEnd, IsStatement, Takes};
+ghost use Rattle.bp_source.specs.Statements.{is_choice, is_ending, is_gap, lexeme_text, IsAtEnd, IsStatement, Takes};
 
 use bp_syntax::{Lexeme, LexemeKind, take_lexeme};
 use bp_text::push_on_one_line;
 use std::alloc::{AllocError, Global};
 
-/// Whether these bytes end a statement's own text: `;` and two reserved words do.
+/// Whether these bytes end a statement's own text: `;` and two keywords do.
 fn is_ending(bytes: &[u8]) -> bool
     ensures { result ≡ is_ending bytes.now }
 {
@@ -48,19 +48,19 @@ fn take_own_lexeme<'a>(text: &mut &'a [u8]) -> Option<Lexeme<'a>>
 /// A statement's own text: one line, and whether it decides by a choice bit.
 #[derive(Drop)]
 pub struct Excerpt {
-    pub words: Vec<u8>,
+    pub text: Vec<u8>,
     pub reads_choice: bool,
 }
 
 /// Adds a lexeme, after a space where there was a gap; a gap adds nothing.
-fn push_lexeme(words: &mut Vec<u8>, lexeme: Lexeme<'_>, had_gap: bool) -> Result<(), AllocError>
-    ensures is { let word = word_after had_gap lexeme.entry.kind lexeme.entry.text.now in
-        OnOk result (words.new.items ≡ words.old.items ++ word) }
-    ensures one_line { OnOk result (AddsOneLine words.old.items words.new.items) }
+fn push_lexeme(line: &mut Vec<u8>, lexeme: Lexeme<'_>, had_gap: bool) -> Result<(), AllocError>
+    ensures is { let word = lexeme_text had_gap lexeme.entry.kind lexeme.entry.text.now in
+        OnOk result (line.new.items ≡ line.old.items ++ word) }
+    ensures one_line { OnOk result (AddsOneLine line.old.items line.new.items) }
 {
     if !is_gap(lexeme) {
-        push_on_one_line(words, if had_gap { b" " } else { b"" })?;
-        push_on_one_line(words, lexeme.text)?;
+        push_on_one_line(line, if had_gap { b" " } else { b"" })?;
+        push_on_one_line(line, lexeme.text)?;
     }
     Ok(())
 }
@@ -68,20 +68,20 @@ fn push_lexeme(words: &mut Vec<u8>, lexeme: Lexeme<'_>, had_gap: bool) -> Result
 #[tactic(auto, using(bp_text::proofs::TextsOnOneLine::one_line_after))]
 /// The text of its first statement alone: up to `;`, `then` or `do`.
 pub(crate) fn excerpt_of(alloc: Global, text: &[u8]) -> Result<Excerpt, AllocError>
-    ensures is { IfOk result (λ e. IsStatement text.now e.words.items e.reads_choice) }
-    ensures one_line { IfOk result (λ e. IsOneLine e.words.items) }
+    ensures is { IfOk result (λ e. IsStatement text.now e.text.items e.reads_choice) }
+    ensures one_line { IfOk result (λ e. IsOneLine e.text.items) }
 {
-    let mut words = Vec::new(alloc);
+    let mut line = Vec::new(alloc);
     let mut reads_choice = false;
     let mut had_gap = false;
     let mut rest = text;
     while let Some(lexeme) = take_own_lexeme(&mut rest) {
-        push_lexeme(&mut words, lexeme, had_gap)?;
+        push_lexeme(&mut line, lexeme, had_gap)?;
         had_gap = is_gap(lexeme);
         reads_choice |= is_choice(lexeme.text);
     }
     Ok(Excerpt {
-        words,
+        text: line,
         reads_choice,
     })
 }

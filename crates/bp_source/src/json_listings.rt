@@ -5,7 +5,7 @@ ghost use Rattle.bp_source.specs.JsonListings.{code_object, heading_item, instru
 
 use crate::json_places::{column_of, line_of, wide};
 use crate::procedures::name_at;
-use crate::scenes::{Scene, scenes_of};
+use crate::source_statements::{SourceStatement, source_statements_of};
 use bp_check::Checked;
 use bp_code::{Code, Heading, Instr, Kind};
 use bp_text::Piece::{Bytes, Key, List, Number, NumberOrNull, Text, TextOrNull};
@@ -87,9 +87,10 @@ fn push_instruction<'a>(
     procs: &'a [Proc],
     number: u32,
     instr: &Instr,
-    scene: &'a Scene,
+    statement: &'a SourceStatement,
 ) -> Result<(), AllocError>
-    ensures { let object = instruction_object procs.entry.now number instr.now scene.entry.now in
+    ensures { let procedures = procs.entry.now in
+        let object = instruction_object procedures number instr.now statement.entry.now in
         OnOk result (out.new.items ≡ out.old.items ++ object) }
 {
     push_pieces(
@@ -99,7 +100,7 @@ fn push_instruction<'a>(
             Key(b"number"),
             Number(u64::from(number)),
             Key(b"procedure"),
-            TextOrNull(name_at(procs, scene.procedure)),
+            TextOrNull(name_at(procs, statement.procedure)),
             Key(b"operation"),
             Text(operation_name(instr.kind())),
             Key(b"next"),
@@ -109,33 +110,33 @@ fn push_instruction<'a>(
             Key(b"callee"),
             NumberOrNull(wide(instr.callee())),
             Key(b"line"),
-            NumberOrNull(line_of(scene.position)),
+            NumberOrNull(line_of(statement.position)),
             Key(b"column"),
-            NumberOrNull(column_of(scene.position)),
+            NumberOrNull(column_of(statement.position)),
             Key(b"statement"),
-            Text(scene.excerpt.words.as_slice()),
+            Text(statement.excerpt.text.as_slice()),
             Bytes(b"}\n"),
         ],
     )
 }
 
-/// Adds the objects of the instructions of a code, each with its scene.
+/// Adds the objects of the instructions of a code, each with its source statement.
 fn push_instructions(
     out: &mut Vec<u8>,
     procs: &[Proc],
     code: &Code,
-    scenes: &[Scene],
+    statements: &[SourceStatement],
 ) -> Result<(), AllocError>
-    requires { length scenes.now < 2 ^ 32 }
-    ensures { let objects = instruction_objects procs.now 0 code.now.instructions scenes.now in
+    requires { length statements.now < 2 ^ 32 }
+    ensures { let objects = instruction_objects procs.now 0 code.now.instructions statements.now in
         OnOk result (out.new.items ≡ out.old.items ++ objects) }
 {
-    for (number, scene) in scenes.iter().enumerate() {
+    for (number, statement) in statements.iter().enumerate() {
         let number = number as u32;
         let Some(instr) = code.get(number) else {
             return Ok(());
         };
-        push_instruction(out, procs, number, instr, scene)?;
+        push_instruction(out, procs, number, instr, statement)?;
     }
     Ok(())
 }
@@ -152,10 +153,10 @@ pub fn code_objects(
         → IfOk result (λ v. IsCodeInJson text.now checked.now code.now v.items) }
 {
     checked.has_few_statements();
-    let scenes = scenes_of(alloc, text, checked)?;
+    let statements = source_statements_of(alloc, text, checked)?;
     let procs = checked.tree().procs();
     let mut out = Vec::new(alloc);
     push_code(&mut out, alloc, code)?;
-    push_instructions(&mut out, procs, code, &scenes)?;
+    push_instructions(&mut out, procs, code, &statements)?;
     Ok(out)
 }

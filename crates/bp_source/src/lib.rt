@@ -12,7 +12,7 @@ mod names;
 mod pieces;
 mod procedures;
 mod programs;
-mod scenes;
+mod source_statements;
 mod statements;
 mod unreached;
 
@@ -26,6 +26,6 @@ pub use names::is_named;
 pub use pieces::{push_four, push_three, push_two};
 pub use procedures::{name_at, procedure_at};
 pub use programs::{program_object, push_item};
-pub use scenes::{Scene, scenes_of};
+pub use source_statements::{SourceStatement, source_statements_of};
 pub use statements::{statement_lines, statement_positions, statement_texts};
 pub use unreached::unreached_objects;

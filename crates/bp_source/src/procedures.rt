@@ -3,9 +3,9 @@ ghost use Rattle.std.specs.Prelude.{◌≡◌, List, Some, ℕ, option_map, slic
 ghost use Rattle.bp_tree.specs.Ast.{Program};
 ghost use Rattle.bp_code.specs.StandsFor.{places_of, Place};
 ghost use Rattle.bp_source.specs.Procedures.{name_at};
-ghost use Rattle.bp_source.specs.Scenes.{AreScenes};
+ghost use Rattle.bp_source.specs.SourceStatements.{AreSourceStatements};
 
-use crate::scenes::Scene;
+use crate::source_statements::SourceStatement;
 use bp_tree::Proc;
 
 /// The name of the procedure with this number.
@@ -19,15 +19,19 @@ pub fn name_at(procs: &[Proc], number: usize) -> Option<&[u8]>
 }
 
 /// The procedure of the instruction with this number.
-pub fn procedure_at<'a>(scenes: &[Scene], procs: &'a [Proc], number: u32) -> Option<&'a Proc>
+pub fn procedure_at<'a>(
+    statements: &[SourceStatement],
+    procs: &'a [Proc],
+    number: u32,
+) -> Option<&'a Proc>
     ensures { (t : Program) (text : List ℕ) (x : Place)
-        → AreScenes text t scenes.now
+        → AreSourceStatements text t statements.now
         → procs.now ≡ t.procedures
         → slice_get (places_of t.procedures) number ≡ Some x
         → option_map (λ p. p.now) result ≡ Some x.procedure }
 {
-    let Some(scene) = scenes.get(number as usize) else {
+    let Some(statement) = statements.get(number as usize) else {
         return None;
     };
-    procs.get(scene.procedure)
+    procs.get(statement.procedure)
 }

@@ -2,10 +2,10 @@
 ghost use Rattle.std.specs.Prelude.{◌≡◌, ◌++◌, map, IfOk, OnOk};
 ghost use Rattle.bp_code.specs.StandsFor.{places_of};
 ghost use Rattle.bp_source.specs.Said.{said_of, AreSaid};
-ghost use Rattle.bp_source.specs.Scenes.{AreStatements};
-ghost use Rattle.bp_source.specs.StatementLines.{line_of_scene, positions_of, AreStatementLines};
+ghost use Rattle.bp_source.specs.SourceStatements.{AreStatements};
+ghost use Rattle.bp_source.specs.StatementLines.{line_of_statement, positions_of, AreStatementLines};
 
-use crate::scenes::{Scene, scenes_of};
+use crate::source_statements::{SourceStatement, source_statements_of};
 use crate::unreached::push_object;
 use bp_check::Checked;
 use bp_text::Piece::Bytes;
@@ -20,16 +20,20 @@ pub(crate) enum Said<'a> {
     /// Its object where no run reached it, in the file of this name.
     Unreached(&'a str),
     /// Its text.
-    Words,
+    Text,
 }
 
 /// Adds the line of an instruction's statement: the file's name, the place and the statement's
 /// text. The end of a procedure adds nothing.
-fn push_line<'a>(line: &mut Vec<u8>, file: &'a str, scene: &'a Scene) -> Result<(), AllocError>
-    ensures { let more = line_of_scene file.entry.now scene.entry.now in
+fn push_line<'a>(
+    line: &mut Vec<u8>,
+    file: &'a str,
+    statement: &'a SourceStatement,
+) -> Result<(), AllocError>
+    ensures { let more = line_of_statement file.entry.now statement.entry.now in
         OnOk result (line.new.items ≡ line.old.items ++ more) }
 {
-    if scene.start.is_none() {
+    if statement.start.is_none() {
         return Ok(());
     }
     push_pieces(
@@ -37,22 +41,26 @@ fn push_line<'a>(line: &mut Vec<u8>, file: &'a str, scene: &'a Scene) -> Result<
         &[
             Bytes(file.as_bytes()),
             Bytes(b":"),
-            Bytes(scene.place.as_slice()),
+            Bytes(statement.place.as_slice()),
             Bytes(b" "),
-            Bytes(scene.excerpt.words.as_slice()),
+            Bytes(statement.excerpt.text.as_slice()),
             Bytes(b"\n"),
         ],
     )
 }
 
 /// Adds what is said of an instruction's statement.
-fn push_said(text: &mut Vec<u8>, said: Said<'_>, scene: &Scene) -> Result<(), AllocError>
-    ensures { OnOk result (text.new.items ≡ text.old.items ++ said_of said.entry scene.now) }
+fn push_said(
+    text: &mut Vec<u8>,
+    said: Said<'_>,
+    statement: &SourceStatement,
+) -> Result<(), AllocError>
+    ensures { OnOk result (text.new.items ≡ text.old.items ++ said_of said.entry statement.now) }
 {
     match said {
-        Said::Line(file) => push_line(text, file, scene),
-        Said::Unreached(file) => push_object(text, file, scene),
-        Said::Words => push_bytes(text, &scene.excerpt.words),
+        Said::Line(file) => push_line(text, file, statement),
+        Said::Unreached(file) => push_object(text, file, statement),
+        Said::Text => push_bytes(text, &statement.excerpt.text),
     }
 }
 
@@ -67,12 +75,12 @@ pub(crate) fn all_said(
         let texts = map (λ said. said.items) v.items in
         AreSaid said.entry text.now checked.now texts) }
 {
-    let scenes = scenes_of(alloc, text, checked)?;
-    let mut texts = Vec::with_capacity(alloc, scenes.len())?;
-    for scene in scenes.iter() {
-        let mut words = Vec::new(alloc);
-        push_said(&mut words, said, scene)?;
-        texts.push(words)?;
+    let statements = source_statements_of(alloc, text, checked)?;
+    let mut texts = Vec::with_capacity(alloc, statements.len())?;
+    for statement in statements.iter() {
+        let mut written = Vec::new(alloc);
+        push_said(&mut written, said, statement)?;
+        texts.push(written)?;
     }
     Ok(texts)
 }
@@ -101,10 +109,10 @@ pub fn statement_positions(
 ) -> Result<Vec<Option<Position>>, AllocError>
     ensures { IfOk result (λ v. v.items ≡ positions_of text.now checked.now) }
 {
-    let scenes = scenes_of(alloc, text, checked)?;
-    let mut positions = Vec::with_capacity(alloc, scenes.len())?;
-    for scene in scenes.iter() {
-        positions.push(scene.position)?;
+    let statements = source_statements_of(alloc, text, checked)?;
+    let mut positions = Vec::with_capacity(alloc, statements.len())?;
+    for statement in statements.iter() {
+        positions.push(statement.position)?;
     }
     Ok(positions)
 }
@@ -117,8 +125,8 @@ pub fn statement_texts(
     checked: &Checked,
 ) -> Result<Vec<Vec<u8>>, AllocError>
     ensures { IfOk result (λ v.
-        let texts = map (λ words. words.items) v.items in
+        let texts = map (λ v. v.items) v.items in
         AreStatements text.now (places_of checked.now.procedures) texts) }
 {
-    all_said(alloc, Said::Words, text, checked)
+    all_said(alloc, Said::Text, text, checked)
 }

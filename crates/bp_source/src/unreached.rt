@@ -1,9 +1,9 @@
 //! Objects in JSON that name the statements of a program that no run reached.
 ghost use Rattle.std.specs.Prelude.{◌≡◌, ◌++◌, map, IfOk, OnOk};
-ghost use Rattle.bp_source.specs.Unreached.{object_of_scene, AreUnreachedObjects};
+ghost use Rattle.bp_source.specs.Unreached.{object_of_statement, AreUnreachedObjects};
 
 use crate::json_places::{column_of, line_of};
-use crate::scenes::Scene;
+use crate::source_statements::SourceStatement;
 use crate::statements::{Said, all_said};
 use bp_check::Checked;
 use bp_text::Piece::{Bytes, Key, NumberOrNull, Text};
@@ -15,12 +15,12 @@ use std::alloc::{AllocError, Global};
 pub(crate) fn push_object<'a>(
     line: &mut Vec<u8>,
     file: &'a str,
-    scene: &'a Scene,
+    statement: &'a SourceStatement,
 ) -> Result<(), AllocError>
-    ensures { let more = object_of_scene file.entry.now scene.entry.now in
+    ensures { let more = object_of_statement file.entry.now statement.entry.now in
         OnOk result (line.new.items ≡ line.old.items ++ more) }
 {
-    if scene.start.is_none() {
+    if statement.start.is_none() {
         return Ok(());
     }
     push_pieces(
@@ -30,11 +30,11 @@ pub(crate) fn push_object<'a>(
             Key(b"file"),
             Text(file.as_bytes()),
             Key(b"line"),
-            NumberOrNull(line_of(scene.position)),
+            NumberOrNull(line_of(statement.position)),
             Key(b"column"),
-            NumberOrNull(column_of(scene.position)),
+            NumberOrNull(column_of(statement.position)),
             Key(b"statement"),
-            Text(scene.excerpt.words.as_slice()),
+            Text(statement.excerpt.text.as_slice()),
             Bytes(b"}\n"),
         ],
     )

@@ -1,6 +1,7 @@
 -- An expression of the grammar is read whole, whatever is wanted after it.
-use Rattle.std.proofs.Common.{◌≡◌, true, false, List, [], ◌∷◌, ◌++◌, None, refl, sym, ap, subst, ◌∙◌, append_assoc}
+use Rattle.std.proofs.Common.{◌≡◌, true, false, List, [], ◌∷◌, ◌++◌, None, refl, sym, ap, subst, ◌∙◌}
 use Rattle.std.proofs.lemmas.Bool.{false≢true}
+use Rattle.bp_tree.proofs.GrownLists.{regrouped}
 use Rattle.bp_tree.specs.Ast.{Name, Expression, Negation, Operation, Decision, Decide}
 use Rattle.bp_tree.specs.declared.exprs.Op.TheVariants as op
 use Rattle.bp_syntax.specs.Tokens.{Token}
@@ -21,7 +22,7 @@ names_read (more_names {rest = r} {more = ns} (first_name {token = x} h) (first_
     read_name (λ n. MoreNames (acc ++ n ∷ []) next) x (y ∷ ts) h
     ∙ read_comma (acc ++ name_of x ∷ []) next y ts c
     ∙ names_read d (acc ++ name_of x ∷ []) next nc
-    ∙ ap (λ l. parse_result (next l) r) (append_assoc acc (name_of x ∷ []) ns)
+    ∙ simp regrouped
 
 pub names_begin : {ts : List Token} {ns : List Name} {r : List Token} → IsNames ts ns r → is_at kind.Name ts ≡ true
 names_begin (one_name (first_name h)) = ap (λ k. is_same_kind k kind.Name) h
@@ -153,7 +154,7 @@ exprs_read (more_exprs {rest = r} {e = e} {more = es} d (first_word {token = y} 
     expr_read d (λ a. MoreExprs (acc ++ a ∷ []) next) (ends_at kind.Comma y us comma h)
     ∙ read_expr_comma (acc ++ e ∷ []) next y us h
     ∙ exprs_read f (acc ++ e ∷ []) next c nc
-    ∙ ap (λ l. parse_result (next l) r) (append_assoc acc (e ∷ []) es)
+    ∙ simp regrouped
 
 un_begins : {ts : List Token} {e : Expression} {r : List Token} → IsUn ts e r → is_at_expr ts ≡ true
 un_begins (negation (first_word h) d) = ap is_un_start h

@@ -1,8 +1,9 @@
 -- The count of the depth finds the first token that nests too deep, if there is one.
-use Rattle.std.proofs.Common.{◌≡◌, ℕ, ◌<◌, ◌≤◌, List, [], ◌∷◌, ◌++◌, Some, None, refl, sym, ap, subst, ◌∙◌, ⊎_elim, append_assoc, arith}
+use Rattle.std.proofs.Common.{◌≡◌, ℕ, ◌<◌, ◌≤◌, List, [], ◌∷◌, ◌++◌, Some, None, refl, sym, ap, subst, ◌∙◌, ⊎_elim, arith}
 use Rattle.std.specs.Prelude.{nat_le}
 use Rattle.std.proofs.lemmas.Bool.{leb-true, leb-false}
 use Rattle.std.proofs.lemmas.List.{append-nil}
+use Rattle.bp_tree.proofs.GrownLists.{regrouped}
 use Rattle.bp_syntax.specs.declared.limits.TheConstants.{NESTING_LIMIT}
 use Rattle.bp_syntax.specs.Tokens.{Token}
 use Rattle.bp_syntax.specs.Opens.{BreaksAt}
@@ -87,4 +88,4 @@ some_is_deep ts at e =
     }
 
 pub shallow_front : (front rest : List Token) → IsShallow (front ++ rest) → IsShallow front
-shallow_front front rest all f r parts = all f (r ++ rest) (ap (λ l. l ++ rest) parts ∙ append_assoc f r rest)
+shallow_front front rest all f r parts = all f (r ++ rest) (ap (λ l. l ++ rest) parts ∙ simp regrouped)

@@ -1,7 +1,7 @@
 -- The count of tokens in succession finds the first token that is one too many, if there is one.
-use Rattle.std.proofs.Common.{◌≡◌, ℕ, ◌+◌, ◌<◌, ◌≤◌, Bool, true, false, cond, List, [], ◌∷◌, ◌++◌, length, Option, Some, None, refl, sym, ap, ◌∙◌, ◌⊎◌, inl, inr, ⊎_elim, append_assoc, length-append, arith, nat_lt}
+use Rattle.std.proofs.Common.{◌≡◌, ℕ, ◌+◌, ◌<◌, ◌≤◌, Bool, true, false, cond, List, [], ◌∷◌, ◌++◌, length, Option, Some, None, refl, sym, ap, ◌∙◌, ◌⊎◌, inl, inr, ⊎_elim, length-append, arith, nat_lt}
 use Rattle.std.proofs.lemmas.Bool.{false≢true, ltb-true, ltb-false}
-use Rattle.std.proofs.lemmas.List.{append-nil}
+use Rattle.bp_tree.proofs.GrownLists.{regrouped}
 use Rattle.bp_syntax.specs.declared.limits.TheConstants.{SUCCESSION_LIMIT}
 use Rattle.bp_syntax.specs.Tokens.{Token}
 use Rattle.bp_syntax.specs.Opens.{BreaksAt}
@@ -170,8 +170,7 @@ some_is_crowded ts at e =
       before = none_is_sparse c.front c.few;
       after = λ sparse.
           let parts : c.front ++ c.token ∷ [] ≡ c.before ++ ((c.run ++ c.token ∷ []) ++ []) =
-          ap (λ l. l ++ c.token ∷ []) c.split ∙ append_assoc c.before c.run (c.token ∷ [])
-          ∙ ap (λ l. c.before ++ l) (sym (append-nil (c.run ++ c.token ∷ []))) in
+          ap (λ l. l ++ c.token ∷ []) c.split ∙ simp regrouped in
           let most = sparse c.before (c.run ++ c.token ∷ []) [] parts (no_separator_more c.run c.token c.no_separator c.plain) in
           omega (arith, length-append c.run (c.token ∷ []));
       place = c.place;

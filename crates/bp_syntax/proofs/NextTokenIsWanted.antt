@@ -1,6 +1,7 @@
 -- A token that may come is one of those that are wanted.
-use Rattle.std.proofs.Common.{◌≡◌, ℕ, Bool, true, false, cond, List, [], ◌∷◌, ◌++◌, Option, Some, None, refl, sym, subst, ◌⊎◌, inl, inr, ⊎_elim, append_assoc}
+use Rattle.std.proofs.Common.{◌≡◌, ℕ, Bool, true, false, cond, List, [], ◌∷◌, ◌++◌, Option, Some, None, refl, sym, subst, ◌⊎◌, inl, inr, ⊎_elim}
 use Rattle.std.proofs.lemmas.List.{append-nil}
+use Rattle.bp_tree.proofs.GrownLists.{regrouped}
 use denote.Enum.Bare.{same_true}
 use Rattle.bp_tree.specs.Ast.{Name, Expression, Constant, Variable, Negation, Operation, Choose, Decide, Done, Then, Statement, Skips, GoesTo, Returns, Assigns, Branches, Loops, Asserts, Assumes, Prints, Calls, Procedure, Program}
 use Rattle.bp_tree.specs.declared.exprs.Op.{Op}
@@ -326,7 +327,7 @@ sound (MoreDecls acc next) x v e ts q n =
     declared h ns _ are (word {r = us} y c (decls {r = r} ms more k)) =
         decls (ns ++ ms)
         (more_decls (decl (first_word {token = x} {rest = ts} h) are (first_word {token = y} {rest = us} c)) more)
-        (subst (λ l. Needs (next l) r q) (append_assoc acc ns ms) k)
+        (simp regrouped at k)
 sound (MoreProcs acc next) x v e ts q n =
     ⊎_elim
     (λ h. let p = sound_body (λ f. MoreProcs (acc ++ f ∷ []) next) x ts q (same x.kind kind.Name h.0) (moved h.1 n) in one_more p.0 p.1 p.2 p.3)
@@ -335,7 +336,7 @@ sound (MoreProcs acc next) x v e ts q n =
   where
     one_more : (f : Procedure) (us : List Token) → IsProc (x ∷ ts) f us → Needs (MoreProcs (acc ++ f ∷ []) next) us q → Needs (MoreProcs acc next) (x ∷ ts) q
     one_more f us is (procs {r = r} fs more k) =
-        procs (f ∷ fs) (more_procs is more) (subst (λ l. Needs (next l) r q) (append_assoc acc (f ∷ []) fs) k)
+        procs (f ∷ fs) (more_procs is more) (simp regrouped at k)
 
 -- where the tokens may end, nothing more is wanted
 pub sound_end : (w : Wanted) (q : Program) → program_at_end w ≡ Some q → Needs w [] q

@@ -1,7 +1,8 @@
 -- A text has one answer: its tree, or its first fault.
-use Rattle.std.proofs.Common.{◌≡◌, ℕ, ◌≤◌, List, [], ◌∷◌, ◌++◌, length, take, Option, Some, None, Result, Ok, Err, refl, sym, ap, subst, ◌∙◌, ⊎_elim, append_assoc, arith, true}
+use Rattle.std.proofs.Common.{◌≡◌, ℕ, ◌≤◌, List, [], ◌∷◌, ◌++◌, length, take, Option, Some, None, Result, Ok, Err, refl, sym, ap, subst, ◌∙◌, ⊎_elim, arith, true}
 use Rattle.std.specs.Prelude.{MatchResult, IsErrAnd}
 use Rattle.std.proofs.lemmas.Result.{err_from_is_err_and}
+use Rattle.bp_tree.proofs.GrownLists.{regrouped}
 use Rattle.bp_tree.specs.Ast.{Program}
 use Rattle.bp_syntax.specs.declared.limits.TheConstants.{TEXT_LIMIT}
 use Rattle.bp_syntax.specs.Tokens.{Token, fits, kind_of}
@@ -58,15 +59,14 @@ real_rest (x ∷ front) rest r = real_rest front rest r.1
 
 pub sparse_front : (front rest : List Token) → IsSparse (front ++ rest) → IsSparse front
 sparse_front front rest s before run after parts plain =
-    s before run (after ++ rest) (ap (λ l. l ++ rest) parts ∙ append_assoc before (run ++ after) rest
-    ∙ ap (λ l. before ++ l) (append_assoc run after rest)) plain
+    s before run (after ++ rest) (ap (λ l. l ++ rest) parts ∙ simp regrouped) plain
 
 derived_opens : (front rest : List Token) (x : Token) (p : Program) → AllReal (front ++ x ∷ rest) → Derives (front ++ x ∷ rest) p → Opens (front ++ x ∷ [])
 derived_opens front rest x p real d = record {
   more = rest;
   real = (real_rest front (x ∷ rest) real).1;
   tree = p;
-  derives = subst (λ l. Derives l p) (sym (append_assoc front (x ∷ []) rest)) d;
+  derives = simp regrouped d;
 }
 
 no_syntax_fault : (text : List ℕ) (ts : List Token) (at : ℕ) (p : Program) → AllReal ts → Derives ts p → HasSyntaxFault text ts at → ⊥
@@ -79,12 +79,12 @@ no_syntax_fault text ts at p real d f =
 pub shallow_or_nested : (ts : List Token) (at : ℕ) → IsShallow ts → BreaksAt IsShallow ts at → ⊥
 shallow_or_nested ts at all b =
     let here : IsShallow (b.front ++ b.token ∷ b.rest) = subst IsShallow b.parts all in
-    b.after (shallow_front (b.front ++ b.token ∷ []) b.rest (subst IsShallow (sym (append_assoc b.front (b.token ∷ []) b.rest)) here))
+    b.after (shallow_front (b.front ++ b.token ∷ []) b.rest (simp regrouped here))
 
 pub sparse_or_crowded : (ts : List Token) (at : ℕ) → IsSparse ts → BreaksAt IsSparse ts at → ⊥
 sparse_or_crowded ts at all b =
     let here : IsSparse (b.front ++ b.token ∷ b.rest) = subst IsSparse b.parts all in
-    b.after (sparse_front (b.front ++ b.token ∷ []) b.rest (subst IsSparse (sym (append_assoc b.front (b.token ∷ []) b.rest)) here))
+    b.after (sparse_front (b.front ++ b.token ∷ []) b.rest (simp regrouped here))
 
 -- a program's text has no fault
 pub only_memory : (text : List ℕ) (p : Program) (e : ReadFault) → IsTextOf text p → IsRefusal text e → e ≡ fault.Memory

@@ -1,10 +1,10 @@
 -- A text has at most one refusal, memory aside.
-use Rattle.std.proofs.Common.{◌≡◌, ◌≢◌, ◌⊎◌, ℕ, ◌<◌, List, [], ◌∷◌, ◌++◌, None, Some, refl, inl, inr, sym, ap, subst, ◌∙◌, append_assoc, arith}
+use Rattle.std.proofs.Common.{◌≡◌, ◌≢◌, ◌⊎◌, ℕ, ◌<◌, List, [], ◌∷◌, ◌++◌, None, Some, refl, inl, inr, sym, ap, subst, ◌∙◌, arith}
 use Rattle.std.proofs.lemmas.Bool.{cases_lt}
+use Rattle.bp_tree.proofs.GrownLists.{regrouped}
 use Rattle.bp_syntax.specs.Tokens.{Token}
 use Rattle.bp_syntax.specs.Cut.{first_bad_byte, first_open_brace, HasTokens, HasBadByte, HasOpenName}
 use Rattle.bp_syntax.specs.Faults.{read_fault_number}
-use Rattle.bp_syntax.specs.Grammar.{Derives}
 use Rattle.bp_syntax.specs.Nesting.{IsShallow}
 use Rattle.bp_syntax.specs.Opens.{AllReal, Opens, BreaksAt, HasSyntaxFault}
 use Rattle.bp_syntax.specs.Successions.{IsSparse}
@@ -57,7 +57,7 @@ opens_front front rest real o = record {
   more = rest ++ o.more;
   real = both rest o.more (real_rest front rest real) o.real;
   tree = o.tree;
-  derives = subst (λ l. Derives l o.tree) (append_assoc front rest o.more) o.derives;
+  derives = simp regrouped at o.derives;
 }
   where
     both : (ts us : List Token) → AllReal ts → AllReal us → AllReal (ts ++ us)
@@ -66,7 +66,7 @@ opens_front front rest real o = record {
 
 opens_or_breaks : (ts : List Token) (at : ℕ) → AllReal ts → Opens ts → BreaksAt Opens ts at → ⊥
 opens_or_breaks ts at real o b =
-    let parts : ts ≡ (b.front ++ b.token ∷ []) ++ b.rest = b.parts ∙ sym (append_assoc b.front (b.token ∷ []) b.rest) in
+    let parts : ts ≡ (b.front ++ b.token ∷ []) ++ b.rest = b.parts ∙ simp regrouped in
     b.after (opens_front (b.front ++ b.token ∷ []) b.rest (subst AllReal parts real) (subst Opens parts o))
 
 -- a syntax fault has one place

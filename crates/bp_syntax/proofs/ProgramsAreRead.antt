@@ -1,7 +1,8 @@
 -- Statements, procedures and programs of the grammar are read whole, whatever is wanted after them.
-use Rattle.std.proofs.Common.{◌≡◌, ℕ, true, false, List, [], ◌∷◌, ◌++◌, Option, Some, None, refl, sym, ap, ◌∙◌, append_assoc, drop}
+use Rattle.std.proofs.Common.{◌≡◌, ℕ, true, false, List, [], ◌∷◌, ◌++◌, Option, Some, None, refl, sym, ap, ◌∙◌, drop}
 use Rattle.std.proofs.lemmas.List.{append-nil}
 use Rattle.std.proofs.lemmas.Bool.{false≢true}
+use Rattle.bp_tree.proofs.GrownLists.{regrouped}
 use Rattle.bp_tree.specs.Ast.{Name, Expression, Decision, Block, Then, Statement, Skips, GoesTo, Returns, Assigns, Branches, Loops, Asserts, Assumes, Prints, Calls, Procedure, Program}
 use Rattle.bp_syntax.specs.Tokens.{Token}
 use Rattle.bp_syntax.specs.Grammar.{name_of, IsNames, one_name, more_names, IsDecider, IsForm, skip, jump, returning, assignment, branch, loop, assertion, assumption, printing, call, IsStmt, labelled, unlabelled, IsStmts, one_stmt, more_stmts, IsDecl, decl, IsDecls, no_decl, more_decls, IsProc, proc, IsProcs, no_proc, more_procs, Derives, program, first_word, first_name}
@@ -170,7 +171,7 @@ decls_read : {ts : List Token} {ns : List Name} {r : List Token} → IsDecls ts 
     → parse_result (MoreDecls acc next) ts ≡ parse_result (next (acc ++ ns)) r
 decls_read (no_decl {rest = r}) acc next n = no_decl_ahead acc next r n ∙ ap (λ l. parse_result (next l) r) (sym (append-nil acc))
 decls_read (more_decls {rest = r} {names = ns} {more = ms} d f) acc next n =
-    decl_read d acc next ∙ decls_read f (acc ++ ns) next n ∙ ap (λ l. parse_result (next l) r) (append_assoc acc ns ms)
+    decl_read d acc next ∙ decls_read f (acc ++ ns) next n ∙ simp regrouped
 
 form_no_decl : (ts : List Token) → is_at_form ts ≡ true → is_at kind.Decl ts ≡ false
 form_no_decl [] h = refl
@@ -208,7 +209,7 @@ procs_read (more_procs {ts = ts} {rest = r} {procedure = p} {more = ps} d f) acc
     more_procs_ahead acc next ts (proc_begins d)
     ∙ proc_read d (λ q. MoreProcs (acc ++ q ∷ []) next)
     ∙ procs_read f (acc ++ p ∷ []) next n
-    ∙ ap (λ l. parse_result (next l) r) (append_assoc acc (p ∷ []) ps)
+    ∙ simp regrouped
 
 name_no_decl : (ts : List Token) → is_at kind.Name ts ≡ true → is_at kind.Decl ts ≡ false
 name_no_decl ts h = form_no_decl ts (name_begins ts h)

@@ -1,11 +1,12 @@
 -- The cut of the rest continues the scan so far, also behind one more lexeme.
-use Rattle.std.proofs.Common.{◌≡◌, ℕ, ◌+◌, List, [], ◌∷◌, ◌++◌, length, take, drop, Option, Some, None, refl, sym, ap, subst, ◌∙◌, arith, append_assoc, ◌<◌, ◌≢◌, ◌-◌, length-drop, slice_get}
+use Rattle.std.proofs.Common.{◌≡◌, ℕ, ◌+◌, List, [], ◌∷◌, ◌++◌, length, take, drop, Option, Some, None, refl, sym, ap, subst, ◌∙◌, arith, ◌<◌, ◌≢◌, ◌-◌, length-drop, slice_get}
 use Rattle.std.proofs.lemmas.List.{append-nil}
 use Rattle.bp_syntax.specs.Tokens.{kind_of, Token}
 use Rattle.bp_syntax.specs.Lexer.{IsNameless, IsFirstLexeme}
 use Rattle.bp_syntax.specs.declared.lexemes.FirstLexeme.TheVariants as first
 use Rattle.bp_syntax.proofs.BracedNames.{nameless_rest}
 use Rattle.std.specs.Option.{option_or}
+use Rattle.bp_tree.proofs.GrownLists.{regrouped}
 use Rattle.bp_syntax.specs.Cut.{IsLongest, Lexeme, Fit, Brace, Bad, IsCut, fit, open_brace, bad_byte, ends, first_bad_byte, first_open_brace, tokens_of, with_token, NoneFits, HasTokens, HasBadByte, HasOpenName}
 use Rattle.bp_syntax.specs.declared.tokens.TokenKind.{TokenKind}
 use Rattle.bp_syntax.specs.declared.tokens.LexemeKind.{LexemeKind}
@@ -62,7 +63,7 @@ one_more text at rest after ts us brace k len n m known l left is fewer = (
           g.2,
           g.3,
           g.4 ∙ ap (λ x. ts ++ x) (token_before (kind_of k bytes) at bytes (tokens_of ps))
-              ∙ sym (append_assoc ts _ (tokens_of ps)) ∙ ap (λ x. x ++ tokens_of ps) (sym is),
+              ∙ rw is (simp regrouped),
         );
   },
   nameless_after rest after n m len known.1 fewer left,

@@ -1,6 +1,7 @@
 -- Where the parser ends is a program of the grammar, and where it stops is the syntax fault.
-use Rattle.std.proofs.Common.{◌≡◌, ℕ, List, [], ◌∷◌, ◌++◌, Option, Some, None, refl, sym, ap, subst, ◌∙◌, inl, inr, append_assoc, length}
+use Rattle.std.proofs.Common.{◌≡◌, ℕ, List, [], ◌∷◌, ◌++◌, Option, Some, None, refl, sym, ap, subst, ◌∙◌, inl, inr, length}
 use Rattle.std.proofs.lemmas.List.{append-nil}
+use Rattle.bp_tree.proofs.GrownLists.{regrouped}
 use Rattle.bp_tree.specs.Ast.{Program}
 use Rattle.bp_syntax.specs.Tokens.{Token}
 use Rattle.bp_syntax.specs.Grammar.{Derives, program}
@@ -114,7 +115,7 @@ stops_at_fault text ts (x ∷ r) at e here there =
       parts = s.parts;
       before = needed_opens s.front s.wanted s.needs;
       after = λ o.
-          let d : Derives (s.front ++ x ∷ o.more) o.tree = subst (λ l. Derives l o.tree) (append_assoc s.front (x ∷ []) o.more) o.derives in
+          let d : Derives (s.front ++ x ∷ o.more) o.tree = simp regrouped at o.derives in
           got_or_stops (sym (derived_is_read d) ∙ s.through (x ∷ o.more) ∙ s.refuses_more x r o.more refl);
       place = here x r refl;
     })

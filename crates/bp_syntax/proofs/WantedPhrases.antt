@@ -1,5 +1,6 @@
 -- What the parser wants, as phrases of the grammar.
-use Rattle.std.proofs.Common.{◌≡◌, ℕ, List, [], ◌∷◌, ◌++◌, Option, Some, None, refl, subst, append_assoc}
+use Rattle.std.proofs.Common.{◌≡◌, ℕ, List, [], ◌∷◌, ◌++◌, Option, Some, None, refl, subst}
+use Rattle.bp_tree.proofs.GrownLists.{regrouped}
 use Rattle.bp_tree.specs.Ast.{Name, Expression, Operation, Decision, Block, Done, Then, Statement, Procedure, Program}
 use Rattle.bp_tree.specs.declared.exprs.Op.{Op}
 use Rattle.bp_tree.specs.declared.exprs.Op.TheVariants as op
@@ -152,7 +153,7 @@ pub names_from : (acc : List Name) (next : List Name → Wanted) (ts : List Toke
     → Needs (NamesThen acc next) ts q
     → (ns : List Name) × (r : List Token) × IsNames ts ns r × Needs (next (acc ++ ns)) r q
 names_from acc next ts q (name x h (names {r = r} ms m n)) =
-    (name_of x ∷ ms, r, names_join h m, subst (λ l. Needs (next l) r q) (append_assoc acc (name_of x ∷ []) ms) n)
+    (name_of x ∷ ms, r, names_join h m, simp regrouped at n)
 
 pub exprs_from : (acc : List Expression) (next : List Expression → Wanted) (ts : List Token) (q : Program)
     → Needs (ExprsThen acc next) ts q
@@ -161,4 +162,4 @@ exprs_from acc next ts q n = let p = expr_from (λ e. MoreExprs (acc ++ e ∷ []
   where
     joined : (e : Expression) (us : List Token) → IsExpr ts e us → Needs (MoreExprs (acc ++ e ∷ []) next) us q
         → (es : List Expression) × (r : List Token) × IsExprs ts es r × Needs (next (acc ++ es)) r q
-    joined e us d (exprs {r = r} ds m n) = (e ∷ ds, r, exprs_join d m, subst (λ l. Needs (next l) r q) (append_assoc acc (e ∷ []) ds) n)
+    joined e us d (exprs {r = r} ds m n) = (e ∷ ds, r, exprs_join d m, simp regrouped at n)

@@ -1,6 +1,7 @@
 -- What the blocks of a wave say one after the other.
-use Rattle.std.proofs.Common.{◌≡◌, ℕ, suc, ◌+◌, ◌-◌, ◌≤◌, Bool, true, false, List, [], ◌∷◌, ◌++◌, length, append_assoc, append-nil, Option, None, Some, Result, Ok, refl, sym, ◌∙◌, subst, arith}
+use Rattle.std.proofs.Common.{◌≡◌, ℕ, suc, ◌+◌, ◌-◌, ◌≤◌, Bool, true, false, List, [], ◌∷◌, ◌++◌, length, append-nil, Option, None, Some, Result, Ok, refl, sym, ◌∙◌, subst, arith}
 use Rattle.std.specs.Prelude.{max, slice_index_or, is_some}
+use Rattle.bp_text.proofs.GrownLists.{regrouped}
 use Rattle.bp_tree.specs.Ast.{Program}
 use Rattle.bp_code.specs.Flat.{Flat}
 use Rattle.bp_code.specs.StandsFor.{StandsFor}
@@ -106,7 +107,7 @@ module _ {E : Type 0} (k : Flat) (s : SetupOf) (p : Plan) (from runs : ℕ) (t :
 
       tallied_both : IsTally t s (earlier ++ both) new
       tallied_both =
-          subst (λ rs. IsTally t s rs new) (append_assoc earlier was.made tallied.runs)
+          simp regrouped at
           (adds t s (earlier ++ was.made) tallied.runs was.tallied tallied.tallied)
 
       below : end ≤ block.end

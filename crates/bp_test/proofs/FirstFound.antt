@@ -1,7 +1,8 @@
 -- What the first found run of some runs says of more of them, and of a test.
-use Rattle.std.proofs.Common.{◌≡◌, ℕ, suc, ◌+◌, ◌<◌, ◌≤◌, ◌^◌, Bool, true, List, [], ◌∷◌, ◌++◌, length, length-append, append_assoc, Option, None, Some, refl, ap, sym, ◌∙◌, subst, arith, inl, inr}
+use Rattle.std.proofs.Common.{◌≡◌, ℕ, suc, ◌+◌, ◌<◌, ◌≤◌, ◌^◌, Bool, true, List, [], ◌∷◌, ◌++◌, length, length-append, Option, None, Some, refl, ap, sym, ◌∙◌, subst, arith, inl, inr}
 use Rattle.std.specs.Prelude.{MatchOption}
 use Rattle.std.proofs.lemmas.List.{length_push}
+use Rattle.bp_text.proofs.GrownLists.{regrouped}
 use Rattle.bp_tree.specs.Ast.{Program}
 use Rattle.bp_machine.specs.declared.calls.Call.{Call}
 use Rattle.bp_machine.specs.declared.reports.Outcome.{Outcome}
@@ -44,7 +45,7 @@ module _ (t : Program) (s : SetupOf) (with_deadlock : Bool) (seed : ℕ) where
     found_later le (Some f) runs later = record {
       others = before ++ later.others;
       deadlocked = later.deadlocked;
-      whole = ap (λ ys. before ++ ys) later.whole ∙ sym (append_assoc before later.others _);
+      whole = ap (λ ys. before ++ ys) later.whole ∙ simp regrouped;
       number = (let here = later.number in rw length-append (omega (arith, here, count)));
       below = later.below;
       clean = then_clean later.others later.clean;

@@ -1,10 +1,10 @@
 -- The key of a run with one more call, the keys of more runs, and that no seed changes them.
-use Rattle.std.proofs.Common.{◌≡◌, ◌≤◌, ◌+◌, ℕ, zero, suc, List, [], ◌∷◌, ◌++◌, take, length, Option, Some, refl, ap, sym, ◌∙◌, subst, arith}
+use Rattle.std.proofs.Common.{◌≡◌, ◌≤◌, ℕ, zero, suc, List, [], ◌∷◌, ◌++◌, take, length, Option, refl, ap, sym, subst, arith}
 use Rattle.bp_tree.specs.Ast.{Program}
 use Rattle.bp_machine.specs.declared.calls.Call.{Call}
 use Rattle.bp_machine.specs.declared.calls.Reply.{Reply}
 use Rattle.bp_machine.specs.Histories.{configuration_after}
-use Rattle.bp_machine.specs.Setups.{SetupOf, threads}
+use Rattle.bp_machine.specs.Setups.{SetupOf}
 use Rattle.bp_test.specs.declared.limits.TheConstants.{MAX_KEYS}
 use Rattle.bp_test.specs.Keys.{key_after, no_call, one_call, IsKey, IsRunKey}
 use Rattle.bp_test.specs.Reached.{next_place, IsNumberOf}

@@ -1,25 +1,33 @@
 -- The places that a history reaches, with one more call, and with one more thread that waits.
-use Rattle.std.proofs.Common.{◌≡◌, ◌⊎◌, ◌<◌, ◌≤◌, ◌+◌, ℕ, Bool, true, false, List, [], ◌∷◌, ◌++◌, take, length, Option, None, Some, refl, ap, sym, ◌∙◌, subst, arith, inl, inr}
+use Rattle.std.proofs.Common.{◌≡◌, ◌⊎◌, ◌<◌, ◌≤◌, ◌+◌, ℕ, suc, Bool, true, false, List, [], ◌∷◌, ◌++◌, take, length, Option, None, Some, refl, ap, sym, ◌∙◌, subst, arith, inl, inr}
 use Rattle.std.specs.Prelude.{if◌then◌else◌, slice_set}
 use Rattle.std.proofs.Math.Seq.{take-append_seam}
-use Rattle.std.proofs.lemmas.List.{take-append-le}
+use Rattle.std.proofs.lemmas.List.{length-append, take-append-le, take_all}
 use Rattle.std.proofs.lemmas.Option.{slice_get_within}
 use Rattle.bp_tree.specs.Ast.{Program}
 use Rattle.bp_code.specs.StandsFor.{Place}
 use Rattle.bp_machine.specs.declared.calls.Call.{Call}
 use Rattle.bp_machine.specs.declared.calls.Reply.{Reply}
-use Rattle.bp_machine.specs.declared.calls.Reply.TheVariants.{Blocked}
-use Rattle.bp_machine.specs.Histories.{configuration_after, is_finished}
+use Rattle.bp_machine.specs.Histories.{configuration_after}
 use Rattle.bp_machine.specs.Setups.{SetupOf, threads}
-use Rattle.bp_machine.specs.Waiting.{waits}
 use Rattle.bp_machine.proofs.SeededWithCall.{at_end}
 use Rattle.bp_machine.proofs.StandsAfterCall.{same_or_not}
-use Rattle.bp_test.specs.Reached.{refuses_context, next_place, place_of, marks_after, IsNumberOf, IsTried, IsWaitedAt, Reaches, MarksGrow}
-use Rattle.bp_test.proofs.MarkLemmas.{in_front, last_at, no_marks, same_marks, one_mark}
+use Rattle.bp_test.specs.Reached.{refuses_context, next_place, place_of, marks_after, IsNumberOf, IsReachedByCall, IsTried, IsWaitedAt, IsWaiting, Reaches, MarksGrow}
+use Rattle.bp_test.proofs.MarkLemmas.{in_front, last_at, more_marks, no_marks, same_marks, one_mark}
+
+-- one place is marked
+one_place : (t : Program) (P : Place → Type 0) (marks : List Bool) (n : ℕ) (x : Place) → place_of t n ≡ Some x → P x
+    → ((y : Place) → P y → x ≡ y) → MarksGrow (place_of t) P marks (slice_set marks n true)
+one_place t P marks n x here p only =
+    one_mark (place_of t) (λ y. ⊥) P marks marks (no_marks (place_of t) (λ y. ⊥) marks (λ y e. e)) n x here p
+    (λ y e. absurd e) (λ y q. inr (here ∙ ap Some (only y q)))
 
 module _ (t : Program) (s : SetupOf) (h : List Call) (c : Call) where
   abbrev next : Option Place
   next = next_place (configuration_after t s h) c.thread
+
+  whole : take (suc (length h)) (h ++ c ∷ []) ≡ h ++ c ∷ []
+  whole = take_all (suc (length h)) (h ++ c ∷ []) (rw (length-append h (c ∷ [])) (omega arith))
 
   tried_then : (x : Place) → IsTried t s h x → IsTried t s (h ++ c ∷ []) x
   tried_then x tried = let within = slice_get_within h tried.before tried.call tried.has in record {
@@ -62,152 +70,182 @@ module _ (t : Program) (s : SetupOf) (h : List Call) (c : Call) where
     )
   ]
 
-  module _ (old cur : List Bool) (was : MarksGrow (place_of t) (IsTried t s h) old cur) where
-    not_tried : ((x : Place) → refuses_context c.reply ≡ false → next ≡ Some x → ⊥) → MarksGrow (place_of t) (IsTried t s (h ++ c ∷ [])) old cur
-    not_tried none = same_marks (place_of t) (IsTried t s h) (IsTried t s (h ++ c ∷ [])) old cur was tried_then (λ x tried. elim (tried_cases x tried) [
-      | inl earlier ↦ earlier
-      | inr now ↦ absurd (none x now.0 now.1)
-    ])
+  -- this call tried this place
+  abbrev pub IsTriedNow : Place → Type 0
+  IsTriedNow x = (refuses_context c.reply ≡ false) × (next ≡ Some x)
 
-    marked : (n : ℕ) (x : Place) → next ≡ Some x → place_of t n ≡ Some x → refuses_context c.reply ≡ false
-        → MarksGrow (place_of t) (IsTried t s (h ++ c ∷ [])) old (slice_set cur n true)
-    marked n x here at granted =
-        one_mark (place_of t) (IsTried t s h) (IsTried t s (h ++ c ∷ [])) old cur was n x at (tried_now x granted here)
-        tried_then (λ y tried. elim (tried_cases y tried) [
-          | inl earlier ↦ inl earlier
-          | inr now ↦ inr (at ∙ (sym here ∙ now.1))
-        ])
+  -- after it its thread waits there
+  abbrev pub WaitsNow : Place → Type 0
+  WaitsNow x = IsWaiting t s (h ++ c ∷ []) c.thread x
 
-    -- the marks after one more call
-    pub tried_marks : (number : Option ℕ) → IsNumberOf t next number → MarksGrow (place_of t) (IsTried t s (h ++ c ∷ [])) old (marks_after number c.reply cur)
-    tried_marks None none = not_tried (λ x granted here. let a = none in let b = here in cc)
-    tried_marks (Some n) some = by (refuses_context c.reply) refl
-      where
-        by : (b : Bool) → refuses_context c.reply ≡ b → MarksGrow (place_of t) (IsTried t s (h ++ c ∷ [])) old (if b then cur else slice_set cur n true)
-        by true refused = not_tried (λ x granted here. let a = refused in let b = granted in cc)
-        by false granted = marked n some.0 some.1 some.2 granted
+  pub tried_marks : (marks : List Bool) (number : Option ℕ) → IsNumberOf t next number
+      → MarksGrow (place_of t) IsTriedNow marks (marks_after number c.reply marks)
+  tried_marks marks None none = no_marks (place_of t) IsTriedNow marks (λ x tried. let a = none in let b = tried.1 in cc)
+  tried_marks marks (Some n) some = by (refuses_context c.reply) refl
+    where
+      by : (b : Bool) → refuses_context c.reply ≡ b → MarksGrow (place_of t) IsTriedNow marks (if b then marks else slice_set marks n true)
+      by true refused = no_marks (place_of t) IsTriedNow marks (λ x tried. let a = refused in let b = tried.0 in cc)
+      by false granted = one_place t IsTriedNow marks n some.0 some.2 (granted, some.1) (λ y tried. cc (sym some.1 ∙ tried.1))
 
-pub none_tried : (t : Program) (s : SetupOf) (old : List Bool) → MarksGrow (place_of t) (IsTried t s []) old old
-none_tried t s old = no_marks (place_of t) (IsTried t s []) old (λ x tried. let e = tried.has in cc)
-
--- a thread below n whose line is open waits at this place
-pub record IsWaitedBelow (t : Program) (s : SetupOf) (h : List Call) (n : ℕ) (x : Place) : Type 0 where
-  pub thread : ℕ
-  pub below : thread < n
-  pub unfinished : is_finished s h thread ≡ false
-  pub has_to_wait : waits t (configuration_after t s h) thread ≡ true
-  pub next : next_place (configuration_after t s h) thread ≡ Some x
-
-pub none_waits : (t : Program) (s : SetupOf) (h : List Call) (old : List Bool) → MarksGrow (place_of t) (IsWaitedBelow t s h 0) old old
-none_waits t s h old = no_marks (place_of t) (IsWaitedBelow t s h 0) old (λ x waiting. let below = waiting.below in omega (arith, below))
-
-module _ (t : Program) (s : SetupOf) (h : List Call) (n : ℕ) (old cur : List Bool) (was : MarksGrow (place_of t) (IsWaitedBelow t s h n) old cur) where
-  waits_then : (x : Place) → IsWaitedBelow t s h n x → IsWaitedBelow t s h (n + 1) x
-  waits_then x waiting = let below = waiting.below in record {
-    thread = waiting.thread;
-    below = omega (arith, below);
-    unfinished = waiting.unfinished;
-    has_to_wait = waiting.has_to_wait;
-    next = waiting.next;
+  held_then : (x : Place) → IsWaitedAt t s h x → IsWaitedAt t s (h ++ c ∷ []) x
+  held_then x held = let within = slice_get_within h held.before held.call held.has in record {
+    before = held.before;
+    call = held.call;
+    has = in_front h (c ∷ []) held.before held.call held.has;
+    waiting =
+        let few : suc held.before ≤ length h = omega (arith, within) in
+        subst (λ g. IsWaiting t s g held.call.thread x) (sym (take-append-le (suc held.before) h (c ∷ []) few)) held.waiting;
   }
 
-  waits_cases : (x : Place) → IsWaitedBelow t s h (n + 1) x
-      → IsWaitedBelow t s h n x
-      ⊎ ((is_finished s h n ≡ false) × (waits t (configuration_after t s h) n ≡ true)
-      × (next_place (configuration_after t s h) n ≡ Some x))
-  waits_cases x waiting = elim (same_or_not waiting.thread n) [
-    | inl same ↦ inr (
-      subst (λ i. is_finished s h i ≡ false) same waiting.unfinished,
-      subst (λ i. waits t (configuration_after t s h) i ≡ true) same waiting.has_to_wait,
-      subst (λ i. next_place (configuration_after t s h) i ≡ Some x) same waiting.next,
-    )
-    | inr other ↦ inl (record {
-      thread = waiting.thread;
-      below = let below = waiting.below in omega (arith, below, other);
-      unfinished = waiting.unfinished;
-      has_to_wait = waiting.has_to_wait;
-      next = waiting.next;
+  held_now : (x : Place) → WaitsNow x → IsWaitedAt t s (h ++ c ∷ []) x
+  held_now x waiting = record {
+    before = length h;
+    call = c;
+    has = last_at h c;
+    waiting = subst (λ g. IsWaiting t s g c.thread x) (sym whole) waiting;
+  }
+
+  held_cases : (x : Place) → IsWaitedAt t s (h ++ c ∷ []) x → IsWaitedAt t s h x ⊎ WaitsNow x
+  held_cases x held = elim (at_end h c held.call held.before held.has) [
+    | inl earlier ↦ inl (record {
+      before = held.before;
+      call = held.call;
+      has = earlier;
+      waiting = let within = slice_get_within h held.before held.call earlier in
+          let few : suc held.before ≤ length h = omega (arith, within) in
+          subst (λ g. IsWaiting t s g held.call.thread x) (take-append-le (suc held.before) h (c ∷ []) few) held.waiting;
     })
+    | inr last ↦ inr (subst (λ y. IsWaiting t s (h ++ c ∷ []) y.thread x) (sym last.1)
+        (subst (λ g. IsWaiting t s g held.call.thread x) (ap (λ n. take (suc n) (h ++ c ∷ [])) last.0 ∙ whole) held.waiting))
   ]
 
-  pub waits_not : (is_finished s h n ≡ false → waits t (configuration_after t s h) n ≡ true → ⊥) → MarksGrow (place_of t) (IsWaitedBelow t s h (n + 1)) old cur
-  waits_not none =
-      same_marks (place_of t) (IsWaitedBelow t s h n) (IsWaitedBelow t s h (n + 1)) old cur was waits_then (λ x waiting.
-      elim (waits_cases x waiting) [
-        | inl earlier ↦ earlier
-        | inr now ↦ absurd (none now.0 now.1)
+  -- the marks after one more call
+  pub reached_by_call : (old cur tried new : List Bool)
+      → MarksGrow (place_of t) (IsReachedByCall t s h) old cur
+      → MarksGrow (place_of t) IsTriedNow cur tried
+      → MarksGrow (place_of t) WaitsNow tried new
+      → MarksGrow (place_of t) (IsReachedByCall t s (h ++ c ∷ [])) old new
+  reached_by_call old cur tried new was first after =
+      let both = more_marks (place_of t) (IsReachedByCall t s h) IsTriedNow old cur was tried first in
+      let all = more_marks (place_of t) (λ x. IsReachedByCall t s h x ⊎ IsTriedNow x) WaitsNow old tried both new after in
+      same_marks (place_of t) (λ x. (IsReachedByCall t s h x ⊎ IsTriedNow x) ⊎ WaitsNow x) (IsReachedByCall t s (h ++ c ∷ [])) old new all
+      (λ x is. elim is [
+        | inl (inl (inl is_tried)) ↦ inl (tried_then x is_tried)
+        | inl (inl (inr held)) ↦ inr (held_then x held)
+        | inl (inr now) ↦ inl (tried_now x now.0 now.1)
+        | inr waits_now ↦ inr (held_now x waits_now)
+      ])
+      (λ x is. elim is [
+        | inl is_tried ↦ elim (tried_cases x is_tried) [
+          | inl earlier ↦ inl (inl (inl earlier))
+          | inr now ↦ inl (inr now)
+        ]
+        | inr held ↦ elim (held_cases x held) [
+          | inl earlier ↦ inl (inl (inr earlier))
+          | inr now ↦ inr now
+        ]
       ])
 
-  pub waits_more : is_finished s h n ≡ false → waits t (configuration_after t s h) n ≡ true → (number : Option ℕ)
-      → IsNumberOf t (next_place (configuration_after t s h) n) number
-      → MarksGrow (place_of t) (IsWaitedBelow t s h (n + 1)) old (marks_after number Blocked cur)
-  waits_more unfinished waiting None none =
-      same_marks (place_of t) (IsWaitedBelow t s h n) (IsWaitedBelow t s h (n + 1)) old cur was waits_then (λ x now.
-      elim (waits_cases x now) [
-        | inl earlier ↦ earlier
-        | inr here ↦ absurd (let a = none in let b = here.2 in cc)
+-- no call, no place
+pub none_by_call : (t : Program) (s : SetupOf) (old : List Bool) → MarksGrow (place_of t) (IsReachedByCall t s []) old old
+none_by_call t s old = no_marks (place_of t) (IsReachedByCall t s []) old (λ x is. elim is [
+  | inl tried ↦ let e = tried.has in cc
+  | inr held ↦ let e = held.has in cc
+])
+
+-- where thread i waits, and where a thread below n does
+module _ (t : Program) (s : SetupOf) (h : List Call) where
+  abbrev pub WaitsBelow : ℕ → Place → Type 0
+  WaitsBelow n x = (i : ℕ) × (i < n) × IsWaiting t s h i x
+
+  pub none_waits : (marks : List Bool) → MarksGrow (place_of t) (WaitsBelow 0) marks marks
+  none_waits marks = no_marks (place_of t) (WaitsBelow 0) marks (λ x waiting. let below = waiting.1 in omega (arith, below))
+
+  pub waits_more : (n : ℕ) (old cur new : List Bool) → MarksGrow (place_of t) (WaitsBelow n) old cur
+      → MarksGrow (place_of t) (IsWaiting t s h n) cur new → MarksGrow (place_of t) (WaitsBelow (n + 1)) old new
+  waits_more n old cur new was here =
+      same_marks (place_of t) (λ x. WaitsBelow n x ⊎ IsWaiting t s h n x) (WaitsBelow (n + 1)) old new
+      (more_marks (place_of t) (WaitsBelow n) (IsWaiting t s h n) old cur was new here)
+      (λ x is. elim is [
+        | inl earlier ↦ (earlier.0, let below = earlier.1 in omega (arith, below), earlier.2)
+        | inr last ↦ (n, omega arith, last)
       ])
-  waits_more unfinished waiting (Some k) some = one_mark (place_of t) (IsWaitedBelow t s h n) (IsWaitedBelow t s h (n + 1)) old cur was k some.0 some.2
-      (record { thread = n; below = omega arith; unfinished = unfinished; has_to_wait = waiting; next = some.1 })
-      waits_then
-      (λ x now. elim (waits_cases x now) [
-        | inl earlier ↦ inl earlier
-        | inr here ↦ inr (some.2 ∙ (sym some.1 ∙ here.2))
+      (λ x is. elim (same_or_not is.0 n) [
+        | inl same ↦ inr (subst (λ i. IsWaiting t s h i x) same is.2)
+        | inr other ↦ inl (is.0, let below = is.1 in omega (arith, below, other), is.2)
       ])
 
-pub waits_all : (t : Program) (s : SetupOf) (h : List Call) (n : ℕ) (old cur : List Bool) → n ≡ threads s
-    → MarksGrow (place_of t) (IsWaitedBelow t s h n) old cur → MarksGrow (place_of t) (IsWaitedAt t s h) old cur
-waits_all t s h n old cur all was = same_marks (place_of t) (IsWaitedBelow t s h n) (IsWaitedAt t s h) old cur was
-    (λ x waiting. record {
-      thread = waiting.thread;
-      within = subst (λ k. waiting.thread < k) all waiting.below;
-      unfinished = waiting.unfinished;
-      has_to_wait = waiting.has_to_wait;
-      next = waiting.next;
-    })
-    (λ x waiting. record {
-      thread = waiting.thread;
-      below = subst (λ k. waiting.thread < k) (sym all) waiting.within;
-      unfinished = waiting.unfinished;
-      has_to_wait = waiting.has_to_wait;
-      next = waiting.next;
-    })
+  pub waits_all : (n : ℕ) (old new : List Bool) → n ≡ threads s → MarksGrow (place_of t) (WaitsBelow n) old new
+      → MarksGrow (place_of t) (λ x. (i : ℕ) × IsWaiting t s h i x) old new
+  waits_all n old new all was =
+      same_marks (place_of t) (WaitsBelow n) (λ x. (i : ℕ) × IsWaiting t s h i x) old new was
+      (λ x is. (is.0, is.2))
+      (λ x is. (is.0, subst (λ k. is.0 < k) (sym all) is.1.within, is.1))
+
+-- the marks of a whole run: at its start, by its calls, and at its end
+pub whole_marks : (t : Program) (s : SetupOf) (h : List Call) (old first cur new : List Bool)
+    → MarksGrow (place_of t) (λ x. (i : ℕ) × IsWaiting t s [] i x) old first
+    → MarksGrow (place_of t) (IsReachedByCall t s h) first cur
+    → MarksGrow (place_of t) (λ x. (i : ℕ) × IsWaiting t s h i x) cur new
+    → MarksGrow (place_of t) (Reaches t s h) old new
+whole_marks t s h old first cur new start calls end =
+    let at_start = λ (x : Place). (i : ℕ) × IsWaiting t s [] i x in
+    let at_end = λ (x : Place). (i : ℕ) × IsWaiting t s h i x in
+    let by_call = IsReachedByCall t s h in
+    let both = more_marks (place_of t) at_start by_call old first start cur calls in
+    let all = more_marks (place_of t) (λ x. at_start x ⊎ by_call x) at_end old cur both new end in
+    same_marks (place_of t) (λ x. (at_start x ⊎ by_call x) ⊎ at_end x) (Reaches t s h) old new all
+    (λ x is. elim is [
+      | inl (inl waits_first) ↦ inr (waits_first.0, inl waits_first.1)
+      | inl (inr called) ↦ inl called
+      | inr waits_last ↦ inr (waits_last.0, inr waits_last.1)
+    ])
+    (λ x is. elim is [
+      | inl called ↦ inl (inr called)
+      | inr (i, inl waits_first) ↦ inl (inl (i, waits_first))
+      | inr (i, inr waits_last) ↦ inr (i, waits_last)
+    ])
 
 -- what a history reaches does not depend on the seed
-pub reaches_with : (t : Program) (s : SetupOf) (o : Option ℕ) (h : List Call) (x : Place) → Reaches t (record s { seed = o }) h x → Reaches t s h x
-reaches_with t s o h x (inl tried) = inl (record { before = tried.before; call = tried.call; has = tried.has; tried = tried.tried; next = tried.next })
-reaches_with t s o h x (inr waiting) =
-    inr (record {
-      thread = waiting.thread;
-      within = waiting.within;
-      unfinished = waiting.unfinished;
-      has_to_wait = waiting.has_to_wait;
-      next = waiting.next;
-    })
+module _ (t : Program) (s : SetupOf) (o : Option ℕ) (x : Place) where
+  waiting_with : (h : List Call) (i : ℕ) → IsWaiting t (record s { seed = o }) h i x → IsWaiting t s h i x
+  waiting_with h i is = record { within = is.within; unfinished = is.unfinished; has_to_wait = is.has_to_wait; next = is.next }
 
-pub reaches_without : (t : Program) (s : SetupOf) (o : Option ℕ) (h : List Call) (x : Place) → Reaches t s h x → Reaches t (record s { seed = o }) h x
-reaches_without t s o h x (inl tried) = inl (record { before = tried.before; call = tried.call; has = tried.has; tried = tried.tried; next = tried.next })
-reaches_without t s o h x (inr waiting) =
-    inr (record {
-      thread = waiting.thread;
-      within = waiting.within;
-      unfinished = waiting.unfinished;
-      has_to_wait = waiting.has_to_wait;
-      next = waiting.next;
-    })
+  waiting_without : (h : List Call) (i : ℕ) → IsWaiting t s h i x → IsWaiting t (record s { seed = o }) h i x
+  waiting_without h i is = record { within = is.within; unfinished = is.unfinished; has_to_wait = is.has_to_wait; next = is.next }
+
+  pub reaches_with : (h : List Call) → Reaches t (record s { seed = o }) h x → Reaches t s h x
+  reaches_with h (inl (inl tried)) =
+      inl (inl (record { before = tried.before; call = tried.call; has = tried.has; tried = tried.tried; next = tried.next }))
+  reaches_with h (inl (inr held)) =
+      inl (inr (record { before = held.before; call = held.call; has = held.has; waiting = waiting_with _ _ held.waiting }))
+  reaches_with h (inr (i, inl first)) = inr (i, inl (waiting_with [] i first))
+  reaches_with h (inr (i, inr last)) = inr (i, inr (waiting_with h i last))
+
+  pub reaches_without : (h : List Call) → Reaches t s h x → Reaches t (record s { seed = o }) h x
+  reaches_without h (inl (inl tried)) =
+      inl (inl (record { before = tried.before; call = tried.call; has = tried.has; tried = tried.tried; next = tried.next }))
+  reaches_without h (inl (inr held)) =
+      inl (inr (record { before = held.before; call = held.call; has = held.has; waiting = waiting_without _ _ held.waiting }))
+  reaches_without h (inr (i, inl first)) = inr (i, inl (waiting_without [] i first))
+  reaches_without h (inr (i, inr last)) = inr (i, inr (waiting_without h i last))
 
 -- what the answers of a call of a run say of the marks
-pub marks_of_call : (t : Program) (s z : SetupOf) (h new : List Call) (thread : ℕ) (number : Option ℕ) (r : Reply) (old cur now : List Bool) → z ≡ s
+pub marks_of_call : (t : Program) (s z : SetupOf) (h new : List Call) (thread : ℕ) (number : Option ℕ) (r : Reply) (old cur tried now : List Bool) → z ≡ s
     → ((x : Call) × (new ≡ h ++ x ∷ []) × (x.thread ≡ thread) × (x.reply ≡ r))
     → IsNumberOf t (next_place (configuration_after t s h) thread) number
-    → now ≡ marks_after number r cur
-    → MarksGrow (place_of t) (IsTried t s h) old cur
-    → MarksGrow (place_of t) (IsTried t z new) old now
-marks_of_call t s z h new thread number r old cur now setup grown is_number reach was =
+    → tried ≡ marks_after number r cur
+    → MarksGrow (place_of t) (IsWaiting t z new thread) tried now
+    → MarksGrow (place_of t) (IsReachedByCall t s h) old cur
+    → MarksGrow (place_of t) (IsReachedByCall t z new) old now
+marks_of_call t s z h new thread number r old cur tried now setup grown is_number reach waited was =
     let x = grown.0 in
     let own = subst (λ i. IsNumberOf t (next_place (configuration_after t s h) i) number) (sym grown.2) is_number in
-    let all = tried_marks t s h x old cur was number own in
-    let replied = subst (λ p. MarksGrow (place_of t) (IsTried t s (h ++ x ∷ [])) old (marks_after number p cur)) grown.3 all in
-    let marked = subst (λ m. MarksGrow (place_of t) (IsTried t s (h ++ x ∷ [])) old m) (sym reach) replied in
-    let whole = subst (λ g. MarksGrow (place_of t) (IsTried t s g) old now) (sym grown.1) marked in
-    subst (λ y. MarksGrow (place_of t) (IsTried t y new) old now) (sym setup) whole
+    let replied = subst (λ p. MarksGrow (place_of t) (IsTriedNow t s h x) cur (marks_after number p cur)) grown.3 (tried_marks t s h x cur number own) in
+    let marked = subst (λ m. MarksGrow (place_of t) (IsTriedNow t s h x) cur m) (sym reach) replied in
+    let of_thread = subst (λ i. MarksGrow (place_of t) (IsWaiting t z new i) tried now) (sym grown.2) waited in
+    let of_calls = subst (λ g. MarksGrow (place_of t) (IsWaiting t z g x.thread) tried now) grown.1 of_thread in
+    let of_setup = subst (λ y. MarksGrow (place_of t) (IsWaiting t y (h ++ x ∷ []) x.thread) tried now) setup of_calls in
+    let all = reached_by_call t s h x old cur tried now was marked of_setup in
+    let whole = subst (λ g. MarksGrow (place_of t) (IsReachedByCall t s g) old now) (sym grown.1) all in
+    subst (λ y. MarksGrow (place_of t) (IsReachedByCall t y new) old now) (sym setup) whole

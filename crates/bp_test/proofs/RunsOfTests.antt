@@ -120,7 +120,8 @@ module _ (c : Flat) (s : SetupOf) (with_deadlock : Bool) (seed run : ℕ) (old x
   reaches_is t is marks new grow =
       let own = subst (λ z. MarksGrow (place_of t) (Reaches t z h) marks new) setup_is (grow t (own_program t is)) in
       let seed_is : Option ℕ = Some ((seed + run) % 2 ^ 64) in
-      same_marks (place_of t) (Reaches t (setup_of_run s seed run) h) (Reaches t s h) marks new own (reaches_with t s seed_is h) (reaches_without t s seed_is h)
+      same_marks (place_of t) (Reaches t (setup_of_run s seed run) h) (Reaches t s h) marks new own
+      (λ x. reaches_with t s seed_is x h) (λ x. reaches_without t s seed_is x h)
 
   -- and its key
   pub key_is : (t : Program) → StandsFor c t → (key : ℕ) → ((u : Program) → StandsFor x.code u → IsRunKey u x.setup h key) → IsRunKey t s h key

@@ -1,5 +1,5 @@
 -- The places of a program that a history reaches, the threads that step in it, and marks of both.
-use Rattle.std.specs.Prelude.{◌≡◌, ◌⊎◌, ◌<◌, ℕ, Bool, true, false, if◌then◌else◌, List, [], ◌∷◌, Option, None, Some, length, take, slice_get, slice_index_or, slice_set, MatchOption}
+use Rattle.std.specs.Prelude.{◌≡◌, ◌⊎◌, ◌<◌, ℕ, suc, Bool, true, false, if◌then◌else◌, List, [], ◌∷◌, Option, None, Some, length, take, slice_get, slice_index_or, slice_set, MatchOption}
 use Rattle.bp_tree.specs.Ast.{Program}
 use Rattle.bp_code.specs.Configurations.{Frame, Configuration}
 use Rattle.bp_code.specs.StandsFor.{Place, place, places_of}
@@ -34,16 +34,29 @@ pub record IsTried (t : Program) (s : SetupOf) (h : List Call) (x : Place) : Typ
   pub tried : refuses_context call.reply ≡ false
   pub next : next_place (configuration_after t s (take before h)) call.thread ≡ Some x
 
--- in the end a thread whose line is open waits at this place
-pub record IsWaitedAt (t : Program) (s : SetupOf) (h : List Call) (x : Place) : Type 0 where
-  pub thread : ℕ
-  pub within : thread < threads s
-  pub unfinished : is_finished s h thread ≡ false
-  pub has_to_wait : waits t (configuration_after t s h) thread ≡ true
-  pub next : next_place (configuration_after t s h) thread ≡ Some x
+-- after the history the line of thread i is open, and it waits at this place
+pub record IsWaiting (t : Program) (s : SetupOf) (h : List Call) (i : ℕ) (x : Place)
+    : Type 0 where
+  pub within : i < threads s
+  pub unfinished : is_finished s h i ≡ false
+  pub has_to_wait : waits t (configuration_after t s h) i ≡ true
+  pub next : next_place (configuration_after t s h) i ≡ Some x
 
+-- a call of the history led its thread to this place, and it had to wait there
+pub record IsWaitedAt (t : Program) (s : SetupOf) (h : List Call) (x : Place) : Type 0 where
+  pub before : ℕ
+  pub call : Call
+  pub has : slice_get h before ≡ Some call
+  pub waiting : IsWaiting t s (take (suc before) h) call.thread x
+
+abbrev pub IsReachedByCall : Program → SetupOf → List Call → Place → Type 0
+IsReachedByCall t s h x = IsTried t s h x ⊎ IsWaitedAt t s h x
+
+-- a call reached this place, or a thread waits at it before the first call or after the last one
 abbrev pub Reaches : Program → SetupOf → List Call → Place → Type 0
-Reaches t s h x = IsTried t s h x ⊎ IsWaitedAt t s h x
+Reaches t s h x =
+    IsReachedByCall t s h x
+    ⊎ ((i : ℕ) × (IsWaiting t s [] i x ⊎ IsWaiting t s h i x))
 
 -- thread i made a step in the history
 pub record HasStep (h : List Call) (i : ℕ) : Type 0 where

@@ -88,8 +88,9 @@ pub fn first_found<C: Clock>(
             });
         }
         let seed = plan.seed.wrapping_add(run);
-        let lengths = plan.lengths.as_slice();
-        let (next, key) = run_once(session, seed, lengths, &mut history, &mut tally.reached)?;
+        let (visible, lengths) = (&plan.visible, plan.lengths.as_slice());
+        let reached = &mut tally.reached;
+        let (next, key) = run_once(session, seed, visible, lengths, &mut history, reached)?;
         session = next;
         let report = session.report();
         let is_deadlocked = session.is_deadlocked();

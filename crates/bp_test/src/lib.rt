@@ -22,6 +22,7 @@ mod searches;
 mod shrinking;
 mod tallies;
 mod testing;
+mod visible_steps;
 mod waiting;
 mod waves;
 
@@ -38,4 +39,5 @@ pub use progress::{Progress, Untold};
 pub use shrinking::{Shrunk, shrink};
 pub use tallies::{ContextsUsed, Ends, Tally};
 pub use testing::{Found, Tested, test};
+pub use visible_steps::VisibleSteps;
 pub use waiting::Waiting;

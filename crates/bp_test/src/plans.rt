@@ -2,9 +2,11 @@
 ghost use Rattle.std.specs.Prelude.{◌≡◌, IfOk};
 ghost use Rattle.bp_machine.specs.Setups.{FitsCode};
 
-use crate::runs::run_once;
+use crate::runs::{next_number, run_once};
+use crate::tallies::is_step;
+use crate::visible_steps::VisibleSteps;
 use bp_code::Code;
-use bp_machine::{Session, Setup};
+use bp_machine::{Call, Session, Setup};
 use std::alloc::{AllocError, Global};
 
 /// How many pilots there are at most.
@@ -13,7 +15,7 @@ const PILOTS: u64 = 64;
 /// After how many calls no pilot begins, so that long ones do not hold up a test.
 const PILOT_CALLS: u64 = 1_000_000;
 
-/// The first seed, and how many calls runs of the program make.
+/// The first seed, and where switches matter in runs of the program.
 #[derive(Drop)]
 pub struct Plan {
     /// The seed of run 0. Each other run has the seed after that of the run before it.
@@ -22,7 +24,9 @@ pub struct Plan {
     pub with_deadlock: bool,
     /// What the clock shows, in milliseconds, when no more run begins.
     pub deadline: Option<u64>,
-    /// The lengths of pilots, over which the switches of runs are spread.
+    /// The steps before which runs switch.
+    pub visible: VisibleSteps,
+    /// The lengths of pilots: how many visible steps each made.
     pub lengths: Vec<u64>,
 }
 
@@ -37,11 +41,32 @@ fn is_cut_off(session: &Session) -> bool {
     false
 }
 
+/// How many of the steps were visible. The calls are made again, on a session before any call.
+fn count_visible(
+    session: &mut Session,
+    visible: &VisibleSteps,
+    history: &[Call],
+) -> Result<u64, AllocError>
+    ensures { (session.new.code ≡ session.old.code) × (session.new.setup ≡ session.old.setup) }
+{
+    let mut count: u64 = 0;
+    for call in history {
+        let number = next_number(session, call.thread);
+        if is_step(call) && visible.is_visible(call.thread, number) {
+            count = count.saturating_add(1);
+        }
+        if session.ask(call.thread).is_err() {
+            return Err(AllocError);
+        }
+    }
+    Ok(count)
+}
+
 impl Plan {
     /// The plan of a test that begins with this seed. It makes pilots: runs with the first 64 of
     /// its seeds, whose switches are spread over powers of two. The lengths of those that were cut
-    /// off by the allowed calls are not kept. After a million calls no pilot begins. A plan does
-    /// not depend on the number of runs or of jobs.
+    /// off by the allowed calls, or made no visible step, are not kept. After a million calls no
+    /// pilot begins. A plan does not depend on the number of runs or of jobs.
     pub fn new(
         alloc: Global,
         code: &Code,
@@ -55,6 +80,7 @@ impl Plan {
         ensures deadlock { IfOk result (λ p. p.with_deadlock ≡ with_deadlock) }
         ensures deadline { IfOk result (λ p. p.deadline ≡ deadline) }
     {
+        let visible = VisibleSteps::new(alloc, code, setup)?;
         let mut session = Session::new(alloc, code, setup)?;
         let mut history = Vec::new(alloc);
         let mut reached = Vec::new(alloc);
@@ -65,11 +91,12 @@ impl Plan {
                 break;
             }
             let own = seed.wrapping_add(pilot);
-            let (next, _) = run_once(session, own, &[], &mut history, &mut reached)?;
-            session = next;
-            let length = history.len() as u64;
-            calls = calls.saturating_add(length);
-            if !is_cut_off(&session) {
+            let (next, _) = run_once(session, own, &visible, &[], &mut history, &mut reached)?;
+            let is_cut_off = is_cut_off(&next);
+            session = next.restarted(Some(own))?;
+            let length = count_visible(&mut session, &visible, history.as_slice())?;
+            calls = calls.saturating_add(history.len() as u64);
+            if length > 0 && !is_cut_off {
                 lengths.push(length)?;
             }
         }
@@ -77,6 +104,7 @@ impl Plan {
             seed,
             with_deadlock,
             deadline,
+            visible,
             lengths,
         })
     }

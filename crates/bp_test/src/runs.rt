@@ -1,5 +1,5 @@
 //! Runs: histories of a seed and of the schedule that is drawn by it.
-ghost use Rattle.std.specs.Prelude.{◌≡◌, ◌<◌, ◌+◌, ◌++◌, ◌∷◌, [], List, true, length, Some};
+ghost use Rattle.std.specs.Prelude.{◌≡◌, ◌<◌, ◌+◌, ◌++◌, ◌∷◌, [], ℕ, List, true, length, Some};
 ghost use Rattle.std.specs.Prelude.{IfOk, OnOk};
 ghost use Rattle.bp_tree.specs.Ast.{Program};
 ghost use Rattle.bp_code.specs.Programs.{IsOfProgram};
@@ -10,13 +10,14 @@ ghost use Rattle.bp_machine.specs.Reports.{outcome_of, is_failure};
 ghost use Rattle.bp_machine.specs.Sessions.{Stands, StandsForAll};
 ghost use Rattle.bp_machine.specs.Setups.{threads, FitsCode};
 ghost use Rattle.bp_test.specs.Keys.{IsEndKey, IsKey, IsRunKey};
-ghost use Rattle.bp_test.specs.Reached.{next_place, marks_after, place_of, IsNumberOf};
-ghost use Rattle.bp_test.specs.Reached.{IsTried, IsWaitedAt, MarksGrow, Reaches};
+ghost use Rattle.bp_test.specs.Reached.{is_marked, next_place, marks_after, place_of, IsNumberOf};
+ghost use Rattle.bp_test.specs.Reached.{IsReachedByCall, IsWaiting, MarksGrow, Reaches};
 ghost use Rattle.bp_test.specs.Resting.{IsOver};
 
 use crate::keys::{FIRST_KEY, key_after, key_at_end};
 use crate::schedulers::Scheduler;
 use crate::tallies::mark;
+use crate::visible_steps::VisibleSteps;
 use bp_machine::{Call, Reply, Session};
 use std::alloc::AllocError;
 
@@ -44,6 +45,7 @@ fn play(session: &mut Session, history: &mut Vec<Call>, thread: u32) -> Result<R
 }
 
 /// The number of the instruction that is next for a thread, where there is one.
+#[inline(always)]
 pub(crate) fn next_number(session: &Session, thread: u32) -> Option<u32>
     ensures { (t : Program) (h : List Answered)
         → StandsFor session.now.code t
@@ -66,18 +68,50 @@ fn reach(reached: &mut Vec<bool>, number: Option<u32>, reply: Reply)
     }
 }
 
-/// Marks the instructions at which threads wait.
-fn reach_waiting(reached: &mut Vec<bool>, session: &Session)
+/// Whether a place is marked.
+fn is_marked(marks: &[bool], place: usize) -> bool
+    ensures { result ≡ is_marked marks.now place }
+{
+    match marks.get(place) {
+        Some(mark) => *mark,
+        None => false,
+    }
+}
+
+/// Marks this instruction, the next one of a thread, where the thread waits at it and its line is
+/// open. It is quicker to tell that the instruction is marked than that the thread waits.
+fn reach_wait(reached: &mut Vec<bool>, session: &Session, thread: u32, number: Option<u32>)
+    requires { thread < threads session.now.setup }
     ensures { (t : Program) (h : List Answered)
         → StandsFor session.now.code t
         → Stands t session.now h
-        → let waits = IsWaitedAt t session.now.setup h in
-        MarksGrow (place_of t) waits reached.old.items reached.new.items }
+        → let now = configuration_after t session.now.setup h in
+        IsNumberOf t (next_place now thread) number
+        → let is_at = IsWaiting t session.now.setup h thread in
+        MarksGrow (place_of t) is_at reached.old.items reached.new.items }
+{
+    let Some(number) = number else {
+        return;
+    };
+    if is_marked(reached, number as usize) {
+        return;
+    }
+    if !session.is_finished(thread) && session.waits(thread) {
+        mark(reached, number as usize);
+    }
+}
+
+/// Marks the instructions at which threads wait.
+fn reach_waits(reached: &mut Vec<bool>, session: &Session)
+    ensures { (t : Program) (h : List Answered)
+        → StandsFor session.now.code t
+        → Stands t session.now h
+        → let s = session.now.setup in
+        MarksGrow (place_of t) (λ x. (i : ℕ) × IsWaiting t s h i x)
+        reached.old.items reached.new.items }
 {
     for thread in 0..session.setup().threads() {
-        if !session.is_finished(thread) && session.waits(thread) {
-            reach(reached, next_number(session, thread), Reply::Blocked);
-        }
+        reach_wait(reached, session, thread, next_number(session, thread));
     }
 }
 
@@ -97,10 +131,11 @@ fn end_key(session: &Session, steps: u64) -> u64
 }
 
 /// Makes calls by the schedule, on a session before any call, until an assertion fails or each
-/// thread rests. The instructions of the calls are marked.
+/// thread rests. The instructions of the calls are marked, and those to which a call leads and at
+/// which its thread has to wait.
 fn follow(
     session: &mut Session,
-    scheduler: &mut Scheduler,
+    scheduler: &mut Scheduler<'_>,
     history: &mut Vec<Call>,
     reached: &mut Vec<bool>,
 ) -> Result<u64, AllocError>
@@ -114,8 +149,8 @@ fn follow(
     ensures marks { OnOk result
         ((t : Program)
         → StandsFor session.new.code t
-        → let tried = IsTried t session.new.setup history.new.items in
-        MarksGrow (place_of t) tried reached.old.items reached.new.items) }
+        → let by_call = IsReachedByCall t session.new.setup history.new.items in
+        MarksGrow (place_of t) by_call reached.old.items reached.new.items) }
     ensures key { IfOk result (λ key.
         (t : Program)
         → StandsFor session.new.code t
@@ -131,6 +166,9 @@ fn follow(
         let number = next_number(session, thread);
         let reply = play(session, history, thread)?;
         reach(reached, number, reply);
+        let next = next_number(session, thread);
+        reach_wait(reached, session, thread, next);
+        scheduler.note_next(next);
         key = key_after(key, thread, number, reply);
         if reply == Reply::Failed {
             return Ok(key);
@@ -139,11 +177,12 @@ fn follow(
 }
 
 /// Makes a run with this seed, in the memory of an earlier one, and answers its key beside the
-/// session. The switches of its schedule are spread over one of these lengths. The instructions
-/// that are reached are marked.
+/// session. Its schedule switches before visible steps; how many of them runs make is known from
+/// pilots, by these lengths. The instructions that are reached are marked.
 pub(crate) fn run_once(
     session: Session,
     seed: u64,
+    visible: &VisibleSteps,
     lengths: &[u64],
     history: &mut Vec<Call>,
     reached: &mut Vec<bool>,
@@ -168,9 +207,10 @@ pub(crate) fn run_once(
 {
     let mut session = session.restarted(Some(seed))?;
     session.code().is_of_a_program();
-    let mut scheduler = Scheduler::new(seed, session.setup(), lengths);
+    let mut scheduler = Scheduler::new(seed, &session, visible, lengths);
+    reach_waits(reached, &session);
     let steps = follow(&mut session, &mut scheduler, history, reached)?;
-    reach_waiting(reached, &session);
+    reach_waits(reached, &session);
     let key = end_key(&session, steps);
     Ok((session, key))
 }

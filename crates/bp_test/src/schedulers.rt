@@ -3,8 +3,10 @@ ghost use Rattle.std.specs.Prelude.{◌≡◌, ◌<◌, ◌≤◌, ℕ, true, If
 ghost use Rattle.bp_machine.specs.Setups.{threads};
 ghost use Rattle.bp_test.specs.Resting.{RestsIn};
 
-use crate::waiting::may_step;
-use bp_machine::{Session, Setup};
+use crate::runs::next_number;
+use crate::visible_steps::{VisibleSteps, bit};
+use crate::waiting::{may_step, may_step_at};
+use bp_machine::Session;
 use rand_core::utils::NextWord;
 use rand_pcg::Lcg64Xsh32;
 
@@ -14,22 +16,44 @@ const STREAM: u64 = 118;
 /// The most lengths among which one is drawn.
 const MAX_LENGTHS: usize = 64;
 
-/// How many powers of two there are, from 8, among which a length is drawn where none is known.
+/// How many powers of two there are, from 8, among which a number of places is drawn where no
+/// length is known.
 const POWERS: u32 = 14;
+
+/// The longest length that counts.
+const LONGEST: u64 = 1 << 32;
 
 /// The most switches of a schedule that has few.
 const FEW: u32 = 2;
 
+/// How often a switch goes to a thread that has not made a call, beside one that has.
+const UNMOVED: u32 = 3;
+
+/// Threads to which a schedule may switch, as masks.
+#[derive(Clone, Copy)]
+struct Others {
+    all: u64,
+    /// Those that have not made a call.
+    unmoved: u64,
+}
+
 /// A schedule that is drawn while it is followed: it has a number of switches, and places among
-/// which they are spread. The thread to which it switches is drawn among those that may step.
+/// which they are spread. A place is before a visible step of the current thread, but the first
+/// since the last switch: a switch there would have been better made at once. The thread to which
+/// it switches is drawn among those that may step.
 #[derive(Drop)]
-pub(crate) struct Scheduler {
+pub(crate) struct Scheduler<'a> {
     generator: Lcg64Xsh32,
+    visible: &'a VisibleSteps,
     /// The thread of the last call, or of the first one.
     current: u32,
+    /// The instruction that is next for it, where there is one.
+    number: Option<u32>,
+    /// Whether it has made a visible step since the last switch.
+    has_stepped: bool,
     /// How many switches are left.
     switches: u32,
-    /// Among how many next calls they are.
+    /// Among how many next places they are.
     places: u64,
 }
 
@@ -43,54 +67,83 @@ fn below(generator: &mut Lcg64Xsh32, count: u32) -> u32
 }
 
 /// How many switches, which are spread over this many places. The most are one less than the
-/// contexts that are allowed, and three quarters of the places. Two schedules of five have one
-/// switch or two, and the others more than half of the most.
+/// contexts that are allowed, and seven eighths of the places less one. Two schedules of five have
+/// one switch or two, and the others more than half of the most.
 fn draw_switches(generator: &mut Lcg64Xsh32, contexts: u32, places: u64) -> u32 {
     if contexts < 2 {
         return 0;
     }
-    let most = u64::from(contexts - 1).min(places - places / 4) as u32;
+    let room = (places - places / 8).saturating_sub(1).max(1);
+    let most = u64::from(contexts - 1).min(room) as u32;
     if below(generator, 5) < 2 {
         return below(generator, most.min(FEW)) + 1;
     }
     most - below(generator, most - most / 2)
 }
 
-/// One of these lengths, or a power of two where there is none.
-fn draw_length(generator: &mut Lcg64Xsh32, lengths: &[u64]) -> u64 {
+/// How many places there are: from half of one of these lengths to all of it. A run has fewer
+/// places than visible steps. Where there is no length it is a power of two.
+fn draw_places(generator: &mut Lcg64Xsh32, lengths: &[u64]) -> u64 {
     let count = lengths.len().min(MAX_LENGTHS) as u32;
     let n = below(generator, count);
-    match lengths.get(n as usize) {
-        Some(length) => *length,
-        None => 8 << below(generator, POWERS),
-    }
+    let Some(length) = lengths.get(n as usize) else {
+        return 8 << below(generator, POWERS);
+    };
+    let length = (*length).min(LONGEST);
+    let half = length / 2;
+    length - half + u64::from(below(generator, half as u32 + 1))
 }
 
-/// How many threads other than this one may step.
-fn count_others(session: &Session, current: u32) -> u32 {
-    let mut count = 0;
+/// The threads other than this one that may step.
+fn others_of(session: &Session, current: u32) -> Others {
+    let mut others = Others { all: 0, unmoved: 0 };
     for thread in 0..session.setup().threads() {
         if thread != current && may_step(session, thread) {
-            count += 1;
+            others.all |= bit(thread as usize);
+            if session.calls_of(thread) == 0 {
+                others.unmoved |= bit(thread as usize);
+            }
         }
     }
-    count
+    others
 }
 
-/// The `n`-th thread, from 0, other than this one that may step.
-fn other(session: &Session, current: u32, n: u32) -> Option<u32>
-    ensures { IfSome result (λ i. i < threads session.now.setup) }
-{
-    let mut left = n;
-    for thread in 0..session.setup().threads() {
-        if thread != current && may_step(session, thread) {
-            if left == 0 {
+impl Others {
+    /// How likely a switch goes to a thread.
+    fn weight(&self, thread: u32) -> u32 {
+        let bit = bit(thread as usize);
+        if self.all & bit == 0 {
+            0
+        } else if self.unmoved & bit == 0 {
+            1
+        } else {
+            UNMOVED
+        }
+    }
+
+    /// The sum of the weights of this many threads.
+    fn sum(&self, threads: u32) -> u32 {
+        let mut sum: u32 = 0;
+        for thread in 0..threads {
+            sum = sum.saturating_add(self.weight(thread));
+        }
+        sum
+    }
+
+    /// The one of this many threads at a place, from 0: each has as many places as its weight.
+    fn thread_at(&self, threads: u32, place: u32) -> Option<u32>
+        ensures { IfSome result (λ i. i < threads) }
+    {
+        let mut left = place;
+        for thread in 0..threads {
+            let weight = self.weight(thread);
+            if left < weight {
                 return Some(thread);
             }
-            left -= 1;
+            left -= weight;
         }
+        None
     }
-    None
 }
 
 /// The first thread that may step.
@@ -108,25 +161,47 @@ fn first(session: &Session) -> Option<u32>
     None
 }
 
-impl Scheduler {
-    /// The schedule of a seed for a setup. Its switches are spread over one of these lengths.
-    pub(crate) fn new(seed: u64, setup: &Setup, lengths: &[u64]) -> Scheduler {
+impl<'a> Scheduler<'a> {
+    /// The schedule of a seed for a session before any call. It switches before visible steps. How
+    /// many of them runs make is known from pilots, by these lengths.
+    pub(crate) fn new(
+        seed: u64,
+        session: &Session,
+        visible: &'a VisibleSteps,
+        lengths: &[u64],
+    ) -> Scheduler<'a> {
+        let setup = session.setup();
         let mut generator = Lcg64Xsh32::new(seed, STREAM);
         let current = below(&mut generator, setup.threads());
-        let places = draw_length(&mut generator, lengths);
+        let places = draw_places(&mut generator, lengths);
         let switches = draw_switches(&mut generator, setup.contexts(), places);
         Scheduler {
             generator,
+            visible,
             current,
+            number: next_number(session, current),
+            has_stepped: false,
             switches,
             places,
         }
     }
 
-    /// Whether the schedule switches before the next call. Each choice of the places that are left
-    /// is as likely.
+    /// Notes which instruction is next for the current thread after its call.
+    pub(crate) fn note_next(&mut self, number: Option<u32>) {
+        self.number = number;
+    }
+
+    /// Whether the schedule switches before the next call, which the current thread may make. Each
+    /// choice of the places that are left is as likely.
     fn switches_now(&mut self) -> bool {
         if self.switches == 0 || self.places == 0 {
+            return false;
+        }
+        if !self.visible.is_visible(self.current, self.number) {
+            return false;
+        }
+        if !self.has_stepped {
+            self.has_stepped = true;
             return false;
         }
         let place = u64::from(self.generator.next_word()) % self.places;
@@ -138,16 +213,18 @@ impl Scheduler {
         true
     }
 
-    /// A thread that may step, other than the current one.
+    /// A thread that may step, other than the current one. One that has not made a call is three
+    /// times as likely as another.
     fn drawn(&mut self, session: &Session) -> Option<u32>
         ensures { IfSome result (λ i. i < threads session.now.setup) }
     {
-        let count = count_others(session, self.current);
-        if count == 0 {
+        let threads = session.setup().threads();
+        let others = others_of(session, self.current);
+        if others.all == 0 {
             return None;
         }
-        let n = below(&mut self.generator, count);
-        other(session, self.current, n)
+        let place = below(&mut self.generator, others.sum(threads));
+        others.thread_at(threads, place)
     }
 
     /// The thread that makes the next call: one that may step, where there is one.
@@ -157,8 +234,9 @@ impl Scheduler {
             ((i : ℕ) → i < count → RestsIn session.now i)
             (λ i. i < count) }
     {
-        if !self.switches_now() && may_step(session, self.current) {
-            return Some(self.current);
+        let current = self.current;
+        if may_step_at(session, current, self.number) && !self.switches_now() {
+            return Some(current);
         }
         let next = match self.drawn(session) {
             Some(thread) => Some(thread),
@@ -166,6 +244,8 @@ impl Scheduler {
         };
         if let Some(thread) = next {
             self.current = thread;
+            self.number = next_number(session, thread);
+            self.has_stepped = self.visible.is_visible(thread, self.number);
         }
         next
     }

@@ -75,7 +75,7 @@ fn budgeted(alloc: Global, code: &Code, setup: &Setup, contexts: u32) -> Result<
     let init = init_of(alloc, setup)?;
     let (contexts, calls) = (u64::from(contexts), u64::from(setup.calls()));
     // The setup of a session has no fault, and uses no fewer contexts.
-    match Setup::from_words(
+    match Setup::from_names(
         alloc,
         code,
         entries.as_slice(),

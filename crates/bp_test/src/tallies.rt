@@ -45,8 +45,8 @@ pub struct Tally {
     pub ends: Ends,
     /// For each number of contexts, how many runs used that many.
     pub contexts: Vec<u64>,
-    /// For each instruction of the code, whether a thread tried its step, or waited at it when a
-    /// run ended.
+    /// For each instruction of the code, whether a thread tried its step, or had to wait at it:
+    /// when it came there, or when a run ended.
     pub reached: Vec<bool>,
     /// For each thread, whether it ever made a step.
     pub stepped: Vec<bool>,
@@ -65,7 +65,7 @@ pub struct ContextsUsed {
 }
 
 /// This many times false.
-fn none_of(alloc: Global, count: usize) -> Result<Vec<bool>, AllocError>
+pub(crate) fn none_of(alloc: Global, count: usize) -> Result<Vec<bool>, AllocError>
     ensures size { IfOk result (λ v. length v.items ≡ count) }
     ensures none { IfOk result (λ v. (n : ℕ) → is_marked v.items n ≡ false) }
 {
@@ -129,7 +129,7 @@ fn count_ended(history: &[Call]) -> usize
 }
 
 /// Whether the call made a step.
-fn is_step(call: &Call) -> bool
+pub(crate) fn is_step(call: &Call) -> bool
     ensures { result ≡ is_granted call.now.reply }
 {
     matches!(call.reply, Reply::Stepped | Reply::Failed)

@@ -23,20 +23,22 @@ pub struct Waiting {
     pub number: u32,
 }
 
-/// Whether the next statement of a thread is an assumption. A thread at another one does not wait,
+/// Whether the instruction of this number is an assumption. A thread at another one does not wait,
 /// and this is quicker to tell.
-fn is_at_assumption(session: &Session, thread: u32) -> bool {
-    let Some(top) = session.top(thread) else {
+fn is_assumption(session: &Session, number: Option<u32>) -> bool {
+    let Some(number) = number else {
         return false;
     };
-    match session.code().get(top.number) {
+    match session.code().get(number) {
         Some(instr) => instr.kind() == Kind::Assume,
         None => false,
     }
 }
 
-/// Whether a thread may step: its line is open, and it does not wait.
-pub(crate) fn may_step(session: &Session, thread: u32) -> bool
+/// Whether a thread, which stands at the instruction of this number, may step: its line is open,
+/// and it does not wait.
+#[inline(always)]
+pub(crate) fn may_step_at(session: &Session, thread: u32, number: Option<u32>) -> bool
     ensures there { result ≡ true → thread < threads session.now.setup }
     ensures rests { result ≡ false
         → thread < threads session.now.setup
@@ -48,7 +50,17 @@ pub(crate) fn may_step(session: &Session, thread: u32) -> bool
     if session.is_finished(thread) {
         return false;
     }
-    !(is_at_assumption(session, thread) && session.waits(thread))
+    !(is_assumption(session, number) && session.waits(thread))
+}
+
+/// Whether a thread may step.
+pub(crate) fn may_step(session: &Session, thread: u32) -> bool
+    ensures there { result ≡ true → thread < threads session.now.setup }
+    ensures rests { result ≡ false
+        → thread < threads session.now.setup
+        → RestsIn session.now thread }
+{
+    may_step_at(session, thread, next_number(session, thread))
 }
 
 /// Where a thread waits, if it does.

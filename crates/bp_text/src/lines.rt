@@ -8,7 +8,7 @@ use crate::parts::{first_line, part_from};
 /// A line, without its line feed.
 #[derive(Clone, Copy, Debug)]
 pub struct Line<'a> {
-    pub words: &'a [u8],
+    pub text: &'a [u8],
     /// Whether a line feed follows it. Only the last line of a text may have none.
     pub is_ended: bool,
 }
@@ -18,7 +18,7 @@ pub fn take_line<'a>(text: &mut &'a [u8]) -> Option<Line<'a>>
     ensures size { MatchOption result
         (length text.old.now ≡ 0)
         (λ _. length text.new.now < length text.old.now) }
-    ensures line { IfSome result (λ line. line.words.now ≡ first_line text.old.now) }
+    ensures line { IfSome result (λ line. line.text.now ≡ first_line text.old.now) }
     ensures ended { IfSome result (λ line.
         IsTrue line.is_ended ↔ (length (first_line text.old.now) < length text.old.now)) }
     ensures rest { text.new.now ≡ after_first (λ b. b == 10) text.old.now }
@@ -27,10 +27,13 @@ pub fn take_line<'a>(text: &mut &'a [u8]) -> Option<Line<'a>>
     if whole.is_empty() {
         return None;
     }
-    let words = first_line(whole);
-    let is_ended = words.len() < whole.len();
-    *text = part_from(whole, words.len().saturating_add(1));
-    Some(Line { words, is_ended })
+    let line = first_line(whole);
+    let is_ended = line.len() < whole.len();
+    *text = part_from(whole, line.len().saturating_add(1));
+    Some(Line {
+        text: line,
+        is_ended,
+    })
 }
 
 /// The text from the line of this number on. It is empty where there is no such line.
@@ -48,7 +51,7 @@ pub fn text_from_line(text: &[u8], number: usize) -> &[u8]
 
 /// The line of this number.
 pub fn line_of(text: &[u8], number: usize) -> Option<Line<'_>>
-    ensures { IfSome result (λ line. line.words.now ≡ line_at text.now number) }
+    ensures { IfSome result (λ line. line.text.now ≡ line_at text.now number) }
 {
     let mut rest = text_from_line(text, number);
     take_line(&mut rest)

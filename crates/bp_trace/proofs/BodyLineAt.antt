@@ -1,9 +1,10 @@
 -- The line of calls that begins a text.
-use Rattle.std.proofs.Common.{◌≡◌, ◌≢◌, ℕ, ◌+◌, ◌<◌, ◌≤◌, Bool, List, [], ◌∷◌, ◌++◌, length, drop, map, flat_map, Option, Some, refl, ap, sym, ◌∙◌, arith, append_assoc, length-append, codes, decimal}
+use Rattle.std.proofs.Common.{◌≡◌, ◌≢◌, ℕ, ◌+◌, ◌<◌, ◌≤◌, Bool, List, [], ◌∷◌, ◌++◌, length, drop, map, flat_map, Option, Some, refl, ap, sym, ◌∙◌, arith, length-append, codes, decimal}
 use Rattle.std.specs.Prelude.{slice_get}
 use Rattle.std.proofs.lemmas.List.Concat.{flat_map-append}
 use Rattle.std.proofs.lemmas.Option.{same_Some}
 use Rattle.std.proofs.lemmas.List.{drop_at, map-append}
+use Rattle.bp_text.proofs.GrownLists.{both_added, regrouped}
 use Rattle.bp_machine.specs.declared.limits.TheConstants.{MAX_THREADS}
 use Rattle.bp_machine.specs.declared.calls.Call.{Call}
 use Rattle.bp_machine.specs.declared.calls.Reply.{Reply}
@@ -35,15 +36,12 @@ module _ (i : ℕ) (text : List ℕ) (old : List Call) where
         let now = before ++ symbol_text symbol in
         let texts : flat_map symbol_text (read.symbols ++ symbol ∷ []) ≡ now = flat_map-append symbol_text read.symbols (symbol ∷ []) in
         let long : length now ≡ size + 2 = omega (arith, read.size_is, length-append before (symbol_text symbol)) in
-        let whole : text ≡ now ++ pair.0 = read.begins ∙ ap (λ t. before ++ t) pair.1 ∙ sym (append_assoc before (symbol_text symbol) pair.0) in
+        let whole : text ≡ now ++ pair.0 = read.begins ∙ ap (λ t. before ++ t) pair.1 ∙ simp regrouped in
         let rest : drop (size + 2) text ≡ pair.0 = ap (drop (size + 2)) whole ∙ drop_at now pair.0 (size + 2) long in
         record {
           symbols = read.symbols ++ symbol ∷ [];
           within = omega (arith, long, ap length whole, length-append now pair.0);
-          added =
-              added ∙ ap (λ cs. cs ++ call_of i symbol ∷ []) read.added
-              ∙ append_assoc old (map (call_of i) read.symbols) (call_of i symbol ∷ [])
-              ∙ ap (λ cs. old ++ cs) (sym (map-append (call_of i) read.symbols (symbol ∷ [])));
+          added = both_added old new newer _ _ _ added read.added (sym (map-append (call_of i) read.symbols (symbol ∷ [])));
           begins = whole ∙ ap (λ t. t ++ pair.0) (sym texts) ∙ ap (λ t. flat_map symbol_text (read.symbols ++ symbol ∷ []) ++ t) (sym rest);
           size_is = sym long ∙ ap length (sym texts);
         }

@@ -1,11 +1,12 @@
 -- The decimals of any length, and the end line, that begin a text.
-use Rattle.std.proofs.Common.{◌≡◌, ℕ, suc, ◌+◌, ◌<◌, ◌≤◌, List, ◌∷◌, ◌++◌, length, take, drop, get_or, Some, refl, ap, sym, ◌∙◌, subst, arith, append_assoc, length-append, codes, inl, inr, add-one, drop-cons, take-append-drop}
+use Rattle.std.proofs.Common.{◌≡◌, ℕ, suc, ◌+◌, ◌<◌, ◌≤◌, List, ◌∷◌, ◌++◌, length, take, drop, get_or, Some, refl, ap, sym, ◌∙◌, subst, arith, length-append, codes, inl, inr, add-one, drop-cons, take-append-drop}
 use Rattle.std.specs.Prelude.{slice_get}
 use Rattle.std.specs.Str.Parse.{AllDigits}
 use Rattle.std.proofs.lemmas.Bool.{cases_lt}
 use Rattle.std.proofs.lemmas.List.{get_or-take, get_or_at, get_or_append_left, length-take-le, drop_at}
 use Rattle.std.proofs.lemmas.Option.{slice_get-get_or, slice_get_within, get_or_from_slice_get}
 use Rattle.std.proofs.lemmas.Str.Parse.{digit_at}
+use Rattle.bp_text.proofs.GrownLists.{regrouped}
 use Rattle.bp_trace.specs.Replays.{IsDecimal, IsEndLine}
 use Rattle.bp_trace.specs.EndReading.{IsNoDigit, IsDecimalAt, HasNoDecimal, IsEndAt, HasNoEnd}
 use Rattle.bp_trace.proofs.Cuts.{one_cut, digits_without}
@@ -90,8 +91,7 @@ module _ (byte : ℕ) (low : byte < 48) (text : List ℕ) (count : ℕ) (within 
 pub end_then : (line more : List ℕ) (e : IsEndLine line) → line ++ more ≡ codes "end " ++ (e.calls ++ 32 ∷ (e.left_open ++ 10 ∷ more))
 end_then line more e =
     ap (λ l. l ++ more) e.is
-    ∙ ap (λ t. codes "end " ++ t) (append_assoc e.calls (codes " " ++ (e.left_open ++ codes "\n")) more
-    ∙ ap (λ t. e.calls ++ 32 ∷ t) (append_assoc e.left_open (codes "\n") more))
+    ∙ simp regrouped
 
 module _ (text : List ℕ) where
   -- after the word
@@ -104,7 +104,7 @@ module _ (text : List ℕ) where
       second_is =
           let long : length (codes "end " ++ (first.digits ++ codes " ")) ≡ 4 + calls = omega (arith, first.size_is, length-append first.digits (codes " ")) in
           let whole : text ≡ (codes "end " ++ (first.digits ++ codes " ")) ++ first.more =
-          word ∙ ap (λ t. codes "end " ++ t) (first.begins ∙ sym (append_assoc first.digits (codes " ") first.more)) in
+          word ∙ ap (λ t. codes "end " ++ t) first.begins ∙ simp regrouped in
           ap (drop (4 + calls)) whole ∙ drop_at (codes "end " ++ (first.digits ++ codes " ")) first.more (4 + calls) long
 
       pub no_second : HasNoDecimal 10 (drop (4 + calls) text) → HasNoEnd text

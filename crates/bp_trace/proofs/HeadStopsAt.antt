@@ -1,8 +1,8 @@
 -- Where a head stops: at the line that is due.
-use Rattle.std.proofs.Common.{◌≡◌, ◌≢◌, ◌⊎◌, inl, inr, ℕ, ◌+◌, ◌<◌, ◌^◌, Bool, List, [], ◌∷◌, ◌++◌, length, map, None, refl, sym, ap, ◌∙◌, arith, append_assoc, codes, decimal}
+use Rattle.std.proofs.Common.{◌≡◌, ◌≢◌, ◌⊎◌, inl, inr, ℕ, ◌+◌, ◌<◌, ◌^◌, Bool, List, [], ◌∷◌, ◌++◌, length, map, None, refl, sym, ap, ◌∙◌, arith, codes, decimal}
 use Rattle.std.specs.List.{AllByRecursion, concat}
-use Rattle.std.proofs.lemmas.List.{append-nil, length-append, length-map}
-use Rattle.std.proofs.lemmas.List.Folds.{concat-append}
+use Rattle.std.proofs.lemmas.List.{length-append, length-map}
+use Rattle.bp_text.proofs.GrownLists.{regrouped}
 use Rattle.bp_machine.specs.Setups.{SetupOf, setup_of}
 use Rattle.bp_trace.specs.declared.versions.Version.{Version}
 use Rattle.bp_trace.specs.declared.versions.Version.TheVariants.{One}
@@ -28,9 +28,7 @@ pub record AreLinesAt (text : List ℕ) (v : Version) (es ss : List (List ℕ)) 
 
 pub lines_join : (v : Version) (es ss : List (List ℕ)) (rest : List ℕ)
     → concat (lines_of v es ss) ++ rest ≡ version_line v ++ (concat (map entry_line es) ++ (concat ss ++ rest))
-lines_join v es ss rest =
-    append_assoc (version_line v) (concat (map entry_line es ++ ss)) rest
-    ∙ ap (λ t. version_line v ++ t) (ap (λ t. t ++ rest) (concat-append (map entry_line es) ss) ∙ append_assoc (concat (map entry_line es)) (concat ss) rest)
+lines_join v es ss rest = simp regrouped
 
 pub at_settings : (text first rest : List ℕ) (v : Version) (es : List (List ℕ)) → text ≡ version_line v ++ first
     → AreEntriesAt first es rest → AreLinesAt text v es [] rest
@@ -38,21 +36,13 @@ at_settings text first rest v es e p = record { names = p.names_are; parts = e �
 
 pub one_more : (text : List ℕ) (v : Version) (es ss : List (List ℕ)) (line rest more : List ℕ)
     → AreLinesAt text v es ss rest → rest ≡ line ++ more → AreLinesAt text v es (ss ++ line ∷ []) more
-one_more text v es ss line rest more p e =
-    let last = concat-append ss (line ∷ []) ∙ ap (λ t. concat ss ++ t) (append-nil line) in
-    let both = ap (λ t. concat ss ++ t) e ∙ sym (append_assoc (concat ss) line more) ∙ ap (λ t. t ++ more) (sym last) in
-    record { names = p.names; parts = p.parts ∙ ap (λ t. version_line v ++ (concat (map entry_line es) ++ t)) both }
+one_more text v es ss line rest more p e = record { names = p.names; parts = p.parts ∙ rw e (simp regrouped) }
 
 -- ---- which lines may follow
 
-lines_then : (v : Version) (es ss : List (List ℕ)) (line : List ℕ) (more : List (List ℕ))
-    → (lines_of v es ss ++ line ∷ []) ++ more ≡ lines_of v es (ss ++ line ∷ more)
-lines_then v es ss line more =
-    append_assoc (lines_of v es ss) (line ∷ []) more ∙ ap (λ ls. version_line v ∷ ls) (append_assoc (map entry_line es) ss (line ∷ more))
-
 behind_version : (v : Version) (es ss : List (List ℕ)) (line : List ℕ) (b : BeginsHead (lines_of v es ss ++ line ∷ []))
     → map entry_line (b.setup).entries ++ setting_lines b.setup ≡ map entry_line es ++ (ss ++ line ∷ b.more)
-behind_version v es ss line b = (same_head _ _ _ _ (b.is ∙ lines_then v es ss line b.more)).1
+behind_version v es ss line b = (same_head _ _ _ _ (simp regrouped at b.is)).1
 
 init_no_entry : (bits : List Bool) (name : List ℕ) → init_line bits ≢ entry_line name
 init_no_entry bits name e = absurd (omega (arith, (same_head 105 101 _ _ e).0))
@@ -111,7 +101,7 @@ module _ (text : List ℕ) (v : Version) (s : SetupOf) (has : HasHead s) (ss ds 
     setup = s;
     has = has;
     more = ds;
-    is = ap (λ ls. version_line v ∷ (map entry_line s.entries ++ ls)) settings ∙ sym (lines_then v s.entries ss due ds);
+    is = ap (λ ls. version_line v ∷ (map entry_line s.entries ++ ls)) settings ∙ simp regrouped;
   }
 
   stops_at : (rest : List ℕ) (k : ℕ) → AreLinesAt text v s.entries ss rest → k ≡ length s.entries + length ss + 2

@@ -1,10 +1,10 @@
 -- The text of a head: its entries, its initial bits and its limits, one after the other.
-use Rattle.std.proofs.Common.{◌≡◌, ℕ, List, [], ◌∷◌, ◌++◌, map, flat_map, refl, ap, ◌∙◌, append_assoc, codes, decimal}
+use Rattle.std.proofs.Common.{◌≡◌, ℕ, List, [], ◌∷◌, ◌++◌, map, flat_map, refl, ap, codes, decimal}
 use Rattle.std.specs.List.{concat}
-use Rattle.std.proofs.lemmas.List.Folds.{concat-append}
+use Rattle.bp_text.proofs.GrownLists.{regrouped}
 use Rattle.bp_machine.specs.Setups.{SetupOf}
 use Rattle.bp_trace.specs.declared.versions.Version.{Version}
-use Rattle.bp_trace.specs.TraceText.{version_line, entry_line, init_line, seed_word, limit_lines, setting_lines, head_text}
+use Rattle.bp_trace.specs.TraceText.{version_line, entry_line, init_line, seed_word, limit_lines, head_text}
 
 abbrev pub limits_text : SetupOf → List ℕ
 limits_text s = concat (
@@ -20,13 +20,8 @@ entries_joined : (es : List (List ℕ)) → concat (map entry_line es) ≡ flat_
 entries_joined [] = refl
 entries_joined (n ∷ es) = ap (λ t. entry_line n ++ t) (entries_joined es)
 
-pub limits_joined : (s : SetupOf) → concat (limit_lines s) ≡ limits_text s
-limits_joined s = simp append_assoc
-
 pub head_parts : (v : Version) (s : SetupOf) → head_text v s ≡ version_line v ++ (flat_map entry_line s.entries ++ (init_line s.init ++ concat (limit_lines s)))
-head_parts v s =
-    ap (λ t. version_line v ++ t)
-    (concat-append (map entry_line s.entries) (setting_lines s) ∙ ap (λ t. t ++ concat (setting_lines s)) (entries_joined s.entries))
+head_parts v s = simp (regrouped, entries_joined)
 
 pub head_joined : (v : Version) (s : SetupOf) → head_text v s ≡ version_line v ++ setup_text s
-head_joined v s = head_parts v s ∙ ap (λ t. version_line v ++ (flat_map entry_line s.entries ++ (init_line s.init ++ t))) (limits_joined s)
+head_joined v s = simp (regrouped, entries_joined)

@@ -1,7 +1,8 @@
 -- A text that is the texts of a list's elements, read one after the other.
-use Rattle.std.proofs.Common.{◌≡◌, ◌≢◌, ℕ, ◌+◌, ◌<◌, List, [], ◌∷◌, ◌++◌, length, take, drop, flat_map, get_or, ap, sym, ◌∙◌, append_assoc}
-use Rattle.std.proofs.lemmas.List.{append-nil, take_more}
+use Rattle.std.proofs.Common.{◌≡◌, ◌≢◌, ℕ, ◌+◌, ◌<◌, List, ◌++◌, length, take, drop, flat_map, get_or, sym, ◌∙◌}
+use Rattle.std.proofs.lemmas.List.{take_more}
 use Rattle.std.proofs.lemmas.List.Concat.{flat_map-append}
+use Rattle.bp_text.proofs.GrownLists.{regrouped}
 use Rattle.bp_text.proofs.AppendsPieces.{flat_map_at}
 use Rattle.bp_trace.proofs.OneText.{front_cut}
 
@@ -10,11 +11,7 @@ module _ {X : Type 0} (f : X → List ℕ) (xs : List X) (i : ℕ) (x : X) (with
   -- the i-th begins the rest
   pub one_more : (after : List ℕ) → rest ≡ f (get_or xs i x) ++ after → text ≡ flat_map f (take (i + 1) xs) ++ after
   one_more after e =
-      let next : flat_map f (take (i + 1) xs) ≡ flat_map f (take i xs) ++ f (get_or xs i x) =
-      ap (flat_map f) (take_more xs i x within) ∙ flat_map-append f (take i xs) (get_or xs i x ∷ [])
-      ∙ ap (λ t. flat_map f (take i xs) ++ t) (append-nil (f (get_or xs i x))) in
-      before ∙ ap (λ t. flat_map f (take i xs) ++ t) e
-      ∙ sym (append_assoc (flat_map f (take i xs)) (f (get_or xs i x)) after) ∙ ap (λ t. t ++ after) (sym next)
+      before ∙ rw (e, take_more xs i x within) (simp (regrouped, flat_map-append))
 
   -- it does not
   pub one_missing : ((after : List ℕ) → rest ≢ f (get_or xs i x) ++ after) → text ≢ flat_map f xs

@@ -1,9 +1,10 @@
 -- The lines of a legal history drive its program to it.
-use Rattle.std.proofs.Common.{◌≡◌, ◌≢◌, ◌↔◌, IsTrue, ℕ, ◌<◌, ◌≤◌, Bool, true, false, List, [], ◌∷◌, ◌++◌, length, drop, Some, refl, ap, sym, ◌∙◌, subst, arith, append_assoc, length-append}
+use Rattle.std.proofs.Common.{◌≡◌, ◌≢◌, ◌↔◌, IsTrue, ℕ, ◌<◌, ◌≤◌, Bool, true, false, List, [], ◌∷◌, ◌++◌, length, drop, Some, refl, ap, sym, ◌∙◌, subst, arith, length-append}
 use Rattle.std.specs.Prelude.{decimal}
 use Rattle.std.proofs.lemmas.Bool.{false≢true}
 use Rattle.std.proofs.lemmas.List.{append-nil}
 use Rattle.std.proofs.Math.Seq.{drop-append_seam}
+use Rattle.bp_text.proofs.GrownLists.{others_after, regrouped, rest_left}
 use Rattle.bp_tree.specs.Ast.{Program}
 use Rattle.bp_code.specs.Configurations.{Configuration}
 use Rattle.bp_machine.specs.declared.calls.Reply.{Reply}
@@ -93,13 +94,13 @@ module _ (t : Program) (s : SetupOf) where
       record { left = h; whole = refl; lines = sym e; legal = subst (λ q. IsLegalAfter t s q h) (sym (append-nil p)) lh }
   goes_on few p (y ∷ ys) [] rest lg lh e =
       absurd (not_empty (line_of_call y) (schedule_text (lines_of_history ys) ++ rest)
-      (e ∙ append_assoc (line_text (line_of_call y)) (schedule_text (lines_of_history ys)) rest))
+      (simp regrouped (simp regrouped at e)))
   goes_on few p (y ∷ ys) (x ∷ xs) rest (allowed_y, ly) (allowed_x, lx) e =
       let below_x = allowed_x.thread in
       let below_y = allowed_y.thread in
       let small_x : x.thread < 100 = omega arith in
       let small_y : y.thread < 100 = omega arith in
-      let joined = e ∙ append_assoc (line_text (line_of_call y)) (schedule_text (lines_of_history ys)) rest in
+      let joined = others_after _ (line_text (line_of_call y)) (schedule_text (lines_of_history ys)) rest e in
       let line = same_line (line_of_call x) (line_of_call y) (schedule_text (lines_of_history xs))
       (schedule_text (lines_of_history ys) ++ rest) small_x small_y joined in
       let rests = same_rest (line_of_call x) (line_of_call y) (schedule_text (lines_of_history xs))
@@ -110,7 +111,7 @@ module _ (t : Program) (s : SetupOf) where
         left = more.left;
         whole = ap (λ z. z ∷ xs) same ∙ ap (λ zs. y ∷ zs) more.whole;
         lines = more.lines;
-        legal = subst (λ q. IsLegalAfter t s q more.left) (append_assoc p (y ∷ []) ys) more.legal;
+        legal = subst (λ q. IsLegalAfter t s q more.left) (rest_left p _ (y ∷ []) ys _ refl refl) more.legal;
       }
 
 module _ (t : Program) (s : SetupOf) (h : List Call) (few : threads s ≤ MAX_THREADS) (legal : IsLegal t s h) where

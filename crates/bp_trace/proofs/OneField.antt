@@ -1,6 +1,7 @@
 -- A line of a word has one value.
-use Rattle.std.proofs.Common.{◌≡◌, ◌≢◌, ℕ, List, [], ◌∷◌, ◌++◌, Option, None, Some, refl, sym, ap, ◌∙◌, arith, append_assoc, codes, decimal}
+use Rattle.std.proofs.Common.{◌≡◌, ◌≢◌, ℕ, List, [], ◌∷◌, ◌++◌, Option, None, Some, refl, sym, ap, ◌∙◌, arith, codes, decimal}
 use Rattle.std.proofs.lemmas.List.{append_cancel_left}
+use Rattle.bp_text.proofs.GrownLists.{regrouped}
 use Rattle.bp_trace.specs.HeadReading.{BeginsWithLine, IsFieldAt, HasNoField, HasNoEntry, IsNoInit, HasNoInit, HasNoNumber, IsSeed, HasNoSeed}
 use Rattle.bp_text.specs.Decimals.{IsNoNumber}
 use Rattle.bp_trace.specs.TraceText.{init_digits, field_line, seed_word}
@@ -16,7 +17,7 @@ no_cut (c ∷ line) (b ∷ a) rest p e = no_cut line a rest p.1 (cc)
 
 module _ (word text : List ℕ) where
   field_then : (value rest : List ℕ) → field_line word value ++ rest ≡ word ++ (value ++ 10 ∷ rest)
-  field_then value rest = append_assoc word (value ++ codes "\n") rest ∙ ap (λ t. word ++ t) (append_assoc value (codes "\n") rest)
+  field_then value rest = simp regrouped
 
   pub no_word : ((rest : List ℕ) → text ≢ word ++ rest) → HasNoField word text
   no_word none = λ value rest p e. none (value ++ 10 ∷ rest) (e ∙ field_then value rest)

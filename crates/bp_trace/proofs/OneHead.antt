@@ -1,13 +1,14 @@
 -- A text has one head, or stops being one at one line.
-use Rattle.std.proofs.Common.{rules, ◌≡◌, ◌≢◌, ℕ, ◌+◌, ◌<◌, List, [], ◌∷◌, ◌++◌, length, map, flat_map, refl, sym, ap, subst, ◌∙◌, arith, append_assoc, codes, decimal}
+use Rattle.std.proofs.Common.{rules, ◌≡◌, ◌≢◌, ℕ, ◌+◌, ◌<◌, List, [], ◌∷◌, ◌++◌, length, map, refl, sym, ap, subst, ◌∙◌, arith, codes, decimal}
 use Rattle.std.specs.List.{AllByRecursion, concat}
 use Rattle.std.proofs.lemmas.List.{append-nil, length-append}
 use Rattle.std.proofs.lemmas.List.Folds.{concat-append}
+use Rattle.bp_text.proofs.GrownLists.{regrouped}
 use Rattle.bp_machine.specs.Setups.{SetupOf}
 use Rattle.bp_trace.specs.declared.versions.Version.{Version}
 use Rattle.bp_trace.specs.declared.versions.Version.TheVariants.{One, Two}
 use Rattle.bp_trace.specs.Heads.{IsEntryName, HasHead, BeginsHead, HeadStops}
-use Rattle.bp_trace.specs.TraceText.{version_line, entry_line, field_line, init_digits, init_line, seed_word, setting_lines, head_lines, head_text}
+use Rattle.bp_trace.specs.TraceText.{version_line, entry_line, field_line, init_digits, seed_word, setting_lines, head_lines, head_text}
 use Rattle.bp_trace.specs.Writable.{Without}
 use Rattle.bp_trace.proofs.AllOfBoth.{all_of_both, all_of_first, one_between}
 use Rattle.bp_trace.proofs.Cuts.{one_cut, decimal_without}
@@ -38,7 +39,7 @@ value_is_line : (word value : List ℕ) → Without 10 word → Without 10 value
 value_is_line word value p q = record {
   body = word ++ value;
   without = all_of_both (λ b. b ≢ 10) word value p q;
-  is = sym (append_assoc word value (codes "\n"));
+  is = simp regrouped;
 }
 
 -- no byte of the word is a line feed
@@ -79,9 +80,7 @@ begun_are_lines ls b = all_of_first IsLine ls b.more (subst AreLines b.is (head_
 
 one_line : (k l x y : List ℕ) → IsLine k → IsLine l → k ++ x ≡ l ++ y → (k ≡ l) × (x ≡ y)
 one_line k l x y p q e =
-    let left = ap (λ t. t ++ x) p.is ∙ append_assoc p.body (10 ∷ []) x in
-    let right = ap (λ t. t ++ y) q.is ∙ append_assoc q.body (10 ∷ []) y in
-    let cut = one_cut 10 p.body q.body x y p.without q.without (sym left ∙ e ∙ right) in
+    let cut = one_cut 10 p.body q.body x y p.without q.without (simp regrouped at (rw (p.is, q.is) at e)) in
     (p.is ∙ ap (λ t. t ++ 10 ∷ []) cut.0 ∙ sym q.is, cut.1)
 
 -- of two lists of lines that begin a text one begins the other
@@ -97,13 +96,13 @@ fork : (a b : List (List ℕ)) (x y : List ℕ) → AreLines a → AreLines b �
 fork [] b x y p q e = second b refl e
 fork (k ∷ a) [] x y p q e = first (k ∷ a) refl (sym e)
 fork (k ∷ a) (l ∷ b) x y p q e =
-    let same = one_line k l (concat a ++ x) (concat b ++ y) p.0 q.0 (sym (append_assoc k (concat a) x) ∙ e ∙ append_assoc l (concat b) y) in
+    let same = one_line k l (concat a ++ x) (concat b ++ y) p.0 q.0 (simp regrouped at e) in
     fork_after k l a b x y same.0 (fork a b x y p.1 q.1 same.1)
 
 -- ---- a head stops at one line
 
 fewer : (ls more : List (List ℕ)) → BeginsHead (ls ++ more) → BeginsHead ls
-fewer ls more b = record { version = b.version; setup = b.setup; has = b.has; more = more ++ b.more; is = b.is ∙ append_assoc ls more b.more }
+fewer ls more b = record { version = b.version; setup = b.setup; has = b.has; more = more ++ b.more; is = simp regrouped at b.is }
 
 front_lines : (text : List ℕ) (k : ℕ) (p : HeadStops text k) → AreLines p.front
 front_lines text k p = all_of_first IsLine p.front (p.due ∷ []) (begun_are_lines (p.front ++ p.due ∷ []) p.begins)
@@ -112,8 +111,7 @@ front_lines text k p = all_of_first IsLine p.front (p.due ∷ []) (begun_are_lin
 stays : (text : List ℕ) (k : ℕ) (p : HeadStops text k) (line : List ℕ) (more others : List (List ℕ)) (rest : List ℕ)
     → BeginsHead ((p.front ++ line ∷ more) ++ others) → p.rest ≢ concat (line ∷ more) ++ rest
 stays text k p line more others rest b e =
-    let whole = append_assoc p.front (line ∷ more) others ∙ sym (append_assoc p.front (line ∷ []) (more ++ others)) in
-    p.stops line (concat more ++ rest) (fewer (p.front ++ line ∷ []) (more ++ others) (subst BeginsHead whole b)) (e ∙ append_assoc line (concat more) rest)
+    p.stops line (concat more ++ rest) (fewer (p.front ++ line ∷ []) (more ++ others) (simp regrouped (simp regrouped at b))) (simp regrouped at e)
 
 none_more : (text : List ℕ) (j k : ℕ) (p : HeadStops text j) (q : HeadStops text k) (more : List (List ℕ))
     → q.front ≡ p.front ++ more → p.rest ≡ concat more ++ q.rest → j ≡ k
@@ -141,7 +139,7 @@ module _ (v : Version) (s : SetupOf) (has : HasHead s) where
       (concat_nil more nothing)
     where
       lines : head_lines b.version b.setup ≡ head_lines v s ++ (more ++ line ∷ b.more)
-      lines = b.is ∙ append_assoc (head_lines v s ++ more) (line ∷ []) b.more ∙ append_assoc (head_lines v s) more (line ∷ b.more)
+      lines = simp regrouped (simp regrouped at b.is)
 
       texts : head_text b.version b.setup ++ [] ≡ head_text v s ++ concat (more ++ line ∷ b.more)
       texts =

@@ -1,7 +1,8 @@
 -- Two histories that may be played, each with something after it that no line of calls goes on with, have two texts.
-use Rattle.std.proofs.Common.{◌≡◌, ◌≢◌, ℕ, ◌<◌, ◌≤◌, List, [], ◌∷◌, ◌++◌, map, refl, ap, sym, ◌∙◌, subst, append_assoc}
+use Rattle.std.proofs.Common.{◌≡◌, ◌≢◌, ℕ, ◌<◌, ◌≤◌, List, [], ◌∷◌, ◌++◌, map, refl, ap, sym, ◌∙◌, subst}
 use Rattle.std.specs.List.{AllByRecursion}
 use Rattle.std.proofs.lemmas.List.{append-nil}
+use Rattle.bp_text.proofs.GrownLists.{regrouped}
 use Rattle.bp_tree.specs.Ast.{Program}
 use Rattle.bp_machine.specs.declared.calls.Call.{Call}
 use Rattle.bp_machine.specs.declared.limits.TheConstants.{MAX_THREADS}
@@ -25,7 +26,7 @@ module _ (t : Program) (v : Version) (s : SetupOf) (few : threads s ≤ MAX_THRE
 
   same_calls : (p : List Call) (l k : Line) (ls : List Line) (x : List ℕ) → l.calls ≡ k.calls
       → Stops (p ++ (l.calls ++ calls_of_lines ls)) x → Stops ((p ++ k.calls) ++ calls_of_lines ls) x
-  same_calls p l k ls x e stops = subst (λ h. Stops h x) (ap (λ cs. p ++ (cs ++ calls_of_lines ls)) e ∙ sym (append_assoc p k.calls (calls_of_lines ls))) stops
+  same_calls p l k ls x e stops = subst (λ h. Stops h x) (rw e (simp regrouped)) stops
 
   -- two lists of lines, each with something after it that no line goes on, that have one text
   one_list : (p : List Call) (ls ks : List Line) (x y : List ℕ) → AreLines v (threads s) p ls → AreLines v (threads s) p ks
@@ -33,19 +34,18 @@ module _ (t : Program) (v : Version) (s : SetupOf) (few : threads s ≤ MAX_THRE
       → text_of_lines ls ++ x ≡ text_of_lines ks ++ y → (calls_of_lines ls ≡ calls_of_lines ks) × (x ≡ y)
   one_list p [] [] x y ll lk pl pk sx sy e = (refl, e)
   one_list p [] (k ∷ ks) x y ll lk pl pk sx sy e =
-      let playable = front t s (p ++ k.calls) (calls_of_lines ks) (subst (IsPlayable t s) (sym (append_assoc p k.calls (calls_of_lines ks))) pk) in
-      absurd (subst (λ h. Stops h x) (append-nil p) sx k.text k.calls (text_of_lines ks ++ y) lk.0 playable (e ∙ append_assoc k.text (text_of_lines ks) y))
+      let playable = front t s (p ++ k.calls) (calls_of_lines ks) (simp regrouped pk) in
+      absurd (subst (λ h. Stops h x) (append-nil p) sx k.text k.calls (text_of_lines ks ++ y) lk.0 playable (simp regrouped at e))
   one_list p (l ∷ ls) [] x y ll lk pl pk sx sy e =
-      let playable = front t s (p ++ l.calls) (calls_of_lines ls) (subst (IsPlayable t s) (sym (append_assoc p l.calls (calls_of_lines ls))) pl) in
-      absurd (subst (λ h. Stops h y) (append-nil p) sy l.text l.calls (text_of_lines ls ++ x) ll.0 playable (sym e ∙ append_assoc l.text (text_of_lines ls) x))
+      let playable = front t s (p ++ l.calls) (calls_of_lines ls) (simp regrouped pl) in
+      absurd (subst (λ h. Stops h y) (append-nil p) sy l.text l.calls (text_of_lines ls ++ x) ll.0 playable (simp regrouped at (sym e)))
   one_list p (l ∷ ls) (k ∷ ks) x y ll lk pl pk sx sy e =
-      let joined = sym (append_assoc l.text (text_of_lines ls) x) ∙ e ∙ append_assoc k.text (text_of_lines ks) y in
       let (line, calls, rest) = one_body_line (threads s) few (last_thread (map thread_of p)) v l.text k.text l.calls
-      k.calls (text_of_lines ls ++ x) (text_of_lines ks ++ y) ll.0 lk.0 joined in
+      k.calls (text_of_lines ls ++ x) (text_of_lines ks ++ y) ll.0 lk.0 (simp regrouped at e) in
       let own = subst (λ cs. AreLines v (threads s) (p ++ cs) ls) calls ll.1 in
-      let pown = subst (IsPlayable t s) (ap (λ cs. p ++ (cs ++ calls_of_lines ls)) calls ∙ sym (append_assoc p k.calls (calls_of_lines ls))) pl in
-      let pother = subst (IsPlayable t s) (sym (append_assoc p k.calls (calls_of_lines ks))) pk in
-      let (more, after) = one_list (p ++ k.calls) ls ks x y own lk.1 pown pother (same_calls p l k ls x calls sx) (same_calls p k k ks y refl sy) rest in
+      let pown : IsPlayable t s ((p ++ k.calls) ++ calls_of_lines ls) = simp regrouped (rw calls at pl) in
+      let (more, after) = one_list (p ++ k.calls) ls ks x y own lk.1 pown (simp regrouped pk)
+      (same_calls p l k ls x calls sx) (same_calls p k k ks y refl sy) rest in
       (ap (λ cs. cs ++ calls_of_lines ls) calls ∙ ap (λ cs. k.calls ++ cs) more, after)
 
   below : (p h : List Call) → IsLegalAfter t s p h → AllByRecursion (λ (x : Call). x.thread < threads s) h

@@ -1,10 +1,11 @@
 -- Of the calls of a line at most one is refused, and with one refusal.
-use Rattle.std.proofs.Common.{◌≡◌, ℕ, List, [], ◌∷◌, ◌++◌, refl, ap, sym, ◌∙◌, ◌⊎◌, inl, inr, subst, append_assoc}
+use Rattle.std.proofs.Common.{◌≡◌, ℕ, List, [], ◌∷◌, ◌++◌, refl, ap, sym, ◌∙◌, ◌⊎◌, inl, inr, subst}
+use Rattle.bp_text.proofs.GrownLists.{regrouped}
 use Rattle.bp_tree.specs.Ast.{Program}
 use Rattle.bp_machine.specs.declared.calls.Call.{Call}
 use Rattle.bp_machine.specs.Setups.{SetupOf}
 use Rattle.bp_trace.specs.declared.replay_faults.ReplayFault.{ReplayFault}
-use Rattle.bp_trace.specs.Replays.{IsPlayable, IsCallFault, IsRefusedAmong}
+use Rattle.bp_trace.specs.Replays.{IsCallFault, IsRefusedAmong}
 use Rattle.bp_trace.proofs.PlayableFronts.{not_refused, one_call_fault}
 
 -- of two places in a list one is before the other, or they are one
@@ -28,8 +29,7 @@ one_place (c ∷ a) (d ∷ b) after others x y e =
 module _ (t : Program) (s : SetupOf) (h : List Call) (n : ℕ) (calls : List Call) where
   not_before : (f g : ReplayFault) (p : IsRefusedAmong t s h n calls f) (q : IsRefusedAmong t s h n calls g) (k : List Call) → q.good ≡ p.good ++ p.call ∷ k → ⊥
   not_before f g p q k e =
-      let playable = subst (IsPlayable t s) (ap (λ z. h ++ z) e ∙ sym (append_assoc h p.good (p.call ∷ k))) q.playable in
-      not_refused t s (h ++ p.good) p.call k playable n f p.refused
+      not_refused t s (h ++ p.good) p.call k (simp regrouped (rw e at q.playable)) n f p.refused
 
   pub one_among : (f g : ReplayFault) → IsRefusedAmong t s h n calls f → IsRefusedAmong t s h n calls g → f ≡ g
   one_among f g p q = elim (one_place p.good q.good p.others q.others p.call q.call (sym p.parts ∙ q.parts)) [

@@ -1,6 +1,7 @@
 -- What is after the calls of a history is refused once, or is its end.
-use Rattle.std.proofs.Common.{◌≡◌, ℕ, ◌+◌, ◌≤◌, List, [], ◌∷◌, ◌++◌, length, map, ap, sym, ◌∙◌, ◌⊎◌, inl, inr, subst, append_assoc, length-append, arith}
+use Rattle.std.proofs.Common.{◌≡◌, ℕ, ◌+◌, ◌≤◌, List, [], ◌++◌, length, map, ap, sym, ◌∙◌, ◌⊎◌, inl, inr, subst, length-append, arith}
 use Rattle.std.proofs.lemmas.List.{append-nil}
+use Rattle.bp_text.proofs.GrownLists.{regrouped}
 use Rattle.bp_tree.specs.Ast.{Program}
 use Rattle.bp_machine.specs.declared.calls.Call.{Call}
 use Rattle.bp_machine.specs.declared.limits.TheConstants.{MAX_THREADS}
@@ -10,7 +11,7 @@ use Rattle.bp_machine.specs.Setups.{SetupOf, threads}
 use Rattle.bp_trace.specs.declared.versions.Version.{Version}
 use Rattle.bp_trace.specs.declared.replay_faults.ReplayFault.{ReplayFault}
 use Rattle.bp_trace.specs.declared.replay_faults.ReplayFault.TheVariants as fault
-use Rattle.bp_trace.specs.Replays.{counts_of, IsPlayable, IsBodyLine, IsEndLine, HasOtherEnd, HasMoreBehind, IsRefusedAmong, HasNoNextLine, HasRefusedCall, IsRestRefused}
+use Rattle.bp_trace.specs.Replays.{counts_of, IsBodyLine, IsEndLine, HasOtherEnd, HasMoreBehind, IsRefusedAmong, HasNoNextLine, HasRefusedCall, IsRestRefused}
 use Rattle.bp_trace.specs.TraceText.{end_line}
 use Rattle.bp_trace.proofs.GrowsByLine.{some_line}
 use Rattle.bp_trace.proofs.OneHistoryAfter.{Stops}
@@ -34,8 +35,8 @@ module _ (t : Program) (v : Version) (s : SetupOf) (few : threads s ≤ MAX_THRE
   call_stops f r line calls more next playable e =
       let (same, held, rest) = one_body_line (threads s) few (last_thread (map thread_of h)) v line r.line calls r.calls
       more r.more next r.is_line (sym e ∙ r.begins) in
-      let parts = ap (λ z. h ++ z) (held ∙ r.among.parts) ∙ sym (append_assoc h r.among.good (r.among.call ∷ r.among.others)) in
-      not_refused t s (h ++ r.among.good) r.among.call r.among.others (subst (IsPlayable t s) parts playable) n f r.among.refused
+      let parts = held ∙ r.among.parts in
+      not_refused t s (h ++ r.among.good) r.among.call r.among.others (simp regrouped (rw parts at playable)) n f r.among.refused
 
   -- why it is refused
   abbrev pub Refused : ReplayFault → Type 0

@@ -1,7 +1,8 @@
 -- A schedule has at most one refusal, and one that is refused drives its program to no history.
-use Rattle.std.proofs.Common.{◌≡◌, ◌≢◌, ℕ, ◌+◌, ◌<◌, ◌≤◌, List, [], ◌∷◌, ◌++◌, length, refl, ap, sym, ◌∙◌, subst, arith, append_assoc}
+use Rattle.std.proofs.Common.{◌≡◌, ◌≢◌, ℕ, ◌+◌, ◌<◌, ◌≤◌, List, [], ◌∷◌, ◌++◌, length, refl, ap, sym, ◌∙◌, subst, arith}
 use Rattle.std.proofs.lemmas.Bool.{false≢true}
 use Rattle.std.proofs.lemmas.List.{append-nil}
+use Rattle.bp_text.proofs.GrownLists.{regrouped}
 use Rattle.bp_tree.specs.Ast.{Program}
 use Rattle.bp_machine.specs.declared.calls.Call.{Call}
 use Rattle.bp_machine.specs.declared.limits.TheConstants.{MAX_THREADS}
@@ -28,21 +29,21 @@ module _ (t : Program) (s : SetupOf) (few : threads s ≤ MAX_THREADS) where
       → lines h ++ x ≡ lines g ++ y → (h ≡ g) × (x ≡ y)
   one_history p [] [] x y lh lg sx sy e = (refl, e)
   one_history p [] (k ∷ ks) x y lh (allowed, lg) sx sy e =
-      absurd (subst (λ h. Stops h x) (append-nil p) sx k (lines ks ++ y) allowed (e ∙ append_assoc (line_text (line_of_call k)) (lines ks) y))
+      absurd (subst (λ h. Stops h x) (append-nil p) sx k (lines ks ++ y) allowed (simp regrouped (simp regrouped at e)))
   one_history p (l ∷ ls) [] x y (allowed, lh) lg sx sy e =
-      absurd (subst (λ h. Stops h y) (append-nil p) sy l (lines ls ++ x) allowed (sym e ∙ append_assoc (line_text (line_of_call l)) (lines ls) x))
+      absurd (subst (λ h. Stops h y) (append-nil p) sy l (lines ls ++ x) allowed (simp regrouped (simp regrouped at (sym e))))
   one_history p (l ∷ ls) (k ∷ ks) x y (allowed_l, lh) (allowed_k, lg) sx sy e =
       let below_l = allowed_l.thread in
       let below_k = allowed_k.thread in
       let small_l : l.thread < 100 = omega arith in
       let small_k : k.thread < 100 = omega arith in
-      let joined = sym (append_assoc (line_text (line_of_call l)) (lines ls) x) ∙ e ∙ append_assoc (line_text (line_of_call k)) (lines ks) y in
+      let joined : line_text (line_of_call l) ++ (lines ls ++ x) ≡ line_text (line_of_call k) ++ (lines ks ++ y) = simp regrouped (simp regrouped at e) in
       let line = same_line (line_of_call l) (line_of_call k) (lines ls ++ x) (lines ks ++ y) small_l small_k joined in
       let rest = same_rest (line_of_call l) (line_of_call k) (lines ls ++ x) (lines ks ++ y) small_l small_k joined in
       let same = same_call t s p l k line allowed_l allowed_k in
       let moved = subst (λ z. IsLegalAfter t s (p ++ z ∷ []) ls) same lh in
-      let stops_l = subst (λ z. Stops z x) (ap (λ z. p ++ z ∷ ls) same ∙ sym (append_assoc p (k ∷ []) ls)) sx in
-      let stops_k = subst (λ z. Stops z y) (sym (append_assoc p (k ∷ []) ks)) sy in
+      let stops_l : Stops ((p ++ k ∷ []) ++ ls) x = subst (λ z. Stops z x) (rw same (simp regrouped)) sx in
+      let stops_k : Stops ((p ++ k ∷ []) ++ ks) y = subst (λ z. Stops z y) (simp regrouped) sy in
       let (calls, after) = one_history (p ++ k ∷ []) ls ks x y moved lg stops_l stops_k rest in
       (ap (λ z. z ∷ ls) same ∙ ap (λ zs. k ∷ zs) calls, after)
 

@@ -1,9 +1,10 @@
 -- No two triples of version, setup and history have one text.
-use Rattle.std.proofs.Common.{◌≡◌, ℕ, ◌<◌, ◌≤◌, ◌^◌, ◌==◌, Bool, true, false, List, [], ◌∷◌, ◌++◌, length, map, flat_map, Option, None, Some, refl, sym, ap, ◌∙◌, arith, append_assoc, codes, decimal}
+use Rattle.std.proofs.Common.{◌≡◌, ℕ, ◌<◌, ◌≤◌, ◌^◌, ◌==◌, Bool, true, false, List, [], ◌∷◌, ◌++◌, length, map, flat_map, Option, None, Some, refl, sym, ap, ◌∙◌, arith, codes, decimal}
 use Rattle.std.specs.Prelude.{if◌then◌else◌}
 use Rattle.std.specs.List.{AllByRecursion}
 use Rattle.std.proofs.lemmas.List.{append-nil}
 use Rattle.std.proofs.lemmas.Fmt.{decimal_injective}
+use Rattle.bp_text.proofs.GrownLists.{regrouped}
 use Rattle.bp_machine.specs.declared.calls.Call.{Call}
 use Rattle.bp_machine.specs.declared.calls.Reply.{Reply}
 use Rattle.bp_machine.specs.declared.calls.Reply.TheVariants.{Stopped, Ended, NoContexts, Full, Blocked, Failed, Stepped}
@@ -58,19 +59,14 @@ front_cut (c ∷ front) a b e = front_cut front a b (same_head c c (front ++ a) 
 
 -- ---- the head
 
-entry_then : (name rest : List ℕ) → entry_line name ++ rest ≡ codes "entry " ++ (name ++ 10 ∷ rest)
-entry_then name rest = ap (λ t. codes "entry " ++ t) (append_assoc name (codes "\n") rest)
-
 entries_alike : (es fs : List (List ℕ)) (x y : List ℕ) → AllByRecursion (Without 10) es → AllByRecursion (Without 10) fs
     → flat_map entry_line es ++ (105 ∷ x) ≡ flat_map entry_line fs ++ (105 ∷ y) → (es ≡ fs) × (x ≡ y)
 entries_alike [] [] x y p q e = (refl, (same_head _ _ _ _ e).1)
 entries_alike [] (f ∷ fs) x y p q e = absurd (omega (arith, (same_head _ _ _ _ e).0))
 entries_alike (n ∷ es) [] x y p q e = absurd (omega (arith, (same_head _ _ _ _ e).0))
 entries_alike (n ∷ es) (f ∷ fs) x y p q e =
-    let left = append_assoc (entry_line n) (flat_map entry_line es) (105 ∷ x) ∙ entry_then n (flat_map entry_line es ++ (105 ∷ x)) in
-    let right = append_assoc (entry_line f) (flat_map entry_line fs) (105 ∷ y) ∙ entry_then f (flat_map entry_line fs ++ (105 ∷ y)) in
     let cut = one_cut 10 n f (flat_map entry_line es ++ (105 ∷ x)) (flat_map entry_line fs ++ (105 ∷ y)) p.0 q.0
-    (front_cut (codes "entry ") _ _ (sym left ∙ e ∙ right)) in
+    (front_cut (codes "entry ") _ _ (simp regrouped at e)) in
     let rest = entries_alike es fs x y p.1 q.1 cut.1 in
     (cc (cut.0, rest.0), rest.1)
 
@@ -100,13 +96,10 @@ one_init [] (b ∷ bs) e = absurd (omega (arith, digit_high b, (same_head _ _ _ 
 one_init (a ∷ cs) [] e = absurd (omega (arith, digit_high a, (same_head _ _ _ _ e).0))
 one_init (a ∷ cs) (b ∷ bs) e = one_bits (a ∷ cs) (b ∷ bs) e
 
-init_then : (bs : List Bool) (rest : List ℕ) → init_line bs ++ rest ≡ codes "init " ++ (init_digits bs ++ 10 ∷ rest)
-init_then bs rest = ap (λ t. codes "init " ++ t) (append_assoc (init_digits bs) (codes "\n") rest)
-
 init_alike : (cs bs : List Bool) (x y : List ℕ) → init_line cs ++ x ≡ init_line bs ++ y → (cs ≡ bs) × (x ≡ y)
 init_alike cs bs x y e =
     let cut = one_cut 10 (init_digits cs) (init_digits bs) x y (init_without cs) (init_without bs)
-    (front_cut (codes "init ") _ _ (sym (init_then cs x) ∙ e ∙ init_then bs y)) in
+    (front_cut (codes "init ") _ _ (simp regrouped at e)) in
     (one_init cs bs cut.0, cut.1)
 
 abbrev Fits64 : Option ℕ → Type 0
@@ -127,18 +120,6 @@ one_seed None None p q e = refl
 one_seed None (Some n) p q e = absurd (no_word n (q n refl) (sym e))
 one_seed (Some m) None p q e = absurd (no_word m (p m refl) e)
 one_seed (Some m) (Some n) p q e = ap Some (decimal_injective m n (p m refl) (q n refl) e)
-
-limits_then : (s : SetupOf) (rest : List ℕ)
-    → limits_text s ++ rest
-    ≡ codes "contexts " ++ (decimal s.contexts ++ 10
-    ∷ (codes "calls " ++ (decimal s.calls ++ 10 ∷ (codes "seed " ++ (seed_word s.seed ++ 10 ∷ rest)))))
-limits_then s rest =
-    ap (λ t. codes "contexts " ++ t)
-    (
-    append_assoc (decimal s.contexts) _ rest
-    ∙ ap (λ t. decimal s.contexts ++ 10 ∷ (codes "calls " ++ t))
-    (append_assoc (decimal s.calls) _ rest ∙ ap (λ t. decimal s.calls ++ 10 ∷ (codes "seed " ++ t)) (append_assoc (seed_word s.seed) (codes "\n") rest))
-    )
 
 version_first : (v w : Version) (x y : List ℕ) → version_line v ++ x ≡ version_line w ++ y → v ≡ w
 version_first One One x y e = refl
@@ -167,7 +148,7 @@ module _ (s r : SetupOf) (p : HasLines s) (q : HasLines r) where
   limits_alike : (x y : List ℕ) → limits_text s ++ x ≡ limits_text r ++ y → SameLimits s r x y
   limits_alike x y e =
       let contexts = one_number 10 (omega arith) s.contexts r.contexts _ _ p.contexts q.contexts
-      (front_cut (codes "contexts ") _ _ (sym (limits_then s x) ∙ e ∙ limits_then r y)) in
+      (front_cut (codes "contexts ") _ _ (simp regrouped at e)) in
       let calls = one_number 10 (omega arith) s.calls r.calls _ _ p.calls q.calls (front_cut (codes "calls ") _ _ contexts.1) in
       let seed = one_cut 10 (seed_word s.seed) (seed_word r.seed) x y (seed_without s.seed p.seed)
       (seed_without r.seed q.seed) (front_cut (codes "seed ") _ _ calls.1) in
@@ -188,21 +169,16 @@ module _ (s r : SetupOf) (p : HasLines s) (q : HasLines r) where
 
   setups_alike : (x y : List ℕ) → setup_text s ++ x ≡ setup_text r ++ y → (s ≡ r) × (x ≡ y)
   setups_alike x y e =
-      let left = append_assoc (flat_map entry_line s.entries) (init_line s.init ++ limits_text s) x in
-      let right = append_assoc (flat_map entry_line r.entries) (init_line r.init ++ limits_text r) y in
-      let entries = entries_alike s.entries r.entries _ _ p.names q.names (sym left ∙ e ∙ right) in
+      let entries = entries_alike s.entries r.entries _ _ p.names q.names (simp regrouped at e) in
       let inits = ap (λ t. 105 ∷ t) entries.1 in
       let init = init_alike s.init r.init (limits_text s ++ x) (limits_text r ++ y)
-      (sym (append_assoc (init_line s.init) (limits_text s) x) ∙ inits ∙ append_assoc (init_line r.init) (limits_text r) y) in
+      (simp regrouped inits) in
       let limits = limits_alike x y init.1 in
       (same_setup entries.0 init.0 x y limits, limits.rest)
 
   behind_version : (v w : Version) (x y : List ℕ) → head_text v s ++ x ≡ head_text w r ++ y
       → version_line v ++ (setup_text s ++ x) ≡ version_line w ++ (setup_text r ++ y)
-  behind_version v w x y e =
-      sym (append_assoc (version_line v) (setup_text s) x) ∙ ap (λ u. u ++ x) (sym (head_joined v s)) ∙ e
-      ∙ ap (λ u. u ++ y) (head_joined w r)
-      ∙ append_assoc (version_line w) (setup_text r) y
+  behind_version v w x y e = simp regrouped (simp regrouped at (ap (λ u. u ++ x) (sym (head_joined v s)) ∙ e ∙ ap (λ u. u ++ y) (head_joined w r)))
 
   pub heads_alike : (v w : Version) (x y : List ℕ) → head_text v s ++ x ≡ head_text w r ++ y → (v ≡ w) × (s ≡ r) × (x ≡ y)
   heads_alike v w x y e =
@@ -214,7 +190,7 @@ module _ (s r : SetupOf) (p : HasLines s) (q : HasLines r) where
 -- ---- the calls
 
 pub call_then : (c : Call) (rest : List ℕ) → call_line c ++ rest ≡ decimal c.thread ++ 32 ∷ bit_digit c.bit ∷ 32 ∷ letter_of c.reply ∷ 10 ∷ rest
-call_then c rest = append_assoc (decimal c.thread) _ rest
+call_then c rest = simp regrouped
 
 same_call : (c d : Call) → c.thread ≡ d.thread → c.bit ≡ d.bit → c.reply ≡ d.reply → c ≡ d
 same_call c d thread bit reply = λ i. record { thread = thread i; bit = bit i; reply = reply i }
@@ -234,15 +210,12 @@ calls_alike : (h g : List Call) (x y : List ℕ) → AllByRecursion (λ (c : Cal
 calls_alike [] [] x y p q e = (refl, (same_head _ _ _ _ e).1)
 calls_alike [] (d ∷ g) x y p q e =
     absurd (number_begins d.thread _ 101 x q.0 (omega arith)
-    (sym (append_assoc (call_line d) (flat_map call_line g) (101 ∷ y) ∙ call_then d (flat_map call_line g ++ (101 ∷ y)))
-    ∙ sym e))
+    (simp regrouped at (sym e)))
 calls_alike (c ∷ h) [] x y p q e =
     absurd (number_begins c.thread _ 101 y p.0 (omega arith)
-    (sym (append_assoc (call_line c) (flat_map call_line h) (101 ∷ x) ∙ call_then c (flat_map call_line h ++ (101 ∷ x)))
-    ∙ e))
+    (simp regrouped at e))
 calls_alike (c ∷ h) (d ∷ g) x y p q e =
-    let lines = sym (append_assoc (call_line c) (flat_map call_line h) (101 ∷ x)) ∙ e ∙ append_assoc (call_line d) (flat_map call_line g) (101 ∷ y) in
-    let line = one_call_line c d (flat_map call_line h ++ (101 ∷ x)) (flat_map call_line g ++ (101 ∷ y)) p.0 q.0 lines in
+    let line = one_call_line c d (flat_map call_line h ++ (101 ∷ x)) (flat_map call_line g ++ (101 ∷ y)) p.0 q.0 (simp regrouped (simp regrouped at e)) in
     let rest = calls_alike h g x y p.1 q.1 line.1 in
     (cc (line.0, rest.0), rest.1)
 
@@ -267,8 +240,7 @@ pub no_symbol_at_end : (rest : List ℕ) → HasNoSymbol (10 ∷ rest)
 no_symbol_at_end rest b r more e = omega (arith, digit_high b, (same_head 10 (bit_digit b) rest (letter_of r ∷ more) e).0)
 
 pub piece_then : (p : Piece) (rest : List ℕ) → piece_line p ++ rest ≡ decimal p.thread ++ 32 ∷ (flat_map symbol_text (p.first ∷ p.others) ++ 10 ∷ rest)
-piece_then p rest =
-    append_assoc (decimal p.thread) _ rest ∙ ap (λ t. decimal p.thread ++ 32 ∷ t) (append_assoc (flat_map symbol_text (p.first ∷ p.others)) (codes "\n") rest)
+piece_then p rest = simp regrouped
 
 same_piece : (p q : Piece) → p.thread ≡ q.thread → p.first ∷ p.others ≡ q.first ∷ q.others → p ≡ q
 same_piece p q thread symbols =
@@ -287,15 +259,12 @@ pieces_alike : (ps qs : List Piece) (x y : List ℕ) → AllByRecursion (λ (p :
 pieces_alike [] [] x y p q e = (refl, (same_head _ _ _ _ e).1)
 pieces_alike [] (d ∷ qs) x y p q e =
     absurd (number_begins d.thread _ 101 x q.0 (omega arith)
-    (sym (append_assoc (piece_line d) (flat_map piece_line qs) (101 ∷ y)
-    ∙ piece_then d (flat_map piece_line qs ++ (101 ∷ y))) ∙ sym e))
+    (simp regrouped at (sym e)))
 pieces_alike (c ∷ ps) [] x y p q e =
     absurd (number_begins c.thread _ 101 y p.0 (omega arith)
-    (sym (append_assoc (piece_line c) (flat_map piece_line ps) (101 ∷ x)
-    ∙ piece_then c (flat_map piece_line ps ++ (101 ∷ x))) ∙ e))
+    (simp regrouped at e))
 pieces_alike (c ∷ ps) (d ∷ qs) x y p q e =
-    let lines = sym (append_assoc (piece_line c) (flat_map piece_line ps) (101 ∷ x)) ∙ e ∙ append_assoc (piece_line d) (flat_map piece_line qs) (101 ∷ y) in
-    let line = one_piece_line c d (flat_map piece_line ps ++ (101 ∷ x)) (flat_map piece_line qs ++ (101 ∷ y)) p.0 q.0 lines in
+    let line = one_piece_line c d (flat_map piece_line ps ++ (101 ∷ x)) (flat_map piece_line qs ++ (101 ∷ y)) p.0 q.0 (simp regrouped (simp regrouped at e)) in
     let rest = pieces_alike ps qs x y p.1 q.1 line.1 in
     (cc (line.0, rest.0), rest.1)
 

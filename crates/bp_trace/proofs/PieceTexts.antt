@@ -1,7 +1,8 @@
 -- The pieces of a history have the text that its calls have one by one.
-use Rattle.std.proofs.Common.{◌≡◌, ℕ, ◌+◌, ◌<◌, ◌==◌, Bool, true, false, cond, List, [], ◌∷◌, ◌++◌, length, take, drop, flat_map, get_or, Option, None, Some, refl, ap, sym, ◌∙◌, subst, arith, append_assoc, add-one, drop-cons, take-append-drop, codes, decimal}
+use Rattle.std.proofs.Common.{◌≡◌, ℕ, ◌+◌, ◌<◌, ◌==◌, Bool, true, false, cond, List, [], ◌∷◌, ◌++◌, length, take, drop, flat_map, get_or, Option, None, Some, refl, ap, sym, ◌∙◌, subst, arith, add-one, drop-cons, take-append-drop, codes, decimal}
 use Rattle.std.proofs.lemmas.Bool.Decides.{nat_tests}
 use Rattle.std.proofs.lemmas.List.{append-nil, take_more}
+use Rattle.bp_text.proofs.GrownLists.{regrouped}
 use Rattle.bp_machine.specs.declared.calls.Call.{Call}
 use Rattle.bp_trace.specs.Pieces.{Piece, symbol_of, piece_of, with_call, pieces_of}
 use Rattle.bp_trace.specs.TraceText.{symbol_text, piece_line}
@@ -21,35 +22,21 @@ record Begins (y : Call) (ys : List Call) : Type 0 where
   thread : piece.thread ≡ y.thread
   body : symbols_text piece ++ (10 ∷ pieces_text rest) ≡ symbol_text (symbol_of y) ++ (symbols_after (Some y.thread) ys ++ codes "\n")
 
-assoc4 : (a b c d : List ℕ) → ((a ++ b) ++ c) ++ d ≡ a ++ (b ++ (c ++ d))
-assoc4 a b c d = append_assoc (a ++ b) c d ∙ append_assoc a b (c ++ d)
-
 -- a call after one of its thread
 goes_on : (x y : Call) (ys : List Call) → (x.thread == y.thread) ≡ true
     → symbol_text (symbol_of y) ++ (symbols_after (Some y.thread) ys ++ codes "\n") ≡ symbols_after (Some x.thread) (y ∷ ys) ++ codes "\n"
-goes_on x y ys e =
-    sym (append_assoc (symbol_text (symbol_of y)) (symbols_after (Some y.thread) ys) (codes "\n"))
-    ∙ ap (λ b. ((cond b [] (codes "\n" ++ (decimal y.thread ++ codes " ")) ++ symbol_text (symbol_of y))
-    ++ symbols_after (Some y.thread) ys) ++ codes "\n") (sym e)
+goes_on x y ys e = rw e (simp regrouped)
 
 -- a call after one of another thread
 breaks : (x y : Call) (ys : List Call) → (x.thread == y.thread) ≡ false
     → 10 ∷ (decimal y.thread ++ 32 ∷ (symbol_text (symbol_of y) ++ (symbols_after (Some y.thread) ys ++ codes "\n")))
     ≡ symbols_after (Some x.thread) (y ∷ ys) ++ codes "\n"
-breaks x y ys e =
-    ap (λ t. 10 ∷ t)
-    (sym (assoc4 (decimal y.thread ++ 32 ∷ []) (symbol_text (symbol_of y)) (symbols_after (Some y.thread) ys)
-    (codes "\n") ∙ append_assoc (decimal y.thread) (32 ∷ []) _))
-    ∙ ap (λ b. ((cond b [] (codes "\n" ++ (decimal y.thread ++ codes " ")) ++ symbol_text (symbol_of y))
-    ++ symbols_after (Some y.thread) ys) ++ codes "\n") (sym e)
+breaks x y ys e = rw e (simp regrouped)
 
 -- the line of the first piece and those after it
 next_line : (y : Call) (ys : List Call) (b : Begins y ys)
     → piece_line b.piece ++ pieces_text b.rest ≡ decimal y.thread ++ 32 ∷ (symbol_text (symbol_of y) ++ (symbols_after (Some y.thread) ys ++ codes "\n"))
-next_line y ys b =
-    append_assoc (decimal b.piece.thread) (32 ∷ (symbols_text b.piece ++ codes "\n")) (pieces_text b.rest)
-    ∙ ap (λ t. decimal b.piece.thread ++ 32 ∷ t) (append_assoc (symbols_text b.piece) (codes "\n") (pieces_text b.rest) ∙ b.body)
-    ∙ ap (λ n. decimal n ++ 32 ∷ (symbol_text (symbol_of y) ++ (symbols_after (Some y.thread) ys ++ codes "\n"))) b.thread
+next_line y ys b = simp regrouped (rw (b.thread, b.body))
 
 begins : (y : Call) (ys : List Call) → Begins y ys
 begins y [] = record { piece = piece_of y []; rest = []; is = refl; thread = refl; body = refl }
@@ -65,9 +52,7 @@ begins x (y ∷ ys) = go (begins y ys) (x.thread == (begins y ys).piece.thread) 
           rest = b.rest;
           is = ap (with_call x) b.is ∙ ap (λ t. cond t (piece_of x (b.piece.first ∷ b.piece.others) ∷ b.rest) (piece_of x [] ∷ b.piece ∷ b.rest)) e;
           thread = refl;
-          body =
-              append_assoc (symbol_text (symbol_of x)) (symbols_text b.piece) (10 ∷ pieces_text b.rest)
-              ∙ ap (λ t. symbol_text (symbol_of x) ++ t) (b.body ∙ goes_on x y ys goes);
+          body = ap (λ t. symbol_text (symbol_of x) ++ t) (b.body ∙ goes_on x y ys goes);
         }
 
     -- another thread begins
@@ -92,9 +77,7 @@ pieces_are_symbols x xs =
     let b = begins x xs in
     ap pieces_text b.is
     ∙ next_line x xs b
-    ∙ sym
-    (assoc4 (decimal x.thread ++ 32 ∷ []) (symbol_text (symbol_of x)) (symbols_after (Some x.thread) xs) (codes "\n")
-    ∙ append_assoc (decimal x.thread) (32 ∷ []) _)
+    ∙ simp regrouped
 
 pub some_pieces : (h : List Call) → 0 < length h → flat_map piece_line (pieces_of h) ≡ symbols_after None h ++ codes "\n"
 some_pieces [] some = absurd (omega arith)
@@ -105,7 +88,7 @@ symbols-append : (last : Option ℕ) (h : List Call) (x : Call) → symbols_afte
 symbols-append last [] x = append-nil (symbol_after last x)
 symbols-append last (y ∷ ys) x =
     ap (λ t. symbol_after last y ++ t) (symbols-append (Some y.thread) ys x)
-    ∙ sym (append_assoc (symbol_after last y) (symbols_after (Some y.thread) ys) (symbol_after (last_of (Some y.thread) ys) x))
+    ∙ simp regrouped
 
 last-append : (last : Option ℕ) (h : List Call) (x : Call) → last_of last (h ++ x ∷ []) ≡ Some x.thread
 last-append last [] x = refl
@@ -115,7 +98,7 @@ symbols-split : (last : Option ℕ) (h k : List Call) → symbols_after last (h 
 symbols-split last [] k = refl
 symbols-split last (y ∷ ys) k =
     ap (λ t. symbol_after last y ++ t) (symbols-split (Some y.thread) ys k)
-    ∙ sym (append_assoc (symbol_after last y) (symbols_after (Some y.thread) ys) (symbols_after (last_of (Some y.thread) ys) k))
+    ∙ simp regrouped
 
 module _ (h : List Call) (i : ℕ) (d : Call) (within : i < length h) where
   abbrev x : Call

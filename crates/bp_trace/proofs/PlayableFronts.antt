@@ -1,9 +1,10 @@
 -- A history that may be played is played call by call: its fronts may be, and the call after a front is refused by nothing.
-use Rattle.std.proofs.Common.{◌≡◌, ◌≢◌, ℕ, ◌==◌, zero, suc, Bool, true, false, cond, List, [], ◌∷◌, ◌++◌, length, Option, None, Some, is_some, refl, ap, sym, ◌∙◌, ◌⊎◌, inl, inr, subst, append_assoc, arith}
+use Rattle.std.proofs.Common.{◌≡◌, ◌≢◌, ℕ, ◌==◌, zero, suc, Bool, true, false, cond, List, [], ◌∷◌, ◌++◌, length, Option, None, Some, is_some, refl, ap, sym, ◌∙◌, ◌⊎◌, inl, inr, subst, arith}
 use Rattle.std.specs.Prelude.{slice_get}
 use Rattle.std.proofs.lemmas.Bool.{false≢true}
 use Rattle.std.proofs.lemmas.Bool.Decides.{nat_tests}
 use Rattle.std.proofs.lemmas.List.{append-nil}
+use Rattle.bp_text.proofs.GrownLists.{regrouped}
 use Rattle.bp_tree.specs.Ast.{Program}
 use Rattle.bp_machine.specs.declared.calls.Call.{Call}
 use Rattle.bp_machine.specs.Answers.{Answers}
@@ -50,7 +51,7 @@ module _ (t : Program) (s : SetupOf) where
 
   legal_behind : (p h g : List Call) → IsLegalAfter t s p (h ++ g) → IsLegalAfter t s (p ++ h) g
   legal_behind p [] g legal = subst (λ q. IsLegalAfter t s q g) (sym (append-nil p)) legal
-  legal_behind p (x ∷ xs) g (allowed, rest) = subst (λ q. IsLegalAfter t s q g) (append_assoc p (x ∷ []) xs) (legal_behind (p ++ x ∷ []) xs g rest)
+  legal_behind p (x ∷ xs) g (allowed, rest) = simp regrouped at (legal_behind (p ++ x ∷ []) xs g rest)
 
   pub front : (h g : List Call) → IsPlayable t s (h ++ g) → IsPlayable t s h
   front h g playable = record {

@@ -1,8 +1,9 @@
 -- What a session that stands after the calls of some lines of a trace says of them.
-use Rattle.std.proofs.Common.{◌≡◌, ℕ, zero, suc, ◌+◌, ◌-◌, ◌<◌, ◌≤◌, List, [], ◌∷◌, ◌++◌, length, take, drop, map, get_or, Some, ap, sym, ◌∙◌, subst, arith, append_assoc, inl, inr, length-append, length-drop}
+use Rattle.std.proofs.Common.{◌≡◌, ℕ, zero, suc, ◌+◌, ◌-◌, ◌<◌, ◌≤◌, List, [], ◌∷◌, ◌++◌, length, take, drop, map, get_or, Some, ap, sym, ◌∙◌, subst, arith, inl, inr, length-append, length-drop}
 use Rattle.std.specs.Prelude.{slice_get}
 use Rattle.std.proofs.lemmas.List.{append-nil, take_more, take-append-drop, drop-drop, drop_at}
 use Rattle.std.proofs.Math.Seq.{drop-cons}
+use Rattle.bp_text.proofs.GrownLists.{both_added, regrouped}
 use Rattle.bp_tree.specs.Ast.{Program}
 use Rattle.bp_code.specs.Configurations.{Configuration}
 use Rattle.bp_machine.specs.declared.calls.Call.{Call}
@@ -37,7 +38,7 @@ rows_more t c [] x = append-nil (rows_of_call c x)
 rows_more t c (y ∷ ys) x =
     let next = configuration_after_call t c y.thread y.bit y.reply in
     ap (λ rs. rows_of_call c y ++ rs) (rows_more t next ys x)
-    ∙ sym (append_assoc (rows_of_call c y) (rows_after t next ys) (rows_of_call (configuration_after_calls t next ys) x))
+    ∙ simp regrouped
 
 -- one more call
 pub played_more : (t : Program) (s : SetupOf) (h new : List Call) (x : Call) (old_rows new_rows : List PrintedRow) → new ≡ h ++ x ∷ []
@@ -82,9 +83,8 @@ module _ (v : Version) (n first : ℕ) (text : List ℕ) (h : List Call) (size l
     pub next_parts : text ≡ calls_text v new ++ drop (size + more) text
     next_parts =
         parts
-        ∙ ap (λ r. calls_text v h ++ r) (at.begins ∙ ap (λ r. at.line ++ r) (sym rest_is))
-        ∙ sym (append_assoc (calls_text v h) at.line (drop (size + more) text))
-        ∙ ap (λ r. r ++ drop (size + more) text) (sym (ap (calls_text v) is ∙ text_grows v n h at.line calls at.is_line))
+        ∙ ap (λ r. calls_text v h ++ r) at.begins
+        ∙ rw (is, text_grows v n h at.line calls at.is_line, rest_is) (simp regrouped)
 
     pub next_number : line + 1 ≡ first + line_count v new
     next_number = omega (arith, number, ap (line_count v) is, count_grows v n h at.line calls at.is_line)
@@ -115,5 +115,4 @@ module _ (v : Version) (n first : ℕ) (text : List ℕ) (h : List Call) (size l
 pub history_more : (old own new calls : List Call) (i : ℕ) (d : Call) → i < length calls → own ≡ old ++ take i calls
     → new ≡ own ++ get_or calls i d ∷ [] → new ≡ old ++ take (i + 1) calls
 history_more old own new calls i d within before after =
-    after ∙ ap (λ h. h ++ get_or calls i d ∷ []) before ∙ append_assoc old (take i calls) (get_or calls i d ∷ [])
-    ∙ ap (λ cs. old ++ cs) (sym (take_more calls i d within))
+    both_added old own new (take i calls) (get_or calls i d ∷ []) _ after before (sym (take_more calls i d within))

@@ -1,11 +1,12 @@
 -- What a session that stands after the calls of all lines says of them.
-use Rattle.std.proofs.Common.{◌≡◌, ℕ, ◌+◌, ◌<◌, ◌≤◌, List, [], ◌∷◌, ◌++◌, length, drop, refl, ap, sym, ◌∙◌, subst, arith, Option, Some, None, is_some, true, append_assoc, length-append, length-drop}
+use Rattle.std.proofs.Common.{◌≡◌, ℕ, ◌+◌, ◌<◌, ◌≤◌, List, [], ◌∷◌, ◌++◌, length, drop, refl, ap, sym, ◌∙◌, subst, arith, Option, Some, None, is_some, true, length-append, length-drop}
 use Rattle.std.proofs.lemmas.List.{drop-drop}
 use Rattle.std.proofs.Math.Seq.{drop-append_seam}
 use Rattle.std.specs.Prelude.{decimal}
 use Rattle.std.proofs.lemmas.List.{map-append}
 use Rattle.std.proofs.lemmas.List.{append-nil}
 use Rattle.std.proofs.lemmas.List.Concat.{flat_map-append}
+use Rattle.bp_text.proofs.GrownLists.{regrouped}
 use Rattle.bp_tree.specs.Ast.{Program}
 use Rattle.bp_code.specs.StandsFor.{StandsFor}
 use Rattle.bp_code.specs.Programs.{IsOfProgram}
@@ -69,10 +70,8 @@ module _ (schedule : List ℕ) (old new : List Call) (line : ScheduleLine) (plac
   pub next_front : IsAdded old new line → schedule ≡ schedule_text (lines_of_history new) ++ drop (place + length (line_text line)) schedule
   next_front added =
       front
-      ∙ ap (λ t. schedule_text (lines_of_history old) ++ t) (begins.2 ∙ ap (λ t. line_text line ++ t) (sym rest_is))
-      ∙ sym (append_assoc (schedule_text (lines_of_history old)) (line_text line) (drop (place + length (line_text line)) schedule))
-      ∙ ap (λ t. t ++ drop (place + length (line_text line)) schedule)
-      (sym (ap (λ h. schedule_text (lines_of_history h)) added.is ∙ schedule_more added.call added.asked))
+      ∙ ap (λ t. schedule_text (lines_of_history old) ++ t) begins.2
+      ∙ rw (added.is, schedule_more added.call added.asked, rest_is) (simp regrouped)
 
   pub next_few : IsAdded old new line → length old ≤ place → length new ≤ place + length (line_text line)
   next_few added few =

@@ -1,5 +1,7 @@
 -- The thread that begins a text, with a space after it.
-use Rattle.std.proofs.Common.{◌≡◌, ◌≢◌, ℕ, ◌+◌, ◌<◌, ◌≤◌, Bool, List, [], ◌∷◌, ◌++◌, length, drop, None, Some, ap, sym, ◌∙◌, arith, append_assoc, length-append, decimal}
+use Rattle.std.proofs.Common.{◌≡◌, ◌≢◌, ℕ, ◌+◌, ◌<◌, ◌≤◌, Bool, List, [], ◌∷◌, ◌++◌, length, drop, None, Some, ap, sym, ◌∙◌, arith, length-append, decimal}
+use Rattle.std.proofs.lemmas.List.{drop_at}
+use Rattle.bp_text.proofs.GrownLists.{regrouped}
 use Rattle.bp_machine.specs.declared.calls.Reply.{Reply}
 use Rattle.bp_trace.proofs.Cuts.{one_number}
 use Rattle.bp_trace.proofs.OneText.{call_then}
@@ -9,10 +11,7 @@ use Rattle.bp_trace.specs.TraceReading.{IsThreadAt, HasNoThread, IsTailAt, HasNo
 use Rattle.bp_trace.proofs.ScheduleLineAt.{reads_back, front, drop_front}
 
 pub drop_more : (xs : List ℕ) (byte : ℕ) (ys : List ℕ) → drop (length xs + 1) (xs ++ byte ∷ ys) ≡ ys
-drop_more xs byte ys =
-    ap (λ k. drop k (xs ++ byte ∷ ys)) (sym (length-append xs (byte ∷ [])))
-    ∙ ap (drop (length (xs ++ byte ∷ []))) (sym (append_assoc xs (byte ∷ []) ys))
-    ∙ drop_front (xs ++ byte ∷ []) ys
+drop_more xs byte ys = simp regrouped at (drop_at (xs ++ byte ∷ []) ys (length xs + 1) (length-append xs (byte ∷ [])))
 
 module _ (n : ℕ) (text : List ℕ) (few : n ≤ MAX_THREADS) where
   -- a thread that begins the text is the number that is read

@@ -1,6 +1,6 @@
 -- How the line that ends a trace is read: a device of the reader, which no public clause names.
 use Rattle.std.specs.Prelude.{◌≡◌, ◌≢◌, ◌⊎◌, ◌<◌, ℕ, ◌+◌, List, [], ◌∷◌, ◌++◌, length}
-use Rattle.bp_trace.specs.declared.replay_faults.Counts.{Counts}
+use Rattle.bp_trace.specs.declared.replay_faults.EndCounts.{EndCounts}
 use Rattle.bp_trace.specs.declared.replay_faults.ReplayFault.{ReplayFault}
 use Rattle.bp_trace.specs.declared.replay_faults.ReplayFault.TheVariants as fault
 use Rattle.bp_trace.specs.TraceText.{end_line}
@@ -47,7 +47,7 @@ pub record HasOtherLine (text : List ℕ) : Type 0 where
   pub ends : HasNoEnd text
 
 -- what an end counts
-abbrev pub counts : ℕ → ℕ → Counts
+abbrev pub counts : ℕ → ℕ → EndCounts
 counts calls left_open = record { calls = calls; left_open = left_open }
 
 -- Why what is after the calls of a trace is refused, where line n is due: it is not the end of so

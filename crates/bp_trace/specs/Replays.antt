@@ -10,7 +10,7 @@ use Rattle.bp_machine.specs.Histories.{is_finished, open_lines, IsLegal}
 use Rattle.bp_machine.specs.SeededHistories.{HasSeededBits}
 use Rattle.bp_trace.specs.OwnCalls.{IsOwnCall}
 use Rattle.bp_trace.specs.declared.limits.TheConstants.{MAX_TRACE}
-use Rattle.bp_trace.specs.declared.replay_faults.Counts.{Counts}
+use Rattle.bp_trace.specs.declared.replay_faults.EndCounts.{EndCounts}
 use Rattle.bp_trace.specs.declared.replay_faults.Due.{Due}
 use Rattle.bp_trace.specs.declared.replay_faults.ReplayFault.{ReplayFault}
 use Rattle.bp_trace.specs.declared.replay_faults.ReplayFault.TheVariants as fault
@@ -132,7 +132,7 @@ pub record Reaches
   pub number : n ≡ length (head_lines v s) + line_count v h + 1
 
 -- what the end of a history counts
-abbrev pub counts_of : SetupOf → List Call → Counts
+abbrev pub counts_of : SetupOf → List Call → EndCounts
 counts_of s h = record { calls = length h; left_open = open_lines s h }
 
 -- Why the rest is refused: it is empty; it begins with no line that is due; with one whose calls

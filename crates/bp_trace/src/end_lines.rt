@@ -4,7 +4,7 @@ ghost use Rattle.std.specs.Str.Parse.{AllDigits};
 ghost use Rattle.bp_trace.specs.EndReading.{IsNoDigit, IsDecimalAt, HasNoDecimal, IsEndAt, HasNoEnd, IsEndRefusal};
 ghost use Rattle.bp_trace.specs.TraceText.{end_line};
 
-use crate::replay_faults::{Counts, ReplayFault};
+use crate::replay_faults::{EndCounts, ReplayFault};
 use crate::schedules::text_from;
 use crate::trace_lines::has_byte;
 use itoa::Buffer;
@@ -89,7 +89,7 @@ pub(crate) fn judge_end(rest: &[u8], calls: u64, left_open: u32, n: u32) -> Resu
         (λ _. rest.now ≡ end_line calls left_open)
         (IsEndRefusal rest.now calls left_open n) }
 {
-    let counts = Counts { calls, left_open };
+    let counts = EndCounts { calls, left_open };
     if rest.is_empty() {
         return Err(ReplayFault::NoEnd(counts));
     }

@@ -33,7 +33,7 @@ pub use laws::{
 };
 pub use migrate_faults::MigrateFault;
 pub use migrating::migrate;
-pub use replay_faults::{Counts, Due, ReplayFault};
+pub use replay_faults::{Due, EndCounts, ReplayFault};
 pub use replaying::{Replayed, Watched, replay, replay_watched};
 pub use schedules::ScheduleLine;
 pub use traces::{write_end, write_head, write_trace, write_trace2};

@@ -14,7 +14,7 @@ pub struct Due {
 
 /// What the end line of a trace has to count.
 #[derive(Clone, Copy, Debug, PartialEq, Eq)]
-pub struct Counts {
+pub struct EndCounts {
     pub calls: u64,
     /// How many threads may make another call.
     pub left_open: u32,
@@ -48,10 +48,10 @@ pub enum ReplayFault {
     Reply(u32, Due),
     /// There is no end line. It has to count this.
     #[error("the trace has no end")]
-    NoEnd(Counts),
+    NoEnd(EndCounts),
     /// This line is an end, but does not count this.
     #[error("the end of the trace counts other calls or open lines")]
-    EndCount(u32, Counts),
+    EndCount(u32, EndCounts),
     /// There was not enough memory.
     #[error("out of memory")]
     Memory,

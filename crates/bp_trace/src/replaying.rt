@@ -59,7 +59,7 @@ fn setup_of_head(alloc: Global, code: &Code, head: &Head<'_>) -> Result<Setup, S
         (λ s. (s ≡ setup_of_head head.now) × (setup_fault t s ≡ None))
         (IsSetupRefusal t (setup_of_head head.now)) }
 {
-    Setup::from_words(
+    Setup::from_names(
         alloc,
         code,
         head.entries.as_slice(),

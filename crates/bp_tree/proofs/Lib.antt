@@ -1,1 +1,2 @@
 pub mod BlockAppend
+pub mod GrownLists

@@ -5,7 +5,7 @@ use Rattle.bp_code.specs.StandsFor.{places_of}
 use Rattle.bp_machine.specs.declared.calls.Call.{Call}
 use Rattle.bp_machine.specs.Setups.{SetupOf}
 use Rattle.bp_text.specs.Parts.{Adds, IsInParts}
-use Rattle.bp_source.proofs.WordsOfScenes.{words_are, words_items}
+use Rattle.bp_source.proofs.TextsOfStatements.{texts_are, shown_texts}
 use Rattle.bp_facts.specs.declared.spans.Span.{Span}
 use Rattle.bp_facts.specs.Spans.{AreSpans}
 use Rattle.bp_view.specs.declared.view_contexts.ViewContext.{ViewContext}
@@ -27,10 +27,10 @@ module _ (t : Program) (text : List ℕ) (s : SetupOf) (h : List Call) (context 
     count = length spans;
     count_is = are.count.used;
     widths = context.widths;
-    statements = words_items context.program.scenes.now;
-    statements_are = words_are text t.procedures (places_of t.procedures) context.program.scenes.now known.program.scenes;
+    statements = shown_texts context.program.statements.now;
+    statements_are = texts_are text t.procedures (places_of t.procedures) context.program.statements.now known.program.statements;
     widths_are =
-        let places = places_are text t.procedures (places_of t.procedures) context.program.scenes.now known.program.scenes in
+        let places = places_are text t.procedures (places_of t.procedures) context.program.statements.now known.program.statements in
         rw (places, count, known.program.procedures, columns) at widths;
     lines = lines.more;
     lines_are = lines.more_are;

@@ -15,7 +15,7 @@ use Rattle.bp_text.proofs.GrownLists.{both_added}
 use Rattle.bp_text.proofs.WrittenParts.{HasParts, IsKind, part_written}
 use Rattle.bp_trace.specs.Replays.{IsPlayable}
 use Rattle.bp_trace.proofs.PlayableFronts.{front}
-use Rattle.bp_source.proofs.WordsOfScenes.{words_are, words_items}
+use Rattle.bp_source.proofs.TextsOfStatements.{texts_are, shown_texts}
 use Rattle.bp_view.specs.declared.view_contexts.ViewContext.{ViewContext}
 use Rattle.bp_view.specs.declared.writers.ViewWriter.{ViewWriter}
 use Rattle.bp_view.specs.Ends.{IsEnd}
@@ -51,10 +51,10 @@ module _ {c : Flat} {t : Program} {text : List ℕ} {s : SetupOf} {r : Report} {
   kind = record {
     whole = λ lines end lines_are end_is. record {
       widths = x.widths;
-      statements = words_items x.program.scenes.now;
-      statements_are = words_are text t.procedures (places_of t.procedures) x.program.scenes.now can.known.program.scenes;
+      statements = shown_texts x.program.statements.now;
+      statements_are = texts_are text t.procedures (places_of t.procedures) x.program.statements.now can.known.program.statements;
       widths_are =
-          let places = places_are text t.procedures (places_of t.procedures) x.program.scenes.now can.known.program.scenes in
+          let places = places_are text t.procedures (places_of t.procedures) x.program.statements.now can.known.program.statements in
           rw (places, can.known.program.procedures) at can.widths;
       lines = lines;
       end = end;
@@ -62,8 +62,8 @@ module _ {c : Flat} {t : Program} {text : List ℕ} {s : SetupOf} {r : Report} {
       end_is = end_is;
       lines_are = lines_are;
     };
-    each = each_line c t can.code text x.program.scenes.now can.known.program.scenes s x.options x.widths h;
-    some_end = some_end c t can.code text x.program.scenes.now can.known.program.scenes s x.options h can.playable.legal r can.outcome;
+    each = each_line c t can.code text x.program.statements.now can.known.program.statements s x.options x.widths h;
+    some_end = some_end c t can.code text x.program.statements.now can.known.program.statements s x.options h can.playable.legal r can.outcome;
   }
 
   module _ {i : ℕ} {w : ViewWriter} {a b : Option (List ℕ)} (has : HasWritten t text s x i w a b) where

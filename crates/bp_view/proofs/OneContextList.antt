@@ -23,7 +23,8 @@ pub one_list : (format : ViewFormat) (t : Program) (text : List ℕ) (s : SetupO
 one_list format t text s h v w x y =
     let statements = one_list_of_statements text (places_of t.procedures) x.statements y.statements x.statements_are y.statements_are in
     let places = map (place_text text) (starts_of t) in
-    let widths_are = subst (λ words. AreWidths s (extent (length h) places words (length t.procedures) None) x.widths) statements x.widths_are in
+    let widths_are =
+    subst (λ texts. AreWidths s (extent (length h) places texts (length t.procedures) None) x.widths) statements x.widths_are in
     let widths = one_widths s (extent (length h) places y.statements (length t.procedures) None) x.widths y.widths widths_are y.widths_are in
     let count = least_opened x.count (granted_threads h) x.count_is ∙ sym (least_opened y.count (granted_threads h) y.count_is) in
     let in_widths = subst (λ z. IsInParts (λ k line. IsContextLine format t text s h z (suc k) line) x.count x.lines) widths x.lines_are in

@@ -30,7 +30,7 @@ one_widths s e a b x y = λ i. record {
   thread = (x.thread ∙ sym y.thread) i;
   context = (x.context ∙ sym y.context) i;
   place = (x.place ∙ sym y.place) i;
-  words = (x.words ∙ sym y.words) i;
+  notes = (x.notes ∙ sym y.notes) i;
   statement = (x.statement ∙ sym y.statement) i;
   line = (x.line ∙ sym y.line) i;
 }
@@ -67,8 +67,8 @@ pub one_view : (t : Program) (text : List ℕ) (s : SetupOf) (h : List Call) (r 
 one_view t text s h r o v w x y =
     let statements = one_list_of_statements text (places_of t.procedures) x.statements y.statements x.statements_are y.statements_are in
     let places = map (place_text text) (starts_of t) in
-    let extent_of_y = λ (words : List (List ℕ)). extent (length h) places words (length t.procedures) o.columns in
-    let widths_are = subst (λ words. AreWidths s (extent_of_y words) x.widths) statements x.widths_are in
+    let extent_of_y = λ (texts : List (List ℕ)). extent (length h) places texts (length t.procedures) o.columns in
+    let widths_are = subst (λ texts. AreWidths s (extent_of_y texts) x.widths) statements x.widths_are in
     let widths = one_widths s (extent_of_y y.statements) x.widths y.widths widths_are y.widths_are in
     let lines_are = subst (λ z. AreLines t text s o z h (length h) x.lines) widths x.lines_are in
     let lines = one_lines t text s o y.widths h (length h) refl x.lines y.lines lines_are y.lines_are in

@@ -7,10 +7,10 @@ use Rattle.bp_machine.specs.Histories.{configuration_after}
 use Rattle.bp_machine.specs.Setups.{SetupOf}
 use Rattle.bp_text.specs.Parts.{Adds}
 use Rattle.bp_facts.specs.declared.filters.CallFilter.{CallFilter}
-use Rattle.bp_facts.specs.declared.moments.Moment.{Moment}
+use Rattle.bp_facts.specs.declared.replayed_calls.ReplayedCall.{ReplayedCall}
 use Rattle.bp_facts.specs.CallFacts.{changes_by, printed_by, AreCallFacts, ShownCall}
 use Rattle.bp_facts.specs.Filters.{calls_at, calls_of, is_asked}
-use Rattle.bp_facts.specs.Moments.{IsMomentOf}
+use Rattle.bp_facts.specs.ReplayedCalls.{IsReplayedCall}
 use Rattle.bp_facts.specs.Watches.{is_seen, watched_names}
 use Rattle.bp_tasks.specs.declared.view_options.ViewOptions.{ViewOptions}
 use Rattle.bp_view.specs.declared.view_contexts.ViewContext.{ViewContext}
@@ -32,14 +32,14 @@ module _ (t : Program) (text : List ℕ) (s : SetupOf) (context : ViewContext) (
   abbrev has : Bool
   has = has_line t text s o w whole h x
 
-  -- what is asked of the call is asked of its moment
-  module _ (m : Moment) (of : IsMomentOf t s h x m) (f : CallFilter) (filter : f ≡ filter_of o) where
+  -- what is asked of the call is asked of its replayed call
+  module _ (m : ReplayedCall) (of : IsReplayedCall t s h x m) (f : CallFilter) (filter : f ≡ filter_of o) where
     pub asked_of : (b : Bool) → is_asked f (length whole) m.number m.call.thread ≡ b
         → is_asked (filter_of o) (length whole) (suc (length h)) x.thread ≡ b
     asked_of b is =
         let by_filter = ap (λ g. is_asked g (length whole) m.number m.call.thread) filter in
-        let by_moment = ap₂ (λ k y. is_asked (filter_of o) (length whole) k y.thread) of.number of.call in
-        sym (by_filter ∙ by_moment) ∙ is
+        let by_replayed_call = ap₂ (λ k y. is_asked (filter_of o) (length whole) k y.thread) of.number of.call in
+        sym (by_filter ∙ by_replayed_call) ∙ is
 
     pub calls_are : (calls : ℕ) → calls ≡ calls_at f whole m.number m.call → calls ≡ calls_of (filter_of o) whole h x
     calls_are calls is =

@@ -10,8 +10,8 @@ use Rattle.bp_text.specs.WrittenTexts.{IsWritten}
 use Rattle.bp_text.proofs.WrittenParts.{begun_as, cut_as, written_as}
 use Rattle.bp_trace.specs.declared.replaying.Replayed.{Replayed}
 use Rattle.bp_trace.specs.Replays.{IsPlayable}
-use Rattle.bp_source.specs.declared.scenes.Scene.{Scene}
-use Rattle.bp_source.specs.Scenes.{AreScenes}
+use Rattle.bp_source.specs.declared.source_statements.SourceStatement.{SourceStatement}
+use Rattle.bp_source.specs.SourceStatements.{AreSourceStatements}
 use Rattle.bp_facts.specs.Watches.{watched_names, AreDeclared, IsUndeclared}
 use Rattle.bp_view.specs.declared.faults.ViewFault.{ViewFault}
 use Rattle.bp_view.specs.declared.faults.ViewFault.TheVariants.{Memory, NoThread, NoVariable, Replay, Write}
@@ -27,12 +27,12 @@ module _ {t : Program} {text trace : List ℕ} {shown : ShownTrace} (is : IsShow
   abbrev r : Replayed
   r = shown.replayed
 
-  pub viewable : {c : Flat} {x : ViewContext} {scenes : List Scene} → StandsFor c t → scenes ≡ shown.scenes.items
-      → (AreScenes text t scenes → IsViewContextOf t text x)
+  pub viewable : {c : Flat} {x : ViewContext} {statements : List SourceStatement} → StandsFor c t → statements ≡ shown.statements.items
+      → (AreSourceStatements text t statements → IsViewContextOf t text x)
       → AreWidths r.setup (extent_of x) x.widths → x.history.now ≡ r.history.items → IsViewable c t text r.setup r.report x
-  viewable code scenes known widths history = record {
+  viewable code statements known widths history = record {
     code = code;
-    known = known (subst (AreScenes text t) (sym scenes) is.scenes);
+    known = known (subst (AreSourceStatements text t) (sym statements) is.statements);
     widths = widths;
     playable = subst (IsPlayable t r.setup) (sym history) is.is.trace.playable;
     outcome = is.is.report.outcome ∙ ap outcome_of (sym history);

@@ -8,8 +8,8 @@ use Rattle.bp_machine.specs.declared.reports.Report.{Report}
 use Rattle.bp_machine.specs.Histories.{IsLegal}
 use Rattle.bp_machine.specs.Reports.{outcome_of}
 use Rattle.bp_machine.specs.Setups.{SetupOf}
-use Rattle.bp_source.specs.declared.scenes.Scene.{Scene}
-use Rattle.bp_source.specs.Scenes.{AreScenes}
+use Rattle.bp_source.specs.declared.source_statements.SourceStatement.{SourceStatement}
+use Rattle.bp_source.specs.SourceStatements.{AreSourceStatements}
 use Rattle.bp_facts.proofs.WholeStates as facts
 use Rattle.bp_tasks.specs.declared.view_options.ViewFormat.{ViewFormat}
 use Rattle.bp_tasks.specs.declared.view_options.ViewOptions.{ViewOptions}
@@ -17,11 +17,12 @@ use Rattle.bp_view.specs.Ends.{after_foot, IsEnd, IsStateIf}
 use Rattle.bp_view.specs.States.{state_text, IsStateText}
 use Rattle.bp_view.proofs.WholeViews.{some_foot}
 
-module _ (c : Flat) (t : Program) (code : StandsFor c t) (text : List ℕ) (scenes : List Scene) (are : AreScenes text t scenes) (s : SetupOf) where
+module _ (c : Flat) (t : Program) (code : StandsFor c t) (text : List ℕ) (statements : List SourceStatement)
+    (are : AreSourceStatements text t statements) (s : SetupOf) where
   module _ (h : List Call) where
     some_state : (format : ViewFormat) → (said : List ℕ) × IsStateText format t text s h (length h) said
     some_state format =
-        let (x, x_are) = facts.some_state c t code text scenes are s h in
+        let (x, x_are) = facts.some_state c t code text statements are s h in
         (state_text format x, record { facts = x; facts_are = x_are; is = refl })
 
     state_if : (format : ViewFormat) (asked : Bool) → (said : List ℕ) × IsStateIf format t text s h asked said
@@ -30,6 +31,6 @@ module _ (c : Flat) (t : Program) (code : StandsFor c t) (text : List ℕ) (scen
 
   pub some_end : (o : ViewOptions) (h : List Call) → IsLegal t s h → (r : Report) → r.outcome ≡ outcome_of h → (end : List ℕ) × IsEnd o t text s h r end
   some_end o h legal r is =
-      let (foot, foot_is) = some_foot c t code text scenes are s h o.format legal r is in
+      let (foot, foot_is) = some_foot c t code text statements are s h o.format legal r is in
       let (state, state_is) = state_if h o.format o.has_state in
       (foot ++ state, record { foot = foot; foot_is = foot_is; state = state; state_is = state_is; is = refl })

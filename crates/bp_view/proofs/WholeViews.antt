@@ -9,8 +9,8 @@ use Rattle.bp_machine.specs.Histories.{configuration_after, IsLegal}
 use Rattle.bp_machine.specs.Reports.{outcome_of}
 use Rattle.bp_machine.specs.Setups.{SetupOf}
 use Rattle.bp_text.proofs.PartsOfTexts.{part_of_each}
-use Rattle.bp_source.specs.declared.scenes.Scene.{Scene}
-use Rattle.bp_source.specs.Scenes.{AreScenes}
+use Rattle.bp_source.specs.declared.source_statements.SourceStatement.{SourceStatement}
+use Rattle.bp_source.specs.SourceStatements.{AreSourceStatements}
 use Rattle.bp_facts.specs.CallFacts.{printed_by}
 use Rattle.bp_facts.specs.Filters.{calls_of}
 use Rattle.bp_facts.proofs.WholeFacts as facts
@@ -21,11 +21,12 @@ use Rattle.bp_view.specs.Options.{filter_of}
 use Rattle.bp_view.specs.Outcomes.{foot_text, IsFoot}
 use Rattle.bp_view.specs.Views.{has_line, line_in, IsShownLine, IsViewLine, IsViewLineIf}
 
-module _ (c : Flat) (t : Program) (code : StandsFor c t) (text : List ℕ) (scenes : List Scene) (are : AreScenes text t scenes) (s : SetupOf) where
+module _ (c : Flat) (t : Program) (code : StandsFor c t) (text : List ℕ) (statements : List SourceStatement)
+    (are : AreSourceStatements text t statements) (s : SetupOf) where
   module _ (o : ViewOptions) (w : Widths) (whole : List Call) where
     view_line : (h : List Call) (x : Call) → (line : List ℕ) × IsViewLine t text s o w whole h x line
     view_line h x =
-        let (f, f_are) = facts.some_call c t code text scenes are s h x in
+        let (f, f_are) = facts.some_call c t code text statements are s h x in
         let printed = printed_by (configuration_after t s h) x in
         (line_in o.format o.has_colour w f (calls_of (filter_of o) whole h x) printed, record { facts = f; facts_are = f_are; is = refl })
 
@@ -44,5 +45,5 @@ module _ (c : Flat) (t : Program) (code : StandsFor c t) (text : List ℕ) (scen
   pub some_foot : (h : List Call) (format : ViewFormat) → IsLegal t s h → (r : Report) → r.outcome ≡ outcome_of h
       → (foot : List ℕ) × IsFoot format t text s h r foot
   some_foot h format legal r is =
-      let (x, x_are) = facts.some_foot c t code text scenes are s h legal r is in
+      let (x, x_are) = facts.some_foot c t code text statements are s h legal r is in
       (foot_text format x, record { facts = x; facts_are = x_are; is = refl })

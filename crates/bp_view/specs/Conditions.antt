@@ -15,29 +15,29 @@ abbrev pub values_line : List ℕ → List ℕ
 values_line [] = []
 values_line (b ∷ bs) = codes "\nvalues" ++ b ∷ bs
 
--- where a statement begins, its words, and the line of its values
-abbrev pub condition_lines : (place words values : List ℕ) → List ℕ
-condition_lines place words values =
+-- where a statement begins, its text, and the line of its values
+abbrev pub condition_lines : (place statement values : List ℕ) → List ℕ
+condition_lines place statement values =
     concat (
-    concat (codes " at " ∷ place ∷ codes ": " ∷ words ∷ [])
+    concat (codes " at " ∷ place ∷ codes ": " ∷ statement ∷ [])
     ∷ values_line values
     ∷ [])
 
 -- the same as the members of an object
-abbrev pub condition_members : Position → (words values : List ℕ) → List ℕ
-condition_members position words values =
+abbrev pub condition_members : Position → (statement values : List ℕ) → List ℕ
+condition_members position statement values =
     concat (
     key_text (codes "line") ∷ decimal position.line
     ∷ key_text (codes "column") ∷ decimal position.column
-    ∷ key_text (codes "statement") ∷ string_text words
+    ∷ key_text (codes "statement") ∷ string_text statement
     ∷ key_text (codes "values") ∷ list_text values
     ∷ [])
 
 -- what is said of a condition in a view of this format
 abbrev pub condition_text : ViewFormat → ShownCondition → List ℕ
 condition_text Columns x =
-    condition_lines (position_text x.position) x.words (entries_text Columns x.values)
-condition_text Json x = condition_members x.position x.words (entries_text Json x.values)
+    condition_lines (position_text x.position) x.text (entries_text Columns x.values)
+condition_text Json x = condition_members x.position x.text (entries_text Json x.values)
 
 -- the object of the thread that stands at it, and what is said of it
 abbrev pub condition_object : ShownCondition → List ℕ

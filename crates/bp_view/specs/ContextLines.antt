@@ -16,7 +16,7 @@ use Rattle.bp_text.specs.Pieces.{key_text, list_text}
 use Rattle.bp_trace.specs.declared.replaying.Replayed.{Replayed}
 use Rattle.bp_trace.specs.Replayed.{IsReplayed}
 use Rattle.bp_text.specs.Parts.{IsInParts}
-use Rattle.bp_source.specs.Scenes.{AreStatements}
+use Rattle.bp_source.specs.SourceStatements.{AreStatements}
 use Rattle.bp_source.specs.Places.{place_text}
 use Rattle.bp_facts.specs.ContextFacts.{AreContextFacts, ShownContext}
 use Rattle.bp_tasks.specs.declared.view_options.ViewFormat.{ViewFormat}

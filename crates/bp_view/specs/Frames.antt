@@ -20,13 +20,13 @@ lead n = if n == 0 then codes "in " else codes "then in "
 abbrev pub locals_text : ViewFormat → ShownFrame → List ℕ
 locals_text format x = variables_text format (Some x.procedure) x.locals
 
--- a frame for people: its procedure, the place and the words of its next statement, and the line of
+-- a frame for people: its procedure, the place and the text of its next statement, and the line of
 -- its values
 abbrev pub frame_lines : ShownFrame → (values : List ℕ) → List ℕ
 frame_lines x values =
     concat (
     concat (lead x.above ∷ map on_one_line x.procedure.name.text ∷ [])
-    ∷ condition_lines x.place x.words values
+    ∷ condition_lines x.place x.text values
     ∷ codes "\n" ∷ [])
 
 -- the same as an object of JSON after a comma
@@ -36,7 +36,7 @@ frame_object x values =
     codes ",{\"procedure\":" ∷ string_text x.procedure.name.text
     ∷ key_text (codes "line") ∷ number_or_null (line_of x.position)
     ∷ key_text (codes "column") ∷ number_or_null (column_of x.position)
-    ∷ key_text (codes "statement") ∷ string_text x.words
+    ∷ key_text (codes "statement") ∷ string_text x.text
     ∷ key_text (codes "locals") ∷ list_text values
     ∷ codes "}" ∷ [])
 

@@ -33,7 +33,7 @@ member_texts f =
     ∷ key_text (codes "column") ∷ number_or_null (column_of f.next.position)
     ∷ key_text (codes "procedure") ∷ string_or_null f.next.procedure
     ∷ key_text (codes "depth") ∷ decimal f.next.depth
-    ∷ key_text (codes "statement") ∷ string_or_null f.next.words
+    ∷ key_text (codes "statement") ∷ string_or_null f.next.text
     ∷ key_text (codes "choice") ∷ bit_or_null (choice_of f)
     ∷ key_text (codes "reply") ∷ string_text (reply_name f.call.reply)
     ∷ []

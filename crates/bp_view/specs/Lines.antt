@@ -14,14 +14,14 @@ use Rattle.bp_view.specs.StatementColumns.{shortened, within}
 use Rattle.bp_view.specs.Variables.{entries_text}
 
 -- what is said of a reply
-abbrev pub reply_words : Reply → List ℕ
-reply_words Stopped = codes " stopped"
-reply_words Ended = codes " ended"
-reply_words NoContexts = codes " out of contexts"
-reply_words Full = codes " stack full"
-reply_words Blocked = codes " waits"
-reply_words Failed = codes " failed"
-reply_words Stepped = []
+abbrev pub reply_note : Reply → List ℕ
+reply_note Stopped = codes " stopped"
+reply_note Ended = codes " ended"
+reply_note NoContexts = codes " out of contexts"
+reply_note Full = codes " stack full"
+reply_note Blocked = codes " waits"
+reply_note Failed = codes " failed"
+reply_note Stepped = []
 
 -- the number of the context of a step, and a sign where a call made none
 abbrev pub context_text : Option ℕ → List ℕ
@@ -41,12 +41,12 @@ field_texts w f =
     ∷ at_right w.context (context_text f.context) ∷ codes " "
     ∷ at_left w.place f.next.place ∷ []
 
--- the words of a statement as its column of so much room has them, after two columns for each frame
+-- the text of a statement as its column of so much room has them, after two columns for each frame
 -- of a stack, for MAX_INDENTS frames at most
-abbrev pub indented : (room depth : ℕ) → (words : Option (List ℕ)) → List ℕ
+abbrev pub indented : (room depth : ℕ) → (statement : Option (List ℕ)) → List ℕ
 indented room depth None = []
-indented room depth (Some words) =
-    concat (spaces (2 * min depth MAX_INDENTS) ∷ shortened room words ∷ [])
+indented room depth (Some statement) =
+    concat (spaces (2 * min depth MAX_INDENTS) ∷ shortened room statement ∷ [])
 
 -- a choice bit, where one is shown
 abbrev pub choice_text : Option Bool → List ℕ
@@ -58,13 +58,13 @@ abbrev pub times_text : ℕ → List ℕ
 times_text calls =
     if nat_lt 1 calls then concat (codes " " ∷ decimal calls ∷ codes " times" ∷ []) else []
 
--- the note of a call: its choice bit, the words of its reply, for how many calls the line stands,
+-- the note of a call: its choice bit, the note of its reply, for how many calls the line stands,
 -- and what it changed
 abbrev pub note_text : ShownCall → (calls : ℕ) → List ℕ
 note_text f calls =
     concat (
     choice_text (choice_of f)
-    ∷ reply_words f.call.reply
+    ∷ reply_note f.call.reply
     ∷ times_text calls
     ∷ entries_text Columns f.changes ∷ [])
 
@@ -76,11 +76,11 @@ after_room room (b ∷ bs) = concat (spaces room ∷ (b ∷ bs) ∷ [])
 -- the fields, the statement, and after its column the note
 abbrev pub call_text : Widths → ShownCall → (calls : ℕ) → List ℕ
 call_text w f calls =
-    let statement = indented w.statement f.next.depth f.next.words in
+    let statement = indented w.statement f.next.depth f.next.text in
     concat (
     concat (field_texts w f)
     ∷ statement
-    ∷ after_room (w.words - length statement) (note_text f calls)
+    ∷ after_room (w.notes - length statement) (note_text f calls)
     ∷ [])
 
 -- a line of at most so many columns, in a colour

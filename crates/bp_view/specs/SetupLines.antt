@@ -29,7 +29,7 @@ globals_line (x ∷ xs) =
     codes "globals" ++ variables_text Columns None (x ∷ xs) ++ codes "\n"
 
 abbrev pub number_line : List ℕ → ℕ → List ℕ
-number_line words n = words ++ decimal n ++ codes "\n"
+number_line key n = key ++ decimal n ++ codes "\n"
 
 abbrev pub seed_line : Option ℕ → List ℕ
 seed_line None = codes "seed none\n"

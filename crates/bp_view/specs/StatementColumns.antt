@@ -10,8 +10,8 @@ statement_room (Some columns) = max LEAST_STATEMENT (min MAX_STATEMENT (columns 
 
 -- at most so many bytes: a longer text is cut, and ends with two dots
 abbrev pub shortened : (room : ℕ) → List ℕ → List ℕ
-shortened room words =
-    if nat_lt room (length words) then take (room - 2) words ++ codes ".." else words
+shortened room statement =
+    if nat_lt room (length statement) then take (room - 2) statement ++ codes ".." else statement
 
 -- a line of at most so many columns
 abbrev pub within : Option ℕ → List ℕ → List ℕ

@@ -21,15 +21,15 @@ use Rattle.bp_view.specs.SetupLines.{globals_line}
 use Rattle.bp_view.specs.Variables.{variables_text}
 
 -- how a thread stands, for people
-abbrev pub standing_words : Standing → List ℕ
-standing_words standing.Finished = codes " is finished"
-standing_words standing.Failed = codes " failed"
-standing_words standing.OutOfContexts = codes " is out of contexts"
-standing_words standing.OutOfCalls = codes " is out of calls"
-standing_words standing.FullStack = codes " has a full stack"
-standing_words standing.Stopped = codes " is stopped"
-standing_words standing.Waiting = codes " waits"
-standing_words standing.Open = codes " goes on"
+abbrev pub standing_text : Standing → List ℕ
+standing_text standing.Finished = codes " is finished"
+standing_text standing.Failed = codes " failed"
+standing_text standing.OutOfContexts = codes " is out of contexts"
+standing_text standing.OutOfCalls = codes " is out of calls"
+standing_text standing.FullStack = codes " has a full stack"
+standing_text standing.Stopped = codes " is stopped"
+standing_text standing.Waiting = codes " waits"
+standing_text standing.Open = codes " goes on"
 
 -- and in JSON
 abbrev pub standing_name : Standing → List ℕ
@@ -47,7 +47,7 @@ abbrev pub thread_lines : ShownThread → (frames : List ℕ) → List ℕ
 thread_lines x frames =
     concat (
     codes "\nthread " ∷ decimal x.thread
-    ∷ standing_words x.standing ∷ codes "\n" ∷ frames ∷ [])
+    ∷ standing_text x.standing ∷ codes "\n" ∷ frames ∷ [])
 
 -- the same as an object of JSON after a comma
 abbrev pub thread_object : ShownThread → (frames : List ℕ) → List ℕ

@@ -16,8 +16,8 @@ owner_text None = []
 owner_text (Some p) = concat (map on_one_line p.name.text ∷ codes "." ∷ [])
 
 -- a variable with its value, for people
-abbrev pub variable_words : Option Procedure → List ℕ → Bool → List ℕ
-variable_words owner name value =
+abbrev pub assignment_text : Option Procedure → List ℕ → Bool → List ℕ
+assignment_text owner name value =
     concat (
     codes " " ∷ owner_text owner
     ∷ map on_one_line name ∷ codes "=" ∷ bit_text value ∷ [])
@@ -33,7 +33,7 @@ variable_object owner name value =
 
 -- the same in a view of this format
 abbrev pub variable_text : ViewFormat → Option Procedure → List ℕ → Bool → List ℕ
-variable_text Columns owner name value = variable_words owner name value
+variable_text Columns owner name value = assignment_text owner name value
 variable_text Json owner name value = variable_object owner name value
 
 -- the same of an entry, and of several

@@ -20,7 +20,7 @@ use Rattle.bp_trace.specs.declared.replaying.Replayed.{Replayed}
 use Rattle.bp_trace.specs.Replayed.{IsReplayed}
 use Rattle.bp_trace.specs.Replays.{IsPlayable, IsReplayRefusal}
 use Rattle.bp_source.specs.Places.{place_text}
-use Rattle.bp_source.specs.Scenes.{AreStatements}
+use Rattle.bp_source.specs.SourceStatements.{AreStatements}
 use Rattle.bp_facts.specs.CallFacts.{changes_by, printed_by, AreCallFacts, ShownCall}
 use Rattle.bp_facts.specs.Filters.{calls_of, is_asked}
 use Rattle.bp_facts.specs.Watches.{is_seen, watched_names, AreDeclared, IsUndeclared}

@@ -11,7 +11,7 @@ abbrev pub longest : List (List ℕ) → ℕ
 longest [] = 0
 longest (x ∷ xs) = max (length x) (longest xs)
 
--- What the widths of a view follow from: its number of calls, the places and the words of the
+-- What the widths of a view follow from: its number of calls, the places and the texts of the
 -- statements of its program, the number of its procedures, and how many columns a line may have.
 pub record Extent : Type 0 where
   pub calls : ℕ
@@ -39,15 +39,15 @@ pub record AreWidths (s : SetupOf) (e : Extent) (w : Widths) : Type 0 where
   pub thread : w.thread ≡ length (decimal (threads s))
   pub context : w.context ≡ length (decimal s.contexts)
   pub place : w.place ≡ max 1 (longest e.places)
-  pub words :
+  pub notes :
       let room = statement_room e.columns in
-      w.words ≡ longest (map (shortened room) e.statements) + 2 * min e.procedures MAX_INDENTS
+      w.notes ≡ longest (map (shortened room) e.statements) + 2 * min e.procedures MAX_INDENTS
   pub statement : w.statement ≡ statement_room e.columns
   pub line : w.line ≡ e.columns
 
 -- a device: the extent that the code reads from its context
 abbrev pub extent_of : ViewContext → Extent
 extent_of x =
-    let places = map (λ s. s.place.items) x.program.scenes.now in
-    let statements = map (λ s. s.excerpt.words.items) x.program.scenes.now in
+    let places = map (λ s. s.place.items) x.program.statements.now in
+    let statements = map (λ s. s.excerpt.text.items) x.program.statements.now in
     extent (length x.history.now) places statements (length x.program.procs.now) x.options.columns

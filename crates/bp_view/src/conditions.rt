@@ -19,14 +19,14 @@ pub(crate) fn values_lead(values: &[u8]) -> &'static [u8]
     if values.is_empty() { b"" } else { b"\nvalues" }
 }
 
-/// Adds where a condition begins, its words, and the line of these values.
+/// Adds where a condition begins, its text, and the line of these values.
 fn push_condition_lines<'a>(
     view: &mut Vec<u8>,
     condition: &'a ConditionFacts<'a>,
     values: &'a [u8],
 ) -> Result<(), AllocError>
     ensures { let x = condition_in condition.entry.now in
-        let text = condition_lines (position_text x.position) x.words values.entry.now in
+        let text = condition_lines (position_text x.position) x.text values.entry.now in
         OnOk result (view.new.items ≡ view.old.items ++ text) }
 {
     push_pieces(
@@ -37,21 +37,21 @@ fn push_condition_lines<'a>(
             Bytes(b":"),
             Number(condition.position.column as u64),
             Bytes(b": "),
-            Bytes(condition.words),
+            Bytes(condition.text),
             Bytes(values_lead(values)),
             Bytes(values),
         ],
     )
 }
 
-/// Adds where a condition begins, its words and these values, as members of an object.
+/// Adds where a condition begins, its text and these values, as members of an object.
 fn push_condition_members<'a>(
     view: &mut Vec<u8>,
     condition: &'a ConditionFacts<'a>,
     values: &'a [u8],
 ) -> Result<(), AllocError>
     ensures { let x = condition_in condition.entry.now in
-        let text = condition_members x.position x.words values.entry.now in
+        let text = condition_members x.position x.text values.entry.now in
         OnOk result (view.new.items ≡ view.old.items ++ text) }
 {
     push_pieces(
@@ -62,7 +62,7 @@ fn push_condition_members<'a>(
             Key(b"column"),
             Number(condition.position.column as u64),
             Key(b"statement"),
-            Text(condition.words),
+            Text(condition.text),
             Key(b"values"),
             List(values),
         ],

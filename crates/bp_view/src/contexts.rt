@@ -7,7 +7,7 @@ ghost use Rattle.bp_machine.specs.Setups.{FitsCode, SetupOf};
 ghost use Rattle.bp_trace.specs.Replays.{IsPlayable, IsReplayRefusal};
 ghost use Rattle.bp_text.specs.Pieces.{key_text};
 ghost use Rattle.bp_text.specs.Parts.{Adds, IsInParts};
-ghost use Rattle.bp_source.specs.Scenes.{AreScenes};
+ghost use Rattle.bp_source.specs.SourceStatements.{AreSourceStatements};
 ghost use Rattle.bp_facts.specs.ChangeFacts.{entry_of};
 ghost use Rattle.bp_facts.specs.ContextFacts.{context_in};
 ghost use Rattle.bp_facts.specs.Spans.{AreSpans, IsSpan};
@@ -221,7 +221,7 @@ fn contexts_in(
         → StandsFor code.now t
         → IsPlayable t shown.now.replayed.setup shown.now.replayed.history.items }
     ensures { (text : List ℕ)
-        → AreScenes text checked.now shown.now.scenes.items
+        → AreSourceStatements text checked.now shown.now.statements.items
         → let r = shown.now.replayed in
         let lines = AreContextLines format checked.now text r.setup r.history.items in
         IfOk result (λ v. lines v.items) }

@@ -26,7 +26,7 @@ impl Widths {
             thread: self.thread.max(THREAD.len()),
             context: self.context.max(CONTEXT.len()),
             place: self.place.max(PLACE.len()),
-            words: self.words,
+            notes: self.notes,
             statement: self.statement,
             line: self.line,
         }

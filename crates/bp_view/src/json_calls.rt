@@ -68,7 +68,7 @@ fn push_members(line: &mut Vec<u8>, facts: &CallFacts<'_>) -> Result<(), AllocEr
         Key(b"depth"),
         Number(facts.next.depth as u64),
         Key(b"statement"),
-        TextOrNull(facts.next.words),
+        TextOrNull(facts.next.text),
     )?;
     push_four(
         line,

@@ -5,7 +5,7 @@ ghost use Rattle.bp_text.specs.Columns.{at_right, spaces};
 ghost use Rattle.bp_text.specs.Pieces.{piece_text};
 ghost use Rattle.bp_facts.specs.CallFacts.{facts_in, next_in};
 ghost use Rattle.bp_facts.specs.ChangeFacts.{entry_of};
-ghost use Rattle.bp_view.specs.Lines.{after_room, call_text, choice_text, column_line, context_text, field_texts, indented, mark_text, note_text, reply_words, times_text};
+ghost use Rattle.bp_view.specs.Lines.{after_room, call_text, choice_text, column_line, context_text, field_texts, indented, mark_text, note_text, reply_note, times_text};
 ghost use Rattle.bp_view.specs.Variables.{entries_text};
 
 use crate::colours::Colour;
@@ -21,8 +21,8 @@ use bp_text::{Piece, push_piece};
 use std::alloc::AllocError;
 
 /// What is said of a reply.
-fn reply_words(reply: Reply) -> &'static [u8]
-    ensures { result.now ≡ reply_words reply }
+fn reply_note(reply: Reply) -> &'static [u8]
+    ensures { result.now ≡ reply_note reply }
 {
     match reply {
         Reply::Stopped => b" stopped",
@@ -76,14 +76,14 @@ fn push_fields(line: &mut Vec<u8>, widths: Widths, facts: &CallFacts<'_>) -> Res
 /// Adds the statement, moved to the right by the depth of the stack; no text where there is none.
 fn push_statement(line: &mut Vec<u8>, room: usize, next: Next<'_>) -> Result<(), AllocError>
     ensures { let next = next_in next.entry in
-        OnOk result (line.new.items ≡ line.old.items ++ indented room next.depth next.words) }
+        OnOk result (line.new.items ≡ line.old.items ++ indented room next.depth next.text) }
 {
-    let Some(words) = next.words else {
+    let Some(statement) = next.text else {
         return Ok(());
     };
     let indent = 2 * next.depth.min(MAX_INDENTS);
-    let (words, end) = in_column(room, words);
-    push_two(line, Spaces(indent), Bytes(words))?;
+    let (shown, end) = in_column(room, statement);
+    push_two(line, Spaces(indent), Bytes(shown))?;
     if end.is_empty() {
         return Ok(());
     }
@@ -91,7 +91,7 @@ fn push_statement(line: &mut Vec<u8>, room: usize, next: Next<'_>) -> Result<(),
 }
 
 /// A choice bit, where one is shown.
-fn choice_words(choice: Option<bool>) -> &'static [u8]
+fn choice_note(choice: Option<bool>) -> &'static [u8]
     ensures { result.now ≡ choice_text choice }
 {
     match choice {
@@ -132,7 +132,7 @@ fn write_note(note: &mut Vec<u8>, facts: &CallFacts<'_>, calls: usize) -> Result
     ensures { OnOk result (note.new.items ≡ note_text (facts_in facts.now) calls) }
 {
     note.clear();
-    let (choice, reply) = (choice_words(facts.choice()), reply_words(facts.call.reply));
+    let (choice, reply) = (choice_note(facts.choice()), reply_note(facts.call.reply));
     push_two(note, Bytes(choice), Bytes(reply))?;
     push_times(note, calls)?;
     push_changed(note, ViewFormat::Columns, facts.changes)
@@ -161,7 +161,7 @@ fn push_call(
     let start = line.len();
     push_statement(line, widths.statement, facts.next)?;
     let size = line.len().saturating_sub(start);
-    let room = spaces_before(widths.words.saturating_sub(size), note);
+    let room = spaces_before(widths.notes.saturating_sub(size), note);
     push_two(line, Spaces(room), Bytes(note))
 }
 

@@ -6,14 +6,14 @@ ghost use Rattle.bp_machine.specs.Histories.{configuration_after};
 ghost use Rattle.bp_machine.specs.Setups.{SetupOf};
 ghost use Rattle.bp_text.specs.Parts.{Adds};
 ghost use Rattle.bp_facts.specs.CallFacts.{facts_in};
-ghost use Rattle.bp_facts.specs.Moments.{IsMomentOf};
+ghost use Rattle.bp_facts.specs.ReplayedCalls.{IsReplayedCall};
 ghost use Rattle.bp_view.specs.ViewContexts.{IsViewContextOf};
 ghost use Rattle.bp_view.specs.Views.{line_in, printed_in, IsShownLine};
 
 use crate::json_calls::push_object;
 use crate::lines::push_line;
 use crate::view_contexts::ViewContext;
-use bp_facts::{CallFacts, Change, Moment, facts_of_call, fill_changes, has_watched};
+use bp_facts::{CallFacts, Change, ReplayedCall, facts_of_call, fill_changes, has_watched};
 use bp_tasks::ViewFormat;
 use std::alloc::AllocError;
 
@@ -50,12 +50,12 @@ pub(crate) fn push_shown<'a>(
     note: &mut Vec<u8>,
     changes: &mut Vec<Change<'a>>,
     context: &ViewContext<'a>,
-    moment: &Moment,
+    replayed: &ReplayedCall,
     printed: Option<&[bool]>,
 ) -> Result<(), AllocError>
     ensures { (t : Program) (text : List ℕ) (s : SetupOf) (h : List Answered) (x : Answered)
         → IsViewContextOf t text context.now
-        → IsMomentOf t s h x moment.now
+        → IsReplayedCall t s h x replayed.now
         → let o = context.now.options in
         option_map (λ v. v.now) printed.entry ≡ printed_in o.format (configuration_after t s h) x
         → let line = IsShownLine t text s o context.now.widths context.now.history.now h x in
@@ -64,19 +64,19 @@ pub(crate) fn push_shown<'a>(
     let count = context.history.len() as u64;
     if !context
         .filter
-        .asks_for(moment.call.thread, moment.number, count)
+        .asks_for(replayed.call.thread, replayed.number, count)
     {
         return Ok(());
     }
-    fill_changes(changes, &context.program, moment)?;
+    fill_changes(changes, &context.program, replayed)?;
     if !has_watched(context.names, changes) {
         return Ok(());
     }
     let calls = context
         .filter
-        .calls_in_line(context.history, &moment.call, moment.number);
+        .calls_in_line(context.history, &replayed.call, replayed.number);
     if calls > 0 {
-        let facts = facts_of_call(&context.program, moment, changes);
+        let facts = facts_of_call(&context.program, replayed, changes);
         push_line_in(view, note, context, &facts, calls, printed)?;
     }
     Ok(())

@@ -33,13 +33,13 @@ pub(crate) fn statement_room(columns: Option<usize>) -> usize
 }
 
 /// The bytes of a statement that its column has room for, and what ends them.
-pub(crate) fn in_column(room: usize, words: &[u8]) -> (&[u8], &[u8])
-    ensures { result.0.now ++ result.1.now ≡ shortened room words.now }
+pub(crate) fn in_column(room: usize, statement: &[u8]) -> (&[u8], &[u8])
+    ensures { result.0.now ++ result.1.now ≡ shortened room statement.now }
 {
-    if words.len() > room {
-        return (part_before(words, room.saturating_sub(CUT.len())), CUT);
+    if statement.len() > room {
+        return (part_before(statement, room.saturating_sub(CUT.len())), CUT);
     }
-    (words, b"")
+    (statement, b"")
 }
 
 /// Cuts a line that has more than `columns` bytes after its first `start` bytes.

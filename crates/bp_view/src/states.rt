@@ -6,11 +6,11 @@ ghost use Rattle.bp_code.specs.StandsFor.{valuation_of, StandsFor};
 ghost use Rattle.bp_machine.specs.Sessions.{Stands};
 ghost use Rattle.bp_machine.specs.Setups.{FitsCode};
 ghost use Rattle.bp_trace.specs.Replays.{IsPlayable, IsReplayRefusal};
-ghost use Rattle.bp_source.specs.Scenes.{AreScenes};
+ghost use Rattle.bp_source.specs.SourceStatements.{AreSourceStatements};
 ghost use Rattle.bp_facts.specs.StateFacts.{state_in, thread_in};
 ghost use Rattle.bp_view.specs.SetupLines.{globals_line};
 ghost use Rattle.bp_view.specs.ViewContexts.{IsViewContextOf};
-ghost use Rattle.bp_view.specs.States.{failed_line, failed_thread, standing_name, standing_words, state_lines, state_members, state_object, state_text, thread_lines, thread_object, thread_text, threads_text, IsStateOfTrace, IsStateText};
+ghost use Rattle.bp_view.specs.States.{failed_line, failed_thread, standing_name, standing_text, state_lines, state_members, state_object, state_text, thread_lines, thread_object, thread_text, threads_text, IsStateOfTrace, IsStateText};
 
 use crate::frames::push_frames;
 use crate::shown_traces::{ShownTrace, shown_trace_of};
@@ -29,8 +29,8 @@ use bp_tree::Name;
 use std::alloc::{AllocError, Global};
 
 /// How a thread stands, for people.
-fn standing_words(standing: Standing) -> &'static [u8]
-    ensures { result.now ≡ standing_words standing }
+fn standing_text(standing: Standing) -> &'static [u8]
+    ensures { result.now ≡ standing_text standing }
 {
     match standing {
         Standing::Finished => b" is finished",
@@ -74,7 +74,7 @@ fn push_thread_lines(
         &[
             Bytes(b"\nthread "),
             Number(u64::from(thread.thread)),
-            Bytes(standing_words(thread.standing)),
+            Bytes(standing_text(thread.standing)),
             Bytes(b"\n"),
             Bytes(frames),
         ],
@@ -316,7 +316,7 @@ fn state_after(
         → StandsFor code.now t
         → IsPlayable t shown.now.replayed.setup shown.now.replayed.history.items }
     ensures { (text : List ℕ)
-        → AreScenes text checked.now shown.now.scenes.items
+        → AreSourceStatements text checked.now shown.now.statements.items
         → let r = shown.now.replayed in
         let h = r.history.items in
         let state = IsStateText format checked.now text r.setup (take number h) (length h) in

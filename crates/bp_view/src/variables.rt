@@ -2,7 +2,7 @@
 ghost use Rattle.std.specs.Prelude.{◌≡◌, ◌<◌, ◌+◌, ◌^◌, ◌++◌, flat_map, length, option_map, OnOk};
 ghost use Rattle.bp_code.specs.Bits.{bits_of};
 ghost use Rattle.bp_code.specs.StandsFor.{valuation_of};
-ghost use Rattle.bp_view.specs.Variables.{owner_text, variable_object, variable_text, variable_words, variables_text};
+ghost use Rattle.bp_view.specs.Variables.{owner_text, variable_object, variable_text, assignment_text, variables_text};
 ghost use Rattle.bp_text.specs.Pieces.{piece_text};
 
 use bp_code::bit_of;
@@ -25,14 +25,14 @@ fn owner_pieces<'a>(owner: Option<&'a Proc>) -> [Piece<'a>; 2]
 }
 
 /// Adds a variable and its value, for people.
-fn push_variable_words(
+fn push_assignment(
     line: &mut Vec<u8>,
     owner: Option<&Proc>,
     name: &[u8],
     value: bool,
 ) -> Result<(), AllocError>
     ensures { let owner = option_map (λ p. p.now) owner.entry in
-        OnOk result (line.new.items ≡ line.old.items ++ variable_words owner name.now value) }
+        OnOk result (line.new.items ≡ line.old.items ++ assignment_text owner name.now value) }
 {
     let [owner, dot] = owner_pieces(owner);
     push_four(line, Bytes(b" "), owner, dot, OneLine(name))?;
@@ -83,7 +83,7 @@ pub(crate) fn push_value(
         (line.new.items ≡ line.old.items ++ variable_text format owner name.now value) }
 {
     match format {
-        ViewFormat::Columns => push_variable_words(line, owner, name, value),
+        ViewFormat::Columns => push_assignment(line, owner, name, value),
         ViewFormat::Json => push_variable_object(line, owner, name, value),
     }
 }

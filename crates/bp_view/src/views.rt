@@ -100,7 +100,7 @@ fn write_view<W: Write>(
     }
     let setup = &shown.replayed.setup;
     let history = shown.replayed.history.as_slice();
-    let context = view_context_of(&shown.scenes, checked, setup, history, options, names);
+    let context = view_context_of(&shown.statements, checked, setup, history, options, names);
     let head = head_of(alloc, &context, setup)?;
     let session = Session::new(alloc, code, setup)?;
     let mut writer = ViewWriter {

@@ -13,7 +13,7 @@ ghost use Rattle.bp_view.specs.Views.{next_print_in};
 
 use crate::shown::push_shown;
 use crate::view_contexts::ViewContext;
-use bp_facts::{Change, last_step, moment_of, printed_by};
+use bp_facts::{Change, last_step, printed_by, replayed_call};
 use bp_machine::{AskFault, Call, Session};
 use bp_tasks::ViewFormat;
 
@@ -84,18 +84,18 @@ impl ViewWriter<'_> {
         let number = self.made.saturating_add(1);
         let format = self.context.options.format;
         let next = next_print(&self.session, format, recorded.thread)?;
-        let moment = moment_of(&mut self.session, self.last, number, recorded)?;
-        let printed = printed_by(next.as_deref(), moment.call.reply);
+        let replayed = replayed_call(&mut self.session, self.last, number, recorded)?;
+        let printed = printed_by(next.as_deref(), replayed.call.reply);
         self.line.clear();
         push_shown(
             &mut self.line,
             &mut self.note,
             &mut self.changes,
             &self.context,
-            &moment,
+            &replayed,
             printed,
         )?;
-        self.last = last_step(self.last, &moment.call);
+        self.last = last_step(self.last, &replayed.call);
         self.made = number;
         Ok(())
     }

@@ -1,7 +1,8 @@
 use Rattle.std.proofs.lemmas.Grind.{common_steps}
-use Rattle.std.proofs.Common.{◌≡◌, ◌+◌, ◌-◌, ap, ◌∙◌, arith, length, [], ◌∷◌, ◌++◌, append_assoc, length-append, rules}
+use Rattle.std.proofs.Common.{◌≡◌, ◌+◌, ◌-◌, ap, arith, length, [], ◌∷◌, ◌++◌, length-append, rules}
 use Rattle.std.proofs.lemmas.List.{set_at}
 use Rattle.std.proofs.lemmas.Result.{on_ok_weaker}
+use Rattle.bp_text.proofs.GrownLists.{regrouped}
 use Rattle.bp_tree.specs.Views.{decision_of}
 use Rattle.bp_tree.specs.Blocks.{statement_of}
 use Rattle.bp_tree.specs.Depth.{depth, statement_depth}
@@ -31,7 +32,7 @@ note-returns-clause-sizes t c =
     let statement = statement_of c.args.stmt.now.form in
     let inside = inner_sizes statement in
     let noted = rw (c.form.ensures, c.in_ok-push.ensures.items) at c.in_ok-note_inside.ensures.sizes in
-    let items = noted ∙ append_assoc old (0 ∷ []) inside in
+    let items = simp regrouped at noted in
     let long = ap length items in
     let counts = length-append old (0 ∷ inside) in
     let one = inner_length statement in

@@ -1,5 +1,6 @@
-use Rattle.std.proofs.Common.{◌≡◌, ap, ◌∙◌, arith, length, [], ◌∷◌, ◌++◌, append_assoc}
+use Rattle.std.proofs.Common.{◌≡◌, ap, ◌∙◌, arith, length, [], ◌∷◌, ◌++◌}
 use Rattle.std.proofs.lemmas.Result.{on_ok_weaker}
+use Rattle.bp_text.proofs.GrownLists.{regrouped}
 use Rattle.bp_code.specs.Flat.{Return}
 use Rattle.bp_code.specs.Compiled.{block_size}
 use Rattle.bp_code.proofs.SizesInLayout.{sizes_length, whole_table}
@@ -29,4 +30,4 @@ returns-clause-code c =
     let start : c.len-start.result ≡ length c.args.out.now.items = rw c.len-start.ensures (let ok = c.args.out.now.ok in omega arith) in
     let code = rw (c.in_ok-new.ensures.start, start, size, c.body.ensures) at c.in_ok-emit_block.ensures.code in
     let pushed = rw c.new-2.ensures at c.push.ensures.code in
-    on_ok_weaker c.push.result (λ grown. grown ∙ ap (λ is. is ++ Return ∷ []) code ∙ append_assoc c.args.out.now.items _ (Return ∷ [])) pushed
+    on_ok_weaker c.push.result (λ grown. grown ∙ ap (λ is. is ++ Return ∷ []) code ∙ simp regrouped) pushed

@@ -1,7 +1,7 @@
 use Rattle.std.proofs.Common.{◌≡◌, ℕ, List, take}
 use Rattle.bp_machine.specs.Sessions.{Stands}
 use Rattle.bp_confirm.specs.Changes.{seen_after, IsLastChange}
-use Rattle.bp_confirm.specs.Spots.{spots_of}
+use Rattle.bp_confirm.specs.SourcePoints.{source_points_of}
 use Rattle.bp_confirm.proofs.changes.sight_of.Given as goal
 
 abbrev pub invariant-loop-n : goal.invariant-loop-n
@@ -10,7 +10,7 @@ invariant-loop-n l = record {
   code : l.again.code ≡ l.session.code;
   setup : l.again.setup ≡ l.session.setup;
   sight : (text : List ℕ)
-      → l.spots ≡ spots_of text l.checked
+      → l.points ≡ source_points_of text l.checked
       → let sees = seen_after l.checked l.session.setup l.history l.thread l.name in
       (l.sight.seen ≡ sees l.n) × IsLastChange sees l.n l.sight.changed;
 }

@@ -21,8 +21,8 @@ returns-in-Err-clause-refused c = λ text later are tells.
     let x : StepLineOf = record { thread = c.line.inside.thread; location = c.line.inside.location; values = values_in c.line.inside.values.now } in
     let top = c.in-Err.ensures text t h c.requires.code are stands in
     rw c.refusal_of.ensures
-    (subst (λ z. IsNotTaken text t s h z later n (refusal_of c.args.spots.now z n c.in-Err.number Elsewhere)) c.line.view_is
-    (elsewhere text t s h x later n c.in-Err.number top.1 c.args.spots.now are top.0))
+    (subst (λ z. IsNotTaken text t s h z later n (refusal_of c.args.points.now z n c.in-Err.number Elsewhere)) c.line.view_is
+    (elsewhere text t s h x later n c.in-Err.number top.1 c.args.points.now are top.0))
 
 pub returns-in_default-clause-refused : goal.returns-in_default-clause-refused
 returns-in_default-clause-refused c = λ text later are tells.
@@ -37,8 +37,8 @@ returns-in_default-clause-refused c = λ text later are tells.
     let number : GoesOnAt t now c.line.inside.thread (Some c.in-Ok.top.number) = (c.in-Ok.top, top.1, refl) in
     let knows : TellsNext text (step_of text x) later c.args.next = subst (λ z. TellsNext text (step_of text z) later c.args.next) (sym c.line.view_is) tells in
     rw c.refusal_of-in_default.ensures
-    (subst (λ z. IsNotTaken text t s h z later n (refusal_of c.args.spots.now z n (Some c.in-Ok.top.number) Ambiguous)) c.line.view_is
-    (ambiguous text t s h x later n (Some c.in-Ok.top.number) number c.args.spots.now are top.0
+    (subst (λ z. IsNotTaken text t s h z later n (refusal_of c.args.points.now z n (Some c.in-Ok.top.number) Ambiguous)) c.line.view_is
+    (ambiguous text t s h x later n (Some c.in-Ok.top.number) number c.args.points.now are top.0
     (c.in_default.ensures text t h (step_of text x) later c.requires.code are knows top.1)))
 
 pub returns-in-Err-Finished-clause-refused : goal.returns-in-Err-Finished-clause-refused
@@ -56,8 +56,8 @@ returns-in-Err-Finished-clause-refused c = λ text later are tells.
     let bit = c.in-Some.ensures text t h (step_of text x) later c.requires.code are knows top.1 in
     let over = rw c.in-Err-Finished.field-0-is at (c.in-Err-Finished.ensures.refused t h c.requires.code stands) in
     rw c.refusal_of-in-Err-Finished.ensures
-    (subst (λ z. IsNotTaken text t s h z later n (refusal_of c.args.spots.now z n (Some c.in-Ok.top.number) Finished)) c.line.view_is
-    (finished text t s h x later n (Some c.in-Ok.top.number) number c.args.spots.now are top.0 bit.1 over))
+    (subst (λ z. IsNotTaken text t s h z later n (refusal_of c.args.points.now z n (Some c.in-Ok.top.number) Finished)) c.line.view_is
+    (finished text t s h x later n (Some c.in-Ok.top.number) number c.args.points.now are top.0 bit.1 over))
 
 pub returns-then-not-is_granted-clause-refused : goal.returns-then-not-is_granted-clause-refused
 returns-then-not-is_granted-clause-refused c = λ text later are tells.
@@ -76,8 +76,8 @@ returns-then-not-is_granted-clause-refused c = λ text later are tells.
     let asked = c.in-Ok-call_of.ensures.asked in
     rw c.refusal_of-then-not-is_granted.ensures
     (subst (λ z. IsNotTaken text t s h z later n
-    (refusal_of c.args.spots.now z n (Some c.in-Ok.top.number) (Refused c.in-Ok-call_of.call.reply))) c.line.view_is
-    (answered text t s h x later n (Some c.in-Ok.top.number) number c.args.spots.now are top.0 bit.1
+    (refusal_of c.args.points.now z n (Some c.in-Ok.top.number) (Refused c.in-Ok-call_of.call.reply))) c.line.view_is
+    (answered text t s h x later n (Some c.in-Ok.top.number) number c.args.points.now are top.0 bit.1
     c.in-Ok-call_of.call asked.0 called.0 (asked.1 ∙ bit.0) (sym c.is_granted.ensures ∙ c.if-not-is_granted.true)))
 
 pub returns-in-Ok-Some-clause-refused : goal.returns-in-Ok-Some-clause-refused
@@ -101,8 +101,8 @@ returns-in-Ok-Some-clause-refused c = λ text later are tells.
     let differs = subst (λ z. IsDifference t s after z.thread z.values c.in-Ok-Some.found) (sym c.line.view_is)
     (subst (λ z. IsDifference t z after c.args.line.now.thread c.args.line.now.values c.in-Ok-Some.found) kept.1 found) in
     rw c.refusal_of-in-Ok-Some.ensures
-    (subst (λ z. IsNotTaken text t s h z later n (refusal_of c.args.spots.now z n (Some c.in-Ok.top.number) (Differs c.in-Ok-Some.found))) c.line.view_is
-    (others_seen text t s h x later n (Some c.in-Ok.top.number) number c.args.spots.now are top.0 bit.1
+    (subst (λ z. IsNotTaken text t s h z later n (refusal_of c.args.points.now z n (Some c.in-Ok.top.number) (Differs c.in-Ok-Some.found))) c.line.view_is
+    (others_seen text t s h x later n (Some c.in-Ok.top.number) number c.args.points.now are top.0 bit.1
     c.in-Ok-call_of.call asked.0 called.0 (asked.1 ∙ bit.0) (sym c.is_granted.ensures ∙ c.if-not-is_granted.false)
     c.in-Ok-Some.found differs))
 

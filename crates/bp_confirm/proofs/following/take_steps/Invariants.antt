@@ -1,7 +1,7 @@
 use Rattle.std.proofs.Common.{◌≡◌, ◌≤◌, ◌-◌, ℕ, List, length, take, drop, []}
 use Rattle.bp_machine.specs.Sessions.{Stands}
 use Rattle.bp_confirm.specs.Inferred.{FollowAfter}
-use Rattle.bp_confirm.specs.Spots.{spots_of}
+use Rattle.bp_confirm.specs.SourcePoints.{source_points_of}
 use Rattle.bp_confirm.specs.StepLines.{steps_of}
 use Rattle.bp_confirm.proofs.following.take_steps.Given as goal
 
@@ -11,7 +11,7 @@ invariant-loop-n l = record {
   made : length l.history.items ≡ l.n;
   stands : Stands l.checked l.session l.history.items;
   follow : (text : List ℕ)
-      → l.spots ≡ spots_of text l.checked
+      → l.points ≡ source_points_of text l.checked
       → FollowAfter l.checked l.fn.session.setup [] (steps_of text (take l.n l.lines)) (steps_of text (drop l.n l.lines)) l.history.items;
   code : l.session.code ≡ l.fn.session.code;
   setup : l.session.setup ≡ l.fn.session.setup;

@@ -7,7 +7,7 @@ pub returns-then-not-is_there : goal.returns-then-not-is_there
 returns-then-not-is_there c = λ text t h code are stands.
     let now = configuration_after t c.args.session.now.setup h in
     let top = c.in-Some.ensures t h code stands in (
-      stands_where text t c.args.spots.now now c.args.thread c.in-Some.top c.args.location are top
+      stands_where text t c.args.points.now now c.args.thread c.in-Some.top c.args.location are top
           ∙ sym c.is_there.ensures ∙ c.if-not-is_there.true,
       (c.in-Some.top, top, refl),
     )
@@ -16,4 +16,4 @@ pub returns : goal.returns
 returns c = λ text t h code are stands.
     let now = configuration_after t c.args.session.now.setup h in
     let top = c.in-Some.ensures t h code stands in
-    (stands_where text t c.args.spots.now now c.args.thread c.in-Some.top c.args.location are top ∙ sym c.is_there.ensures ∙ c.if-not-is_there.false, top)
+    (stands_where text t c.args.points.now now c.args.thread c.in-Some.top c.args.location are top ∙ sym c.is_there.ensures ∙ c.if-not-is_there.false, top)

@@ -9,16 +9,16 @@ returns-in_default-after c = no_space_after c.args.text.now c.in-Some.thread c.i
 
 pub returns-in_default-location_at : goal.returns-in_default-location_at
 returns-in_default-location_at c =
-    no_location c.args.text.now c.in-Some.thread c.in-Some.rest.now c.in-Some.ensures c.in-Some-after.words.now
+    no_location c.args.text.now c.in-Some.thread c.in-Some.rest.now c.in-Some.ensures c.in-Some-after.field.now
     c.in-Some-after.ensures c.in_default-location_at.ensures
 
 pub returns-in_default-values_at : goal.returns-in_default-values_at
 returns-in_default-values_at c =
-    no_values_line c.args.text.now c.in-Some.thread c.in-Some.rest.now c.in-Some.ensures c.in-Some-after.words.now c.in-Some-after.ensures
+    no_values_line c.args.text.now c.in-Some.thread c.in-Some.rest.now c.in-Some.ensures c.in-Some-after.field.now c.in-Some-after.ensures
     c.in-Some-location_at.location c.in-Some-location_at.rest.now c.in-Some-location_at.ensures c.in_default-values_at.ensures
 
 pub returns : goal.returns
 returns c =
-    has_step c.args.text.now c.in-Some.thread c.in-Some.rest.now c.in-Some.ensures c.in-Some-after.words.now c.in-Some-after.ensures
+    has_step c.args.text.now c.in-Some.thread c.in-Some.rest.now c.in-Some.ensures c.in-Some-after.field.now c.in-Some-after.ensures
     c.in-Some-location_at.location c.in-Some-location_at.rest.now c.in-Some-location_at.ensures
     c.in-Some-values_at.values.now c.in-Some-values_at.more.now c.in-Some-values_at.ensures

@@ -14,7 +14,7 @@ returns-then-is_empty-clause-entry c = λ name rest named e.
     let first = line_first after name rest named.line cut in
     elim c.then-is_empty.branch [
       | then-is_empty-via-then-is_empty w ↦
-          let none = none_left c.in_ok-line.line.words.now (sym c.is_empty.ensures ∙ w.if-is_empty.true) in
+          let none = none_left c.in_ok-line.line.text.now (sym c.is_empty.ensures ∙ w.if-is_empty.true) in
           named.some (sym first ∙ sym c.in_ok-line.ensures.line ∙ none)
       | then-is_empty-via-else-is_empty+then-not-line w ↦
           let sizes = ap length cut in

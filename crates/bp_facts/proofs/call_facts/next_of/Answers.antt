@@ -9,14 +9,14 @@ returns-in_default c = λ t text d i set is.
     let none : stack_of d i ≡ [] = rw c.in_default.is at is in
     subst (λ s. IsNextOf text s nothing_next) (sym none) refl
 
-pub returns-in_default-scene_of : goal.returns-in_default-scene_of
-returns-in_default-scene_of c = λ t text d i set is.
+pub returns-in_default-source_statement_of : goal.returns-in_default-source_statement_of
+returns-in_default-source_statement_of c = λ t text d i set is.
     let top = rw c.in-Some.is at is in
-    absurd (rw c.in_default-scene_of.is at c.scene_of.ensures t text d (stack_of d i) set top)
+    absurd (rw c.in_default-source_statement_of.is at c.source_statement_of.ensures t text d (stack_of d i) set top)
 
 pub returns : goal.returns
 returns c = λ t text d i set is.
     let top = rw c.in-Some.is at is in
-    let shows = rw c.in-Some-scene_of.is at c.scene_of.ensures t text d (stack_of d i) set top in
+    let shows = rw c.in-Some-source_statement_of.is at c.source_statement_of.ensures t text d (stack_of d i) set top in
     rw (c.as_slice.ensures.value, c.name_at.ensures, c.as_slice-2.ensures.value, set.procedures)
-    (next_of_top t text d (stack_of d i) c.in-Some.top top c.in-Some-scene_of.scene.now shows)
+    (next_of_top t text d (stack_of d i) c.in-Some.top top c.in-Some-source_statement_of.statement.now shows)

@@ -38,4 +38,4 @@ returns c = λ t text now later i setting leads.
     added
     ∙ ap (λ (es : List Entry). es ++ frame_entries f g before.depth after.depth) values
     ∙ ap (λ (es : List Entry). globals ++ es) (sym stacks))
-    (c.add_frame.ensures t text f g setting.scenes setting.procedures is.next was.locals is.locals (λ e. call (sym was.depth ∙ e ∙ is.depth)))
+    (c.add_frame.ensures t text f g setting.statements setting.procedures is.next was.locals is.locals (λ e. call (sym was.depth ∙ e ∙ is.depth)))

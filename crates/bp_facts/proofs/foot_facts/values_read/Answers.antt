@@ -14,7 +14,7 @@ returns c = λ t text now i set is.
     let p = is.frame.procedure in
     let q = c.in-Some.proc.now in
     let names = variables_read (decision_of c.args.decider.now) in
-    let own = rw c.in-Some.is at c.procedure_at.ensures t text (place p is.frame.left) set.scenes set.procedures is.next in
+    let own = rw c.in-Some.is at c.procedure_at.ensures t text (place p is.frame.left) set.statements set.procedures is.next in
     let proc : q ≡ p = cc in
     IfOk-weaker c.variables_named.result _ _ (λ v said.
     said

@@ -6,7 +6,7 @@ use Rattle.bp_machine.specs.Replies.{is_granted}
 use Rattle.bp_machine.specs.Sessions.{Stands}
 use Rattle.bp_trace.proofs.PlayableFronts.{own_is}
 use Rattle.bp_facts.specs.declared.spans.Span.{Span}
-use Rattle.bp_facts.specs.Spans.{AreSpans, IsSpot}
+use Rattle.bp_facts.specs.Spans.{AreSpans, IsStandingPoint}
 use Rattle.bp_facts.proofs.PlayedFronts.{asked_refused}
 use Rattle.bp_facts.proofs.SpansOfHistories.{spans_idle, spans_with, IsOwnStep}
 use Rattle.bp_facts.proofs.spans.play_call.Goals as goal
@@ -31,20 +31,20 @@ returns-in_ok-push_step-clause-spans c = λ t h is stands playable number are.
     let granted : is_granted x.reply ≡ true = ap (λ y. is_granted y.reply) (sym own) ∙ sym c.if-is_step.ensures in
     let later = subst (λ y. Stands t c.ask_as_recorded.new.self (h ++ y ∷ [])) own (c.in_ok-call.ensures.stands t h is stands) in
     let code = subst (λ k. StandsFor k t) (sym c.in_ok-call.ensures.kept.0) is in
-    let after = c.spot_of.ensures t (h ++ x ∷ []) code later in
+    let after = c.standing_point.ensures t (h ++ x ∷ []) code later in
     let step : Span = record {
       thread = x.thread;
       first = c.args.number;
       last = c.args.number;
-      before = c.spot_of-before.result;
-      after = c.spot_of.result;
+      before = c.standing_point-before.result;
+      after = c.standing_point.result;
     } in
     let own_step : IsOwnStep t s h x step = record {
       thread = refl;
       first = number;
       last = number;
-      before = c.spot_of-before.ensures t h is stands;
-      after = subst (λ k. IsSpot t (configuration_after t k (h ++ x ∷ [])) x.thread c.spot_of.result) c.in_ok-call.ensures.kept.1 after;
+      before = c.standing_point-before.ensures t h is stands;
+      after = subst (λ k. IsStandingPoint t (configuration_after t k (h ++ x ∷ [])) x.thread c.standing_point.result) c.in_ok-call.ensures.kept.1 after;
     } in
     subst (AreSpans t s (h ++ x ∷ [])) (sym c.in_ok-push_step.ensures) (spans_with t s h x step own_step c.args.spans.now.items are granted)
 

@@ -2,7 +2,7 @@ use Rattle.std.proofs.Common.{sym, subst}
 use Rattle.std.specs.Prelude.{◌||◌}
 use Rattle.bp_text.proofs.TextsOnOneLine.{one_line_after}
 use Rattle.bp_source.specs.Statements.{Lexeme, is_choice}
-use Rattle.bp_source.proofs.WordsOfStatements.{ReadsTo, reads_all, reads_more}
+use Rattle.bp_source.proofs.LexemesOfStatements.{ReadsTo, reads_all, reads_more}
 use Rattle.bp_source.proofs.excerpts.excerpt_of.Goals as goal
 
 pub loop-lexeme-preserved : goal.loop-lexeme-preserved
@@ -10,9 +10,9 @@ loop-lexeme-preserved c =
     let before = c.loop-lexeme in
     let text = c.args.text.now in
     let l : Lexeme = record { kind = c.in-Some.lexeme.kind; bytes = c.in-Some.lexeme.text.now } in
-    let new = c.push_lexeme.new.words.items in
+    let new = c.push_lexeme.new.line.items in
     let next = c.take_own_lexeme.new.text.now in
-    let read = reads_more text before.words.items before.had_gap before.reads_choice before.rest.now
+    let read = reads_more text before.line.items before.had_gap before.reads_choice before.rest.now
     before.invariant.reads l new next c.in-Some.ensures.lexeme c.in_ok-push_lexeme.ensures.is in
     let with_gap = subst (λ g. ReadsTo text new g (before.reads_choice || is_choice l.bytes) next) (sym c.is_gap-had_gap.ensures) read in
     record {
@@ -23,11 +23,11 @@ loop-lexeme-preserved c =
 pub returns-clause-is : goal.returns-clause-is
 returns-clause-is c =
     let before = c.loop-lexeme in
-    let read = reads_all c.args.text.now before.words.items before.had_gap before.reads_choice before.rest.now
+    let read = reads_all c.args.text.now before.line.items before.had_gap before.reads_choice before.rest.now
     before.invariant.reads c.in_default.ensures.lexeme in
     record {
       lexemes = read.lexemes;
       lexemes_are = read.lexemes_are;
-      words_are = read.words_are;
+      shown_is = read.shown_is;
       reads_is = read.reads_is;
     }

@@ -1,12 +1,12 @@
 use Rattle.std.proofs.Common.{length}
 use Rattle.bp_text.specs.OneLine.{IsOneLine}
-use Rattle.bp_source.proofs.WordsOfStatements.{ReadsTo}
+use Rattle.bp_source.proofs.LexemesOfStatements.{ReadsTo}
 use Rattle.bp_source.proofs.excerpts.excerpt_of.Given as goal
 
 abbrev pub invariant-loop-lexeme : goal.invariant-loop-lexeme
 invariant-loop-lexeme l = record {
-  one_line : IsOneLine l.words.items;
-  reads : ReadsTo l.text l.words.items l.had_gap l.reads_choice l.rest;
+  one_line : IsOneLine l.line.items;
+  reads : ReadsTo l.text l.line.items l.had_gap l.reads_choice l.rest;
 }
 
 abbrev pub decreases-loop-lexeme : goal.decreases-loop-lexeme

@@ -6,5 +6,5 @@ use Rattle.bp_source.proofs.json_listings.push_instructions.Given as goal
 abbrev pub invariant-loop-number : goal.invariant-loop-number
 invariant-loop-number l =
     let instructions = l.code.instructions in
-    l.out.items ++ instruction_objects l.procs l.number (drop l.number instructions) (drop l.number l.scenes)
-    ≡ l.initial.out.items ++ instruction_objects l.procs 0 instructions l.scenes
+    l.out.items ++ instruction_objects l.procs l.number (drop l.number instructions) (drop l.number l.statements)
+    ≡ l.initial.out.items ++ instruction_objects l.procs 0 instructions l.statements

@@ -2,6 +2,6 @@ use Rattle.std.proofs.Common.{◌≡◌, map, take}
 use Rattle.bp_source.specs.Said.{said_of}
 use Rattle.bp_source.proofs.statements.all_said.Given as goal
 
-abbrev pub invariant-loop-scene : goal.invariant-loop-scene
-invariant-loop-scene l =
-    map (λ text. text.items) l.texts.items ≡ map (said_of l.said) (take l.scene-index l.scene-items)
+abbrev pub invariant-loop-statement : goal.invariant-loop-statement
+invariant-loop-statement l =
+    map (λ text. text.items) l.texts.items ≡ map (said_of l.said) (take l.statement-index l.statement-items)

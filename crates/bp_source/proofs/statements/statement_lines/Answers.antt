@@ -3,4 +3,4 @@ use Rattle.bp_source.proofs.statements.statement_lines.Goals as goal
 
 pub returns : goal.returns
 returns c =
-    IfOk-weaker c.all_said.result _ _ (λ v said. record { scenes = said.scenes; are = said.are; lines_are = said.texts_are }) c.all_said.ensures
+    IfOk-weaker c.all_said.result _ _ (λ v said. record { statements = said.statements; are = said.are; lines_are = said.texts_are }) c.all_said.ensures

@@ -1,13 +1,13 @@
 use Rattle.std.proofs.Common.{◌∙◌, map, ap}
 use Rattle.std.proofs.lemmas.List.{take_all}
 use Rattle.bp_code.specs.StandsFor.{places_of}
-use Rattle.bp_source.proofs.PositionsOfScenes.{positions_are}
+use Rattle.bp_source.proofs.PositionsOfStatements.{positions_are}
 use Rattle.bp_source.proofs.statements.statement_positions.Goals as goal
 
 pub returns : goal.returns
 returns c =
     let t = c.args.checked.now in
-    let items = c.deref-scene-items.ensures.value in
-    c.loop-scene.invariant
-    ∙ (ap (λ ss. map (λ s. s.position) ss) (take_all c.loop-scene.scene-index c.deref-scene-items.result.now c.loop-scene-test.false ∙ items)
-    ∙ positions_are c.args.text.now t.procedures (places_of t.procedures) c.in_ok-scenes.scenes.items c.in_ok-scenes.ensures)
+    let items = c.deref-statement-items.ensures.value in
+    c.loop-statement.invariant
+    ∙ (ap (λ ss. map (λ s. s.position) ss) (take_all c.loop-statement.statement-index c.deref-statement-items.result.now c.loop-statement-test.false ∙ items)
+    ∙ positions_are c.args.text.now t.procedures (places_of t.procedures) c.in_ok-statements.statements.items c.in_ok-statements.ensures)

@@ -1,5 +1,5 @@
 use Rattle.std.proofs.Common.{◌≡◌, map, take}
 use Rattle.bp_source.proofs.statements.statement_positions.Given as goal
 
-abbrev pub invariant-loop-scene : goal.invariant-loop-scene
-invariant-loop-scene l = l.positions.items ≡ map (λ scene. scene.position) (take l.scene-index l.scene-items)
+abbrev pub invariant-loop-statement : goal.invariant-loop-statement
+invariant-loop-statement l = l.positions.items ≡ map (λ statement. statement.position) (take l.statement-index l.statement-items)

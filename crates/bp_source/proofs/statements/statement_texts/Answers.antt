@@ -1,8 +1,8 @@
 use Rattle.std.proofs.Common.{subst, sym}
 use Rattle.std.proofs.lemmas.Result.{IfOk-weaker}
 use Rattle.bp_code.specs.StandsFor.{places_of}
-use Rattle.bp_source.specs.Scenes.{AreStatements}
-use Rattle.bp_source.proofs.WordsOfScenes.{words_are}
+use Rattle.bp_source.specs.SourceStatements.{AreStatements}
+use Rattle.bp_source.proofs.TextsOfStatements.{texts_are}
 use Rattle.bp_source.proofs.statements.statement_texts.Goals as goal
 
 pub returns : goal.returns
@@ -10,4 +10,4 @@ returns c =
     let text = c.args.text.now in
     let ps = c.args.checked.now.procedures in
     IfOk-weaker c.all_said.result _ _ (λ v said. subst (AreStatements text (places_of ps)) (sym said.texts_are)
-    (words_are text ps (places_of ps) said.scenes said.are)) c.all_said.ensures
+    (texts_are text ps (places_of ps) said.statements said.are)) c.all_said.ensures

@@ -4,10 +4,10 @@ use Rattle.bp_code.specs.StandsFor.{StandsFor}
 use Rattle.bp_machine.specs.Sessions.{Stands}
 use Rattle.bp_test.specs.declared.keys.TheConstants.{FIRST_KEY}
 use Rattle.bp_test.specs.Keys.{no_call, IsKey}
-use Rattle.bp_test.specs.Reached.{place_of, IsTried, MarksGrow}
+use Rattle.bp_test.specs.Reached.{place_of, IsReachedByCall, MarksGrow}
 use Rattle.bp_test.proofs.KeysOfRuns.{key_of_call}
 use Rattle.bp_test.proofs.Playing.{smaller}
-use Rattle.bp_test.proofs.ReachedPlaces.{marks_of_call, none_tried}
+use Rattle.bp_test.proofs.ReachedPlaces.{marks_of_call, none_by_call}
 use Rattle.bp_test.proofs.runs.follow.Goals as goal
 
 pub loop-thread-init : goal.loop-thread-init
@@ -18,8 +18,8 @@ loop-thread-init c =
       setup = refl;
       marks = λ t is.
           subst
-          (λ h. MarksGrow (place_of t) (IsTried t c.args.session.now.setup h) c.args.reached.now.items c.args.reached.now.items)
-          none (none_tried t c.args.session.now.setup c.args.reached.now.items);
+          (λ h. MarksGrow (place_of t) (IsReachedByCall t c.args.session.now.setup h) c.args.reached.now.items c.args.reached.now.items)
+          none (none_by_call t c.args.session.now.setup c.args.reached.now.items);
       key = λ t is. subst (λ h. IsKey t c.args.session.now.setup h FIRST_KEY) none no_call;
     }
 
@@ -39,9 +39,12 @@ returns-then-eq-clause-marks c = λ t is.
     let was = subst (λ k. StandsFor k t) c.play.ensures.kept.0 is in
     marks_of_call t c.loop-thread.session.setup c.play.new.session.setup c.loop-thread.history.items
     c.play.new.history.items _ _ _ c.args.reached.now.items c.loop-thread.reached.items c.reach.new.reached.items
+    c.reach_wait.new.reached.items
     c.play.ensures.kept.1 c.in_ok-reply.ensures.grown
     (c.next_number-number.ensures t c.loop-thread.history.items was (c.loop-thread.invariant.stands t was))
-    c.reach.ensures (c.loop-thread.invariant.marks t was)
+    c.reach.ensures (c.reach_wait.ensures t c.play.new.history.items is (c.in_ok-reply.ensures.stands t is)
+    (c.next_number-next.ensures t c.play.new.history.items is (c.in_ok-reply.ensures.stands t is)))
+    (c.loop-thread.invariant.marks t was)
 
 pub loop-thread-preserved : goal.loop-thread-preserved
 loop-thread-preserved c = record {
@@ -52,9 +55,12 @@ loop-thread-preserved c = record {
       let was = subst (λ k. StandsFor k t) c.play.ensures.kept.0 is in
       marks_of_call t c.loop-thread.session.setup c.play.new.session.setup c.loop-thread.history.items
       c.play.new.history.items _ _ _ c.args.reached.now.items c.loop-thread.reached.items c.reach.new.reached.items
+      c.reach_wait.new.reached.items
       c.play.ensures.kept.1 c.in_ok-reply.ensures.grown
       (c.next_number-number.ensures t c.loop-thread.history.items was (c.loop-thread.invariant.stands t was))
-      c.reach.ensures (c.loop-thread.invariant.marks t was);
+      c.reach.ensures (c.reach_wait.ensures t c.play.new.history.items is (c.in_ok-reply.ensures.stands t is)
+      (c.next_number-next.ensures t c.play.new.history.items is (c.in_ok-reply.ensures.stands t is)))
+      (c.loop-thread.invariant.marks t was);
   key = λ t is.
       let was = subst (λ k. StandsFor k t) c.play.ensures.kept.0 is in
       key_of_call t c.loop-thread.session.setup c.play.new.session.setup c.loop-thread.history.items c.play.new.history.items _ _ _ c.loop-thread.key _

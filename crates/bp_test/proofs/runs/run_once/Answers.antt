@@ -1,7 +1,8 @@
-use Rattle.std.proofs.Common.{rules, subst}
+use Rattle.std.proofs.Common.{rules, ℕ, [], subst, sym}
 use Rattle.bp_code.specs.Programs.{IsOfProgram}
-use Rattle.bp_test.specs.Reached.{place_of, IsTried, IsWaitedAt}
-use Rattle.bp_test.proofs.MarkLemmas.{more_marks}
+use Rattle.bp_code.specs.StandsFor.{StandsFor}
+use Rattle.bp_test.specs.Reached.{place_of, IsWaiting, MarksGrow}
+use Rattle.bp_test.proofs.ReachedPlaces.{whole_marks}
 use Rattle.bp_test.proofs.runs.run_once.Goals as goal
 
 pub follow-requires-clause-program : goal.follow-requires-clause-program
@@ -11,9 +12,14 @@ pub returns-clause-marks : goal.returns-clause-marks
 returns-clause-marks c = λ t is.
     let s = c.follow.new.session.setup in
     let h = c.follow.new.history.items in
-    more_marks (place_of t) (IsTried t s h) (IsWaitedAt t s h) c.args.reached.now.items c.follow.new.reached.items
-    (c.in_ok-steps.ensures.marks t is) c.reach_waiting.new.reached.items
-    (c.reach_waiting.ensures t h is (c.in_ok-steps.ensures.stands t is))
+    let old = c.args.reached.now.items in
+    let first = c.reach_waits.new.reached.items in
+    let was = subst (λ k. StandsFor k t) c.in_ok-steps.ensures.kept.0 is in
+    let start =
+    subst (λ z. MarksGrow (place_of t) (λ x. (i : ℕ) × IsWaiting t z [] i x) old first) (sym c.in_ok-steps.ensures.kept.1)
+    (c.reach_waits.ensures t [] was (c.in_ok-session.ensures.stands t (subst (λ k. StandsFor k t) c.in_ok-session.ensures.kept.0 was))) in
+    whole_marks t s h old first c.follow.new.reached.items c.reach_waits-2.new.reached.items start (c.in_ok-steps.ensures.marks t is)
+    (c.reach_waits-2.ensures t h is (c.in_ok-steps.ensures.stands t is))
 
 pub returns-clause-key : goal.returns-clause-key
 returns-clause-key c = λ t is. record {

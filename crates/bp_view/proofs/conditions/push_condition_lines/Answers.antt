@@ -8,5 +8,5 @@ returns c =
     let x = c.args.condition.now in
     let old = c.args.view.now.items in
     let lead = c.values_lead.result.now in
-    let joined = condition_joined (decimal x.position.line) (decimal x.position.column) x.words.now lead c.args.values.now c.values_lead.ensures in
+    let joined = condition_joined (decimal x.position.line) (decimal x.position.column) x.text.now lead c.args.values.now c.values_lead.ensures in
     when_ok c.push_pieces.result c.push_pieces.ensures (λ added. rw added (ap (λ y. old ++ y) joined))

@@ -20,6 +20,6 @@ returns c =
     record {
       replayed = c.in_ok-shown.shown.replayed;
       is = shown.is;
-      lines_are = c.in_ok-lines.ensures c.args.text.now shown.scenes;
+      lines_are = c.in_ok-lines.ensures c.args.text.now shown.statements;
       report_is = refl;
     }

@@ -10,7 +10,7 @@ returns c =
     let frame = c.args.frame in
     let old = c.args.view.now.items in
     let name = map on_one_line frame.proc.now.name.text in
-    let joined = frame_joined (lead frame.above) name frame.place.now frame.words.now c.values_lead.result.now c.args.values.now c.values_lead.ensures in
+    let joined = frame_joined (lead frame.above) name frame.place.now frame.text.now c.values_lead.result.now c.args.values.now c.values_lead.ensures in
     when_ok c.push_pieces.result c.push_pieces.ensures (λ added.
     rw (added, c.lead.ensures, c.as_bytes.ensures.value, c.text.ensures, c.name.ensures)
     (ap (λ x. old ++ x) joined))

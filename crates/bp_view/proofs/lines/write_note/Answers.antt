@@ -2,7 +2,7 @@ use Rattle.std.proofs.Common.{[], ◌∷◌}
 use Rattle.bp_text.proofs.PiecesInTurn.{all_added}
 use Rattle.bp_facts.specs.CallFacts.{choice_of, facts_in}
 use Rattle.bp_tasks.specs.declared.view_options.ViewFormat.TheVariants.{Columns}
-use Rattle.bp_view.specs.Lines.{choice_text, reply_words, times_text}
+use Rattle.bp_view.specs.Lines.{choice_text, reply_note, times_text}
 use Rattle.bp_view.specs.Variables.{entries_text}
 use Rattle.bp_view.proofs.lines.write_note.Goals as goal
 use Rattle.bp_source.proofs.JoinedPieces.{when_ok}
@@ -16,8 +16,8 @@ returns c =
       c.in_ok-push_times.ensures,
       c.in_ok-push_two.ensures,
       c.clear.ensures.items,
-      c.choice_words-choice.ensures,
+      c.choice_note-choice.ensures,
       c.choice.ensures,
-      c.reply_words-reply.ensures,
+      c.reply_note-reply.ensures,
     )
-    (all_added [] (choice_text (choice_of f) ∷ reply_words f.call.reply ∷ times_text c.args.calls ∷ entries_text Columns f.changes ∷ [])))
+    (all_added [] (choice_text (choice_of f) ∷ reply_note f.call.reply ∷ times_text c.args.calls ∷ entries_text Columns f.changes ∷ [])))

@@ -11,7 +11,7 @@ use Rattle.bp_view.proofs.shown.push_shown.Goals as goal
 pub returns-then-not-asks_for : goal.returns-then-not-asks_for
 returns-then-not-asks_for c = λ t text s h x set of printed.
     let context = c.args.context.now in
-    let m = c.args.moment.now in
+    let m = c.args.replayed.now in
     let f = context.filter in
     let none = sym c.asks_for.ensures ∙ c.if-not-asks_for.true in
     let asked = asked_of t text s context h x m of f set.filter false none in
@@ -20,7 +20,7 @@ returns-then-not-asks_for c = λ t text s h x set of printed.
 pub returns-then-not-has_watched : goal.returns-then-not-has_watched
 returns-then-not-has_watched c = λ t text s h x set of printed.
     let context = c.args.context.now in
-    let m = c.args.moment.now in
+    let m = c.args.replayed.now in
     let f = context.filter in
     let some = sym c.asks_for.ensures ∙ c.if-not-asks_for.false in
     let asked = asked_of t text s context h x m of f set.filter true some in
@@ -34,7 +34,7 @@ returns-then-not-has_watched c = λ t text s h x set of printed.
 pub returns-else-calls-gt0 : goal.returns-else-calls-gt0
 returns-else-calls-gt0 c = λ t text s h x set of printed.
     let context = c.args.context.now in
-    let m = c.args.moment.now in
+    let m = c.args.replayed.now in
     let f = context.filter in
     let some = sym c.asks_for.ensures ∙ c.if-not-asks_for.false in
     let asked = asked_of t text s context h x m of f set.filter true some in
@@ -51,7 +51,7 @@ returns-else-calls-gt0 c = λ t text s h x set of printed.
 pub returns-in_ok-push_line_in : goal.returns-in_ok-push_line_in
 returns-in_ok-push_line_in c = λ t text s h x set of printed.
     let context = c.args.context.now in
-    let m = c.args.moment.now in
+    let m = c.args.replayed.now in
     let f = context.filter in
     let wanted = sym c.asks_for.ensures ∙ c.if-not-asks_for.false in
     let asked = asked_of t text s context h x m of f set.filter true wanted in

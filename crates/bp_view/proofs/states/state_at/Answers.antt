@@ -20,6 +20,6 @@ returns c =
     record {
       replayed = c.in_ok-shown.shown.replayed;
       is = shown.is;
-      state_is = c.in_ok-state.ensures c.args.text.now shown.scenes;
+      state_is = c.in_ok-state.ensures c.args.text.now shown.statements;
       report_is = refl;
     }

@@ -1,5 +1,5 @@
 use Rattle.std.proofs.Common.{subst, sym}
-use Rattle.bp_source.specs.Scenes.{AreScenes}
+use Rattle.bp_source.specs.SourceStatements.{AreSourceStatements}
 use Rattle.bp_view.proofs.view_contexts.view_context_of.Goals as goal
 
 pub returns-clause-known : goal.returns-clause-known
@@ -7,7 +7,7 @@ returns-clause-known c = λ text are names.
     let facts = c.facts_of_program-program.ensures in
     record {
       program = record {
-        scenes = subst (AreScenes text c.args.checked.now) (sym facts.scenes) are;
+        statements = subst (AreSourceStatements text c.args.checked.now) (sym facts.statements) are;
         globals = facts.globals;
         procedures = facts.procedures;
       };

@@ -16,10 +16,10 @@ returns-in_ok-note-clause-sees c = λ first t h code stands seen. (
       let now = configuration_after t s h in
       let call = c.in_ok-call.call in
       let old = c.args.self.now.steps.items in
-      let spots = ap (λ b. b.now) seen.0 ∙ are in
+      let points = ap (λ b. b.now) seen.0 ∙ are in
       let same = c.in_ok-call.ensures.asked.0 in
       let position =
-      c.position_of-position.ensures text t h code spots stands
+      c.position_of-position.ensures text t h code points stands
       ∙ ap (λ i. option_map (position_at text) (next_start (stack_of now i))) (sym same) in
       let made : OwnStep = record { thread = call.thread; position = c.position_of-position.result } in
       let step : made ≡ own_step text now call = (λ j. record { thread = call.thread; position = position j }) in

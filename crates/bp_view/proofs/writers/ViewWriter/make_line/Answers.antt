@@ -16,12 +16,12 @@ pub returns-clause-made : goal.returns-clause-made
 returns-clause-made c = λ t h has playable.
     let s = c.args.self.now.session.setup in
     let x = c.args.recorded.now in
-    let moment = c.in_ok-moment.moment in
-    let own = own_is t s h x [] playable moment.call (c.in_ok-moment.ensures.answer t h has.code has.stands) in
+    let replayed = c.in_ok-replayed.replayed in
+    let own = own_is t s h x [] playable replayed.call (c.in_ok-replayed.ensures.answer t h has.code has.stands) in
     let few = next_number t s h has.stands.state.legal (rw c.setup.ensures at c.is_in_range.ensures) in
     record {
-      code = subst (λ k. StandsFor k t) (sym c.in_ok-moment.ensures.kept.0) has.code;
-      stands = subst (λ y. Stands t c.moment_of.new.session (h ++ y ∷ [])) own (c.in_ok-moment.ensures.stands t h has.code has.stands);
+      code = subst (λ k. StandsFor k t) (sym c.in_ok-replayed.ensures.kept.0) has.code;
+      stands = subst (λ y. Stands t c.replayed_call.new.session (h ++ y ∷ [])) own (c.in_ok-replayed.ensures.stands t h has.code has.stands);
       last = c.last_step-self.ensures h has.last ∙ ap (λ y. last_thread (granted_threads (h ++ y ∷ []))) own;
       made = omega (arith, c.saturating_add-number.ensures, has.made, few, length-append h (x ∷ []));
     }
@@ -31,12 +31,12 @@ returns-clause-line c = λ t text h has playable known.
     let s = c.args.self.now.session.setup in
     let x = c.args.recorded.now in
     let context = c.args.self.now.context in
-    let y = c.in_ok-moment.moment.call in
-    let answer = c.in_ok-moment.ensures.answer t h has.code has.stands in
+    let y = c.in_ok-replayed.replayed.call in
+    let answer = c.in_ok-replayed.ensures.answer t h has.code has.stands in
     let own = own_is t s h x [] playable y answer in
     let few = next_number t s h has.stands.state.legal (rw c.setup.ensures at c.is_in_range.ensures) in
     let number : c.saturating_add-number.result ≡ suc (length h) = omega (arith, c.saturating_add-number.ensures, has.made, few) in
-    let moment = c.in_ok-moment.ensures.is t h has.code has.stands has.last number in
+    let replayed = c.in_ok-replayed.ensures.is t h has.code has.stands has.last number in
     let now = configuration_after t s h in
     let next = c.in_ok-next.ensures t h has.code has.stands in
     let values = option_map (λ v. v.items) c.in_ok-next.next in
@@ -44,7 +44,7 @@ returns-clause-line c = λ t text h has playable known.
     let own_next = next ∙ ap (next_print_in context.options.format now) (sym thread) in
     let is = c.printed_by-printed.ensures ∙ ap (λ o. if is_granted y.reply then o else None) c.as_deref.ensures.value in
     let printed = printed_of context.options.format now y _ values own_next is in
-    let shown = c.in_ok-push_shown.ensures t text s h y known moment printed in
+    let shown = c.in_ok-push_shown.ensures t text s h y known replayed printed in
     let line = shown.is ∙ ap (λ old. old ++ shown.more) c.clear.ensures.items in
     subst (λ l. IsShownLine t text s context.options context.widths context.history.now h x l) (sym line)
     (subst (λ z. IsShownLine t text s context.options context.widths context.history.now h z shown.more) own shown.more_are)
@@ -55,8 +55,8 @@ returns-in_err-next-clause-made c = λ t h has playable.
     let s = c.args.self.now.session.setup in
     rw (p.1, p.2) (print_refused t s h c.args.recorded.now playable _ c.in_err-next.field-0.0 (c.in_err-next.ensures t h has.code has.stands))
 
-pub returns-in_err-moment-clause-made : goal.returns-in_err-moment-clause-made
-returns-in_err-moment-clause-made c = λ t h has playable.
-    let p = err_from_is_err_and c.from_residual-in_err-moment.result c.from_residual-in_err-moment.ensures.1 in
+pub returns-in_err-replayed-clause-made : goal.returns-in_err-replayed-clause-made
+returns-in_err-replayed-clause-made c = λ t h has playable.
+    let p = err_from_is_err_and c.from_residual-in_err-replayed.result c.from_residual-in_err-replayed.ensures.1 in
     let s = c.args.self.now.session.setup in
-    rw (p.1, p.2) (own_refused t s h c.args.recorded.now playable c.in_err-moment.field-0.0 (c.in_err-moment.ensures.answer t h has.code has.stands))
+    rw (p.1, p.2) (own_refused t s h c.args.recorded.now playable c.in_err-replayed.field-0.0 (c.in_err-replayed.ensures.answer t h has.code has.stands))

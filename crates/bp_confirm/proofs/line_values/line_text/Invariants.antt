@@ -1,0 +1,10 @@
+use Rattle.std.proofs.Common.{◌≡◌, ◌≤◌, ◌-◌, List, drop}
+use Rattle.bp_confirm.specs.StepLines.{StepLineOf}
+use Rattle.bp_confirm.specs.StepTexts.{HasLines, steps_text}
+use Rattle.bp_confirm.proofs.line_values.line_text.Given as goal
+
+abbrev pub invariant-loop-before : goal.invariant-loop-before
+invariant-loop-before l = record {
+  few : l._before - 1 ≤ l.line - 1;
+  rest : (lines : List StepLineOf) → HasLines l.steps lines → l.rest ≡ steps_text (drop (l._before - 1) lines);
+}

@@ -1,0 +1,12 @@
+use Rattle.std.proofs.Common.{◌≡◌, take}
+use Rattle.bp_text.specs.Positions.{position_at}
+use Rattle.bp_code.proofs.ProceduresOfPlaces.{ends}
+use Rattle.bp_confirm.specs.SourcePoints.{points_from}
+use Rattle.bp_confirm.proofs.source_points.source_points_of.Given as goal
+
+abbrev pub invariant-loop-start : goal.invariant-loop-start
+invariant-loop-start l = record {
+  here : l.here ≡ position_at l.text l.at;
+  procedure : l.procedure ≡ ends (take l.start-index l.start-items);
+  points : l.points.items ≡ points_from l.text 0 (take l.start-index l.start-items);
+}

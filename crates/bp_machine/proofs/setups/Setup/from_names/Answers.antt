@@ -1,0 +1,35 @@
+use Rattle.std.proofs.Common.{sym, ◌∙◌, map, arith}
+use Rattle.bp_machine.specs.Setups.{setup_of}
+use Rattle.bp_machine.proofs.OwnNames.{names_found}
+use Rattle.bp_machine.proofs.SetupInRange.{fits, in_range}
+use Rattle.bp_machine.proofs.SetupRefusals.{fault_refuses}
+use Rattle.bp_machine.proofs.setups.Setup.from_names.Goals as goal
+
+pub returns-in-Some-clause-answer : goal.returns-in-Some-clause-answer
+returns-in-Some-clause-answer c = λ t is.
+    fault_refuses t (setup_of (map (λ n. n.now) c.args.entries.now) c.args.init.now c.args.contexts c.args.calls c.args.seed)
+    c.in-Some.fault (sym (c.fault_of_named.ensures t is) ∙ c.in-Some.is)
+
+pub own_names-requires : goal.own_names-requires
+own_names-requires c =
+    let given = setup_of (map (λ n. n.now) c.args.entries.now) c.args.init.now c.args.contexts c.args.calls c.args.seed in
+    names_found c.args.code.now (map (λ n. n.now) c.args.entries.now) c.is_of_a_program.ensures
+    (λ t is. (fits t given (sym (c.fault_of_named.ensures t is) ∙ c.in_default.is)).entries)
+
+pub overflow_cast-contexts : goal.overflow_cast-contexts
+overflow_cast-contexts c =
+    let given = setup_of (map (λ n. n.now) c.args.entries.now) c.args.init.now c.args.contexts c.args.calls c.args.seed in
+    let range = in_range c.args.code.now given c.is_of_a_program.ensures (λ t is. sym (c.fault_of_named.ensures t is) ∙ c.in_default.is) in
+    omega (arith, range.contexts)
+
+pub overflow_cast-calls : goal.overflow_cast-calls
+overflow_cast-calls c =
+    let given = setup_of (map (λ n. n.now) c.args.entries.now) c.args.init.now c.args.contexts c.args.calls c.args.seed in
+    let range = in_range c.args.code.now given c.is_of_a_program.ensures (λ t is. sym (c.fault_of_named.ensures t is) ∙ c.in_default.is) in
+    omega (arith, range.calls)
+
+pub of_parts-requires : goal.of_parts-requires
+of_parts-requires c =
+    let given = setup_of (map (λ n. n.now) c.args.entries.now) c.args.init.now c.args.contexts c.args.calls c.args.seed in
+    let range = in_range c.args.code.now given c.is_of_a_program.ensures (λ t is. sym (c.fault_of_named.ensures t is) ∙ c.in_default.is) in
+    rw (sym c.in_ok-names.ensures, sym c.in_ok-bits.ensures.items) at range

@@ -1,0 +1,15 @@
+use Rattle.std.proofs.Common.{List}
+use Rattle.bp_tree.specs.Ast.{Program}
+use Rattle.bp_code.specs.StandsFor.{StandsFor}
+use Rattle.bp_machine.specs.declared.calls.Call.{Call}
+use Rattle.bp_machine.specs.Sessions.{Stands}
+use Rattle.bp_test.specs.Reached.{place_of, MarksGrow}
+use Rattle.bp_test.proofs.ReachedPlaces.{WaitsBelow}
+use Rattle.bp_test.proofs.runs.reach_waits.Given as goal
+
+abbrev pub invariant-loop-thread : goal.invariant-loop-thread
+invariant-loop-thread l =
+    (t : Program) (h : List Call)
+    → StandsFor l.session.code t
+    → Stands t l.session h
+    → MarksGrow (place_of t) (WaitsBelow t l.session.setup h l.thread) l.fn.reached.items l.reached.items

@@ -1,0 +1,11 @@
+use Rattle.std.proofs.Common.{◌≡◌, ◌<◌, ◌^◌, map, take}
+use Rattle.bp_source.proofs.TextsOfStatements.{shown_texts}
+use Rattle.bp_view.specs.StatementColumns.{shortened}
+use Rattle.bp_view.specs.Widths.{longest}
+use Rattle.bp_view.proofs.view_contexts.longest_statement.Given as goal
+
+abbrev pub invariant-loop-statement : goal.invariant-loop-statement
+invariant-loop-statement l = record {
+  is : l.longest ≡ longest (map (shortened l.room) (shown_texts (take l.statement-index l.statements)));
+  fits : l.longest < 2 ^ 63;
+}
