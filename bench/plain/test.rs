@@ -7,7 +7,10 @@ const PILOTS: u64 = 64;
 const COMPARED: usize = 1 << 20;
 const NOWHERE: u32 = 1 << 20;
 const POWERS: u32 = 14;
-const FEW: u32 = 2;
+const LOTS: u32 = 20;
+const WITH_ONE: u32 = 4;
+const WITH_FEW: u32 = 5;
+const RESUMING: u32 = 14;
 const UNMOVED: u32 = 3;
 const SCHEDULE_STREAM: u64 = 118;
 const BITS_STREAM: u64 = 54;
@@ -288,19 +291,25 @@ struct Scheduler {
     has_stepped: bool,
     switches: u32,
     places: u64,
+    is_resuming: bool,
+    /// The threads that were left since they had to wait, as a mask.
+    waiting: u64,
 }
 
 impl Scheduler {
     fn new(seed: u64, contexts: u32, lengths: &[u64]) -> Scheduler {
         let mut generator = Generator::new(seed, SCHEDULE_STREAM);
-        let current = generator.below(ENTRIES.len() as u32);
+        let threads = ENTRIES.len() as u32;
+        let current = generator.below(threads);
         let drawn = generator.below(lengths.len() as u32);
-        let places = match lengths.get(drawn as usize) {
-            Some(length) => length - length / 2 + u64::from(generator.below(*length as u32 / 2 + 1)),
+        let length = match lengths.get(drawn as usize) {
+            Some(length) => *length,
             None => 8 << generator.below(POWERS),
         };
-        let switches = switches(&mut generator, contexts, places);
-        Scheduler { generator, current, has_stepped: false, switches, places }
+        let switches = switches(&mut generator, contexts, length);
+        let places = places(&mut generator, length, switches, threads);
+        let is_resuming = generator.below(LOTS) < RESUMING;
+        Scheduler { generator, current, has_stepped: false, switches, places, is_resuming, waiting: 0 }
     }
 
     fn switches_now(&mut self, test: &Test) -> bool {
@@ -329,11 +338,28 @@ impl Scheduler {
         }
     }
 
+    fn go_to(&mut self, test: &Test, thread: u32) {
+        self.current = thread;
+        self.has_stepped = test.is_visible(thread);
+        self.waiting &= !(1 << thread);
+    }
+
     fn next(&mut self, test: &Test) -> Option<u32> {
-        if test.may_step(self.current) && !self.switches_now(test) {
-            return Some(self.current);
-        }
         let threads = 0..ENTRIES.len() as u32;
+        if self.waiting != 0 {
+            let resumed = threads.clone().find(|thread| self.waiting >> thread & 1 == 1 && test.may_step(*thread));
+            if let Some(thread) = resumed {
+                self.go_to(test, thread);
+                return Some(thread);
+            }
+        }
+        if test.may_step(self.current) {
+            if !self.switches_now(test) {
+                return Some(self.current);
+            }
+        } else if self.is_resuming && !test.is_finished(self.current) {
+            self.waiting |= 1 << self.current;
+        }
         let sum = threads.clone().map(|thread| self.weight(test, thread)).sum();
         let next = if sum > 0 {
             let mut left = self.generator.below(sum);
@@ -347,23 +373,32 @@ impl Scheduler {
             threads.clone().find(|thread| test.may_step(*thread))
         };
         if let Some(thread) = next {
-            self.current = thread;
-            self.has_stepped = test.is_visible(thread);
+            self.go_to(test, thread);
         }
         next
     }
 }
 
-fn switches(generator: &mut Generator, contexts: u32, places: u64) -> u32 {
+fn switches(generator: &mut Generator, contexts: u32, length: u64) -> u32 {
     if contexts < 2 {
         return 0;
     }
-    let room = (places - places / 8).saturating_sub(1).max(1);
+    let room = (length - length / 8).saturating_sub(1).max(1);
     let most = u64::from(contexts - 1).min(room) as u32;
-    if generator.below(5) < 2 {
-        return generator.below(most.min(FEW)) + 1;
+    match generator.below(LOTS) {
+        lot if lot < WITH_ONE => 1,
+        lot if lot < WITH_FEW => most.min(2),
+        _ => most - generator.below((most / 2).max(1)),
     }
-    most - generator.below(most - most / 2)
+}
+
+/// Over how many places switches are spread.
+fn places(generator: &mut Generator, length: u64, switches: u32, threads: u32) -> u64 {
+    let steps = match generator.below(2) {
+        0 => length,
+        _ => (length * u64::from(switches.min(threads)) / u64::from(threads)).max(1),
+    };
+    steps - steps / 2 + u64::from(generator.below(steps as u32 / 2 + 1))
 }
 
 /// Marks the instruction at which a thread has to wait.

@@ -8,7 +8,10 @@ use std::collections::HashMap;
 
 const PILOTS: u64 = 64;
 const POWERS: u32 = 14;
-const FEW: u32 = 2;
+const LOTS: u32 = 20;
+const WITH_ONE: u32 = 4;
+const WITH_FEW: u32 = 5;
+const RESUMING: u32 = 14;
 const UNMOVED: u32 = 3;
 const SCHEDULE_STREAM: u64 = 118;
 const BITS_STREAM: u64 = 54;
@@ -550,26 +553,39 @@ trait Way {
     fn next(&mut self, machine: &Machine) -> Option<usize>;
 }
 
-/// A number of switches, spread over places: visible steps, but the first since a switch.
+/// A number of switches, spread over places: visible steps, but the first since a switch. Some schedules go back to a
+/// thread that had to wait as soon as it may step.
 struct Spread {
     generator: Generator,
     current: usize,
     has_stepped: bool,
     switches: u32,
     places: u64,
+    is_resuming: bool,
+    /// The threads that were left since they had to wait, as a mask.
+    waiting: u64,
 }
 
 impl Spread {
     fn new(seed: u64, machine: &Machine, lengths: &[u64]) -> Spread {
         let mut generator = Generator::new(seed, SCHEDULE_STREAM);
-        let current = generator.below(machine.threads.len() as u32) as usize;
+        let threads = machine.threads.len() as u32;
+        let current = generator.below(threads) as usize;
         let drawn = generator.below(lengths.len() as u32);
-        let places = match lengths.get(drawn as usize) {
-            Some(length) => length - length / 2 + u64::from(generator.below(*length as u32 / 2 + 1)),
+        let length = match lengths.get(drawn as usize) {
+            Some(length) => *length,
             None => 8 << generator.below(POWERS),
         };
-        let switches = switches(&mut generator, machine.contexts, places);
-        Spread { generator, current, has_stepped: false, switches, places }
+        let switches = switches(&mut generator, machine.contexts, length);
+        let places = places(&mut generator, length, switches, threads);
+        let is_resuming = generator.below(LOTS) < RESUMING;
+        Spread { generator, current, has_stepped: false, switches, places, is_resuming, waiting: 0 }
+    }
+
+    fn go_to(&mut self, machine: &Machine, thread: usize) {
+        self.current = thread;
+        self.has_stepped = machine.is_visible(thread);
+        self.waiting &= !(1 << thread);
     }
 
     fn switches_now(&mut self, machine: &Machine) -> bool {
@@ -598,10 +614,21 @@ impl Spread {
 
 impl Way for Spread {
     fn next(&mut self, machine: &Machine) -> Option<usize> {
-        if machine.may_step(self.current) && !self.switches_now(machine) {
-            return Some(self.current);
-        }
         let mut threads = 0..machine.threads.len();
+        if self.waiting != 0 {
+            let resumed = threads.clone().find(|thread| self.waiting >> thread & 1 == 1 && machine.may_step(*thread));
+            if let Some(thread) = resumed {
+                self.go_to(machine, thread);
+                return Some(thread);
+            }
+        }
+        if machine.may_step(self.current) {
+            if !self.switches_now(machine) {
+                return Some(self.current);
+            }
+        } else if self.is_resuming && !machine.is_finished(self.current) {
+            self.waiting |= 1 << self.current;
+        }
         let sum = threads.clone().map(|thread| self.weight(machine, thread)).sum();
         let next = if sum > 0 {
             let mut left = self.generator.below(sum);
@@ -615,23 +642,32 @@ impl Way for Spread {
             threads.find(|thread| machine.may_step(*thread))
         };
         if let Some(thread) = next {
-            self.current = thread;
-            self.has_stepped = machine.is_visible(thread);
+            self.go_to(machine, thread);
         }
         next
     }
 }
 
-fn switches(generator: &mut Generator, contexts: u32, places: u64) -> u32 {
+fn switches(generator: &mut Generator, contexts: u32, length: u64) -> u32 {
     if contexts < 2 {
         return 0;
     }
-    let room = (places - places / 8).saturating_sub(1).max(1);
+    let room = (length - length / 8).saturating_sub(1).max(1);
     let most = u64::from(contexts - 1).min(room) as u32;
-    if generator.below(5) < 2 {
-        return generator.below(most.min(FEW)) + 1;
+    match generator.below(LOTS) {
+        lot if lot < WITH_ONE => 1,
+        lot if lot < WITH_FEW => most.min(2),
+        _ => most - generator.below((most / 2).max(1)),
     }
-    most - generator.below(most - most / 2)
+}
+
+/// Over how many places switches are spread.
+fn places(generator: &mut Generator, length: u64, switches: u32, threads: u32) -> u64 {
+    let steps = match generator.below(2) {
+        0 => length,
+        _ => (length * u64::from(switches.min(threads)) / u64::from(threads)).max(1),
+    };
+    steps - steps / 2 + u64::from(generator.below(steps as u32 / 2 + 1))
 }
 
 /// Each step is one of any thread that may step.

@@ -6,12 +6,12 @@ use Rattle.bp_machine.specs.declared.calls.Call.{Call}
 use Rattle.bp_machine.specs.Reports.{outcome_of, is_failure}
 use Rattle.bp_machine.proofs.GrantedSteps.{within as within_contexts}
 use Rattle.bp_machine.specs.Setups.{SetupOf}
-use Rattle.bp_test.specs.declared.history_ends.HistoryEnd.{HistoryEnd}
-use Rattle.bp_test.specs.declared.history_ends.HistoryEnd.TheVariants.{Failure, Deadlock, Other}
-use Rattle.bp_test.specs.declared.shrinking.Shrunk.{Shrunk}
-use Rattle.bp_test.specs.HistoryEnds.{IsEnd}
-use Rattle.bp_test.specs.Shrinks.{budgeted, IsShrunk}
 use Rattle.bp_test.specs.Tests.{IsDeadlock}
+use Rattle.bp_shrink.specs.declared.history_ends.HistoryEnd.{HistoryEnd}
+use Rattle.bp_shrink.specs.declared.history_ends.HistoryEnd.TheVariants.{Failure, Deadlock, Other}
+use Rattle.bp_shrink.specs.declared.shrinking.Shrunk.{Shrunk}
+use Rattle.bp_shrink.specs.HistoryEnds.{IsEnd}
+use Rattle.bp_shrink.specs.Shrinks.{budgeted, IsShrunk}
 use Rattle.bp_trace.specs.declared.replaying.Replayed.{Replayed}
 use Rattle.bp_trace.specs.declared.versions.Version.TheVariants.{One}
 use Rattle.bp_trace.specs.Heads.{HasHead}

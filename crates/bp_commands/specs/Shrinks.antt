@@ -9,9 +9,9 @@ use Rattle.bp_machine.specs.Reports.{outcome_of, is_failure}
 use Rattle.bp_machine.specs.Setups.{SetupOf}
 use Rattle.bp_test.specs.declared.waiting.Waiting.{Waiting}
 use Rattle.bp_test.specs.Failing.{FailsAt}
-use Rattle.bp_test.specs.HistoryEnds.{DeadlocksAt, IsOtherEnd}
-use Rattle.bp_test.specs.Shrinks.{budgeted}
 use Rattle.bp_test.specs.Tests.{IsDeadlock}
+use Rattle.bp_shrink.specs.HistoryEnds.{DeadlocksAt, IsOtherEnd}
+use Rattle.bp_shrink.specs.Shrinks.{budgeted}
 use Rattle.bp_trace.specs.declared.versions.Version.TheVariants.{One}
 use Rattle.bp_trace.specs.Replays.{IsTrace}
 use Rattle.bp_messages.specs.declared.faults.Fault.{Fault}

@@ -4,14 +4,14 @@ ghost use Rattle.bp_tree.specs.Ast.{Program};
 ghost use Rattle.bp_code.specs.StandsFor.{StandsFor};
 ghost use Rattle.bp_machine.specs.declared.calls.Call.{Call as Answered};
 ghost use Rattle.bp_machine.specs.Sessions.{Stands};
-ghost use Rattle.bp_test.specs.HistoryEnds.{EndsIn};
+ghost use Rattle.bp_shrink.specs.HistoryEnds.{EndsIn};
 ghost use Rattle.bp_commands.specs.Shrinks.{IsEndRefusal};
 
 use crate::commands::TraceCommand;
 use bp_code::code_of;
 use bp_machine::{Report, Session};
 use bp_messages::Fault;
-use bp_test::{HistoryEnd, history_end, shrink};
+use bp_shrink::{HistoryEnd, history_end, shrink};
 use bp_trace::{Unwatched, replay_watched, write_trace};
 use std::alloc::Global;
 use std::io::Write;

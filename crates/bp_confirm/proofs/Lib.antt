@@ -35,3 +35,4 @@ pub mod OneInstruction
 pub mod OneReason
 pub mod OneStepRefusal
 pub mod OneTextRefusal
+pub mod LinesKept

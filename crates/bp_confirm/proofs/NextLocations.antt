@@ -55,20 +55,20 @@ as_many_nexts xs nexts are = sym (length-map nexts (location_in xs)) ∙ ap leng
 
 -- what the later lines tell of line n
 pub tells_next : (text : List ℕ) (xs : List StepLineOf) (nexts : List ℕ) (n : ℕ) (d x : StepLineOf) (k : ℕ)
-    (next : Option Location) → next ≡ location_in xs (get_or nexts n k) → map (location_in xs) nexts ≡ next_locations xs
+    (next count : ℕ) → next ≡ get_or nexts n k → count ≡ length xs → map (location_in xs) nexts ≡ next_locations xs
     → n < length xs → x ≡ get_or xs n d
-    → TellsNext text (step_of text x) (steps_of text (drop (n + 1) xs)) (record { location = next; follows = nat_lt (n + 1) (length xs) })
-tells_next text xs nexts n d x k next next_is are within is =
+    → TellsNext text (step_of text x) (steps_of text (drop (n + 1) xs)) xs (record { number = next; follows = nat_lt (n + 1) count })
+tells_next text xs nexts n d x k next count next_is count_is are within is =
     let one : suc n ≡ n + 1 = omega arith in
     let i = (get_or xs n d).thread in
     let there = mapped_at (location_in xs) nexts n k nowhere (omega (arith, within, as_many_nexts xs nexts are)) in
-    let location : next ≡ next_location i (drop (n + 1) xs) =
-    next_is ∙ sym there ∙ ap (λ ys. get_or ys n nowhere) are ∙ next_at xs n d nowhere within ∙ ap (λ m. next_location i (drop m xs)) one in
+    let location : location_in xs next ≡ next_location i (drop (n + 1) xs) =
+    ap (location_in xs) next_is ∙ sym there ∙ ap (λ ys. get_or ys n nowhere) are ∙ next_at xs n d nowhere within ∙ ap (λ m. next_location i (drop m xs)) one in
     record {
       place =
           ap (λ z. next_place z.thread (steps_of text (drop (n + 1) xs))) is ∙ next_place_of text i (drop (n + 1) xs)
           ∙ ap (option_map (place_of text)) (sym location);
-      follows = some_after text (n + 1) xs;
+      follows = some_after text (n + 1) xs ∙ ap (nat_lt (n + 1)) (sym count_is);
     }
 
 -- the table of the threads' next steps, from the last line on

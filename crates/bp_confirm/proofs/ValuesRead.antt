@@ -8,7 +8,7 @@ use Rattle.bp_trace.specs.Schedules.{bit_digit}
 use Rattle.bp_trace.specs.Writable.{Without}
 use Rattle.bp_confirm.specs.LineReading.{AreValues}
 use Rattle.bp_confirm.specs.StepTexts.{AreNamed, IsStepName, value_text, values_text}
-use Rattle.bp_confirm.specs.ValuesIn.{Reading, values_from, values_in, SaysValues}
+use Rattle.bp_confirm.specs.ValuesIn.{values_from, values_in, SaysValues}
 use Rattle.bp_confirm.specs.ValuesIn.Reading.{First, Plain, Braced, Sign, Bit}
 use Rattle.bp_confirm.proofs.OneName.{value_then}
 

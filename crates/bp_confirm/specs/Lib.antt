@@ -23,3 +23,4 @@ pub mod Reading
 pub mod OwnLines
 pub mod OwnSteps
 pub mod OneRefusal
+pub mod KeptLines

@@ -16,7 +16,7 @@ use Rattle.bp_confirm.specs.declared.source_points.SourcePoint.{SourcePoint}
 use Rattle.bp_confirm.specs.Places.{place_of}
 use Rattle.bp_confirm.specs.Stands.{stand_in, stand_of}
 use Rattle.bp_confirm.specs.Steps.{StepOf, next_place}
-use Rattle.bp_confirm.specs.StepLines.{StepLineOf, step_of}
+use Rattle.bp_confirm.specs.StepLines.{StepLineOf, location_in, step_of}
 use Rattle.bp_confirm.specs.Confirms.{GoesOnAt, IsStuck, IsReason, ForStuck}
 
 -- the step of line n is refused after the history h
@@ -54,8 +54,9 @@ refusal_of points x n number reason = fault.Refusal (record {
   reason = reason;
 })
 
--- what these later steps tell of the step x in a text
-pub record TellsNext (text : List ℕ) (x : StepOf) (later : List StepOf) (next : Next)
+-- what these later steps, which are among these lines, tell of the step x in a text
+pub record TellsNext
+    (text : List ℕ) (x : StepOf) (later : List StepOf) (lines : List StepLineOf) (next : Next)
     : Type 0 where
-  pub place : next_place x.thread later ≡ option_map (place_of text) next.location
+  pub place : next_place x.thread later ≡ option_map (place_of text) (location_in lines next.number)
   pub follows : some_follow later ≡ next.follows

@@ -1,10 +1,10 @@
 //! The choice bits that reported steps leave out.
-ghost use Rattle.std.specs.Prelude.{◌≡◌, ℕ, List, MatchOption, option_map};
+ghost use Rattle.std.specs.Prelude.{◌≡◌, ℕ, Bool, List, Option, IfSome, MatchOption, option_map};
 ghost use Rattle.bp_tree.specs.Ast.{Block, Procedure, Program};
 ghost use Rattle.bp_code.specs.StandsFor.{Does, places_of};
 ghost use Rattle.bp_confirm.specs.EffectBits.{bit_of_effects, has_test, splits};
 ghost use Rattle.bp_confirm.specs.Inferred.{bit_of_block, IsAmbiguous, IsClear};
-ghost use Rattle.bp_confirm.specs.Places.{place_of};
+ghost use Rattle.bp_confirm.specs.Places.{place_of, Place};
 ghost use Rattle.bp_confirm.specs.SourcePoints.{is_there, source_points_of};
 
 use crate::locations::Location;
@@ -61,6 +61,20 @@ fn has_test(instr: &Instr) -> bool
     )
 }
 
+/// The bit of an instruction that no test decides: its effects are the same with both bits.
+#[inline(always)]
+pub(crate) fn plain_bit(instr: &Instr) -> Option<bool>
+    ensures { IfSome result (λ bit.
+        (t : Program) (p : Procedure) (left : Block) (next : Option Place) (follow : Bool)
+        → Does t (places_of t.procedures) p left instr.now
+        → (bit ≡ bit_of_block left next follow) × IsClear left next) }
+{
+    if has_test(instr) {
+        return None;
+    }
+    Some(false)
+}
+
 /// The inferred bit of an instruction, where the next step of its thread is at this location and
 /// steps follow or not; none where the location does not tell which way a `?` went.
 pub(crate) fn inferred_bit(
@@ -78,10 +92,6 @@ pub(crate) fn inferred_bit(
         (IsAmbiguous t left place)
         (λ bit. (bit ≡ bit_of_block left place follow) × IsClear left place) }
 {
-    // The effects of other instructions are the same with both bits.
-    if !has_test(instr) {
-        return Some(false);
-    }
     let zero = instr.effect(store, false);
     let one = instr.effect(store, true);
     if splits(points, next, zero, one) {

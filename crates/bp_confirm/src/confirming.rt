@@ -10,8 +10,9 @@ use crate::context_bounds::setup_for;
 use crate::declared::{Stray, check_lines};
 use crate::faults::{StepFault, StepRefusal};
 use crate::histories::{ConfirmReport, confirm_lines};
-use crate::step_lines::StepLine;
-use crate::step_texts::{StepsFault, read_steps};
+use crate::kept_lines::StepLines;
+use crate::reading_lines::read_lines;
+use crate::step_texts::StepsFault;
 use bp_check::Checked;
 use bp_code::Code;
 use bp_machine::Setup;
@@ -65,21 +66,21 @@ fn told_lines<'a>(
     checked: &Checked,
     setup: &Setup,
     steps: &'a [u8],
-) -> Result<Vec<StepLine<'a>>, ConfirmFault>
+) -> Result<StepLines<'a>, ConfirmFault>
     ensures told { MatchResult result
-        (λ lines. AreTold checked.now setup.now steps.now lines.items)
+        (AreTold checked.now setup.now steps.now)
         (IsUntold checked.now setup.now steps.now) }
-    ensures short { IfOk result (λ lines. length lines.items < 2 ^ 32) }
+    ensures short { IfOk result (λ lines. length lines < 2 ^ 32) }
 {
     if steps.len() > MAX_SCHEDULE {
         return Err(ConfirmFault::TooLong);
     }
-    let lines = match read_steps(alloc, steps) {
+    let lines = match read_lines(alloc, steps) {
         Ok(lines) => lines,
         Err(StepsFault::Line(line)) => return Err(ConfirmFault::Line(line)),
         Err(StepsFault::Memory) => return Err(ConfirmFault::Memory),
     };
-    if let Err((line, stray)) = check_lines(checked, setup, lines.as_slice()) {
+    if let Err((line, stray)) = check_lines(checked, setup, &lines) {
         return Err(fault_of_stray(line, stray));
     }
     Ok(lines)
@@ -120,12 +121,12 @@ pub fn confirm<W: Write>(
         (W.contents out.new)) }
 {
     let lines = told_lines(alloc, checked, setup, steps)?;
-    let setup = match setup_for(alloc, code, setup, bound, lines.as_slice()) {
+    let setup = match setup_for(alloc, code, setup, bound, &lines) {
         Ok(setup) => setup,
         // It fits, since the given one does.
         Err(_) => return Err(ConfirmFault::Memory),
     };
-    let confirmed = match confirm_lines(alloc, text, checked, code, &setup, lines.as_slice()) {
+    let confirmed = match confirm_lines(alloc, text, checked, code, &setup, &lines) {
         Ok(confirmed) => confirmed,
         Err(StepFault::Refusal(refusal)) => return Err(ConfirmFault::Step(refusal)),
         Err(StepFault::Memory) => return Err(ConfirmFault::Memory),

@@ -7,7 +7,7 @@ ghost use Rattle.bp_machine.specs.ContextCounts.{contexts_opened};
 ghost use Rattle.bp_tree.specs.Ast.{Program};
 ghost use Rattle.bp_confirm.specs.ContextBounds.{contexts_allowed, thread_of, IsSetupFor};
 
-use crate::step_lines::StepLine;
+use crate::kept_lines::StepLines;
 use bp_code::Code;
 use bp_machine::limits::MAX_CONTEXTS;
 use bp_machine::{Setup, SetupFault};
@@ -25,14 +25,17 @@ fn opened(last: Option<u32>, thread: u32) -> usize
 }
 
 /// How many contexts the steps of these lines use.
-fn contexts_used(lines: &[StepLine]) -> usize
+fn contexts_used(lines: &StepLines) -> usize
     ensures { IsLeastWithin result (map thread_of lines.now) }
 {
     let mut used = 0;
     let mut last = None;
-    for line in lines {
+    let mut n = 0;
+    while n < lines.len() {
+        let line = lines.at(n);
         used += opened(last, line.thread);
         last = Some(line.thread);
+        n += 1;
     }
     used
 }
@@ -106,7 +109,7 @@ pub(crate) fn setup_for(
     code: &Code,
     setup: &Setup,
     bound: ContextBound,
-    lines: &[StepLine],
+    lines: &StepLines,
 ) -> Result<Setup, SetupFault>
     ensures { (t : Program)
         → StandsFor code.now t

@@ -1,12 +1,13 @@
 //! The first line of a thread or a variable that is not declared.
-ghost use Rattle.std.specs.Prelude.{◌≡◌, ◌<◌, ◌^◌, length, MatchOption, MatchResult};
+ghost use Rattle.std.specs.Prelude.{◌≡◌, ◌<◌, ◌^◌, length, IsTrue, MatchOption, MatchResult};
 ghost use Rattle.bp_machine.specs.Setups.{threads};
 ghost use Rattle.bp_confirm.specs.DeclaredLines.{declares, has_local, AreDeclared, AreDeclaredLines, IsFirstUndeclared};
+ghost use Rattle.bp_confirm.specs.KeptLines.{kept_lines};
 ghost use Rattle.bp_confirm.specs.StrayLines.{IsStray};
 ghost use Rattle.bp_confirm.specs.ValuesIn.{values_in, SaysValues};
 
 use crate::fields::value_at;
-use crate::step_lines::StepLine;
+use crate::kept_lines::{KeptLine, StepLines};
 use bp_check::Checked;
 use bp_code::{local_slot_of, slot_of};
 use bp_machine::Setup;
@@ -54,25 +55,46 @@ fn undeclared_value(checked: &Checked, values: &[u8]) -> Option<usize>
     None
 }
 
+/// Whether each line that is kept is of a thread of the setup and of variables of the program.
+fn are_declared(checked: &Checked, setup: &Setup, kept: &[KeptLine]) -> bool
+    ensures { IsTrue result → AreDeclaredLines checked.now setup.now (kept_lines kept.now) }
+{
+    for line in kept {
+        if line.line.thread >= setup.threads() {
+            return false;
+        }
+        if undeclared_value(checked, line.line.values).is_some() {
+            return false;
+        }
+    }
+    true
+}
+
 /// Refuses the first line of a thread that the setup does not have, or of a variable that the
 /// program does not declare.
 pub(crate) fn check_lines(
     checked: &Checked,
     setup: &Setup,
-    lines: &[StepLine],
+    lines: &StepLines,
 ) -> Result<(), (u32, Stray)>
     requires { length lines.now < 2 ^ 32 }
     ensures { MatchResult result
         (λ _. AreDeclaredLines checked.now setup.now lines.now)
         (λ p. IsStray checked.now setup.now lines.now p.0 p.1) }
 {
-    for (n, line) in lines.iter().enumerate() {
+    if are_declared(checked, setup, lines.kept.as_slice()) {
+        return Ok(());
+    }
+    let mut n = 0;
+    while n < lines.len() {
+        let line = lines.at(n);
         if line.thread >= setup.threads() {
             return Err((n as u32 + 1, Stray::Thread(line.thread)));
         }
         if let Some(value) = undeclared_value(checked, line.values) {
             return Err((n as u32 + 1, Stray::Variable(value)));
         }
+        n += 1;
     }
     Ok(())
 }

@@ -21,8 +21,9 @@ ghost use Rattle.bp_confirm.specs.StepRefusals.{refusal_of, IsNotCalled, IsNotTa
 ghost use Rattle.bp_confirm.specs.Steps.{StepOf, SeesValues};
 
 use crate::changes::{sight_after, sight_of};
-use crate::choices::inferred_bit;
+use crate::choices::{inferred_bit, plain_bit};
 use crate::faults::{Difference, StepFault, StepReason, StepRefusal};
+use crate::kept_lines::StepLines;
 use crate::locations::Location;
 use crate::next_steps::location_in;
 use crate::noted_steps::is_granted;
@@ -34,11 +35,12 @@ use bp_check::Checked;
 use bp_machine::{AskFault, Call, Session, Top};
 use std::alloc::{AllocError, Global};
 
-/// What the later steps tell of a step: the location of its thread before the thread's next step,
-/// and whether any step follows.
+/// What the later steps tell of a step: the number of its thread's next step, and whether any step
+/// follows.
 #[derive(Clone, Copy)]
 pub(crate) struct Next {
-    location: Option<Location>,
+    /// From 0; that of no step where the thread takes none.
+    number: u32,
     follows: bool,
 }
 
@@ -81,11 +83,17 @@ fn top_at(
 
 /// The inferred bit of the next step of a thread with this top; none where the later steps do not
 /// tell which way a `?` went.
-fn bit_at(session: &Session, points: &[SourcePoint], top: Top, next: Next) -> Option<bool>
+fn bit_at(
+    session: &Session,
+    points: &[SourcePoint],
+    top: Top,
+    lines: &StepLines,
+    next: Next,
+) -> Option<bool>
     ensures { (text : List ℕ) (t : Program) (h : List Answered) (x : StepOf) (later : List StepOf)
         → StandsFor session.now.code t
         → points.now ≡ source_points_of text t
-        → TellsNext text x later next
+        → TellsNext text x later lines.now next
         → let now = configuration_after t session.now.setup h in
         IsTop t now x.thread top
         → MatchOption result
@@ -97,7 +105,16 @@ fn bit_at(session: &Session, points: &[SourcePoint], top: Top, next: Next) -> Op
     let Some(instr) = session.code().get(top.number) else {
         return None;
     };
-    inferred_bit(instr, top.store, points, next.location, next.follows)
+    if let Some(bit) = plain_bit(instr) {
+        return Some(bit);
+    }
+    inferred_bit(
+        instr,
+        top.store,
+        points,
+        location_in(lines, next.number),
+        next.follows,
+    )
 }
 
 /// Makes the call of a thread that is there.
@@ -180,7 +197,7 @@ fn first_difference(
     }))
 }
 
-/// Takes the step of the line after the history, where the later steps tell this.
+/// Takes the step of the line after the history, where the later ones of these lines tell this.
 fn take_step(
     alloc: Global,
     checked: &Checked,
@@ -188,6 +205,7 @@ fn take_step(
     session: &mut Session,
     history: &[Call],
     line: &StepLine,
+    lines: &StepLines,
     next: Next,
 ) -> Result<Call, StepFault>
     requires code { StandsFor session.old.code checked.now }
@@ -199,12 +217,12 @@ fn take_step(
     ensures stands { IfOk result (λ c. Stands checked.now session.new (history.now ++ c ∷ [])) }
     ensures follows { (text : List ℕ) (later : List StepOf)
         → points.now ≡ source_points_of text checked.now
-        → TellsNext text (step_of text line.now) later next
+        → TellsNext text (step_of text line.now) later lines.now next
         → IfOk result
         (Follows checked.now session.old.setup history.now (step_of text line.now) later) }
     ensures refused { (text : List ℕ) (later : List StepOf)
         → points.now ≡ source_points_of text checked.now
-        → TellsNext text (step_of text line.now) later next
+        → TellsNext text (step_of text line.now) later lines.now next
         → let n = length history.now + 1 in
         IfErr result
         (IsNotTaken text checked.now session.old.setup history.now line.now later n) }
@@ -216,7 +234,7 @@ fn take_step(
         Err(number) => return Err(refusal_of(points, line, n, number, StepReason::Elsewhere)),
     };
     let number = Some(top.number);
-    let Some(bit) = bit_at(session, points, top, next) else {
+    let Some(bit) = bit_at(session, points, top, lines, next) else {
         return Err(refusal_of(points, line, n, number, StepReason::Ambiguous));
     };
     let call = match call_of(session, line.thread, bit) {
@@ -258,7 +276,7 @@ pub(crate) fn take_steps(
     points: &[SourcePoint],
     nexts: &[u32],
     session: &mut Session,
-    lines: &[StepLine],
+    lines: &StepLines,
 ) -> Result<Vec<Call>, StepFault>
     requires code { StandsFor session.old.code checked.now }
     requires fits { FitsCode session.old.code session.old.setup }
@@ -281,11 +299,20 @@ pub(crate) fn take_steps(
     let mut n = 0;
     while n < lines.len() {
         let next = Next {
-            location: location_in(lines, nexts[n]),
+            number: nexts[n],
             follows: n + 1 < lines.len(),
         };
         let made = history.as_slice();
-        let call = take_step(alloc, checked, points, session, made, &lines[n], next)?;
+        let call = take_step(
+            alloc,
+            checked,
+            points,
+            session,
+            made,
+            lines.at(n),
+            lines,
+            next,
+        )?;
         keep(&mut history, call)?;
         n += 1;
     }

@@ -8,9 +8,9 @@ ghost use Rattle.bp_confirm.specs.StepLines.{steps_of};
 
 use crate::faults::StepFault;
 use crate::following::take_steps;
+use crate::kept_lines::StepLines;
 use crate::next_steps::next_steps;
 use crate::source_points::source_points_of;
-use crate::step_lines::StepLine;
 use bp_check::Checked;
 use bp_code::Code;
 use bp_machine::{Call, Report, Session, Setup};
@@ -41,7 +41,7 @@ pub(crate) fn confirm_lines(
     checked: &Checked,
     code: &Code,
     setup: &Setup,
-    lines: &[StepLine],
+    lines: &StepLines,
 ) -> Result<Confirmed, StepFault>
     requires code { StandsFor code.now checked.now }
     requires fits { FitsCode code.now setup.now }

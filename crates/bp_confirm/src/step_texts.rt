@@ -1,25 +1,20 @@
 //! The text of reported steps.
-ghost use Rattle.std.specs.Prelude.{◌≡◌, ◌<◌, ◌≤◌, ◌^◌, ◌++◌, ◌∷◌, [], IfOk, IfErr, OnOk, MatchBool, MatchOption, MatchResult, length};
+ghost use Rattle.std.specs.Prelude.{MatchBool, MatchOption};
 ghost use Rattle.bp_trace.specs.Writable.{Without};
-ghost use Rattle.bp_confirm.specs.declared.step_texts.StepsFault.{StepsFault};
-ghost use Rattle.bp_confirm.specs.LineReading.{AreNoValues, HasNoStep, IsStepAt, IsUnreadable};
-ghost use Rattle.bp_confirm.specs.StepTexts.{HasLines};
+ghost use Rattle.bp_confirm.specs.LineReading.{AreNoValues, HasNoStep, IsStepAt};
 ghost use Rattle.bp_confirm.specs.ValuesIn.{HasNoValuesLine, IsValuesLine, SaysValues};
 
 use crate::fields::{after, cut_at, location_at, number_at, value_at};
 use crate::step_lines::StepLine;
 use bp_text::part_before;
-use std::alloc::{AllocError, Global};
-use thiserror::Error;
+use std::alloc::AllocError;
 
 /// Why a text is not read as steps.
-#[derive(Clone, Copy, Debug, PartialEq, Eq, Error)]
-pub enum StepsFault {
+#[derive(Clone, Copy)]
+pub(crate) enum StepsFault {
     /// This line is the first that is malformed, or the last one that does not end.
-    #[error("line {0} of the steps is not a thread, a place and values")]
     Line(u32),
     /// There was not enough memory.
-    #[error("out of memory")]
     Memory,
 }
 
@@ -71,7 +66,7 @@ fn values_at(text: &[u8]) -> Option<(&[u8], &[u8])>
 
 /// The step of the line that begins a text, and what is after the line.
 #[inline(always)]
-fn step_at(text: &[u8]) -> Option<(StepLine<'_>, &[u8])>
+pub(crate) fn step_at(text: &[u8]) -> Option<(StepLine<'_>, &[u8])>
     ensures { MatchOption result
         (HasNoStep text.now)
         (λ p. IsStepAt text.now p.0 p.1.now) }
@@ -94,40 +89,4 @@ fn step_at(text: &[u8]) -> Option<(StepLine<'_>, &[u8])>
         values,
     };
     Some((step, more))
-}
-
-/// Adds the step of a line.
-fn keep<'a>(lines: &mut Vec<StepLine<'a>>, line: StepLine<'a>) -> Result<(), StepsFault>
-    ensures kept { OnOk result (lines.new.items ≡ lines.old.items ++ line.entry ∷ []) }
-    ensures memory { IfErr result (λ f. f ≡ StepsFault.Memory) }
-{
-    if lines.push(line).is_err() {
-        return Err(StepsFault::Memory);
-    }
-    Ok(())
-}
-
-/// Reads the text of reported steps, a line for each: the thread, a space, its location before the
-/// step, and any number of values after it, each of them a space, a name, an equals sign and a bit.
-/// A location is a line, a line and a column with a colon between them, or a dash for the end of a
-/// procedure. Numbers have 32 bits and no leading zeros. A name in braces ends at its first `}`;
-/// another one has no space, and ends at its first `=`.
-pub fn read_steps(alloc: Global, text: &[u8]) -> Result<Vec<StepLine<'_>>, StepsFault>
-    requires { length text.now < 2 ^ 32 }
-    ensures read { MatchResult result
-        (λ lines. HasLines text.now lines.items)
-        (IsUnreadable text.now) }
-    ensures few { IfOk result (λ lines. length lines.items ≤ length text.now) }
-{
-    let mut lines = Vec::new(alloc);
-    let mut rest = text;
-    while !rest.is_empty() {
-        let n = lines.len() as u32 + 1;
-        let Some((step, more)) = step_at(rest) else {
-            return Err(StepsFault::Line(n));
-        };
-        keep(&mut lines, step)?;
-        rest = more;
-    }
-    Ok(lines)
 }

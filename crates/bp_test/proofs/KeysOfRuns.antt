@@ -1,5 +1,5 @@
 -- The key of a run with one more call, the keys of more runs, and that no seed changes them.
-use Rattle.std.proofs.Common.{◌≡◌, ◌≤◌, ℕ, zero, suc, List, [], ◌∷◌, ◌++◌, take, length, Option, refl, ap, sym, subst, arith}
+use Rattle.std.proofs.Common.{◌≡◌, ◌≤◌, ℕ, zero, suc, List, [], ◌∷◌, ◌++◌, take, Option, sym, subst, arith}
 use Rattle.bp_tree.specs.Ast.{Program}
 use Rattle.bp_machine.specs.declared.calls.Call.{Call}
 use Rattle.bp_machine.specs.declared.calls.Reply.{Reply}
@@ -36,20 +36,6 @@ pub run_key_without : (t : Program) (s : SetupOf) (o : Option ℕ) (h : List Cal
 run_key_without t s o h key is = record { steps = is.steps; of_steps = key_without t s o h is.steps is.of_steps; of_end = is.of_end }
 
 module _ (t : Program) (s : SetupOf) where
-  pub as_many : (runs : List MadeRun) (keys : List ℕ) → AreKeys t s runs keys → length keys ≡ length runs
-  as_many [] [] are = refl
-  as_many [] (k ∷ ks) are = absurd are
-  as_many (r ∷ rs) [] are = absurd are
-  as_many (r ∷ rs) (k ∷ ks) are = ap suc (as_many rs ks are.1)
-
-  all_taken : (n : ℕ) (runs : List MadeRun) (keys : List ℕ) → AreKeys t s (take n runs) keys → take n keys ≡ keys
-  all_taken zero runs [] are = refl
-  all_taken zero runs (k ∷ ks) are = absurd are
-  all_taken (suc n) [] [] are = refl
-  all_taken (suc n) [] (k ∷ ks) are = absurd are
-  all_taken (suc n) (r ∷ rs) [] are = absurd are
-  all_taken (suc n) (r ∷ rs) (k ∷ ks) are = ap (λ l. k ∷ l) (all_taken n rs ks are.1)
-
   fewer_taken : (m n : ℕ) → m ≤ n → (runs : List MadeRun) (keys : List ℕ) → AreKeys t s (take n runs) keys → AreKeys t s (take m runs) (take m keys)
   fewer_taken zero n le runs keys are = tt
   fewer_taken (suc m) zero le runs keys are = absurd (omega (arith, le))

@@ -4,16 +4,10 @@ pub mod ContextLemmas
 pub mod DistinctKeys
 pub mod FirstFound
 pub mod FailedStacks
-pub mod GrantedCalls
 pub mod KeysOfRuns
-pub mod ListParts
 pub mod MarkLemmas
 pub mod Playing
 pub mod ReachedPlaces
 pub mod RunsOfTests
-pub mod SameWaits
-pub mod SearchStarts
-pub mod ShrunkHistories
 pub mod TallyLemmas
-pub mod Unseeded
 pub mod WaitingThreads

@@ -176,16 +176,6 @@ pub one_of_any : {X : Type 0} (P : X → Type 0) (x : X) → Any P (x ∷ []) �
 one_of_any P x (zero, y, within, is, p) = subst P (sym is) p
 one_of_any P x (suc k, y, within, is, p) = absurd (omega (arith, within))
 
-pub any_none : {X : Type 0} (P : X → Type 0) → Any P [] → ⊥
-any_none P (k, x, within, is, p) = omega (arith, within)
-
--- a list that ends with its default reads as it did
-pub push_default : {X : Type 0} (xs : List X) (n : ℕ) (d : X) → slice_index_or (xs ++ d ∷ []) n d ≡ slice_index_or xs n d
-push_default [] zero d = refl
-push_default [] (suc n) d = refl
-push_default (x ∷ xs) zero d = refl
-push_default (x ∷ xs) (suc n) d = push_default xs n d
-
 -- the threads that step, with one more call
 module _ (h : List Call) (c : Call) where
   steps_then : (i : ℕ) → HasStep h i → HasStep (h ++ c ∷ []) i

@@ -1,11 +1,9 @@
 -- Counts of runs, and of more of them.
-use Rattle.std.proofs.Common.{◌≡◌, ◌≢◌, ◌⊎◌, ◌<◌, ◌≤◌, ℕ, ◌+◌, ◌^◌, ◌-◌, min, max, Bool, true, false, cond, List, [], ◌∷◌, ◌++◌, length, take, Some, refl, ap, sym, ◌∙◌, subst, arith, inl, inr, length-append}
+use Rattle.std.proofs.Common.{◌≡◌, ◌⊎◌, ◌<◌, ◌≤◌, ℕ, ◌+◌, ◌^◌, ◌-◌, min, max, Bool, true, false, cond, List, [], ◌∷◌, ◌++◌, length, take, Some, ap, sym, ◌∙◌, subst, arith, inl, inr, length-append}
 use Rattle.std.specs.Prelude.{if◌then◌else◌, ◌==◌, fold, count_by, sum_by, slice_index_or, Any}
 use Rattle.std.proofs.lemmas.Bool.{cases_lt}
-use Rattle.std.proofs.lemmas.Bool.Decides.{nat_tests}
 use Rattle.std.proofs.lemmas.List.{get_or_past}
 use Rattle.std.proofs.lemmas.List.Sums.{sum_by-append, fold-append}
-use Rattle.bp_machine.proofs.StandsAfterCall.{same_or_not}
 use Rattle.bp_tree.specs.Ast.{Program}
 use Rattle.bp_code.specs.StandsFor.{Place, places_of}
 use Rattle.bp_machine.specs.Setups.{SetupOf, threads}
@@ -173,37 +171,6 @@ tally_both t s runs more old other new was also count calls longest ends context
       (length (places_of t.procedures)) old.reached.items other.reached.items new.reached.items was.reached
       also.reached reached);
 }
-
--- counts that are added one after the other, up to count i
-module _ (i x : ℕ) (start now new items : List ℕ) (is : x ≡ slice_index_or items i 0) (step : (k : ℕ) → slice_index_or new k 0 ≡ count_with i x now k) where
-  with_same : (k : ℕ) → i ≡ k → slice_index_or new k 0 ≡ capped (slice_index_or now k 0 + x)
-  with_same k same = by (i == k) refl
-    where
-      by : (b : Bool) → (i == k) ≡ b → slice_index_or new k 0 ≡ capped (slice_index_or now k 0 + x)
-      by true e = step k ∙ ap (λ c. if c then capped (slice_index_or now k 0 + x) else slice_index_or now k 0) e
-      by false e = absurd (grind (arith, nat_tests, e, same))
-
-  with_other : (k : ℕ) → i ≢ k → slice_index_or new k 0 ≡ slice_index_or now k 0
-  with_other k other = by (i == k) refl
-    where
-      by : (b : Bool) → (i == k) ≡ b → slice_index_or new k 0 ≡ slice_index_or now k 0
-      by true e = absurd (other (grind (arith, nat_tests, e)))
-      by false e = step k ∙ ap (λ c. if c then capped (slice_index_or now k 0 + x) else slice_index_or now k 0) e
-
-  module _
-      (below : (k : ℕ) → k < i → slice_index_or now k 0 ≡ capped (slice_index_or start k 0 + slice_index_or items k 0))
-      (above : (k : ℕ) → i ≤ k → slice_index_or now k 0 ≡ slice_index_or start k 0) where
-    pub below_next : (k : ℕ) → k < i + 1 → slice_index_or new k 0 ≡ capped (slice_index_or start k 0 + slice_index_or items k 0)
-    below_next k within = elim (same_or_not i k) [
-      | inl same ↦
-          with_same k same ∙ ap capped (let past : i ≤ k = omega (arith, same) in
-          ap (λ n. n + x) (above k past)
-          ∙ ap (λ n. slice_index_or start k 0 + n) (is ∙ ap (λ n. slice_index_or items n 0) same))
-      | inr other ↦ with_other k other ∙ below k (omega (arith, within, other))
-    ]
-
-    pub above_next : (k : ℕ) → i + 1 ≤ k → slice_index_or new k 0 ≡ slice_index_or start k 0
-    above_next k past = with_other k (omega (arith, past)) ∙ above k (omega (arith, past))
 
 pub all_added : (i : ℕ) (start now items : List ℕ) → length items ≤ i
     → ((k : ℕ) → k < i → slice_index_or now k 0 ≡ capped (slice_index_or start k 0 + slice_index_or items k 0))

@@ -2,11 +2,9 @@ pub mod Blocks
 pub mod Counts
 pub mod Distinct
 pub mod Failing
-pub mod HistoryEnds
 pub mod Keys
 pub mod Reached
 pub mod Resting
-pub mod Shrinks
 pub mod Tallies
 pub mod Tests
 pub mod Waits

@@ -2,24 +2,17 @@
 #![tactic(auto)]
 
 mod blocks;
-mod candidates;
-mod changes;
 mod counts;
 mod deadlines;
 mod distinct;
-mod driving;
-mod erasing;
 mod failing;
 mod faults;
-mod history_ends;
 mod keys;
 pub mod limits;
 mod plans;
 mod progress;
 mod runs;
 mod schedulers;
-mod searches;
-mod shrinking;
 mod tallies;
 mod testing;
 mod visible_steps;
@@ -33,11 +26,9 @@ pub use deadlines::Runtimes;
 pub use distinct::{Distinct, distinct_of};
 pub use failing::failed_instruction;
 pub use faults::TestFault;
-pub use history_ends::{HistoryEnd, history_end};
 pub use plans::Plan;
 pub use progress::{Progress, Untold};
-pub use shrinking::{Shrunk, shrink};
 pub use tallies::{ContextsUsed, Ends, Tally};
 pub use testing::{Found, Tested, test};
 pub use visible_steps::VisibleSteps;
-pub use waiting::Waiting;
+pub use waiting::{Waiting, waiting_threads};

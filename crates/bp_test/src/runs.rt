@@ -69,7 +69,7 @@ fn reach(reached: &mut Vec<bool>, number: Option<u32>, reply: Reply)
 }
 
 /// Whether a place is marked.
-fn is_marked(marks: &[bool], place: usize) -> bool
+pub(crate) fn is_marked(marks: &[bool], place: usize) -> bool
     ensures { result ≡ is_marked marks.now place }
 {
     match marks.get(place) {

@@ -23,8 +23,17 @@ const POWERS: u32 = 14;
 /// The longest length that counts.
 const LONGEST: u64 = 1 << 32;
 
-/// The most switches of a schedule that has few.
-const FEW: u32 = 2;
+/// Of how many schedules shares are said.
+const LOTS: u32 = 20;
+
+/// How many of them have one switch.
+const WITH_ONE: u32 = 4;
+
+/// How many have one switch or two.
+const WITH_FEW: u32 = 5;
+
+/// How many go back to a thread that had to wait as soon as it may step.
+const RESUMING: u32 = 14;
 
 /// How often a switch goes to a thread that has not made a call, beside one that has.
 const UNMOVED: u32 = 3;
@@ -40,7 +49,8 @@ struct Others {
 /// A schedule that is drawn while it is followed: it has a number of switches, and places among
 /// which they are spread. A place is before a visible step of the current thread, but the first
 /// since the last switch: a switch there would have been better made at once. The thread to which
-/// it switches is drawn among those that may step.
+/// it switches is drawn among those that may step. Some schedules go back to a thread that had to
+/// wait as soon as it may step.
 #[derive(Drop)]
 pub(crate) struct Scheduler<'a> {
     generator: Lcg64Xsh32,
@@ -55,6 +65,10 @@ pub(crate) struct Scheduler<'a> {
     switches: u32,
     /// Among how many next places they are.
     places: u64,
+    /// Whether a thread that had to wait goes on as soon as it may step.
+    is_resuming: bool,
+    /// The threads that the schedule left since they had to wait, as a mask.
+    waiting: u64,
 }
 
 /// A number below the count, where the count is not 0.
@@ -66,32 +80,49 @@ fn below(generator: &mut Lcg64Xsh32, count: u32) -> u32
     if count == 0 { 0 } else { word % count }
 }
 
-/// How many switches, which are spread over this many places. The most are one less than the
-/// contexts that are allowed, and seven eighths of the places less one. Two schedules of five have
-/// one switch or two, and the others more than half of the most.
-fn draw_switches(generator: &mut Lcg64Xsh32, contexts: u32, places: u64) -> u32 {
+/// A length: one of these, or a power of two where there are none.
+fn draw_length(generator: &mut Lcg64Xsh32, lengths: &[u64]) -> u64 {
+    let count = lengths.len().min(MAX_LENGTHS) as u32;
+    let n = below(generator, count);
+    match lengths.get(n as usize) {
+        Some(length) => (*length).min(LONGEST),
+        None => 8 << below(generator, POWERS),
+    }
+}
+
+/// How many switches a run of this length has. The most are one less than the contexts that are
+/// allowed, and seven eighths of the length less one. One schedule of five has one switch, one of
+/// twenty has two, and the others more than half of the most.
+fn draw_switches(generator: &mut Lcg64Xsh32, contexts: u32, length: u64) -> u32 {
     if contexts < 2 {
         return 0;
     }
-    let room = (places - places / 8).saturating_sub(1).max(1);
+    let room = (length - length / 8).saturating_sub(1).max(1);
     let most = u64::from(contexts - 1).min(room) as u32;
-    if below(generator, 5) < 2 {
-        return below(generator, most.min(FEW)) + 1;
+    let lot = below(generator, LOTS);
+    if lot < WITH_ONE {
+        1
+    } else if lot < WITH_FEW {
+        most.min(2)
+    } else {
+        most - below(generator, (most / 2).max(1))
     }
-    most - below(generator, most - most / 2)
 }
 
-/// How many places there are: from half of one of these lengths to all of it. A run has fewer
-/// places than visible steps. Where there is no length it is a power of two.
-fn draw_places(generator: &mut Lcg64Xsh32, lengths: &[u64]) -> u64 {
-    let count = lengths.len().min(MAX_LENGTHS) as u32;
-    let n = below(generator, count);
-    let Some(length) = lengths.get(n as usize) else {
-        return 8 << below(generator, POWERS);
+/// Among how many places this many switches are: from half of the steps where they may be to all
+/// of these. For one schedule of two that is the whole length, and for the other one the share of
+/// as many threads as there are switches: before the last switch no more threads than that make
+/// steps.
+fn draw_places(generator: &mut Lcg64Xsh32, length: u64, switches: u32, threads: u32) -> u64 {
+    let is_whole = below(generator, 2) == 0;
+    let steps = if is_whole {
+        length.min(LONGEST)
+    } else {
+        let left = length.saturating_mul(u64::from(switches.min(threads)));
+        (left / u64::from(threads.max(1))).max(1).min(LONGEST)
     };
-    let length = (*length).min(LONGEST);
-    let half = length / 2;
-    length - half + u64::from(below(generator, half as u32 + 1))
+    let half = steps / 2;
+    steps - half + u64::from(below(generator, half as u32 + 1))
 }
 
 /// The threads other than this one that may step.
@@ -172,9 +203,12 @@ impl<'a> Scheduler<'a> {
     ) -> Scheduler<'a> {
         let setup = session.setup();
         let mut generator = Lcg64Xsh32::new(seed, STREAM);
-        let current = below(&mut generator, setup.threads());
-        let places = draw_places(&mut generator, lengths);
-        let switches = draw_switches(&mut generator, setup.contexts(), places);
+        let threads = setup.threads();
+        let current = below(&mut generator, threads);
+        let length = draw_length(&mut generator, lengths);
+        let switches = draw_switches(&mut generator, setup.contexts(), length);
+        let places = draw_places(&mut generator, length, switches, threads);
+        let is_resuming = below(&mut generator, LOTS) < RESUMING;
         Scheduler {
             generator,
             visible,
@@ -183,6 +217,8 @@ impl<'a> Scheduler<'a> {
             has_stepped: false,
             switches,
             places,
+            is_resuming,
+            waiting: 0,
         }
     }
 
@@ -227,6 +263,50 @@ impl<'a> Scheduler<'a> {
         others.thread_at(threads, place)
     }
 
+    /// The first thread that was left since it had to wait, and may step now.
+    fn resumed(&self, session: &Session) -> Option<u32>
+        ensures { IfSome result (λ i. i < threads session.now.setup) }
+    {
+        for thread in 0..session.setup().threads() {
+            if self.waiting & bit(thread as usize) != 0 && may_step(session, thread) {
+                return Some(thread);
+            }
+        }
+        None
+    }
+
+    /// Notes that the current thread may not step: it has to wait, unless its line has ended.
+    fn note_wait(&mut self, session: &Session) {
+        let current = self.current;
+        if current >= session.setup().threads() || session.is_finished(current) {
+            return;
+        }
+        if self.is_resuming {
+            self.waiting |= bit(current as usize);
+        }
+    }
+
+    /// Goes on with this thread.
+    fn go_to(&mut self, session: &Session, thread: u32) {
+        self.current = thread;
+        self.number = next_number(session, thread);
+        self.has_stepped = self.visible.is_visible(thread, self.number);
+        self.waiting &= !bit(thread as usize);
+    }
+
+    /// The thread that the schedule leaves the current one for, if any may step.
+    fn other(&mut self, session: &Session) -> Option<u32>
+        ensures { let count = threads session.now.setup in
+            MatchOption result
+            ((i : ℕ) → i < count → RestsIn session.now i)
+            (λ i. i < count) }
+    {
+        match self.drawn(session) {
+            Some(thread) => Some(thread),
+            None => first(session),
+        }
+    }
+
     /// The thread that makes the next call: one that may step, where there is one.
     pub(crate) fn next(&mut self, session: &Session) -> Option<u32>
         ensures { let count = threads session.now.setup in
@@ -234,19 +314,22 @@ impl<'a> Scheduler<'a> {
             ((i : ℕ) → i < count → RestsIn session.now i)
             (λ i. i < count) }
     {
+        if self.waiting != 0 {
+            if let Some(thread) = self.resumed(session) {
+                self.go_to(session, thread);
+                return Some(thread);
+            }
+        }
         let current = self.current;
-        if may_step_at(session, current, self.number) && !self.switches_now() {
-            return Some(current);
+        if may_step_at(session, current, self.number) {
+            if !self.switches_now() {
+                return Some(current);
+            }
+        } else {
+            self.note_wait(session);
         }
-        let next = match self.drawn(session) {
-            Some(thread) => Some(thread),
-            None => first(session),
-        };
-        if let Some(thread) = next {
-            self.current = thread;
-            self.number = next_number(session, thread);
-            self.has_stepped = self.visible.is_visible(thread, self.number);
-        }
-        next
+        let next = self.other(session)?;
+        self.go_to(session, next);
+        Some(next)
     }
 }

@@ -1,5 +1,6 @@
 //! Steps before which a switch may matter.
-use crate::tallies::none_of;
+use crate::runs::is_marked;
+use crate::tallies::{mark, none_of};
 use bp_code::{Code, Touched};
 use bp_machine::Setup;
 use bp_machine::limits::MAX_THREADS;
@@ -24,12 +25,11 @@ fn add_unseen(
     let Some(number) = number else {
         return Ok(());
     };
-    if let Some(is_seen) = seen.get_mut(number as usize) {
-        if !*is_seen {
-            *is_seen = true;
-            left.push(number)?;
-        }
+    if is_marked(seen, number as usize) {
+        return Ok(());
     }
+    mark(seen, number as usize);
+    left.push(number)?;
     Ok(())
 }
 

@@ -79,7 +79,7 @@ fn waiting_at(session: &Session, thread: u32) -> Option<Waiting>
 }
 
 /// The threads that wait, in ascending order, and where.
-pub(crate) fn waiting_threads(alloc: Global, session: &Session) -> Result<Vec<Waiting>, AllocError>
+pub fn waiting_threads(alloc: Global, session: &Session) -> Result<Vec<Waiting>, AllocError>
     ensures { IfOk result (λ v.
         (t : Program) (h : List Answered)
         → StandsFor session.now.code t

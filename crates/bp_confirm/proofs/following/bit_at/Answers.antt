@@ -1,7 +1,9 @@
-use Rattle.std.proofs.Common.{◌∙◌, ap, sym}
+use Rattle.std.proofs.Common.{◌∙◌, Some, ap, refl, sym}
 use Rattle.std.specs.Prelude.{slice_get, option_map}
 use Rattle.bp_machine.specs.Histories.{configuration_after}
+use Rattle.bp_confirm.specs.Inferred.{some_follow}
 use Rattle.bp_confirm.specs.Places.{place_of}
+use Rattle.bp_confirm.specs.Steps.{next_place}
 use Rattle.bp_confirm.proofs.BitsAtTops.{inferred_here}
 use Rattle.bp_confirm.proofs.following.bit_at.Goals as goal
 
@@ -10,5 +12,15 @@ returns c = λ text t h x later stands are tells top.
     let session = c.args.session.now in
     inferred_here t session.code (configuration_after t session.setup h) x.thread c.args.top later stands top
     c.get.result c.in-Some.instr c.in-Some.is (c.get.ensures ∙ ap (λ k. slice_get k.instructions c.args.top.number) c.code.ensures)
-    (option_map (place_of text) c.args.next.location) c.args.next.follows c.inferred_bit.result (sym tells.place) (sym tells.follows)
+    (option_map (place_of text) c.location_in.result) c.args.next.follows c.inferred_bit.result
+    (ap (option_map (place_of text)) c.location_in.ensures ∙ sym tells.place) (sym tells.follows)
     (λ p left does. c.inferred_bit.ensures text t p left does are)
+
+pub returns-in-Some-plain_bit : goal.returns-in-Some-plain_bit
+returns-in-Some-plain_bit c = λ text t h x later stands are tells top.
+    let session = c.args.session.now in
+    let next = next_place x.thread later in
+    inferred_here t session.code (configuration_after t session.setup h) x.thread c.args.top later stands top
+    c.get.result c.in-Some.instr c.in-Some.is (c.get.ensures ∙ ap (λ k. slice_get k.instructions c.args.top.number) c.code.ensures)
+    next (some_follow later) (Some c.in-Some-plain_bit.bit) refl refl
+    (λ p left does. c.in-Some-plain_bit.ensures t p left next (some_follow later) does)

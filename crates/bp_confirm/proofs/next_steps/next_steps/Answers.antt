@@ -1,8 +1,8 @@
-use Rattle.std.proofs.Common.{rules, ◌≡◌, ◌∙◌, ◌-◌, ◌<◌, vec_len, length, map, ap, sym, refl, arith}
+use Rattle.std.proofs.Common.{rules, ◌≡◌, ◌∙◌, ◌-◌, ◌<◌, vec_len, Some, drop, length, map, replicate, ap, sym, refl, subst, arith}
+use Rattle.std.specs.Prelude.{slice_get}
 use Rattle.std.proofs.Math.ListN.{drop_of_length-le}
-use Rattle.std.proofs.Math.Seq.{drop-length}
 use Rattle.std.proofs.lemmas.List.{length-set}
-use Rattle.bp_confirm.specs.StepLines.{location_in, next_locations}
+use Rattle.bp_confirm.specs.StepLines.{location_in, next_location, next_locations}
 use Rattle.bp_confirm.proofs.NextLocations.{none_yet, table_next, done_next}
 use Rattle.bp_confirm.proofs.next_steps.next_steps.Goals as goal
 
@@ -10,23 +10,24 @@ pub loop-n-init : goal.loop-n-init
 loop-n-init c =
     let lines = c.args.lines.now in
     let size : length c.in_ok-steps.steps.items ≡ vec_len c.in_ok-steps.steps = search rules in
-    let many = size ∙ c.in_ok-steps.ensures.len in
+    let count = c.len-count.ensures in
+    let many = size ∙ c.in_ok-steps.ensures.len ∙ count in
     record {
-      within = omega arith;
+      within = omega (arith, count);
       size = refl;
-      each = λ i few. none_yet 64 i c.args.lines.now few;
+      each = λ i few. subst (λ k. slice_get (map (location_in lines) (replicate 64 k)) i ≡ Some (next_location i (drop k lines))) (sym count) (none_yet 64 i lines few);
       many = many;
-      done = ap (map (location_in lines)) (drop_of_length-le c.in_ok-steps.steps.items (omega (arith, many))) ∙ sym (ap next_locations (drop-length lines));
+      done = ap (map (location_in lines)) (drop_of_length-le c.in_ok-steps.steps.items (omega (arith, many, count))) ∙ sym (ap next_locations (drop_of_length-le lines (omega (arith, count))));
     }
 
 pub loop-n-preserved : goal.loop-n-preserved
 loop-n-preserved c =
     let lines = c.args.lines.now in
     let n = c.loop-n.n in
-    let x = c.index-lines-n.result in
+    let x = c.at-line.result.now in
     let inv = c.loop-n.invariant in
     let within : n - 1 < length lines = omega (arith, c.loop-n-test.true, inv.within) in
-    let is = c.line.view_is ∙ c.index-lines-n.is in
+    let is = c.line.view_is ∙ c.at-line.ensures in
     let thread = ap (λ z. z.thread) is in
     record {
       within = omega (arith, inv.within);

@@ -1,7 +1,7 @@
 use Rattle.std.proofs.Common.{refl, subst, inl, inr}
 use Rattle.std.proofs.lemmas.Result.{err_from_is_err_and}
-use Rattle.bp_test.specs.HistoryEnds.{IsEnd}
-use Rattle.bp_test.specs.Shrinks.{IsShrunk}
+use Rattle.bp_shrink.specs.HistoryEnds.{IsEnd}
+use Rattle.bp_shrink.specs.Shrinks.{IsShrunk}
 use Rattle.bp_trace.specs.TraceText.{trace_text}
 use Rattle.bp_commands.specs.Given.{Pair}
 use Rattle.bp_commands.specs.Shrinks.{shrinks, IsEndRefusal}

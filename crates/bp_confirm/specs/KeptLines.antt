@@ -1,0 +1,37 @@
+-- A device: the lines of a text of steps, of which those of the same text are mostly kept once.
+use Rattle.std.specs.Prelude.{◌≡◌, ◌<◌, ◌≤◌, ◌++◌, ◌∷◌, ℕ, List, [], length, map, get_or}
+use Rattle.std.specs.List.{AllByRecursion}
+use Rattle.bp_confirm.specs.declared.kept_lines.KeptLine.{KeptLine}
+use Rattle.bp_confirm.specs.declared.locations.Location.TheVariants.{End}
+use Rattle.bp_confirm.specs.LineReading.{IsStepAt}
+use Rattle.bp_confirm.specs.StepLines.{StepLineOf}
+use Rattle.bp_confirm.specs.StepTexts.{line_text, HasLine}
+
+abbrev pub kept_lines : List KeptLine → List StepLineOf
+kept_lines kept = map (λ x. x.line) kept
+
+-- what stands where no line is kept
+abbrev pub no_line : StepLineOf
+no_line = record { thread = 0; location = End; values = [] }
+
+-- the lines at these places
+abbrev pub lines_at : List StepLineOf → List ℕ → List StepLineOf
+lines_at lines places = map (λ k. get_or lines k no_line) places
+
+-- a line is kept at each of these places
+abbrev pub AreWithin : List StepLineOf → List ℕ → Type 0
+AreWithin lines places = AllByRecursion (λ k. k < length lines) places
+
+-- the line has this text
+pub record IsKeptLine (x : KeptLine) : Type 0 where
+  pub has : HasLine x.line
+  pub is : x.text.now ≡ line_text x.line ++ 10 ∷ []
+
+-- one more is kept, or none
+abbrev pub GrowsByOne : List KeptLine → List KeptLine → Type 0
+GrowsByOne old new = (more : List KeptLine) × (new ≡ old ++ more) × (length more ≤ 1)
+
+-- the line at this place begins the text
+pub record IsStepThere (lines : List StepLineOf) (place : ℕ) (text rest : List ℕ) : Type 0 where
+  pub within : place < length lines
+  pub at : IsStepAt text (get_or lines place no_line) rest

@@ -1,0 +1,106 @@
+//! Reading the lines of a text of steps, most of which were read before.
+ghost use Rattle.std.specs.Prelude.{◌≡◌, ◌<◌, ◌≤◌, ◌^◌, ◌++◌, ◌∷◌, [], IfOk, IfSome, MatchOption, MatchResult, OnOk, length};
+ghost use Rattle.std.specs.List.{AllByRecursion};
+ghost use Rattle.bp_confirm.specs.KeptLines.{kept_lines, GrowsByOne, IsKeptLine, IsStepThere};
+ghost use Rattle.bp_confirm.specs.LineReading.{HasNoStep, IsUnreadable};
+ghost use Rattle.bp_confirm.specs.StepTexts.{HasLines};
+
+use crate::kept_lines::{KeptLine, StepLines};
+use crate::step_texts::{StepsFault, step_at};
+use bp_text::part_before;
+use std::alloc::{AllocError, Global};
+
+/// How many lines are noted, so that they are known when they are read again.
+const SLOTS: usize = 4096;
+
+/// Where the place of a line that begins this text is noted.
+fn slot_of(text: &[u8]) -> usize
+    ensures { result < SLOTS }
+{
+    let Some((front, rest)) = text.split_first_chunk::<8>() else {
+        return 0;
+    };
+    let Some(next) = rest.first_chunk::<8>() else {
+        return 0;
+    };
+    let first = u64::from_le_bytes(*front);
+    let second = u64::from_le_bytes(*next).rotate_left(29);
+    ((first ^ second).wrapping_mul(0x9E37_79B9_7F4A_7C15) >> 52) as usize % SLOTS
+}
+
+/// What is after the line that is kept at this place, if the text begins with it.
+fn after_kept<'a>(kept: &[KeptLine], place: u32, text: &'a [u8]) -> Option<&'a [u8]>
+    requires { AllByRecursion IsKeptLine kept.now }
+    ensures { IfSome result (λ more.
+        IsStepThere (kept_lines kept.now) place text.now more.now) }
+{
+    match kept.get(place as usize) {
+        None => None,
+        Some(line) => text.strip_prefix(line.text),
+    }
+}
+
+/// Reads the line that begins a text: its place among those that are kept, and what is after it.
+fn read_line<'a>(
+    kept: &mut Vec<KeptLine<'a>>,
+    noted: &mut [u32; SLOTS],
+    text: &'a [u8],
+) -> Result<Option<(u32, &'a [u8])>, AllocError>
+    requires each { AllByRecursion IsKeptLine kept.old.items }
+    requires few { length kept.old.items < 2 ^ 32 }
+    ensures each { OnOk result (AllByRecursion IsKeptLine kept.new.items) }
+    ensures grown { OnOk result (GrowsByOne kept.old.items kept.new.items) }
+    ensures read { IfOk result (λ r. MatchOption r
+        (HasNoStep text.now)
+        (λ p. IsStepThere (kept_lines kept.new.items) p.0 text.now p.1.now)) }
+{
+    let slot = slot_of(text);
+    if let Some(more) = after_kept(kept.as_slice(), noted[slot], text) {
+        return Ok(Some((noted[slot], more)));
+    }
+    let Some((line, more)) = step_at(text) else {
+        return Ok(None);
+    };
+    let place = kept.len() as u32;
+    noted[slot] = place;
+    let text = part_before(text, text.len() - more.len());
+    kept.push(KeptLine { text, line })?;
+    Ok(Some((place, more)))
+}
+
+/// Adds the place of a line.
+fn add(places: &mut Vec<u32>, place: u32) -> Result<(), AllocError>
+    ensures { OnOk result (places.new.items ≡ places.old.items ++ place ∷ []) }
+{
+    places.push(place)?;
+    Ok(())
+}
+
+/// Reads the text of reported steps, a line for each: the thread, a space, its location before the
+/// step, and any number of values after it, each of them a space, a name, an equals sign and a bit.
+/// A location is a line, a line and a column with a colon between them, or a dash for the end of a
+/// procedure. Numbers have 32 bits and no leading zeros. A name in braces ends at its first `}`;
+/// another one has no space, and ends at its first `=`.
+/// Of lines with the same text mostly one is kept.
+pub(crate) fn read_lines(alloc: Global, text: &[u8]) -> Result<StepLines<'_>, StepsFault>
+    requires { length text.now < 2 ^ 32 }
+    ensures read { MatchResult result
+        (HasLines text.now)
+        (IsUnreadable text.now) }
+    ensures few { IfOk result (λ lines. length lines ≤ length text.now) }
+{
+    let mut noted = [0; SLOTS];
+    let mut kept = Vec::new(alloc);
+    let mut places = Vec::new(alloc);
+    let mut rest = text;
+    while !rest.is_empty() {
+        let n = places.len() as u32 + 1;
+        let read = read_line(&mut kept, &mut noted, rest)?;
+        let Some((place, more)) = read else {
+            return Err(StepsFault::Line(n));
+        };
+        add(&mut places, place)?;
+        rest = more;
+    }
+    Ok(StepLines { kept, places })
+}

@@ -1,0 +1,2 @@
+pub mod HistoryEnds
+pub mod Shrinks

@@ -1,0 +1,160 @@
+//! Shrinking a history that fails or ends in a deadlock.
+ghost use Rattle.std.specs.Prelude.{◌≡◌, ◌≤◌, None, IfOk, map};
+ghost use Rattle.bp_tree.specs.Ast.{Program};
+ghost use Rattle.bp_code.specs.StandsFor.{StandsFor};
+ghost use Rattle.bp_machine.specs.Histories.{granted_calls, IsLegal};
+ghost use Rattle.bp_machine.specs.Reports.{IsReport};
+ghost use Rattle.bp_machine.specs.Setups.{setup_fault, FitsCode};
+ghost use Rattle.bp_shrink.specs.HistoryEnds.{IsEnd};
+ghost use Rattle.bp_shrink.specs.Shrinks.{budgeted, IsDriven, IsShrunk, IsShrunkOf};
+
+use crate::history_ends::HistoryEnd;
+use crate::searches::{Driven, Search, improve};
+use bp_code::Code;
+use bp_machine::{Call, Reply, Report, Session, Setup, open_lines, runs_are_histories};
+use std::alloc::{AllocError, Global};
+
+/// A history that ends as another one does, and is no larger.
+#[derive(Drop)]
+pub struct Shrunk {
+    /// Its setup: without a seed, and with as many contexts as its steps use.
+    pub setup: Setup,
+    /// The calls. Each made a step.
+    pub history: Vec<Call>,
+    pub report: Report,
+}
+
+/// The calls that made a step.
+fn granted(alloc: Global, history: &[Call]) -> Result<Vec<Call>, AllocError>
+    ensures { IfOk result (λ v. v.items ≡ granted_calls history.now) }
+{
+    let mut calls = Vec::new(alloc);
+    for call in history {
+        if matches!(call.reply, Reply::Stepped | Reply::Failed) {
+            calls.push(*call)?;
+        }
+    }
+    Ok(calls)
+}
+
+/// The names of the entry procedures, thread 0 first.
+fn entries_of(alloc: Global, setup: &Setup) -> Result<Vec<&[u8]>, AllocError>
+    ensures { IfOk result (λ v. map (λ n. n.now) v.items ≡ setup.now.entries) }
+{
+    let mut names = Vec::new(alloc);
+    for thread in 0..setup.threads() {
+        if let Some(name) = setup.entry(thread) {
+            names.push(name.as_bytes())?;
+        }
+    }
+    Ok(names)
+}
+
+/// The initial bits of the globals.
+fn init_of(alloc: Global, setup: &Setup) -> Result<Vec<bool>, AllocError>
+    ensures { IfOk result (λ v. v.items ≡ setup.now.init) }
+{
+    setup.is_in_range();
+    let mut bits = Vec::new(alloc);
+    let mut n = 0;
+    while let Some(bit) = setup.init(n) {
+        bits.push(bit)?;
+        n += 1;
+    }
+    Ok(bits)
+}
+
+/// The setup with this many contexts and no seed.
+fn budgeted(alloc: Global, code: &Code, setup: &Setup, contexts: u32) -> Result<Setup, AllocError>
+    ensures { IfOk result (λ x.
+        (t : Program)
+        → StandsFor code.now t
+        → (x ≡ budgeted setup.now contexts) × (setup_fault t x ≡ None)) }
+{
+    let entries = entries_of(alloc, setup)?;
+    let init = init_of(alloc, setup)?;
+    let (contexts, calls) = (u64::from(contexts), u64::from(setup.calls()));
+    // The setup of a session has no fault, and uses no fewer contexts.
+    match Setup::from_names(
+        alloc,
+        code,
+        entries.as_slice(),
+        init.as_slice(),
+        contexts,
+        calls,
+        None,
+    ) {
+        Ok(setup) => Ok(setup),
+        Err(_) => Err(AllocError),
+    }
+}
+
+/// The calls of the best history that made a step, in the setup of the contexts that they use.
+fn used(alloc: Global, code: &Code, setup: &Setup, search: &Search) -> Result<Shrunk, AllocError>
+    requires { (t : Program)
+        → StandsFor code.now t
+        → IsDriven t setup.now search.now.end search.now.best }
+    ensures { IfOk result (λ g.
+        (t : Program)
+        → StandsFor code.now t
+        → IsShrunkOf t setup.now search.now g) }
+{
+    runs_are_histories();
+    let best = &search.best;
+    let history = granted(alloc, best.history.as_slice())?;
+    let setup = budgeted(alloc, code, setup, best.report.contexts)?;
+    let calls = history.as_slice();
+    let report = Report {
+        calls: calls.len() as u64,
+        left_open: open_lines(&setup, calls),
+        ..best.report
+    };
+    Ok(Shrunk {
+        setup,
+        history,
+        report,
+    })
+}
+
+/// A history that ends as this one does, by no more calls and no more contexts: the same assertion
+/// fails, or the same threads wait at the same assumptions. Contexts are left out and joined, loops
+/// and other calls are left out, and choices are 0, as long as that makes it smaller and `limits`
+/// allows the work. The calls keep their bits, so the setup of what is answered has no seed, and as
+/// many contexts as are used.
+pub fn shrink(
+    alloc: Global,
+    code: &Code,
+    setup: &Setup,
+    history: &[Call],
+    report: &Report,
+    end: HistoryEnd,
+) -> Result<Shrunk, AllocError>
+    requires fits { FitsCode code.now setup.now }
+    requires legal { (t : Program) → StandsFor code.now t → IsLegal t setup.now history.now }
+    requires report { (t : Program)
+        → StandsFor code.now t
+        → IsReport setup.now history.now report.now }
+    requires ends { (t : Program)
+        → StandsFor code.now t
+        → IsEnd t setup.now history.now end }
+    ensures { IfOk result (λ g.
+        (t : Program)
+        → StandsFor code.now t
+        → IsShrunk t setup.now history.now end g) }
+{
+    let setup = setup.try_copy()?.with_seed(None);
+    let search = Search {
+        session: Session::new(alloc, code, &setup)?,
+        end,
+        best: Driven {
+            history: Vec::from_slice(alloc, history)?,
+            report: *report,
+        },
+        lines: Vec::new(alloc),
+        spare: Vec::new(alloc),
+        is_taken: false,
+    };
+    let search = improve(search)?;
+    let shrunk = used(alloc, code, &setup, &search)?;
+    Ok(shrunk)
+}

@@ -1,0 +1,10 @@
+use Rattle.library_tests.proofs.runs.board.desks.plays.Given as goal
+
+abbrev pub ghosts-is_seen_at-C-Calls : goal.ghosts-is_seen_at-C-Calls
+ghosts-is_seen_at-C-Calls a = record { ring = a.kit.ring; code = a.code.now; setup = a.setup.now }
+
+abbrev pub ghosts-is_seen_at-C-Ledger : goal.ghosts-is_seen_at-C-Ledger
+ghosts-is_seen_at-C-Ledger a = record { name = a.kit.calls; parts = a.kit.threads }
+
+abbrev pub ghosts-is_seen_at-O-Ledger : goal.ghosts-is_seen_at-O-Ledger
+ghosts-is_seen_at-O-Ledger a = record { name = a.kit.lines; parts = a.kit.threads }

@@ -1,0 +1,231 @@
+//! Desks and boards: what was asked before a refusal stands, and the thread continues after it.
+ghost use Rattle.std.specs.Prelude.{◌≡◌, true, is_some, IfOk};
+ghost use Rattle.bp_machine.specs.Setups.{threads, FitsCode};
+ghost use Rattle.bp_board.specs.Kits.{IsNamed};
+
+use super::ready::{begin, calls, setup, tell, wants};
+use crate::common::code_of;
+use bp_board::{Board, Calls, Desk, Kit, Seat, Tap, gather};
+use bp_code::Code;
+use bp_machine::{AskFault, Session, Setup};
+use bp_run::{Open, Signals, Unfinished, work};
+use std::alloc::{AllocError, Global};
+use std::marker::Brand;
+use std::rt::Runtime;
+use std::sync::Wait;
+use std::sync::ledger::Ledger;
+use std::test::Fail;
+
+/// How the calls of a thread are made.
+#[derive(Clone, Copy, PartialEq, Eq)]
+pub(super) enum Way {
+    /// Single calls at a desk.
+    Asks,
+    /// Turns of three calls at a desk.
+    DeskTurns,
+    /// Turns of three calls at a board.
+    BoardTurns,
+    /// The work of a worker at a board.
+    Work,
+    /// The same where no memory is left.
+    Starved,
+    /// None: a board is gathered after a turn.
+    Gathered,
+}
+
+#[test]
+fn make_a_kit(rt: HostRuntime) -> Result<(), Fail> {
+    begin(&rt)?;
+    let is_refused = Kit::new(rt.alloc(), 3, 64).is_err();
+    tell(&rt, is_refused)?;
+    wants(!is_refused || Kit::new(rt.alloc(), 3, 64).is_ok())
+}
+
+/// Whether a tap gives the first calls of thread 0 of a session, and nothing more.
+fn gives_calls_of<C: Calls>(tap: &mut Tap<C>, session: &mut Session) -> bool {
+    for _ in 0..20 {
+        let call = session.ask(0).ok();
+        if call.is_none() || tap.next() != call {
+            return false;
+        }
+    }
+    tap.next().is_none()
+}
+
+/// Makes the calls of a seat at a desk: whether one was refused.
+fn play_at_desk<C: Calls, O: Ledger>(
+    desk: &mut Desk<C, O>,
+    seat: &mut Seat<C, O>,
+    way: Way,
+) -> bool {
+    let mut was_refused = false;
+    for _ in 0..22 {
+        let answer = match way {
+            Way::Asks => desk.ask(seat),
+            _ => desk.turn(seat, 3),
+        };
+        was_refused = was_refused || answer == Err(AskFault::Memory);
+    }
+    was_refused
+}
+
+/// Makes a turn or does the work of a seat at a board: whether it was refused memory.
+fn is_refused<C: Calls, O: Ledger, R: Wait + Runtime>(
+    rt: &R,
+    board: &Board<C, O>,
+    seat: &mut Seat<C, O>,
+    way: Way,
+) -> bool {
+    match way {
+        Way::BoardTurns => board.turn(rt, seat, 3) == Err(AskFault::Memory),
+        _ => work(rt, board, seat, 3, &Open, &Signals::new()) == Err(Unfinished::Memory),
+    }
+}
+
+/// Makes the calls of a seat at a board, once more where that is refused. The tap gives all of
+/// them; where no memory is left the seat is open.
+fn plays<C: Calls, O: Ledger, R: Wait + Runtime>(
+    rt: &R,
+    board: &Board<C, O>,
+    seat: &mut Seat<C, O>,
+    tap: &mut Tap<C>,
+    way: Way,
+    session: &mut Session,
+) -> Result<(), Fail> {
+    begin(rt)?;
+    let mut was_refused = false;
+    for _ in 0..22 {
+        was_refused = is_refused(rt, board, seat, way) || was_refused;
+    }
+    tell(rt, was_refused)?;
+    if way == Way::Starved {
+        return wants(seat.is_open() == was_refused);
+    }
+    wants(gives_calls_of(tap, session))
+}
+
+/// Makes a turn of two calls of thread 1 of two, takes one of them, gathers the board, and takes
+/// the other one.
+fn gathers<C: Calls, O: Ledger, R: Wait + Runtime>(
+    rt: &R,
+    board: Board<C, O>,
+    mut seats: Vec<Seat<C, O>>,
+    mut tap: Tap<C>,
+    code: &Code,
+    setup: &Setup,
+) -> Result<(), Fail> {
+    let Some(seat) = seats.get_mut(1) else {
+        return Err(Fail::from("no seat"));
+    };
+    board.turn(rt, seat, 2)?;
+    begin(rt)?;
+    wants(seat.thread() == 1 && seat.calls() == 2 && seat.is_open())?;
+    let first = tap.next();
+    let Ok(mut gathered) = gather(board, seats, tap, code, setup) else {
+        return Err(Fail::from("another board"));
+    };
+    let taken = (first, gathered.tap.next(), gathered.tap.next());
+    wants(gathered.report.calls == 2 && gathered.report.left_open == 2)?;
+    wants(matches!(taken, (Some(first), Some(_), None) if first.thread == 1))
+}
+
+/// Makes the calls of thread 0 at a board of this kit, which have to be those of the session, or
+/// gathers the board.
+fn at_a_board<C: Calls, O: Ledger, R: Wait + Runtime>(
+    rt: &R,
+    alloc: Global,
+    kit: Kit,
+    code: &Code,
+    setup: &Setup,
+    way: Way,
+    session: &mut Session,
+) -> Result<(), Fail>
+    requires named { IsNamed kit C.name C.parts O.name O.parts C.ring }
+    requires code { code.now ≡ C.code }
+    requires setup { setup.now ≡ C.setup }
+    requires threads { kit.threads ≡ threads setup.now }
+    requires fits { FitsCode code.now setup.now }
+    requires seeded { is_some setup.now.seed ≡ true }
+{
+    let (board, mut seats, mut tap) = Board::<C, O>::open(alloc, kit, code, setup)?;
+    if way == Way::Gathered {
+        return gathers(rt, board, seats, tap, code, setup);
+    }
+    match seats.get_mut(0) {
+        Some(seat) => plays(rt, &board, seat, &mut tap, way, session),
+        None => Err(Fail::from("no seat")),
+    }
+}
+
+/// Makes the calls of thread 0 at a desk of this kit, which have to be those of the session. The
+/// desk itself may be refused.
+fn at_a_desk<C: Calls, O: Ledger, R: Runtime>(
+    rt: &R,
+    alloc: Global,
+    kit: Kit,
+    code: &Code,
+    setup: &Setup,
+    way: Way,
+    session: &mut Session,
+) -> Result<(), Fail>
+    requires named { IsNamed kit C.name C.parts O.name O.parts C.ring }
+    requires code { code.now ≡ C.code }
+    requires setup { setup.now ≡ C.setup }
+    requires threads { kit.threads ≡ threads setup.now }
+    requires fits { FitsCode code.now setup.now }
+    requires seeded { is_some setup.now.seed ≡ true }
+{
+    begin(rt)?;
+    let Ok((mut desk, mut seats, mut tap)) = Desk::<C, O>::open(alloc, kit, code, setup) else {
+        return Ok(tell(rt, true)?);
+    };
+    let Some(seat) = seats.get_mut(0) else {
+        return Err(Fail::from("no seat"));
+    };
+    let was_refused = play_at_desk(&mut desk, seat, way);
+    tell(rt, was_refused)?;
+    wants(gives_calls_of(&mut tap, session))
+}
+
+/// A kit for the threads of the setup.
+fn kit(alloc: Global, setup: &Setup) -> Result<Kit, AllocError>
+    ensures { IfOk result (λ k. k.threads ≡ threads setup.now) }
+{
+    setup.is_in_range();
+    Kit::new(alloc, setup.threads(), 64)
+}
+
+/// The same at a desk or a board of the program that calls itself.
+pub(super) fn makes_calls<R: Wait + Runtime>(rt: &R, alloc: Global, way: Way) -> Result<(), Fail> {
+    let code = code_of(alloc, calls())?;
+    let threads = if way == Way::Gathered { 2 } else { 1 };
+    let setup = setup(alloc, &code, threads, Some(42))?;
+    let mut session = Session::new(alloc, &code, &setup)?;
+    let kit = kit(alloc, &setup)?;
+    match way {
+        Way::Asks | Way::DeskTurns => {
+            at_a_desk::<Brand, Brand, R>(rt, alloc, kit, &code, &setup, way, &mut session)
+        }
+        _ => at_a_board::<Brand, Brand, R>(rt, alloc, kit, &code, &setup, way, &mut session),
+    }
+}
+
+#[test]
+fn ask_at_a_desk(rt: HostRuntime) -> Result<(), Fail> {
+    makes_calls(&rt, rt.alloc(), Way::Asks)
+}
+
+#[test]
+fn turn_at_a_desk(rt: HostRuntime) -> Result<(), Fail> {
+    makes_calls(&rt, rt.alloc(), Way::DeskTurns)
+}
+
+#[test]
+fn turn_at_a_board(rt: HostRuntime) -> Result<(), Fail> {
+    makes_calls(&rt, rt.alloc(), Way::BoardTurns)
+}
+
+#[test]
+fn work_at_a_board(rt: HostRuntime) -> Result<(), Fail> {
+    makes_calls(&rt, rt.alloc(), Way::Work)
+}

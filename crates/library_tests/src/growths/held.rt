@@ -1,0 +1,182 @@
+//! A run in which one worker alone takes frames, after the others were started. Where it is refused
+//! one, the others end, and its line stays open after the calls that it made.
+use super::ready::{begin, tell, wants};
+use crate::common::{code_of, names};
+use bp_check::CheckFault;
+use bp_code::ProgramFault;
+use bp_machine::{Outcome, Reply, Report, SetupFault, Start};
+use bp_run::{Gate, RunFault, RunOptions, RunReport, WorkerCount, run};
+use bp_syntax::ReadFault;
+use bp_trace::replay;
+use std::alloc::{AllocError, Global};
+use std::rt::Runtime;
+use std::sync::Wait;
+use std::sync::atomic::{AtomicU64, Ordering};
+use std::test::Fail;
+use std::thread;
+use std::thread::Threads;
+use std::time::Clock;
+
+/// The threads of `a` make four calls each; that of `b` takes a frame with each of its ten.
+const PROGRAM: &[u8] = b"decl x; a() begin x := 1; x := 0; end b() begin b(); end";
+
+/// The thread of `b`.
+const CALLER: u32 = 1;
+
+/// How many calls the other two threads make.
+const OTHERS: u64 = 8;
+
+/// A gate that holds the thread of `b` ahead of its first turn until the thread after it comes, and
+/// counts the turns of `b` that were answered.
+#[derive(Drop)]
+struct Held {
+    come: AtomicU64,
+    missed: AtomicU64,
+    answered: AtomicU64,
+}
+
+impl Held {
+    fn new() -> Held {
+        Held {
+            come: AtomicU64::new(0),
+            missed: AtomicU64::new(0),
+            answered: AtomicU64::new(0),
+        }
+    }
+
+    /// Waits until the thread after `b` has come: whether it did.
+    fn waits(&self) -> bool {
+        for _ in 0..1_000_000u32 {
+            if self.come.load(Ordering::SeqCst) == 1 {
+                return true;
+            }
+            thread::yield_now();
+        }
+        false
+    }
+
+    /// How many turns of `b` were answered, none if it came too early.
+    fn answered(&self) -> Option<u64> {
+        if self.missed.load(Ordering::SeqCst) == 0 {
+            Some(self.answered.load(Ordering::SeqCst))
+        } else {
+            None
+        }
+    }
+}
+
+impl Gate for Held {
+    fn before<R: Wait + Clock>(&self, _rt: &R, thread: u32, call: u64) {
+        if thread == CALLER + 1 {
+            self.come.store(1, Ordering::SeqCst);
+        }
+        if thread == CALLER && call == 0 && !self.waits() {
+            self.missed.store(1, Ordering::SeqCst);
+        }
+    }
+
+    fn after(&self, thread: u32, _reply: Reply) {
+        if thread == CALLER {
+            self.answered.fetch_add(1, Ordering::SeqCst);
+        }
+    }
+}
+
+/// Ten calls of each thread, by turns of one.
+fn options(alloc: Global) -> Result<RunOptions, AllocError> {
+    Ok(RunOptions {
+        start: Start {
+            entries: names(alloc, &["a", "b", "a"])?,
+            init: None,
+            contexts: 1000,
+            calls: 10,
+        },
+        turn: 1,
+        seed: 42,
+        ring: 1024,
+    })
+}
+
+/// Whether a run is right after this many answered turns of `b`, each of one call. It made all its
+/// calls, or its line is open after those that it made. Its worker counted the same.
+fn is_right(done: &RunReport, own: u64) -> bool {
+    let count = WorkerCount {
+        thread: CALLER,
+        calls: own,
+        is_open: own < 10,
+    };
+    matches!(done.workers.get(CALLER as usize), Some(counted) if *counted == count)
+        && done.counts_agree
+        && done.report.outcome == Outcome::Clean
+        && done.report.calls == OTHERS.saturating_add(own)
+        && done.report.left_open == u32::from(count.is_open)
+}
+
+/// How many calls of the thread of `b` a trace has.
+fn calls_of_caller(trace: &[u8]) -> u64 {
+    let mut count: u64 = 0;
+    for line in trace.split(|byte| *byte == b'\n') {
+        if line.len() == 5 && line.starts_with(b"1 ") {
+            count = count.saturating_add(1);
+        }
+    }
+    count
+}
+
+/// Whether the trace is one of the program, with this report.
+fn is_replayed(alloc: Global, trace: &[u8], report: Report) -> Result<bool, Fail> {
+    let code = code_of(alloc, PROGRAM)?;
+    let replayed = replay(alloc, &code, trace)?;
+    Ok(replayed.report == report)
+}
+
+/// Whether a run was refused memory, or a worker that needs it was not started.
+fn is_for_want_of_memory(fault: &RunFault) -> bool {
+    matches!(
+        fault,
+        RunFault::Program(
+            ProgramFault::Read(ReadFault::Memory) | ProgramFault::Check(CheckFault::Memory, _)
+        ) | RunFault::Setup(SetupFault::Memory)
+            | RunFault::Start
+            | RunFault::Memory
+    )
+}
+
+/// Looks at what a run came to, where the line that tells of a refused worker was written: the run
+/// itself may be refused, and has then written nothing.
+fn looks(
+    alloc: Global,
+    gate: &Held,
+    trace: &[u8],
+    done: &Result<RunReport, RunFault>,
+) -> Result<(), Fail> {
+    match done {
+        Ok(done) => {
+            let own = calls_of_caller(trace);
+            wants(gate.answered() == Some(own) && is_right(done, own))?;
+            wants(is_replayed(alloc, trace, done.report)?)
+        }
+        Err(fault) => wants(is_for_want_of_memory(fault) && trace.is_empty()),
+    }
+}
+
+/// Whether the worker of `b` was refused memory.
+fn is_caller_refused(done: &Result<RunReport, RunFault>) -> bool {
+    matches!(done, Ok(done) if done.report.left_open == 1)
+}
+
+/// Runs the program, and looks at what it came to.
+fn runs<R: Threads + Wait + Runtime + Sync>(rt: &R, alloc: Global) -> Result<(), Fail> {
+    let options = options(alloc)?;
+    let mut out = Vec::with_capacity(alloc, 4096)?;
+    let gate = Held::new();
+    begin(rt)?;
+    let done = run(rt, alloc, PROGRAM, &options, &gate, &mut out);
+    tell(rt, is_caller_refused(&done))?;
+    looks(alloc, &gate, &out, &done)
+}
+
+#[test]
+fn run_with_a_refused_worker(rt: HostRuntime) -> Result<(), Fail> {
+    runs(&rt, rt.alloc())
+}

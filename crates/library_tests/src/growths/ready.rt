@@ -1,0 +1,63 @@
+//! What the calls need, and the lines that the script reads.
+ghost use Rattle.std.specs.Prelude.{◌≡◌, IfOk};
+ghost use Rattle.bp_machine.specs.Setups.{FitsCode};
+
+use crate::common::mains;
+use bp_code::Code;
+use bp_machine::Setup;
+use std::alloc::Global;
+use std::io;
+use std::rt::Runtime;
+use std::test::Fail;
+
+/// Two globals and two procedures, one of which calls the other by a choice.
+const PROGRAM: &[u8] = b"decl x, y; \
+    main() begin decl h; while (?) do h := !h; f(h, 1); od print (x, y); end \
+    f(a, b) begin x, y := a, b; if (?) then f(b, a); else skip; fi end";
+
+/// A procedure that calls itself, so that each step takes a frame.
+const CALLS: &[u8] = b"decl x, y; main() begin f(0); end f(a) begin f(!a); end";
+
+/// The text of the first of these programs: a function hands it out, so that no proof of a test
+/// reads all of it.
+pub(super) fn program() -> &'static [u8] {
+    PROGRAM
+}
+
+/// The text of the second one.
+pub(super) fn calls() -> &'static [u8] {
+    CALLS
+}
+
+/// The setup of this many threads with 20 calls each, with the seed 42 or without one.
+pub(super) fn setup(
+    alloc: Global,
+    code: &Code,
+    threads: u32,
+    seed: Option<u64>,
+) -> Result<Setup, Fail>
+    ensures { IfOk result (λ s. FitsCode code.now s × (s.seed ≡ seed)) }
+{
+    let entries = mains(alloc, threads)?;
+    Ok(Setup::new(alloc, code, &entries, &[false, false], 1000, 20, seed)?)
+}
+
+/// Prints a line. Growths are refused after it.
+pub(super) fn begin<R: Runtime>(rt: &R) -> io::Result<()> {
+    println!(rt; "ready")
+}
+
+/// Prints whether the call was refused. After this line every growth is granted.
+pub(super) fn tell<R: Runtime>(rt: &R, was_refused: bool) -> io::Result<()> {
+    let told = if was_refused { "refused" } else { "done" };
+    println!(rt; "{told}")
+}
+
+/// A failure unless the answer is right.
+pub(super) fn wants(is_right: bool) -> Result<(), Fail> {
+    if is_right {
+        Ok(())
+    } else {
+        Err(Fail::from("another answer"))
+    }
+}

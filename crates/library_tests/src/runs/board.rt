@@ -1,0 +1,43 @@
+//! Boards and desks of a small program.
+mod desks;
+mod gathering;
+
+ghost use Rattle.std.specs.Prelude.{◌≡◌, true, is_some, IfOk};
+ghost use Rattle.bp_machine.specs.Setups.{threads, FitsCode};
+
+use crate::common::mains;
+use bp_board::Kit;
+use bp_board::limits::MAX_RING;
+use bp_code::Code;
+use bp_machine::Setup;
+use std::alloc::Global;
+use std::test::Fail;
+
+/// A loop with a choice: by the seed 42 it makes eight steps and ends.
+const LOOP: &[u8] = b"main() begin while (?) do skip; od end";
+
+/// A setup of this many threads that begin with `main`, with this many contexts and calls of a
+/// thread, and the seed 42.
+fn setup_of(
+    alloc: Global,
+    code: &Code,
+    threads: u32,
+    contexts: u32,
+    calls: u32,
+) -> Result<Setup, Fail>
+    ensures { IfOk result (λ s. FitsCode code.now s × (is_some s.seed ≡ true)) }
+{
+    let entries = mains(alloc, threads)?;
+    Ok(Setup::new(alloc, code, &entries, &[], contexts, calls, Some(42))?)
+}
+
+/// A kit for the threads of the setup.
+fn kit_of(alloc: Global, setup: &Setup, ring: u32) -> Result<Kit, Fail>
+    ensures { IfOk result (λ k. k.threads ≡ threads setup.now) }
+{
+    setup.is_in_range();
+    if ring == 0 || ring > MAX_RING {
+        return Err(Fail::from("no ring"));
+    }
+    Ok(Kit::new(alloc, setup.threads(), ring)?)
+}

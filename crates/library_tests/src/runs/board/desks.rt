@@ -1,0 +1,162 @@
+//! Desks by hand: turns and single calls. A board's turn is a desk's, under its lock.
+
+ghost use Rattle.std.specs.Prelude.{◌≡◌, true, is_some};
+ghost use Rattle.bp_machine.specs.Setups.{threads, FitsCode};
+ghost use Rattle.bp_board.specs.Kits.{IsNamed};
+
+use super::{LOOP, kit_of, setup_of};
+use crate::common::code_of;
+use bp_board::limits::MAX_TURN;
+use bp_board::{Calls, Desk, Kit, Seat, Tap};
+use bp_code::Code;
+use bp_machine::{AskFault, Call, Reply, Setup};
+use std::alloc::Global;
+use std::marker::Brand;
+use std::sync::ledger::Ledger;
+use std::test::Fail;
+
+/// How a seat asks.
+#[derive(Clone, Copy)]
+enum Ask {
+    /// For one call.
+    Call,
+    /// For a turn of three calls.
+    Three,
+    /// For the longest turn.
+    Most,
+}
+
+/// What is done, and what is seen then.
+#[derive(Clone, Copy)]
+enum Act {
+    /// The seat asks: the answer, and how many calls it has made.
+    Ask(Ask, Result<Reply, AskFault>, u64),
+    /// A look at the tap: the call that it gives.
+    Take(Option<Call>),
+}
+
+/// Each of the first three calls of the loop.
+const FIRST: Option<Call> = Some(Call {
+    thread: 0,
+    bit: true,
+    reply: Reply::Stepped,
+});
+
+/// Turns up to the end of the loop.
+const TURNS: [Act; 3] = [
+    Act::Ask(Ask::Three, Ok(Reply::Stepped), 3),
+    Act::Ask(Ask::Most, Ok(Reply::Ended), 9),
+    Act::Ask(Ask::Three, Err(AskFault::Finished), 9),
+];
+
+/// Single calls, where four are allowed.
+const CALLS: [Act; 6] = [
+    Act::Ask(Ask::Call, Ok(Reply::Stepped), 1),
+    Act::Ask(Ask::Call, Ok(Reply::Stepped), 2),
+    Act::Ask(Ask::Call, Ok(Reply::Stepped), 3),
+    Act::Ask(Ask::Call, Ok(Reply::Stepped), 4),
+    Act::Ask(Ask::Call, Err(AskFault::Finished), 4),
+    Act::Take(FIRST),
+];
+
+/// Turns and calls where the ring has four places.
+const BUSY: [Act; 7] = [
+    Act::Ask(Ask::Most, Err(AskFault::Busy), 4),
+    Act::Ask(Ask::Call, Err(AskFault::Busy), 4),
+    Act::Take(FIRST),
+    Act::Ask(Ask::Call, Ok(Reply::Stepped), 5),
+    Act::Take(FIRST),
+    Act::Ask(Ask::Three, Err(AskFault::Busy), 6),
+    Act::Take(FIRST),
+];
+
+/// A turn where two calls are allowed, and looks at the tap until it is empty.
+const FEW: [Act; 5] = [
+    Act::Ask(Ask::Most, Ok(Reply::Stepped), 2),
+    Act::Ask(Ask::Three, Err(AskFault::Finished), 2),
+    Act::Take(FIRST),
+    Act::Take(FIRST),
+    Act::Take(None),
+];
+
+/// The answer of the desk.
+fn turn<C: Calls, O: Ledger>(
+    desk: &mut Desk<C, O>,
+    seat: &mut Seat<C, O>,
+    ask: Ask,
+) -> Result<Reply, AskFault> {
+    match ask {
+        Ask::Call => desk.ask(seat),
+        Ask::Three => desk.turn(seat, 3),
+        Ask::Most => desk.turn(seat, MAX_TURN),
+    }
+}
+
+/// Whether all is seen that the acts say.
+fn is_seen<C: Calls, O: Ledger>(
+    desk: &mut Desk<C, O>,
+    seat: &mut Seat<C, O>,
+    tap: &mut Tap<C>,
+    acts: &[Act],
+) -> bool {
+    for act in acts {
+        let is_so = match *act {
+            Act::Ask(ask, answer, calls) => turn(desk, seat, ask) == answer
+                && seat.calls() == calls,
+            Act::Take(call) => tap.next() == call,
+        };
+        if !is_so {
+            return false;
+        }
+    }
+    true
+}
+
+/// The same at a desk of this kit.
+fn is_seen_at<C: Calls, O: Ledger>(
+    alloc: Global,
+    kit: Kit,
+    code: &Code,
+    setup: &Setup,
+    acts: &[Act],
+) -> Result<bool, Fail>
+    requires named { IsNamed kit C.name C.parts O.name O.parts C.ring }
+    requires code { code.now ≡ C.code }
+    requires setup { setup.now ≡ C.setup }
+    requires threads { kit.threads ≡ threads setup.now }
+    requires fits { FitsCode code.now setup.now }
+    requires seeded { is_some setup.now.seed ≡ true }
+{
+    let (mut desk, mut seats, mut tap) = Desk::<C, O>::open(alloc, kit, code, setup)?;
+    match seats.get_mut(0) {
+        Some(seat) => Ok(is_seen(&mut desk, seat, &mut tap, acts)),
+        None => Ok(false),
+    }
+}
+
+/// The same at a desk of one thread, which runs the loop within this many calls.
+fn plays(alloc: Global, calls: u32, ring: u32, acts: &[Act]) -> Result<bool, Fail> {
+    let code = code_of(alloc, LOOP)?;
+    let setup = setup_of(alloc, &code, 1, 1, calls)?;
+    let kit = kit_of(alloc, &setup, ring)?;
+    is_seen_at::<Brand, Brand>(alloc, kit, &code, &setup, acts)
+}
+
+#[test]
+fn answers_turns_and_calls(rt: HostRuntime) -> Result<(), Fail> {
+    assert!(rt; plays(rt.alloc(), 10, 1024, &TURNS)?);
+    assert!(rt; plays(rt.alloc(), 4, 1024, &CALLS)?);
+    Ok(())
+}
+
+#[test]
+fn is_busy_where_the_ring_is_full(rt: HostRuntime) -> Result<(), Fail> {
+    assert!(rt; plays(rt.alloc(), 10, 4, &BUSY)?);
+    Ok(())
+}
+
+#[test]
+fn stops_where_no_call_is_left(rt: HostRuntime) -> Result<(), Fail> {
+    assert!(rt; plays(rt.alloc(), 2, 1024, &FEW)?);
+    Ok(())
+}

@@ -1,0 +1,127 @@
+//! Sessions by hand: what they refuse, and calls that are prepared. Cases of the commands show what
+//! calls do.
+
+use crate::common::{code_of, mains};
+use bp_machine::{AskFault, Call, Reply, Session, Setup, SetupFault};
+use std::alloc::Global;
+use std::test::Fail;
+
+/// A loop with a choice.
+const LOOP: &[u8] = b"main() begin while (?) do skip; od end";
+
+/// How a call is asked for.
+#[derive(Clone, Copy)]
+enum Ask {
+    /// With the bit that the seed draws.
+    Drawn,
+    /// With this bit.
+    Given(bool),
+    /// Prepared twice, and made once.
+    Prepared,
+}
+
+/// How a call is asked for, its thread, and the answer.
+type Row = (Ask, u32, Result<Call, AskFault>);
+
+/// A step of thread 0 with the bit 1.
+const ONE: Result<Call, AskFault> = Ok(Call {
+    thread: 0,
+    bit: true,
+    reply: Reply::Stepped,
+});
+
+/// A step of thread 0 with the bit 0.
+const ZERO: Result<Call, AskFault> = Ok(Call {
+    thread: 0,
+    bit: false,
+    reply: Reply::Stepped,
+});
+
+/// The answers of a session without a seed, whose thread has one call.
+const UNSEEDED: [Row; 7] = [
+    (Ask::Drawn, 1, Err(AskFault::NoThread)),
+    (Ask::Drawn, 0, Err(AskFault::Unseeded)),
+    (Ask::Prepared, 0, Err(AskFault::Unseeded)),
+    (Ask::Given(true), 0, ONE),
+    (Ask::Drawn, 0, Err(AskFault::Finished)),
+    (Ask::Given(false), 0, Err(AskFault::Finished)),
+    (Ask::Given(false), 1, Err(AskFault::NoThread)),
+];
+
+/// The answers by the seed 42, up to the last of seven calls. Refused calls use no bit, and one
+/// that is prepared twice uses one.
+const SEEDED: [Row; 10] = [
+    (Ask::Drawn, 1, Err(AskFault::NoThread)),
+    (Ask::Given(true), 0, Err(AskFault::Seeded)),
+    (Ask::Prepared, 0, ONE),
+    (Ask::Drawn, 0, ONE),
+    (Ask::Drawn, 0, ONE),
+    (Ask::Prepared, 0, ZERO),
+    (Ask::Drawn, 0, ONE),
+    (Ask::Drawn, 0, ONE),
+    (Ask::Drawn, 0, ZERO),
+    (Ask::Prepared, 0, Err(AskFault::Finished)),
+];
+
+/// The call that is prepared twice, made once where both are the same.
+fn prepared(session: &mut Session, thread: u32) -> Result<Call, AskFault> {
+    let first = session.prepare(thread)?;
+    let call = session.prepare(thread)?;
+    if first == call {
+        session.commit(&call);
+    }
+    Ok(call)
+}
+
+fn asked(session: &mut Session, ask: Ask, thread: u32) -> Result<Call, AskFault> {
+    match ask {
+        Ask::Drawn => session.ask(thread),
+        Ask::Given(bit) => session.ask_with(thread, bit),
+        Ask::Prepared => prepared(session, thread),
+    }
+}
+
+/// Whether a session answers so, and has no print of a thread that is not there.
+fn answers(session: &mut Session, rows: &[Row]) -> bool {
+    for row in rows {
+        let (ask, thread, answer) = *row;
+        if asked(session, ask, thread) != answer {
+            return false;
+        }
+    }
+    matches!(session.next_print(1), Err(AskFault::NoThread))
+}
+
+/// Whether a session of the loop answers so, within this many calls and with this seed.
+fn is_so(alloc: Global, calls: u32, seed: Option<u64>, rows: &[Row]) -> Result<bool, Fail> {
+    let code = code_of(alloc, LOOP)?;
+    let entries = mains(alloc, 1)?;
+    let setup = Setup::new(alloc, &code, &entries, &[], 1, calls, seed)?;
+    let mut session = Session::new(alloc, &code, &setup)?;
+    Ok(answers(&mut session, rows))
+}
+
+#[test]
+fn calls_without_a_seed(rt: HostRuntime) -> Result<(), Fail> {
+    assert!(rt; is_so(rt.alloc(), 1, None, &UNSEEDED)?);
+    Ok(())
+}
+
+#[test]
+fn calls_by_a_seed(rt: HostRuntime) -> Result<(), Fail> {
+    assert!(rt; is_so(rt.alloc(), 7, Some(42), &SEEDED)?);
+    Ok(())
+}
+
+/// Whether a setup without threads is refused.
+fn wants_threads(alloc: Global) -> Result<bool, Fail> {
+    let code = code_of(alloc, LOOP)?;
+    let refused = Setup::new(alloc, &code, &[], &[], 1, 10, None).err();
+    Ok(refused == Some(SetupFault::Threads))
+}
+
+#[test]
+fn no_threads(rt: HostRuntime) -> Result<(), Fail> {
+    assert!(rt; wants_threads(rt.alloc())?);
+    Ok(())
+}

@@ -1,0 +1,5 @@
+//! Tests of what no command shows of texts: copies of trees and of codes, a refused tree, and
+//! watchers of a replay.
+mod check;
+mod copies;
+mod watching;
