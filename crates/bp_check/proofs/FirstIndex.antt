@@ -39,7 +39,7 @@ module _ (text : List ℕ) where
   one_below true d i c o e = grind arith
   one_below false d i c o e = let same : i + suc c ≡ i + 1 + c = omega arith in rw same e
 
-  -- a name is one of the first so many where its first index is below
+  -- a name is one of the first this many where its first index is below
   pub first_below : (i c : ℕ) (ns : List Name) → below (first_index_from i ns text) (i + c) ≡ has (take c ns) text
   first_below i zero [] = refl
   first_below i (suc c) [] = refl

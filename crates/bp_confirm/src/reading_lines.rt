@@ -13,7 +13,7 @@ use std::alloc::{AllocError, Global};
 /// How many lines are noted, so that they are known when they are read again.
 const SLOTS: usize = 4096;
 
-/// Where the place of a line that begins this text is noted.
+/// Where the place of a line that begins this text is noted: a hash of its first 16 bytes.
 fn slot_of(text: &[u8]) -> usize
     ensures { result < SLOTS }
 {

@@ -65,7 +65,7 @@ abbrev pub line_front : Version → ℕ → List Symbol → List ℕ
 line_front v thread symbols = decimal thread ++ 32 ∷ flat_map (symbol_fields v) symbols
 
 -- the trace begins with a head and the whole lines of a history, and on the next line is this call,
--- before which so many were made
+-- before which this many were made
 pub record HasCall (trace : List ℕ) (made : ℕ) : Type 0 where
   pub head : BeginsWithHead trace
   pub history : List Call

@@ -26,7 +26,7 @@ as_long t [] (f ∷ fs) shown = absurd shown
 as_long t (a ∷ acts) [] shown = absurd shown
 as_long t (a ∷ acts) (f ∷ fs) shown = ap suc (as_long t acts fs shown.1)
 
--- what is left of a stack after so many calls have returned is shown, too
+-- what is left of a stack after this many calls have returned is shown, too
 pub shown_below : (t : Program) (n : ℕ) (acts : List ActivationRecord) (frames : List Frame)
     → ShowsStack t (activations acts) frames → ShowsStack t (activations (drop n acts)) (drop n frames)
 shown_below t zero acts frames shown = shown

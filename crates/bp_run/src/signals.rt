@@ -44,7 +44,7 @@ impl Signals {
         self.room.ring(1);
     }
 
-    /// Whether at least so many workers have ended.
+    /// Whether at least this many workers have ended.
     pub(crate) fn have_ended(&self, started: u32) -> bool {
         self.ended.load(Ordering::SeqCst) >= u64::from(started)
     }

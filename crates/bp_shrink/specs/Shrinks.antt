@@ -18,7 +18,7 @@ use Rattle.bp_shrink.specs.HistoryEnds.{IsEnd}
 abbrev pub unseeded : SetupOf → SetupOf
 unseeded s = record s { seed = None }
 
--- and with so many contexts
+-- and with this many contexts
 abbrev pub budgeted : SetupOf → ℕ → SetupOf
 budgeted s k = record s { contexts = k; seed = None }
 

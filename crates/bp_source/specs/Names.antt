@@ -8,6 +8,6 @@ module _ (names : List (List ℕ)) where
   abbrev pub is_named : List ℕ → Bool
   is_named x = list_any (λ n. bytes_eq n x) names
 
--- A device: the same of names behind references.
+-- A device: the same of names by reference.
 abbrev pub is_among : List (Bor (List ℕ)) → List ℕ → Bool
 is_among names x = list_any (λ n. bytes_eq n.now x) names

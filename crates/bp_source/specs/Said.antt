@@ -8,7 +8,7 @@ use Rattle.bp_source.specs.SourceStatements.{AreSourceStatements}
 use Rattle.bp_source.specs.StatementLines.{line_of_statement}
 use Rattle.bp_source.specs.Unreached.{object_of_statement}
 
--- what is said of the statement of a source statement
+-- what is said of a statement of the source
 abbrev pub said_of : Said → SourceStatement → List ℕ
 said_of (Line file) statement = line_of_statement file.now statement
 said_of (Unreached file) statement = object_of_statement file.now statement

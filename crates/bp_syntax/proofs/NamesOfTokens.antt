@@ -126,7 +126,7 @@ module _ (P : Name → Type 0) where
       let f = in_decls globals s in
       (f.0, (in_procs procedures f.1).0)
 
--- a name of at most so many bytes
+-- a name of at most this many bytes
 abbrev pub IsShort : ℕ → Name → Type 0
 IsShort n x = length x.text ≤ n
 

@@ -1,4 +1,4 @@
--- How many runs used few contexts, and the least numbers of them that so many runs did not exceed.
+-- How many runs used few contexts, and the least numbers of them that this many runs did not exceed.
 use Rattle.std.proofs.Common.{◌≡◌, ◌<◌, ◌≤◌, ◌+◌, ◌/◌, ◌^◌, ◌-◌, ℕ, min, Bool, true, false, cond, List, [], ◌∷◌, length, refl, ap, sym, ◌∙◌, subst, arith, inl, inr}
 use Rattle.std.specs.Prelude.{if◌then◌else◌, ◌==◌, nat_le, nat_lt, count_by, slice_index_or}
 use Rattle.std.specs.Int.{div_ceil}

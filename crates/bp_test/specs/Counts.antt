@@ -23,7 +23,7 @@ pub record AreContextsUsed (runs : List MadeRun) (x : ContextsUsed) : Type 0 whe
   pub middle : IsLeastFor runs ((length runs + 1) / 2) x.middle
   pub most : IsLeastFor runs (length runs) x.most
 
--- how many of so many threads made a step in some run
+-- how many of this many threads made a step in some run
 pub record IsShareOfThreads (count : ℕ) (runs : List MadeRun) (x : Share) : Type 0 where
   pub marks : List Bool
   pub are : AreMarks (λ i. Some i) (λ i. Any (λ r. HasStep r.history i) runs) count marks
@@ -41,7 +41,7 @@ pub record AreCounts (s : SetupOf) (runs : List MadeRun) (x : Counts) : Type 0 w
 
 -- What follows are devices of the proofs.
 
--- the numbers after some runs used so many contexts, where `before` runs used fewer
+-- the numbers after some runs used this many contexts, where `before` runs used fewer
 abbrev pub contexts_with : (contexts before half : ℕ) → ContextsUsed → ContextsUsed
 contexts_with contexts before half x =
     record {

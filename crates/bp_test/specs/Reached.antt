@@ -69,7 +69,7 @@ pub record HasStep (h : List Call) (i : ℕ) : Type 0 where
 abbrev pub is_marked : List Bool → ℕ → Bool
 is_marked marks n = slice_index_or marks n false
 
--- Of so many marks, those of what P holds of are set. Mark n is that of what stands at n.
+-- Of this many marks, those of what P holds of are set. Mark n is that of what stands at n.
 pub record AreMarks
     {X : Type 0} (at : ℕ → Option X) (P : X → Type 0) (count : ℕ) (marks : List Bool)
     : Type 0 where

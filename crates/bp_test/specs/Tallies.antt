@@ -68,7 +68,7 @@ abbrev pub is_cut_off : (count : ℕ) → MadeRun → Bool
 is_cut_off count r =
     lives r && (not (leaves_open r) && (not (lacks_contexts r) && not (has_ends count r)))
 
--- how many runs of so many threads ended in each way
+-- how many runs of this many threads ended in each way
 abbrev pub ends_of : (count : ℕ) → List MadeRun → Ends
 ends_of count runs =
     record {
@@ -134,7 +134,7 @@ ends_sum a b =
       deadlocked = capped (a.deadlocked + b.deadlocked);
     }
 
--- count k after so many runs used some number of contexts
+-- count k after this many runs used some number of contexts
 abbrev pub count_with : (used runs : ℕ) → List ℕ → ℕ → ℕ
 count_with used runs counts k =
     if used == k then capped (slice_index_or counts k 0 + runs) else slice_index_or counts k 0

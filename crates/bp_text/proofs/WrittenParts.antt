@@ -1,4 +1,4 @@
--- A text that is written part by part: a head, so many parts, and an end.
+-- A text that is written part by part: a head, a number of parts, and an end.
 use Rattle.std.proofs.Common.{◌≡◌, ◌-◌, ◌<◌, ◌≤◌, ℕ, suc, List, [], ◌++◌, Option, sym, subst, append-nil, arith}
 use Rattle.std.specs.Io.KnownBytes.{Appends}
 use Rattle.std.proofs.KnownBytes.{Appends-nil, Appends-trans}

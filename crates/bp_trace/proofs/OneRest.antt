@@ -11,7 +11,7 @@ use Rattle.bp_machine.specs.Setups.{SetupOf, threads}
 use Rattle.bp_trace.specs.declared.versions.Version.{Version}
 use Rattle.bp_trace.specs.declared.replay_faults.ReplayFault.{ReplayFault}
 use Rattle.bp_trace.specs.declared.replay_faults.ReplayFault.TheVariants as fault
-use Rattle.bp_trace.specs.Replays.{counts_of, IsBodyLine, IsEndLine, HasOtherEnd, HasMoreBehind, IsRefusedAmong, HasNoNextLine, HasRefusedCall, IsRestRefused}
+use Rattle.bp_trace.specs.Replays.{counts_of, IsBodyLine, IsEndLine, HasOtherEnd, HasMoreAfter, IsRefusedAmong, HasNoNextLine, HasRefusedCall, IsRestRefused}
 use Rattle.bp_trace.specs.TraceText.{end_line}
 use Rattle.bp_trace.proofs.GrowsByLine.{some_line}
 use Rattle.bp_trace.proofs.OneHistoryAfter.{Stops}
@@ -44,7 +44,7 @@ module _ (t : Program) (v : Version) (s : SetupOf) (few : threads s ≤ MAX_THRE
       ((f ≡ fault.NoEnd (counts_of s h)) × (x ≡ []))
       ⊎ (((f ≡ fault.EndCount n (counts_of s h)) × HasOtherEnd own x)
       ⊎ (((f ≡ fault.Line n) × HasNoNextLine t v s h n x)
-      ⊎ (((f ≡ fault.Line (n + 1)) × HasMoreBehind own x)
+      ⊎ (((f ≡ fault.Line (n + 1)) × HasMoreAfter own x)
       ⊎ HasRefusedCall t v s h n x f)))
 
   pub refused : (f : ReplayFault) → IsRestRefused t v s h n x f → Refused f
@@ -76,7 +76,7 @@ module _ (t : Program) (v : Version) (s : SetupOf) (few : threads s ≤ MAX_THRE
   nothing_goes_on line more calls next e f =
       omega (arith, some_line v (threads s) (last_thread (map thread_of h)) line calls next, ap length (sym e ∙ f), length-append line more)
 
-  other_and_own : HasOtherEnd own x → HasMoreBehind own x → ⊥
+  other_and_own : HasOtherEnd own x → HasMoreAfter own x → ⊥
   other_and_own p q = p.other (one_end_line p.line own p.more q.more p.is_end own_is (sym p.begins ∙ q.begins)).0
 
   pub one_rest : (f g : ReplayFault) → Refused f → Refused g → f ≡ g

@@ -20,7 +20,7 @@ use Rattle.bp_trace.specs.declared.heads.Head.{Head}
 use Rattle.bp_trace.specs.HeadReading.{setup_of_head, IsHeadOf}
 use Rattle.bp_trace.specs.Heads.{HasHead}
 use Rattle.bp_trace.specs.Judging.{IsBody, IsBodyRefusal, HasRefusedBody, replay_fault_of_setup}
-use Rattle.bp_trace.specs.Replays.{counts_of, IsPlayable, IsTrace, line_count, HasOtherEnd, HasMoreBehind, Reaches, IsRestRefused, HasRefusedRest, IsReplayRefusal}
+use Rattle.bp_trace.specs.Replays.{counts_of, IsPlayable, IsTrace, line_count, HasOtherEnd, HasMoreAfter, Reaches, IsRestRefused, HasRefusedRest, IsReplayRefusal}
 use Rattle.bp_trace.specs.TraceText.{version_line, entry_line, init_line, head_lines, head_text, calls_text, end_line}
 use Rattle.bp_trace.proofs.HeadTexts.{limits_text, setup_text, head_joined}
 use Rattle.bp_trace.proofs.WholeHead.{line_total}
@@ -127,7 +127,7 @@ module _ (t : Program) (text : List ℕ) (short : length text ≤ MAX_TRACE) (v 
       end_refuses (fault.Line m) (inl q) =
           (short, at_end (fault.Line m) (inl (q.0 ∙ body.number, record { some = q.1.some; calls = body.ends; ends = q.1.ends })))
       end_refuses (fault.Line m) (inr q) =
-          (short, at_end (fault.Line m) (inr (q.0 ∙ ap (λ n. n + 1) body.number, subst (λ own. HasMoreBehind own after) own_is q.1)))
+          (short, at_end (fault.Line m) (inr (q.0 ∙ ap (λ n. n + 1) body.number, subst (λ own. HasMoreAfter own after) own_is q.1)))
       end_refuses fault.TooLong q = absurd q
       end_refuses (fault.Head k) q = absurd q
       end_refuses (fault.Setup g) q = absurd q

@@ -5,7 +5,7 @@ use Rattle.bp_trace.specs.declared.replay_faults.ReplayFault.{ReplayFault}
 use Rattle.bp_trace.specs.declared.replay_faults.ReplayFault.TheVariants as fault
 use Rattle.bp_trace.specs.TraceText.{end_line}
 use Rattle.bp_trace.specs.Writable.{Without}
-use Rattle.bp_trace.specs.Replays.{IsDecimal, IsEndLine, HasOtherEnd, HasMoreBehind}
+use Rattle.bp_trace.specs.Replays.{IsDecimal, IsEndLine, HasOtherEnd, HasMoreAfter}
 
 -- the text is this word, the byte, which the word does not have, and the rest
 pub record IsCutAt (byte : ℕ) (text word rest : List ℕ) : Type 0 where
@@ -60,5 +60,5 @@ module _ (rest : List ℕ) (calls left_open n : ℕ) where
   IsEndRefusal (fault.NoEnd c) = (rest ≡ []) × (c ≡ counts calls left_open)
   IsEndRefusal (fault.EndCount m c) = (m ≡ n) × (c ≡ counts calls left_open) × HasOtherEnd own rest
   IsEndRefusal (fault.Line m) =
-      ((m ≡ n) × HasOtherLine rest) ⊎ ((m ≡ n + 1) × HasMoreBehind own rest)
+      ((m ≡ n) × HasOtherLine rest) ⊎ ((m ≡ n + 1) × HasMoreAfter own rest)
   IsEndRefusal f = ⊥

@@ -86,7 +86,7 @@ module _ (own rest : List ℕ) where
     pub other : line ≢ own
 
   -- its own end, and something after it
-  pub record HasMoreBehind : Type 0 where
+  pub record HasMoreAfter : Type 0 where
     pub more : List ℕ
     pub begins : rest ≡ own ++ more
     pub some : more ≢ []
@@ -169,7 +169,7 @@ module _
   IsRestRefused (fault.EndCount m counts) =
       (m ≡ n) × (counts ≡ counts_of s h) × HasOtherEnd own_end rest
   IsRestRefused (fault.Line m) =
-      ((m ≡ n) × HasNoNextLine) ⊎ ((m ≡ n + 1) × HasMoreBehind own_end rest)
+      ((m ≡ n) × HasNoNextLine) ⊎ ((m ≡ n + 1) × HasMoreAfter own_end rest)
   IsRestRefused f = HasRefusedCall f
 
 -- Each refusal, the first that applies. Nothing is said of when memory is refused, but that nothing

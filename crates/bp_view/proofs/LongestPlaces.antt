@@ -25,7 +25,7 @@ longest_more (suc n) (y ∷ statements) x h =
     let here = longest_more n statements x within in
     omega (arith, here)
 
--- a statement has at most so many bytes in its column
+-- a statement has at most this many bytes in its column
 pub shortened_length : (room : ℕ) (statement : List ℕ) → 2 ≤ room → length (shortened room statement) ≡ min (length statement) room
 shortened_length room statement least = by_size (nat_lt room (length statement)) refl
   where

@@ -19,7 +19,7 @@ OneView =
     → IsView t text s h r o w
     → v ≡ w
 
--- and at most one state within so many calls
+-- and at most one state within this many calls
 abbrev pub OneState : Type 0
 OneState =
     (format : ViewFormat) (t : Program) (text : List ℕ) (s : SetupOf) (h : List Call) (count : ℕ)

@@ -83,7 +83,7 @@ call_text w f calls =
     ∷ after_room (w.notes - length statement) (note_text f calls)
     ∷ [])
 
--- a line of at most so many columns, in a colour
+-- a line of at most this many columns, in a colour
 abbrev pub line_text : Widths → Colour → ShownCall → (calls : ℕ) → List ℕ
 line_text w colour f calls =
     concat (

@@ -33,7 +33,7 @@ extent calls places statements procedures columns =
 -- The widths of a view: those of the greatest number of a call, of the number of threads, of the
 -- limit of the contexts, and of the longest place. The notes begin after the longest statement as
 -- its column has it, where it is moved by two columns for each procedure, up to the most by which
--- one is moved. Lines and statements are cut where lines may have so many columns only.
+-- one is moved. Lines and statements are cut where lines may have only this many columns.
 pub record AreWidths (s : SetupOf) (e : Extent) (w : Widths) : Type 0 where
   pub number : w.number ≡ length (decimal e.calls)
   pub thread : w.thread ≡ length (decimal (threads s))
