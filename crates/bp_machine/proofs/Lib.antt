@@ -1,3 +1,4 @@
+pub mod BlockedWithEitherBit
 pub mod CallsAtOnce
 pub mod CallsOfThread
 pub mod ContextCounts

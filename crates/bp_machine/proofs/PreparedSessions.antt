@@ -58,6 +58,16 @@ module _ (c : Flat) (s : SetupOf) (machine : MachineOf) (choices : List ChoicesO
 pub fits_anew : (c : Flat) (s z : SetupOf) (seed : Option ℕ) → z ≡ record s { seed = seed } → FitsCode c s → FitsCode c z
 fits_anew c s z seed e fits = subst (FitsCode c) (sym e) (λ t is. record { entries = (fits t is).entries; init = (fits t is).init })
 
+pub in_range_anew : (s z : SetupOf) (seed : Option ℕ) → z ≡ record s { seed = seed } → IsInRange s → IsInRange z
+in_range_anew s z seed e range = subst IsInRange (sym e) (record {
+  some = range.some;
+  few = range.few;
+  bits = range.bits;
+  contexts = range.contexts;
+  one = range.one;
+  calls = range.calls;
+})
+
 -- where room was made and a call was judged, or none
 module _ (c : Flat) (s : SetupOf) (machine later : MachineOf) (same : later.state ≡ machine.state) (choices : List ChoicesOf) (old new : Option Prepared) where
   abbrev before : SessionOf

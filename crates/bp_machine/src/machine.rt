@@ -1,11 +1,11 @@
 //! The machine of a session: the globals, the guest threads, and the count of contexts.
-ghost use Rattle.std.specs.Prelude.{◌≡◌, ◌≤◌, ◌<◌, ◌^◌, ◌+◌, ℕ, List, Some, true, length, slice_get, option_map, OnOk, OnErr};
+ghost use Rattle.std.specs.Prelude.{◌≡◌, ◌≤◌, ◌<◌, ◌^◌, ◌+◌, ℕ, List, Some, true, length, map, slice_get, string_bytes, option_map, OnOk, OnErr};
 ghost use Rattle.bp_tree.specs.Ast.{Program};
 ghost use Rattle.bp_code.specs.Bits.{bits_of};
 ghost use Rattle.bp_machine.specs.declared.calls.Call.{Call as Answered};
 ghost use Rattle.bp_machine.specs.Setups.{SetupOf};
 ghost use Rattle.bp_machine.specs.Histories.{open_lines};
-ghost use Rattle.bp_machine.specs.GuestThreads.{GuestThreadOf, guests};
+ghost use Rattle.bp_machine.specs.GuestThreads.{GuestThreadOf, first_thread, guests};
 ghost use Rattle.bp_machine.specs.States.{StandsAfter};
 ghost use Rattle.bp_machine.specs.Reports.{is_failure};
 ghost use Rattle.bp_machine.specs.Transitions.{transition_of, IsTransitionOn, IsTransition, MayGrow, HasRoom, globals_after, state_after, IsCallTransition};
@@ -15,7 +15,7 @@ use crate::contexts::ContextCount;
 use crate::limits::{MAX_FRAMES, MAX_THREADS};
 use crate::reports::Outcome;
 use crate::stacks::Stack;
-use crate::threads::{GuestThread, Transition};
+use crate::threads::{GuestThread, Transition, restart_threads};
 use bp_code::stores::bit_at;
 use bp_code::{Code, Effect, Store};
 use std::alloc::AllocError;
@@ -118,9 +118,21 @@ impl Machine {
         }
     }
 
-    /// The threads, whose memory may be used again.
-    pub(crate) fn into_threads(self) -> Vec<GuestThread> {
-        self.threads
+    /// Starts the machine anew, before any call, with these globals and with threads that begin
+    /// with these procedures.
+    pub(crate) fn restart(&mut self, globals: u128, code: &Code, entries: &[String])
+        requires { length self.old.state.threads ≡ length entries.now }
+        ensures { self.new.state ≡ record {
+          globals = globals;
+          threads = map (first_thread code.now) (map string_bytes entries.now);
+          contexts = record { used = 0; last = None };
+          outcome = Outcome.Clean;
+        } }
+    {
+        restart_threads(&mut self.threads, code, entries);
+        self.globals = globals;
+        self.contexts = ContextCount::start();
+        self.outcome = Outcome::Clean;
     }
 
     /// The globals, that of slot n in the bit of weight 2 to the n.

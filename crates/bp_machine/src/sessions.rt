@@ -59,20 +59,38 @@ impl Model for Session {
         IsInOrder x × IsReadyFor x s.prepared };
 }
 
-/// The choices of each thread of a setup, before any is drawn, in the memory of earlier ones;
-/// without a seed there are none.
-fn first_choices(setup: &Setup, earlier: Vec<Choices>) -> Result<Vec<Choices>, AllocError>
-    ensures { IfOk result (λ v. AreFirstChoices setup.now v.items) }
+/// Starts the choices of each thread of a setup anew with this seed, before any is drawn; without
+/// one there are none. They use the memory that they have, and stay as they are where more is
+/// refused.
+fn restart_choices(
+    choices: &mut Vec<Choices>,
+    setup: &Setup,
+    seed: Option<u64>,
+) -> Result<(), AllocError>
+    ensures first { OnOk result
+        (AreFirstChoices (record setup.now { seed = seed }) choices.new.items) }
+    ensures same { OnErr result (choices.new.items ≡ choices.old.items) }
 {
     setup.is_in_range();
-    let mut choices = earlier;
-    choices.clear();
-    let Some(seed) = setup.seed() else {
-        return Ok(choices);
+    let threads = setup.threads();
+    let Some(seed) = seed else {
+        choices.clear();
+        return Ok(());
     };
-    for thread in 0..setup.threads() {
-        choices.push(Choices::new(seed, thread))?;
+    choices.reserve((threads as usize).saturating_sub(choices.len()))?;
+    choices.clear();
+    for thread in 0..threads {
+        choices.push_reserved(Choices::new(seed, thread));
     }
+    Ok(())
+}
+
+/// The choices of each thread of a setup, before any is drawn; without a seed there are none.
+fn first_choices(alloc: Global, setup: &Setup) -> Result<Vec<Choices>, AllocError>
+    ensures { IfOk result (λ v. AreFirstChoices setup.now v.items) }
+{
+    let mut choices = Vec::new(alloc);
+    restart_choices(&mut choices, setup, setup.seed())?;
     Ok(choices)
 }
 
@@ -97,9 +115,9 @@ impl Session {
     {
         code.is_of_a_program();
         setup.is_in_range();
-        let threads = first_threads(alloc, code, setup.entries(), Vec::new(alloc))?;
+        let threads = first_threads(alloc, code, setup.entries())?;
         let machine = Machine::start(word_of(setup.bits()), threads);
-        let choices = first_choices(setup, Vec::new(alloc))?;
+        let choices = first_choices(alloc, setup)?;
         let code = code.try_copy()?;
         let setup = setup.try_copy()?;
         Ok(Session {

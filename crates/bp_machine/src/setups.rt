@@ -189,6 +189,13 @@ impl Setup {
         Setup { seed, ..self }
     }
 
+    /// Gives the setup this seed, or none.
+    pub(crate) fn set_seed(&mut self, seed: Option<u64>)
+        ensures { self.new ≡ record self.old { seed = seed } }
+    {
+        self.seed = seed;
+    }
+
     /// Whether each entry is a procedure of this code without formals, and there is one bit for
     /// each of its globals.
     pub fn fits(&self, code: &Code) -> bool

@@ -14,14 +14,14 @@ pub struct ActivationRecord {
 }
 
 /// The calls of a thread that have not returned, the topmost last in memory and first in a
-/// contract.
+/// contract. There is always memory for one of them, so a stack starts anew in its own.
 #[derive(Drop)]
 pub(crate) struct Stack {
     frames: Vec<ActivationRecord>,
 }
 
 impl Model for Stack {
-    ghost use Rattle.std.specs.Prelude.{◌-◌, reverse, vec_len, vec_capacity};
+    ghost use Rattle.std.specs.Prelude.{◌-◌, ◌≤◌, reverse, vec_len, vec_capacity};
     ghost use Rattle.bp_machine.specs.Stacks.{StackOf};
 
     ghost Value = { StackOf };
@@ -30,11 +30,14 @@ impl Model for Stack {
       frames = reverse s.frames.items;
       room = vec_capacity s.frames - vec_len s.frames;
     } };
+
+    ghost invariant = { λ s. 1 ≤ vec_capacity s.frames };
 }
 
 /// Another frame at the top, where there is one.
 fn replace_top(frames: &mut Vec<ActivationRecord>, frame: ActivationRecord)
-    ensures { reverse frames.new.items ≡ with_top frame (reverse frames.old.items) }
+    ensures items { reverse frames.new.items ≡ with_top frame (reverse frames.old.items) }
+    ensures capacity { vec_capacity frames.new ≡ vec_capacity frames.old }
 {
     let count = frames.len();
     if count > 0 {
@@ -46,7 +49,8 @@ fn replace_top(frames: &mut Vec<ActivationRecord>, frame: ActivationRecord)
 /// for it.
 fn enter(frames: &mut Vec<ActivationRecord>, frame: ActivationRecord, next: u32)
     requires { vec_len frames.old < vec_capacity frames.old }
-    ensures { reverse frames.new.items ≡ entered_top frame next (reverse frames.old.items) }
+    ensures items { reverse frames.new.items ≡ entered_top frame next (reverse frames.old.items) }
+    ensures capacity { vec_capacity frames.new ≡ vec_capacity frames.old }
 {
     let Some(caller) = frames.last().copied() else {
         return;
@@ -73,15 +77,14 @@ impl Stack {
         Ok(Stack { frames })
     }
 
-    /// The stack of a thread that begins at this instruction, with its locals 0, in the memory of
-    /// this one.
-    pub(crate) fn restarted(self, number: u32) -> Result<Stack, AllocError>
-        ensures { IfOk result (λ s. s.frames ≡ record { number = number; locals = 0 } ∷ []) }
+    /// Starts the stack anew, as that of a thread that begins at this instruction, with its locals
+    /// 0. No memory is taken.
+    pub(crate) fn restart(&mut self, number: u32)
+        ensures { self.new.frames ≡ record { number = number; locals = 0 } ∷ [] }
     {
-        let mut frames = self.frames;
-        frames.clear();
-        frames.push(ActivationRecord { number, locals: 0 })?;
-        Ok(Stack { frames })
+        self.frames.clear();
+        self.frames
+            .push_reserved(ActivationRecord { number, locals: 0 });
     }
 
     pub(crate) fn top(&self) -> Option<ActivationRecord>

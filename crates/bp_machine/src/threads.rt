@@ -1,5 +1,5 @@
 //! The guest threads of a session, and what a call does to one.
-ghost use Rattle.std.specs.Prelude.{◌≡◌, ◌||◌, ◌+◌, ◌<◌, ◌^◌, map, nat_le, string_bytes, IfOk, OnOk, OnErr};
+ghost use Rattle.std.specs.Prelude.{◌≡◌, ◌||◌, ◌+◌, ◌<◌, ◌^◌, length, map, nat_le, string_bytes, vec_len, IfOk, OnOk, OnErr};
 ghost use Rattle.bp_machine.specs.GuestThreads.{thread_at, first_thread, guests};
 ghost use Rattle.bp_machine.specs.Transitions.{thread_after, reply_of_transition, TransitionFitsIn, IsCallTransition};
 
@@ -66,6 +66,15 @@ impl GuestThread {
         }
     }
 
+    /// Starts the thread anew at this instruction, before any call.
+    pub(crate) fn restart(&mut self, number: u32)
+        ensures { self.new.guest ≡ thread_at number }
+    {
+        self.stack.restart(number);
+        self.calls = 0;
+        self.ended = false;
+    }
+
     pub(crate) fn stack(&self) -> &Stack
         ensures { result.now.frames ≡ self.now.guest.stack }
     {
@@ -114,37 +123,39 @@ impl GuestThread {
     }
 }
 
-/// A thread that begins at this instruction, in the memory of an earlier one where there is one.
-fn first_thread(
-    alloc: Global,
-    number: u32,
-    earlier: Option<GuestThread>,
-) -> Result<GuestThread, AllocError>
+/// A thread that begins at this instruction.
+fn first_thread(alloc: Global, number: u32) -> Result<GuestThread, AllocError>
     ensures { IfOk result (λ g. g.guest ≡ thread_at number) }
 {
-    let stack = match earlier {
-        Some(thread) => thread.stack.restarted(number)?,
-        None => Stack::start(alloc, number)?,
-    };
+    let stack = Stack::start(alloc, number)?;
     Ok(GuestThread::start(stack))
 }
 
-/// Threads that begin with these procedures, in the memory of the earlier ones. Of those, the ones
-/// that are too many are dropped.
+/// Threads that begin with these procedures.
 pub(crate) fn first_threads(
     alloc: Global,
     code: &Code,
     entries: &[String],
-    earlier: Vec<GuestThread>,
 ) -> Result<Vec<GuestThread>, AllocError>
     ensures { IfOk result
         (λ v. guests v.items ≡ map (first_thread code.now) (map string_bytes entries.now)) }
 {
-    let mut earlier = earlier;
     let mut threads = Vec::with_capacity(alloc, entries.len())?;
     for name in entries {
         let number = code.entry(name.as_str()).unwrap_or(0);
-        threads.push(first_thread(alloc, number, earlier.pop())?)?;
+        threads.push(first_thread(alloc, number)?)?;
     }
     Ok(threads)
+}
+
+/// Starts the threads anew, so that they begin with these procedures.
+pub(crate) fn restart_threads(threads: &mut Vec<GuestThread>, code: &Code, entries: &[String])
+    requires { vec_len threads.old ≡ length entries.now }
+    ensures { guests threads.new.items
+        ≡ map (first_thread code.now) (map string_bytes entries.now) }
+{
+    for i in 0..entries.len() {
+        let number = code.entry(entries[i].as_str()).unwrap_or(0);
+        threads[i].restart(number);
+    }
 }

@@ -81,7 +81,10 @@ impl Session {
         steps_alike(&self.code);
         let made = self.judged(thread, given)?;
         self.machine.reserve(thread, made.transition)?;
-        self.prepared = None;
+        // Few sessions are prepared for a call, and to look costs less than to write.
+        if self.prepared.is_some() {
+            self.prepared = None;
+        }
         self.machine.make(thread, made.transition);
         draw(&mut self.choices, thread as usize);
         Ok(made.call)

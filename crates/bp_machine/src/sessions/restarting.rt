@@ -1,17 +1,38 @@
 //! Starting a session anew.
-ghost use Rattle.std.specs.Prelude.{◌≡◌, [], None, IfOk};
+ghost use Rattle.std.specs.Prelude.{◌≡◌, [], None, IfOk, OnOk, OnErr};
 ghost use Rattle.bp_tree.specs.Ast.{Program};
 ghost use Rattle.bp_code.specs.StandsFor.{StandsFor};
 ghost use Rattle.bp_machine.specs.Setups.{FitsCode};
 ghost use Rattle.bp_machine.specs.Sessions.{Stands};
 
-use crate::machine::Machine;
-use crate::sessions::{Session, first_choices};
-use crate::threads::first_threads;
+use crate::sessions::{Session, restart_choices};
 use bp_code::stores::word_of;
 use std::alloc::AllocError;
 
 impl Session {
+    /// Starts this session anew: before any call, in the same setup but with this seed or with
+    /// none. It uses the memory that it has. Only the choices may need more; where that is refused,
+    /// the session stays as it is.
+    pub fn restart(&mut self, seed: Option<u64>) -> Result<(), AllocError>
+        requires { FitsCode self.old.code self.old.setup }
+        ensures stands { OnOk result
+            ((t : Program) → StandsFor self.old.code t → Stands t self.new []) }
+        ensures code { self.new.code ≡ self.old.code }
+        ensures setup { OnOk result (self.new.setup ≡ record self.old.setup { seed = seed }) }
+        ensures ready { OnOk result (self.new.ready ≡ None) }
+        ensures same { OnErr result (self.new ≡ self.old) }
+    {
+        self.code.is_of_a_program();
+        self.setup.is_in_range();
+        // This comes before all else, since nothing after it can be refused.
+        restart_choices(&mut self.choices, &self.setup, seed)?;
+        self.setup.set_seed(seed);
+        let word = word_of(self.setup.bits());
+        self.machine.restart(word, &self.code, self.setup.entries());
+        self.prepared = None;
+        Ok(())
+    }
+
     /// A session of the same code before any call, in the same setup but with this seed or with
     /// none. It uses the memory of this one.
     pub fn restarted(self, seed: Option<u64>) -> Result<Session, AllocError>
@@ -22,26 +43,8 @@ impl Session {
             × (x.setup ≡ record self.setup { seed = seed })
             × (x.ready ≡ None)) }
     {
-        let Session {
-            code,
-            setup,
-            machine,
-            choices,
-            prepared: _,
-        } = self;
-        code.is_of_a_program();
-        let setup = setup.with_seed(seed);
-        setup.is_in_range();
-        let alloc = *choices.allocator();
-        let threads = first_threads(alloc, &code, setup.entries(), machine.into_threads())?;
-        let machine = Machine::start(word_of(setup.bits()), threads);
-        let choices = first_choices(&setup, choices)?;
-        Ok(Session {
-            code,
-            setup,
-            machine,
-            choices,
-            prepared: None,
-        })
+        let mut session = self;
+        session.restart(seed)?;
+        Ok(session)
     }
 }

@@ -36,7 +36,8 @@ impl Session {
     }
 
     /// Whether a thread waits: its next statement is an assumption of 0 with either choice bit. It
-    /// is not asked whether the thread may make a further call.
+    /// is not asked whether the thread may make a further call. One look is enough: an assumption
+    /// of `?` lets its thread go on where its bit is 1, and no other test depends on the bit.
     pub fn waits(&self, thread: u32) -> bool
         ensures { (t : Program) (h : List Answered)
             → StandsFor self.now.code t
@@ -47,8 +48,7 @@ impl Session {
         let Some(guest) = self.machine.thread(thread) else {
             return false;
         };
-        let finds_zero = self.finds_zero(guest, false);
-        finds_zero && self.finds_zero(guest, true)
+        self.finds_zero(guest, true)
     }
 
     /// Whether a thread has frames left: it did not come to the end of its program.

@@ -3,8 +3,8 @@ use Rattle.std.specs.Prelude.{slice_get}
 use Rattle.bp_machine.proofs.StackTops.{entered, top_is}
 use Rattle.bp_machine.proofs.stacks.enter.Goals as goal
 
-pub returns-then-count-gt1 : goal.returns-then-count-gt1
-returns-then-count-gt1 c =
+pub returns-then-count-gt1-clause-items : goal.returns-then-count-gt1-clause-items
+returns-then-count-gt1-clause-items c =
     let xs = c.args.frames.now.items in
     let top = sym (top_is xs) ∙ ap (λ ys. slice_get ys (length ys - 1)) (sym c.deref.ensures.value) ∙ sym c.last.ensures.value ∙ sym c.in-Some.ensures in
     rw c.push_reserved.ensures.items (entered xs c.args.frame c.in-Some.caller c.args.next c.len-count.result top

@@ -1,4 +1,5 @@
-use Rattle.std.proofs.Common.{subst}
+use Rattle.std.proofs.Common.{◌≡◌, ◌∙◌, sym, subst, false, Option, None, Some, refl}
+use Rattle.std.specs.Prelude.{is_some}
 use Rattle.bp_tree.specs.Ast.{Program}
 use Rattle.bp_code.specs.StandsFor.{StandsFor}
 use Rattle.bp_code.specs.Alike.{StepsAlike}
@@ -8,7 +9,7 @@ use Rattle.bp_machine.specs.Sessions.{SessionOf, IsInOrder}
 use Rattle.bp_machine.specs.KeptSessions.{session_of, IsJudged}
 use Rattle.bp_machine.proofs.SessionAnswers.{given_bit, judged_next, refused_after, refused_for_memory}
 use Rattle.bp_machine.proofs.CallsAtOnce.{within, few, grows, made_stands, made_in_order}
-use Rattle.bp_machine.proofs.sessions.Session.make_given.Goals.{In_ok-made, In_ok-reserve, After-draw}
+use Rattle.bp_machine.proofs.sessions.Session.make_given.Goals.{In_ok-made, After-make-arg-1, then-is_some, else-is_some}
 use Rattle.bp_machine.proofs.sessions.Session.make_given.Goals as goal
 
 abbrev AllAlike : SessionOf → Type 0
@@ -20,6 +21,24 @@ judged : (c : In_ok-made)
     (session_of c.self.inside.code c.self.inside.setup c.self.inside.machine c.self.inside.choices.items c.self.inside.prepared)
     c.args.thread c.args.given c.in_ok-made.made
 judged c = rw (← c.self.view_is) at c.in_ok-made.ensures
+
+none_is : {X : Type 0} (o : Option X) → is_some o ≡ false → o ≡ None
+none_is None e = refl
+none_is (Some x) e = absurd cc
+
+-- the fields before the call is made: there is room for its frame, and no call is prepared
+left : (c : After-make-arg-1)
+    → c.if-is_some.self-inside ≡ record {
+      code = c.self.inside.code;
+      setup = c.self.inside.setup;
+      machine = c.reserve.new.self;
+      choices = c.self.inside.choices;
+      prepared = None;
+    }
+left c = elim c.if-is_some.branch [
+  | then-is_some w ↦ w.self-inside-is
+  | else-is_some w ↦ rw (sym (none_is c.self.inside.prepared (sym c.is_some.ensures ∙ w.if-is_some.false))) w.self-inside-is
+]
 
 pub returns-in_err-made-clause-answer : goal.returns-in_err-made-clause-answer
 returns-in_err-made-clause-answer c = λ t h is stands.
@@ -46,31 +65,34 @@ returns-in_err-reserve-clause-answer c = λ t h is stands.
 pub make-requires-clause-within : goal.make-requires-clause-within
 make-requires-clause-within c =
     let d = (goal.at.make-requires-clause-within c).In_ok-made in
-    within c.self.inside.code c.self.inside.setup c.self.inside.machine c.reserve.new.self c.in_ok-reserve.ensures.state
+    rw (left c) (within c.self.inside.code c.self.inside.setup c.self.inside.machine c.reserve.new.self c.in_ok-reserve.ensures.state
     c.self.inside.choices.items c.self.inside.prepared c.args.thread c.args.given c.in_ok-made.made
-    c.self.invariant.0 (judged d) c.in_ok-reserve.ensures.ok
+    c.self.invariant.0 (judged d) c.in_ok-reserve.ensures.ok)
 
 pub make-requires-clause-calls : goal.make-requires-clause-calls
 make-requires-clause-calls c =
     let d = (goal.at.make-requires-clause-calls c).In_ok-made in
-    few c.self.inside.code c.self.inside.setup c.self.inside.machine c.reserve.new.self c.in_ok-reserve.ensures.state
+    rw (left c) (few c.self.inside.code c.self.inside.setup c.self.inside.machine c.reserve.new.self c.in_ok-reserve.ensures.state
     c.self.inside.choices.items c.self.inside.prepared c.args.thread c.args.given c.in_ok-made.made
-    c.self.invariant.0 (judged d) c.in_ok-reserve.ensures.ok
+    c.self.invariant.0 (judged d) c.in_ok-reserve.ensures.ok)
 
 pub make-requires-clause-contexts : goal.make-requires-clause-contexts
 make-requires-clause-contexts c =
     let d = (goal.at.make-requires-clause-contexts c).In_ok-made in
-    grows c.self.inside.code c.self.inside.setup c.self.inside.machine c.reserve.new.self c.in_ok-reserve.ensures.state
+    rw (left c) (grows c.self.inside.code c.self.inside.setup c.self.inside.machine c.reserve.new.self c.in_ok-reserve.ensures.state
     c.self.inside.choices.items c.self.inside.prepared c.args.thread c.args.given c.in_ok-made.made
-    c.self.invariant.0 (judged d) c.in_ok-reserve.ensures.ok
+    c.self.invariant.0 (judged d) c.in_ok-reserve.ensures.ok)
 
 pub invariant_of-self-2 : goal.invariant_of-self-2
 invariant_of-self-2 c =
     let d = (goal.at.invariant_of-self-2 c).In_ok-made in
-    made_in_order c.self.inside.code c.self.inside.setup c.self.inside.machine c.reserve.new.self
+    let is = left (goal.at.invariant_of-self-2 c).After-make-arg-1 in
+    let made = rw is at c.make.ensures in
+    let drawn = rw is at c.draw.ensures in
+    rw is (made_in_order c.self.inside.code c.self.inside.setup c.self.inside.machine c.reserve.new.self
     c.in_ok-reserve.ensures.state c.self.inside.choices.items c.self.inside.prepared c.args.thread c.args.given
     c.in_ok-made.made c.self.invariant.0 (judged d) c.in_ok-reserve.ensures.ok
-    c.make.new.self c.make.ensures c.draw.new.choices.items c.draw.ensures c.steps_alike.ensures
+    c.make.new.self made c.draw.new.choices.items drawn c.steps_alike.ensures)
 
 pub returns-clause-answer : goal.returns-clause-answer
 returns-clause-answer c = λ t h is stands.
@@ -86,9 +108,12 @@ returns-clause-asked c =
 pub returns-clause-stands : goal.returns-clause-stands
 returns-clause-stands c = λ t h is stands.
     let d = (goal.at.returns-clause-stands c).In_ok-made in
+    let same = left (goal.at.returns-clause-stands c).After-make-arg-1 in
     let is_kept = rw (← c.self.view_is) at is in
     let stood = rw (← c.self.view_is) at stands in
-    made_stands c.self.inside.code c.self.inside.setup c.self.inside.machine c.reserve.new.self
+    let made = rw same at c.make.ensures in
+    let drawn = rw same at c.draw.ensures in
+    rw same (made_stands c.self.inside.code c.self.inside.setup c.self.inside.machine c.reserve.new.self
     c.in_ok-reserve.ensures.state c.self.inside.choices.items c.self.inside.prepared c.args.thread c.args.given
     c.in_ok-made.made c.self.invariant.0 (judged d) c.in_ok-reserve.ensures.ok
-    c.make.new.self c.make.ensures c.draw.new.choices.items c.draw.ensures t h (c.steps_alike.ensures t is_kept) stood
+    c.make.new.self made c.draw.new.choices.items drawn t h (c.steps_alike.ensures t is_kept) stood)

@@ -1,8 +1,9 @@
-use Rattle.std.proofs.Common.{rules, ◌∙◌, ◌&&◌, ap, sym, true, false}
+use Rattle.std.proofs.Common.{◌∙◌, ◌&&◌, ap, sym, true, false}
 use Rattle.std.specs.Prelude.{slice_get}
-use Rattle.bp_machine.specs.Answers.{reply_on_stack}
+use Rattle.bp_machine.specs.Answers.{reply_on_stack, stack_of}
 use Rattle.bp_machine.specs.Histories.{configuration_after}
 use Rattle.bp_machine.specs.Waiting.{is_blocked}
+use Rattle.bp_machine.proofs.BlockedWithEitherBit.{with_either_bit}
 use Rattle.bp_machine.proofs.ShownTops.{no_stack}
 use Rattle.bp_machine.proofs.sessions.Session.waits.Goals as goal
 
@@ -14,5 +15,8 @@ returns-in_default c = λ t h is stands.
     let gone = no_stack t x.setup x.machine.state h stands.state c.args.thread none in
     sym (ap (λ fs. is_blocked (reply_on_stack t true globals fs false) && is_blocked (reply_on_stack t true globals fs true)) gone)
 
-pub returns-then-finds_zero : goal.returns-then-finds_zero
-returns-then-finds_zero c = search rules depth 1
+pub returns : goal.returns
+returns c = λ t h is stands.
+    let now = configuration_after t c.args.self.now.setup h in
+    let has = sym (c.in-Some.ensures ∙ ap (λ y. slice_get y.machine.state.threads c.args.thread) c.self.view_is) in
+    c.finds_zero.ensures t h c.args.thread is stands has ∙ sym (with_either_bit t now.globals (stack_of now c.args.thread))

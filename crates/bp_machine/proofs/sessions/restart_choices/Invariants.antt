@@ -1,7 +1,7 @@
 use Rattle.std.proofs.Common.{◌≡◌, ℕ, Some, length}
 use Rattle.std.specs.Prelude.{slice_get}
 use Rattle.bp_machine.specs.ChoiceBits.{ChoicesOf, IsAt}
-use Rattle.bp_machine.proofs.sessions.first_choices.Given as goal
+use Rattle.bp_machine.proofs.sessions.restart_choices.Given as goal
 
 abbrev pub invariant-loop-thread : goal.invariant-loop-thread
 invariant-loop-thread l = record {
