@@ -8,6 +8,7 @@ pub mod KeysOfRuns
 pub mod MarkLemmas
 pub mod Playing
 pub mod ReachedPlaces
+pub mod RefusedCalls
 pub mod RunsOfTests
 pub mod TallyLemmas
 pub mod WaitingThreads

@@ -47,6 +47,15 @@ no_marks at P old none = record {
   all = λ x p. absurd (none x p);
 }
 
+-- no mark can be set where all are
+pub all_marked : (P : ℕ → Type 0) (marks : List Bool) → ((n : ℕ) → n < length marks → is_marked marks n ≡ true) → MarksGrow (λ i. Some i) P marks marks
+all_marked P marks all = record {
+  size = refl;
+  kept = λ n is. is;
+  only = λ n is. inl is;
+  all = λ i p. (i, refl, all i);
+}
+
 module _ {X : Type 0} (at : ℕ → Option X) (P Q : X → Type 0) (old cur : List Bool) (was : MarksGrow at P old cur) where
   -- the same marks stand for what is the same
   pub same_marks : ((x : X) → P x → Q x) → ((x : X) → Q x → P x) → MarksGrow at Q old cur

@@ -1,5 +1,5 @@
 -- The places of a program that a history reaches, the threads that step in it, and marks of both.
-use Rattle.std.specs.Prelude.{◌≡◌, ◌⊎◌, ◌<◌, ℕ, suc, Bool, true, false, if◌then◌else◌, List, [], ◌∷◌, Option, None, Some, length, take, slice_get, slice_index_or, slice_set, MatchOption}
+use Rattle.std.specs.Prelude.{◌≡◌, ◌⊎◌, ◌<◌, ℕ, suc, Bool, true, false, if◌then◌else◌, nat_le, count_by, List, [], ◌∷◌, Option, None, Some, length, take, slice_get, slice_index_or, slice_set, MatchOption}
 use Rattle.bp_tree.specs.Ast.{Program}
 use Rattle.bp_code.specs.Configurations.{Frame, Configuration}
 use Rattle.bp_code.specs.StandsFor.{Place, place, places_of}
@@ -16,6 +16,10 @@ use Rattle.bp_machine.specs.Waiting.{waits}
 abbrev pub refuses_context : Reply → Bool
 refuses_context NoContexts = true
 refuses_context r = false
+
+-- in the history a thread was refused a context
+abbrev pub has_refusal : List Call → Bool
+has_refusal h = nat_le 1 (count_by (λ x. refuses_context x.reply) h)
 
 -- where a stack continues
 abbrev pub place_on : List Frame → Option Place

@@ -12,7 +12,7 @@ use Rattle.bp_test.specs.declared.tallies.Ends.{Ends}
 use Rattle.bp_test.specs.declared.tallies.Tally.{Tally}
 use Rattle.bp_test.specs.declared.limits.TheConstants.{MAX_KEYS}
 use Rattle.bp_test.specs.Keys.{IsRunKey}
-use Rattle.bp_test.specs.Reached.{refuses_context, place_of, AreMarks, HasStep, Reaches}
+use Rattle.bp_test.specs.Reached.{has_refusal, place_of, AreMarks, HasStep, Reaches}
 
 -- a run that was made: its history, the report of that, and whether it ended in a deadlock
 pub record MadeRun : Type 0 where
@@ -42,7 +42,7 @@ abbrev pub leaves_open : MadeRun → Bool
 leaves_open r = nat_le 1 r.report.left_open
 
 abbrev pub lacks_contexts : MadeRun → Bool
-lacks_contexts r = nat_le 1 (count_by (λ x. refuses_context x.reply) r.history)
+lacks_contexts r = has_refusal r.history
 
 abbrev pub has_ends : (count : ℕ) → MadeRun → Bool
 has_ends count r = count_by (λ x. is_end x.reply) r.history == count

@@ -90,11 +90,10 @@ pub fn first_found<C: Clock>(
         let seed = plan.seed.wrapping_add(run);
         let (visible, lengths) = (&plan.visible, plan.lengths.as_slice());
         let reached = &mut tally.reached;
-        let (next, key) = run_once(session, seed, visible, lengths, &mut history, reached)?;
-        session = next;
+        let followed = run_once(&mut session, seed, visible, lengths, &mut history, reached)?;
         let report = session.report();
         let is_deadlocked = session.is_deadlocked();
-        tally.add_run(history.as_slice(), &report, is_deadlocked, key)?;
+        tally.add_run(history.as_slice(), &report, is_deadlocked, &followed)?;
         if is_sought(&report, is_deadlocked, plan.with_deadlock) {
             let number = failed_instruction(&session);
             let waiting = waiting_threads(alloc, &session)?;

@@ -91,9 +91,9 @@ impl Plan {
                 break;
             }
             let own = seed.wrapping_add(pilot);
-            let (next, _) = run_once(session, own, &visible, &[], &mut history, &mut reached)?;
-            let is_cut_off = is_cut_off(&next);
-            session = next.restarted(Some(own))?;
+            let _ = run_once(&mut session, own, &visible, &[], &mut history, &mut reached)?;
+            let is_cut_off = is_cut_off(&session);
+            session.restart(Some(own))?;
             let length = count_visible(&mut session, &visible, history.as_slice())?;
             calls = calls.saturating_add(history.len() as u64);
             if length > 0 && !is_cut_off {

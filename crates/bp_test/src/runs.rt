@@ -1,5 +1,5 @@
 //! Runs: histories of a seed and of the schedule that is drawn by it.
-ghost use Rattle.std.specs.Prelude.{◌≡◌, ◌<◌, ◌+◌, ◌++◌, ◌∷◌, [], ℕ, List, true, length, Some};
+ghost use Rattle.std.specs.Prelude.{◌≡◌, ◌<◌, ◌+◌, ◌++◌, ◌∷◌, ◌||◌, [], ℕ, List, true, length, Some};
 ghost use Rattle.std.specs.Prelude.{IfOk, OnOk};
 ghost use Rattle.bp_tree.specs.Ast.{Program};
 ghost use Rattle.bp_code.specs.Programs.{IsOfProgram};
@@ -10,7 +10,8 @@ ghost use Rattle.bp_machine.specs.Reports.{outcome_of, is_failure};
 ghost use Rattle.bp_machine.specs.Sessions.{Stands, StandsForAll};
 ghost use Rattle.bp_machine.specs.Setups.{threads, FitsCode};
 ghost use Rattle.bp_test.specs.Keys.{IsEndKey, IsKey, IsRunKey};
-ghost use Rattle.bp_test.specs.Reached.{is_marked, next_place, marks_after, place_of, IsNumberOf};
+ghost use Rattle.bp_test.specs.Reached.{has_refusal, is_marked, next_place, marks_after, place_of};
+ghost use Rattle.bp_test.specs.Reached.{refuses_context, IsNumberOf};
 ghost use Rattle.bp_test.specs.Reached.{IsReachedByCall, IsWaiting, MarksGrow, Reaches};
 ghost use Rattle.bp_test.specs.Resting.{IsOver};
 
@@ -56,11 +57,25 @@ pub(crate) fn next_number(session: &Session, thread: u32) -> Option<u32>
     Some(session.top(thread)?.number)
 }
 
+/// Whether a reply refuses a context.
+fn refuses_context(reply: Reply) -> bool
+    ensures { result ≡ refuses_context reply }
+{
+    matches!(reply, Reply::NoContexts)
+}
+
+/// Whether a call was refused a context, up to one with this reply.
+fn refused_with(was_refused: bool, reply: Reply) -> bool
+    ensures { result ≡ (was_refused || refuses_context reply) }
+{
+    was_refused || refuses_context(reply)
+}
+
 /// Marks an instruction, where its thread was not refused a context.
 fn reach(reached: &mut Vec<bool>, number: Option<u32>, reply: Reply)
     ensures { reached.new.items ≡ marks_after number reply reached.old.items }
 {
-    if matches!(reply, Reply::NoContexts) {
+    if refuses_context(reply) {
         return;
     }
     if let Some(number) = number {
@@ -115,6 +130,15 @@ fn reach_waits(reached: &mut Vec<bool>, session: &Session)
     }
 }
 
+/// What is known of a run beside its calls.
+#[derive(Clone, Copy)]
+pub(crate) struct FollowedRun {
+    /// The key of its steps, or of the whole run.
+    pub(crate) key: u64,
+    /// Whether a call was refused a context.
+    pub(crate) was_refused: bool,
+}
+
 /// The key of a run with this key of its steps, at whose end the session stands.
 fn end_key(session: &Session, steps: u64) -> u64
     ensures { (t : Program) (h : List Answered)
@@ -138,7 +162,7 @@ fn follow(
     scheduler: &mut Scheduler<'_>,
     history: &mut Vec<Call>,
     reached: &mut Vec<bool>,
-) -> Result<u64, AllocError>
+) -> Result<FollowedRun, AllocError>
     requires program { IsOfProgram session.old.code }
     requires stands { StandsForAll session.old [] }
     ensures stands { OnOk result (StandsForAll session.new history.new.items) }
@@ -151,17 +175,19 @@ fn follow(
         → StandsFor session.new.code t
         → let by_call = IsReachedByCall t session.new.setup history.new.items in
         MarksGrow (place_of t) by_call reached.old.items reached.new.items) }
-    ensures key { IfOk result (λ key.
+    ensures key { IfOk result (λ x.
         (t : Program)
         → StandsFor session.new.code t
-        → IsKey t session.new.setup history.new.items key) }
+        → IsKey t session.new.setup history.new.items x.key) }
+    ensures refused { IfOk result (λ x. x.was_refused ≡ has_refusal history.new.items) }
     ensures kept { (session.new.code ≡ session.old.code) × (session.new.setup ≡ session.old.setup) }
 {
     history.clear();
     let mut key = FIRST_KEY;
+    let mut was_refused = false;
     loop {
         let Some(thread) = scheduler.next(session) else {
-            return Ok(key);
+            return Ok(FollowedRun { key, was_refused });
         };
         let number = next_number(session, thread);
         let reply = play(session, history, thread)?;
@@ -170,47 +196,52 @@ fn follow(
         reach_wait(reached, session, thread, next);
         scheduler.note_next(next);
         key = key_after(key, thread, number, reply);
+        was_refused = refused_with(was_refused, reply);
         if reply == Reply::Failed {
-            return Ok(key);
+            return Ok(FollowedRun { key, was_refused });
         }
     }
 }
 
-/// Makes a run with this seed, in the memory of an earlier one, and answers its key beside the
-/// session. Its schedule switches before visible steps; how many of them runs make is known from
-/// pilots, by these lengths. The instructions that are reached are marked.
+/// Makes a run with this seed, in the memory of earlier ones, and answers what is known of it. Its
+/// schedule switches before visible steps; how many of them runs make is known from pilots, by
+/// these lengths. The instructions that are reached are marked.
 pub(crate) fn run_once(
-    session: Session,
+    session: &mut Session,
     seed: u64,
     visible: &VisibleSteps,
     lengths: &[u64],
     history: &mut Vec<Call>,
     reached: &mut Vec<bool>,
-) -> Result<(Session, u64), AllocError>
-    requires { FitsCode session.code session.setup }
-    ensures stands { IfOk result (λ x. StandsForAll x.0 history.new.items) }
-    ensures over { IfOk result (λ x.
-        (t : Program)
-        → StandsFor x.0.code t
-        → IsOver t x.0.setup history.new.items) }
-    ensures marks { IfOk result (λ x.
-        (t : Program)
-        → StandsFor x.0.code t
-        → let reaches = Reaches t x.0.setup history.new.items in
+) -> Result<FollowedRun, AllocError>
+    requires { FitsCode session.old.code session.old.setup }
+    ensures stands { OnOk result (StandsForAll session.new history.new.items) }
+    ensures over { OnOk result
+        ((t : Program)
+        → StandsFor session.new.code t
+        → IsOver t session.new.setup history.new.items) }
+    ensures marks { OnOk result
+        ((t : Program)
+        → StandsFor session.new.code t
+        → let reaches = Reaches t session.new.setup history.new.items in
         MarksGrow (place_of t) reaches reached.old.items reached.new.items) }
     ensures key { IfOk result (λ x.
         (t : Program)
-        → StandsFor x.0.code t
-        → IsRunKey t x.0.setup history.new.items x.1) }
-    ensures code { IfOk result (λ x. x.0.code ≡ session.code) }
-    ensures setup { IfOk result (λ x. x.0.setup ≡ record session.setup { seed = Some seed }) }
+        → StandsFor session.new.code t
+        → IsRunKey t session.new.setup history.new.items x.key) }
+    ensures refused { IfOk result (λ x. x.was_refused ≡ has_refusal history.new.items) }
+    ensures code { OnOk result (session.new.code ≡ session.old.code) }
+    ensures setup { OnOk result
+        (session.new.setup ≡ record session.old.setup { seed = Some seed }) }
 {
-    let mut session = session.restarted(Some(seed))?;
+    session.restart(Some(seed))?;
     session.code().is_of_a_program();
-    let mut scheduler = Scheduler::new(seed, &session, visible, lengths);
-    reach_waits(reached, &session);
-    let steps = follow(&mut session, &mut scheduler, history, reached)?;
-    reach_waits(reached, &session);
-    let key = end_key(&session, steps);
-    Ok((session, key))
+    let mut scheduler = Scheduler::new(seed, session, visible, lengths);
+    reach_waits(reached, session);
+    let steps = follow(session, &mut scheduler, history, reached)?;
+    reach_waits(reached, session);
+    Ok(FollowedRun {
+        key: end_key(session, steps.key),
+        was_refused: steps.was_refused,
+    })
 }

@@ -152,13 +152,11 @@ impl Others {
         }
     }
 
-    /// The sum of the weights of this many threads.
-    fn sum(&self, threads: u32) -> u32 {
-        let mut sum: u32 = 0;
-        for thread in 0..threads {
-            sum = sum.saturating_add(self.weight(thread));
-        }
-        sum
+    /// The sum of the weights.
+    fn sum(&self) -> u32 {
+        let moved = (self.all & !self.unmoved).count_ones();
+        let unmoved = (self.all & self.unmoved).count_ones();
+        moved.saturating_add(unmoved.saturating_mul(UNMOVED))
     }
 
     /// The one of this many threads at a place, from 0: each has as many places as its weight.
@@ -259,7 +257,7 @@ impl<'a> Scheduler<'a> {
         if others.all == 0 {
             return None;
         }
-        let place = below(&mut self.generator, others.sum(threads));
+        let place = below(&mut self.generator, others.sum());
         others.thread_at(threads, place)
     }
 

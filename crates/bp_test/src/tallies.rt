@@ -7,11 +7,12 @@ ghost use Rattle.bp_machine.specs.Replies.{is_granted};
 ghost use Rattle.bp_machine.specs.Setups.{SetupOf};
 ghost use Rattle.bp_test.specs.Counts.{contexts_with, AreContextsUsed};
 ghost use Rattle.bp_test.specs.declared.limits.TheConstants.{MAX_KEYS};
-ghost use Rattle.bp_test.specs.Reached.{refuses_context, is_marked, HasStep, MarksGrow};
+ghost use Rattle.bp_test.specs.Reached.{has_refusal, is_marked, HasStep, MarksGrow};
 ghost use Rattle.bp_test.specs.Tallies.{MadeRun, made, is_end, ends_of, ends_sum, count_with};
 ghost use Rattle.bp_test.specs.Tallies.{IsCounted, IsTally};
 
 use crate::keys::{push_key, push_keys};
+use crate::runs::FollowedRun;
 use bp_code::Code;
 use bp_machine::{Call, Outcome, Reply, Report, Setup};
 use std::alloc::{AllocError, Global};
@@ -112,14 +113,6 @@ fn count_contexts(counts: &mut Vec<u64>, used: usize, runs: u64) -> Result<(), A
     Ok(())
 }
 
-/// How many calls were refused a context.
-fn count_refused(history: &[Call]) -> usize
-    ensures { result ≡ count_by (λ x. refuses_context x.reply) history.now }
-{
-    let refused = |call: &&Call| matches!(call.reply, Reply::NoContexts);
-    history.iter().filter(refused).count()
-}
-
 /// How many calls came to the end of a thread's program.
 fn count_ended(history: &[Call]) -> usize
     ensures { result ≡ count_by (λ x. is_end x.reply) history.now }
@@ -135,10 +128,25 @@ pub(crate) fn is_step(call: &Call) -> bool
     matches!(call.reply, Reply::Stepped | Reply::Failed)
 }
 
-/// Marks the threads that made a step.
+/// Whether all places are marked.
+fn are_all_marked(marks: &[bool]) -> bool
+    ensures { result ≡ true → (n : ℕ) → n < length marks.now → is_marked marks.now n ≡ true }
+{
+    for is_marked in marks {
+        if !*is_marked {
+            return false;
+        }
+    }
+    true
+}
+
+/// Marks the threads that made a step. After the first runs each of them is marked.
 fn note_steps(stepped: &mut Vec<bool>, history: &[Call])
     ensures { MarksGrow (λ i. Some i) (HasStep history.now) stepped.old.items stepped.new.items }
 {
+    if are_all_marked(stepped.as_slice()) {
+        return;
+    }
     for call in history {
         if is_step(call) {
             mark(stepped, call.thread as usize);
@@ -156,8 +164,17 @@ impl Ends {
         deadlocked: 0,
     };
 
-    /// Counts a run of this many threads, where no assertion failed in it.
-    fn add_run(&mut self, history: &[Call], report: &Report, is_deadlocked: bool, threads: usize)
+    /// Counts a run of this many threads, where no assertion failed in it. It is known whether a
+    /// call was refused a context.
+    fn add_run(
+        &mut self,
+        history: &[Call],
+        report: &Report,
+        is_deadlocked: bool,
+        was_refused: bool,
+        threads: usize,
+    )
+        requires { was_refused ≡ has_refusal history.now }
         ensures { (runs : List MadeRun)
             → self.old ≡ ends_of threads runs
             → let run = made history.now report.now is_deadlocked in
@@ -170,7 +187,7 @@ impl Ends {
             self.deadlocked = self.deadlocked.saturating_add(1);
         } else if report.left_open > 0 {
             self.starved = self.starved.saturating_add(1);
-        } else if count_refused(history) > 0 {
+        } else if was_refused {
             self.out_of_contexts = self.out_of_contexts.saturating_add(1);
         } else if count_ended(history) == threads {
             self.finished = self.finished.saturating_add(1);
@@ -234,14 +251,15 @@ impl Tally {
         })
     }
 
-    /// Adds a run with this key.
+    /// Adds a run.
     pub(crate) fn add_run(
         &mut self,
         history: &[Call],
         report: &Report,
         is_deadlocked: bool,
-        key: u64,
+        followed: &FollowedRun,
     ) -> Result<(), AllocError>
+        requires { followed.now.was_refused ≡ has_refusal history.now }
         ensures counted { let run = made history.now report.now is_deadlocked in
             OnOk result
             ((s : SetupOf) (runs : List MadeRun)
@@ -249,15 +267,22 @@ impl Tally {
             → IsCounted s (runs ++ run ∷ []) self.new) }
         ensures reached { OnOk result (self.new.reached.items ≡ self.old.reached.items) }
         ensures keys { OnOk result
-            (self.new.keys.items ≡ take MAX_KEYS (self.old.keys.items ++ key ∷ [])) }
+            (self.new.keys.items
+            ≡ take MAX_KEYS (self.old.keys.items ++ followed.now.key ∷ [])) }
     {
         self.runs = self.runs.saturating_add(1);
         self.calls = self.calls.saturating_add(report.calls);
         self.longest = self.longest.max(report.calls);
-        self.ends
-            .add_run(history, report, is_deadlocked, self.stepped.len());
+        let threads = self.stepped.len();
+        self.ends.add_run(
+            history,
+            report,
+            is_deadlocked,
+            followed.was_refused,
+            threads,
+        );
         note_steps(&mut self.stepped, history);
-        push_key(&mut self.keys, key)?;
+        push_key(&mut self.keys, followed.key)?;
         count_contexts(&mut self.contexts, report.contexts as usize, 1)
     }
 

@@ -45,7 +45,7 @@ returns-then-is_sought-clause-end g c =
 pub returns-then-is_sought-clause-tallied : goal.returns-then-is_sought-clause-tallied
 returns-then-is_sought-clause-tallied g c = λ t is.
     let before = c.loop-run.invariant in
-    let now = c.in_ok-next in
+    let now = c.in_ok-followed in
     let run = made c.run_once.new.history.items c.report-report.result c.is_deadlocked-is_deadlocked.result in
     record {
       runs = before.earlier ++ run ∷ [];
@@ -58,30 +58,30 @@ returns-then-is_sought-clause-tallied g c = λ t is.
         clean = before.clean t is;
         found =
             sought_run c.args.code.now c.args.setup.now c.args.plan.now.with_deadlock c.args.plan.now.seed
-            c.loop-run.run c.loop-run.session now.next c.run_once.new.history.items _ refl before.code before.setup
+            c.loop-run.run c.loop-run.session c.run_once.new.session c.run_once.new.history.items _ refl before.code before.setup
             now.ensures.code now.ensures.setup
             now.ensures.stands now.ensures.over c.report-report.result c.report-report.ensures
             c.is_deadlocked-is_deadlocked.result c.is_deadlocked-is_deadlocked.ensures
             (sym c.is_sought.ensures ∙ c.if-is_sought.true) t is;
         at =
             fails_there c.args.code.now c.args.setup.now c.args.plan.now.with_deadlock c.args.plan.now.seed
-            c.loop-run.run c.loop-run.session now.next c.run_once.new.history.items _ refl before.code before.setup
+            c.loop-run.run c.loop-run.session c.run_once.new.session c.run_once.new.history.items _ refl before.code before.setup
             now.ensures.code now.ensures.setup
             now.ensures.stands t is c.failed_instruction-number.result c.failed_instruction-number.ensures.at c.failed_instruction-number.ensures.none;
         waiting =
             waits_there c.args.code.now c.args.setup.now c.args.plan.now.with_deadlock c.args.plan.now.seed
-            c.loop-run.run c.loop-run.session now.next c.run_once.new.history.items _ refl before.code before.setup
+            c.loop-run.run c.loop-run.session c.run_once.new.session c.run_once.new.history.items _ refl before.code before.setup
             now.ensures.code now.ensures.setup
             now.ensures.stands t is c.in_ok-waiting.waiting.items c.in_ok-waiting.ensures;
       };
       tallied = tally_run t c.args.setup.now before.earlier run c.loop-run.tally c.add_run.new.self c.run_once.new.reached.items _ (before.tallied t is)
           (key_is c.args.code.now c.args.setup.now c.args.plan.now.with_deadlock c.args.plan.now.seed c.loop-run.run
-          c.loop-run.session now.next c.run_once.new.history.items _ refl before.code before.setup now.ensures.code
+          c.loop-run.session c.run_once.new.session c.run_once.new.history.items _ refl before.code before.setup now.ensures.code
           now.ensures.setup
           t is _ now.ensures.key)
           c.in_ok-add_run.ensures.keys
           (reaches_is c.args.code.now c.args.setup.now c.args.plan.now.with_deadlock c.args.plan.now.seed c.loop-run.run
-          c.loop-run.session now.next c.run_once.new.history.items _ refl before.code before.setup now.ensures.code
+          c.loop-run.session c.run_once.new.session c.run_once.new.history.items _ refl before.code before.setup now.ensures.code
           now.ensures.setup
           t is c.loop-run.tally.reached.items c.run_once.new.reached.items now.ensures.marks)
           c.in_ok-add_run.ensures.reached
@@ -93,32 +93,32 @@ returns-then-is_sought-clause-tallied g c = λ t is.
 pub loop-run-preserved : goal.loop-run-preserved
 loop-run-preserved g c =
     let before = c.loop-run.invariant in
-    let now = c.in_ok-next in
+    let now = c.in_ok-followed in
     let run = made c.run_once.new.history.items c.report-report.result c.is_deadlocked-is_deadlocked.result in
     let count = before.count in
     let after = c.loop-run.auto.run in
     record {
       code = now.ensures.code ∙ before.code;
-      setup = reseeded c.args.setup.now c.loop-run.session now.next _ before.setup now.ensures.setup;
+      setup = reseeded c.args.setup.now c.loop-run.session c.run_once.new.session _ before.setup now.ensures.setup;
       earlier = before.earlier ++ run ∷ [];
       count = rw length_push (omega (arith, count, after));
       ahead = let within = c.loop-run-test.true in omega (arith, within);
       clean = λ t is. clean_one t c.args.setup.now c.args.plan.now.with_deadlock c.args.plan.now.seed c.args.from before.earlier run (before.clean t is)
           (subst (λ n. IsCleanRun t (setup_of_run c.args.setup.now c.args.plan.now.seed n) c.args.plan.now.with_deadlock run) (omega (arith, count, after))
           (clean_run c.args.code.now c.args.setup.now c.args.plan.now.with_deadlock c.args.plan.now.seed c.loop-run.run
-          c.loop-run.session now.next c.run_once.new.history.items _ refl before.code before.setup now.ensures.code
+          c.loop-run.session c.run_once.new.session c.run_once.new.history.items _ refl before.code before.setup now.ensures.code
           now.ensures.setup
           now.ensures.stands now.ensures.over c.report-report.result c.report-report.ensures
           c.is_deadlocked-is_deadlocked.result c.is_deadlocked-is_deadlocked.ensures
           (sym c.is_sought.ensures ∙ c.if-is_sought.false) t is));
       tallied = λ t is. tally_run t c.args.setup.now before.earlier run c.loop-run.tally c.add_run.new.self c.run_once.new.reached.items _ (before.tallied t is)
           (key_is c.args.code.now c.args.setup.now c.args.plan.now.with_deadlock c.args.plan.now.seed c.loop-run.run
-          c.loop-run.session now.next c.run_once.new.history.items _ refl before.code before.setup now.ensures.code
+          c.loop-run.session c.run_once.new.session c.run_once.new.history.items _ refl before.code before.setup now.ensures.code
           now.ensures.setup
           t is _ now.ensures.key)
           c.in_ok-add_run.ensures.keys
           (reaches_is c.args.code.now c.args.setup.now c.args.plan.now.with_deadlock c.args.plan.now.seed c.loop-run.run
-          c.loop-run.session now.next c.run_once.new.history.items _ refl before.code before.setup now.ensures.code
+          c.loop-run.session c.run_once.new.session c.run_once.new.history.items _ refl before.code before.setup now.ensures.code
           now.ensures.setup
           t is c.loop-run.tally.reached.items c.run_once.new.reached.items now.ensures.marks)
           c.in_ok-add_run.ensures.reached

@@ -1,13 +1,14 @@
-use Rattle.std.proofs.Common.{◌≡◌, [], rules, refl, ◌∙◌, sym, subst, inr}
+use Rattle.std.proofs.Common.{◌≡◌, [], rules, refl, ap, ◌∙◌, sym, subst, inr}
 use Rattle.bp_code.specs.Programs.{IsOfProgram}
 use Rattle.bp_code.specs.StandsFor.{StandsFor}
 use Rattle.bp_machine.specs.Sessions.{Stands}
 use Rattle.bp_test.specs.declared.keys.TheConstants.{FIRST_KEY}
 use Rattle.bp_test.specs.Keys.{no_call, IsKey}
-use Rattle.bp_test.specs.Reached.{place_of, IsReachedByCall, MarksGrow}
+use Rattle.bp_test.specs.Reached.{has_refusal, place_of, IsReachedByCall, MarksGrow}
 use Rattle.bp_test.proofs.KeysOfRuns.{key_of_call}
 use Rattle.bp_test.proofs.Playing.{smaller}
 use Rattle.bp_test.proofs.ReachedPlaces.{marks_of_call, none_by_call}
+use Rattle.bp_test.proofs.RefusedCalls.{refusal_of_call}
 use Rattle.bp_test.proofs.runs.follow.Goals as goal
 
 pub loop-thread-init : goal.loop-thread-init
@@ -21,6 +22,7 @@ loop-thread-init c =
           (λ h. MarksGrow (place_of t) (IsReachedByCall t c.args.session.now.setup h) c.args.reached.now.items c.args.reached.now.items)
           none (none_by_call t c.args.session.now.setup c.args.reached.now.items);
       key = λ t is. subst (λ h. IsKey t c.args.session.now.setup h FIRST_KEY) none no_call;
+      refused = ap has_refusal none;
     }
 
 pub returns-in_default-clause-over : goal.returns-in_default-clause-over
@@ -67,6 +69,9 @@ loop-thread-preserved c = record {
       c.play.ensures.kept.1 c.in_ok-reply.ensures.grown
       (c.next_number-number.ensures t c.loop-thread.history.items was (c.loop-thread.invariant.stands t was))
       c.key_after-key.ensures (c.loop-thread.invariant.key t was);
+  refused =
+      refusal_of_call c.loop-thread.history.items c.play.new.history.items _ _ c.loop-thread.was_refused _ c.in_ok-reply.ensures.grown
+      c.refused_with-was_refused.ensures c.loop-thread.invariant.refused;
 }
 
 pub returns-then-eq-clause-over : goal.returns-then-eq-clause-over
@@ -79,3 +84,8 @@ returns-then-eq-clause-key c = λ t is.
     c.play.ensures.kept.1 c.in_ok-reply.ensures.grown
     (c.next_number-number.ensures t c.loop-thread.history.items was (c.loop-thread.invariant.stands t was))
     c.key_after-key.ensures (c.loop-thread.invariant.key t was)
+
+pub returns-then-eq-clause-refused : goal.returns-then-eq-clause-refused
+returns-then-eq-clause-refused c =
+    refusal_of_call c.loop-thread.history.items c.play.new.history.items _ _ c.loop-thread.was_refused _ c.in_ok-reply.ensures.grown
+    c.refused_with-was_refused.ensures c.loop-thread.invariant.refused

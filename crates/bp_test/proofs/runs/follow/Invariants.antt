@@ -4,7 +4,7 @@ use Rattle.bp_code.specs.StandsFor.{StandsFor}
 use Rattle.bp_machine.specs.Sessions.{StandsForAll}
 use Rattle.bp_machine.specs.Setups.{threads}
 use Rattle.bp_test.specs.Keys.{IsKey}
-use Rattle.bp_test.specs.Reached.{place_of, IsReachedByCall, MarksGrow}
+use Rattle.bp_test.specs.Reached.{has_refusal, place_of, IsReachedByCall, MarksGrow}
 use Rattle.bp_test.proofs.runs.follow.Given as goal
 
 abbrev pub invariant-loop-thread : goal.invariant-loop-thread
@@ -16,6 +16,7 @@ invariant-loop-thread l = record {
       → StandsFor l.session.code t
       → MarksGrow (place_of t) (IsReachedByCall t l.session.setup l.history.items) l.fn.reached.items l.reached.items;
   key : (t : Program) → StandsFor l.session.code t → IsKey t l.session.setup l.history.items l.key;
+  refused : l.was_refused ≡ has_refusal l.history.items;
 }
 
 abbrev pub decreases-loop-thread : goal.decreases-loop-thread

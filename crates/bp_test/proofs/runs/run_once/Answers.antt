@@ -1,4 +1,4 @@
-use Rattle.std.proofs.Common.{rules, ℕ, [], subst, sym}
+use Rattle.std.proofs.Common.{ℕ, [], subst, sym}
 use Rattle.bp_code.specs.Programs.{IsOfProgram}
 use Rattle.bp_code.specs.StandsFor.{StandsFor}
 use Rattle.bp_test.specs.Reached.{place_of, IsWaiting, MarksGrow}
@@ -17,16 +17,6 @@ returns-clause-marks c = λ t is.
     let was = subst (λ k. StandsFor k t) c.in_ok-steps.ensures.kept.0 is in
     let start =
     subst (λ z. MarksGrow (place_of t) (λ x. (i : ℕ) × IsWaiting t z [] i x) old first) (sym c.in_ok-steps.ensures.kept.1)
-    (c.reach_waits.ensures t [] was (c.in_ok-session.ensures.stands t (subst (λ k. StandsFor k t) c.in_ok-session.ensures.kept.0 was))) in
+    (c.reach_waits.ensures t [] was (c.in_ok-restart.ensures.stands t (subst (λ k. StandsFor k t) c.in_ok-restart.ensures.code was))) in
     whole_marks t s h old first c.follow.new.reached.items c.reach_waits-2.new.reached.items start (c.in_ok-steps.ensures.marks t is)
     (c.reach_waits-2.ensures t h is (c.in_ok-steps.ensures.stands t is))
-
-pub returns-clause-key : goal.returns-clause-key
-returns-clause-key c = λ t is. record {
-  steps = c.in_ok-steps.steps;
-  of_steps = c.in_ok-steps.ensures.key t is;
-  of_end = c.end_key-key.ensures t c.follow.new.history.items is (c.in_ok-steps.ensures.stands t is);
-}
-
-pub returns-clause-setup : goal.returns-clause-setup
-returns-clause-setup c = search rules depth 1

@@ -1,7 +1,7 @@
-use Rattle.std.proofs.Common.{Some, sym, ◌∙◌, subst}
+use Rattle.std.proofs.Common.{◌≡◌, ◌<◌, ℕ, true, length, Some, sym, ◌∙◌, subst}
 use Rattle.std.proofs.lemmas.List.{take_all}
-use Rattle.bp_test.specs.Reached.{HasStep, MarksGrow}
-use Rattle.bp_test.proofs.MarkLemmas.{no_steps, step_at, no_step_at}
+use Rattle.bp_test.specs.Reached.{is_marked, HasStep, MarksGrow}
+use Rattle.bp_test.proofs.MarkLemmas.{all_marked, no_steps, step_at, no_step_at}
 use Rattle.bp_test.proofs.tallies.note_steps.Goals.{then-is_step, else-is_step}
 use Rattle.bp_test.proofs.tallies.note_steps.Goals as goal
 
@@ -23,3 +23,8 @@ pub returns : goal.returns
 returns c =
     subst (λ g. MarksGrow (λ i. Some i) (HasStep g) c.args.stepped.now.items c.loop-call.stepped.items)
     (take_all c.loop-call.call-index c.args.history.now c.loop-call-test.false) c.loop-call.invariant
+
+pub returns-then-are_all_marked : goal.returns-then-are_all_marked
+returns-then-are_all_marked c =
+    all_marked (HasStep c.args.history.now) c.args.stepped.now.items
+    (subst (λ v. (n : ℕ) → n < length v → is_marked v n ≡ true) c.as_slice.ensures.value (c.are_all_marked.ensures c.if-are_all_marked.true))

@@ -7,21 +7,23 @@ run_once-requires c =
     fits_again c.args.code.now c.loop-pilot.session.code c.loop-pilot.session.setup c.args.setup.now
     c.loop-pilot.invariant.code c.loop-pilot.invariant.setup c.requires
 
-pub restarted-requires : goal.restarted-requires
-restarted-requires c =
-    let now = c.in_ok-next in
-    fits_again c.args.code.now now.next.code now.next.setup c.args.setup.now (now.ensures.code ∙ c.loop-pilot.invariant.code)
-    (reseeded c.args.setup.now c.loop-pilot.session now.next _ c.loop-pilot.invariant.setup now.ensures.setup) c.requires
+pub restart-requires : goal.restart-requires
+restart-requires c =
+    let now = c.in_ok-run_once.ensures in
+    let made = c.run_once.new.session in
+    fits_again c.args.code.now made.code made.setup c.args.setup.now (now.code ∙ c.loop-pilot.invariant.code)
+    (reseeded c.args.setup.now c.loop-pilot.session made _ c.loop-pilot.invariant.setup now.setup) c.requires
 
 pub loop-pilot-preserved : goal.loop-pilot-preserved
 loop-pilot-preserved c =
-    let now = c.in_ok-next in
-    let again = c.in_ok-session-2.ensures.kept in
+    let now = c.in_ok-run_once.ensures in
+    let made = c.run_once.new.session in
+    let again = c.in_ok-restart.ensures in
     let counted = c.count_visible.ensures in
     let s = c.args.setup.now in
     record {
-      code = counted.0 ∙ again.0 ∙ now.ensures.code ∙ c.loop-pilot.invariant.code;
+      code = counted.0 ∙ c.restart.ensures.code ∙ now.code ∙ c.loop-pilot.invariant.code;
       setup =
-          reseeded s now.next c.count_visible.new.session _
-          (reseeded s c.loop-pilot.session now.next _ c.loop-pilot.invariant.setup now.ensures.setup) (counted.1 ∙ again.1);
+          reseeded s made c.count_visible.new.session _
+          (reseeded s c.loop-pilot.session made _ c.loop-pilot.invariant.setup now.setup) (counted.1 ∙ again.setup);
     }

@@ -8,8 +8,8 @@ returns-else-count_ended-threads c = grind (arith, common_steps)
 pub returns-then-count_ended-threads : goal.returns-then-count_ended-threads
 returns-then-count_ended-threads c = grind (arith, common_steps)
 
-pub returns-then-count_refused-gt0 : goal.returns-then-count_refused-gt0
-returns-then-count_refused-gt0 c = grind (arith, common_steps)
+pub returns-then-was_refused : goal.returns-then-was_refused
+returns-then-was_refused c = grind (arith, common_steps)
 
 pub returns-then-is_deadlocked : goal.returns-then-is_deadlocked
 returns-then-is_deadlocked c = grind (arith, common_steps)

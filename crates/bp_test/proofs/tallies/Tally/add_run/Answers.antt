@@ -7,7 +7,7 @@ use Rattle.bp_test.proofs.tallies.Tally.add_run.Goals as goal
 pub returns-clause-counted : goal.returns-clause-counted
 returns-clause-counted c = on_ok_weaker c.count_contexts.result (λ contexts s runs was.
     let run = made c.args.history.now c.args.report.now c.args.is_deadlocked in
-    let threads = c.len.ensures ∙ (c.args.self.now.stepped.ok.0 ∙ was.stepped.size) in
+    let threads = c.len-threads.ensures ∙ (c.args.self.now.stepped.ok.0 ∙ was.stepped.size) in
     counted_run s runs run c.args.self.now _ was
     c.saturating_add-self.ensures
     c.saturating_add-self-2.ensures
