@@ -70,12 +70,17 @@ impl SlotSub {
         })
     }
 
-    /// The operand's value.
+    /// The operand's value. That of a variable needs no call.
     #[cycle(slot_value)]
+    #[inline(always)]
     pub fn value(&self, store: Store) -> bool
         ensures { result ≡ formula_value (store_of store) self.now }
     {
-        self.inner.value(store)
+        match &*self.inner {
+            SlotExpr::Const(b) => *b,
+            SlotExpr::Var(slot) => slot.get(store),
+            operation => operation.value(store),
+        }
     }
 
     /// The globals in the operand.
@@ -108,6 +113,7 @@ impl SlotSub {
 impl SlotExpr {
     /// The expression's value.
     #[cycle(slot_value)]
+    #[inline(never)]
     pub fn value(&self, store: Store) -> bool
         ensures { result ≡ formula_value (store_of store) (formula_of self.now) }
     {
