@@ -3,6 +3,7 @@ mod BlockItems
 mod CompiledStandsFor
 mod DeclaredIsKnown
 mod FirstNames
+mod HalvesOfWords
 pub mod HeadingsOfProcedures
 pub mod LawfulIsCompilable
 pub mod ListItems

@@ -21,12 +21,12 @@ pub struct Assignment {
 impl Assignment {
     /// The store after it: all right sides are evaluated before the first target is written.
     #[inline(always)]
-    pub fn store_after(&self, store: Store) -> Store
-        ensures { let bits = formula_values (store_of store) self.now.values in
-            store_of result ≡ with_slots (store_of store) self.now.targets bits }
+    pub fn store_after(&self, store: &Store) -> Store
+        ensures { let bits = formula_values (store_of store.now) self.now.values in
+            store_of result ≡ with_slots (store_of store.now) self.now.targets bits }
     {
         let values = self.values.as_slice();
-        let mut after = store;
+        let mut after = *store;
         for (i, slot) in self.targets.as_slice().iter().enumerate() {
             let Some(value) = values.get(i) else {
                 return after;

@@ -47,25 +47,25 @@ impl Instr {
             Action::Return => Effect::Returns,
             Action::Assign(assignment) => Effect::Continues {
                 next: assignment.next,
-                store: assignment.store_after(store),
+                store: assignment.store_after(&store),
             },
             Action::If(branch) | Action::While(branch) => {
-                let next = if branch.test.holds(store, bit) {
+                let next = if branch.test.holds(&store, bit) {
                     branch.next
                 } else {
                     branch.other
                 };
                 Effect::Continues { next, store }
             }
-            Action::Assert { test, .. } if !test.holds(store, bit) => Effect::Fails,
-            Action::Assume { test, .. } if !test.holds(store, bit) => Effect::Blocks,
+            Action::Assert { test, .. } if !test.holds(&store, bit) => Effect::Fails,
+            Action::Assume { test, .. } if !test.holds(&store, bit) => Effect::Blocks,
             Action::Assert { next, .. } | Action::Assume { next, .. } => {
                 Effect::Continues { next: *next, store }
             }
             Action::Call(call) => Effect::Enters {
                 callee: call.callee,
                 next: call.next,
-                locals: call.arguments.word(store),
+                locals: call.arguments.word(&store),
             },
         }
     }

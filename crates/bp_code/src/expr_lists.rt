@@ -52,7 +52,7 @@ impl SlotExprs {
     {
         let mut values = Vec::new(alloc);
         for expr in self.items.as_slice() {
-            values.push(expr.value(store))?;
+            values.push(expr.value(&store))?;
         }
         Ok(values)
     }
@@ -124,8 +124,8 @@ impl Arguments {
     }
 
     /// The locals of the callee's new frame: the arguments in the slots from 0 on, and 0 past them.
-    pub fn word(&self, store: Store) -> u128
-        ensures { bits_of result ≡ bits_from (formula_values (store_of store) self.now) }
+    pub fn word(&self, store: &Store) -> u128
+        ensures { bits_of result ≡ bits_from (formula_values (store_of store.now) self.now) }
     {
         let mut word = 0;
         for (i, value) in self.values.as_slice().iter().enumerate() {

@@ -73,8 +73,8 @@ impl SlotSub {
     /// The operand's value. That of a variable needs no call.
     #[cycle(slot_value)]
     #[inline(always)]
-    pub fn value(&self, store: Store) -> bool
-        ensures { result ≡ formula_value (store_of store) self.now }
+    pub fn value(&self, store: &Store) -> bool
+        ensures { result ≡ formula_value (store_of store.now) self.now }
     {
         match &*self.inner {
             SlotExpr::Const(b) => *b,
@@ -114,8 +114,8 @@ impl SlotExpr {
     /// The expression's value.
     #[cycle(slot_value)]
     #[inline(never)]
-    pub fn value(&self, store: Store) -> bool
-        ensures { result ≡ formula_value (store_of store) (formula_of self.now) }
+    pub fn value(&self, store: &Store) -> bool
+        ensures { result ≡ formula_value (store_of store.now) (formula_of self.now) }
     {
         match self {
             SlotExpr::Const(b) => *b,
@@ -183,8 +183,8 @@ pub enum Test {
 
 impl Test {
     /// Whether the test is 1, where the choice bit is this one.
-    pub fn holds(&self, store: Store, bit: bool) -> bool
-        ensures { result ≡ test_value (store_of store) bit (test_of self.now) }
+    pub fn holds(&self, store: &Store, bit: bool) -> bool
+        ensures { result ≡ test_value (store_of store.now) bit (test_of self.now) }
     {
         match self {
             Test::Choice => bit,

@@ -55,8 +55,8 @@ pub enum Slot {
 
 impl Slot {
     /// The variable's bit.
-    pub fn get(self, store: Store) -> bool
-        ensures { result ≡ slot_bit (store_of store) self }
+    pub fn get(self, store: &Store) -> bool
+        ensures { result ≡ slot_bit (store_of store.now) self }
     {
         match self {
             Slot::Global(index) => bit_at(store.globals, index.number()),

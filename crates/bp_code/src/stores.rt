@@ -18,7 +18,13 @@ pub fn bit_at(word: u128, slot: u8) -> bool
     requires { slot < SLOTS }
     ensures { result ≡ bits_of word slot }
 {
-    (word >> slot) & 1 == 1
+    // A word of 64 bits takes a third of the instructions that one of 128 takes.
+    let half = if slot < 64 {
+        word % (1 << 64)
+    } else {
+        word >> 64
+    };
+    ((half as u64) >> (slot % 64)) & 1 == 1
 }
 
 /// The word with another bit at a slot.
