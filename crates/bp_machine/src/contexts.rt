@@ -42,17 +42,19 @@ impl ContextCount {
         self.used_with(thread) <= u64::from(contexts)
     }
 
-    /// The count with one more step of the thread.
-    pub(crate) fn with(&self, thread: u32) -> ContextCount
-        requires { used_with self.now thread < 2 ^ 32 }
-        ensures value { result ≡ count_with self.now thread }
+    /// Counts one more step of the thread.
+    pub(crate) fn add(&mut self, thread: u32)
+        requires { used_with self.old thread < 2 ^ 32 }
+        ensures value { self.new ≡ count_with self.old thread }
         ensures law { (threads : List ℕ)
-            → IsCountOf self.now threads
-            → IsCountOf result (threads ++ thread ∷ []) }
+            → IsCountOf self.old threads
+            → IsCountOf self.new (threads ++ thread ∷ []) }
     {
-        ContextCount {
-            used: self.used_with(thread) as u32,
-            last: Some(thread),
+        // Most steps are of the thread of the last one.
+        if self.last == Some(thread) {
+            return;
         }
+        self.used += 1;
+        self.last = Some(thread);
     }
 }

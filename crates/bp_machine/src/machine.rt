@@ -267,11 +267,11 @@ impl Machine {
         match transition {
             Transition::Stays(_) => {}
             Transition::Fails => {
-                self.contexts = self.contexts.with(thread);
+                self.contexts.add(thread);
                 self.outcome = Outcome::Failed { thread };
             }
             Transition::Steps(effect) => {
-                self.contexts = self.contexts.with(thread);
+                self.contexts.add(thread);
                 self.globals = globals_after(self.globals, effect);
             }
         }

@@ -41,7 +41,10 @@ fn replace_top(frames: &mut Vec<ActivationRecord>, frame: ActivationRecord)
 {
     let count = frames.len();
     if count > 0 {
-        frames[count - 1] = frame;
+        // The whole record would be written with the bytes between its fields.
+        let top = &mut frames[count - 1];
+        top.number = frame.number;
+        top.locals = frame.locals;
     }
 }
 

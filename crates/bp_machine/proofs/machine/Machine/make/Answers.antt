@@ -34,8 +34,8 @@ returns-in-Fails c = λ guest has.
       arith,
       counted c.args.self.now c.self.inside.threads.items (ap (λ m. m.state.threads) c.self.view_is),
       c.requires.within,
-    )) c.index_mut.ensures.value c.make.ensures c.in-Fails.is c.with-self-inside.result
-    c.with-self-inside.ensures.value
+    )) c.index_mut.ensures.value c.make.ensures c.in-Fails.is c.add.new.self
+    c.add.ensures.value
 
 pub returns-in-Steps : goal.returns-in-Steps
 returns-in-Steps c = λ guest has.
@@ -45,5 +45,5 @@ returns-in-Steps c = λ guest has.
       arith,
       counted c.args.self.now c.self.inside.threads.items (ap (λ m. m.state.threads) c.self.view_is),
       c.requires.within,
-    )) c.index_mut.ensures.value c.make.ensures c.in-Steps.effect c.in-Steps.is c.with-self-inside-in-Steps.result
-    c.with-self-inside-in-Steps.ensures.value c.globals_after-self-inside.result c.globals_after-self-inside.ensures
+    )) c.index_mut.ensures.value c.make.ensures c.in-Steps.effect c.in-Steps.is c.add-in-Steps.new.self
+    c.add-in-Steps.ensures.value c.globals_after-self-inside.result c.globals_after-self-inside.ensures
