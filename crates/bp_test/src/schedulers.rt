@@ -44,6 +44,8 @@ struct Others {
     all: u64,
     /// Those that have not made a call.
     unmoved: u64,
+    /// The sum of their weights.
+    sum: u32,
 }
 
 /// A schedule that is drawn while it is followed: it has a number of switches, and places among
@@ -127,13 +129,14 @@ fn draw_places(generator: &mut Lcg64Xsh32, length: u64, switches: u32, threads: 
 
 /// The threads other than this one that may step.
 fn others_of(session: &Session, current: u32) -> Others {
-    let mut others = Others { all: 0, unmoved: 0 };
+    let mut others = Others {
+        all: 0,
+        unmoved: 0,
+        sum: 0,
+    };
     for thread in 0..session.setup().threads() {
         if thread != current && may_step(session, thread) {
-            others.all |= bit(thread as usize);
-            if session.calls_of(thread) == 0 {
-                others.unmoved |= bit(thread as usize);
-            }
+            others.add(thread, session.calls_of(thread) == 0);
         }
     }
     others
@@ -152,11 +155,13 @@ impl Others {
         }
     }
 
-    /// The sum of the weights.
-    fn sum(&self) -> u32 {
-        let moved = (self.all & !self.unmoved).count_ones();
-        let unmoved = (self.all & self.unmoved).count_ones();
-        moved.saturating_add(unmoved.saturating_mul(UNMOVED))
+    /// Adds a thread.
+    fn add(&mut self, thread: u32, is_unmoved: bool) {
+        self.all |= bit(thread as usize);
+        if is_unmoved {
+            self.unmoved |= bit(thread as usize);
+        }
+        self.sum = self.sum.saturating_add(self.weight(thread));
     }
 
     /// The one of this many threads at a place, from 0: each has as many places as its weight.
@@ -257,7 +262,7 @@ impl<'a> Scheduler<'a> {
         if others.all == 0 {
             return None;
         }
-        let place = below(&mut self.generator, others.sum());
+        let place = below(&mut self.generator, others.sum);
         others.thread_at(threads, place)
     }
 
@@ -292,19 +297,6 @@ impl<'a> Scheduler<'a> {
         self.waiting &= !bit(thread as usize);
     }
 
-    /// The thread that the schedule leaves the current one for, if any may step.
-    fn other(&mut self, session: &Session) -> Option<u32>
-        ensures { let count = threads session.now.setup in
-            MatchOption result
-            ((i : ℕ) → i < count → RestsIn session.now i)
-            (λ i. i < count) }
-    {
-        match self.drawn(session) {
-            Some(thread) => Some(thread),
-            None => first(session),
-        }
-    }
-
     /// The thread that makes the next call: one that may step, where there is one.
     pub(crate) fn next(&mut self, session: &Session) -> Option<u32>
         ensures { let count = threads session.now.setup in
@@ -319,14 +311,18 @@ impl<'a> Scheduler<'a> {
             }
         }
         let current = self.current;
-        if may_step_at(session, current, self.number) {
-            if !self.switches_now() {
-                return Some(current);
-            }
-        } else {
+        let may_go_on = may_step_at(session, current, self.number);
+        if may_go_on && !self.switches_now() {
+            return Some(current);
+        }
+        if !may_go_on {
             self.note_wait(session);
         }
-        let next = self.other(session)?;
+        let next = match self.drawn(session) {
+            Some(thread) => thread,
+            None if may_go_on => current,
+            None => first(session)?,
+        };
         self.go_to(session, next);
         Some(next)
     }
