@@ -50,7 +50,7 @@ pub split_at : (input rest : List ℕ) (at : ℕ) → at ≤ length input → en
 split_at input rest at within line separated none = record {
   separated = drop at input;
   whole = sym (take-append-drop at input);
-  behind = subst (λ bs. IsSeparated bs rest) (all_from input at) separated;
+  separator = subst (λ bs. IsSeparated bs rest) (all_from input at) separated;
   line = line;
   first = subst (HasNoneBefore input) (sym (length-take-le at input within)) none;
 }

@@ -27,7 +27,7 @@ HasNoneBefore input n =
 pub record IsSplit (input text schedule : List ℕ) : Type 0 where
   pub separated : List ℕ
   pub whole : input ≡ text ++ separated
-  pub behind : IsSeparated separated schedule
+  pub separator : IsSeparated separated schedule
   pub line : ends_line text ≡ true
   pub first : HasNoneBefore input (length text)
 

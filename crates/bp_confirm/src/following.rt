@@ -295,7 +295,7 @@ pub(crate) fn take_steps(
         → IfErr result (IsNotConfirmed text checked.now session.old.setup lines.now) }
     ensures kept { (session.new.code ≡ session.old.code) × (session.new.setup ≡ session.old.setup) }
 {
-    let mut history = Vec::new(alloc);
+    let mut history = Vec::with_capacity(alloc, lines.len())?;
     let mut n = 0;
     while n < lines.len() {
         let next = Next {

@@ -12,7 +12,7 @@ pub(crate) struct KeptLine<'a> {
     pub(crate) line: StepLine<'a>,
 }
 
-/// The lines of a text of steps. Lines of the same text mostly have the same place.
+/// The lines of a text of steps. Most lines with the same text have the same place.
 #[derive(Drop)]
 pub(crate) struct StepLines<'a> {
     pub(crate) kept: Vec<KeptLine<'a>>,

@@ -1,4 +1,4 @@
-//! Reading the lines of a text of steps, most of which were read before.
+//! Reading the lines of a text of steps. Most lines come more than once.
 ghost use Rattle.std.specs.Prelude.{◌≡◌, ◌<◌, ◌≤◌, ◌^◌, ◌++◌, ◌∷◌, [], IfOk, IfSome, MatchOption, MatchResult, OnOk, length};
 ghost use Rattle.std.specs.List.{AllByRecursion};
 ghost use Rattle.bp_confirm.specs.KeptLines.{kept_lines, GrowsByOne, IsKeptLine, IsStepThere};
@@ -81,7 +81,7 @@ fn add(places: &mut Vec<u32>, place: u32) -> Result<(), AllocError>
 /// A location is a line, a line and a column with a colon between them, or a dash for the end of a
 /// procedure. Numbers have 32 bits and no leading zeros. A name in braces ends at its first `}`;
 /// another one has no space, and ends at its first `=`.
-/// Of lines with the same text mostly one is kept.
+/// Most lines with the same text are kept once.
 pub(crate) fn read_lines(alloc: Global, text: &[u8]) -> Result<StepLines<'_>, StepsFault>
     requires { length text.now < 2 ^ 32 }
     ensures read { MatchResult result

@@ -26,10 +26,10 @@ returns-in_err-call-clause-refused c = λ text are.
     let h = c.loop-n.history.items in
     let f = c.in_err-call.field-0.0 in
     let there = c.in_err-call.ensures.refused text later are
-    (tells_next text lines c.args.nexts.now n x x _ _ _ refl c.len-in-loop-n.ensures c.requires.nexts within is) in
+    (tells_next text lines c.args.nexts.now n x x _ _ _ refl c.len-in-loop-n-2.ensures c.requires.nexts within is) in
     let here = subst (λ k. IsNotTaken text t c.loop-n.session.setup h x later (k + 1) f) inv.made
     (subst (λ g. IsNotTaken text t c.loop-n.session.setup g x later (length g + 1) f) c.as_slice-made.ensures.value there) in
-    let p = err_from_is_err_and c.from_residual.result c.from_residual.ensures.1 in
+    let p = err_from_is_err_and c.from_residual-in_err-call.result c.from_residual-in_err-call.ensures.1 in
     rw (p.1, p.2)
     (not_confirmed text t s lines n x c.loop-n.history.items within
     (subst (λ z. IsLegal t z c.loop-n.history.items) inv.setup inv.stands.state.legal)
@@ -57,7 +57,7 @@ loop-n-preserved c =
       follow = λ text are.
           let later = steps_of text (drop (n + 1) lines) in
           let made = c.in_ok-call.ensures.follows text later are
-          (tells_next text lines c.args.nexts.now n x x _ _ _ refl c.len-in-loop-n.ensures c.requires.nexts within is) in
+          (tells_next text lines c.args.nexts.now n x x _ _ _ refl c.len-in-loop-n-2.ensures c.requires.nexts within is) in
           let next = subst (λ g. Follows t c.loop-n.session.setup g (step_of text x) later a) c.as_slice-made.ensures.value made in
           follow_next text t s lines n x c.loop-n.history.items c.keep.new.history.items c.in_ok-call.call
           within c.in_ok-keep.ensures.kept (inv.follow text are)
