@@ -11,7 +11,15 @@ use std::io::Write;
 pub fn push_bytes(line: &mut Vec<u8>, bytes: &[u8]) -> Result<(), AllocError>
     ensures { OnOk result (line.new.items ≡ line.old.items ++ bytes.now) }
 {
-    line.extend_from_slice(bytes)
+    // Many pieces of a line are one byte or none, and to copy those takes far longer.
+    match bytes {
+        [] => Ok(()),
+        [byte] => {
+            line.push(*byte)?;
+            Ok(())
+        }
+        _ => line.extend_from_slice(bytes),
+    }
 }
 
 /// Adds this number of spaces.
