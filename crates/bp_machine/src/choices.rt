@@ -1,10 +1,11 @@
 //! Choice bits of a seed.
-ghost use Rattle.std.specs.Prelude.{◌≡◌, ◌+◌, ◌<◌, ℕ};
+ghost use Rattle.std.specs.Prelude.{◌≡◌, ◌+◌, ◌<◌, ℕ, IfOk};
 ghost use Rattle.bp_machine.specs.declared.limits.TheConstants.{MAX_THREADS};
 ghost use Rattle.bp_machine.specs.ChoiceBits.{IsAt, choice_bit, next_bit};
 
 use rand_core::utils::NextWord;
 use rand_pcg::Lcg64Xsh32;
+use std::alloc::AllocError;
 use std::marker::Model;
 
 /// The stream of thread 0. Thread i has the stream whose number is greater by i.
@@ -46,6 +47,17 @@ impl Choices {
             place: 0,
             generator,
         }
+    }
+
+    /// The same choices, of which as many are drawn.
+    pub(crate) fn try_copy(&self) -> Result<Choices, AllocError>
+        ensures { IfOk result (λ c. c ≡ self.now) }
+    {
+        Ok(Choices {
+            word: self.word,
+            place: self.place,
+            generator: self.generator.clone()?,
+        })
     }
 
     /// The next bit, which is not drawn.

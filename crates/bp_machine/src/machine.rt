@@ -1,5 +1,5 @@
 //! The machine of a session: the globals, the guest threads, and the count of contexts.
-ghost use Rattle.std.specs.Prelude.{◌≡◌, ◌≤◌, ◌<◌, ◌^◌, ◌+◌, ℕ, List, Some, true, length, map, slice_get, string_bytes, option_map, OnOk, OnErr};
+ghost use Rattle.std.specs.Prelude.{◌≡◌, ◌≤◌, ◌<◌, ◌^◌, ◌+◌, ℕ, List, Some, true, length, map, slice_get, string_bytes, option_map, IfOk, OnOk, OnErr};
 ghost use Rattle.bp_tree.specs.Ast.{Program};
 ghost use Rattle.bp_code.specs.Bits.{bits_of};
 ghost use Rattle.bp_machine.specs.declared.calls.Call.{Call as Answered};
@@ -15,7 +15,7 @@ use crate::contexts::ContextCount;
 use crate::limits::{MAX_FRAMES, MAX_THREADS};
 use crate::reports::Outcome;
 use crate::stacks::Stack;
-use crate::threads::{GuestThread, Transition, restart_threads};
+use crate::threads::{GuestThread, Transition, copied_threads, restart_threads};
 use bp_code::stores::bit_at;
 use bp_code::{Code, Effect, Store};
 use std::alloc::AllocError;
@@ -116,6 +116,19 @@ impl Machine {
             contexts: ContextCount::start(),
             outcome: Outcome::Clean,
         }
+    }
+
+    /// The same machine, with memory of its own.
+    pub(crate) fn try_copy(&self) -> Result<Machine, AllocError>
+        ensures { IfOk result (λ m. m.state ≡ self.now.state) }
+    {
+        let alloc = *self.threads.allocator();
+        Ok(Machine {
+            globals: self.globals,
+            threads: copied_threads(alloc, self.threads.as_slice())?,
+            contexts: self.contexts,
+            outcome: self.outcome,
+        })
     }
 
     /// Starts the machine anew, before any call, with these globals and with threads that begin

@@ -1,5 +1,5 @@
 //! Sessions: the sequential machine, one call at a time.
-ghost use Rattle.std.specs.Prelude.{◌≡◌, ◌++◌, ◌∷◌, [], List, None, Some, IfOk, OnOk, OnErr, MatchResult};
+ghost use Rattle.std.specs.Prelude.{◌≡◌, ◌++◌, ◌∷◌, [], List, None, Some, IfOk, IsOk, OnOk, OnErr, MatchResult};
 ghost use Rattle.bp_tree.specs.Ast.{Program};
 ghost use Rattle.bp_code.specs.StandsFor.{StandsFor};
 ghost use Rattle.bp_machine.specs.declared.calls.Call.{Call as Answered};
@@ -7,6 +7,7 @@ ghost use Rattle.bp_machine.specs.Setups.{FitsCode};
 ghost use Rattle.bp_machine.specs.Sessions.{Stands, IsNextCall, IsAskRefusal, given_bit};
 ghost use Rattle.bp_machine.specs.KeptSessions.{AreFirstChoices, AreDrawn, IsGiven};
 
+mod copying;
 mod judging;
 mod readings;
 mod restarting;
@@ -70,6 +71,7 @@ fn restart_choices(
     ensures first { OnOk result
         (AreFirstChoices (record setup.now { seed = seed }) choices.new.items) }
     ensures same { OnErr result (choices.new.items ≡ choices.old.items) }
+    ensures unseeded { seed ≡ None → IsOk result }
 {
     setup.is_in_range();
     let threads = setup.threads();

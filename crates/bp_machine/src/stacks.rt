@@ -80,6 +80,16 @@ impl Stack {
         Ok(Stack { frames })
     }
 
+    /// The same stack, with as much memory of its own.
+    pub(crate) fn try_copy(&self) -> Result<Stack, AllocError>
+        ensures { IfOk result (λ s. s.frames ≡ self.now.frames) }
+    {
+        let alloc = *self.frames.allocator();
+        let mut frames = Vec::with_capacity(alloc, self.frames.capacity())?;
+        frames.extend_from_slice(self.frames.as_slice())?;
+        Ok(Stack { frames })
+    }
+
     /// Starts the stack anew, as that of a thread that begins at this instruction, with its locals
     /// 0. No memory is taken.
     pub(crate) fn restart(&mut self, number: u32)

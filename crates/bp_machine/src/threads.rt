@@ -66,6 +66,17 @@ impl GuestThread {
         }
     }
 
+    /// The same thread, with memory of its own.
+    fn try_copy(&self) -> Result<GuestThread, AllocError>
+        ensures { IfOk result (λ g. g.guest ≡ self.now.guest) }
+    {
+        Ok(GuestThread {
+            stack: self.stack.try_copy()?,
+            calls: self.calls,
+            ended: self.ended,
+        })
+    }
+
     /// Starts the thread anew at this instruction, before any call.
     pub(crate) fn restart(&mut self, number: u32)
         ensures { self.new.guest ≡ thread_at number }
@@ -146,6 +157,20 @@ pub(crate) fn first_threads(
         threads.push(first_thread(alloc, number)?)?;
     }
     Ok(threads)
+}
+
+/// The same threads, with memory of their own.
+pub(crate) fn copied_threads(
+    alloc: Global,
+    threads: &[GuestThread],
+) -> Result<Vec<GuestThread>, AllocError>
+    ensures { IfOk result (λ v. guests v.items ≡ guests threads.now) }
+{
+    let mut copies = Vec::with_capacity(alloc, threads.len())?;
+    for thread in threads {
+        copies.push(thread.try_copy()?)?;
+    }
+    Ok(copies)
 }
 
 /// Starts the threads anew, so that they begin with these procedures.

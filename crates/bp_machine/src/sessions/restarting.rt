@@ -1,5 +1,5 @@
 //! Starting a session anew.
-ghost use Rattle.std.specs.Prelude.{◌≡◌, [], None, IfOk, OnOk, OnErr};
+ghost use Rattle.std.specs.Prelude.{◌≡◌, [], None, IfOk, IsOk, OnOk, OnErr};
 ghost use Rattle.bp_tree.specs.Ast.{Program};
 ghost use Rattle.bp_code.specs.StandsFor.{StandsFor};
 ghost use Rattle.bp_machine.specs.Setups.{FitsCode};
@@ -21,6 +21,7 @@ impl Session {
         ensures setup { OnOk result (self.new.setup ≡ record self.old.setup { seed = seed }) }
         ensures ready { OnOk result (self.new.ready ≡ None) }
         ensures same { OnErr result (self.new ≡ self.old) }
+        ensures unseeded { seed ≡ None → IsOk result }
     {
         self.code.is_of_a_program();
         self.setup.is_in_range();
