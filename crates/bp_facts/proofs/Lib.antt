@@ -3,6 +3,7 @@ pub mod ChangedEntries
 pub mod ChangedVariables
 pub mod ChangesOfFrames
 pub mod ChangesReplay
+pub mod CheckpointsOfFronts
 pub mod DecidedDeadlocks
 pub mod EqualWaits
 pub mod FailedConditions

@@ -1,6 +1,7 @@
 pub mod CallFacts
 pub mod ChangeFacts
 pub mod Changes
+pub mod Checkpoints
 pub mod ContextFacts
 pub mod Filters
 pub mod FootFacts

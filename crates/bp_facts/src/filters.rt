@@ -75,7 +75,7 @@ impl CallFilter {
     }
 
     /// How many of `count` calls are before all those whose numbers are asked for.
-    fn skipped(&self, count: u64) -> u64
+    pub fn skipped(&self, count: u64) -> u64
         ensures { result ≡ skipped self.now count }
     {
         let before_first = self.from.unwrap_or(0).saturating_sub(1);

@@ -4,11 +4,11 @@
 
 mod call_facts;
 mod change_facts;
+mod checkpoints;
 mod context_facts;
 mod filters;
 mod foot_facts;
 mod laws;
-mod played_again;
 mod program_facts;
 mod replayed_calls;
 mod spans;
@@ -19,11 +19,11 @@ mod watches;
 
 pub use call_facts::{CallFacts, Next, facts_of_call};
 pub use change_facts::{Change, fill_changes};
+pub use checkpoints::{Checkpoint, replay_to_checkpoint};
 pub use context_facts::{ContextFacts, facts_of_context, fill_changes_within};
 pub use filters::{CallFilter, calls_to};
 pub use foot_facts::{ConditionFacts, FootFacts, facts_of_foot};
 pub use laws::{changes_replay, lines_stand_for_each_call_once, listed_names_are_watched};
-pub use played_again::session_after;
 pub use program_facts::{ProgramFacts, facts_of_program};
 pub use replayed_calls::{ReplayedCall, last_step, printed_by, replayed_call};
 pub use spans::{Span, StandingPoint, spans_of};

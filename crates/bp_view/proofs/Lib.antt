@@ -1,5 +1,6 @@
 pub mod AllContexts
 pub mod BegunViews
+pub mod CallsBefore
 pub mod CutLines
 pub mod JoinedTexts
 pub mod LongestPlaces

@@ -4,8 +4,7 @@ ghost use Rattle.bp_tree.specs.Ast.{Program};
 ghost use Rattle.bp_code.specs.Bits.{bits_of};
 ghost use Rattle.bp_code.specs.StandsFor.{valuation_of, StandsFor};
 ghost use Rattle.bp_machine.specs.Sessions.{Stands};
-ghost use Rattle.bp_machine.specs.Setups.{FitsCode};
-ghost use Rattle.bp_trace.specs.Replays.{IsPlayable, IsReplayRefusal};
+ghost use Rattle.bp_trace.specs.Replays.{IsReplayRefusal};
 ghost use Rattle.bp_source.specs.SourceStatements.{AreSourceStatements};
 ghost use Rattle.bp_facts.specs.StateFacts.{state_in, thread_in};
 ghost use Rattle.bp_view.specs.SetupLines.{globals_line};
@@ -13,12 +12,12 @@ ghost use Rattle.bp_view.specs.ViewContexts.{IsViewContextOf};
 ghost use Rattle.bp_view.specs.States.{failed_line, failed_thread, standing_name, standing_text, state_lines, state_members, state_object, state_text, thread_lines, thread_object, thread_text, threads_text, IsStateOfTrace, IsStateText};
 
 use crate::frames::push_frames;
-use crate::shown_traces::{ShownTrace, shown_trace_of};
+use crate::shown_traces::{ShownTrace, shown_trace_to};
 use crate::variables::push_values;
 use crate::view_contexts::ViewContext;
 use bp_check::Checked;
 use bp_code::Code;
-use bp_facts::{Standing, StateFacts, ThreadFacts, calls_to, facts_of_state, session_after};
+use bp_facts::{Standing, StateFacts, ThreadFacts, calls_to, facts_of_state};
 use bp_machine::{Call, Outcome, Report, Session};
 use bp_source::push_four;
 use bp_tasks::ViewFormat;
@@ -301,34 +300,29 @@ pub(crate) fn state_of(
 }
 
 /// The state after the first `number` calls of a trace that was replayed, or after the last where
-/// there are fewer.
+/// there are fewer. The session stands after these.
 fn state_after(
     alloc: Global,
     checked: &Checked,
-    code: &Code,
     shown: &ShownTrace,
+    session: &Session,
     format: ViewFormat,
     number: u64,
 ) -> Result<Vec<u8>, AllocError>
-    requires code { StandsFor code.now checked.now }
-    requires fits { FitsCode code.now shown.now.replayed.setup }
-    requires playable { (t : Program)
-        → StandsFor code.now t
-        → IsPlayable t shown.now.replayed.setup shown.now.replayed.history.items }
     ensures { (text : List ℕ)
         → AreSourceStatements text checked.now shown.now.statements.items
         → let r = shown.now.replayed in
         let h = r.history.items in
-        let state = IsStateText format checked.now text r.setup (take number h) (length h) in
+        StandsFor session.now.code checked.now
+        → session.now.setup ≡ r.setup
+        → Stands checked.now session.now (take number h)
+        → let state = IsStateText format checked.now text r.setup (take number h) (length h) in
         IfOk result (λ v. state v.items) }
 {
     let calls = calls_to(shown.replayed.history.as_slice(), number);
-    let Ok(session) = session_after(alloc, code, &shown.replayed.setup, calls) else {
-        return Err(AllocError);
-    };
     let context = shown.context(checked, format);
     let count = context.history.len() as u64;
-    state_of(alloc, &context, &session, calls, count)
+    state_of(alloc, &context, session, calls, count)
 }
 
 /// The state after the first `number` calls of a trace, or after the last where there are fewer,
@@ -349,7 +343,7 @@ pub fn state_at(
         (λ p. IsStateOfTrace format number checked.now text.now trace.now p.0.items p.1)
         (IsReplayRefusal checked.now trace.now) }
 {
-    let shown = shown_trace_of(alloc, text, checked, code, trace)?;
-    let state = state_after(alloc, checked, code, &shown, format, number)?;
+    let (shown, checkpoint) = shown_trace_to(alloc, text, checked, code, trace, number)?;
+    let state = state_after(alloc, checked, &shown, &checkpoint.session, format, number)?;
     Ok((state, shown.replayed.report))
 }

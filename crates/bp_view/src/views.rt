@@ -1,24 +1,28 @@
 //! The view of a trace.
-ghost use Rattle.std.specs.Prelude.{◌≡◌, [], ℕ, List, map, MatchResult};
+ghost use Rattle.std.specs.Prelude.{◌≡◌, ◌≤◌, ℕ, List, length, map, take, MatchResult};
 ghost use Rattle.bp_tree.specs.Ast.{Program};
 ghost use Rattle.bp_code.specs.StandsFor.{StandsFor};
-ghost use Rattle.bp_machine.specs.Setups.{threads, FitsCode};
+ghost use Rattle.bp_machine.specs.Setups.{threads};
 ghost use Rattle.bp_text.specs.WrittenTexts.{IsWritten};
+ghost use Rattle.bp_facts.specs.Checkpoints.{IsCheckpoint};
+ghost use Rattle.bp_facts.specs.Filters.{skipped};
 ghost use Rattle.bp_facts.specs.Watches.{watched_names};
+ghost use Rattle.bp_view.specs.Options.{filter_of};
 ghost use Rattle.bp_view.specs.SetupLines.{view_head};
 ghost use Rattle.bp_view.specs.ShownTraces.{IsShownTrace};
 ghost use Rattle.bp_view.specs.Views.{HasMade, IsMissing, IsStopped, IsThere, IsView, IsViewRefusal, IsViewable, IsViewed};
 
 use crate::ends::end_of;
 use crate::faults::ViewFault;
+use crate::options::filter_of;
 use crate::setup_lines::head_of;
-use crate::shown_traces::{ShownTrace, shown_trace_of};
+use crate::shown_traces::{ShownTrace, shown_trace_before};
 use crate::view_contexts::view_context_of;
 use crate::writers::ViewWriter;
 use bp_check::Checked;
 use bp_code::Code;
-use bp_facts::{undeclared, watched_names};
-use bp_machine::{Report, Session, Setup};
+use bp_facts::{Checkpoint, undeclared, watched_names};
+use bp_machine::{Report, Setup};
 use bp_tasks::ViewOptions;
 use bp_text::put;
 use bp_trace::ReplayFault;
@@ -37,8 +41,8 @@ fn check_thread(options: ViewOptions<'_>, setup: &Setup) -> Result<(), ViewFault
     }
 }
 
-/// Writes the head of a view, the line of each call, and the end. Each line is written before the
-/// next call is made.
+/// Writes the head of a view, the line of each call that the writer has not made, and the end. The
+/// calls that it made have no lines. Each line is written before the next call is made.
 fn write_parts<W: Write>(
     alloc: Global,
     writer: &mut ViewWriter<'_>,
@@ -50,7 +54,10 @@ fn write_parts<W: Write>(
         → let s = writer.old.session.setup in
         let x = writer.old.context in
         IsViewable writer.old.session.code t text s report x
-        → HasMade t [] writer.old
+        → let whole = x.history.now in
+        HasMade t (take writer.old.made whole) writer.old
+        → writer.old.made ≤ length whole
+        → writer.old.made ≤ skipped (filter_of x.options) (length whole)
         → head.now ≡ view_head x.options x.program.globals.now s x.widths
         → let is_view = IsView t text s x.history.now report x.options in
         MatchResult result
@@ -59,9 +66,9 @@ fn write_parts<W: Write>(
 {
     let history = writer.context.history;
     put(out, head)?;
-    for recorded in history {
+    for n in writer.made as usize..history.len() {
         // A call of a history that may be played is refused for memory alone.
-        let Ok(()) = writer.make_line(recorded) else {
+        let Ok(()) = writer.make_line(&history[n]) else {
             return Err(ViewFault::Memory);
         };
         put(out, &writer.line)?;
@@ -72,20 +79,22 @@ fn write_parts<W: Write>(
 }
 
 /// Writes the view of a trace that was replayed, or refuses a thread that is not there, or else a
-/// watched name that no variable has. A session plays the history once more.
+/// watched name that no variable has. The calls after the checkpoint, before which none has a line,
+/// are made once more.
 fn write_view<W: Write>(
     alloc: Global,
     checked: &Checked,
-    code: &Code,
     shown: &ShownTrace,
+    start: Checkpoint,
     options: ViewOptions<'_>,
     names: &[&[u8]],
     out: &mut W,
 ) -> Result<(), ViewFault>
-    requires code { StandsFor code.now checked.now }
-    requires fits { FitsCode code.now shown.now.replayed.setup }
     ensures { (text trace : List ℕ)
         → IsShownTrace checked.now text checked.now trace shown.now
+        → let h = shown.now.replayed.history.items in
+        IsCheckpoint checked.now shown.now.replayed.setup h start
+        → start.made ≤ skipped (filter_of options.entry) (length h)
         → map (λ n. n.now) names.now ≡ watched_names options.entry.watch
         → let old = W.contents out.old in
         let new = W.contents out.new in
@@ -102,15 +111,19 @@ fn write_view<W: Write>(
     let history = shown.replayed.history.as_slice();
     let context = view_context_of(&shown.statements, checked, setup, history, options, names);
     let head = head_of(alloc, &context, setup)?;
-    let session = Session::new(alloc, code, setup)?;
+    let Checkpoint {
+        session,
+        last,
+        made,
+    } = start;
     let mut writer = ViewWriter {
         context,
         session,
         line: Vec::new(alloc),
         note: Vec::new(alloc),
         changes: Vec::new(alloc),
-        last: None,
-        made: 0,
+        last,
+        made,
     };
     write_parts(alloc, &mut writer, &head, shown.replayed.report, out)
 }
@@ -118,6 +131,7 @@ fn write_view<W: Write>(
 /// Writes a view of the history of a trace of a program, and answers its report. The view has the
 /// setup, a line for each call that is shown, and the foot. The state after the last call follows
 /// where it is asked for. The lines are written as they are made, after the trace was replayed.
+/// For them the calls are made once more, from the first that is asked for.
 ///
 /// A text that is no trace of the program is refused as `replay` refuses it. Then a thread is
 /// refused that is not there, and then a watched name that no variable has. Nothing is written of a
@@ -139,10 +153,11 @@ pub fn view<W: Write>(
         (IsViewed checked.now text.now trace.now options old new)
         (IsViewRefusal checked.now text.now trace.now options old new) }
 {
-    let shown = shown_trace_of(alloc, text, checked, code, trace)?;
+    let filter = filter_of(&options);
+    let (shown, start) = shown_trace_before(alloc, text, checked, code, trace, &filter)?;
     let Ok(names) = watched_names(alloc, options.watch) else {
         return Err(ViewFault::Replay(ReplayFault::Memory));
     };
-    write_view(alloc, checked, code, &shown, options, &names, out)?;
+    write_view(alloc, checked, &shown, start, options, &names, out)?;
     Ok(shown.replayed.report)
 }

@@ -1,4 +1,4 @@
-//! The lines of a view, each made by a session that plays the history once more.
+//! The lines of a view, each made by a session that makes the call once more.
 ghost use Rattle.std.specs.Prelude.{◌≡◌, ◌++◌, ◌∷◌, [], ℕ, List, option_map, MatchResult, OnOk};
 ghost use Rattle.bp_tree.specs.Ast.{Program};
 ghost use Rattle.bp_code.specs.StandsFor.{StandsFor};

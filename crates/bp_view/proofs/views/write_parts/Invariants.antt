@@ -1,14 +1,19 @@
-use Rattle.std.proofs.Common.{◌≡◌, ℕ, List, []}
+use Rattle.std.proofs.Common.{◌≡◌, ◌≤◌, ℕ, List, length, take}
 use Rattle.bp_tree.specs.Ast.{Program}
+use Rattle.bp_facts.specs.Filters.{skipped}
+use Rattle.bp_view.specs.Options.{filter_of}
 use Rattle.bp_view.specs.SetupLines.{view_head}
 use Rattle.bp_view.specs.Views.{HasMade, IsViewable}
 use Rattle.bp_view.proofs.BegunViews.{HasWritten}
 use Rattle.bp_view.proofs.views.write_parts.Given as goal
 
-abbrev pub invariant-loop-recorded : goal.invariant-loop-recorded
-invariant-loop-recorded g l =
+abbrev pub invariant-loop-n : goal.invariant-loop-n
+invariant-loop-n g l =
     let w = l.fn.writer in
+    let x = w.context in
     let s = w.session.setup in
-    (t : Program) (text : List ℕ) → IsViewable w.session.code t text s l.report w.context → HasMade t [] w
-    → l.head ≡ view_head w.context.options w.context.program.globals.now s w.context.widths
-    → HasWritten t text s w.context l.recorded-index l.writer (g.W.Write.contents l.fn.out) (g.W.Write.contents l.out)
+    let whole = x.history.now in
+    (t : Program) (text : List ℕ) → IsViewable w.session.code t text s l.report x
+    → HasMade t (take w.made whole) w → w.made ≤ length whole → w.made ≤ skipped (filter_of x.options) (length whole)
+    → l.head ≡ view_head x.options x.program.globals.now s x.widths
+    → HasWritten t text s x l.n l.writer (g.W.Write.contents l.fn.out) (g.W.Write.contents l.out)
