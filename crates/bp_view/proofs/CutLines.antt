@@ -18,7 +18,7 @@ taken_both (suc n) k (x ∷ xs) =
     let same : suc n + k ≡ suc (n + k) = omega arith in
     ap (λ m. take m (x ∷ xs)) same ∙ ap (λ ys. x ∷ ys) (taken_both n k xs)
 
-taken : (a b : List ℕ) → take (length a) (a ++ b) ≡ a
+pub taken : (a b : List ℕ) → take (length a) (a ++ b) ≡ a
 taken [] b = refl
 taken (x ∷ a) b = ap (λ ys. x ∷ ys) (taken a b)
 

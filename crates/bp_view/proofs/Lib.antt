@@ -4,6 +4,7 @@ pub mod CallsBefore
 pub mod CutLines
 pub mod JoinedTexts
 pub mod LongestPlaces
+pub mod NotesAfterRoom
 pub mod OneContextList
 pub mod OneFootText
 pub mod OneStateText

@@ -3,6 +3,7 @@ pub mod Conditions
 pub mod ContextLines
 pub mod Ends
 pub mod Frames
+pub mod Fronts
 pub mod Headings
 pub mod JsonCalls
 pub mod Laws

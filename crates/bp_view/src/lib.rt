@@ -7,6 +7,7 @@ mod contexts;
 mod ends;
 mod faults;
 mod frames;
+mod fronts;
 mod headings;
 mod json_calls;
 mod laws;

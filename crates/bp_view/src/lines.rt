@@ -1,14 +1,14 @@
 //! The line of a call in columns, from its facts.
 ghost use Rattle.std.specs.Prelude.{◌≡◌, ◌++◌, ℕ, map, OnOk};
 ghost use Rattle.std.specs.List.{concat};
-ghost use Rattle.bp_text.specs.Columns.{at_right, spaces};
-ghost use Rattle.bp_text.specs.Pieces.{piece_text};
+ghost use Rattle.bp_text.specs.Columns.{spaces};
 ghost use Rattle.bp_facts.specs.CallFacts.{facts_in, next_in};
 ghost use Rattle.bp_facts.specs.ChangeFacts.{entry_of};
-ghost use Rattle.bp_view.specs.Lines.{after_room, call_text, choice_text, column_line, context_text, field_texts, indented, mark_text, note_text, reply_note, times_text};
+ghost use Rattle.bp_view.specs.Lines.{after_room, call_text, choice_text, column_line, field_texts, indented, mark_text, note_text, reply_note, times_text};
 ghost use Rattle.bp_view.specs.Variables.{entries_text};
 
 use crate::colours::Colour;
+use crate::fronts::{Front, FrontKey};
 use crate::statement_columns::{cut_after, in_column};
 use crate::variables::push_value;
 use crate::view_contexts::{MAX_INDENTS, Widths};
@@ -16,8 +16,8 @@ use bp_facts::{CallFacts, Change, Next};
 use bp_machine::Reply;
 use bp_source::{push_four, push_three, push_two};
 use bp_tasks::ViewFormat;
-use bp_text::Piece::{Bytes, Left, Number, NumberRight, Right, Spaces};
-use bp_text::{Piece, push_piece};
+use bp_text::Piece::{Bytes, Left, Number, NumberRight, Spaces};
+use bp_text::push_piece;
 use std::alloc::AllocError;
 
 /// What is said of a reply.
@@ -42,40 +42,34 @@ fn mark(is_switch: bool) -> &'static [u8]
     if is_switch { b">" } else { b" " }
 }
 
-/// The number of a context at the right of a field, and a sign where there is none.
-fn context_piece(width: usize, context: Option<u32>) -> Piece<'static>
-    ensures { piece_text result ≡ at_right width (context_text context) }
-{
-    match context {
-        Some(number) => NumberRight(width, u64::from(number)),
-        None => Right(width, b"-"),
-    }
-}
-
 /// Adds the fields of a call: its number, thread, context and place.
-fn push_fields(line: &mut Vec<u8>, widths: Widths, facts: &CallFacts<'_>) -> Result<(), AllocError>
-    ensures { let fields = concat (field_texts widths (facts_in facts.now)) in
+fn push_fields(
+    line: &mut Vec<u8>,
+    front: &mut Front,
+    widths: &Widths,
+    facts: &CallFacts<'_>,
+) -> Result<(), AllocError>
+    ensures { let fields = concat (field_texts widths.now (facts_in facts.now)) in
         OnOk result (line.new.items ≡ line.old.items ++ fields) }
 {
+    front.set(FrontKey {
+        thread: facts.call.thread,
+        context: facts.context,
+        thread_width: widths.thread,
+        context_width: widths.context,
+    })?;
     push_four(
         line,
         Bytes(mark(facts.is_switch)),
         NumberRight(widths.number, facts.number),
-        Bytes(b" "),
-        NumberRight(widths.thread, u64::from(facts.call.thread)),
-    )?;
-    push_four(
-        line,
-        Bytes(b" "),
-        context_piece(widths.context, facts.context),
-        Bytes(b" "),
+        Bytes(&front.text),
         Left(widths.place, facts.next.place),
     )
 }
 
 /// Adds the statement, moved to the right by the depth of the stack; no text where there is none.
-fn push_statement(line: &mut Vec<u8>, room: usize, next: Next<'_>) -> Result<(), AllocError>
-    ensures { let next = next_in next.entry in
+fn push_statement(line: &mut Vec<u8>, room: usize, next: &Next<'_>) -> Result<(), AllocError>
+    ensures { let next = next_in next.now in
         OnOk result (line.new.items ≡ line.old.items ++ indented room next.depth next.text) }
 {
     let Some(statement) = next.text else {
@@ -126,16 +120,15 @@ fn push_times(note: &mut Vec<u8>, calls: usize) -> Result<(), AllocError>
     Ok(())
 }
 
-/// Writes the note of a call: the choice bit where it is read, the reply where it is no step, for
-/// how many calls the line stands, and the variables that the step changed.
-fn write_note(note: &mut Vec<u8>, facts: &CallFacts<'_>, calls: usize) -> Result<(), AllocError>
-    ensures { OnOk result (note.new.items ≡ note_text (facts_in facts.now) calls) }
+/// Adds the note of a call: the choice bit where it is read, the reply where it is no step, for how
+/// many calls the line stands, and the variables that the step changed.
+fn push_note(line: &mut Vec<u8>, facts: &CallFacts<'_>, calls: usize) -> Result<(), AllocError>
+    ensures { OnOk result (line.new.items ≡ line.old.items ++ note_text (facts_in facts.now) calls) }
 {
-    note.clear();
     let (choice, reply) = (choice_note(facts.choice()), reply_note(facts.call.reply));
-    push_two(note, Bytes(choice), Bytes(reply))?;
-    push_times(note, calls)?;
-    push_changed(note, ViewFormat::Columns, facts.changes)
+    push_two(line, Bytes(choice), Bytes(reply))?;
+    push_times(line, calls)?;
+    push_changed(line, ViewFormat::Columns, facts.changes)
 }
 
 /// How many spaces come before a note that has this room before it; none before an empty note.
@@ -145,44 +138,62 @@ pub(crate) fn spaces_before(room: usize, note: &[u8]) -> usize
     if note.is_empty() { 0 } else { room }
 }
 
-/// Adds the fields of a call, its statement, and after that one's column this note.
+/// Adds the note of a call after this many spaces, which go where the note is empty.
+fn push_note_after(
+    line: &mut Vec<u8>,
+    room: usize,
+    facts: &CallFacts<'_>,
+    calls: usize,
+) -> Result<(), AllocError>
+    ensures { let note = after_room room (note_text (facts_in facts.now) calls) in
+        OnOk result (line.new.items ≡ line.old.items ++ note) }
+{
+    let end = line.len();
+    push_piece(line, Spaces(room))?;
+    let start = line.len();
+    push_note(line, facts, calls)?;
+    if line.len() > start {
+        return Ok(());
+    }
+    line.truncate(end);
+    Ok(())
+}
+
+/// Adds the fields of a call, its statement, and after that one's column its note.
 fn push_call(
     line: &mut Vec<u8>,
-    note: &[u8],
-    widths: Widths,
+    front: &mut Front,
+    widths: &Widths,
     facts: &CallFacts<'_>,
+    calls: usize,
 ) -> Result<(), AllocError>
-    ensures { (calls : ℕ)
-        → let f = facts_in facts.now in
-        note.now ≡ note_text f calls
-        → OnOk result (line.new.items ≡ line.old.items ++ call_text widths f calls) }
+    ensures { let text = call_text widths.now (facts_in facts.now) calls in
+        OnOk result (line.new.items ≡ line.old.items ++ text) }
 {
-    push_fields(line, widths, facts)?;
+    push_fields(line, front, widths, facts)?;
     let start = line.len();
-    push_statement(line, widths.statement, facts.next)?;
+    push_statement(line, widths.statement, &facts.next)?;
     let size = line.len().saturating_sub(start);
-    let room = spaces_before(widths.notes.saturating_sub(size), note);
-    push_two(line, Spaces(room), Bytes(note))
+    push_note_after(line, widths.notes.saturating_sub(size), facts, calls)
 }
 
 /// Adds the line of a call, which stands for this many calls. It is in colour where that is wanted
-/// and the call is a failure or a switch. `note` is room for the call's note.
+/// and the call is a failure or a switch. `front` has the thread and the context of another line.
 pub(crate) fn push_line(
     line: &mut Vec<u8>,
-    note: &mut Vec<u8>,
-    widths: Widths,
+    front: &mut Front,
+    widths: &Widths,
     has_colour: bool,
     facts: &CallFacts<'_>,
     calls: usize,
 ) -> Result<(), AllocError>
-    ensures { let text = column_line has_colour widths (facts_in facts.now) calls in
+    ensures { let text = column_line has_colour widths.now (facts_in facts.now) calls in
         OnOk result (line.new.items ≡ line.old.items ++ text) }
 {
     let colour = Colour::of(has_colour, facts.call.reply, facts.is_switch);
-    write_note(note, facts, calls)?;
     push_piece(line, Bytes(colour.opening()))?;
     let start = line.len();
-    push_call(line, note, widths, facts)?;
+    push_call(line, front, widths, facts, calls)?;
     cut_after(line, start, widths.line)?;
     push_two(line, Bytes(colour.closing()), Bytes(b"\n"))
 }

@@ -10,6 +10,7 @@ ghost use Rattle.bp_facts.specs.ReplayedCalls.{IsReplayedCall};
 ghost use Rattle.bp_view.specs.ViewContexts.{IsViewContextOf};
 ghost use Rattle.bp_view.specs.Views.{line_in, printed_in, IsShownLine};
 
+use crate::fronts::Front;
 use crate::json_calls::push_object;
 use crate::lines::push_line;
 use crate::view_contexts::ViewContext;
@@ -18,10 +19,12 @@ use bp_tasks::ViewFormat;
 use std::alloc::AllocError;
 
 /// Adds the line of a call in the format of the view, which stands for this many calls; the call
-/// printed these values, if any. `note` is room for parts of it.
+/// printed these values, if any. `note` is room for parts of it, and `front` has those of another
+/// line that are kept.
 fn push_line_in(
     view: &mut Vec<u8>,
     note: &mut Vec<u8>,
+    front: &mut Front,
     context: &ViewContext<'_>,
     facts: &CallFacts<'_>,
     calls: usize,
@@ -37,17 +40,19 @@ fn push_line_in(
     match options.format {
         ViewFormat::Columns => {
             let widths = context.widths.under_headings();
-            push_line(view, note, widths, options.has_colour, facts, calls)
+            push_line(view, front, &widths, options.has_colour, facts, calls)
         }
         ViewFormat::Json => push_object(view, note, facts, printed),
     }
 }
 
 /// Adds the line of a call, where it is shown: it is asked for, it changed what is watched, and its
-/// line stands for a call. `note` is room for the call's note, and `changes` for what it changed.
+/// line stands for a call. `note` is room for parts of the line, `front` has those of another line
+/// that are kept, and `changes` is room for what the call changed.
 pub(crate) fn push_shown<'a>(
     view: &mut Vec<u8>,
     note: &mut Vec<u8>,
+    front: &mut Front,
     changes: &mut Vec<Change<'a>>,
     context: &ViewContext<'a>,
     replayed: &ReplayedCall,
@@ -77,7 +82,7 @@ pub(crate) fn push_shown<'a>(
         .calls_in_line(context.history, &replayed.call, replayed.number);
     if calls > 0 {
         let facts = facts_of_call(&context.program, replayed, changes);
-        push_line_in(view, note, context, &facts, calls, printed)?;
+        push_line_in(view, note, front, context, &facts, calls, printed)?;
     }
     Ok(())
 }

@@ -1,27 +1,35 @@
 //! The names of the bits of a store, and their values.
-ghost use Rattle.std.specs.Prelude.{◌≡◌, ◌<◌, ◌+◌, ◌^◌, ◌++◌, flat_map, length, option_map, OnOk};
+ghost use Rattle.std.specs.Prelude.{◌≡◌, ◌<◌, ◌+◌, ◌^◌, ◌++◌, ◌∷◌, [], codes, length, option_map, OnOk};
+ghost use Rattle.std.specs.List.{concat};
 ghost use Rattle.bp_code.specs.Bits.{bits_of};
 ghost use Rattle.bp_code.specs.StandsFor.{valuation_of};
 ghost use Rattle.bp_view.specs.Variables.{owner_text, variable_object, variable_text, assignment_text, variables_text};
-ghost use Rattle.bp_text.specs.Pieces.{piece_text};
+ghost use Rattle.bp_text.specs.Pieces.{bit_text};
 
 use bp_code::bit_of;
 use bp_source::{push_four, push_three, push_two};
 use bp_tasks::ViewFormat;
-use bp_text::Piece;
 use bp_text::Piece::{Bit, Bytes, Key, OneLine, Text, TextOrNull};
+use bp_text::push_piece;
 use bp_tree::{Name, Proc};
 use std::alloc::AllocError;
 
-/// The name of a local's procedure and a dot; nothing for a global.
-fn owner_pieces<'a>(owner: Option<&'a Proc>) -> [Piece<'a>; 2]
+/// Adds the name of a local's procedure and a dot; nothing for a global.
+fn push_owner(line: &mut Vec<u8>, owner: Option<&Proc>) -> Result<(), AllocError>
     ensures { let owner = option_map (λ p. p.now) owner.entry in
-        flat_map piece_text result ≡ owner_text owner }
+        OnOk result (line.new.items ≡ line.old.items ++ owner_text owner) }
 {
     match owner {
-        Some(proc) => [OneLine(proc.name().text().as_bytes()), Bytes(b".")],
-        None => [Bytes(b""), Bytes(b"")],
+        Some(proc) => push_two(line, OneLine(proc.name().text().as_bytes()), Bytes(b".")),
+        None => Ok(()),
     }
+}
+
+/// The sign before a value, and the value.
+fn value_text(value: bool) -> &'static [u8]
+    ensures { result.now ≡ concat (codes "=" ∷ bit_text value ∷ []) }
+{
+    if value { b"=1" } else { b"=0" }
 }
 
 /// Adds a variable and its value, for people.
@@ -34,9 +42,9 @@ fn push_assignment(
     ensures { let owner = option_map (λ p. p.now) owner.entry in
         OnOk result (line.new.items ≡ line.old.items ++ assignment_text owner name.now value) }
 {
-    let [owner, dot] = owner_pieces(owner);
-    push_four(line, Bytes(b" "), owner, dot, OneLine(name))?;
-    push_two(line, Bytes(b"="), Bit(value))
+    push_piece(line, Bytes(b" "))?;
+    push_owner(line, owner)?;
+    push_two(line, OneLine(name), Bytes(value_text(value)))
 }
 
 /// The name of a local's procedure; none for a global.

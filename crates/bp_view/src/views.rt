@@ -14,6 +14,7 @@ ghost use Rattle.bp_view.specs.Views.{HasMade, IsMissing, IsStopped, IsThere, Is
 
 use crate::ends::end_of;
 use crate::faults::ViewFault;
+use crate::fronts::Front;
 use crate::options::filter_of;
 use crate::setup_lines::head_of;
 use crate::shown_traces::{ShownTrace, shown_trace_before};
@@ -121,6 +122,7 @@ fn write_view<W: Write>(
         session,
         line: Vec::new(alloc),
         note: Vec::new(alloc),
+        front: Front::new(alloc),
         changes: Vec::new(alloc),
         last,
         made,

@@ -11,6 +11,7 @@ ghost use Rattle.bp_trace.specs.Replays.{IsPlayable};
 ghost use Rattle.bp_view.specs.ViewContexts.{IsViewContextOf};
 ghost use Rattle.bp_view.specs.Views.{next_print_in};
 
+use crate::fronts::Front;
 use crate::shown::push_shown;
 use crate::view_contexts::ViewContext;
 use bp_facts::{Change, last_step, printed_by, replayed_call};
@@ -46,8 +47,10 @@ pub(crate) struct ViewWriter<'a> {
     pub(crate) session: Session,
     /// The line of the last of them, or nothing where it is not shown.
     pub(crate) line: Vec<u8>,
-    /// Room for a call's note.
+    /// Room for parts of a line.
     pub(crate) note: Vec<u8>,
+    /// What lines have as the lines before have it.
+    pub(crate) front: Front,
     /// Room for what a call changed.
     pub(crate) changes: Vec<Change<'a>>,
     /// The thread of the last step.
@@ -90,6 +93,7 @@ impl ViewWriter<'_> {
         push_shown(
             &mut self.line,
             &mut self.note,
+            &mut self.front,
             &mut self.changes,
             &self.context,
             &replayed,

@@ -11,12 +11,11 @@ use Rattle.bp_view.proofs.lines.push_line.Goals as goal
 pub returns : goal.returns
 returns c =
     let f = facts_in c.args.facts.now in
-    let w = c.args.widths in
+    let w = c.args.widths.now in
     let colour = colour_of c.args.has_colour f.call.reply f.switch in
     let opened = c.push_piece.new.line.items in
-    let added = c.in_ok-push_call.ensures c.args.calls (c.deref.ensures.value ∙ c.in_ok-write_note.ensures) in
     let begins : c.len-start.result ≡ length opened = omega arith in
-    let cut = c.in_ok-cut_after.ensures ∙ added_cut w.line opened (call_text w f c.args.calls) c.push_call.new.line.items c.len-start.result begins added in
+    let cut = c.in_ok-cut_after.ensures ∙ added_cut w.line opened (call_text w f c.args.calls) c.push_call.new.line.items c.len-start.result begins c.in_ok-push_call.ensures in
     when_ok c.push_two.result c.push_two.ensures (λ closed.
     rw (closed, cut, c.in_ok-push_piece.ensures)
     (rw (c.opening.ensures, c.closing.ensures, c.of-colour.ensures)

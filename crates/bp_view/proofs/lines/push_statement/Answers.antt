@@ -9,7 +9,7 @@ use Rattle.bp_source.proofs.JoinedPieces.{when_ok}
 pub returns : goal.returns
 returns c =
     let whole = c.in-Some.statement.now in
-    let indent = spaces (2 * min c.args.next.depth MAX_INDENTS) in
+    let indent = spaces (2 * min c.args.next.now.depth MAX_INDENTS) in
     let old = c.args.line.now.items in
     let cut = pair_added (old ++ indent) c.in_column.result.0.now c.in_column.result.1.now (shortened c.args.room whole) c.in_column.ensures in
     when_ok c.push_piece.result c.push_piece.ensures (λ added.
