@@ -3,6 +3,7 @@ pub mod BegunViews
 pub mod CallsBefore
 pub mod CutLines
 pub mod JoinedTexts
+pub mod KeptFronts
 pub mod LongestPlaces
 pub mod NotesAfterRoom
 pub mod OneContextList
@@ -10,6 +11,7 @@ pub mod OneFootText
 pub mod OneStateText
 pub mod OneView
 pub mod PartsOfHeads
+pub mod PlacesAndStatements
 pub mod PrintedValues
 pub mod ShownLines
 pub mod ViewableContexts

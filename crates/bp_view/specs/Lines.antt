@@ -32,14 +32,13 @@ context_text (Some n) = decimal n
 abbrev pub mark_text : Bool → List ℕ
 mark_text switch = if switch then codes ">" else codes " "
 
--- the fields of a call, in columns of these widths
+-- the fields of a call before its place, in columns of these widths
 abbrev pub field_texts : Widths → ShownCall → List (List ℕ)
 field_texts w f =
     mark_text f.switch
     ∷ at_right w.number (decimal f.number) ∷ codes " "
     ∷ at_right w.thread (decimal f.call.thread) ∷ codes " "
-    ∷ at_right w.context (context_text f.context) ∷ codes " "
-    ∷ at_left w.place f.next.place ∷ []
+    ∷ at_right w.context (context_text f.context) ∷ codes " " ∷ []
 
 -- the text of a statement as its column of so much room has them, after two columns for each frame
 -- of a stack, for MAX_INDENTS frames at most
@@ -73,12 +72,13 @@ abbrev pub after_room : ℕ → List ℕ → List ℕ
 after_room room [] = []
 after_room room (b ∷ bs) = concat (spaces room ∷ (b ∷ bs) ∷ [])
 
--- the fields, the statement, and after its column the note
+-- the fields, the place, the statement, and after its column the note
 abbrev pub call_text : Widths → ShownCall → (calls : ℕ) → List ℕ
 call_text w f calls =
     let statement = indented w.statement f.next.depth f.next.text in
     concat (
     concat (field_texts w f)
+    ∷ at_left w.place f.next.place
     ∷ statement
     ∷ after_room (w.notes - length statement) (note_text f calls)
     ∷ [])

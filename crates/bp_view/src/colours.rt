@@ -1,6 +1,6 @@
 //! The colours of a view's lines.
 ghost use Rattle.std.specs.Prelude.{◌≡◌};
-ghost use Rattle.bp_view.specs.Colours.{closing, colour_of, opening};
+ghost use Rattle.bp_view.specs.Colours.{colour_of, opening};
 
 use bp_machine::Reply;
 
@@ -35,16 +35,6 @@ impl Colour {
         match self {
             Colour::Red => b"\x1b[31m",
             Colour::Yellow => b"\x1b[33m",
-            Colour::Plain => b"",
-        }
-    }
-
-    /// The sign that ends the colour.
-    pub(crate) fn closing(self) -> &'static [u8]
-        ensures { result.now ≡ closing self }
-    {
-        match self {
-            Colour::Red | Colour::Yellow => b"\x1b[0m",
             Colour::Plain => b"",
         }
     }

@@ -1,23 +1,26 @@
-//! The fields of a call's thread and context, which most lines have as the line before has them.
-ghost use Rattle.std.specs.Prelude.{◌≡◌, Some, OnOk};
-ghost use Rattle.std.specs.List.{concat};
+//! The fields of a line before its place. Most lines have them as the line before has them, but for
+//! the sign of a switch and the last digit of the number.
+ghost use Rattle.std.specs.Prelude.{◌≡◌, Some, length, suc, OnOk};
 ghost use Rattle.bp_text.specs.Columns.{at_right};
 ghost use Rattle.bp_text.specs.Pieces.{piece_text};
 ghost use Rattle.bp_view.specs.declared.fronts.FrontKey.{FrontKey};
-ghost use Rattle.bp_view.specs.Fronts.{front_texts};
+ghost use Rattle.bp_view.specs.Fronts.{front_text, tens_digits, tens_text};
 ghost use Rattle.bp_view.specs.Lines.{context_text};
 
-use bp_source::{push_three, push_two};
+use bp_source::{push_four, push_two};
 use bp_text::Piece;
 use bp_text::Piece::{Bytes, NumberRight, Right};
 use std::alloc::{AllocError, Global};
 
-/// What the fields of thread and context are made from.
+/// What these fields are made from, but for the sign and the last digit.
 #[derive(Clone, Copy, PartialEq, Eq)]
 pub(crate) struct FrontKey {
+    /// The number of the call without its last digit.
+    pub(crate) tens: u64,
     pub(crate) thread: u32,
     /// None of a call that made no step.
     pub(crate) context: Option<u32>,
+    pub(crate) number_width: usize,
     pub(crate) thread_width: usize,
     pub(crate) context_width: usize,
 }
@@ -27,8 +30,23 @@ pub(crate) struct FrontKey {
 pub(crate) struct Front {
     /// What the text was made from; none while it is not whole.
     key: Option<FrontKey>,
+    mark: u8,
+    digit: u8,
+    /// Where the digit stands in the text.
+    last: usize,
     pub(crate) text: Vec<u8>,
-    ghost is: { (k : FrontKey) → key ≡ Some k → text.items ≡ concat (front_texts k) },
+    ghost is: { (k : FrontKey) → key ≡ Some k → text.items ≡ front_text k mark digit },
+    ghost digit_is: { (k : FrontKey) → key ≡ Some k → last ≡ suc (length (tens_text k)) },
+}
+
+/// The digits of a number before its last, at the right of a field.
+fn tens_piece(width: usize, tens: u64) -> Piece<'static>
+    ensures { piece_text result ≡ at_right width (tens_digits tens) }
+{
+    match tens {
+        0 => Right(width, b""),
+        _ => NumberRight(width, tens),
+    }
 }
 
 /// The number of a context at the right of a field, and a sign where there is none.
@@ -46,35 +64,48 @@ impl Front {
     pub(crate) fn new(alloc: Global) -> Front {
         Front {
             key: None,
+            mark: b' ',
+            digit: b'0',
+            last: 0,
             text: Vec::new(alloc),
         }
     }
 
-    /// Makes the text from this key.
-    fn remake(&mut self, key: FrontKey) -> Result<(), AllocError>
-        ensures { OnOk result (self.new.text.items ≡ concat (front_texts key)) }
+    /// Makes the text anew.
+    fn remake(&mut self, key: FrontKey, mark: u8, digit: u8) -> Result<(), AllocError>
+        ensures { OnOk result (self.new.text.items ≡ front_text key mark digit) }
     {
         self.key = None;
         self.text.clear();
-        push_three(
+        let tens = tens_piece(key.number_width.saturating_sub(1), key.tens);
+        push_two(&mut self.text, Bytes(&[mark]), tens)?;
+        self.last = self.text.len();
+        push_four(
             &mut self.text,
+            Bytes(&[digit]),
             Bytes(b" "),
             NumberRight(key.thread_width, u64::from(key.thread)),
             Bytes(b" "),
         )?;
         let context = context_piece(key.context_width, key.context);
         push_two(&mut self.text, context, Bytes(b" "))?;
+        self.mark = mark;
+        self.digit = digit;
         self.key = Some(key);
         Ok(())
     }
 
-    /// Makes the text from this key, where it was made from another.
-    pub(crate) fn set(&mut self, key: FrontKey) -> Result<(), AllocError>
-        ensures { OnOk result (self.new.text.items ≡ concat (front_texts key)) }
+    /// Makes the text that of this key, with this sign and this last digit.
+    pub(crate) fn set(&mut self, key: FrontKey, mark: u8, digit: u8) -> Result<(), AllocError>
+        ensures { OnOk result (self.new.text.items ≡ front_text key mark digit) }
     {
-        if self.key == Some(key) {
-            return Ok(());
+        if self.key != Some(key) {
+            return self.remake(key, mark, digit);
         }
-        self.remake(key)
+        self.text[0] = mark;
+        self.text[self.last] = digit;
+        self.mark = mark;
+        self.digit = digit;
+        Ok(())
     }
 }

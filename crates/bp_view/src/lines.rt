@@ -1,9 +1,10 @@
 //! The line of a call in columns, from its facts.
-ghost use Rattle.std.specs.Prelude.{◌≡◌, ◌++◌, ℕ, map, OnOk};
+ghost use Rattle.std.specs.Prelude.{◌≡◌, ◌++◌, ◌∷◌, [], codes, map, OnOk};
 ghost use Rattle.std.specs.List.{concat};
-ghost use Rattle.bp_text.specs.Columns.{spaces};
+ghost use Rattle.bp_text.specs.Columns.{at_left, spaces};
 ghost use Rattle.bp_facts.specs.CallFacts.{facts_in, next_in};
 ghost use Rattle.bp_facts.specs.ChangeFacts.{entry_of};
+ghost use Rattle.bp_view.specs.Colours.{closing};
 ghost use Rattle.bp_view.specs.Lines.{after_room, call_text, choice_text, column_line, field_texts, indented, mark_text, note_text, reply_note, times_text};
 ghost use Rattle.bp_view.specs.Variables.{entries_text};
 
@@ -14,9 +15,9 @@ use crate::variables::push_value;
 use crate::view_contexts::{MAX_INDENTS, Widths};
 use bp_facts::{CallFacts, Change, Next};
 use bp_machine::Reply;
-use bp_source::{push_four, push_three, push_two};
+use bp_source::{push_three, push_two};
 use bp_tasks::ViewFormat;
-use bp_text::Piece::{Bytes, Left, Number, NumberRight, Spaces};
+use bp_text::Piece::{Bytes, Left, Number, Spaces};
 use bp_text::push_piece;
 use std::alloc::AllocError;
 
@@ -36,13 +37,13 @@ fn reply_note(reply: Reply) -> &'static [u8]
 }
 
 /// The sign of a switch.
-fn mark(is_switch: bool) -> &'static [u8]
-    ensures { result.now ≡ mark_text is_switch }
+fn mark(is_switch: bool) -> u8
+    ensures { result ∷ [] ≡ mark_text is_switch }
 {
-    if is_switch { b">" } else { b" " }
+    if is_switch { b'>' } else { b' ' }
 }
 
-/// Adds the fields of a call: its number, thread, context and place.
+/// Adds the fields of a call: its number, its thread and its context.
 fn push_fields(
     line: &mut Vec<u8>,
     front: &mut Front,
@@ -52,32 +53,36 @@ fn push_fields(
     ensures { let fields = concat (field_texts widths.now (facts_in facts.now)) in
         OnOk result (line.new.items ≡ line.old.items ++ fields) }
 {
-    front.set(FrontKey {
+    let key = FrontKey {
+        tens: facts.number / 10,
         thread: facts.call.thread,
         context: facts.context,
+        number_width: widths.number,
         thread_width: widths.thread,
         context_width: widths.context,
-    })?;
-    push_four(
-        line,
-        Bytes(mark(facts.is_switch)),
-        NumberRight(widths.number, facts.number),
-        Bytes(&front.text),
-        Left(widths.place, facts.next.place),
-    )
+    };
+    let digit = b'0' + (facts.number % 10) as u8;
+    front.set(key, mark(facts.is_switch), digit)?;
+    push_piece(line, Bytes(&front.text))
 }
 
-/// Adds the statement, moved to the right by the depth of the stack; no text where there is none.
-fn push_statement(line: &mut Vec<u8>, room: usize, next: &Next<'_>) -> Result<(), AllocError>
+/// Adds the place of the statement, and the statement, moved to the right by the depth of the
+/// stack; no text where there is none.
+fn push_statement(line: &mut Vec<u8>, widths: &Widths, next: &Next<'_>) -> Result<(), AllocError>
     ensures { let next = next_in next.now in
-        OnOk result (line.new.items ≡ line.old.items ++ indented room next.depth next.text) }
+        let place = at_left widths.now.place next.place in
+        let statement = indented widths.now.statement next.depth next.text in
+        OnOk result (line.new.items ≡ line.old.items ++ place ++ statement) }
 {
     let Some(statement) = next.text else {
-        return Ok(());
+        return push_piece(line, Left(widths.place, next.place));
     };
+    let padding = widths.place.saturating_sub(next.place.len());
     let indent = 2 * next.depth.min(MAX_INDENTS);
-    let (shown, end) = in_column(room, statement);
-    push_two(line, Spaces(indent), Bytes(shown))?;
+    // The spaces after the place and those before the statement are added at once.
+    let gap = padding.checked_add(indent).ok_or(AllocError)?;
+    let (shown, end) = in_column(widths.statement, statement);
+    push_three(line, Bytes(next.place), Spaces(gap), Bytes(shown))?;
     if end.is_empty() {
         return Ok(());
     }
@@ -123,7 +128,8 @@ fn push_times(note: &mut Vec<u8>, calls: usize) -> Result<(), AllocError>
 /// Adds the note of a call: the choice bit where it is read, the reply where it is no step, for how
 /// many calls the line stands, and the variables that the step changed.
 fn push_note(line: &mut Vec<u8>, facts: &CallFacts<'_>, calls: usize) -> Result<(), AllocError>
-    ensures { OnOk result (line.new.items ≡ line.old.items ++ note_text (facts_in facts.now) calls) }
+    ensures { let note = note_text (facts_in facts.now) calls in
+        OnOk result (line.new.items ≡ line.old.items ++ note) }
 {
     let (choice, reply) = (choice_note(facts.choice()), reply_note(facts.call.reply));
     push_two(line, Bytes(choice), Bytes(reply))?;
@@ -172,9 +178,21 @@ fn push_call(
 {
     push_fields(line, front, widths, facts)?;
     let start = line.len();
-    push_statement(line, widths.statement, &facts.next)?;
-    let size = line.len().saturating_sub(start);
+    push_statement(line, widths, &facts.next)?;
+    let place = widths.place.max(facts.next.place.len());
+    let size = line.len().saturating_sub(start).saturating_sub(place);
     push_note_after(line, widths.notes.saturating_sub(size), facts, calls)
+}
+
+/// Ends a line in this colour.
+fn push_end(line: &mut Vec<u8>, colour: Colour) -> Result<(), AllocError>
+    ensures { let end = concat (closing colour ∷ codes "\n" ∷ []) in
+        OnOk result (line.new.items ≡ line.old.items ++ end) }
+{
+    match colour {
+        Colour::Plain => push_piece(line, Bytes(b"\n")),
+        Colour::Red | Colour::Yellow => push_piece(line, Bytes(b"\x1b[0m\n")),
+    }
 }
 
 /// Adds the line of a call, which stands for this many calls. It is in colour where that is wanted
@@ -195,5 +213,5 @@ pub(crate) fn push_line(
     let start = line.len();
     push_call(line, front, widths, facts, calls)?;
     cut_after(line, start, widths.line)?;
-    push_two(line, Bytes(colour.closing()), Bytes(b"\n"))
+    push_end(line, colour)
 }

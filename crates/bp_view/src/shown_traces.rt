@@ -55,8 +55,8 @@ pub(crate) fn shown_trace_of(
     })
 }
 
-/// Replays a trace as `shown_trace_of` does, and keeps the session after its first `after` calls, or
-/// after all where there are fewer.
+/// Replays a trace as `shown_trace_of` does, and keeps the session after its first `after` calls,
+/// or after all where there are fewer.
 pub(crate) fn shown_trace_to(
     alloc: Global,
     text: &[u8],

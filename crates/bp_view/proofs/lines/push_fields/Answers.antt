@@ -1,11 +1,7 @@
-use Rattle.std.proofs.Common.{◌∙◌, ◌++◌, decimal, ap, sym}
-use Rattle.bp_text.specs.Columns.{at_left, at_right}
-use Rattle.bp_text.proofs.PiecesInTurn.{all_added}
+use Rattle.std.proofs.Common.{◌∙◌, ◌+◌, ◌%◌, ◌^◌, ◌<◌, ◌++◌, ap, refl, rules}
 use Rattle.bp_facts.specs.CallFacts.{facts_in}
 use Rattle.bp_source.proofs.JoinedPieces.{when_ok}
-use Rattle.bp_view.specs.declared.fronts.FrontKey.{FrontKey}
-use Rattle.bp_view.specs.Fronts.{front_texts}
-use Rattle.bp_view.specs.Lines.{field_texts, mark_text}
+use Rattle.bp_view.proofs.KeptFronts.{fields_are}
 use Rattle.bp_view.proofs.lines.push_fields.Goals as goal
 
 pub returns : goal.returns
@@ -13,9 +9,6 @@ returns c =
     let w = c.args.widths.now in
     let f = facts_in c.args.facts.now in
     let old = c.args.line.now.items in
-    let key : FrontKey = record { thread = f.call.thread; context = f.context; thread_width = w.thread; context_width = w.context } in
-    let first = old ++ mark_text f.switch ++ at_right w.number (decimal f.number) in
-    let front = c.deref.ensures.value ∙ c.in_ok-set.ensures in
-    when_ok c.push_four.result c.push_four.ensures (λ added.
-    rw (added, front, c.mark.ensures)
-    (ap (λ y. y ++ at_left w.place f.next.place) (sym (all_added first (front_texts key))) ∙ all_added old (field_texts w f)))
+    let fits : f.number < 2 ^ 64 = search rules in
+    let whole = c.deref.ensures.value ∙ c.in_ok-set.ensures ∙ fields_are w f c.mark.result (48 + f.number % 10) fits c.mark.ensures refl in
+    when_ok c.push_piece.result c.push_piece.ensures (λ added. added ∙ ap (λ y. old ++ y) whole)

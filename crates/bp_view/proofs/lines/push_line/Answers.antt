@@ -1,4 +1,4 @@
-use Rattle.std.proofs.Common.{◌≡◌, ◌∙◌, [], ◌∷◌, codes, length, arith}
+use Rattle.std.proofs.Common.{◌≡◌, ◌∙◌, ◌++◌, [], ◌∷◌, codes, length, sym, arith}
 use Rattle.bp_text.proofs.PiecesInTurn.{all_added}
 use Rattle.bp_source.proofs.JoinedPieces.{when_ok}
 use Rattle.bp_facts.specs.CallFacts.{facts_in}
@@ -15,8 +15,13 @@ returns c =
     let colour = colour_of c.args.has_colour f.call.reply f.switch in
     let opened = c.push_piece.new.line.items in
     let begins : c.len-start.result ≡ length opened = omega arith in
-    let cut = c.in_ok-cut_after.ensures ∙ added_cut w.line opened (call_text w f c.args.calls) c.push_call.new.line.items c.len-start.result begins c.in_ok-push_call.ensures in
-    when_ok c.push_two.result c.push_two.ensures (λ closed.
+    let called = c.push_call.new.line.items in
+    let added = added_cut w.line opened (call_text w f c.args.calls) called c.len-start.result begins c.in_ok-push_call.ensures in
+    let cut = c.in_ok-cut_after.ensures ∙ added in
+    let old = c.args.line.now.items in
+    let text = within w.line (call_text w f c.args.calls) in
+    let end = closing colour ∷ codes "\n" ∷ [] in
+    when_ok c.push_end.result c.push_end.ensures (λ closed.
     rw (closed, cut, c.in_ok-push_piece.ensures)
-    (rw (c.opening.ensures, c.closing.ensures, c.of-colour.ensures)
-    (all_added c.args.line.now.items (opening colour ∷ within w.line (call_text w f c.args.calls) ∷ closing colour ∷ codes "\n" ∷ []))))
+    (rw (c.opening.ensures, c.of-colour.ensures)
+    (sym (all_added (old ++ opening colour ++ text) end) ∙ all_added old (opening colour ∷ text ∷ end))))
