@@ -21,6 +21,7 @@ import running
 import showing
 
 TOP = os.path.dirname(os.path.dirname(os.path.abspath(__file__)))
+SHOW_AIMS = {"show": "2.5", "show --last 20": "1.3"}
 
 
 def print_row(work, yardstick, own, aim, memory):
@@ -44,7 +45,7 @@ def print_runs(program, runs):
             continue
         kind = name[: -len(", btrun")]
         plain = found.get(kind + ", plain Rust")
-        aims = ("1.2", "1.0") if kind.startswith("waits") else ("1.05", "1.05")
+        aims = ("1.1", "1.0") if kind.startswith("waits") else ("1.05", "1.05")
         print_row("run, %s, by the clock, us a call" % kind, plain and plain[4] / 1e3, each / 1e3, aims[0], "%.0f" % memory)
         work = "run, %s, us a call" % kind
         print_row(work, plain and plain[1] / plain[3] * 1e6, spent / calls * 1e6, aims[1], "%.0f" % memory)
@@ -54,7 +55,7 @@ def print_shows(program, runs):
     replay = None
     for name, seconds, megabytes in showing.measured_commands(program, runs):
         if replay:
-            print_row(name, replay, seconds, "2.5" if name == "show" else "-", "%.0f" % megabytes)
+            print_row(name, replay, seconds, SHOW_AIMS.get(name, "-"), "%.0f" % megabytes)
         replay = replay or seconds
 
 
@@ -63,7 +64,7 @@ def print_asks(program, runs):
     results = [asking.run(program) for _ in range(runs)]
     each = {case: 1 / asking.medians(results, case)[0] for case in results[0]}
     session, desk = each["Session::ask"], each["Desk::ask"]
-    print_row("Desk::ask, us by the clock", session, desk, "1.11", "-")
+    print_row("Desk::ask, us by the clock", session, desk, "1.5", "-")
     print_row("Board::turn 64, us by the clock", desk, each["Board::turn 64"], "1.0", "-")
 
 

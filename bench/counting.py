@@ -89,7 +89,7 @@ def print_counts(program):
             show = each(lambda size: [program, "show", "r.bp", "one%d.trace" % size, *words])
             rows.append((" ".join(["show", *words]), show, replays[0], aim))
         test = drawing.instructions(program)
-        rows.append(("test, short runs", test, drawing.instructions(os.path.abspath("plain")), "-"))
+        rows.append(("test, short runs", test, drawing.instructions(os.path.abspath("plain")), "0.50"))
     print("%-22s %9s %9s %6s %6s" % ("instructions a call", "btrun", "yardstick", "ratio", "aim"))
     for work, own, yardstick, aim in rows:
         print("%-22s %9.0f %9.0f %6.2f %6s" % (work, own, yardstick, own / yardstick, aim))
