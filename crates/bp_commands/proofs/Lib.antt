@@ -1,4 +1,4 @@
-mod Answered
+pub mod Answered
 mod AnswersByNames
 mod ConcludedReads
 mod ConfirmedSteps
@@ -9,4 +9,3 @@ mod Migrated
 mod RunAnswers
 mod ShrunkTraces
 mod TestAnswers
-pub mod ViewedTraces

@@ -7,7 +7,7 @@ use crate::commands::PairCommand;
 use crate::explanations::SecondInput;
 use crate::named_starts::start_by_names;
 use crate::run_ends::CommandAnswer;
-use crate::show_calls::program_of;
+use crate::programs::program_of;
 use bp_confirm::{ConfirmReport, confirm};
 use bp_init::NamedStart;
 use bp_machine::Start;

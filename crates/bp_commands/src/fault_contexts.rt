@@ -11,7 +11,7 @@ use bp_messages::Fault;
 use bp_syntax::ReadFault;
 use bp_syntax::limits::TEXT_LIMIT;
 use bp_tasks::RunOptions;
-use bp_view::watched_names;
+use bp_facts::watched_names;
 use std::alloc::Global;
 
 /// The numbers among the options of a command that have a range.

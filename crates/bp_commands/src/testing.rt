@@ -10,7 +10,7 @@ ghost use Rattle.bp_commands.specs.Tests.{name_of, tests, AreListed};
 use crate::commands::ProgramCommand;
 use crate::named_starts::start_by_names;
 use crate::run_ends::CommandAnswer;
-use crate::show_calls::program_of;
+use crate::programs::program_of;
 use bp_check::Checked;
 use bp_init::NamedStart;
 use bp_machine::Start;

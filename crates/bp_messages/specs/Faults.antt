@@ -20,8 +20,8 @@ use Rattle.bp_run.specs.declared.run_faults.RunFault.{RunFault}
 use Rattle.bp_run.specs.declared.run_faults.RunFault.TheVariants as run
 use Rattle.bp_test.specs.declared.faults.TestFault.{TestFault}
 use Rattle.bp_test.specs.declared.faults.TestFault.TheVariants as test
-use Rattle.bp_view.specs.declared.faults.ViewFault.{ViewFault}
-use Rattle.bp_view.specs.declared.faults.ViewFault.TheVariants as view
+use Rattle.bp_facts.specs.declared.faults.ViewFault.{ViewFault}
+use Rattle.bp_facts.specs.declared.faults.ViewFault.TheVariants as view
 use Rattle.bp_messages.specs.declared.input_faults.InputFault.{InputFault}
 use Rattle.bp_messages.specs.declared.input_faults.InputFault.TheVariants as input
 use Rattle.bp_messages.specs.declared.faults.Fault.{Fault}

@@ -9,7 +9,7 @@ use bp_syntax::ReadFault;
 use bp_test::TestFault;
 use bp_text::WriteFault;
 use bp_trace::{DriveFault, MigrateFault, ReplayFault};
-use bp_view::ViewFault;
+use bp_facts::ViewFault;
 use std::alloc::AllocError;
 use thiserror::Error;
 

@@ -13,8 +13,8 @@ use Rattle.bp_trace.specs.Replays.{IsPlayable}
 use Rattle.bp_source.specs.declared.source_statements.SourceStatement.{SourceStatement}
 use Rattle.bp_source.specs.SourceStatements.{AreSourceStatements}
 use Rattle.bp_facts.specs.Watches.{watched_names, AreDeclared, IsUndeclared}
-use Rattle.bp_view.specs.declared.faults.ViewFault.{ViewFault}
-use Rattle.bp_view.specs.declared.faults.ViewFault.TheVariants.{Memory, NoThread, NoVariable, Replay, Write}
+use Rattle.bp_facts.specs.declared.faults.ViewFault.{ViewFault}
+use Rattle.bp_facts.specs.declared.faults.ViewFault.TheVariants.{Memory, NoThread, NoVariable, Replay, Write}
 use Rattle.bp_tasks.specs.declared.view_options.ViewOptions.{ViewOptions}
 use Rattle.bp_view.specs.declared.view_contexts.ViewContext.{ViewContext}
 use Rattle.bp_view.specs.declared.shown_traces.ShownTrace.{ShownTrace}

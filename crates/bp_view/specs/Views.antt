@@ -24,8 +24,8 @@ use Rattle.bp_source.specs.SourceStatements.{AreStatements}
 use Rattle.bp_facts.specs.CallFacts.{changes_by, printed_by, AreCallFacts, ShownCall}
 use Rattle.bp_facts.specs.Filters.{calls_of, is_asked}
 use Rattle.bp_facts.specs.Watches.{is_seen, watched_names, AreDeclared, IsUndeclared}
-use Rattle.bp_view.specs.declared.faults.ViewFault.{ViewFault}
-use Rattle.bp_view.specs.declared.faults.ViewFault.TheVariants.{Memory, NoThread, NoVariable, Replay, Write}
+use Rattle.bp_facts.specs.declared.faults.ViewFault.{ViewFault}
+use Rattle.bp_facts.specs.declared.faults.ViewFault.TheVariants.{Memory, NoThread, NoVariable, Replay, Write}
 use Rattle.bp_tasks.specs.declared.view_options.ViewFormat.{ViewFormat}
 use Rattle.bp_tasks.specs.declared.view_options.ViewFormat.TheVariants.{Columns, Json}
 use Rattle.bp_tasks.specs.declared.view_options.ViewOptions.{ViewOptions}

@@ -5,7 +5,6 @@ mod colours;
 mod conditions;
 mod contexts;
 mod ends;
-mod faults;
 mod frames;
 mod fronts;
 mod headings;
@@ -25,11 +24,10 @@ mod views;
 mod writers;
 
 pub use bp_facts::{
-    changes_replay, lines_stand_for_each_call_once, listed_names_are_watched, watched_names,
+    ViewFault, changes_replay, lines_stand_for_each_call_once, listed_names_are_watched, watched_names,
 };
 pub use bp_tasks::{ViewFormat, ViewOptions};
 pub use contexts::contexts_of;
-pub use faults::ViewFault;
 pub use laws::views_are_single;
 pub use states::state_at;
 pub use views::view;

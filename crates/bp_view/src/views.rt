@@ -13,7 +13,7 @@ ghost use Rattle.bp_view.specs.ShownTraces.{IsShownTrace};
 ghost use Rattle.bp_view.specs.Views.{HasMade, IsMissing, IsStopped, IsThere, IsView, IsViewRefusal, IsViewable, IsViewed};
 
 use crate::ends::end_of;
-use crate::faults::ViewFault;
+use bp_facts::ViewFault;
 use crate::fronts::Front;
 use crate::options::filter_of;
 use crate::setup_lines::head_of;

@@ -13,7 +13,8 @@ use Rattle.bp_commands.specs.Listings.{lists}
 use Rattle.bp_commands.specs.Runs.{runs_by_names}
 use Rattle.bp_commands.specs.Shrinks.{shrinks}
 use Rattle.bp_commands.specs.Tests.{of_test, tests_by_names}
-use Rattle.bp_commands.specs.Traces.{migrates, replays, shows_as}
+use Rattle.bp_commands.specs.Traces.{migrates, replays}
+use Rattle.bp_show.specs.Shows.{shows_as}
 use Rattle.bp_machine.specs.declared.reports.Report.{Report}
 use Rattle.bp_messages.specs.declared.test_reports.TestReport.{TestReport}
 use Rattle.bp_trace.specs.declared.limits.TheConstants.{MAX_SCHEDULE, MAX_TRACE}

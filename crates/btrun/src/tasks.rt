@@ -6,13 +6,13 @@ ghost use Rattle.bp_commands.specs.Tests.{name_of};
 ghost use Rattle.btrun.specs.Tasks.{job_of, listed_if, on_screen, show_job};
 
 use bp_commands::{
-    Check, Confirm, Drive, Files, Io, ListCode, Migrate, Replay, Run, RunEnd, Show, ShowContexts,
-    ShowState, ShowSteps, Shrink, Streams, Test, run_by_workers, run_on_bundle, run_on_pair,
-    run_on_program,
+    Check, Confirm, Drive, Files, Io, ListCode, Migrate, Replay, Run, RunEnd, Shrink, Streams, Test,
+    run_by_workers, run_on_bundle, run_on_pair, run_on_program,
 };
 use bp_init::{NamedBits, NamedStart};
 use bp_machine::Start;
 use bp_run::Spread;
+use bp_show::{Show, ShowContexts, ShowState, ShowSteps};
 use bp_tasks::{RunTask, ShowTask, Task, TestTask, ViewOptions};
 use bp_test::Progress;
 use std::alloc::Global;

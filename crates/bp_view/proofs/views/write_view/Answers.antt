@@ -6,7 +6,7 @@ use Rattle.bp_machine.specs.Histories.{granted_threads}
 use Rattle.bp_machine.specs.Sessions.{Stands}
 use Rattle.bp_text.proofs.WrittenParts.{none_begun}
 use Rattle.bp_facts.specs.Filters.{skipped}
-use Rattle.bp_view.specs.declared.faults.ViewFault.TheVariants.{Memory}
+use Rattle.bp_facts.specs.declared.faults.ViewFault.TheVariants.{Memory}
 use Rattle.bp_view.specs.Options.{filter_of}
 use Rattle.bp_view.specs.Views.{IsViewable}
 use Rattle.bp_view.proofs.BegunViews.{kind}

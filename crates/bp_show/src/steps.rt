@@ -1,7 +1,6 @@
 //! The command `show --steps`.
-use crate::commands::TraceCommand;
-use crate::show_calls::program_of;
 use bp_confirm::{own_steps, put_steps};
+use bp_commands::{TraceCommand, program_of};
 use bp_machine::Report;
 use bp_messages::Fault;
 use std::alloc::Global;
@@ -13,7 +12,7 @@ use std::io::Write;
 pub struct ShowSteps;
 
 impl TraceCommand for ShowSteps {
-    ghost use Rattle.bp_commands.specs.Traces.{lists_steps};
+    ghost use Rattle.bp_show.specs.Shows.{lists_steps};
 
     ghost command = { λ _. lists_steps };
 

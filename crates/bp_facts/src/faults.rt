@@ -28,7 +28,7 @@ pub enum ViewFault {
 
 impl From<ReplayFault> for ViewFault {
     ghost use Rattle.std.specs.Prelude.{◌≡◌};
-    ghost use Rattle.bp_view.specs.declared.faults.ViewFault.{ViewFault};
+    ghost use Rattle.bp_facts.specs.declared.faults.ViewFault.{ViewFault};
 
     ghost from_gives = { λ f e. e ≡ ViewFault.Replay f };
 
@@ -39,7 +39,7 @@ impl From<ReplayFault> for ViewFault {
 
 impl From<AllocError> for ViewFault {
     ghost use Rattle.std.specs.Prelude.{◌≡◌};
-    ghost use Rattle.bp_view.specs.declared.faults.ViewFault.{ViewFault};
+    ghost use Rattle.bp_facts.specs.declared.faults.ViewFault.{ViewFault};
 
     ghost from_gives = { λ _ e. e ≡ ViewFault.Memory };
 
@@ -50,7 +50,7 @@ impl From<AllocError> for ViewFault {
 
 impl From<WriteFault> for ViewFault {
     ghost use Rattle.std.specs.Prelude.{◌≡◌};
-    ghost use Rattle.bp_view.specs.declared.faults.ViewFault.{ViewFault};
+    ghost use Rattle.bp_facts.specs.declared.faults.ViewFault.{ViewFault};
 
     ghost from_gives = { λ _ e. e ≡ ViewFault.Write };
 

@@ -6,14 +6,15 @@ use Rattle.bp_tree.specs.Ast.{Program}
 use Rattle.bp_code.specs.LawfulTexts.{IsLawfulText}
 use Rattle.bp_machine.specs.declared.reports.Report.{Report}
 use Rattle.bp_machine.specs.Reports.{IsReport}
-use Rattle.bp_view.specs.declared.faults.ViewFault.{ViewFault}
-use Rattle.bp_view.specs.declared.faults.ViewFault.TheVariants as view
+use Rattle.bp_facts.specs.declared.faults.ViewFault.{ViewFault}
+use Rattle.bp_facts.specs.declared.faults.ViewFault.TheVariants as view
 use Rattle.bp_tasks.specs.declared.view_options.ViewOptions.{ViewOptions}
 use Rattle.bp_view.specs.Views.{IsViewed, IsViewOfTrace, IsViewRefusal}
 use Rattle.bp_commands.specs.Commands.{IsDoneWith, IsRefusedWith}
 use Rattle.bp_messages.specs.Faults.{fault_of_view}
 use Rattle.bp_commands.specs.Given.{Pair}
-use Rattle.bp_commands.specs.Traces.{shows, IsOfTrace, IsTraceReport, IsViewText}
+use Rattle.bp_commands.specs.Traces.{IsOfTrace, IsTraceReport}
+use Rattle.bp_show.specs.Shows.{shows, IsViewText}
 
 module _ (o : ViewOptions) (given : Pair) (t : Program) (of : IsLawfulText given.text t) where
   -- a view of a trace is what the command writes and reports

@@ -7,9 +7,10 @@ use Rattle.bp_machine.specs.Reports.{IsReport}
 use Rattle.bp_tasks.specs.declared.view_options.ViewFormat.{ViewFormat}
 use Rattle.bp_view.specs.States.{IsStateOfTrace}
 use Rattle.bp_commands.specs.Given.{Pair}
-use Rattle.bp_commands.specs.Traces.{states, IsOfTrace, IsStateOf, IsTraceReport}
+use Rattle.bp_commands.specs.Traces.{IsOfTrace, IsTraceReport}
+use Rattle.bp_show.specs.Shows.{states, IsStateOf}
 use Rattle.bp_commands.proofs.Answered.{refused_with, cut_short}
-use Rattle.bp_commands.proofs.show_state.ShowStateTraceCommand.apply_to_trace.Goals as goal
+use Rattle.bp_show.proofs.state.ShowStateTraceCommand.apply_to_trace.Goals as goal
 
 -- the state after calls of a trace is what the command writes and reports
 module _ (format : ViewFormat) (n : ℕ) (given : Pair) (t : Program) (of : IsLawfulText given.text t) (written : List ℕ)

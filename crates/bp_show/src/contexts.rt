@@ -1,6 +1,5 @@
 //! The command `show --contexts`.
-use crate::commands::TraceCommand;
-use crate::show_calls::program_of;
+use bp_commands::{TraceCommand, program_of};
 use bp_machine::Report;
 use bp_messages::Fault;
 use bp_tasks::ViewFormat;
@@ -18,7 +17,7 @@ pub struct ShowContexts {
 }
 
 impl TraceCommand for ShowContexts {
-    ghost use Rattle.bp_commands.specs.Traces.{lists_contexts};
+    ghost use Rattle.bp_show.specs.Shows.{lists_contexts};
 
     ghost command = { λ s. lists_contexts s.format };
 

@@ -1,28 +1,11 @@
 //! The command `show`.
-ghost use Rattle.std.specs.Prelude.{MatchResult};
-ghost use Rattle.bp_code.specs.LawfulTexts.{IsCodeRefusal, IsLawfulText};
-ghost use Rattle.bp_code.specs.StandsFor.{StandsFor};
-
-use crate::commands::TraceCommand;
-use bp_check::Checked;
-use bp_code::{Code, CodeFault, compile, lawful_program};
+use bp_commands::{TraceCommand, program_of};
 use bp_machine::Report;
 use bp_messages::Fault;
 use bp_tasks::ViewOptions;
 use bp_view::view;
 use std::alloc::Global;
 use std::io::Write;
-
-/// The lawful program of a text, and its code.
-pub(crate) fn program_of(alloc: Global, text: &[u8]) -> Result<(Checked, Code), CodeFault>
-    ensures { MatchResult result
-        (λ p. IsLawfulText text.now p.0 × StandsFor p.1 p.0)
-        (IsCodeRefusal text.now) }
-{
-    let checked = lawful_program(alloc, text)?;
-    let code = compile(alloc, &checked)?;
-    Ok((checked, code))
-}
 
 /// `show`: replays a trace of a program, and writes a view of its history, for people: the setup, a
 /// line for each call that is shown, and the outcome.
@@ -33,7 +16,7 @@ pub struct Show<'a> {
 }
 
 impl TraceCommand for Show<'_> {
-    ghost use Rattle.bp_commands.specs.Traces.{shows};
+    ghost use Rattle.bp_show.specs.Shows.{shows};
 
     ghost command = { λ s. shows s.options };
 

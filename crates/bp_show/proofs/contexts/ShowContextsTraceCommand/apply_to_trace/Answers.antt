@@ -7,9 +7,10 @@ use Rattle.bp_machine.specs.Reports.{IsReport}
 use Rattle.bp_tasks.specs.declared.view_options.ViewFormat.{ViewFormat}
 use Rattle.bp_view.specs.ContextLines.{AreContextsOfTrace}
 use Rattle.bp_commands.specs.Given.{Pair}
-use Rattle.bp_commands.specs.Traces.{lists_contexts, AreContextsOf, IsOfTrace, IsTraceReport}
+use Rattle.bp_commands.specs.Traces.{IsOfTrace, IsTraceReport}
+use Rattle.bp_show.specs.Shows.{lists_contexts, AreContextsOf}
 use Rattle.bp_commands.proofs.Answered.{refused_with, cut_short}
-use Rattle.bp_commands.proofs.show_contexts.ShowContextsTraceCommand.apply_to_trace.Goals as goal
+use Rattle.bp_show.proofs.contexts.ShowContextsTraceCommand.apply_to_trace.Goals as goal
 
 -- the contexts of a trace are what the command writes, and it answers the trace's report
 module _ (format : ViewFormat) (given : Pair) (t : Program) (of : IsLawfulText given.text t) (written : List ℕ)

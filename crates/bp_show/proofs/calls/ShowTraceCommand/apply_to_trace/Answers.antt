@@ -1,10 +1,10 @@
 use Rattle.std.proofs.Common.{inl, refl}
 use Rattle.std.proofs.lemmas.Result.{err_from_is_err_and}
 use Rattle.bp_commands.specs.Given.{Pair}
-use Rattle.bp_commands.specs.Traces.{shows}
+use Rattle.bp_show.specs.Shows.{shows}
 use Rattle.bp_commands.proofs.Answered.{refused_with}
-use Rattle.bp_commands.proofs.ViewedTraces.{not_viewed, viewed}
-use Rattle.bp_commands.proofs.show_calls.ShowTraceCommand.apply_to_trace.Goals as goal
+use Rattle.bp_show.proofs.ViewedTraces.{not_viewed, viewed}
+use Rattle.bp_show.proofs.calls.ShowTraceCommand.apply_to_trace.Goals as goal
 
 pub returns-in_err-checked : goal.returns-in_err-checked
 returns-in_err-checked g c =

@@ -6,9 +6,10 @@ use Rattle.bp_machine.specs.declared.reports.Report.{Report}
 use Rattle.bp_confirm.specs.declared.noted_steps.OwnStep.{OwnStep}
 use Rattle.bp_confirm.specs.OwnSteps.{own_steps_text, AreStepsOfTrace}
 use Rattle.bp_commands.specs.Given.{Pair}
-use Rattle.bp_commands.specs.Traces.{lists_steps, AreStepsOf, IsOfTrace, IsTraceReport}
+use Rattle.bp_commands.specs.Traces.{IsOfTrace, IsTraceReport}
+use Rattle.bp_show.specs.Shows.{lists_steps, AreStepsOf}
 use Rattle.bp_commands.proofs.Answered.{refused_with, cut_short}
-use Rattle.bp_commands.proofs.show_steps.ShowStepsTraceCommand.apply_to_trace.Goals as goal
+use Rattle.bp_show.proofs.steps.ShowStepsTraceCommand.apply_to_trace.Goals as goal
 
 -- the steps of a trace are what the command writes, and it answers the trace's report
 module _ (given : Pair) (t : Program) (of : IsLawfulText given.text t) (steps : List OwnStep) (r : Report)

@@ -1,6 +1,5 @@
 //! The command `show --at`.
-use crate::commands::TraceCommand;
-use crate::show_calls::program_of;
+use bp_commands::{TraceCommand, program_of};
 use bp_machine::Report;
 use bp_messages::Fault;
 use bp_tasks::ViewFormat;
@@ -20,7 +19,7 @@ pub struct ShowState {
 }
 
 impl TraceCommand for ShowState {
-    ghost use Rattle.bp_commands.specs.Traces.{states};
+    ghost use Rattle.bp_show.specs.Shows.{states};
 
     ghost command = { λ s. states s.format s.number };
 
