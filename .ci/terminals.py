@@ -33,9 +33,10 @@ WIDE_TRACE = "btrace 1\nentry main\ninit 00\ncontexts 2\ncalls 9\nseed none\n0 0
 
 CLEARED = r"\r\x1b\[K"
 
-# A test of 10,000 runs has two blocks, and each of them ends with a line of progress.
+# A test of 10,000 runs has blocks of 500, 1,000, 2,000 and 4,000 runs, and one of those that are left. Each of them ends
+# with a line of progress.
 PROGRESS = re.compile(
-    CLEARED + r"5000 of 10000 runs, \d+ a second, \d+ s left"
+    "".join(CLEARED + r"%d of 10000 runs, \d+ a second, \d+ s left" % made for made in (500, 1500, 3500, 7500))
     + CLEARED + r"10000 of 10000 runs, \d+ a second, 0 s left" + CLEARED
 )
 

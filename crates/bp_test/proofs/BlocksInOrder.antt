@@ -1,5 +1,6 @@
 -- What the blocks of a wave say one after the other.
 use Rattle.std.proofs.Common.{◌≡◌, ℕ, suc, ◌+◌, ◌-◌, ◌≤◌, Bool, true, false, List, [], ◌∷◌, ◌++◌, length, append-nil, Option, None, Some, Result, Ok, refl, sym, ◌∙◌, subst, arith}
+use Rattle.std.proofs.Math.Nat.{mul-le-mul_right}
 use Rattle.std.specs.Prelude.{max, slice_index_or, is_some}
 use Rattle.bp_text.proofs.GrownLists.{regrouped}
 use Rattle.bp_tree.specs.Ast.{Program}
@@ -15,8 +16,8 @@ use Rattle.bp_test.specs.Tallies.{MadeRun, IsTally}
 use Rattle.bp_test.specs.Tests.{AreCleanRuns, IsFirstFound, IsTallied}
 use Rattle.bp_test.proofs.FirstFound.{found_later}
 
-starts_rise : (from a b runs : ℕ) → a ≤ b → start_of_block from a runs ≤ start_of_block from b runs
-starts_rise from a b runs le = omega (arith, le)
+starts_rise : (from size a b runs : ℕ) → a ≤ b → start_of_block from size a runs ≤ start_of_block from size b runs
+starts_rise from size a b runs le = let more = mul-le-mul_right size le in omega (arith, more)
 
 pub none_of : (o : Option FoundRun) → is_some o ≡ false → o ≡ None
 none_of None e = refl
@@ -30,27 +31,27 @@ some_of (Some f) some none = absurd cc
 abbrev pub Adds : Tally → Tally → Tally → Type 0
 Adds old other new = (t : Program) (s : SetupOf) (runs more : List MadeRun) → IsTally t s runs old → IsTally t s more other → IsTally t s (runs ++ more) new
 
-module _ {E : Type 0} (k : Flat) (s : SetupOf) (p : Plan) (from runs : ℕ) (t : Program) (is : StandsFor k t) (earlier : List MadeRun) where
+module _ {E : Type 0} (k : Flat) (s : SetupOf) (p : Plan) (from size runs : ℕ) (t : Program) (is : StandsFor k t) (earlier : List MadeRun) where
   -- the runs of the blocks before these, which are the rest of all, are not looked for, and are
   -- counted; the last of them is before this one
   pub record IsBefore (all rest : List (Result Block E)) (end : ℕ) (tally : Tally) : Type 0 where
     pub before : ℕ
     pub count : before + length rest ≡ length all
-    pub blocks : AreBlocks k s p from runs before rest
+    pub blocks : AreBlocks k s p from size runs before rest
     pub made : List MadeRun
-    pub size : start_of_block from 0 runs + length made ≡ end
-    pub ends : IsEnd p.deadline (start_of_block from 0 runs) (start_of_block from before runs) None end
-    pub clean : AreCleanRuns t s p.with_deadlock p.seed (start_of_block from 0 runs) made
+    pub number : start_of_block from size 0 runs + length made ≡ end
+    pub ends : IsEnd p.deadline (start_of_block from size 0 runs) (start_of_block from size before runs) None end
+    pub clean : AreCleanRuns t s p.with_deadlock p.seed (start_of_block from size 0 runs) made
     pub tallied : IsTally t s (earlier ++ made) tally
 
-  pub before_all : (all : List (Result Block E)) (tally : Tally) → AreBlocks k s p from runs 0 all → (end : ℕ)
-      → end ≡ start_of_block from 0 runs → IsTally t s earlier tally → IsBefore all all end tally
+  pub before_all : (all : List (Result Block E)) (tally : Tally) → AreBlocks k s p from size runs 0 all → (end : ℕ)
+      → end ≡ start_of_block from size 0 runs → IsTally t s earlier tally → IsBefore all all end tally
   before_all all tally are end same tallied = record {
     before = 0;
     count = omega arith;
     blocks = are;
     made = [];
-    size = omega (arith, same);
+    number = omega (arith, same);
     ends = (omega (arith, same), omega (arith, same), λ untimed none. omega (arith, same));
     clean = tt;
     tallied = subst (λ rs. IsTally t s rs tally) (sym (append-nil earlier)) tallied;
@@ -58,37 +59,37 @@ module _ {E : Type 0} (k : Flat) (s : SetupOf) (p : Plan) (from runs : ℕ) (t :
 
   -- the runs before some blocks are those of the wave, as far as they were made
   pub after_made : (all rest : List (Result Block E)) (end : ℕ) (tally : Tally) → IsBefore all rest end tally
-      → IsTalliedAfter earlier t s p.with_deadlock p.seed (start_of_block from 0 runs) end None tally
+      → IsTalliedAfter earlier t s p.with_deadlock p.seed (start_of_block from size 0 runs) end None tally
   after_made all rest end tally was = record {
     runs = was.made;
-    first = ((let size = was.size in omega (arith, size)), was.clean);
+    first = ((let number = was.number in omega (arith, number)), was.clean);
     tallied = was.tallied;
   }
 
   pub ends_all : (all rest : List (Result Block E)) (end : ℕ) (tally : Tally) → length rest ≡ 0
       → IsBefore all rest end tally
-      → IsEnd p.deadline (start_of_block from 0 runs) (start_of_block from (length all) runs) None end
+      → IsEnd p.deadline (start_of_block from size 0 runs) (start_of_block from size (length all) runs) None end
   ends_all all rest end tally none was =
       let same : was.before ≡ length all = let count = was.count in omega (arith, none, count) in
-      subst (λ n. IsEnd p.deadline (start_of_block from 0 runs) (start_of_block from n runs) None end) same was.ends
+      subst (λ n. IsEnd p.deadline (start_of_block from size 0 runs) (start_of_block from size n runs) None end) same was.ends
 
   module _ (all rest : List (Result Block E)) (block : Block) (end : ℕ) (old : Tally) (was : IsBefore all (Ok block ∷ rest) end old) where
-    this : IsBlock {E = E} k s p from runs was.before (Ok block)
+    this : IsBlock {E = E} k s p from size runs was.before (Ok block)
     this =
         let same : was.before + 0 ≡ was.before = omega arith in
-        subst (λ n. IsBlock {E = E} k s p from runs n (Ok block)) same (was.blocks 0 (Ok block) (omega arith))
+        subst (λ n. IsBlock {E = E} k s p from size runs n (Ok block)) same (was.blocks 0 (Ok block) (omega arith))
 
-    rise : start_of_block from 0 runs ≤ start_of_block from was.before runs
-    rise = starts_rise from 0 was.before runs (omega arith)
+    rise : start_of_block from size 0 runs ≤ start_of_block from size was.before runs
+    rise = starts_rise from size 0 was.before runs (omega arith)
 
-    next_rise : start_of_block from was.before runs ≤ start_of_block from (was.before + 1) runs
-    next_rise = starts_rise from was.before (was.before + 1) runs (omega arith)
+    next_rise : start_of_block from size was.before runs ≤ start_of_block from size (was.before + 1) runs
+    next_rise = starts_rise from size was.before (was.before + 1) runs (omega arith)
 
-    last_rise : start_of_block from (was.before + 1) runs ≤ start_of_block from (length all) runs
-    last_rise = starts_rise from (was.before + 1) (length all) runs (let count = was.count in omega (arith, count))
+    last_rise : start_of_block from size (was.before + 1) runs ≤ start_of_block from size (length all) runs
+    last_rise = starts_rise from size (was.before + 1) (length all) runs (let count = was.count in omega (arith, count))
 
     -- the block before this one was cut off
-    pub ends_cut : (block.from ≡ end → ⊥) → IsEnd p.deadline (start_of_block from 0 runs) (start_of_block from (length all) runs) None end
+    pub ends_cut : (block.from ≡ end → ⊥) → IsEnd p.deadline (start_of_block from size 0 runs) (start_of_block from size (length all) runs) None end
     ends_cut cut =
         let low = was.ends.0 in
         let high = was.ends.1 in (
@@ -113,16 +114,16 @@ module _ {E : Type 0} (k : Flat) (s : SetupOf) (p : Plan) (from runs : ℕ) (t :
       below : end ≤ block.end
       below = let starts = this.0 in let low = this.1.0 in omega (arith, starts, low, here)
 
-      both_first : IsFirstFound t s p.with_deadlock p.seed (start_of_block from 0 runs) block.end block.found both
+      both_first : IsFirstFound t s p.with_deadlock p.seed (start_of_block from size 0 runs) block.end block.found both
       both_first =
-          found_later t s p.with_deadlock p.seed (start_of_block from 0 runs) end block.end was.made was.size was.clean
+          found_later t s p.with_deadlock p.seed (start_of_block from size 0 runs) end block.end was.made was.number was.clean
           below block.found tallied.runs tallied.first
 
       -- where the wave ends, if this block is the last of it
-      ends_here : (n : ℕ) → start_of_block from (was.before + 1) runs ≤ start_of_block from n runs
+      ends_here : (n : ℕ) → start_of_block from size (was.before + 1) runs ≤ start_of_block from size n runs
           → (o : Option FoundRun)
-          → (p.deadline ≡ None → o ≡ None → block.end ≡ max (start_of_block from 0 runs) (start_of_block from n runs))
-          → IsEnd p.deadline (start_of_block from 0 runs) (start_of_block from n runs) o block.end
+          → (p.deadline ≡ None → o ≡ None → block.end ≡ max (start_of_block from size 0 runs) (start_of_block from size n runs))
+          → IsEnd p.deadline (start_of_block from size 0 runs) (start_of_block from size n runs) o block.end
       ends_here n le o untimed =
           let low = was.ends.0 in
           let high = this.1.1 in
@@ -130,17 +131,17 @@ module _ {E : Type 0} (k : Flat) (s : SetupOf) (p : Plan) (from runs : ℕ) (t :
 
       pub before_rest : is_some block.found ≡ false → IsBefore all rest block.end new
       before_rest e =
-          let none = subst (λ o. IsFirstFound t s p.with_deadlock p.seed (start_of_block from 0 runs) block.end o both)
+          let none = subst (λ o. IsFirstFound t s p.with_deadlock p.seed (start_of_block from size 0 runs) block.end o both)
           (none_of block.found e) both_first in
           record {
             before = was.before + 1;
             count = let e = was.count in omega (arith, e);
             blocks = λ n d l.
                 let more : was.before + suc n ≡ was.before + 1 + n = omega arith in
-                subst (λ m. IsBlock {E = E} k s p from runs m (slice_index_or rest n d)) more
+                subst (λ m. IsBlock {E = E} k s p from size runs m (slice_index_or rest n d)) more
                 (was.blocks (suc n) d (omega (arith, l)));
             made = both;
-            size = let low = was.ends.0 in let size = none.0 in omega (arith, low, below, size);
+            number = let low = was.ends.0 in let many = none.0 in omega (arith, low, below, many);
             ends =
                 ends_here (was.before + 1) (omega arith) None
                 (λ untimed o. let same = this.1.2 untimed (none_of block.found e) in omega (arith, same, rise, next_rise));
@@ -148,10 +149,10 @@ module _ {E : Type 0} (k : Flat) (s : SetupOf) (p : Plan) (from runs : ℕ) (t :
             tallied = tallied_both;
           }
 
-      pub ends_found : is_some block.found ≡ true → IsEnd p.deadline (start_of_block from 0 runs) (start_of_block from (length all) runs) block.found block.end
+      pub ends_found : is_some block.found ≡ true → IsEnd p.deadline (start_of_block from size 0 runs) (start_of_block from size (length all) runs) block.found block.end
       ends_found e = ends_here (length all) last_rise block.found (λ untimed none. absurd (some_of block.found e none))
 
-      pub found_any : IsTalliedAfter earlier t s p.with_deadlock p.seed (start_of_block from 0 runs) block.end block.found new
+      pub found_any : IsTalliedAfter earlier t s p.with_deadlock p.seed (start_of_block from size 0 runs) block.end block.found new
       found_any = record { runs = both; first = both_first; tallied = tallied_both }
 
 -- a wave after runs that are not looked for

@@ -9,7 +9,6 @@ use Rattle.bp_machine.specs.Setups.{SetupOf}
 use Rattle.bp_test.specs.declared.blocks.Block.{Block}
 use Rattle.bp_test.specs.declared.blocks.FoundRun.{FoundRun}
 use Rattle.bp_test.specs.declared.tallies.Tally.{Tally}
-use Rattle.bp_test.specs.declared.limits.TheConstants.{BLOCK}
 use Rattle.bp_test.specs.declared.plans.Plan.{Plan}
 use Rattle.bp_test.specs.Tallies.{MadeRun, IsTally}
 use Rattle.bp_test.specs.Tests.{IsFirstFound, IsTallied}
@@ -18,9 +17,9 @@ use Rattle.bp_test.specs.Tests.{IsFirstFound, IsTallied}
 abbrev pub is_sought : Bool → Report → Bool → Bool
 is_sought with_deadlock r deadlocked = is_failure r.outcome || (with_deadlock && deadlocked)
 
--- where block n of a wave begins, in a test of this many runs
-abbrev pub start_of_block : (from n runs : ℕ) → ℕ
-start_of_block from n runs = min (from + n * BLOCK) runs
+-- where block n of a wave with blocks of this size begins, in a test of this many runs
+abbrev pub start_of_block : (from size n runs : ℕ) → ℕ
+start_of_block from size n runs = min (from + n * size) runs
 
 -- Runs were to be made from one number to before another, and were made to before this one: all of
 -- them, if there is no deadline and none was found.
@@ -30,12 +29,12 @@ IsEnd deadline from to found end =
     × (end ≤ max from to)
     × (deadline ≡ None → found ≡ None → end ≡ max from to)
 
-module _ {E : Type 0} (k : Flat) (s : SetupOf) (p : Plan) (from runs : ℕ) where
+module _ {E : Type 0} (k : Flat) (s : SetupOf) (p : Plan) (from size runs : ℕ) where
   -- what block n of a wave came to
   abbrev pub IsBlock : ℕ → Result Block E → Type 0
   IsBlock n r =
-      let start = start_of_block from n runs in
-      let end = start_of_block from (n + 1) runs in
+      let start = start_of_block from size n runs in
+      let end = start_of_block from size (n + 1) runs in
       IfOk r (λ block.
       (block.from ≡ start)
       × IsEnd p.deadline start end block.found block.end

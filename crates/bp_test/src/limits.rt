@@ -1,7 +1,10 @@
 //! Numbers of tests.
 
-/// How many runs a block has.
-pub const BLOCK: u64 = 5_000;
+/// How many runs a block of the first wave has.
+pub const FIRST_BLOCK: u64 = 500;
+
+/// How many runs a block has at most.
+pub const LONGEST_BLOCK: u64 = 32_000;
 
 /// How many runs of a test are compared at most: the first ones.
 pub const MAX_KEYS: usize = 1 << 20;

@@ -11,7 +11,7 @@ ghost use Rattle.bp_test.specs.Tests.{IsTallied};
 
 use crate::blocks::{Block, FoundRun, first_found};
 use crate::deadlines::Runtimes;
-use crate::limits::BLOCK;
+use crate::limits::{FIRST_BLOCK, LONGEST_BLOCK};
 use crate::plans::Plan;
 use crate::progress::Progress;
 use crate::tallies::Tally;
@@ -22,42 +22,56 @@ use std::thread;
 use std::thread::Threads;
 use std::time::Clock;
 
-/// Where a block of a wave begins, in a test of this many runs.
-fn start_of_block(from: u64, block: u64, runs: u64) -> u64
-    ensures { result ≡ start_of_block from block runs }
-{
-    from.saturating_add(block.saturating_mul(BLOCK)).min(runs)
+/// Blocks of runs that are made side by side.
+#[derive(Clone, Copy)]
+struct Wave {
+    /// The number of its first run.
+    from: u64,
+    /// How many blocks it has.
+    blocks: usize,
+    /// How many runs a block has.
+    size: u64,
+    /// How many runs the test makes. A block that reaches them is shorter.
+    runs: u64,
 }
 
-/// Makes this many blocks of runs side by side.
-fn wave<R: Threads + Sync, C: Clock + Sync>(
+impl Wave {
+    /// Where this block begins. Where a block ends, the next one begins.
+    fn start(&self, block: u64) -> u64
+        ensures { let w = self.now in result ≡ start_of_block w.from w.size block w.runs }
+    {
+        let before = block.saturating_mul(self.size);
+        self.from.saturating_add(before).min(self.runs)
+    }
+}
+
+/// Makes the blocks of a wave side by side.
+fn blocks_of<R: Threads + Sync, C: Clock + Sync>(
     rt: &Runtimes<'_, R, C>,
     alloc: Global,
     code: &Code,
     setup: &Setup,
     plan: &Plan,
-    from: u64,
-    runs: u64,
-    jobs: usize,
+    wave: Wave,
 ) -> Result<Vec<Result<Block, AllocError>>, AllocError>
     requires { FitsCode code.now setup.now }
-    ensures count { IfOk result (λ blocks. length blocks.items ≡ jobs) }
+    ensures count { IfOk result (λ blocks. length blocks.items ≡ wave.blocks) }
     ensures blocks { IfOk result (λ blocks.
-        AreBlocks code.now setup.now plan.now from runs 0 blocks.items) }
+        AreBlocks code.now setup.now plan.now wave.from wave.size wave.runs 0 blocks.items) }
 {
     let clock = rt.clock;
     thread::map_indices(
         rt.threads,
         alloc,
-        jobs,
+        wave.blocks,
         &|n: usize| -> Result<Block, AllocError>
             requires few { n + 1 < 2 ^ 64 }
             requires fits { FitsCode code.now setup.now }
             ensures { let k = code.entry.now in let s = setup.entry.now in let p = plan.entry.now in
-                IsBlock k s p from runs n result }
+                IsBlock k s p wave.from wave.size wave.runs n result }
         {
-            let start = start_of_block(from, n as u64, runs);
-            let end = start_of_block(from, n as u64 + 1, runs);
+            let start = wave.start(n as u64);
+            let end = wave.start(n as u64 + 1);
             first_found(clock, alloc, code, setup, plan, start, end)
         },
     )
@@ -78,10 +92,10 @@ fn first_of(
     blocks: Vec<Result<Block, AllocError>>,
     tally: &mut Tally,
 ) -> Result<WaveEnd, AllocError>
-    ensures { (k : Flat) (s : SetupOf) (p : PlanOf) (from runs : ℕ)
-        → AreBlocks k s p from runs 0 blocks.items
-        → start ≡ start_of_block from 0 runs
-        → let last = start_of_block from (length blocks.items) runs in
+    ensures { (k : Flat) (s : SetupOf) (p : PlanOf) (from size runs : ℕ)
+        → AreBlocks k s p from size runs 0 blocks.items
+        → start ≡ start_of_block from size 0 runs
+        → let last = start_of_block from size (length blocks.items) runs in
         IfOk result (λ wave.
         (t : Program)
         → StandsFor k t
@@ -108,7 +122,8 @@ fn first_of(
 }
 
 /// Makes this many runs of a plan, in waves of this many blocks, until one is found or the time is
-/// over. After each wave that found none, `progress` is told.
+/// over. After each wave that found none, `progress` is told, and the next wave has blocks of twice
+/// as many runs. So a failure among the first runs is told soon, and many runs wait seldom.
 pub(crate) fn search<R: Threads + Sync, C: Clock + Sync, P: Progress>(
     rt: &Runtimes<'_, R, C>,
     alloc: Global,
@@ -129,11 +144,17 @@ pub(crate) fn search<R: Threads + Sync, C: Clock + Sync, P: Progress>(
         × IsTallied t setup.now p.with_deadlock p.seed 0 block.end block.found block.tally) }
 {
     let mut tally = Tally::new(alloc, code, setup)?;
-    let mut from = 0;
+    let (mut from, mut size) = (0, FIRST_BLOCK);
     while from < runs {
-        let blocks = wave(rt, alloc, code, setup, plan, from, runs, jobs)?;
+        let wave = Wave {
+            from,
+            blocks: jobs,
+            size,
+            runs,
+        };
+        let blocks = blocks_of(rt, alloc, code, setup, plan, wave)?;
         let WaveEnd { end, found } = first_of(from, blocks, &mut tally)?;
-        let next = start_of_block(from, jobs as u64, runs);
+        let next = wave.start(jobs as u64);
         if found.is_some() || end != next {
             return Ok(Block {
                 from: 0,
@@ -143,6 +164,7 @@ pub(crate) fn search<R: Threads + Sync, C: Clock + Sync, P: Progress>(
             });
         }
         from = next;
+        size = (size * 2).min(LONGEST_BLOCK);
         progress.tell(from, runs);
     }
     Ok(Block {

@@ -7,26 +7,26 @@ loop-block-init c = record {
   can = tt;
   ends = tt;
   count = search rules depth 2;
-  before = λ k s p from runs are same t is earlier tallied.
-      rw c.into_iter-block-iterator.ensures.into_iter_gives.0 (before_all k s p from runs t is earlier _ _ are _ same tallied);
+  before = λ k s p from size runs are same t is earlier tallied.
+      rw c.into_iter-block-iterator.ensures.into_iter_gives.0 (before_all k s p from size runs t is earlier _ _ are _ same tallied);
 }
 
 pub returns-then-block-end : goal.returns-then-block-end
-returns-then-block-end c = λ k s p from runs are same t is earlier tallied.
-    let before = rw (c.in-Some.ensures.steps.0, c.in_ok-block.was) at (c.loop-block.invariant.before k s p from runs are same t is earlier tallied) in
+returns-then-block-end c = λ k s p from size runs are same t is earlier tallied.
+    let before = rw (c.in-Some.ensures.steps.0, c.in_ok-block.was) at (c.loop-block.invariant.before k s p from size runs are same t is earlier tallied) in
     rw same (
-      ends_cut k s p from runs t is earlier _ _ c.in_ok-block.block _ _ before c.if-block-end.true,
-      after_made k s p from runs t is earlier _ _ _ _ before,
+      ends_cut k s p from size runs t is earlier _ _ c.in_ok-block.block _ _ before c.if-block-end.true,
+      after_made k s p from size runs t is earlier _ _ _ _ before,
     )
 
 pub returns-then-is_some : goal.returns-then-is_some
-returns-then-is_some c = λ k s p from runs are same t is earlier tallied.
-    let before = rw (c.in-Some.ensures.steps.0, c.in_ok-block.was) at (c.loop-block.invariant.before k s p from runs are same t is earlier tallied) in
+returns-then-is_some c = λ k s p from size runs are same t is earlier tallied.
+    let before = rw (c.in-Some.ensures.steps.0, c.in_ok-block.was) at (c.loop-block.invariant.before k s p from size runs are same t is earlier tallied) in
     let some = sym c.is_some.ensures ∙ c.if-is_some.true in
     rw same (
-      ends_found k s p from runs t is earlier _ _ c.in_ok-block.block _ _ before _ c.in_ok-add.ensures
+      ends_found k s p from size runs t is earlier _ _ c.in_ok-block.block _ _ before _ c.in_ok-add.ensures
           c.if-block-end.false some,
-      found_any k s p from runs t is earlier _ _ c.in_ok-block.block _ _ before _ c.in_ok-add.ensures c.if-block-end.false,
+      found_any k s p from size runs t is earlier _ _ c.in_ok-block.block _ _ before _ c.in_ok-add.ensures c.if-block-end.false,
     )
 
 pub loop-block-preserved : goal.loop-block-preserved
@@ -37,14 +37,14 @@ loop-block-preserved c = record {
       let fewer = c.in-Some.ensures.steps.1 in
       let same = c.loop-block.invariant.count ∙ ap length c.in-Some.ensures.steps.0 in
       omega (arith, fewer, same);
-  before = λ k s p from runs are same t is earlier tallied.
-      let before = rw (c.in-Some.ensures.steps.0, c.in_ok-block.was) at (c.loop-block.invariant.before k s p from runs are same t is earlier tallied) in
-      before_rest k s p from runs t is earlier _ _ c.in_ok-block.block _ _ before _ c.in_ok-add.ensures
+  before = λ k s p from size runs are same t is earlier tallied.
+      let before = rw (c.in-Some.ensures.steps.0, c.in_ok-block.was) at (c.loop-block.invariant.before k s p from size runs are same t is earlier tallied) in
+      before_rest k s p from size runs t is earlier _ _ c.in_ok-block.block _ _ before _ c.in_ok-add.ensures
       c.if-block-end.false (sym c.is_some.ensures ∙ c.if-is_some.false);
 }
 
 pub returns : goal.returns
-returns c = λ k s p from runs are same t is earlier tallied.
-    let before = c.loop-block.invariant.before k s p from runs are same t is earlier tallied in
+returns c = λ k s p from size runs are same t is earlier tallied.
+    let before = c.loop-block.invariant.before k s p from size runs are same t is earlier tallied in
     let none = sym c.loop-block.invariant.count ∙ c.in-None.ensures.steps.0 in
-    rw same (ends_all k s p from runs t is earlier _ _ _ _ none before, after_made k s p from runs t is earlier _ _ _ _ before)
+    rw same (ends_all k s p from size runs t is earlier _ _ _ _ none before, after_made k s p from size runs t is earlier _ _ _ _ before)

@@ -15,10 +15,10 @@ invariant-loop-block l = record {
   can : goal.iterator-loop-block.can_next l.block-iterator;
   ends : goal.iterator-loop-block.is_finite l.block-iterator;
   count : into_iter_len l.block-iterator ≡ length (into_iter_items l.block-iterator);
-  before : (k : Flat) (s : SetupOf) (p : Plan) (from runs : ℕ)
-      → AreBlocks k s p from runs 0 l.fn.blocks.items
-      → l.fn.start ≡ start_of_block from 0 runs
+  before : (k : Flat) (s : SetupOf) (p : Plan) (from size runs : ℕ)
+      → AreBlocks k s p from size runs 0 l.fn.blocks.items
+      → l.fn.start ≡ start_of_block from size 0 runs
       → (t : Program) (is : StandsFor k t) (earlier : List MadeRun)
       → IsTally t s earlier l.fn.tally
-      → IsBefore k s p from runs t is earlier l.fn.blocks.items (into_iter_items l.block-iterator) l.end l.tally;
+      → IsBefore k s p from size runs t is earlier l.fn.blocks.items (into_iter_items l.block-iterator) l.end l.tally;
 }

@@ -1,4 +1,4 @@
-use Rattle.std.proofs.Common.{None, sym, ◌≡◌, ◌∙◌, subst, arith}
+use Rattle.std.proofs.Common.{None, ap, sym, ◌≡◌, ◌∙◌, ◌*◌, subst, arith}
 use Rattle.bp_test.specs.Blocks.{start_of_block}
 use Rattle.bp_test.specs.Tests.{IsTallied}
 use Rattle.bp_test.proofs.BlocksInOrder.{none_of, some_of, after_wave}
@@ -10,19 +10,20 @@ returns-then-is_some g c = λ t is.
     let s = c.args.setup.now in
     let p = c.args.plan.now in
     let from = c.loop-from.from in
+    let size = c.loop-from.size in
     let within = c.loop-from.invariant.within in
     let was = c.loop-from.invariant.tallied t is in
-    let here : from ≡ start_of_block from 0 c.args.runs = omega (arith, within) in
-    let wave = c.in_ok-end.ensures c.args.code.now s p from c.args.runs c.in_ok-blocks.ensures.blocks here t is was.runs was.tallied in
+    let here : from ≡ start_of_block from size 0 c.args.runs = omega (arith, within) in
+    let wave = c.in_ok-end.ensures c.args.code.now s p from size c.args.runs c.in_ok-blocks.ensures.blocks here t is was.runs was.tallied in
     let high = wave.0.1 in
-    let next = c.start_of_block-next.ensures in
+    let next = c.start-next.ensures in
     let count = c.in_ok-blocks.ensures.count in (
       (
         omega arith,
         omega (arith, high, within),
         λ untimed none. let same = wave.0.2 untimed none in elim c.then-is_some.branch [
           | then-is_some-via-then-is_some w ↦ absurd (some_of _ (sym c.is_some.ensures ∙ w.if-is_some.true) none)
-          | then-is_some-via-else-is_some+then-end-next w ↦ absurd (w.if-end-next.true (omega (arith, same, next, count, within)))
+          | then-is_some-via-else-is_some+then-end-next w ↦ absurd (w.if-end-next.true (let all = ap (λ n. n * size) count in omega (arith, same, next, all, within)))
         ],
       ),
       after_wave t s p.with_deadlock p.seed from _ wave.0.0 was.runs was.first.0 was.first.1 _ _ wave.1,
@@ -30,15 +31,18 @@ returns-then-is_some g c = λ t is.
 
 pub loop-from-preserved : goal.loop-from-preserved
 loop-from-preserved g c = record {
-  within = let next = c.start_of_block-next.ensures in omega (arith, next);
+  within = let next = c.start-next.ensures in omega (arith, next);
+  some = let more = c.min-size.ensures in let some = c.loop-from.invariant.some in omega (arith, more, some);
+  short = let more = c.min-size.ensures in omega (arith, more);
   tallied = λ t is.
       let s = c.args.setup.now in
       let p = c.args.plan.now in
       let from = c.loop-from.from in
+      let size = c.loop-from.size in
       let within = c.loop-from.invariant.within in
       let was = c.loop-from.invariant.tallied t is in
-      let here : from ≡ start_of_block from 0 c.args.runs = omega (arith, within) in
-      let wave = c.in_ok-end.ensures c.args.code.now s p from c.args.runs c.in_ok-blocks.ensures.blocks here t is was.runs was.tallied in
+      let here : from ≡ start_of_block from size 0 c.args.runs = omega (arith, within) in
+      let wave = c.in_ok-end.ensures c.args.code.now s p from size c.args.runs c.in_ok-blocks.ensures.blocks here t is was.runs was.tallied in
       let end = c.in_ok-end.field-0.end in
       let found = c.in_ok-end.field-0.found in
       let tally = c.first_of.new.tally in

@@ -1,12 +1,15 @@
-use Rattle.std.proofs.Common.{◌≤◌, ◌-◌, None}
+use Rattle.std.proofs.Common.{◌<◌, ◌≤◌, ◌-◌, None}
 use Rattle.bp_tree.specs.Ast.{Program}
 use Rattle.bp_code.specs.StandsFor.{StandsFor}
+use Rattle.bp_test.specs.declared.limits.TheConstants.{LONGEST_BLOCK}
 use Rattle.bp_test.specs.Tests.{IsTallied}
 use Rattle.bp_test.proofs.waves.search.Given as goal
 
 abbrev pub invariant-loop-from : goal.invariant-loop-from
 invariant-loop-from g l = record {
   within : l.from ≤ l.fn.runs;
+  some : 0 < l.size;
+  short : l.size ≤ LONGEST_BLOCK;
   tallied : (t : Program) → StandsFor l.fn.code t → IsTallied t l.fn.setup l.fn.plan.with_deadlock l.fn.plan.seed 0 l.from None l.tally;
 }
 

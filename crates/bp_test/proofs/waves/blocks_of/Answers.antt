@@ -3,7 +3,7 @@ use denote.Param.{param}
 use denote.Param.Send.{sendable, IsSync}
 use Rattle.std.proofs.Crossing.{crosses}
 use Rattle.bp_test.proofs.CodesShared.{code_sync, setup_sync, plan_sync}
-use Rattle.bp_test.proofs.waves.wave.Goals as goal
+use Rattle.bp_test.proofs.waves.blocks_of.Goals as goal
 
 pub map_indices-requires-sync-F : goal.map_indices-requires-sync-F
 map_indices-requires-sync-F g c κs within =
