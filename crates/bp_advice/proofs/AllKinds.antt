@@ -2,10 +2,10 @@
 use Rattle.std.proofs.Common.{◌≡◌, ◌<◌, ◌+◌, ℕ, List, [], ◌∷◌, ◌++◌, get_or, refl, sym, subst, arith, below_more}
 use Rattle.std.specs.List.{All, Contains}
 use Rattle.std.proofs.lemmas.List.Elements.{All-contains, All-push, Contains-append_left, Contains-push}
-use Rattle.bp_syntax.specs.Tokens.{IsReal}
+use Rattle.bp_language.specs.Tokens.{IsReal}
 use Rattle.bp_syntax.specs.declared.token_kinds.TheConstants.{TOKEN_KINDS}
-use Rattle.bp_syntax.specs.declared.tokens.TokenKind.{TokenKind}
-use Rattle.bp_syntax.specs.declared.tokens.TokenKind.TheVariants as kind
+use Rattle.bp_language.specs.declared.tokens.TokenKind.{TokenKind}
+use Rattle.bp_language.specs.declared.tokens.TokenKind.TheVariants as kind
 use Rattle.bp_advice.specs.Followers.{MayFollow, MayFollowAs, IsJudged}
 use Rattle.bp_advice.proofs.OneSpelling.{one_spelling}
 

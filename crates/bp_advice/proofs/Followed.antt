@@ -3,7 +3,7 @@ use Rattle.std.proofs.Common.{◌≡◌, ◌≢◌, ◌↔◌, ◌∙◌, ℕ, B
 use Rattle.std.proofs.lemmas.Bool.{false≢true}
 use Rattle.bp_syntax.specs.Faults.{read_fault_number}
 use Rattle.bp_syntax.specs.Laws.{OneRefusal, NoRefusalOfPrograms}
-use Rattle.bp_syntax.specs.Texts.{IsRefusal}
+use Rattle.bp_syntax.specs.Refusals.{IsRefusal}
 use Rattle.bp_syntax.specs.declared.faults.ReadFault.{ReadFault}
 use Rattle.bp_syntax.specs.declared.faults.ReadFault.TheVariants.{Syntax, Memory}
 use Rattle.bp_advice.specs.Followers.{IsProgram, BeginsProgram}

@@ -1,9 +1,9 @@
 -- A text that begins with white or a comment has the tokens of the rest.
 use Rattle.std.proofs.Common.{◌≡◌, ◌⊎◌, ◌+◌, ℕ, List, [], ◌∷◌, Option, None, Some, refl, subst, inl, inr}
-use Rattle.bp_syntax.specs.Cut.{Lexeme, IsCut, ends, first_bad_byte, first_open_brace, tokens_of, HasTokens}
+use Rattle.bp_language.specs.Cut.{Lexeme, IsCut, ends, first_bad_byte, first_open_brace, tokens_of, HasTokens}
 use Rattle.bp_syntax.specs.FirstLexemes.{TakesLexeme, lexeme_of}
-use Rattle.bp_syntax.specs.declared.tokens.LexemeKind.{LexemeKind}
-use Rattle.bp_syntax.specs.declared.tokens.LexemeKind.TheVariants.{White, Comment}
+use Rattle.bp_language.specs.declared.tokens.LexemeKind.{LexemeKind}
+use Rattle.bp_language.specs.declared.tokens.LexemeKind.TheVariants.{White, Comment}
 
 -- the lexemes of the text from this place on are white and comments
 pub record HasGapsFrom (at : ℕ) (text : List ℕ) : Type 0 where

@@ -6,11 +6,11 @@ use Rattle.std.specs.Map.{lookup}
 use Rattle.std.specs.Option.{unwrap_or}
 use Rattle.std.specs.Str.{bytes_eq}
 use Rattle.bp_syntax.specs.Spellings.{spelling}
-use Rattle.bp_syntax.specs.Tokens.{constants, symbols, long_symbols, reserved_word, reserved_words, kind_of, IsReal}
-use Rattle.bp_syntax.specs.declared.tokens.LexemeKind.{LexemeKind}
-use Rattle.bp_syntax.specs.declared.tokens.LexemeKind.TheVariants.{White, Comment, Identifier, Braced, Constant, Symbol}
-use Rattle.bp_syntax.specs.declared.tokens.TokenKind.{TokenKind}
-use Rattle.bp_syntax.specs.declared.tokens.TokenKind.TheVariants.{Name}
+use Rattle.bp_language.specs.Tokens.{constants, symbols, long_symbols, reserved_word, reserved_words, kind_of, IsReal}
+use Rattle.bp_language.specs.declared.tokens.LexemeKind.{LexemeKind}
+use Rattle.bp_language.specs.declared.tokens.LexemeKind.TheVariants.{White, Comment, Identifier, Braced, Constant, Symbol}
+use Rattle.bp_language.specs.declared.tokens.TokenKind.{TokenKind}
+use Rattle.bp_language.specs.declared.tokens.TokenKind.TheVariants.{Name}
 
 -- the text is the spelling of each kind that a table finds
 module _ {K : Type 0} (test : K → Bool) (text : List ℕ) where

@@ -1,8 +1,8 @@
 -- What explains a fault of a program.
 use Rattle.std.specs.Prelude.{◌≡◌, ◌⊎◌, ◌≤◌, ℕ, List, [], ◌∷◌, Some, take, drop}
-use Rattle.bp_syntax.specs.Cut.{HasTokens}
+use Rattle.bp_language.specs.Cut.{HasTokens}
 use Rattle.bp_syntax.specs.declared.faults.ReadFault.TheVariants as read
-use Rattle.bp_check.specs.declared.faults.CheckFault.TheVariants as check
+use Rattle.bp_language.specs.declared.faults.CheckFault.TheVariants as check
 use Rattle.bp_code.specs.LawfulTexts.{program_fault_place}
 use Rattle.bp_code.specs.declared.texts.ProgramFault.{ProgramFault}
 use Rattle.bp_code.specs.declared.texts.ProgramFault.TheVariants.{Read, Check}

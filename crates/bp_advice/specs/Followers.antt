@@ -1,10 +1,11 @@
 -- With which tokens a text may continue.
 use Rattle.std.specs.Prelude.{◌≢◌, ◌⊎◌, ℕ, List, ◌∷◌, ◌++◌, length}
 use Rattle.bp_tree.specs.Ast.{Program}
-use Rattle.bp_syntax.specs.Texts.{IsTextOf, IsRefusal}
-use Rattle.bp_syntax.specs.Tokens.{IsReal}
-use Rattle.bp_syntax.specs.declared.tokens.TokenKind.{TokenKind}
-use Rattle.bp_syntax.specs.declared.tokens.TokenKind.TheVariants.{Name}
+use Rattle.bp_language.specs.Texts.{IsTextOf}
+use Rattle.bp_syntax.specs.Refusals.{IsRefusal}
+use Rattle.bp_language.specs.Tokens.{IsReal}
+use Rattle.bp_language.specs.declared.tokens.TokenKind.{TokenKind}
+use Rattle.bp_language.specs.declared.tokens.TokenKind.TheVariants.{Name}
 use Rattle.bp_syntax.specs.declared.faults.ReadFault.TheVariants.{Syntax}
 
 -- the text is a program

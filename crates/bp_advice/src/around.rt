@@ -1,6 +1,6 @@
 //! The tokens around a place of a program text.
 ghost use Rattle.std.specs.Prelude.{◌≤◌, [], length, IsTrue};
-ghost use Rattle.bp_syntax.specs.Cut.{HasTokens};
+ghost use Rattle.bp_language.specs.Cut.{HasTokens};
 
 use crate::tokens_at::token_at;
 use bp_syntax::{is_reserved, take_lexeme};

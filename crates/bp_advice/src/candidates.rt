@@ -1,10 +1,11 @@
 //! The tokens that may come next in a text.
 ghost use Rattle.std.specs.Prelude.{◌≡◌, ◌↔◌, ◌++◌, ◌∷◌, IsTrue, IfOk, Contains};
 ghost use Rattle.bp_syntax.specs.declared.faults.ReadFault.TheVariants.{Syntax, Memory};
-ghost use Rattle.bp_syntax.specs.declared.tokens.TokenKind.{TokenKind};
+ghost use Rattle.bp_language.specs.declared.tokens.TokenKind.{TokenKind};
 ghost use Rattle.bp_advice.specs.Followers.{IsProgram, BeginsProgram, MayFollow, IsJudged};
 
-use bp_syntax::{ReadFault, TOKEN_KINDS, TokenKind, has_one_refusal, read, spelling_of};
+use bp_language::TokenKind;
+use bp_syntax::{ReadFault, TOKEN_KINDS, has_one_refusal, read, spelling_of};
 use std::alloc::{AllocError, Global};
 
 /// Whether the fault is that of refused memory.

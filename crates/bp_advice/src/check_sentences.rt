@@ -1,6 +1,6 @@
 //! Sentences on faults of a program whose text is in order.
 ghost use Rattle.std.specs.Prelude.{◌≡◌, IfOk};
-ghost use Rattle.bp_check.specs.Faults.{check_fault_place};
+ghost use Rattle.bp_language.specs.Faults.{check_fault_place};
 ghost use Rattle.bp_advice.specs.Explanations.{ExplainsPlace};
 
 use crate::counts::{argument_count, side_counts};
@@ -10,8 +10,8 @@ use crate::guesses::{push_near_label, push_near_procedure, push_near_variable};
 use crate::sentences::Part::{Count, Number, Place, Quoted, Words};
 use crate::sentences::{Part, push_all, push_parts};
 use crate::tokens_at::token_at;
-use bp_check::CheckFault;
-use bp_check::limits::{MAX_GLOBALS, MAX_OWN_NAMES, MAX_PROCEDURES};
+use bp_language::CheckFault;
+use bp_language::limits::{MAX_GLOBALS, MAX_OWN_NAMES, MAX_PROCEDURES};
 use bp_syntax::Tree;
 use bp_text::position_of;
 use bp_tree::Name;

@@ -2,7 +2,8 @@
 
 use crate::around::{Around, is_name};
 use crate::offers::Offer;
-use bp_syntax::{TokenKind, is_reserved, spelling_of};
+use bp_language::TokenKind;
+use bp_syntax::{is_reserved, spelling_of};
 
 /// A mistake, named for what its writer takes the language to have.
 #[derive(Clone, Copy, PartialEq, Eq)]

@@ -4,7 +4,8 @@
 use crate::candidates::{kinds_after, may_end};
 use crate::sentences::Part::{Quoted, Words};
 use crate::sentences::{Part, push_parts};
-use bp_syntax::{TokenKind, spelling_of};
+use bp_language::TokenKind;
+use bp_syntax::spelling_of;
 use std::alloc::{AllocError, Global};
 
 /// What begins a statement, where no limit is in the way.

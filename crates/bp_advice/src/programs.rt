@@ -7,8 +7,8 @@ use crate::check_sentences::explain_check;
 use crate::explanations::Explanation;
 use crate::read_sentences::explain_read;
 use crate::syntax_sentences::explain_syntax;
-use bp_check::CheckFault;
 use bp_code::ProgramFault;
+use bp_language::CheckFault;
 use bp_syntax::ReadFault;
 use std::alloc::{AllocError, Global};
 

@@ -8,8 +8,8 @@ use crate::explanations::{Explanation, about_place};
 use crate::other_texts::other_than_program;
 use crate::sentences::Part::{Number, Quoted, Words};
 use crate::sentences::{push_all, push_parts};
+use bp_language::limits::{NESTING_LIMIT, SUCCESSION_LIMIT, TEXT_LIMIT};
 use bp_syntax::ReadFault;
-use bp_syntax::limits::{NESTING_LIMIT, SUCCESSION_LIMIT, TEXT_LIMIT};
 use bp_text::{last_line, part_before};
 use std::alloc::{AllocError, Global};
 

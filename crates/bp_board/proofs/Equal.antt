@@ -2,7 +2,7 @@
 use Rattle.std.proofs.Common.{◌≡◌, Bool, true, false, not, sym, ◌∙◌, ap, refl}
 use Rattle.std.proofs.lemmas.Bool.{false≢true}
 use Rattle.std.specs.Coded.{Coded}
-use Rattle.bp_code.specs.Same.{same, same-Decides}
+use Rattle.bp_flat.specs.Same.{same, same-Decides}
 
 pub differ : {A : Type 0} (c : Coded A) (x y : A) (b : Bool) → b ≡ not (same c x y) → b ≡ true → x ≡ y → ⊥
 differ c x y b e t same_values = false≢true (sym (ap not ((same-Decides c x y).1 same_values)) ∙ sym e ∙ t)

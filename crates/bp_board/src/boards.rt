@@ -11,7 +11,7 @@ use crate::kits::Kit;
 use crate::ledgers::Calls;
 use crate::seats::Seat;
 use crate::taps::Tap;
-use bp_code::Code;
+use bp_flat::Code;
 use bp_machine::{AskFault, Reply, Setup};
 use std::alloc::{AllocError, Global};
 use std::sync::ledger::Ledger;

@@ -1,7 +1,7 @@
 //! The desk: the machine, and the end of the ring to which its history is sent.
 ghost use Rattle.std.specs.Prelude.{◌≡◌, ◌≤◌, ◌<◌, ◌⊎◌, ◌↔◌, [], true, None, is_some, IfOk, OnErr, MatchResult};
 ghost use Rattle.bp_tree.specs.Ast.{Program};
-ghost use Rattle.bp_code.specs.StandsFor.{StandsFor};
+ghost use Rattle.bp_flat.specs.StandsFor.{StandsFor};
 ghost use Rattle.bp_machine.specs.Setups.{threads, FitsCode};
 ghost use Rattle.bp_board.specs.declared.limits.TheConstants.{MAX_TURN};
 ghost use Rattle.bp_board.specs.Asks.{IsAsked, IsShut, IsDeskRefusal};
@@ -15,7 +15,7 @@ use crate::ledgers::Calls;
 use crate::seats::{Seat, new_seats};
 use crate::sending::send;
 use crate::taps::Tap;
-use bp_code::Code;
+use bp_flat::Code;
 use bp_machine::{AskFault, Call, Reply, Session, Setup};
 use rtrb::Producer;
 use std::alloc::{AllocError, Global};

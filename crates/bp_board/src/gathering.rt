@@ -3,7 +3,7 @@ ghost use Rattle.std.specs.Prelude.{◌≡◌, ◌+◌, ◌↔◌, ◌==◌, IsT
 ghost use Rattle.bp_machine.specs.declared.limits.TheConstants.{MAX_THREADS};
 ghost use Rattle.std.specs.List.{count_by};
 ghost use Rattle.bp_tree.specs.Ast.{Program};
-ghost use Rattle.bp_code.specs.StandsFor.{StandsFor};
+ghost use Rattle.bp_flat.specs.StandsFor.{StandsFor};
 ghost use Rattle.bp_board.specs.Gatherings.{AreOnePerThread, AreOwn, IsGathered, calls_of_seats, open_seats};
 
 use crate::agreement::agree;
@@ -13,7 +13,7 @@ use crate::ledgers::Calls;
 use crate::seats::Seat;
 use crate::stopping::stopped_early;
 use crate::taps::Tap;
-use bp_code::Code;
+use bp_flat::Code;
 use bp_machine::{Report, Session, Setup};
 use std::sync::ledger::{Book, Ledger, Share};
 use thiserror::Error;

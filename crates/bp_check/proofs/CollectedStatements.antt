@@ -8,7 +8,7 @@ use Rattle.bp_tree.specs.Ast.{Name}
 use Rattle.bp_tree.specs.declared.stmts.Stmt.{Stmt}
 use Rattle.bp_tree.specs.Blocks.{block_of, statement_of}
 use Rattle.bp_tree.specs.Depth.{depth, statement_depth}
-use Rattle.bp_check.specs.Scopes.{Labelled, statements, statements_inside, labels_of}
+use Rattle.bp_language.specs.Scopes.{Labelled, statements, statements_inside, labels_of}
 use Rattle.bp_check.specs.Sets.{names_of, labelled_of, all_labelled}
 
 statements_more : (xs : List Stmt) (s : Stmt)

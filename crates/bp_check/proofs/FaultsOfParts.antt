@@ -1,13 +1,13 @@
 -- The faults of a program are those of its parts.
 use Rattle.std.proofs.Common.{◌≡◌, ◌⊎◌, ℕ, ◌++◌, map, Option, refl, sym, subst, inl, inr}
 use Rattle.bp_tree.specs.Ast.{Procedure, Program}
-use Rattle.bp_check.specs.declared.faults.CheckFault.{CheckFault}
-use Rattle.bp_check.specs.declared.faults.CheckFault.TheVariants.{TwiceGlobal, TwiceProcedure, TwiceLocal, TwiceLabel, UnknownVariable, UnknownProcedure, UnknownLabel, Arity, Lengths, TwiceTarget, Limit, Memory}
-use Rattle.bp_check.specs.declared.faults.Found.{Found}
+use Rattle.bp_language.specs.declared.faults.CheckFault.{CheckFault}
+use Rattle.bp_language.specs.declared.faults.CheckFault.TheVariants.{TwiceGlobal, TwiceProcedure, TwiceLocal, TwiceLabel, UnknownVariable, UnknownProcedure, UnknownLabel, Arity, Lengths, TwiceTarget, Limit, Memory}
+use Rattle.bp_check.specs.declared.found.Found.{Found}
 use Rattle.bp_tree.specs.Lookup.{variables}
-use Rattle.bp_check.specs.Scopes.{Among, Labelled, labels, statements}
-use Rattle.bp_check.specs.Faults.{IsFault}
-use Rattle.bp_check.specs.declared.limits.TheConstants.{MAX_GLOBALS, MAX_PROCEDURES}
+use Rattle.bp_language.specs.Scopes.{Among, Labelled, labels, statements}
+use Rattle.bp_language.specs.Faults.{IsFault}
+use Rattle.bp_language.specs.declared.limits.TheConstants.{MAX_GLOBALS, MAX_PROCEDURES}
 use Rattle.bp_check.specs.Sets.{IsStatementFault, IsFaultOfNames, IsProcedureFault, IsFaultOfProcedures}
 use Rattle.bp_check.specs.LeastFound.{Finds, least_of}
 use Rattle.bp_check.proofs.LeastOfBoth.{finds_both, finds_same}

@@ -2,10 +2,10 @@
 use Rattle.std.proofs.Common.{◌⊎◌, ℕ, List, [], Option, refl, sym, inl, inr, subst}
 use Rattle.std.proofs.Common.{Result, Ok, Err, IfOk}
 use Rattle.bp_tree.specs.Ast.{Name, Expression, Statement, Assigns, Calls, GoesTo, Procedure}
-use Rattle.bp_check.specs.declared.faults.CheckFault.{CheckFault}
-use Rattle.bp_check.specs.declared.faults.CheckFault.TheVariants.{UnknownVariable, UnknownLabel, Lengths, TwiceTarget}
-use Rattle.bp_check.specs.declared.faults.Found.{Found}
-use Rattle.bp_check.specs.Faults.{IsUndeclared, IsUneven, HasTargetTwice}
+use Rattle.bp_language.specs.declared.faults.CheckFault.{CheckFault}
+use Rattle.bp_language.specs.declared.faults.CheckFault.TheVariants.{UnknownVariable, UnknownLabel, Lengths, TwiceTarget}
+use Rattle.bp_check.specs.declared.found.Found.{Found}
+use Rattle.bp_language.specs.Faults.{IsUndeclared, IsUneven, HasTargetTwice}
 use Rattle.bp_check.specs.Sets.{Only, IsMisuse, IsStatementFault}
 use Rattle.bp_check.specs.LeastFound.{Finds, least_of}
 use Rattle.bp_check.proofs.LeastOfBoth.{finds_both, finds_same}

@@ -5,8 +5,8 @@ use Rattle.std.specs.Option.{option_copied, IfSome}
 use Rattle.std.specs.Borrow.{Bor}
 use Rattle.bp_tree.specs.Ast.{Name, Procedure}
 use Rattle.bp_tree.specs.Lookup.{procedure_named}
-use Rattle.bp_check.specs.Scopes.{has}
-use Rattle.bp_check.specs.Tables.{first_index_from, first_index}
+use Rattle.bp_language.specs.Scopes.{has}
+use Rattle.bp_language.specs.Tables.{first_index_from, first_index}
 
 module _ (text : List ℕ) where
   -- a name is there where it stands first somewhere

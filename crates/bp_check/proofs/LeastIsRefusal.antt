@@ -1,10 +1,10 @@
 -- The least fault that was found is the refusal.
 use Rattle.std.proofs.Common.{ℕ}
 use Rattle.bp_tree.specs.Ast.{Program}
-use Rattle.bp_check.specs.declared.faults.CheckFault.{CheckFault}
-use Rattle.bp_check.specs.declared.faults.CheckFault.TheVariants.{Memory, Limit}
-use Rattle.bp_check.specs.declared.faults.Found.{Found}
-use Rattle.bp_check.specs.Faults.{IsFault}
+use Rattle.bp_language.specs.declared.faults.CheckFault.{CheckFault}
+use Rattle.bp_language.specs.declared.faults.CheckFault.TheVariants.{Memory, Limit}
+use Rattle.bp_check.specs.declared.found.Found.{Found}
+use Rattle.bp_language.specs.Faults.{IsFault}
 use Rattle.bp_check.specs.Refusals.{IsRefusal}
 use Rattle.bp_check.specs.Least.{IsLeast}
 

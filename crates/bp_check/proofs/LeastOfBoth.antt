@@ -1,8 +1,8 @@
 -- The least fault of two sets together is the lesser of their least faults.
 use Rattle.std.proofs.Common.{◌≡◌, ◌⊎◌, ℕ, ◌<◌, ◌≤◌, ◌||◌, ◌&&◌, Bool, true, false, nat_lt, nat_eq, nat_le, cond, Option, None, Some, refl, inl, inr, arith}
 use Rattle.std.proofs.lemmas.Bool.Decides.{nat_tests}
-use Rattle.bp_check.specs.declared.faults.CheckFault.{CheckFault}
-use Rattle.bp_check.specs.declared.faults.Found.{Found}
+use Rattle.bp_language.specs.declared.faults.CheckFault.{CheckFault}
+use Rattle.bp_check.specs.declared.found.Found.{Found}
 use Rattle.bp_check.specs.Least.{IsNotAfter, IsLeast}
 use Rattle.bp_check.specs.LeastFound.{Finds, is_not_after, least_of}
 

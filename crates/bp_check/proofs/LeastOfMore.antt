@@ -1,11 +1,11 @@
 -- The faults of a list of things are those of each of them.
 use Rattle.std.proofs.Common.{◌≡◌, ◌⊎◌, ℕ, List, [], ◌∷◌, ◌++◌, Option, None, refl, sym, subst, inl, inr}
-use Rattle.bp_check.specs.declared.faults.CheckFault.{CheckFault}
-use Rattle.bp_check.specs.declared.faults.Found.{Found}
-use Rattle.bp_check.specs.Scopes.{Among}
+use Rattle.bp_language.specs.declared.faults.CheckFault.{CheckFault}
+use Rattle.bp_check.specs.declared.found.Found.{Found}
+use Rattle.bp_language.specs.Scopes.{Among}
 use Rattle.bp_check.specs.LeastFound.{Finds, least_of}
 use Rattle.bp_check.proofs.LeastOfBoth.{finds_both, finds_same}
-use Rattle.bp_check.proofs.AmongAppend.{Among-front, Among-back, Among-split}
+use Rattle.bp_language.proofs.AmongAppend.{Among-front, Among-back, Among-split}
 
 module _ {X : Type 0} (Is : X → CheckFault → ℕ → Type 0) where
   abbrev pub OfSome : List X → CheckFault → ℕ → Type 0

@@ -1,8 +1,5 @@
 pub mod LeastOfBoth
 pub mod FirstIndex
-pub mod LawsOfLawfulPrograms
-pub mod AmongAppend
-pub mod AssignmentsHaveTargets
 pub mod RepeatedNames
 pub mod FaultsOfParts
 pub mod LeastIsRefusal

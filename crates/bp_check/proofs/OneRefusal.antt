@@ -3,9 +3,9 @@
 use Rattle.std.proofs.Common.{◌≡◌, ◌≢◌, ℕ, List, [], ◌∷◌, Some, refl, inl, inr, sym, ap, ◌∙◌, nat_eq, arith}
 use Rattle.std.specs.Map.{lookup}
 use Rattle.bp_tree.specs.Ast.{Program}
-use Rattle.bp_check.specs.declared.faults.CheckFault.{CheckFault}
-use Rattle.bp_check.specs.declared.faults.CheckFault.TheVariants as fault
-use Rattle.bp_check.specs.Faults.{IsFault, IsLawful, check_fault_number}
+use Rattle.bp_language.specs.declared.faults.CheckFault.{CheckFault}
+use Rattle.bp_language.specs.declared.faults.CheckFault.TheVariants as fault
+use Rattle.bp_language.specs.Faults.{IsFault, IsLawful, check_fault_number}
 use Rattle.bp_check.specs.Least.{IsNotAfter, IsLeast}
 use Rattle.bp_check.specs.Refusals.{IsRefusal}
 

@@ -1,16 +1,16 @@
 -- Names that stand twice in a list, or past a limit.
 use Rattle.std.proofs.Common.{◌≡◌, ◌⊎◌, ℕ, ◌+◌, ◌<◌, true, false, List, length, get_or, take, Option, None, Some, refl, ap, sym, ◌∙◌, inl, inr, arith, slice_get, subst, ◌≤◌}
 use Rattle.std.specs.Option.{option_map}
-use Rattle.bp_check.specs.Faults.{check_fault_number}
+use Rattle.bp_language.specs.Faults.{check_fault_number}
 use Rattle.std.specs.Borrow.{Bor}
 use Rattle.std.proofs.lemmas.List.{length-map}
 use Rattle.std.proofs.lemmas.Option.{slice_get-map, slice_get-get_or, slice_get_within, slice_get_past}
 use Rattle.bp_tree.specs.Ast.{Name}
-use Rattle.bp_check.specs.declared.faults.CheckFault.{CheckFault}
-use Rattle.bp_check.specs.declared.faults.CheckFault.TheVariants.{Limit}
-use Rattle.bp_check.specs.declared.faults.Found.{Found}
-use Rattle.bp_check.specs.Scopes.{has, IsNameAt}
-use Rattle.bp_check.specs.Faults.{IsTwice, IsPast}
+use Rattle.bp_language.specs.declared.faults.CheckFault.{CheckFault}
+use Rattle.bp_language.specs.declared.faults.CheckFault.TheVariants.{Limit}
+use Rattle.bp_check.specs.declared.found.Found.{Found}
+use Rattle.bp_language.specs.Scopes.{has, IsNameAt}
+use Rattle.bp_language.specs.Faults.{IsTwice, IsPast}
 use Rattle.bp_check.specs.Sets.{names_of, Only}
 use Rattle.bp_check.specs.LeastFound.{Finds, least_of}
 use Rattle.bp_check.proofs.LeastOfBoth.{finds_both, finds_same}

@@ -5,15 +5,15 @@ use Rattle.std.proofs.lemmas.List.{map-append}
 use Rattle.bp_tree.specs.Ast.{Name}
 use Rattle.bp_tree.specs.declared.exprs.Expr.{Expr}
 use Rattle.bp_tree.specs.Views.{expression_of}
-use Rattle.bp_check.specs.declared.faults.CheckFault.{CheckFault}
-use Rattle.bp_check.specs.declared.faults.CheckFault.TheVariants.{UnknownVariable}
-use Rattle.bp_check.specs.declared.faults.Found.{Found}
-use Rattle.bp_check.specs.Scopes.{has, Among, Uses, SomeUses}
+use Rattle.bp_language.specs.declared.faults.CheckFault.{CheckFault}
+use Rattle.bp_language.specs.declared.faults.CheckFault.TheVariants.{UnknownVariable}
+use Rattle.bp_check.specs.declared.found.Found.{Found}
+use Rattle.bp_language.specs.Scopes.{has, Among, Uses, SomeUses}
 use Rattle.bp_check.specs.Sets.{Only, IsStray}
 use Rattle.bp_check.specs.LeastFound.{Finds, least_of}
 use Rattle.bp_check.proofs.LeastOfBoth.{finds_both, finds_same}
 use Rattle.bp_check.proofs.RepeatedNames.{finds_one}
-use Rattle.bp_check.proofs.AmongAppend.{Among-front, Among-back, Among-split}
+use Rattle.bp_language.proofs.AmongAppend.{Among-front, Among-back, Among-split}
 
 module _ (declared : List Name) where
   pub none_stray : (Used : Name → Type 0) → ((n : Name) → Used n → has declared n.text ≡ true) → Finds (IsStray declared Used) None

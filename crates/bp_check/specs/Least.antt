@@ -1,7 +1,7 @@
 -- The least of a set of faults: by place, and at one place by number.
 use Rattle.std.specs.Prelude.{◌≡◌, ◌⊎◌, ℕ, ◌<◌, ◌≤◌}
-use Rattle.bp_check.specs.Faults.{check_fault_number}
-use Rattle.bp_check.specs.declared.faults.CheckFault.{CheckFault}
+use Rattle.bp_language.specs.Faults.{check_fault_number}
+use Rattle.bp_language.specs.declared.faults.CheckFault.{CheckFault}
 
 -- the fault f at its place does not come after the fault g at another
 abbrev pub IsNotAfter : CheckFault → ℕ → CheckFault → ℕ → Type 0

@@ -1,9 +1,9 @@
 -- A device: the least of a set of faults, as the code finds it. No public contract names it.
 use Rattle.std.specs.Prelude.{ℕ, Bool, ◌||◌, ◌&&◌, nat_lt, nat_eq, nat_le, if◌then◌else◌, Option, None, Some, MatchOption}
-use Rattle.bp_check.specs.Faults.{check_fault_number}
+use Rattle.bp_language.specs.Faults.{check_fault_number}
 use Rattle.bp_check.specs.Least.{IsLeast}
-use Rattle.bp_check.specs.declared.faults.CheckFault.{CheckFault}
-use Rattle.bp_check.specs.declared.faults.Found.{Found}
+use Rattle.bp_language.specs.declared.faults.CheckFault.{CheckFault}
+use Rattle.bp_check.specs.declared.found.Found.{Found}
 
 -- the least of the set, or none if it is empty
 abbrev pub Finds : (CheckFault → ℕ → Type 0) → Option Found → Type 0

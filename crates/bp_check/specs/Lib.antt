@@ -1,8 +1,6 @@
-pub mod Faults
 pub mod Laws
 pub mod Least
 pub mod LeastFound
 pub mod Refusals
-pub mod Scopes
 pub mod Sets
 pub mod Tables

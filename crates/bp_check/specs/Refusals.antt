@@ -1,9 +1,9 @@
 -- How a program is refused.
 use Rattle.std.specs.Prelude.{◌≡◌, ℕ}
 use Rattle.bp_tree.specs.Ast.{Program}
-use Rattle.bp_check.specs.declared.faults.CheckFault.{CheckFault}
-use Rattle.bp_check.specs.declared.faults.CheckFault.TheVariants.{Memory}
-use Rattle.bp_check.specs.Faults.{IsFault}
+use Rattle.bp_language.specs.declared.faults.CheckFault.{CheckFault}
+use Rattle.bp_language.specs.declared.faults.CheckFault.TheVariants.{Memory}
+use Rattle.bp_language.specs.Faults.{IsFault}
 use Rattle.bp_check.specs.Least.{IsLeast}
 
 -- a refusal reports the least fault of the program; nothing is said of memory

@@ -2,15 +2,15 @@
 -- contract names them.
 use Rattle.std.specs.Prelude.{◌≡◌, ◌⊎◌, ℕ, ◌++◌, List, map}
 use Rattle.std.specs.Borrow.{Bor}
-use Rattle.bp_check.specs.declared.faults.CheckFault.{CheckFault}
-use Rattle.bp_check.specs.declared.faults.CheckFault.TheVariants.{TwiceLocal, TwiceLabel, UnknownVariable, UnknownProcedure, UnknownLabel, Arity, Lengths, TwiceTarget, Limit}
+use Rattle.bp_language.specs.declared.faults.CheckFault.{CheckFault}
+use Rattle.bp_language.specs.declared.faults.CheckFault.TheVariants.{TwiceLocal, TwiceLabel, UnknownVariable, UnknownProcedure, UnknownLabel, Arity, Lengths, TwiceTarget, Limit}
 use Rattle.bp_tree.specs.Ast.{Name, Statement, Procedure}
 use Rattle.bp_tree.specs.declared.stmts.Stmt.{Stmt}
 use Rattle.bp_tree.specs.Blocks.{statement_of}
 use Rattle.bp_tree.specs.Lookup.{variables}
-use Rattle.bp_check.specs.Scopes.{Among, Labelled, statements, labels}
-use Rattle.bp_check.specs.Faults.{IsTwice, IsPast, IsUndeclared, CallsNone, CallsWrongly, JumpsNowhere, IsUneven, HasTargetTwice, IsStrayIn}
-use Rattle.bp_check.specs.declared.limits.TheConstants.{MAX_OWN_NAMES}
+use Rattle.bp_language.specs.Scopes.{Among, Labelled, statements, labels}
+use Rattle.bp_language.specs.Faults.{IsTwice, IsPast, IsUndeclared, CallsNone, CallsWrongly, JumpsNowhere, IsUneven, HasTargetTwice, IsStrayIn}
+use Rattle.bp_language.specs.declared.limits.TheConstants.{MAX_OWN_NAMES}
 
 -- the names that references are of
 abbrev pub names_of : List (Bor Name) → List Name

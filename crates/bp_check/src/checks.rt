@@ -1,13 +1,14 @@
 //! Lawful trees.
 ghost use Rattle.std.specs.Prelude.{◌≡◌, ◌≤◌, MatchResult};
-ghost use Rattle.bp_check.specs.Faults.{IsLawful, check_fault_number, check_fault_place};
-ghost use Rattle.bp_check.specs.Laws.{HasFewNames, HasDistinctNames, HasSoundStatements};
+ghost use Rattle.bp_language.specs.Faults.{IsLawful, check_fault_number, check_fault_place};
+ghost use Rattle.bp_language.specs.LawfulPrograms.{HasFewNames, HasDistinctNames, HasSoundStatements};
 ghost use Rattle.bp_check.specs.Refusals.{IsRefusal};
 ghost use Rattle.bp_tree.specs.Sizes.{procedures_size};
-ghost use Rattle.bp_syntax.specs.declared.limits.TheConstants.{TEXT_LIMIT};
+ghost use Rattle.bp_language.specs.declared.limits.TheConstants.{TEXT_LIMIT};
 
-use crate::faults::{CheckFault, Found};
+use crate::found::Found;
 use crate::programs::program_fault;
+use bp_language::CheckFault;
 use bp_syntax::Tree;
 use std::alloc::{AllocError, Global};
 use std::marker::Model;
@@ -21,7 +22,7 @@ pub struct Checked {
 impl Model for Checked {
     ghost use Rattle.bp_tree.specs.Ast.{Program};
     ghost use Rattle.bp_tree.specs.Codes.{coded_program};
-    ghost use Rattle.bp_check.specs.Faults.{IsLawful};
+    ghost use Rattle.bp_language.specs.Faults.{IsLawful};
 
     ghost Value = { Program };
 

@@ -3,18 +3,19 @@ ghost use Rattle.std.specs.Prelude.{◌≡◌, [], map, IfOk};
 ghost use Rattle.bp_tree.specs.Ast.{GoesTo, Assigns, Calls};
 ghost use Rattle.bp_tree.specs.Views.{expression_of};
 ghost use Rattle.bp_tree.specs.Blocks.{statement_of};
-ghost use Rattle.bp_check.specs.Scopes.{Mentions};
-ghost use Rattle.bp_check.specs.Faults.{IsUneven};
+ghost use Rattle.bp_language.specs.Scopes.{Mentions};
+ghost use Rattle.bp_language.specs.Faults.{IsUneven};
 ghost use Rattle.bp_check.specs.Sets.{Only, IsStray, IsMisuse, IsStatementFault};
 ghost use Rattle.bp_check.specs.LeastFound.{Finds};
 
 use crate::callees::Callees;
-use crate::faults::{CheckFault, Found};
+use crate::found::Found;
 use crate::least::least;
 use crate::repeats::least_repeat;
 use crate::scopes::Scope;
 use crate::tables::NameTable;
 use crate::uses::{stray_in_all, stray_in_decider, stray_names};
+use bp_language::CheckFault;
 use bp_tree::{Expr, Form, Name};
 use std::alloc::{AllocError, Global};
 

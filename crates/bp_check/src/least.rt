@@ -2,7 +2,7 @@
 ghost use Rattle.std.specs.Prelude.{◌≡◌};
 ghost use Rattle.bp_check.specs.LeastFound.{least_of};
 
-use crate::faults::Found;
+use crate::found::Found;
 
 /// The least of two faults, where there are two.
 pub(crate) fn least(a: Option<Found>, b: Option<Found>) -> Option<Found>

@@ -3,11 +3,10 @@
 
 mod callees;
 mod checks;
-mod faults;
 mod forms;
+mod found;
 mod laws;
 mod least;
-pub mod limits;
 mod procedures;
 mod programs;
 mod repeats;
@@ -15,7 +14,7 @@ mod scopes;
 mod tables;
 mod uses;
 
+pub use bp_language::{CheckFault, limits};
 pub use checks::{CheckRefusal, Checked, check};
-pub use faults::CheckFault;
 pub use laws::has_one_refusal;
 pub use tables::NameTable;

@@ -1,18 +1,19 @@
 //! The faults of a procedure.
 ghost use Rattle.std.specs.Prelude.{◌≡◌, ◌++◌, IfOk, OnOk};
 ghost use Rattle.bp_tree.specs.Blocks.{block_of, statement_of};
-ghost use Rattle.bp_check.specs.Scopes.{statements, statements_inside, labels_of};
+ghost use Rattle.bp_language.specs.Scopes.{statements, statements_inside, labels_of};
 ghost use Rattle.bp_check.specs.Sets.{names_of, all_labelled, IsFaultOfStatements, IsFaultOfBody, IsProcedureFault};
 ghost use Rattle.bp_check.specs.LeastFound.{Finds};
 
 use crate::callees::Callees;
-use crate::faults::{CheckFault, Found};
 use crate::forms::statement_fault;
+use crate::found::Found;
 use crate::least::least;
-use crate::limits::MAX_OWN_NAMES;
 use crate::repeats::{fault_of_names, least_repeat};
 use crate::scopes::Scope;
 use crate::tables::NameTable;
+use bp_language::CheckFault;
+use bp_language::limits::MAX_OWN_NAMES;
 use bp_tree::{Form, Name, Proc, Stmt};
 use std::alloc::{AllocError, Global};
 

@@ -1,16 +1,17 @@
 //! The least fault of a program.
 ghost use Rattle.std.specs.Prelude.{◌≡◌, IfOk};
-ghost use Rattle.bp_check.specs.Faults.{IsFault};
+ghost use Rattle.bp_language.specs.Faults.{IsFault};
 ghost use Rattle.bp_check.specs.Sets.{IsFaultOfProcedures};
 ghost use Rattle.bp_check.specs.LeastFound.{Finds};
 
 use crate::callees::Callees;
-use crate::faults::{CheckFault, Found};
+use crate::found::Found;
 use crate::least::least;
-use crate::limits::{MAX_GLOBALS, MAX_PROCEDURES};
 use crate::procedures::procedure_fault;
 use crate::repeats::fault_of_names;
 use crate::tables::NameTable;
+use bp_language::CheckFault;
+use bp_language::limits::{MAX_GLOBALS, MAX_PROCEDURES};
 use bp_tree::{Name, Proc};
 use std::alloc::{AllocError, Global};
 

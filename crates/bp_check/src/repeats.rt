@@ -1,12 +1,13 @@
 //! Names that appear twice in a list, or past its limit.
 ghost use Rattle.std.specs.Prelude.{◌≡◌};
-ghost use Rattle.bp_check.specs.Faults.{IsTwice, IsPast};
+ghost use Rattle.bp_language.specs.Faults.{IsTwice, IsPast};
 ghost use Rattle.bp_check.specs.Sets.{Only, IsFaultOfNames};
 ghost use Rattle.bp_check.specs.LeastFound.{Finds};
 
-use crate::faults::{CheckFault, Found};
+use crate::found::Found;
 use crate::least::least;
 use crate::tables::NameTable;
+use bp_language::CheckFault;
 
 /// The least place of a name that is spelled like an earlier one, as this fault.
 pub(crate) fn least_repeat(names: &NameTable<'_>, fault: CheckFault) -> Option<Found>

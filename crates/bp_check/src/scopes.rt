@@ -1,6 +1,6 @@
 //! The variables that the statements of a procedure may name.
 ghost use Rattle.std.specs.Prelude.{◌≡◌, ◌++◌};
-ghost use Rattle.bp_check.specs.Scopes.{has};
+ghost use Rattle.bp_language.specs.Scopes.{has};
 
 use crate::tables::NameTable;
 use std::marker::Model;

@@ -1,9 +1,10 @@
 //! Names that are found by their texts.
 ghost use Rattle.std.specs.Prelude.{◌≡◌, ◌++◌, OnOk, IfOk, map, take};
 ghost use Rattle.bp_tree.specs.Lookup.{variables};
-ghost use Rattle.bp_check.specs.Scopes.{has};
+ghost use Rattle.bp_language.specs.Scopes.{has};
 ghost use Rattle.bp_check.specs.Sets.{names_of};
-ghost use Rattle.bp_check.specs.Tables.{HasFirstIndices, first_index};
+ghost use Rattle.bp_check.specs.Tables.{HasFirstIndices};
+ghost use Rattle.bp_language.specs.Tables.{first_index};
 
 use bp_tree::{Name, Proc};
 use std::alloc::{AllocError, Global};

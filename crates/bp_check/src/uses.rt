@@ -1,13 +1,14 @@
 //! Variables that are used and not declared.
 ghost use Rattle.std.specs.Prelude.{◌≡◌, map};
 ghost use Rattle.bp_tree.specs.Views.{expression_of, decision_of};
-ghost use Rattle.bp_check.specs.Scopes.{Uses, SomeUses, DecisionUses, Among};
+ghost use Rattle.bp_language.specs.Scopes.{Uses, SomeUses, DecisionUses, Among};
 ghost use Rattle.bp_check.specs.Sets.{IsStray};
 ghost use Rattle.bp_check.specs.LeastFound.{Finds};
 
-use crate::faults::{CheckFault, Found};
+use crate::found::Found;
 use crate::least::least;
 use crate::scopes::Scope;
+use bp_language::CheckFault;
 use bp_tree::{Decider, Expr, Name};
 
 /// The name, where no variable is spelled so.

@@ -6,9 +6,9 @@ use Rattle.bp_tree.specs.declared.stmts.Stmt.{Stmt}
 use Rattle.bp_tree.specs.Blocks.{block_of, statement_of}
 use Rattle.bp_tree.specs.Depth.{depth, statement_depth}
 use Rattle.bp_tree.specs.Ast.{Then}
-use Rattle.bp_code.specs.Flat.{Instruction}
+use Rattle.bp_flat.specs.Flat.{Instruction}
 use Rattle.bp_code.specs.Compiled.{Environment, size, block_entry, block_code, statement_code}
-use Rattle.bp_code.proofs.ListItems.{drop_item}
+use Rattle.bp_flat.proofs.ListItems.{drop_item}
 
 -- the block from the i-th statement on
 pub block_item : (items : List Stmt) (i : ℕ) (s : Stmt) → i < length items → s ≡ get_or items i s

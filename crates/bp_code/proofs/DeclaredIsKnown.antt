@@ -2,13 +2,14 @@
 use Rattle.std.proofs.Common.{◌≡◌, refl, sym, ap, subst, ◌∙◌, ℕ, ◌+◌, ◌≤◌, true, false, cond, List, [], ◌∷◌, Option, None, Some, is_some, length, length-append, bytes_eq, arith}
 use Rattle.std.specs.Option.{option_or}
 use Rattle.bp_tree.specs.Ast.{Name, Block, Done, Then, Statement, Skips, GoesTo, Returns, Assigns, Branches, Loops, Asserts, Assumes, Prints, Calls, Procedure, Program}
-use Rattle.bp_code.specs.declared.limits.TheConstants.{SLOTS}
-use Rattle.bp_code.specs.Continuations.{chain, has_label, from_label, from_inside}
-use Rattle.bp_code.specs.Configurations.{procedure_named}
-use Rattle.bp_code.specs.Flat.{Heading}
+use Rattle.bp_flat.specs.declared.limits.TheConstants.{SLOTS}
+use Rattle.bp_flat.specs.Continuations.{chain, has_label, from_label, from_inside}
+use Rattle.bp_flat.specs.Configurations.{procedure_named}
+use Rattle.bp_flat.specs.Flat.{Heading}
 use Rattle.bp_code.specs.Compilable.{AllCompilableIn, HaveFew, HasNames, HasNamesIn}
 use Rattle.bp_code.specs.Known.{IsKnown, IsKnownIn}
-use Rattle.bp_code.specs.Compiled.{Environment, block_size, size, label_number, inner_number, heading_named, headings_from}
+use Rattle.bp_code.specs.Compiled.{Environment, block_size, size, label_number, inner_number, headings_from}
+use Rattle.bp_flat.specs.Headings.{heading_named}
 
 same_or : {A B : Type 0} (a b : Option A) (c d : Option B) → is_some a ≡ is_some c → is_some b ≡ is_some d → is_some (option_or a b) ≡ is_some (option_or c d)
 same_or None b None d h k = k

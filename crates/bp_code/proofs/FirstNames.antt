@@ -5,9 +5,9 @@ use Rattle.std.specs.Option.{option_and_then}
 use Rattle.std.proofs.lemmas.List.{length-map}
 use Rattle.std.proofs.lemmas.Option.{slice_get-get_or}
 use Rattle.bp_tree.specs.Ast.{Name}
-use Rattle.bp_check.specs.Tables.{first_index_from, first_index}
-use Rattle.bp_code.specs.Flat.{Heading}
-use Rattle.bp_code.specs.Compiled.{heading_named}
+use Rattle.bp_language.specs.Tables.{first_index_from, first_index}
+use Rattle.bp_flat.specs.Flat.{Heading}
+use Rattle.bp_flat.specs.Headings.{heading_named}
 
 -- an index that is counted from one place later
 pub index_later : (n : ℕ) (ys : List Name) (x : List ℕ) → first_index_from (n + 1) ys x ≡ option_map suc (first_index_from n ys x)

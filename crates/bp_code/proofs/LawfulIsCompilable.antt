@@ -7,13 +7,13 @@ use Rattle.std.proofs.lemmas.Bool.{cases_lt}
 use Rattle.bp_tree.specs.Ast.{Name, Expression, Constant, Variable, Negation, Operation, Decision, Choose, Decide, Block, Done, Then, Statement, Skips, GoesTo, Returns, Assigns, Branches, Loops, Asserts, Assumes, Prints, Calls, Procedure, Program}
 use Rattle.bp_tree.specs.Lookup.{procedure_named, variables}
 use Rattle.bp_tree.specs.Sizes.{procedures_size}
-use Rattle.bp_check.specs.Scopes.{has, Uses, SomeUses, DecisionUses, Mentions, Among, Labelled, statements, statements_inside, labels, labels_of}
+use Rattle.bp_language.specs.Scopes.{has, Uses, SomeUses, DecisionUses, Mentions, Among, Labelled, statements, statements_inside, labels, labels_of}
 use Rattle.bp_check.proofs.FirstIndex.{first_has}
-use Rattle.bp_check.specs.Laws.{HasFewNames, IsSound, HasSoundStatements}
-use Rattle.bp_code.specs.declared.slots.Slot.TheVariants.{Global, Local}
-use Rattle.bp_code.specs.Continuations.{chain, has_label, from_label, from_inside}
+use Rattle.bp_language.specs.LawfulPrograms.{HasFewNames, IsSound, HasSoundStatements}
+use Rattle.bp_flat.specs.declared.slots.Slot.TheVariants.{Global, Local}
+use Rattle.bp_flat.specs.Continuations.{chain, has_label, from_label, from_inside}
 use Rattle.bp_code.specs.Slots.{slot_of, HasSlot}
-use Rattle.bp_syntax.specs.NamesIn.{EachName, NamesInExpression, NamesInExpressions, NamesInDecision}
+use Rattle.bp_language.specs.NamesIn.{EachName, NamesInExpression, NamesInExpressions, NamesInDecision}
 use Rattle.bp_code.specs.Compilable.{HasCallee, HasNames, HasNamesIn, IsCompilableIn, AllCompilableIn, IsCompilable}
 
 -- Names that are there have a place.

@@ -1,8 +1,8 @@
 -- The lines of a listing from one number on.
 use Rattle.std.proofs.Common.{◌≡◌, refl, sym, ap, ◌∙◌, ℕ, zero, suc, ◌+◌, ◌-◌, ◌<◌, ◌≤◌, List, [], ◌∷◌, ◌++◌, length, take, drop, get_or, arith}
-use Rattle.bp_code.specs.Flat.{Instruction, Heading}
+use Rattle.bp_flat.specs.Flat.{Instruction, Heading}
 use Rattle.bp_code.specs.Listing.{heading_line, instruction_line, instruction_lines, lines_between, end_before, procedure_lines}
-use Rattle.bp_code.proofs.ListItems.{drop_item, dropped_all}
+use Rattle.bp_flat.proofs.ListItems.{drop_item, dropped_all}
 
 take_one : (is : List Instruction) (n k : ℕ) (i : Instruction)
     → instruction_lines n (take (suc k) (i ∷ is)) ≡ instruction_line n i ++ instruction_lines (n + 1) (take k is)

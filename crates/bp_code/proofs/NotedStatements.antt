@@ -6,7 +6,7 @@ use Rattle.bp_text.proofs.GrownLists.{regrouped}
 use Rattle.bp_tree.specs.declared.stmts.Stmt.{Stmt}
 use Rattle.bp_tree.specs.Blocks.{block_of, statement_of}
 use Rattle.bp_tree.specs.Ast.{Block, Branches, Decision}
-use Rattle.bp_code.specs.Continuations.{has_label}
+use Rattle.bp_flat.specs.Continuations.{has_label}
 use Rattle.bp_code.specs.Compiled.{block_size, size, label_number, inner_number}
 use Rattle.bp_code.specs.Layouts.{block_sizes, inner_sizes}
 use Rattle.bp_code.proofs.BlockItems.{block_item}

@@ -2,15 +2,15 @@
 use Rattle.std.proofs.Common.{◌≡◌, refl, sym, ap, subst, ◌∙◌, ℕ, suc, Bool, true, false, cond, not, List, [], ◌∷◌, Option, None, Some, IsSome, option_map, unwrap_or, bytes_eq}
 use Rattle.std.specs.Option.{option_or}
 use Rattle.bp_tree.specs.Ast.{Name, Expression, Constant, Variable, Negation, Operation, Decision, Choose, Decide, Procedure, Program}
-use Rattle.bp_code.specs.declared.slots.Slot.{Slot}
-use Rattle.bp_code.specs.declared.slots.Slot.TheVariants.{Global, Local}
-use Rattle.bp_code.specs.Values.{lookup, update, variable_value, after_write, after_assignment, operation_value, expression_value, expression_values}
-use Rattle.bp_code.specs.Effects.{Store}
-use Rattle.bp_code.specs.Steps.{Bits, with_bit, slot_bit, with_slot, with_slots, formula_value, formula_values}
-use Rattle.bp_check.specs.Tables.{first_index_from}
+use Rattle.bp_flat.specs.declared.slots.Slot.{Slot}
+use Rattle.bp_flat.specs.declared.slots.Slot.TheVariants.{Global, Local}
+use Rattle.bp_flat.specs.Values.{lookup, update, variable_value, after_write, after_assignment, operation_value, expression_value, expression_values}
+use Rattle.bp_flat.specs.Effects.{Store}
+use Rattle.bp_flat.specs.Steps.{Bits, with_bit, slot_bit, with_slot, with_slots, formula_value, formula_values}
+use Rattle.bp_language.specs.Tables.{first_index_from}
 use Rattle.bp_code.specs.Slots.{slot_of, HasSlot}
-use Rattle.bp_code.specs.StandsFor.{valuation_of, variables, named_store, AreValues, IsTestOf, AreTargets}
-use Rattle.bp_syntax.specs.NamesIn.{EachName, NamesInExpression, NamesInExpressions, NamesInDecision}
+use Rattle.bp_flat.specs.StandsFor.{valuation_of, variables, named_store, AreValues, IsTestOf, AreTargets}
+use Rattle.bp_language.specs.NamesIn.{EachName, NamesInExpression, NamesInExpressions, NamesInDecision}
 use Rattle.bp_code.proofs.FirstNames.{index_later}
 use Rattle.bp_code.specs.Compiled.{Environment, slot_in, slots_in, formula_in, formulas_in, test_in}
 

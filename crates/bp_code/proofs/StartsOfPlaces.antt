@@ -4,11 +4,11 @@ use Rattle.bp_text.proofs.GrownLists.{regrouped}
 use Rattle.bp_tree.specs.declared.stmts.Stmt.{Stmt}
 use Rattle.bp_tree.specs.Blocks.{block_of, statement_of}
 use Rattle.bp_tree.specs.Ast.{Name, Block, Done, Then, Statement, Skips, GoesTo, Returns, Assigns, Branches, Loops, Asserts, Assumes, Prints, Calls, Procedure}
-use Rattle.bp_code.specs.Continuations.{chain}
-use Rattle.bp_code.specs.StandsFor.{Place, places, places_in, places_of}
-use Rattle.bp_code.specs.Starts.{start_of_block, block_starts, inner_starts}
+use Rattle.bp_flat.specs.Continuations.{chain}
+use Rattle.bp_flat.specs.StandsFor.{Place, places, places_in, places_of}
+use Rattle.bp_flat.specs.Starts.{start_of_block, block_starts, inner_starts}
 use Rattle.bp_code.proofs.BlockItems.{block_item}
-use Rattle.bp_code.proofs.ListItems.{drop_item}
+use Rattle.bp_flat.proofs.ListItems.{drop_item}
 
 abbrev pub starts : List Place → List (Option ℕ)
 starts ps = map (λ p. start_of_block p.left) ps

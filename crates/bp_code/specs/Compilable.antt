@@ -3,9 +3,9 @@
 -- instructions fit.
 use Rattle.std.specs.Prelude.{◌≡◌, ◌^◌, ◌<◌, ◌≤◌, List, [], ◌∷◌, ◌++◌, Some, IsSome, length}
 use Rattle.bp_tree.specs.Ast.{Name, Expression, Block, Done, Statement, Procedure, Program}
-use Rattle.bp_code.specs.declared.limits.TheConstants.{SLOTS}
-use Rattle.bp_code.specs.Continuations.{from_label}
-use Rattle.bp_code.specs.Configurations.{procedure_named}
+use Rattle.bp_flat.specs.declared.limits.TheConstants.{SLOTS}
+use Rattle.bp_flat.specs.Continuations.{from_label}
+use Rattle.bp_flat.specs.Configurations.{procedure_named}
 use Rattle.bp_code.specs.Slots.{HasSlot}
 use Rattle.bp_code.specs.Resolved.{IsResolved, IsResolvedIn}
 use Rattle.bp_code.specs.Compiled.{procedures_size}

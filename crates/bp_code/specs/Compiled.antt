@@ -1,14 +1,14 @@
 -- What a program is compiled to: its instructions in text order, one for each statement, numbered
 -- from 0 over all procedures, and one return after each procedure's statements.
-use Rattle.std.specs.Prelude.{if◌then◌else◌, ℕ, ◌+◌, List, [], ◌∷◌, ◌++◌, Option, None, Some, length, map, option_map, unwrap_or, bytes_eq}
+use Rattle.std.specs.Prelude.{if◌then◌else◌, ℕ, ◌+◌, List, [], ◌∷◌, ◌++◌, Option, None, Some, length, map, option_map, unwrap_or}
 use Rattle.std.specs.Option.{option_or}
-use Rattle.std.specs.List.{find}
 pub use Rattle.bp_tree.specs.Sizes.{block_size, size, procedures_size}
 use Rattle.bp_tree.specs.Ast.{Name, Expression, Constant, Variable, Negation, Operation, Decision, Choose, Decide, Block, Done, Then, Statement, Skips, GoesTo, Returns, Assigns, Branches, Loops, Asserts, Assumes, Prints, Calls, Procedure, Program}
-use Rattle.bp_code.specs.declared.slots.Slot.{Slot}
-use Rattle.bp_code.specs.declared.slots.Slot.TheVariants.{Global}
-use Rattle.bp_code.specs.Flat.{Formula, Bit, At, Inverse, Joined, Instruction, Skip, Goto, Return, Assign, If, While, Assert, Assume, Print, Call, Heading, heading, Flat, flat}
-use Rattle.bp_code.specs.Continuations.{has_label}
+use Rattle.bp_flat.specs.declared.slots.Slot.{Slot}
+use Rattle.bp_flat.specs.declared.slots.Slot.TheVariants.{Global}
+use Rattle.bp_flat.specs.Flat.{Formula, Bit, At, Inverse, Joined, Instruction, Skip, Goto, Return, Assign, If, While, Assert, Assume, Print, Call, Heading, heading, Flat, flat}
+use Rattle.bp_flat.specs.Headings.{heading_named}
+use Rattle.bp_flat.specs.Continuations.{has_label}
 use Rattle.bp_code.specs.Slots.{slot_of}
 
 -- what the names in a procedure's statements mean: the number of its first instruction goes with it
@@ -33,10 +33,6 @@ abbrev mutual
       option_or (label_number a (n + 1) x) (label_number b (n + 1 + block_size a) x)
   inner_number (Loops d a) n x = label_number a (n + 1) x
   inner_number s n x = None
-
--- the first heading of a name
-abbrev pub heading_named : List Heading → List ℕ → Option Heading
-heading_named hs x = find (λ h. bytes_eq h.name x) hs
 
 -- where control goes into a block whose first instruction would have the number n, when next
 -- follows the block

@@ -1,7 +1,7 @@
 -- The listing of a code: a line for each procedure, and one for each of its instructions.
 use Rattle.std.specs.Prelude.{ℕ, ◌+◌, ◌-◌, List, [], ◌∷◌, ◌++◌, length, take, drop, flat_map, codes, decimal}
 use Rattle.std.specs.List.{concat}
-use Rattle.bp_code.specs.Flat.{Instruction, Skip, Goto, Return, Assign, If, While, Assert, Assume, Print, Call, Heading, Flat}
+use Rattle.bp_flat.specs.Flat.{Instruction, Skip, Goto, Return, Assign, If, While, Assert, Assume, Print, Call, Heading, Flat}
 
 -- a space and a number
 abbrev pub number_field : ℕ → List ℕ

@@ -2,7 +2,7 @@
 -- it.
 use Rattle.std.specs.Prelude.{List}
 use Rattle.bp_tree.specs.Ast.{Name, Expression, Block, Done, Then, Statement, Skips, GoesTo, Returns, Assigns, Branches, Loops, Asserts, Assumes, Prints, Calls}
-use Rattle.bp_syntax.specs.NamesIn.{EachName, NamesInExpressions, NamesInDecision}
+use Rattle.bp_language.specs.NamesIn.{EachName, NamesInExpressions, NamesInDecision}
 
 -- of a variable, of a label, and of a called procedure with the arguments of the call
 module _ (IsVariable IsLabel : Name → Type 0) (IsCallee : Name → List Expression → Type 0) where

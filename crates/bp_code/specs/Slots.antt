@@ -3,9 +3,9 @@ use Rattle.std.specs.Prelude.{ℕ, List, Option, IsSome, option_map}
 use Rattle.std.specs.Option.{option_or}
 use Rattle.bp_tree.specs.Ast.{Name, Procedure}
 use Rattle.bp_tree.specs.Lookup.{variables}
-use Rattle.bp_check.specs.Tables.{first_index}
-use Rattle.bp_code.specs.declared.slots.Slot.{Slot}
-use Rattle.bp_code.specs.declared.slots.Slot.TheVariants.{Global, Local}
+use Rattle.bp_language.specs.Tables.{first_index}
+use Rattle.bp_flat.specs.declared.slots.Slot.{Slot}
+use Rattle.bp_flat.specs.declared.slots.Slot.TheVariants.{Global, Local}
 
 -- the slot of a variable: its place among the formals and then the locals, or else among the
 -- globals

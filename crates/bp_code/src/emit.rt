@@ -8,11 +8,11 @@ ghost use Rattle.bp_code.specs.Known.{IsKnown, IsKnownIn};
 ghost use Rattle.bp_code.specs.Layouts.{block_sizes, inner_sizes, AreSizesOf};
 ghost use Rattle.bp_code.specs.Compiled.{block_entry, block_size, size, with_block, with_statement};
 
-use crate::actions::{Action, Assignment, Branch, Call};
 use crate::environments::Environment;
-use crate::expr_lists::Arguments;
-use crate::instrs::Instr;
 use crate::translate::{exprs, slots, test};
+use bp_flat::actions::{Action, Assignment, Branch, Call};
+use bp_flat::expr_lists::Arguments;
+use bp_flat::instrs::Instr;
 use bp_tree::{Block, Decider, Form, Stmt};
 use std::alloc::AllocError;
 

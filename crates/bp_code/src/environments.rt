@@ -2,12 +2,12 @@
 ghost use Rattle.std.specs.Prelude.{◌≡◌, ◌+◌, ◌^◌, ◌<◌, ◌≤◌, ℕ, List, length, map};
 ghost use Rattle.bp_tree.specs.Lookup.{variables};
 ghost use Rattle.bp_check.specs.Tables.{index_in};
-ghost use Rattle.bp_code.specs.declared.limits.TheConstants.{SLOTS};
+ghost use Rattle.bp_flat.specs.declared.limits.TheConstants.{SLOTS};
 ghost use Rattle.bp_code.specs.Compiled.{block_size, label_number};
 
-use crate::headings::Heading;
 use crate::layout::Layout;
 use bp_check::NameTable;
+use bp_flat::headings::Heading;
 use bp_tree::Proc;
 
 /// The globals, the procedures and their headings, and of one procedure its variables and the

@@ -4,7 +4,7 @@ ghost use Rattle.std.specs.Prelude.{◌≡◌, ◌+◌, ◌^◌, ◌<◌, ◌≤
 ghost use Rattle.std.specs.Option.{option_or};
 ghost use Rattle.bp_tree.specs.Blocks.{block_of, statement_of};
 ghost use Rattle.bp_check.specs.Tables.{index_in};
-ghost use Rattle.bp_code.specs.Continuations.{has_label};
+ghost use Rattle.bp_flat.specs.Continuations.{has_label};
 ghost use Rattle.bp_code.specs.Compiled.{block_size, size, label_number, inner_number};
 ghost use Rattle.bp_code.specs.Layouts.{block_sizes, inner_sizes, AreSizesOf};
 

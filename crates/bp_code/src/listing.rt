@@ -2,14 +2,14 @@
 ghost use Rattle.std.specs.Prelude.{◌≡◌, ◌≤◌, drop, flat_map, take};
 ghost use Rattle.bp_text.specs.Pieces.{piece_text};
 ghost use Rattle.bp_text.specs.Writing.{Writes};
-ghost use Rattle.bp_code.specs.Instructions.{instruction_of};
+ghost use Rattle.bp_flat.specs.Instructions.{instruction_of};
 ghost use Rattle.bp_code.specs.Listing as listing;
 ghost use Rattle.bp_code.specs.Listing.{number_field, line, heading_line, instruction_line, instruction_word, lines_between, end_before, listing_text};
 
-use crate::actions::Action;
-use crate::code::Code;
-use crate::headings::Heading;
-use crate::instrs::Instr;
+use bp_flat::actions::Action;
+use bp_flat::code::Code;
+use bp_flat::headings::Heading;
+use bp_flat::instrs::Instr;
 use bp_text::Piece::{Bytes, Number};
 use bp_text::{Piece, WriteFault, put, put_pieces};
 use std::io::Write;

@@ -5,7 +5,7 @@ ghost use Rattle.bp_code.specs.Known.{HasSlot, HasLabel, HasHeading};
 ghost use Rattle.bp_code.specs.Compiled.{slot_in, label_in, callee_in};
 
 use crate::environments::Environment;
-use crate::slots::{Index, Slot};
+use bp_flat::slots::{Index, Slot};
 use bp_tree::Name;
 
 impl<'s, 'a> Environment<'s, 'a> {

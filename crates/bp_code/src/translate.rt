@@ -1,16 +1,16 @@
 //! From program trees to flat code.
 ghost use Rattle.std.specs.Prelude.{◌≡◌, IfOk};
 ghost use Rattle.bp_tree.specs.Views.{expression_of, decision_of};
-ghost use Rattle.bp_code.specs.Views.{formula_of, test_of};
+ghost use Rattle.bp_flat.specs.Views.{formula_of, test_of};
 ghost use Rattle.bp_code.specs.Environments.{environment_of};
-ghost use Rattle.bp_syntax.specs.NamesIn.{EachName, NamesInExpression, NamesInExpressions, NamesInDecision};
+ghost use Rattle.bp_language.specs.NamesIn.{EachName, NamesInExpression, NamesInExpressions, NamesInDecision};
 ghost use Rattle.bp_code.specs.Known.{HasSlot};
 ghost use Rattle.bp_code.specs.Compiled.{slots_in, formula_in, formulas_in, test_in};
 
 use crate::environments::Environment;
-use crate::expr_lists::SlotExprs;
-use crate::exprs::{SlotExpr, SlotSub, Test};
-use crate::slots::Slots;
+use bp_flat::expr_lists::SlotExprs;
+use bp_flat::exprs::{SlotExpr, SlotSub, Test};
+use bp_flat::slots::Slots;
 use bp_tree::{Decider, Expr, Exprs, Names};
 use std::alloc::{AllocError, Global};
 

@@ -2,7 +2,7 @@
 use Rattle.std.proofs.Common.{◌≡◌, refl, sym, subst, inl, inr, List, ℕ, Option, None}
 use Rattle.std.specs.Io.KnownBytes.{Keeps}
 use Rattle.std.proofs.KnownBytes.{Keeps-refl}
-use Rattle.bp_code.specs.Flat.{Flat}
+use Rattle.bp_flat.specs.Flat.{Flat}
 use Rattle.bp_code.specs.LawfulTexts.{IsProgramCode}
 use Rattle.bp_machine.specs.declared.reports.Report.{Report}
 use Rattle.bp_machine.specs.declared.setup_faults.SetupFault.{SetupFault}

@@ -4,7 +4,7 @@ use Rattle.std.specs.Io.KnownBytes.{Appends, Keeps}
 use Rattle.std.proofs.KnownBytes.{Appends-nil, Keeps-refl}
 use Rattle.bp_tree.specs.Ast.{Program}
 use Rattle.bp_code.specs.LawfulTexts.{IsLawfulText}
-use Rattle.bp_code.specs.StandsFor.{places_of}
+use Rattle.bp_flat.specs.StandsFor.{places_of}
 use Rattle.bp_text.specs.Writing.{AppendsAll}
 use Rattle.bp_machine.specs.declared.calls.Call.{Call}
 use Rattle.bp_machine.specs.declared.reports.Report.{Report}

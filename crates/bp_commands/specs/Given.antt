@@ -1,6 +1,6 @@
 -- The inputs of a command: what they hold where they are read, and why they are not read.
 use Rattle.std.specs.Prelude.{◌≡◌, ◌⊎◌, ℕ, ◌+◌, List, [], Option}
-use Rattle.bp_syntax.specs.declared.limits.TheConstants.{TEXT_LIMIT}
+use Rattle.bp_language.specs.declared.limits.TheConstants.{TEXT_LIMIT}
 use Rattle.bp_commands.specs.declared.limits.TheConstants.{MAX_BUNDLE}
 use Rattle.bp_messages.specs.declared.input_faults.InputFault.{InputFault}
 use Rattle.bp_messages.specs.declared.faults.Fault.{Fault}

@@ -2,13 +2,14 @@
 ghost use Rattle.std.specs.Prelude.{◌≡◌, IfOk};
 ghost use Rattle.bp_code.specs.Compiled.{flat_of};
 ghost use Rattle.bp_code.specs.Listing.{listing_text};
-ghost use Rattle.bp_code.specs.StandsFor.{StandsFor};
+ghost use Rattle.bp_flat.specs.StandsFor.{StandsFor};
 ghost use Rattle.bp_commands.specs.Listings.{IsListingText};
 ghost use Rattle.bp_source.specs.Listings.{IsSourcedListing};
 
 use crate::commands::ProgramCommand;
 use bp_check::Checked;
-use bp_code::{Code, compile, lawful_program, list};
+use bp_code::{compile, lawful_program, list};
+use bp_flat::Code;
 use bp_messages::Fault;
 use bp_source::{code_objects, sourced_listing};
 use bp_tasks::ListingForm;

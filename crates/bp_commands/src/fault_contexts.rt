@@ -4,14 +4,14 @@ use crate::files::Failure;
 use bp_board::limits::{MAX_RING, MAX_TURN};
 use bp_code::ProgramFault;
 use bp_explain::{global_sentence, start_sentence, variable_sentence};
+use bp_facts::watched_names;
 use bp_init::NamedStart;
+use bp_language::limits::TEXT_LIMIT;
 use bp_machine::limits::{MAX_CALLS, MAX_CONTEXTS};
 use bp_machine::{SetupFault, Start};
 use bp_messages::Fault;
 use bp_syntax::ReadFault;
-use bp_syntax::limits::TEXT_LIMIT;
 use bp_tasks::RunOptions;
-use bp_facts::watched_names;
 use std::alloc::Global;
 
 /// The numbers among the options of a command that have a range.

@@ -6,9 +6,9 @@ ghost use Rattle.bp_commands.specs.Inputs.{reading_fault_of, IsInput, IsInputRef
 ghost use Rattle.bp_commands.specs.Given.{IsPairIn, IsPairUnread, IsReadRefused, IsText, IsTextUnread};
 
 use bp_code::ProgramFault;
+use bp_language::limits::TEXT_LIMIT;
 use bp_messages::{Fault, InputFault};
 use bp_syntax::ReadFault;
-use bp_syntax::limits::TEXT_LIMIT;
 use std::alloc::Global;
 use std::io::{self, ErrorKind, Read};
 

@@ -1,10 +1,11 @@
 //! The lawful program of a text, with its code.
 ghost use Rattle.std.specs.Prelude.{MatchResult};
 ghost use Rattle.bp_code.specs.LawfulTexts.{IsCodeRefusal, IsLawfulText};
-ghost use Rattle.bp_code.specs.StandsFor.{StandsFor};
+ghost use Rattle.bp_flat.specs.StandsFor.{StandsFor};
 
 use bp_check::Checked;
-use bp_code::{Code, CodeFault, compile, lawful_program};
+use bp_code::{CodeFault, compile, lawful_program};
+use bp_flat::Code;
 use std::alloc::Global;
 
 /// The lawful program of a text, and its code.

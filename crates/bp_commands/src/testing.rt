@@ -1,6 +1,6 @@
 //! The command `test`.
 ghost use Rattle.std.specs.Prelude.{◌≡◌, map, IfOk};
-ghost use Rattle.bp_code.specs.StandsFor.{places_of};
+ghost use Rattle.bp_flat.specs.StandsFor.{places_of};
 ghost use Rattle.bp_source.specs.SourceStatements.{AreStatements};
 ghost use Rattle.bp_source.specs.StatementLines.{positions_of};
 ghost use Rattle.std.specs.Thread.{IsSync};
@@ -9,8 +9,8 @@ ghost use Rattle.bp_commands.specs.Tests.{name_of, tests, AreListed};
 
 use crate::commands::ProgramCommand;
 use crate::named_starts::start_by_names;
-use crate::run_ends::CommandAnswer;
 use crate::programs::program_of;
+use crate::run_ends::CommandAnswer;
 use bp_check::Checked;
 use bp_init::NamedStart;
 use bp_machine::Start;

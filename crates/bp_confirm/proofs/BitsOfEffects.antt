@@ -5,17 +5,17 @@ use Rattle.std.proofs.lemmas.Option.{slice_get-map}
 use Rattle.std.proofs.lemmas.Bool.{false≢true}
 use Rattle.std.proofs.lemmas.Bool.Decides.{nat_tests}
 use Rattle.bp_tree.specs.Ast.{Block, Done, Then, Skips, GoesTo, Returns, Assigns, Branches, Loops, Asserts, Assumes, Prints, Calls, Choose, Decide, Procedure, Program, Expression}
-use Rattle.bp_code.specs.declared.effects.Effect.{Effect}
-use Rattle.bp_code.specs.declared.effects.Effect.TheVariants as instr
-use Rattle.bp_code.specs.declared.stores.Store.{Store}
-use Rattle.bp_code.specs.Bits.{bits_of, store_of}
-use Rattle.bp_code.specs.Continuations.{chain}
-use Rattle.bp_code.specs.Effects as effects
-use Rattle.bp_code.specs.Flat.{Formula, Instruction}
-use Rattle.bp_code.specs.InstrEffects.{effect_of}
-use Rattle.bp_code.specs.StandsFor.{Place, place, places_of, Remains, Does, IsTestOf}
-use Rattle.bp_code.specs.Starts.{start_of_block, starts_of}
-use Rattle.bp_code.specs.Steps.{Bits, Activation, activation, instruction_effect, step_to, test_value}
+use Rattle.bp_flat.specs.declared.effects.Effect.{Effect}
+use Rattle.bp_flat.specs.declared.effects.Effect.TheVariants as instr
+use Rattle.bp_flat.specs.declared.stores.Store.{Store}
+use Rattle.bp_flat.specs.Bits.{bits_of, store_of}
+use Rattle.bp_flat.specs.Continuations.{chain}
+use Rattle.bp_flat.specs.Effects as effects
+use Rattle.bp_flat.specs.Flat.{Formula, Instruction}
+use Rattle.bp_flat.specs.InstrEffects.{effect_of}
+use Rattle.bp_flat.specs.StandsFor.{Place, place, places_of, Remains, Does, IsTestOf}
+use Rattle.bp_flat.specs.Starts.{start_of_block, starts_of}
+use Rattle.bp_flat.specs.Steps.{Bits, Activation, activation, instruction_effect, step_to, test_value}
 use Rattle.bp_confirm.specs.Places as point
 use Rattle.bp_confirm.specs.Inferred.{bit_towards, bit_of_block, IsClearWay, IsClear, AreBothWays, IsAmbiguous}
 use Rattle.bp_confirm.specs.EffectBits.{NextNumbers, bit_towards_number, bit_of_effects, are_both_there, splits}

@@ -4,12 +4,12 @@ use Rattle.std.specs.Prelude.{slice_get, option_map}
 use Rattle.std.proofs.lemmas.Bool.{false≢true}
 use Rattle.std.proofs.lemmas.Bool.Decides.{nat_tests}
 use Rattle.bp_tree.specs.Ast.{Block, Done, Then, Skips, GoesTo, Returns, Assigns, Branches, Loops, Asserts, Assumes, Prints, Calls, Choose, Decide, Program}
-use Rattle.bp_syntax.specs.Texts.{IsTextOf}
+use Rattle.bp_language.specs.Texts.{IsTextOf}
 use Rattle.bp_text.specs.Positions.{position_at}
-use Rattle.bp_code.specs.Configurations.{Configuration}
-use Rattle.bp_code.specs.StandsFor.{place}
-use Rattle.bp_code.specs.Continuations.{chain}
-use Rattle.bp_code.specs.Starts.{start_of_block, starts_of}
+use Rattle.bp_flat.specs.Configurations.{Configuration}
+use Rattle.bp_flat.specs.StandsFor.{place}
+use Rattle.bp_flat.specs.Continuations.{chain}
+use Rattle.bp_flat.specs.Starts.{start_of_block, starts_of}
 use Rattle.bp_machine.specs.Answers.{stack_of}
 use Rattle.bp_machine.specs.Histories.{configuration_after}
 use Rattle.bp_confirm.specs.declared.locations.Location.{Location}

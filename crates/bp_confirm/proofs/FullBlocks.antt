@@ -3,10 +3,10 @@ use Rattle.std.proofs.Common.{◌≡◌, ◌≢◌, ℕ, zero, suc, List, [], �
 use Rattle.std.specs.Prelude.{slice_get}
 use Rattle.std.specs.List.{AllByRecursion}
 use Rattle.bp_tree.specs.Ast.{Name, Block, Done, Then, Statement, Skips, GoesTo, Returns, Assigns, Branches, Loops, Asserts, Assumes, Prints, Calls, Procedure, Program}
-use Rattle.bp_syntax.specs.Tokens.{Token}
-use Rattle.bp_syntax.specs.Grammar.{IsForm, skip, jump, returning, assignment, branch, loop, assertion, assumption, printing, call, IsStmt, labelled, unlabelled, IsStmts, one_stmt, more_stmts, IsProc, proc, IsProcs, no_proc, more_procs, Derives, program}
-use Rattle.bp_code.specs.Continuations.{chain}
-use Rattle.bp_code.specs.StandsFor.{Place, place, places, places_in, places_of}
+use Rattle.bp_language.specs.Tokens.{Token}
+use Rattle.bp_language.specs.Grammar.{IsForm, skip, jump, returning, assignment, branch, loop, assertion, assumption, printing, call, IsStmt, labelled, unlabelled, IsStmts, one_stmt, more_stmts, IsProc, proc, IsProcs, no_proc, more_procs, Derives, program}
+use Rattle.bp_flat.specs.Continuations.{chain}
+use Rattle.bp_flat.specs.StandsFor.{Place, place, places, places_in, places_of}
 
 abbrev mutual
   pub FullBlock : Block → Type 0

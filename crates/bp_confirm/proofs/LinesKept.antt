@@ -29,7 +29,8 @@ line_more_at xs more ks k within =
     ∙ ap (λ ys. ys ++ get_or (xs ++ more) k no_line ∷ []) (lines_same xs more ks within)
 
 -- a line was read: it is at one more place
-module _ (old new : List KeptLine) (ks : List ℕ) (k : ℕ) (grows : GrowsByOne old new) (within : AreWithin (kept_lines old) ks) (here : k < length (kept_lines new)) where
+module _ (old new : List KeptLine) (ks : List ℕ) (k : ℕ) (grows : GrowsByOne old new)
+    (within : AreWithin (kept_lines old) ks) (here : k < length (kept_lines new)) where
   lines_are : kept_lines new ≡ kept_lines old ++ kept_lines grows.0
   lines_are = ap kept_lines grows.1 ∙ map-append (λ (x : KeptLine). x.line) old grows.0
 

@@ -2,9 +2,9 @@
 use Rattle.std.proofs.Common.{◌≡◌, ◌↔◌, IsTrue, ◌++◌, ◌∷◌, ◌&&◌, nat_le, ℕ, Bool, true, false, cond, not, List, [], length, Option, None, Some, refl, ap, sym, ◌∙◌, subst, ◌<◌}
 use Rattle.std.proofs.lemmas.Bool.{false≢true}
 use Rattle.bp_tree.specs.Ast.{Block, Done, Then, Skips, GoesTo, Returns, Assigns, Branches, Loops, Asserts, Assumes, Prints, Calls, Choose, Decide, Procedure, Program}
-use Rattle.bp_code.specs.Configurations.{Frame, Configuration, is_call}
-use Rattle.bp_code.specs.Moves.{StatementEffect, Leaves, Fails, Blocks, Misses, effect, after_effect}
-use Rattle.bp_code.specs.Values.{Valuation}
+use Rattle.bp_flat.specs.Configurations.{Frame, Configuration, is_call}
+use Rattle.bp_flat.specs.Moves.{StatementEffect, Leaves, Fails, Blocks, Misses, effect, after_effect}
+use Rattle.bp_flat.specs.Values.{Valuation}
 use Rattle.bp_machine.specs.declared.calls.Reply.{Reply}
 use Rattle.bp_machine.specs.declared.calls.Reply.TheVariants.{Stopped, NoContexts, Full, Failed, Stepped}
 use Rattle.bp_machine.specs.declared.calls.Call.{Call}

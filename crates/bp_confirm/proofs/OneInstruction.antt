@@ -6,13 +6,13 @@ use Rattle.std.proofs.lemmas.Bool.{false≢true}
 use Rattle.std.proofs.lemmas.Option.{slice_get-map}
 use Rattle.std.proofs.lemmas.Slice.Eq.{bytes_eq-Decides}
 use Rattle.bp_tree.specs.Ast.{Name, Block, Done, Then, Procedure, Program}
-use Rattle.bp_check.specs.Scopes.{has}
-use Rattle.bp_check.proofs.LawsOfLawfulPrograms.{distinct_names}
-use Rattle.bp_code.specs.Configurations.{Configuration}
+use Rattle.bp_language.specs.Scopes.{has}
+use Rattle.bp_language.proofs.LawsOfLawfulPrograms.{distinct_names}
+use Rattle.bp_flat.specs.Configurations.{Configuration}
 use Rattle.bp_code.specs.LawfulTexts.{IsLawfulText}
-use Rattle.bp_code.specs.StandsFor.{Place, Remains, place, places_of}
-use Rattle.bp_code.specs.Starts.{start_of_block, starts_of}
-use Rattle.bp_code.proofs.ProceduresOfPlaces.{ends, starts, procedure_of}
+use Rattle.bp_flat.specs.StandsFor.{Place, Remains, place, places_of}
+use Rattle.bp_flat.specs.Starts.{start_of_block, starts_of}
+use Rattle.bp_flat.proofs.ProceduresOfPlaces.{ends, starts, procedure_of}
 use Rattle.bp_confirm.specs.Confirms.{GoesOnAt}
 use Rattle.bp_confirm.proofs.StartsInOrder.{starts_distinct}
 

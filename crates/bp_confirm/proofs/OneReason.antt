@@ -2,12 +2,12 @@
 use Rattle.std.proofs.Common.{◌≡◌, ◌≢◌, ◌∙◌, ℕ, zero, suc, Bool, true, List, [], ◌∷◌, ◌++◌, length, Option, None, Some, refl, ap, sym, subst}
 use Rattle.std.proofs.lemmas.Bool.{false≢true}
 use Rattle.bp_tree.specs.Ast.{Block, Done, Then, Skips, GoesTo, Returns, Assigns, Branches, Loops, Asserts, Assumes, Prints, Calls, Choose, Decide, Program}
-use Rattle.bp_code.specs.Configurations.{Configuration}
-use Rattle.bp_code.specs.Continuations.{chain}
+use Rattle.bp_flat.specs.Configurations.{Configuration}
+use Rattle.bp_flat.specs.Continuations.{chain}
 use Rattle.bp_code.specs.LawfulTexts.{IsLawfulText}
-use Rattle.bp_code.specs.StandsFor.{place}
-use Rattle.bp_code.specs.Starts.{start_of_block}
-use Rattle.bp_code.specs.Values.{Valuation}
+use Rattle.bp_flat.specs.StandsFor.{place}
+use Rattle.bp_flat.specs.Starts.{start_of_block}
+use Rattle.bp_flat.specs.Values.{Valuation}
 use Rattle.bp_machine.specs.declared.calls.Call.{Call}
 use Rattle.bp_machine.specs.declared.calls.Reply.{Reply}
 use Rattle.bp_machine.specs.Answers.{stack_of}

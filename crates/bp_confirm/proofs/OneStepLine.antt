@@ -3,7 +3,7 @@ use Rattle.std.proofs.Common.{◌≡◌, ◌≢◌, inl, inr, ℕ, ◌<◌, Bool
 use Rattle.std.proofs.lemmas.Fmt.{decimal_nonempty}
 use Rattle.std.proofs.lemmas.List.{append-nil}
 use Rattle.bp_text.proofs.GrownLists.{regrouped}
-use Rattle.bp_code.specs.Values.{Valuation}
+use Rattle.bp_flat.specs.Values.{Valuation}
 use Rattle.bp_trace.specs.Schedules.{bit_digit}
 use Rattle.bp_trace.specs.Writable.{Without}
 use Rattle.bp_confirm.specs.declared.locations.Location.{Location}

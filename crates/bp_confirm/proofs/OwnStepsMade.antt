@@ -5,8 +5,8 @@ use Rattle.std.specs.Prelude.{slice_get}
 use Rattle.bp_text.proofs.GrownLists.{both_added}
 use Rattle.bp_tree.specs.Ast.{Program}
 use Rattle.bp_text.specs.Positions.{position_at}
-use Rattle.bp_code.specs.Configurations.{Configuration}
-use Rattle.bp_code.specs.Starts.{start_of_block, starts_of}
+use Rattle.bp_flat.specs.Configurations.{Configuration}
+use Rattle.bp_flat.specs.Starts.{start_of_block, starts_of}
 use Rattle.bp_machine.specs.declared.calls.Call.{Call}
 use Rattle.bp_machine.specs.declared.tops.Top.{Top}
 use Rattle.bp_machine.specs.Answers.{stack_of, configuration_after_call, configuration_after_step, reply_of}

@@ -5,8 +5,8 @@ use Rattle.std.proofs.Math.Path.{fun_ext}
 use Rattle.std.proofs.lemmas.List.{take_more}
 use Rattle.bp_tree.specs.Ast.{Program}
 use Rattle.bp_text.specs.Positions.{position_at}
-use Rattle.bp_code.specs.Starts.{starts_of}
-use Rattle.bp_code.proofs.ProceduresOfPlaces.{ends}
+use Rattle.bp_flat.specs.Starts.{starts_of}
+use Rattle.bp_flat.proofs.ProceduresOfPlaces.{ends}
 use Rattle.bp_confirm.specs.declared.locations.Location.{Location}
 use Rattle.bp_confirm.specs.declared.source_points.SourcePoint.{SourcePoint}
 use Rattle.bp_confirm.specs.Places.{place_of}

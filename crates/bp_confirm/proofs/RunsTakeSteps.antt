@@ -1,7 +1,7 @@
 -- A run that takes steps is a history that takes them.
 use Rattle.std.proofs.Common.{◌≡◌, ◌∙◌, ℕ, Bool, List, [], ◌∷◌, ◌++◌, refl, ap, sym, subst}
 use Rattle.bp_tree.specs.Ast.{Program}
-use Rattle.bp_code.specs.Configurations.{Configuration}
+use Rattle.bp_flat.specs.Configurations.{Configuration}
 use Rattle.bp_machine.specs.declared.calls.Call.{Call}
 use Rattle.bp_machine.specs.Answers.{stack_of, configuration_after_call}
 use Rattle.bp_machine.specs.BoundedRuns.{reply_of_step, history_of_run}

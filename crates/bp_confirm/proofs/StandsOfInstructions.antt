@@ -2,7 +2,7 @@
 use Rattle.std.proofs.Common.{◌≡◌, ◌∙◌, ◌+◌, ℕ, zero, suc, List, [], ◌∷◌, Option, None, Some, refl, ap}
 use Rattle.std.specs.Prelude.{slice_get}
 use Rattle.bp_tree.specs.Ast.{Program}
-use Rattle.bp_code.specs.Starts.{starts_of}
+use Rattle.bp_flat.specs.Starts.{starts_of}
 use Rattle.bp_confirm.specs.declared.source_points.SourcePoint.{SourcePoint}
 use Rattle.bp_confirm.specs.SourcePoints.{points_from, source_points_of}
 use Rattle.bp_confirm.specs.Stands.{stand_at_point, stand_at_start, stand_in, stand_of}

@@ -2,8 +2,8 @@
 use Rattle.std.proofs.Common.{◌≡◌, ◌≤◌, ◌<◌, ◌+◌, ℕ, zero, suc, Bool, true, false, List, [], ◌∷◌, ◌++◌, length, take, drop, get_or, None, Some, refl, ap, sym, ◌∙◌, subst, arith}
 use Rattle.std.specs.Prelude.{is_some, slice_get}
 use Rattle.std.proofs.Common.{Option}
-use Rattle.bp_code.specs.Configurations.{Configuration}
-use Rattle.bp_code.specs.Values.{Valuation}
+use Rattle.bp_flat.specs.Configurations.{Configuration}
+use Rattle.bp_flat.specs.Values.{Valuation}
 use Rattle.std.proofs.lemmas.Bool.{false≢true}
 use Rattle.std.proofs.lemmas.List.{append-nil, map_push, take_all, take_more, take-append-drop}
 use Rattle.std.proofs.Math.ListN.{length-take, drop_of_length-le}

@@ -3,12 +3,12 @@ use Rattle.std.proofs.Common.{◌≡◌, ◌∙◌, ◌<◌, ◌≤◌, ℕ, Lis
 use Rattle.std.specs.Prelude.{slice_get, option_map, MatchOption, IfSome, is_some, nat_lt}
 use Rattle.std.proofs.lemmas.Option.{slice_get_past, slice_get-get_or, slice_get-map}
 use Rattle.bp_tree.specs.Ast.{Procedure, Program}
-use Rattle.bp_code.specs.Bits.{bits_of}
-use Rattle.bp_code.specs.Configurations.{Configuration}
-use Rattle.bp_code.specs.StandsFor.{Place, valuation_of, variables, place, places_of}
-use Rattle.bp_code.specs.Starts.{start_of_block, starts_of}
-use Rattle.bp_code.specs.Values.{lookup}
-use Rattle.bp_code.proofs.ProceduresOfPlaces.{ends, procedure_of}
+use Rattle.bp_flat.specs.Bits.{bits_of}
+use Rattle.bp_flat.specs.Configurations.{Configuration}
+use Rattle.bp_flat.specs.StandsFor.{Place, valuation_of, variables, place, places_of}
+use Rattle.bp_flat.specs.Starts.{start_of_block, starts_of}
+use Rattle.bp_flat.specs.Values.{lookup}
+use Rattle.bp_flat.proofs.ProceduresOfPlaces.{ends, procedure_of}
 use Rattle.bp_machine.specs.declared.tops.Top.{Top}
 use Rattle.bp_machine.specs.Answers.{stack_of}
 use Rattle.bp_machine.specs.Tops.{IsTop}

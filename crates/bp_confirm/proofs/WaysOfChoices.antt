@@ -2,11 +2,11 @@
 use Rattle.std.proofs.Common.{◌≡◌, Bool, true, false, cond, not, ◌&&◌, List, ◌∷◌, Option, None, Some, refl, ap, sym, ◌∙◌, subst, inl, inr, ◌⊎◌}
 use Rattle.std.proofs.lemmas.Bool.{false≢true}
 use Rattle.bp_tree.specs.Ast.{Block, Done, Then, Skips, GoesTo, Returns, Assigns, Branches, Loops, Asserts, Assumes, Prints, Calls, Choose, Decide, Procedure}
-use Rattle.bp_code.specs.Configurations.{Frame}
-use Rattle.bp_code.specs.Continuations.{chain}
-use Rattle.bp_code.specs.Moves.{StatementEffect, Leaves, effect, with_left}
-use Rattle.bp_code.specs.Starts.{start_of_block}
-use Rattle.bp_code.specs.Values.{Valuation}
+use Rattle.bp_flat.specs.Configurations.{Frame}
+use Rattle.bp_flat.specs.Continuations.{chain}
+use Rattle.bp_flat.specs.Moves.{StatementEffect, Leaves, effect, with_left}
+use Rattle.bp_flat.specs.Starts.{start_of_block}
+use Rattle.bp_flat.specs.Values.{Valuation}
 use Rattle.bp_confirm.specs.Places.{Place, stands_at}
 use Rattle.bp_confirm.specs.Inferred.{bit_towards, bit_of_block, IsClearWay, IsClear}
 

@@ -1,7 +1,7 @@
 -- The last of the steps of a history that changed what a thread sees of a variable.
 use Rattle.std.specs.Prelude.{◌≡◌, ◌≢◌, ◌<◌, ◌≤◌, ◌-◌, take, length, ℕ, Bool, List, Option, None, Some}
 use Rattle.bp_tree.specs.Ast.{Program}
-use Rattle.bp_code.specs.Values.{Valuation}
+use Rattle.bp_flat.specs.Values.{Valuation}
 use Rattle.bp_machine.specs.declared.calls.Call.{Call}
 use Rattle.bp_machine.specs.Answers.{stack_of}
 use Rattle.bp_machine.specs.Histories.{configuration_after}

@@ -2,10 +2,10 @@
 use Rattle.std.specs.Prelude.{◌≡◌, ℕ, List, [], ◌∷◌, ◌++◌, Some}
 use Rattle.bp_tree.specs.Ast.{Program}
 use Rattle.bp_machine.specs.declared.calls.Call.{Call}
-use Rattle.bp_code.specs.Configurations.{Configuration}
+use Rattle.bp_flat.specs.Configurations.{Configuration}
 use Rattle.bp_machine.specs.BoundedRuns.{IsBoundedRun}
 use Rattle.bp_machine.specs.Setups.{SetupOf, start}
-use Rattle.bp_syntax.specs.Texts.{IsTextOf}
+use Rattle.bp_language.specs.Texts.{IsTextOf}
 use Rattle.bp_confirm.specs.declared.faults.StepReason.TheVariants.{Ambiguous}
 use Rattle.bp_confirm.specs.declared.faults.StepRefusal.{StepRefusal}
 use Rattle.bp_confirm.specs.declared.locations.Location.TheVariants.{Line}

@@ -2,9 +2,9 @@
 use Rattle.std.specs.Prelude.{◌≡◌, ◌<◌, ◌≤◌, ℕ, ◌+◌, ◌||◌, Bool, true, false, List, ◌∷◌, ◌++◌, length, is_some}
 use Rattle.std.specs.List.{AllByRecursion, list_any}
 use Rattle.bp_tree.specs.Ast.{Procedure, Program}
-use Rattle.bp_check.specs.Tables.{first_index}
-use Rattle.bp_code.specs.StandsFor.{variables}
-use Rattle.bp_code.specs.Values.{Valuation}
+use Rattle.bp_language.specs.Tables.{first_index}
+use Rattle.bp_flat.specs.StandsFor.{variables}
+use Rattle.bp_flat.specs.Values.{Valuation}
 use Rattle.bp_machine.specs.Setups.{SetupOf, threads}
 use Rattle.bp_confirm.specs.StepLines.{StepLineOf}
 

@@ -1,8 +1,8 @@
 -- A device: the inferred bit by the two effects of an instruction.
 use Rattle.std.specs.Prelude.{ℕ, Bool, true, false, not, ◌&&◌, ◌==◌, Option, None, Some}
-use Rattle.bp_code.specs.declared.effects.Effect.{Effect}
-use Rattle.bp_code.specs.declared.effects.Effect.TheVariants.{Continues, Fails, Blocks}
-use Rattle.bp_code.specs.Flat.{Instruction, If, While, Assert, Assume}
+use Rattle.bp_flat.specs.declared.effects.Effect.{Effect}
+use Rattle.bp_flat.specs.declared.effects.Effect.TheVariants.{Continues, Fails, Blocks}
+use Rattle.bp_flat.specs.Flat.{Instruction, If, While, Assert, Assume}
 
 -- a test decides what the instruction does
 abbrev pub has_test : Instruction → Bool

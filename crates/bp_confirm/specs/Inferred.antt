@@ -1,9 +1,9 @@
 -- The choice bits that reported steps leave out, and how they are inferred from the later steps.
 use Rattle.std.specs.Prelude.{◌≡◌, ◌≢◌, slice_get, ℕ, Bool, true, false, not, ◌&&◌, List, [], ◌∷◌, ◌++◌, Option, None, Some}
 use Rattle.bp_tree.specs.Ast.{Block, Then, Branches, Loops, Asserts, Assumes, Choose, Program}
-use Rattle.bp_code.specs.Continuations.{chain}
-use Rattle.bp_code.specs.Configurations.{Frame}
-use Rattle.bp_code.specs.Starts.{start_of_block, starts_of}
+use Rattle.bp_flat.specs.Continuations.{chain}
+use Rattle.bp_flat.specs.Configurations.{Frame}
+use Rattle.bp_flat.specs.Starts.{start_of_block, starts_of}
 use Rattle.bp_machine.specs.declared.calls.Call.{Call}
 use Rattle.bp_machine.specs.Answers.{stack_of}
 use Rattle.bp_machine.specs.Histories.{configuration_after}

@@ -1,6 +1,6 @@
 -- How a line of reported steps is read: a device of the reader, which no public clause names.
 use Rattle.std.specs.Prelude.{◌≡◌, ◌≢◌, ◌<◌, ◌⊎◌, ℕ, List, [], ◌∷◌, ◌++◌, Bool, decimal}
-use Rattle.bp_code.specs.Values.{Valuation}
+use Rattle.bp_flat.specs.Values.{Valuation}
 use Rattle.bp_trace.specs.Writable.{Without}
 use Rattle.bp_confirm.specs.declared.locations.Location.{Location}
 use Rattle.bp_confirm.specs.declared.locations.Location.TheVariants.{End, Line, Column}

@@ -3,9 +3,9 @@ use Rattle.std.specs.Prelude.{◌≡◌, ℕ, List, [], ◌∷◌, Option, None,
 use Rattle.bp_tree.specs.Ast.{Program}
 use Rattle.bp_text.specs.declared.positions.Position.{Position}
 use Rattle.bp_text.specs.Positions.{position_at}
-use Rattle.bp_code.specs.Configurations.{Frame, Configuration}
-use Rattle.bp_code.specs.Moves.{Moves}
-use Rattle.bp_code.specs.Starts.{start_of_block}
+use Rattle.bp_flat.specs.Configurations.{Frame, Configuration}
+use Rattle.bp_flat.specs.Moves.{Moves}
+use Rattle.bp_flat.specs.Starts.{start_of_block}
 use Rattle.bp_machine.specs.declared.calls.Call.{Call}
 use Rattle.bp_machine.specs.Answers.{stack_of}
 use Rattle.bp_confirm.specs.declared.locations.Location.{Location}

@@ -2,8 +2,8 @@
 use Rattle.std.specs.Prelude.{ℕ, Bool, true, false, ◌&&◌, ◌==◌, List, [], ◌∷◌, Option, None, Some, option_map}
 use Rattle.bp_text.specs.declared.positions.Position.{Position}
 use Rattle.bp_text.specs.Positions.{position_at}
-use Rattle.bp_code.specs.Configurations.{Frame}
-use Rattle.bp_code.specs.Starts.{start_of_block}
+use Rattle.bp_flat.specs.Configurations.{Frame}
+use Rattle.bp_flat.specs.Starts.{start_of_block}
 use Rattle.bp_confirm.specs.declared.locations.Location.{Location}
 use Rattle.bp_confirm.specs.declared.locations.Location.TheVariants.{End, Line, Column}
 

@@ -3,7 +3,7 @@ use Rattle.std.specs.Prelude.{ℕ, List, Option, None, Some, slice_get}
 use Rattle.bp_tree.specs.Ast.{Program}
 use Rattle.bp_text.specs.declared.positions.Position.{Position}
 use Rattle.bp_text.specs.Positions.{position_at}
-use Rattle.bp_code.specs.Starts.{starts_of}
+use Rattle.bp_flat.specs.Starts.{starts_of}
 use Rattle.bp_confirm.specs.declared.source_points.SourcePoint.{SourcePoint}
 use Rattle.bp_confirm.specs.declared.stands.Stand.{Stand}
 use Rattle.bp_confirm.specs.declared.stands.Stand.TheVariants.{Ended, End, Statement}

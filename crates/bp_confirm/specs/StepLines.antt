@@ -1,6 +1,6 @@
 -- The lines of reported steps, and what they say in the text of a program.
 use Rattle.std.specs.Prelude.{if◌then◌else◌, ℕ, Bool, ◌==◌, List, [], ◌∷◌, Option, None, Some, map, option_map, slice_get}
-use Rattle.bp_code.specs.Values.{Valuation}
+use Rattle.bp_flat.specs.Values.{Valuation}
 use Rattle.bp_confirm.specs.declared.locations.Location.{Location}
 use Rattle.bp_confirm.specs.declared.step_lines.SeenValue.{SeenValue}
 use Rattle.bp_confirm.specs.Places.{place_of}

@@ -1,7 +1,7 @@
 -- The text of reported steps: a line for each, T PLACE and then any number of NAME=BIT.
 use Rattle.std.specs.Prelude.{◌≡◌, ◌≢◌, ◌⊎◌, ◌<◌, ◌^◌, ℕ, ◌+◌, Bool, List, [], ◌∷◌, ◌++◌, length, flat_map, codes, decimal}
 use Rattle.std.specs.List.{AllByRecursion}
-use Rattle.bp_code.specs.Values.{Valuation}
+use Rattle.bp_flat.specs.Values.{Valuation}
 use Rattle.bp_trace.specs.Schedules.{bit_digit}
 use Rattle.bp_trace.specs.Writable.{Without}
 use Rattle.bp_confirm.specs.declared.locations.Location.{Location}

@@ -1,6 +1,6 @@
 -- The values that a part of a line says, as its bytes are read one after the other.
 use Rattle.std.specs.Prelude.{if◌then◌else◌, ◌≡◌, ◌≢◌, ℕ, ◌==◌, List, [], ◌∷◌, ◌++◌, Some, option_map, slice_get}
-use Rattle.bp_code.specs.Values.{Valuation}
+use Rattle.bp_flat.specs.Values.{Valuation}
 use Rattle.bp_confirm.specs.LineReading.{AreValues}
 use Rattle.bp_confirm.specs.StepTexts.{AreNamed, values_text}
 

@@ -1,6 +1,6 @@
 //! The last step that changed what a thread sees of a variable.
 ghost use Rattle.std.specs.Prelude.{◌≡◌, ◌<◌, ◌+◌, ◌^◌, ℕ, Bool, List, Option, length, IfOk};
-ghost use Rattle.bp_code.specs.StandsFor.{StandsFor};
+ghost use Rattle.bp_flat.specs.StandsFor.{StandsFor};
 ghost use Rattle.bp_machine.specs.Setups.{FitsCode};
 ghost use Rattle.bp_trace.specs.Replays.{IsPlayable};
 ghost use Rattle.bp_confirm.specs.Changes.{seen_after, IsLastChange};

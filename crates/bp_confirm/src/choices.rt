@@ -1,7 +1,7 @@
 //! The choice bits that reported steps leave out.
 ghost use Rattle.std.specs.Prelude.{◌≡◌, ℕ, Bool, List, Option, IfSome, MatchOption, option_map};
 ghost use Rattle.bp_tree.specs.Ast.{Block, Procedure, Program};
-ghost use Rattle.bp_code.specs.StandsFor.{Does, places_of};
+ghost use Rattle.bp_flat.specs.StandsFor.{Does, places_of};
 ghost use Rattle.bp_confirm.specs.EffectBits.{bit_of_effects, has_test, splits};
 ghost use Rattle.bp_confirm.specs.Inferred.{bit_of_block, IsAmbiguous, IsClear};
 ghost use Rattle.bp_confirm.specs.Places.{place_of, Place};
@@ -9,7 +9,7 @@ ghost use Rattle.bp_confirm.specs.SourcePoints.{is_there, source_points_of};
 
 use crate::locations::Location;
 use crate::source_points::{SourcePoint, is_there};
-use bp_code::{Effect, Instr, Kind, Store};
+use bp_flat::{Effect, Instr, Kind, Store};
 
 /// The inferred bit of an instruction that has these effects with the bits 0 and 1.
 fn bit_of_effects(

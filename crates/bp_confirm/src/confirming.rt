@@ -1,6 +1,6 @@
 //! Confirming a text of reported steps.
 ghost use Rattle.std.specs.Prelude.{◌≡◌, ◌<◌, ◌^◌, None, length, IfOk, MatchResult};
-ghost use Rattle.bp_code.specs.StandsFor.{StandsFor};
+ghost use Rattle.bp_flat.specs.StandsFor.{StandsFor};
 ghost use Rattle.bp_machine.specs.Setups.{FitsCode};
 ghost use Rattle.bp_confirm.specs.ConfirmedTexts.{AreTold, ConfirmsTo, IsConfirmRefusal, IsUntold};
 ghost use Rattle.bp_confirm.specs.StrayLines.{fault_of_stray};
@@ -14,7 +14,7 @@ use crate::kept_lines::StepLines;
 use crate::reading_lines::read_lines;
 use crate::step_texts::StepsFault;
 use bp_check::Checked;
-use bp_code::Code;
+use bp_flat::Code;
 use bp_machine::Setup;
 use bp_tasks::ContextBound;
 use bp_trace::limits::MAX_SCHEDULE;

@@ -1,6 +1,6 @@
 //! The bound of contexts of the trace that is written.
 ghost use Rattle.std.specs.Prelude.{◌≡◌, ◌≤◌, ◌<◌, ◌^◌, length, map, IfOk};
-ghost use Rattle.bp_code.specs.StandsFor.{StandsFor};
+ghost use Rattle.bp_flat.specs.StandsFor.{StandsFor};
 ghost use Rattle.bp_machine.specs.declared.limits.TheConstants.{MAX_CONTEXTS};
 ghost use Rattle.bp_machine.specs.Contexts.{IsLeastWithin};
 ghost use Rattle.bp_machine.specs.ContextCounts.{contexts_opened};
@@ -8,7 +8,7 @@ ghost use Rattle.bp_tree.specs.Ast.{Program};
 ghost use Rattle.bp_confirm.specs.ContextBounds.{contexts_allowed, thread_of, IsSetupFor};
 
 use crate::kept_lines::StepLines;
-use bp_code::Code;
+use bp_flat::Code;
 use bp_machine::limits::MAX_CONTEXTS;
 use bp_machine::{Setup, SetupFault};
 use bp_tasks::ContextBound;

@@ -9,7 +9,7 @@ ghost use Rattle.bp_confirm.specs.ValuesIn.{values_in, SaysValues};
 use crate::fields::value_at;
 use crate::kept_lines::{KeptLine, StepLines};
 use bp_check::Checked;
-use bp_code::{local_slot_of, slot_of};
+use bp_flat::{local_slot_of, slot_of};
 use bp_machine::Setup;
 use bp_tree::Proc;
 

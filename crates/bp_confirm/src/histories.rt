@@ -1,6 +1,6 @@
 //! The history that takes the steps of lines.
 ghost use Rattle.std.specs.Prelude.{◌≡◌, ◌<◌, ◌^◌, None, length, MatchResult};
-ghost use Rattle.bp_code.specs.StandsFor.{StandsFor};
+ghost use Rattle.bp_flat.specs.StandsFor.{StandsFor};
 ghost use Rattle.bp_machine.specs.Setups.{FitsCode};
 ghost use Rattle.bp_confirm.specs.ConfirmReports.{IsConfirmReport};
 ghost use Rattle.bp_confirm.specs.Confirms.{AreOfThreads, IsConfirmed, IsNotConfirmed};
@@ -12,7 +12,7 @@ use crate::kept_lines::StepLines;
 use crate::next_steps::next_steps;
 use crate::source_points::source_points_of;
 use bp_check::Checked;
-use bp_code::Code;
+use bp_flat::Code;
 use bp_machine::{Call, Report, Session, Setup};
 use std::alloc::Global;
 

@@ -2,7 +2,7 @@
 ghost use Rattle.std.specs.Prelude.{◌≡◌, ◌++◌, ◌∷◌, [], List, ℕ, option_map, MatchResult, OnOk};
 ghost use Rattle.bp_tree.specs.Ast.{Program};
 ghost use Rattle.bp_text.specs.Positions.{position_at};
-ghost use Rattle.bp_code.specs.StandsFor.{StandsFor};
+ghost use Rattle.bp_flat.specs.StandsFor.{StandsFor};
 ghost use Rattle.bp_machine.specs.declared.calls.Call.{Call as Answered};
 ghost use Rattle.bp_machine.specs.Answers.{stack_of};
 ghost use Rattle.bp_machine.specs.Histories.{configuration_after};
@@ -15,7 +15,7 @@ ghost use Rattle.bp_confirm.specs.SourcePoints.{source_points_of};
 
 use crate::source_points::{SourcePoint, point_of, source_points_of};
 use bp_check::Checked;
-use bp_code::Code;
+use bp_flat::Code;
 use bp_machine::{AskFault, Call, Reply, Report, Session, Setup};
 use bp_text::Position;
 use bp_trace::limits::MAX_TRACE;

@@ -1,7 +1,7 @@
 //! The values that a thread sees.
 ghost use Rattle.std.specs.Prelude.{◌≡◌, ◌↔◌, IsTrue, Some, [], ℕ, List, IfSome, MatchOption};
-ghost use Rattle.bp_code.specs.Configurations.{Configuration};
-ghost use Rattle.bp_code.specs.StandsFor.{StandsFor};
+ghost use Rattle.bp_flat.specs.Configurations.{Configuration};
+ghost use Rattle.bp_flat.specs.StandsFor.{StandsFor};
 ghost use Rattle.bp_machine.specs.declared.calls.Call.{Call as Answered};
 ghost use Rattle.bp_machine.specs.Answers.{stack_of};
 ghost use Rattle.bp_machine.specs.Histories.{configuration_after};
@@ -14,7 +14,7 @@ ghost use Rattle.bp_confirm.specs.ValuesIn.{values_in, IsNameIn, SaysValues};
 use crate::fields::value_at;
 use crate::source_points::{SourcePoint, procedure_of};
 use bp_check::Checked;
-use bp_code::{global_value, local_value};
+use bp_flat::{global_value, local_value};
 use bp_machine::{Session, Top};
 
 /// The value of a local of the frame at the top, where it has one of this name.

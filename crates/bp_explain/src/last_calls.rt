@@ -2,8 +2,9 @@
 
 use bp_advice::Part::{Name, Number, Words};
 use bp_advice::{number_at_front, push_all, push_parts};
-use bp_check::CheckFault;
-use bp_code::{Code, CodeFault, ProgramFault, code_of};
+use bp_code::{CodeFault, ProgramFault, code_of};
+use bp_flat::Code;
+use bp_language::CheckFault;
 use bp_machine::limits::MAX_FRAMES;
 use bp_machine::{AskFault, Reply, Session, Setup, SetupFault, Start};
 use bp_syntax::ReadFault;

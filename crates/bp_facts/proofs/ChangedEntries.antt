@@ -1,10 +1,10 @@
 -- The changed variables, slot by slot.
 use Rattle.std.proofs.Common.{◌≡◌, ◌∙◌, ◌+◌, ◌<◌, ℕ, zero, suc, Bool, true, false, List, [], ◌∷◌, ◌++◌, Option, None, take, length, get_or, ap, ap₂, sym, refl, arith}
 use Rattle.bp_tree.specs.Ast.{Name, Procedure}
-use Rattle.bp_code.specs.Configurations.{Configuration, Frame}
-use Rattle.bp_code.specs.Steps.{Bits}
-use Rattle.bp_code.specs.StandsFor.{valuation_of}
-use Rattle.bp_code.specs.Values.{Valuation}
+use Rattle.bp_flat.specs.Configurations.{Configuration, Frame}
+use Rattle.bp_flat.specs.Steps.{Bits}
+use Rattle.bp_flat.specs.StandsFor.{valuation_of}
+use Rattle.bp_flat.specs.Values.{Valuation}
 use Rattle.bp_machine.specs.Answers.{stack_of}
 use Rattle.bp_facts.specs.ChangeFacts.{changes_between, owned, slot_entry, stack_entries, Entry}
 use Rattle.bp_facts.specs.Changes.{changed, IsNext}

@@ -2,9 +2,9 @@
 use Rattle.std.proofs.Common.{◌≡◌, ◌+◌, suc, true, false, List, [], ◌∷◌, ◌++◌, take, length, ap, refl, arith}
 use Rattle.std.proofs.Math.Path.{fun_ext}
 use Rattle.bp_tree.specs.Ast.{Name}
-use Rattle.bp_code.specs.Steps.{Bits}
-use Rattle.bp_code.specs.StandsFor.{valuation_of}
-use Rattle.bp_code.specs.Values.{Valuation}
+use Rattle.bp_flat.specs.Steps.{Bits}
+use Rattle.bp_flat.specs.StandsFor.{valuation_of}
+use Rattle.bp_flat.specs.Values.{Valuation}
 use Rattle.bp_facts.specs.Changes.{changed}
 
 -- from slot 0

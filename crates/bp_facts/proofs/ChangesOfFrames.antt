@@ -1,7 +1,7 @@
 -- What a call changed at the top of a stack, by the depth of the stack after it.
 use Rattle.std.proofs.Common.{◌≡◌, ◌==◌, ◌<◌, ℕ, true, false, nat_lt, [], refl, arith}
 use Rattle.std.proofs.lemmas.Bool.Decides.{nat_tests}
-use Rattle.bp_code.specs.Configurations.{Frame}
+use Rattle.bp_flat.specs.Configurations.{Frame}
 use Rattle.bp_facts.specs.Changes.{arguments_of, changed, frame_changed}
 
 module _ (f g : Frame) (m n : ℕ) where

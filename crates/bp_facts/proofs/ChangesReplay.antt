@@ -8,13 +8,13 @@ use Rattle.std.proofs.lemmas.List.{get_or-set_other, get_or-set_same, length-map
 use Rattle.std.proofs.lemmas.Slice.Eq.{bytes_eq-Decides}
 use Rattle.bp_tree.specs.Ast.{Name, Block, Done, Then, Statement, Skips, GoesTo, Returns, Assigns, Branches, Loops, Asserts, Assumes, Prints, Calls, Procedure, Program}
 use Rattle.bp_tree.specs.Lookup.{variables}
-use Rattle.bp_check.specs.Laws.{AreDistinct, HasDistinctNames}
-use Rattle.bp_check.specs.Scopes.{has, Among}
-use Rattle.bp_code.specs.Configurations.{entry_frame, first_stack, procedure_named, Frame, Configuration}
-use Rattle.bp_code.specs.Continuations.{from_label}
-use Rattle.bp_code.specs.Effects.{Store}
-use Rattle.bp_code.specs.Moves.{after_effect, call_effect, effect, frame_store, jump_effect, statement_effect, with_left, StatementEffect, Leaves, Fails, Blocks, Misses}
-use Rattle.bp_code.specs.Values.{after_assignment, after_write, binding, decision_value, expression_values, lookup, same_bit, update, Valuation}
+use Rattle.bp_language.specs.LawfulPrograms.{AreDistinct, HasDistinctNames}
+use Rattle.bp_language.specs.Scopes.{has, Among}
+use Rattle.bp_flat.specs.Configurations.{entry_frame, first_stack, procedure_named, Frame, Configuration}
+use Rattle.bp_flat.specs.Continuations.{from_label}
+use Rattle.bp_flat.specs.Effects.{Store}
+use Rattle.bp_flat.specs.Moves.{after_effect, call_effect, effect, frame_store, jump_effect, statement_effect, with_left, StatementEffect, Leaves, Fails, Blocks, Misses}
+use Rattle.bp_flat.specs.Values.{after_assignment, after_write, binding, decision_value, expression_values, lookup, same_bit, update, Valuation}
 use Rattle.bp_machine.specs.declared.calls.Call.{Call}
 use Rattle.bp_machine.specs.declared.calls.Reply.{Reply}
 use Rattle.bp_machine.specs.Answers.{configuration_after_call, configuration_after_step, stack_of}

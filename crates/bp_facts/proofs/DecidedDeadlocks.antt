@@ -4,7 +4,7 @@ use Rattle.std.specs.Prelude.{IsTrue, ◌↔◌}
 use Rattle.std.proofs.lemmas.Bool.{cases_lt}
 use Rattle.std.proofs.lemmas.List.{get_or_past}
 use Rattle.bp_tree.specs.Ast.{Program}
-use Rattle.bp_code.specs.Configurations.{Configuration}
+use Rattle.bp_flat.specs.Configurations.{Configuration}
 use Rattle.bp_machine.specs.Deadlocks.{has_frames, is_left, IsDeadlocked}
 use Rattle.bp_machine.specs.Waiting.{waits}
 use Rattle.bp_machine.proofs.Deadlocks.{not_waiting, seen_ended, seen_none, seen_waiting, AreSeen}

@@ -1,7 +1,7 @@
 -- A thread whose assertion failed still stands at it, and what is shown of it there is what was so.
 use Rattle.std.proofs.Common.{◌≡◌, ◌∙◌, ℕ, List, ap, refl, sym}
 use Rattle.bp_tree.specs.Ast.{Program}
-use Rattle.bp_code.specs.Starts.{start_of_block}
+use Rattle.bp_flat.specs.Starts.{start_of_block}
 use Rattle.bp_machine.specs.declared.calls.Call.{Call}
 use Rattle.bp_machine.specs.Histories.{configuration_after}
 use Rattle.bp_machine.specs.Reports.{IsRealFailure}

@@ -4,7 +4,7 @@ use Rattle.std.specs.List.{list_all, onto_first, prefix_len, suffix_len}
 use Rattle.std.proofs.lemmas.Bool.{and_parts, cond-false, eqb-true, ne_eqb, false≢true, true≢false}
 use Rattle.std.proofs.lemmas.List.{length-append, length-replicate, get_or_append_left, get_or-append_right, get_or-replicate, drop_at, take_at}
 use Rattle.std.proofs.lemmas.List.Sums.{suffix_len_is}
-use Rattle.bp_syntax.specs.Tokens.{is_braced_byte, is_braced_rest, is_letter, is_word_byte, IsSpelled}
+use Rattle.bp_language.specs.Tokens.{is_braced_byte, is_braced_rest, is_letter, is_word_byte, IsSpelled}
 use Rattle.bp_facts.specs.Laws.{ListedNames}
 use Rattle.bp_facts.specs.NameLists.{IsListOf, SpacedName}
 use Rattle.bp_facts.specs.Watches.{trimmed}

@@ -4,10 +4,10 @@ use Rattle.std.specs.Prelude.{unwrap_or, slice_set}
 use Rattle.std.proofs.lemmas.Bool.{cases_lt}
 use Rattle.std.proofs.lemmas.List.{get_or_past, get_or-set_same}
 use Rattle.bp_tree.specs.Ast.{Name, Block, Done, Then, Statement, Skips, GoesTo, Returns, Assigns, Branches, Loops, Asserts, Assumes, Prints, Calls, Procedure, Program}
-use Rattle.bp_code.specs.Configurations.{Frame, Configuration, procedure_named}
-use Rattle.bp_code.specs.Continuations.{from_label}
-use Rattle.bp_code.specs.Moves.{StatementEffect, Leaves, Fails, Blocks, Misses, effect, statement_effect, after_effect, call_effect, frame_store, jump_effect, with_left}
-use Rattle.bp_code.specs.Values.{Valuation, decision_value, expression_values}
+use Rattle.bp_flat.specs.Configurations.{Frame, Configuration, procedure_named}
+use Rattle.bp_flat.specs.Continuations.{from_label}
+use Rattle.bp_flat.specs.Moves.{StatementEffect, Leaves, Fails, Blocks, Misses, effect, statement_effect, after_effect, call_effect, frame_store, jump_effect, with_left}
+use Rattle.bp_flat.specs.Values.{Valuation, decision_value, expression_values}
 use Rattle.bp_machine.specs.declared.calls.Reply.{Reply}
 use Rattle.bp_machine.specs.Answers.{configuration_after_call, configuration_after_step, stack_of}
 use Rattle.bp_machine.specs.Replies.{is_granted}

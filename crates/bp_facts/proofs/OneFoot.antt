@@ -5,7 +5,7 @@ use Rattle.std.specs.Prelude.{IsTrue, ◌↔◌}
 use Rattle.std.specs.List.{All}
 use Rattle.std.proofs.lemmas.List.Elements.{All-head, All-tail}
 use Rattle.bp_tree.specs.Ast.{Program}
-use Rattle.bp_code.specs.Configurations.{Configuration}
+use Rattle.bp_flat.specs.Configurations.{Configuration}
 use Rattle.bp_machine.specs.declared.calls.Call.{Call}
 use Rattle.bp_machine.specs.declared.reports.Outcome.{Outcome}
 use Rattle.bp_machine.specs.declared.reports.Outcome.TheVariants.{Clean, Failed}

@@ -2,9 +2,9 @@
 use Rattle.std.proofs.Common.{◌≡◌, ◌∙◌, ◌+◌, ◌<◌, ℕ, zero, suc, Bool, false, List, [], ◌∷◌, ◌++◌, Option, take, length, get_or, slice_get, unwrap_or, ap, refl, sym, arith}
 use Rattle.std.proofs.Math.Path.{fun_ext}
 use Rattle.bp_tree.specs.Ast.{Name, Procedure}
-use Rattle.bp_code.specs.Steps.{Bits}
-use Rattle.bp_code.specs.StandsFor.{valuation_of}
-use Rattle.bp_code.specs.Values.{Valuation, binding}
+use Rattle.bp_flat.specs.Steps.{Bits}
+use Rattle.bp_flat.specs.StandsFor.{valuation_of}
+use Rattle.bp_flat.specs.Values.{Valuation, binding}
 use Rattle.bp_facts.specs.ChangeFacts.{owned, Entry}
 use Rattle.bp_facts.proofs.ChangedVariables.{from_first}
 

@@ -2,14 +2,14 @@
 use Rattle.std.proofs.Common.{if◌then◌else◌, ◌≡◌, ℕ, zero, suc, Bool, true, false, List, [], ◌∷◌, Option, None, Some, map, sym, subst}
 use Rattle.std.specs.Prelude.{slice_index_or, slice_set, unwrap_or}
 use Rattle.bp_tree.specs.Ast.{Name, Block, Done, Then, Statement, Skips, GoesTo, Returns, Assigns, Branches, Loops, Asserts, Assumes, Prints, Calls, Procedure, Program}
-use Rattle.bp_code.specs.Configurations.{Frame, Configuration, first_stack, procedure_named}
-use Rattle.bp_code.specs.Continuations.{chain, from_label}
-use Rattle.bp_code.specs.Flat.{Flat, Heading, Instruction}
-use Rattle.bp_code.specs.Compiled.{heading_named}
-use Rattle.bp_code.specs.Moves.{StatementEffect, Leaves, Fails, Blocks, Misses, after_effect, call_effect, effect, frame_store, jump_effect, statement_effect, with_left}
-use Rattle.bp_code.specs.StandsFor.{CarriesOut, Does, Place, Remains, StandsFor, places_of}
-use Rattle.bp_code.specs.Values.{Valuation, decision_value, expression_values}
-use Rattle.bp_code.proofs.HeadingsOfProcedures.{SameHeading, heading_of_procedure}
+use Rattle.bp_flat.specs.Configurations.{Frame, Configuration, first_stack, procedure_named}
+use Rattle.bp_flat.specs.Continuations.{chain, from_label}
+use Rattle.bp_flat.specs.Flat.{Flat, Heading, Instruction}
+use Rattle.bp_flat.specs.Headings.{heading_named}
+use Rattle.bp_flat.specs.Moves.{StatementEffect, Leaves, Fails, Blocks, Misses, after_effect, call_effect, effect, frame_store, jump_effect, statement_effect, with_left}
+use Rattle.bp_flat.specs.StandsFor.{CarriesOut, Does, Place, Remains, StandsFor, places_of}
+use Rattle.bp_flat.specs.Values.{Valuation, decision_value, expression_values}
+use Rattle.bp_flat.proofs.HeadingsOfProcedures.{SameHeading, heading_of_procedure}
 use Rattle.bp_machine.specs.declared.calls.Call.{Call}
 use Rattle.bp_machine.specs.declared.calls.Reply.{Reply}
 use Rattle.bp_machine.specs.Answers.{configuration_after_call, configuration_after_step, stack_of}

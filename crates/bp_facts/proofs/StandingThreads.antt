@@ -2,12 +2,12 @@
 use Rattle.std.proofs.Common.{◌≡◌, ◌∙◌, ℕ, List, Some, ap, drop, subst, sym}
 use Rattle.std.specs.Prelude.{option_map}
 use Rattle.bp_tree.specs.Ast.{Decision, Procedure, Program}
-use Rattle.bp_code.specs.Configurations.{Configuration, Frame}
-use Rattle.bp_code.specs.Effects.{Store}
-use Rattle.bp_code.specs.Moves.{frame_store}
-use Rattle.bp_code.specs.StandsFor.{place}
-use Rattle.bp_code.specs.Starts.{start_of_block}
-use Rattle.bp_code.specs.Values.{Valuation}
+use Rattle.bp_flat.specs.Configurations.{Configuration, Frame}
+use Rattle.bp_flat.specs.Effects.{Store}
+use Rattle.bp_flat.specs.Moves.{frame_store}
+use Rattle.bp_flat.specs.StandsFor.{place}
+use Rattle.bp_flat.specs.Starts.{start_of_block}
+use Rattle.bp_flat.specs.Values.{Valuation}
 use Rattle.bp_machine.specs.declared.tops.Top.{Top}
 use Rattle.bp_machine.specs.Answers.{stack_of}
 use Rattle.bp_machine.specs.Tops.{IsTop}

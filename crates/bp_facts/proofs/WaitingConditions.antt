@@ -1,11 +1,11 @@
 -- A thread that waits stands at an assumption.
 use Rattle.std.proofs.Common.{◌≡◌, ℕ, Bool, true, false, ◌&&◌, cond, List, [], ◌∷◌, Option, None, Some, refl}
 use Rattle.bp_tree.specs.Ast.{Name, Block, Done, Then, Statement, Skips, GoesTo, Returns, Assigns, Branches, Loops, Asserts, Assumes, Prints, Calls, Decision, Procedure, Program}
-use Rattle.bp_code.specs.Configurations.{Configuration, Frame, is_call, procedure_named}
-use Rattle.bp_code.specs.Continuations.{from_label}
-use Rattle.bp_code.specs.Moves.{Leaves, Fails, StatementEffect, call_effect, effect, frame_store, jump_effect, statement_effect, with_left}
-use Rattle.bp_code.specs.Starts.{start_of_block}
-use Rattle.bp_code.specs.Values.{Valuation, decision_value, expression_values}
+use Rattle.bp_flat.specs.Configurations.{Configuration, Frame, is_call, procedure_named}
+use Rattle.bp_flat.specs.Continuations.{from_label}
+use Rattle.bp_flat.specs.Moves.{Leaves, Fails, StatementEffect, call_effect, effect, frame_store, jump_effect, statement_effect, with_left}
+use Rattle.bp_flat.specs.Starts.{start_of_block}
+use Rattle.bp_flat.specs.Values.{Valuation, decision_value, expression_values}
 use Rattle.bp_machine.specs.declared.calls.Reply.TheVariants.{Full}
 use Rattle.bp_machine.specs.Answers.{is_full, reply_on_stack, reply_to_effect, stack_of}
 use Rattle.bp_machine.specs.Waiting.{finds_zero, is_blocked, waits}

@@ -2,9 +2,9 @@
 use Rattle.std.proofs.Common.{◌≡◌, ◌∙◌, ◌+◌, ℕ, suc, Bool, true, false, List, [], ◌∷◌, ◌++◌, length, ap, ap₂, arith}
 use Rattle.std.proofs.Math.Path.{fun_ext}
 use Rattle.bp_tree.specs.Ast.{Name}
-use Rattle.bp_code.specs.Steps.{Bits}
-use Rattle.bp_code.specs.StandsFor.{valuation_of}
-use Rattle.bp_code.specs.Values.{Valuation}
+use Rattle.bp_flat.specs.Steps.{Bits}
+use Rattle.bp_flat.specs.StandsFor.{valuation_of}
+use Rattle.bp_flat.specs.Values.{Valuation}
 use Rattle.bp_facts.specs.Changes.{changed}
 
 first_then : (name : List ℕ) (p q : Bool) (m n k l rest : Valuation) → changed m n ≡ changed k l ++ rest

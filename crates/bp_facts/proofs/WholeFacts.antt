@@ -3,11 +3,11 @@ use Rattle.std.proofs.Common.{if◌then◌else◌, ◌≡◌, ℕ, zero, suc, Bo
 use Rattle.std.specs.Prelude.{option_map}
 use Rattle.std.proofs.lemmas.List.Elements.{All-nil}
 use Rattle.bp_tree.specs.Ast.{Program}
-use Rattle.bp_code.specs.Configurations.{Frame}
-use Rattle.bp_code.specs.Flat.{Flat}
-use Rattle.bp_code.specs.Moves.{frame_store}
-use Rattle.bp_code.specs.StandsFor.{StandsFor, place, places_of}
-use Rattle.bp_code.specs.Starts.{start_of_block}
+use Rattle.bp_flat.specs.Configurations.{Frame}
+use Rattle.bp_flat.specs.Flat.{Flat}
+use Rattle.bp_flat.specs.Moves.{frame_store}
+use Rattle.bp_flat.specs.StandsFor.{StandsFor, place, places_of}
+use Rattle.bp_flat.specs.Starts.{start_of_block}
 use Rattle.bp_machine.specs.declared.calls.Call.{Call}
 use Rattle.bp_machine.specs.declared.reports.Outcome.{Outcome}
 use Rattle.bp_machine.specs.declared.reports.Outcome.TheVariants.{Clean, Failed}

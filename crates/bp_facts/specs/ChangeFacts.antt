@@ -1,8 +1,8 @@
 -- What a call changed, as plain facts.
 use Rattle.std.specs.Prelude.{if◌then◌else◌, ℕ, Bool, List, [], ◌∷◌, ◌++◌, Option, None, Some, length, map, option_map}
 use Rattle.bp_tree.specs.Ast.{Procedure}
-use Rattle.bp_code.specs.Configurations.{Frame, Configuration}
-use Rattle.bp_code.specs.Values.{Valuation, same_bit}
+use Rattle.bp_flat.specs.Configurations.{Frame, Configuration}
+use Rattle.bp_flat.specs.Values.{Valuation, same_bit}
 use Rattle.bp_machine.specs.Answers.{stack_of}
 use Rattle.bp_facts.specs.declared.change_facts.Change.{Change}
 use Rattle.bp_facts.specs.Changes.{changed, frame_changed}

@@ -1,7 +1,7 @@
 -- Which variables a call changed, by the configurations before and after it.
 use Rattle.std.specs.Prelude.{if◌then◌else◌, ◌≡◌, ◌==◌, ℕ, nat_lt, List, [], ◌∷◌, length, take}
-use Rattle.bp_code.specs.Configurations.{Frame, Configuration}
-use Rattle.bp_code.specs.Values.{Valuation, same_bit}
+use Rattle.bp_flat.specs.Configurations.{Frame, Configuration}
+use Rattle.bp_flat.specs.Values.{Valuation, same_bit}
 use Rattle.bp_machine.specs.Answers.{stack_of}
 
 -- the variables whose values before and after differ, with their values after; both have the same

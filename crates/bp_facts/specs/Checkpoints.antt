@@ -1,7 +1,7 @@
 -- Checkpoints: the session after the first calls of a history.
 use Rattle.std.specs.Prelude.{◌≡◌, ◌≤◌, ◌<◌, ◌⊎◌, ℕ, List, Option, None, Some, length, min, take}
 use Rattle.bp_tree.specs.Ast.{Program}
-use Rattle.bp_code.specs.StandsFor.{StandsFor}
+use Rattle.bp_flat.specs.StandsFor.{StandsFor}
 use Rattle.bp_machine.specs.declared.calls.Call.{Call}
 use Rattle.bp_machine.specs.ContextCounts.{last_thread}
 use Rattle.bp_machine.specs.Histories.{granted_threads}

@@ -2,7 +2,7 @@
 use Rattle.std.specs.Prelude.{◌≡◌, ℕ, List, [], ◌∷◌, ◌++◌, Some}
 use Rattle.std.specs.Borrow.{Bor}
 use Rattle.bp_tree.specs.Ast.{Program}
-use Rattle.bp_check.specs.Laws.{HasDistinctNames}
+use Rattle.bp_language.specs.LawfulPrograms.{HasDistinctNames}
 use Rattle.bp_machine.specs.declared.calls.Call.{Call}
 use Rattle.bp_machine.specs.Histories.{configuration_after}
 use Rattle.bp_machine.specs.Setups.{SetupOf}

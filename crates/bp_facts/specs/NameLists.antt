@@ -1,6 +1,6 @@
 -- Lists of names of the language.
 use Rattle.std.specs.Prelude.{◌≡◌, ℕ, List, [], ◌∷◌, ◌++◌, replicate}
-use Rattle.bp_syntax.specs.Tokens.{IsSpelled}
+use Rattle.bp_language.specs.Tokens.{IsSpelled}
 
 -- a text is this name, with any number of spaces before it and after it
 pub record SpacedName (name text : List ℕ) : Type 0 where

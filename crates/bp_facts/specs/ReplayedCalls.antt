@@ -1,7 +1,7 @@
 -- A device: a call of a history with the tops of its thread's stack before and after it.
 use Rattle.std.specs.Prelude.{◌≡◌, ◌==◌, ◌&&◌, not, ℕ, suc, Bool, false, List, [], ◌∷◌, ◌++◌, Option, None, Some, MatchOption, length}
 use Rattle.bp_tree.specs.Ast.{Program}
-use Rattle.bp_code.specs.Configurations.{Configuration}
+use Rattle.bp_flat.specs.Configurations.{Configuration}
 use Rattle.bp_machine.specs.declared.calls.Call.{Call}
 use Rattle.bp_machine.specs.Answers.{stack_of}
 use Rattle.bp_machine.specs.ContextCounts.{last_thread}

@@ -1,8 +1,8 @@
 -- What the changes of a call make of the values before it.
 use Rattle.std.specs.Prelude.{if◌then◌else◌, ◌≡◌, ◌≢◌, ◌==◌, nat_lt, ℕ, Bool, List, [], ◌∷◌, ◌++◌, Option, None, Some, flat_map, length, map}
 use Rattle.bp_tree.specs.Ast.{Procedure}
-use Rattle.bp_code.specs.Configurations.{Frame, Configuration}
-use Rattle.bp_code.specs.Values.{Valuation, binding, update}
+use Rattle.bp_flat.specs.Configurations.{Frame, Configuration}
+use Rattle.bp_flat.specs.Values.{Valuation, binding, update}
 use Rattle.bp_machine.specs.Answers.{stack_of}
 use Rattle.bp_facts.specs.ChangeFacts.{Entry}
 

@@ -1,11 +1,11 @@
 -- What is shown of a state, as plain facts.
 use Rattle.std.specs.Prelude.{◌≡◌, ℕ, suc, Bool, List, [], ◌∷◌, Option, length, map, option_map}
 use Rattle.bp_tree.specs.Ast.{Procedure, Program}
-use Rattle.bp_code.specs.Bits.{bits_of}
-use Rattle.bp_code.specs.Configurations.{Frame}
-use Rattle.bp_code.specs.StandsFor.{valuation_of, variables}
-use Rattle.bp_code.specs.Starts.{start_of_block}
-use Rattle.bp_code.specs.Values.{Valuation}
+use Rattle.bp_flat.specs.Bits.{bits_of}
+use Rattle.bp_flat.specs.Configurations.{Frame}
+use Rattle.bp_flat.specs.StandsFor.{valuation_of, variables}
+use Rattle.bp_flat.specs.Starts.{start_of_block}
+use Rattle.bp_flat.specs.Values.{Valuation}
 use Rattle.bp_machine.specs.declared.calls.Call.{Call}
 use Rattle.bp_machine.specs.declared.reports.Outcome.{Outcome}
 use Rattle.bp_machine.specs.Answers.{stack_of}

@@ -1,6 +1,6 @@
 -- Equal waits in succession, which may be folded into one line.
 use Rattle.std.specs.Prelude.{if◌then◌else◌, ◌≡◌, ◌==◌, ◌&&◌, ◌+◌, nat_lt, ℕ, suc, Bool, true, false, List, [], ◌∷◌, ◌++◌, replicate}
-use Rattle.bp_code.specs.Values.{same_bit}
+use Rattle.bp_flat.specs.Values.{same_bit}
 use Rattle.bp_machine.specs.declared.calls.Call.{Call}
 use Rattle.bp_machine.specs.declared.calls.Reply.{Reply}
 use Rattle.bp_machine.specs.declared.calls.Reply.TheVariants.{Blocked}

@@ -3,8 +3,8 @@ use Rattle.std.specs.Prelude.{◌≡◌, ◌==◌, ◌-◌, ◌||◌, ◌++◌, 
 use Rattle.std.specs.Borrow.{Bor}
 use Rattle.std.specs.List.{list_all, list_any, prefix_len, suffix_len}
 use Rattle.bp_tree.specs.Ast.{Procedure, Program}
-use Rattle.bp_check.specs.Tables.{first_index}
-use Rattle.bp_code.specs.StandsFor.{variables}
+use Rattle.bp_language.specs.Tables.{first_index}
+use Rattle.bp_flat.specs.StandsFor.{variables}
 use Rattle.bp_source.specs.Lists.{pieces}
 use Rattle.bp_facts.specs.ChangeFacts.{Entry}
 

@@ -1,7 +1,7 @@
 //! What is shown of a call, as plain facts.
 ghost use Rattle.std.specs.Prelude.{◌≡◌, [], ℕ, List, map, MatchOption};
 ghost use Rattle.bp_tree.specs.Ast.{Program};
-ghost use Rattle.bp_code.specs.Configurations.{Configuration};
+ghost use Rattle.bp_flat.specs.Configurations.{Configuration};
 ghost use Rattle.bp_machine.specs.declared.calls.Call.{Call as Answered};
 ghost use Rattle.bp_machine.specs.Answers.{stack_of};
 ghost use Rattle.bp_machine.specs.Setups.{SetupOf};

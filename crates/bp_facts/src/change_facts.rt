@@ -1,9 +1,9 @@
 //! What a call changed, as plain facts.
 ghost use Rattle.std.specs.Prelude.{◌≡◌, ◌++◌, ◌<◌, ◌+◌, ◌^◌, ℕ, List, None, Some, length, map, option_map, slice_get, OnOk};
 ghost use Rattle.bp_tree.specs.Ast.{Program};
-ghost use Rattle.bp_code.specs.Bits.{bits_of};
-ghost use Rattle.bp_code.specs.Configurations.{Configuration, Frame};
-ghost use Rattle.bp_code.specs.StandsFor.{place, places_of, valuation_of, variables};
+ghost use Rattle.bp_flat.specs.Bits.{bits_of};
+ghost use Rattle.bp_flat.specs.Configurations.{Configuration, Frame};
+ghost use Rattle.bp_flat.specs.StandsFor.{place, places_of, valuation_of, variables};
 ghost use Rattle.bp_source.specs.SourceStatements.{AreSourceStatements};
 ghost use Rattle.bp_facts.specs.ChangeFacts.{changes_between, entry_of, frame_entries, owned, slot_entry};
 ghost use Rattle.bp_facts.specs.Changes.{changed};
@@ -12,7 +12,7 @@ ghost use Rattle.bp_facts.specs.ProgramFacts.{AreProgramFacts};
 
 use crate::program_facts::ProgramFacts;
 use crate::replayed_calls::ReplayedCall;
-use bp_code::bit_of;
+use bp_flat::bit_of;
 use bp_machine::Top;
 use bp_source::{SourceStatement, procedure_at};
 use bp_tree::{Name, Proc};

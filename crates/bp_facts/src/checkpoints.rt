@@ -2,7 +2,7 @@
 //! once more.
 ghost use Rattle.std.specs.Prelude.{◌≡◌, List, IfOk, MatchResult};
 ghost use Rattle.bp_tree.specs.Ast.{Program};
-ghost use Rattle.bp_code.specs.StandsFor.{StandsFor};
+ghost use Rattle.bp_flat.specs.StandsFor.{StandsFor};
 ghost use Rattle.bp_machine.specs.declared.calls.Call.{Call as Answered};
 ghost use Rattle.bp_machine.specs.Setups.{FitsCode};
 ghost use Rattle.bp_machine.specs.Sessions.{Stands};
@@ -11,7 +11,7 @@ ghost use Rattle.bp_trace.specs.Replays.{IsReplayRefusal};
 ghost use Rattle.bp_facts.specs.Checkpoints.{IsCheckpoint, IsCheckpointAfter, HasCounted};
 
 use crate::replayed_calls::last_step;
-use bp_code::Code;
+use bp_flat::Code;
 use bp_machine::{AskFault, Call, Session, Setup};
 use bp_trace::limits::MAX_TRACE;
 use bp_trace::{ReplayFault, Replayed, Watched, Watcher, replay_watched};

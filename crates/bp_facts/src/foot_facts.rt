@@ -2,10 +2,10 @@
 ghost use Rattle.std.specs.Prelude.{if◌then◌else◌, ◌≡◌, ◌++◌, [], suc, ℕ, List, map, option_map, IfOk, IsSomeAnd, OnOk};
 ghost use Rattle.bp_tree.specs.Ast.{Program};
 ghost use Rattle.bp_tree.specs.Views.{decision_of};
-ghost use Rattle.bp_code.specs.Bits.{store_of};
-ghost use Rattle.bp_code.specs.Configurations.{Configuration};
-ghost use Rattle.bp_code.specs.Moves.{frame_store};
-ghost use Rattle.bp_code.specs.StandsFor.{named_store, StandsFor};
+ghost use Rattle.bp_flat.specs.Bits.{store_of};
+ghost use Rattle.bp_flat.specs.Configurations.{Configuration};
+ghost use Rattle.bp_flat.specs.Moves.{frame_store};
+ghost use Rattle.bp_flat.specs.StandsFor.{named_store, StandsFor};
 ghost use Rattle.bp_machine.specs.declared.calls.Call.{Call as Answered};
 ghost use Rattle.bp_machine.specs.Histories.{configuration_after};
 ghost use Rattle.bp_machine.specs.Reports.{outcome_of};
@@ -19,7 +19,7 @@ ghost use Rattle.bp_facts.specs.ProgramFacts.{AreProgramFacts};
 
 use crate::change_facts::Change;
 use crate::program_facts::{ProgramFacts, source_statement_of};
-use bp_code::{Store, bit_of, local_slot_of, slot_of};
+use bp_flat::{Store, bit_of, local_slot_of, slot_of};
 use bp_machine::{Outcome, Report, Session, Top};
 use bp_source::{decider_at, procedure_at, variables_read};
 use bp_text::Position;

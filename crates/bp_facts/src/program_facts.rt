@@ -1,8 +1,8 @@
 //! What facts show of a program: its source statements and its names.
 ghost use Rattle.std.specs.Prelude.{◌≡◌, ℕ, List, IsSomeAnd};
 ghost use Rattle.bp_tree.specs.Ast.{Program};
-ghost use Rattle.bp_code.specs.Configurations.{Configuration, Frame};
-ghost use Rattle.bp_code.specs.StandsFor.{place};
+ghost use Rattle.bp_flat.specs.Configurations.{Configuration, Frame};
+ghost use Rattle.bp_flat.specs.StandsFor.{place};
 ghost use Rattle.bp_machine.specs.Tops.{IsTopOf};
 ghost use Rattle.bp_source.specs.SourceStatements.{IsSourceStatement};
 ghost use Rattle.bp_facts.specs.ProgramFacts.{AreProgramFacts};

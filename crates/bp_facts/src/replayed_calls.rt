@@ -1,7 +1,7 @@
 //! The calls of a history, each with what was before and after it.
 ghost use Rattle.std.specs.Prelude.{if◌then◌else◌, ◌≡◌, ◌++◌, ◌∷◌, [], suc, List, None, Some, true, false, length, option_map, MatchOption, IfOk, MatchResult};
 ghost use Rattle.bp_tree.specs.Ast.{Program};
-ghost use Rattle.bp_code.specs.StandsFor.{StandsFor};
+ghost use Rattle.bp_flat.specs.StandsFor.{StandsFor};
 ghost use Rattle.bp_machine.specs.declared.calls.Call.{Call as Answered};
 ghost use Rattle.bp_machine.specs.ContextCounts.{last_thread};
 ghost use Rattle.bp_machine.specs.Contexts.{IsLeastWithin};

@@ -1,7 +1,7 @@
 //! The contexts of a history: where the steps of each begin and end.
 ghost use Rattle.std.specs.Prelude.{◌≡◌, ◌++◌, ◌∷◌, [], suc, List, length, MatchResult, OnOk};
 ghost use Rattle.bp_tree.specs.Ast.{Program};
-ghost use Rattle.bp_code.specs.StandsFor.{StandsFor};
+ghost use Rattle.bp_flat.specs.StandsFor.{StandsFor};
 ghost use Rattle.bp_machine.specs.declared.calls.Call.{Call as Answered};
 ghost use Rattle.bp_machine.specs.Histories.{configuration_after};
 ghost use Rattle.bp_machine.specs.Sessions.{Stands};
@@ -10,7 +10,7 @@ ghost use Rattle.bp_trace.specs.Replays.{IsPlayable};
 ghost use Rattle.bp_facts.specs.Spans.{joined, with_step, AreSpans, IsStandingPoint};
 
 use crate::replayed_calls::is_step;
-use bp_code::Code;
+use bp_flat::Code;
 use bp_machine::{AskFault, Call, Session, Setup, Top};
 use std::alloc::{AllocError, Global};
 

@@ -1,14 +1,14 @@
 //! The names of the watched variables.
 ghost use Rattle.std.specs.Prelude.{◌≡◌, ◌==◌, ◌++◌, ◌-◌, bytes_eq, codes, false, length, map, option_map, IfOk, MatchOption};
 ghost use Rattle.std.specs.List.{list_any, prefix_len, suffix_len};
-ghost use Rattle.bp_code.specs.StandsFor.{variables};
+ghost use Rattle.bp_flat.specs.StandsFor.{variables};
 ghost use Rattle.bp_source.specs.Lists.{pieces};
 ghost use Rattle.bp_facts.specs.ChangeFacts.{entry_of};
 ghost use Rattle.bp_facts.specs.Watches.{declares, has_local, has_qualified, is_of, is_seen, owner_name, qualified, trimmed, watched_names, AreDeclared, IsUndeclared};
 
 use crate::change_facts::Change;
 use bp_check::Checked;
-use bp_code::{local_slot_of, slot_of};
+use bp_flat::{local_slot_of, slot_of};
 use bp_source::piece_size;
 use bp_text::{part_before, part_from};
 use bp_tree::{Name, Proc};

@@ -2,7 +2,7 @@
 use Rattle.std.specs.Prelude.{◌≡◌, ◌&&◌, ℕ, suc, Bool, true, false, List, Some, bytes_eq, is_some, map, slice_get, take}
 use Rattle.std.specs.List.{list_all, list_any}
 use Rattle.bp_tree.specs.Ast.{Name, Program}
-use Rattle.bp_check.specs.Tables.{first_index}
+use Rattle.bp_language.specs.Tables.{first_index}
 use Rattle.bp_machine.specs.Starts.{StartOf, start_with}
 use Rattle.bp_init.specs.NamedBits.{NamedBitOf}
 

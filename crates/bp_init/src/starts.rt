@@ -6,7 +6,7 @@ ghost use Rattle.bp_init.specs.Starts.{bits_by_name, has_global, is_set, start_b
 
 use crate::names::{NamedBit, NamedBits};
 use bp_check::Checked;
-use bp_code::slot_of;
+use bp_flat::slot_of;
 use bp_machine::Start;
 use bp_tree::Name;
 use std::alloc::{AllocError, Global};

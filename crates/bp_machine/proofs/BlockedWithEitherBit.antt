@@ -1,9 +1,9 @@
 -- Where a thread is blocked with bit 1 it is blocked with bit 0 as well, so one look tells whether it waits.
 use Rattle.std.proofs.Common.{◌≡◌, ◌&&◌, Bool, true, false, cond, List, [], ◌∷◌, Some, refl}
 use Rattle.bp_tree.specs.Ast.{Block, Done, Then, Skips, GoesTo, Returns, Assigns, Branches, Loops, Asserts, Assumes, Prints, Calls, Choose, Decide, Program}
-use Rattle.bp_code.specs.Values.{Valuation}
-use Rattle.bp_code.specs.Configurations.{Frame, is_call}
-use Rattle.bp_code.specs.Moves.{effect}
+use Rattle.bp_flat.specs.Values.{Valuation}
+use Rattle.bp_flat.specs.Configurations.{Frame, is_call}
+use Rattle.bp_flat.specs.Moves.{effect}
 use Rattle.bp_machine.specs.declared.calls.Reply.TheVariants.{Full}
 use Rattle.bp_machine.specs.Answers.{is_full, reply_to_effect, reply_on_stack}
 use Rattle.bp_machine.specs.Waiting.{is_blocked}

@@ -1,13 +1,13 @@
 -- The verdict of a call is the machine's answer, and the state after it stands after the longer history.
 use Rattle.std.proofs.Common.{◌≡◌, ◌⊎◌, ℕ, suc, ◌+◌, ◌≤◌, Bool, true, false, cond, List, [], ◌∷◌, length, Option, None, Some, refl, ap, sym, ◌∙◌, subst, arith, inl, inr}
 use Rattle.bp_tree.specs.Ast.{Block, Done, Then, Skips, GoesTo, Returns, Assigns, Branches, Loops, Asserts, Assumes, Prints, Calls, Procedure, Program}
-use Rattle.bp_code.specs.Values.{Valuation, expression_values, decision_value}
-use Rattle.bp_code.specs.Continuations.{from_label}
-use Rattle.bp_code.specs.Configurations.{Frame, is_call, procedure_named}
-use Rattle.bp_code.specs.Moves.{StatementEffect, Leaves, Fails, Blocks, Misses, effect, statement_effect, after_effect, frame_store, with_left}
-use Rattle.bp_code.specs.Steps.{Bits, Activation}
-use Rattle.bp_code.specs.StandsFor.{valuation_of}
-use Rattle.bp_code.specs.Alike.{ShowsStack, SameEffect}
+use Rattle.bp_flat.specs.Values.{Valuation, expression_values, decision_value}
+use Rattle.bp_flat.specs.Continuations.{from_label}
+use Rattle.bp_flat.specs.Configurations.{Frame, is_call, procedure_named}
+use Rattle.bp_flat.specs.Moves.{StatementEffect, Leaves, Fails, Blocks, Misses, effect, statement_effect, after_effect, frame_store, with_left}
+use Rattle.bp_flat.specs.Steps.{Bits, Activation}
+use Rattle.bp_flat.specs.StandsFor.{valuation_of}
+use Rattle.bp_flat.specs.Alike.{ShowsStack, SameEffect}
 
 module _ (t : Program) where
   pub shown_length : (below : List Activation) (fs : List Frame) → ShowsStack t below fs → length below ≡ length fs
@@ -60,7 +60,7 @@ module _ (ps : List Procedure) (g : Valuation) (f : Frame) (fs : List Frame) (bi
   when_decided true r e h = (omega arith, omega arith)
   when_decided false r e h = h
 
-  jumped : (o : Option Block) → IsOfSize (Rattle.bp_code.specs.Moves.jump_effect g f fs o) 0 (length fs + 1)
+  jumped : (o : Option Block) → IsOfSize (Rattle.bp_flat.specs.Moves.jump_effect g f fs o) 0 (length fs + 1)
   unfolding IsOfSize
   jumped None = tt
   jumped (Some r) = (omega arith, omega arith)
@@ -80,7 +80,7 @@ module _ (ps : List Procedure) (g : Valuation) (f : Frame) (fs : List Frame) (bi
   plain_size (Then label at (Prints es) r) e = (omega arith, omega arith)
   plain_size (Then label at (Calls x es) r) e = absurd cc
 
-  called : (o : Option Procedure) (r : Block) (arguments : List Bool) → IsOfCall (Rattle.bp_code.specs.Moves.call_effect g f fs r arguments o) (length fs)
+  called : (o : Option Procedure) (r : Block) (arguments : List Bool) → IsOfCall (Rattle.bp_flat.specs.Moves.call_effect g f fs r arguments o) (length fs)
   unfolding IsOfCall
   called None r arguments = tt
   called (Some p) r arguments = omega arith

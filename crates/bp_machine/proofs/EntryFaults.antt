@@ -3,7 +3,7 @@ use Rattle.std.proofs.Common.{◌≡◌, ℕ, zero, suc, ◌+◌, ◌<◌, true,
 use Rattle.std.specs.Prelude.{is_some}
 use Rattle.std.specs.Option.{option_or}
 use Rattle.bp_tree.specs.Ast.{Program}
-use Rattle.bp_code.specs.Configurations.{procedure_named}
+use Rattle.bp_flat.specs.Configurations.{procedure_named}
 use Rattle.bp_machine.specs.declared.setup_faults.SetupFault.{SetupFault}
 use Rattle.bp_machine.specs.Setups.{entry_fault, entries_fault}
 

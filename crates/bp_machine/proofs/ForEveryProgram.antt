@@ -4,9 +4,9 @@ use Rattle.std.proofs.lemmas.Bool.{false≢true}
 use Rattle.std.proofs.Math.Logic.{∥∥₁_map, ∥∥₁_elim}
 use Rattle.std.proofs.Math.Nat.{ℕ_set}
 use Rattle.bp_tree.specs.Ast.{Program}
-use Rattle.bp_code.specs.Flat.{Flat}
-use Rattle.bp_code.specs.StandsFor.{StandsFor}
-use Rattle.bp_code.specs.Programs.{IsOfProgram}
+use Rattle.bp_flat.specs.Flat.{Flat}
+use Rattle.bp_flat.specs.StandsFor.{StandsFor}
+use Rattle.bp_flat.specs.Programs.{IsOfProgram}
 use Rattle.bp_machine.specs.declared.calls.Call.{Call}
 use Rattle.bp_machine.specs.Histories.{open_lines}
 use Rattle.bp_machine.specs.Sessions.{SessionOf, Stands, StandsForAll}

@@ -4,11 +4,11 @@ use Rattle.std.specs.List.{AllByRecursion}
 use Rattle.std.proofs.lemmas.List.Elements.{All-nil, All-cons}
 use Rattle.std.proofs.lemmas.Slice.Eq.{bytes_eq-Decides}
 use Rattle.bp_tree.specs.Ast.{Procedure, Program}
-use Rattle.bp_syntax.specs.NamesIn.{NamesInProcedures}
-use Rattle.bp_syntax.specs.Texts.{HasText}
-use Rattle.bp_syntax.specs.Tokens.{IsSpelled}
-use Rattle.bp_syntax.proofs.SpelledNames.{on_one_line, spelled_names}
-use Rattle.bp_code.specs.Configurations.{procedure_named}
+use Rattle.bp_language.specs.NamesIn.{NamesInProcedures}
+use Rattle.bp_language.specs.Texts.{HasText}
+use Rattle.bp_language.specs.Tokens.{IsSpelled}
+use Rattle.bp_language.proofs.SpelledNames.{on_one_line, spelled_names}
+use Rattle.bp_flat.specs.Configurations.{procedure_named}
 use Rattle.bp_machine.specs.Setups.{SetupOf, entry_fault, entries_fault, Fits}
 use Rattle.bp_machine.proofs.SetupInRange.{neither}
 

@@ -7,13 +7,13 @@ use Rattle.std.proofs.lemmas.List.{get_or-set_same, get_or-set_other, get_or_pas
 use Rattle.std.proofs.lemmas.Bool.{cases_lt}
 use Rattle.std.proofs.lemmas.Bool.Decides.{nat_tests}
 use Rattle.bp_tree.specs.Ast.{Block, Done, Then, Skips, GoesTo, Returns, Assigns, Branches, Loops, Asserts, Assumes, Prints, Calls, Procedure, Program}
-use Rattle.bp_code.specs.Configurations.{Frame, Configuration, is_call, first_stack, procedure_named}
-use Rattle.bp_code.specs.Moves.{StatementEffect, Leaves, Fails, Blocks, Misses, effect, after_effect}
-use Rattle.bp_code.specs.Flat.{Flat, Instruction, Call}
-use Rattle.bp_code.specs.Steps.{Bits, Activation, InstructionEffect, bits_from, step}
-use Rattle.bp_code.specs.StandsFor.{StandsFor, Does, Remains, valuation_of, variables, places_of}
-use Rattle.bp_code.specs.Alike.{ShowsStack, SameEffect}
-use Rattle.bp_code.proofs.StandsForStepsAlike.{steps_alike}
+use Rattle.bp_flat.specs.Configurations.{Frame, Configuration, is_call, first_stack, procedure_named}
+use Rattle.bp_flat.specs.Moves.{StatementEffect, Leaves, Fails, Blocks, Misses, effect, after_effect}
+use Rattle.bp_flat.specs.Flat.{Flat, Instruction, Call}
+use Rattle.bp_flat.specs.Steps.{Bits, Activation, InstructionEffect, bits_from, step}
+use Rattle.bp_flat.specs.StandsFor.{StandsFor, Does, Remains, valuation_of, variables, places_of}
+use Rattle.bp_flat.specs.Alike.{ShowsStack, SameEffect}
+use Rattle.bp_flat.proofs.StandsForStepsAlike.{steps_alike}
 use Rattle.bp_machine.specs.declared.calls.Call as calls
 use Rattle.bp_machine.specs.declared.calls.Reply.{Reply}
 use Rattle.bp_machine.specs.declared.calls.Reply.TheVariants.{Stopped, Ended, NoContexts, Full, Blocked, Failed, Stepped}
@@ -74,7 +74,7 @@ pub record Shows (t : Program) (z : CodeState) (k : Configuration) : Type 0 wher
   pub stack : (i : ℕ) → ShowsStack t (z.stacks i) (stack_of k i)
   pub failed : k.failed ≡ z.failed
 
-module _ (t : Program) (table : List Rattle.bp_code.specs.StandsFor.Place) (p : Procedure) where
+module _ (t : Program) (table : List Rattle.bp_flat.specs.StandsFor.Place) (p : Procedure) where
   call_alike : (left : Block) (i : Instruction) → Does t table p left i → is_call left ≡ is_call_at (Some i)
   call_alike Done i is = rw is refl
   call_alike (Then label at Skips r) i c = rw c.is refl

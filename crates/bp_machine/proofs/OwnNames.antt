@@ -5,14 +5,14 @@ use Rattle.std.specs.Option.{option_copied}
 use Rattle.std.proofs.lemmas.Slice.Eq.{bytes_eq-Decides}
 use Rattle.std.proofs.lemmas.List.{map-append, take_more}
 use Rattle.std.proofs.lemmas.Option.{slice_get-map, slice_get-get_or}
-use Rattle.bp_code.specs.declared.headings.Heading as kept
+use Rattle.bp_flat.specs.declared.headings.Heading as kept
 use Rattle.bp_tree.specs.Ast.{Procedure, Program}
-use Rattle.bp_code.specs.Configurations.{procedure_named}
-use Rattle.bp_code.specs.Flat.{Flat, Heading}
-use Rattle.bp_code.specs.Compiled.{heading_named}
-use Rattle.bp_code.specs.StandsFor.{StandsFor}
-use Rattle.bp_code.specs.Programs.{IsOfProgram}
-use Rattle.bp_code.proofs.HeadingsOfProcedures.{formals_of_procedure}
+use Rattle.bp_flat.specs.Configurations.{procedure_named}
+use Rattle.bp_flat.specs.Flat.{Flat, Heading}
+use Rattle.bp_flat.specs.Headings.{heading_named}
+use Rattle.bp_flat.specs.StandsFor.{StandsFor}
+use Rattle.bp_flat.specs.Programs.{IsOfProgram}
+use Rattle.bp_flat.proofs.HeadingsOfProcedures.{formals_of_procedure}
 use Rattle.bp_machine.specs.Setups.{entry_fault, entries_fault}
 use Rattle.bp_machine.proofs.ForEveryProgram.{is_true}
 use Rattle.bp_machine.proofs.SetupInRange.{neither}

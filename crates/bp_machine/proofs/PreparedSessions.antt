@@ -4,12 +4,12 @@ use Rattle.std.proofs.Math.Logic.{∥∥₁_map}
 use Rattle.std.proofs.lemmas.Bool.Decides.{nat_tests}
 use Rattle.std.proofs.lemmas.List.{length-map}
 use Rattle.bp_tree.specs.Ast.{Program}
-use Rattle.bp_code.specs.Bits.{bits_of}
-use Rattle.bp_code.specs.Steps.{bits_from}
-use Rattle.bp_code.specs.Flat.{Flat, Instruction}
-use Rattle.bp_code.specs.StandsFor.{StandsFor}
-use Rattle.bp_code.specs.Programs.{IsOfProgram}
-use Rattle.bp_code.specs.declared.effects.Effect.{Effect}
+use Rattle.bp_flat.specs.Bits.{bits_of}
+use Rattle.bp_flat.specs.Steps.{bits_from}
+use Rattle.bp_flat.specs.Flat.{Flat, Instruction}
+use Rattle.bp_flat.specs.StandsFor.{StandsFor}
+use Rattle.bp_flat.specs.Programs.{IsOfProgram}
+use Rattle.bp_flat.specs.declared.effects.Effect.{Effect}
 use Rattle.bp_machine.specs.declared.calls.Call.{Call}
 use Rattle.bp_machine.specs.declared.reports.Outcome.TheVariants.{Clean}
 use Rattle.bp_machine.specs.declared.sessions.Prepared.{Prepared}

@@ -2,17 +2,17 @@
 use Rattle.std.proofs.Common.{◌≡◌, ◌≢◌, ℕ, Bool, true, false, List, [], ◌∷◌, Option, None, Some, is_some, refl, ap, sym, ◌∙◌}
 use Rattle.std.specs.Prelude.{slice_get}
 use Rattle.bp_tree.specs.Ast.{Block, Done, Then, Skips, GoesTo, Returns, Assigns, Branches, Loops, Asserts, Assumes, Prints, Calls, Procedure, Program}
-use Rattle.bp_code.specs.Bits.{bits_of}
-use Rattle.bp_code.specs.Effects.{Store}
-use Rattle.bp_code.specs.Values.{Valuation}
-use Rattle.bp_code.specs.Configurations.{Frame}
-use Rattle.bp_code.specs.Flat.{Flat, Instruction, Skip, Goto, Return, Assign, If, While, Assert, Assume, Print, Call as CallsTo}
-use Rattle.bp_code.specs.Kinds.{instruction_kind}
-use Rattle.bp_code.specs.declared.instrs.Kind.TheVariants as kind
-use Rattle.bp_code.specs.Steps.{Bits, Activation}
-use Rattle.bp_code.specs.Prints.{printed_values}
-use Rattle.bp_code.specs.StandsFor.{StandsFor, Place, Does, places_of, named_store, valuation_of}
-use Rattle.bp_code.specs.Alike.{ShowsStack}
+use Rattle.bp_flat.specs.Bits.{bits_of}
+use Rattle.bp_flat.specs.Effects.{Store}
+use Rattle.bp_flat.specs.Values.{Valuation}
+use Rattle.bp_flat.specs.Configurations.{Frame}
+use Rattle.bp_flat.specs.Flat.{Flat, Instruction, Skip, Goto, Return, Assign, If, While, Assert, Assume, Print, Call as CallsTo}
+use Rattle.bp_flat.specs.Kinds.{instruction_kind}
+use Rattle.bp_flat.specs.declared.instrs.Kind.TheVariants as kind
+use Rattle.bp_flat.specs.Steps.{Bits, Activation}
+use Rattle.bp_flat.specs.Prints.{printed_values}
+use Rattle.bp_flat.specs.StandsFor.{StandsFor, Place, Does, places_of, named_store, valuation_of}
+use Rattle.bp_flat.specs.Alike.{ShowsStack}
 use Rattle.bp_machine.specs.declared.calls.Call.{Call}
 use Rattle.bp_machine.specs.declared.stacks.ActivationRecord.{ActivationRecord}
 use Rattle.bp_machine.specs.GuestThreads.{GuestThreadOf}

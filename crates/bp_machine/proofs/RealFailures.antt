@@ -4,11 +4,11 @@ use Rattle.std.proofs.lemmas.List.{append-nil}
 use Rattle.std.specs.Prelude.{unwrap_or}
 use Rattle.bp_tree.proofs.GrownLists.{regrouped}
 use Rattle.bp_tree.specs.Ast.{Name, Block, Done, Then, Skips, GoesTo, Returns, Assigns, Branches, Loops, Asserts, Assumes, Prints, Calls, Decision, Procedure, Program}
-use Rattle.bp_code.specs.Values.{Valuation, decision_value, expression_values}
-use Rattle.bp_code.specs.Continuations.{from_label}
-use Rattle.bp_code.specs.Configurations.{Frame, Configuration, procedure_named}
-use Rattle.bp_code.specs.Moves as moves
-use Rattle.bp_code.specs.Moves.{StatementEffect, Leaves, Fails, Blocks, Misses, effect, after_effect, frame_store, with_left}
+use Rattle.bp_flat.specs.Values.{Valuation, decision_value, expression_values}
+use Rattle.bp_flat.specs.Continuations.{from_label}
+use Rattle.bp_flat.specs.Configurations.{Frame, Configuration, procedure_named}
+use Rattle.bp_flat.specs.Moves as moves
+use Rattle.bp_flat.specs.Moves.{StatementEffect, Leaves, Fails, Blocks, Misses, effect, after_effect, frame_store, with_left}
 use Rattle.bp_machine.specs.declared.calls.Reply.{Reply}
 use Rattle.bp_machine.specs.declared.calls.Reply.TheVariants.{Stopped, Failed}
 use Rattle.bp_machine.specs.declared.calls.Call.{Call}

@@ -3,8 +3,8 @@ use Rattle.std.proofs.Common.{◌≡◌, ◌<◌, ℕ, Bool, true, false, cond, 
 use Rattle.std.specs.Prelude.{slice_set, unwrap_or}
 use Rattle.std.proofs.lemmas.Bool.Decides.{nat_tests}
 use Rattle.bp_tree.specs.Ast.{Program}
-use Rattle.bp_code.specs.Configurations.{Configuration, is_call}
-use Rattle.bp_code.specs.Moves.{StatementEffect, Leaves, Fails, Blocks, Misses, effect, after_effect, Moves}
+use Rattle.bp_flat.specs.Configurations.{Configuration, is_call}
+use Rattle.bp_flat.specs.Moves.{StatementEffect, Leaves, Fails, Blocks, Misses, effect, after_effect, Moves}
 use Rattle.bp_machine.specs.declared.calls.Reply.{Reply}
 use Rattle.bp_machine.specs.declared.calls.Reply.TheVariants.{Stopped, Full}
 use Rattle.bp_machine.specs.declared.calls.Call.{Call}

@@ -4,7 +4,7 @@ use Rattle.std.specs.Prelude.{map}
 use Rattle.std.proofs.lemmas.Bool.Decides.{nat_tests}
 use Rattle.bp_tree.proofs.GrownLists.{regrouped}
 use Rattle.bp_tree.specs.Ast.{Program}
-use Rattle.bp_code.specs.Configurations.{Configuration}
+use Rattle.bp_flat.specs.Configurations.{Configuration}
 use Rattle.bp_machine.specs.declared.calls.Call.{Call}
 use Rattle.bp_machine.specs.BoundedRuns.{EachHasRoom, IsBoundedRun, reply_of_step, history_of_run, IsHistoryOfSteps}
 use Rattle.bp_machine.specs.Contexts.{IsWithin}

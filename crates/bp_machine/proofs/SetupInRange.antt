@@ -5,13 +5,13 @@ use Rattle.std.proofs.Math.Logic.{∥∥₁_elim}
 use Rattle.std.proofs.lemmas.Bool.Decides.{nat_tests}
 use Rattle.std.specs.Coded.{le_prop}
 use Rattle.bp_tree.specs.Ast.{Program}
-use Rattle.bp_syntax.specs.Texts.{HasText}
-use Rattle.bp_check.specs.Faults.{IsLawful}
-use Rattle.bp_check.specs.declared.limits.TheConstants.{MAX_GLOBALS}
-use Rattle.bp_code.specs.Flat.{Flat}
-use Rattle.bp_code.specs.StandsFor.{StandsFor}
-use Rattle.bp_code.specs.Programs.{IsOfProgram}
-use Rattle.bp_check.proofs.LawsOfLawfulPrograms.{few_names}
+use Rattle.bp_language.specs.Texts.{HasText}
+use Rattle.bp_language.specs.Faults.{IsLawful}
+use Rattle.bp_language.specs.declared.limits.TheConstants.{MAX_GLOBALS}
+use Rattle.bp_flat.specs.Flat.{Flat}
+use Rattle.bp_flat.specs.StandsFor.{StandsFor}
+use Rattle.bp_flat.specs.Programs.{IsOfProgram}
+use Rattle.bp_language.proofs.LawsOfLawfulPrograms.{few_names}
 use Rattle.bp_machine.specs.declared.setup_faults.SetupFault.{SetupFault}
 use Rattle.bp_machine.proofs.ForEveryProgram.{is_untrue}
 use Rattle.bp_machine.specs.declared.setup_faults.SetupFault.TheVariants.{Threads, InitLength, OutOfRange}

@@ -2,8 +2,8 @@
 use Rattle.std.proofs.Common.{◌≡◌, refl, ap, ℕ, zero, suc, ◌≤◌, List, [], ◌∷◌, drop, None, Some, length, arith, inl, inr, ◌<◌, ◌⊎◌, get_or}
 use Rattle.std.specs.Prelude.{slice_get}
 use Rattle.bp_tree.specs.Ast.{Program}
-use Rattle.bp_code.specs.Configurations.{Frame}
-use Rattle.bp_code.specs.Alike.{ShowsFrame, ShowsStack}
+use Rattle.bp_flat.specs.Configurations.{Frame}
+use Rattle.bp_flat.specs.Alike.{ShowsFrame, ShowsStack}
 use Rattle.bp_machine.specs.declared.stacks.ActivationRecord.{ActivationRecord}
 use Rattle.std.proofs.lemmas.Option.{slice_get_cases}
 use Rattle.std.proofs.lemmas.List.{get_or_past}

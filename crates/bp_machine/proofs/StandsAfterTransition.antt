@@ -3,14 +3,14 @@ use Rattle.std.proofs.Common.{◌≡◌, ℕ, ◌+◌, ◌<◌, Bool, true, fals
 use Rattle.std.specs.Prelude.{slice_get, slice_set, unwrap_or}
 use Rattle.std.proofs.lemmas.List.{length-set, append-nil, get_or-set_same, get_or-set_other}
 use Rattle.bp_tree.specs.Ast.{Program}
-use Rattle.bp_code.specs.Configurations.{Frame, Configuration}
-use Rattle.bp_code.specs.Moves.{after_effect}
-use Rattle.bp_code.specs.Flat.{Flat}
-use Rattle.bp_code.specs.Alike.{ShowsStack, StepsAlike}
+use Rattle.bp_flat.specs.Configurations.{Frame, Configuration}
+use Rattle.bp_flat.specs.Moves.{after_effect}
+use Rattle.bp_flat.specs.Flat.{Flat}
+use Rattle.bp_flat.specs.Alike.{ShowsStack, StepsAlike}
 use Rattle.bp_machine.specs.declared.calls.Reply.{Reply}
 use Rattle.bp_machine.specs.declared.calls.Reply.TheVariants.{Stopped, Failed, Stepped}
 use Rattle.bp_machine.specs.declared.calls.Call.{Call}
-use Rattle.bp_code.specs.declared.effects.Effect.{Effect}
+use Rattle.bp_flat.specs.declared.effects.Effect.{Effect}
 use Rattle.bp_machine.specs.declared.threads.Transition.{Transition}
 use Rattle.bp_machine.specs.declared.threads.Transition.TheVariants.{Stays, Fails, Steps}
 use Rattle.bp_machine.specs.ContextCounts.{used_with, count_with, IsCountOf}
@@ -30,8 +30,8 @@ use Rattle.bp_machine.proofs.StandsAfterCall.{advance}
 use Rattle.bp_machine.proofs.EffectSizes.{shown_length, is_a_call}
 use Rattle.bp_machine.specs.Sessions.{IsCallStep}
 use Rattle.bp_machine.specs.declared.stacks.ActivationRecord.{ActivationRecord}
-use Rattle.bp_code.specs.declared.effects.Effect.TheVariants.{Continues, Enters, Returns}
-use Rattle.bp_code.specs.declared.effects.Effect.TheVariants as instr
+use Rattle.bp_flat.specs.declared.effects.Effect.TheVariants.{Continues, Enters, Returns}
+use Rattle.bp_flat.specs.declared.effects.Effect.TheVariants as instr
 
 module _ (c : Flat) (t : Program) (alike : StepsAlike c t) (s : SetupOf) (x : State) (h : List Call) (stands : StandsAfter t s x h)
     (i : ℕ) (guest : GuestThreadOf) (has : slice_get x.threads i ≡ Some guest) (within : i < threads s)

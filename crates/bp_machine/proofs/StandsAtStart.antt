@@ -7,15 +7,15 @@ use Rattle.std.proofs.lemmas.List.{length-map}
 use Rattle.std.proofs.lemmas.Option.{slice_get-map, get_or_from_slice_get}
 use Rattle.std.proofs.lemmas.Nat.Bits.{bit_at-zero}
 use Rattle.bp_tree.specs.Ast.{Name, Procedure, Program}
-use Rattle.bp_code.specs.Bits.{bits_of}
-use Rattle.bp_code.specs.Values.{binding}
-use Rattle.bp_code.specs.Configurations.{procedure_named, first_stack}
-use Rattle.bp_code.specs.Flat.{Flat, Heading}
-use Rattle.bp_code.specs.Compiled.{heading_named}
-use Rattle.bp_code.specs.Steps.{bits_from}
-use Rattle.bp_code.specs.StandsFor.{StandsFor, valuation_of, variables, places_of}
-use Rattle.bp_code.specs.Alike.{ShowsStack}
-use Rattle.bp_code.proofs.HeadingsOfProcedures.{SameHeading, heading_of_procedure}
+use Rattle.bp_flat.specs.Bits.{bits_of}
+use Rattle.bp_flat.specs.Values.{binding}
+use Rattle.bp_flat.specs.Configurations.{procedure_named, first_stack}
+use Rattle.bp_flat.specs.Flat.{Flat, Heading}
+use Rattle.bp_flat.specs.Headings.{heading_named}
+use Rattle.bp_flat.specs.Steps.{bits_from}
+use Rattle.bp_flat.specs.StandsFor.{StandsFor, valuation_of, variables, places_of}
+use Rattle.bp_flat.specs.Alike.{ShowsStack}
+use Rattle.bp_flat.proofs.HeadingsOfProcedures.{SameHeading, heading_of_procedure}
 use Rattle.bp_machine.specs.declared.setup_faults.SetupFault.{SetupFault}
 use Rattle.bp_machine.specs.ContextCounts.{IsCountOf}
 use Rattle.bp_machine.specs.Setups.{SetupOf, start, entry_fault, entries_fault, Fits}

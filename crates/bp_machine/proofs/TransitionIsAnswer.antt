@@ -2,20 +2,20 @@
 use Rattle.std.proofs.Common.{◌≡◌, ℕ, ◌&&◌, Bool, true, false, cond, nat_le, List, [], ◌∷◌, length, Option, None, Some, refl, ap, sym, ◌∙◌, subst, arith}
 use Rattle.std.proofs.lemmas.List.{length-map}
 use Rattle.bp_tree.specs.Ast.{Program}
-use Rattle.bp_code.specs.Bits.{bits_of, store_of}
-use Rattle.bp_code.specs.declared.effects.Effect.{Effect}
-use Rattle.bp_code.specs.declared.effects.Effect.TheVariants.{Continues, Enters, Returns}
-use Rattle.bp_code.specs.declared.effects.Effect.TheVariants as instr
-use Rattle.bp_code.specs.InstrEffects.{effect_of}
-use Rattle.bp_code.specs.Values.{Valuation}
-use Rattle.bp_code.specs.Configurations.{Frame, is_call}
-use Rattle.bp_code.specs.Moves as moves
-use Rattle.bp_code.specs.Moves.{StatementEffect, Leaves, effect}
-use Rattle.bp_code.specs.Flat.{Flat, Instruction}
+use Rattle.bp_flat.specs.Bits.{bits_of, store_of}
+use Rattle.bp_flat.specs.declared.effects.Effect.{Effect}
+use Rattle.bp_flat.specs.declared.effects.Effect.TheVariants.{Continues, Enters, Returns}
+use Rattle.bp_flat.specs.declared.effects.Effect.TheVariants as instr
+use Rattle.bp_flat.specs.InstrEffects.{effect_of}
+use Rattle.bp_flat.specs.Values.{Valuation}
+use Rattle.bp_flat.specs.Configurations.{Frame, is_call}
+use Rattle.bp_flat.specs.Moves as moves
+use Rattle.bp_flat.specs.Moves.{StatementEffect, Leaves, effect}
+use Rattle.bp_flat.specs.Flat.{Flat, Instruction}
 use Rattle.std.specs.Prelude.{slice_get}
-use Rattle.bp_code.specs.Steps.{Activation, effect_at}
-use Rattle.bp_code.specs.StandsFor.{valuation_of}
-use Rattle.bp_code.specs.Alike.{ShowsStack, SameEffect, StepsAlike}
+use Rattle.bp_flat.specs.Steps.{Activation, effect_at}
+use Rattle.bp_flat.specs.StandsFor.{valuation_of}
+use Rattle.bp_flat.specs.Alike.{ShowsStack, SameEffect, StepsAlike}
 use Rattle.bp_machine.specs.declared.calls.Reply.{Reply}
 use Rattle.bp_machine.specs.declared.calls.Reply.TheVariants.{Stopped, Full}
 use Rattle.bp_machine.specs.declared.stacks.ActivationRecord.{ActivationRecord}

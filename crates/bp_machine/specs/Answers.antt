@@ -1,9 +1,9 @@
 -- What a call of a thread is answered, and the configuration after it.
 use Rattle.std.specs.Prelude.{if◌then◌else◌, ◌≡◌, ◌↔◌, IsTrue, ℕ, Bool, not, ◌&&◌, nat_le, List, [], ◌∷◌, ◌++◌, Option, None, Some, length, slice_index_or, unwrap_or}
 use Rattle.bp_tree.specs.Ast.{Program}
-use Rattle.bp_code.specs.Values.{Valuation}
-use Rattle.bp_code.specs.Configurations.{Frame, Configuration, is_call}
-use Rattle.bp_code.specs.Moves.{StatementEffect, Leaves, Fails, Blocks, Misses, effect, after_effect}
+use Rattle.bp_flat.specs.Values.{Valuation}
+use Rattle.bp_flat.specs.Configurations.{Frame, Configuration, is_call}
+use Rattle.bp_flat.specs.Moves.{StatementEffect, Leaves, Fails, Blocks, Misses, effect, after_effect}
 use Rattle.bp_machine.specs.declared.calls.Reply.{Reply}
 use Rattle.bp_machine.specs.declared.calls.Reply.TheVariants.{Stopped, Ended, NoContexts, Full, Blocked, Failed, Stepped}
 use Rattle.bp_machine.specs.declared.limits.TheConstants.{MAX_FRAMES}

@@ -3,7 +3,7 @@
 use Rattle.std.specs.Prelude.{◌≡◌, ℕ, zero, suc, ◌+◌, ◌/◌, ◌%◌, Bool}
 use Rattle.rand_pcg.specs.Lcg.{Lcg, started, increment_of}
 use Rattle.rand_pcg.specs.Pcg.{multiplier_64, pcg32}
-use Rattle.bp_code.specs.Bits.{bits_of}
+use Rattle.bp_flat.specs.Bits.{bits_of}
 
 -- the generator of a thread after n words
 unfoldable pub generator_after : ℕ → ℕ → ℕ → Lcg

@@ -1,7 +1,7 @@
 -- Deadlocks.
 use Rattle.std.specs.Prelude.{◌≡◌, ℕ, Bool, true, false, List, [], ◌∷◌}
 use Rattle.bp_tree.specs.Ast.{Program}
-use Rattle.bp_code.specs.Configurations.{Frame, Configuration}
+use Rattle.bp_flat.specs.Configurations.{Frame, Configuration}
 use Rattle.bp_machine.specs.Answers.{stack_of}
 use Rattle.bp_machine.specs.Waiting.{waits}
 

@@ -1,7 +1,7 @@
 -- A guest thread as a session keeps it.
 use Rattle.std.specs.Prelude.{ℕ, Bool, false, List, [], ◌∷◌, map, option_map, unwrap_or}
-use Rattle.bp_code.specs.Flat.{Flat}
-use Rattle.bp_code.specs.Compiled.{heading_named}
+use Rattle.bp_flat.specs.Flat.{Flat}
+use Rattle.bp_flat.specs.Headings.{heading_named}
 use Rattle.bp_machine.specs.declared.stacks.ActivationRecord.{ActivationRecord}
 
 -- its stack, the topmost record first; the calls that it made; whether the last of them had a last

@@ -2,7 +2,7 @@
 -- that it is prepared for, and how its choices are drawn.
 use Rattle.std.specs.Prelude.{◌≡◌, ◌≢◌, ℕ, ◌+◌, Bool, List, Option, None, Some, length, slice_get}
 use Rattle.std.specs.Option.{option_map}
-use Rattle.bp_code.specs.Flat.{Flat}
+use Rattle.bp_flat.specs.Flat.{Flat}
 use Rattle.bp_machine.specs.declared.ask_faults.AskFault.{AskFault}
 use Rattle.bp_machine.specs.declared.ask_faults.AskFault.TheVariants.{NoThread, Finished, Seeded, Unseeded, Memory, Busy}
 use Rattle.bp_machine.specs.declared.sessions.Prepared.{Prepared}

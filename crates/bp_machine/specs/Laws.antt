@@ -1,10 +1,10 @@
 -- Laws of histories.
 use Rattle.std.specs.Prelude.{◌≡◌, ◌≢◌, ◌≤◌, ◌*◌, ℕ, Bool, false, List, ◌++◌, [], Some, All, length}
 use Rattle.bp_tree.specs.Ast.{Program}
-use Rattle.bp_syntax.specs.Texts.{HasText}
-use Rattle.bp_code.specs.Configurations.{Configuration}
-use Rattle.bp_code.specs.Flat.{Flat}
-use Rattle.bp_code.specs.StandsFor.{StandsFor}
+use Rattle.bp_language.specs.Texts.{HasText}
+use Rattle.bp_flat.specs.Configurations.{Configuration}
+use Rattle.bp_flat.specs.Flat.{Flat}
+use Rattle.bp_flat.specs.StandsFor.{StandsFor}
 use Rattle.bp_machine.specs.declared.calls.Call.{Call}
 use Rattle.bp_machine.specs.declared.calls.Reply.{Reply}
 use Rattle.bp_machine.specs.declared.reports.Outcome.TheVariants.{Failed}

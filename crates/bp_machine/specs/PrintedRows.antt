@@ -2,10 +2,10 @@
 use Rattle.std.specs.Prelude.{if◌then◌else◌, ℕ, Bool, List, [], ◌∷◌, ◌++◌, Option, None, Some, option_map}
 use Rattle.std.specs.Option.{option_to_list}
 use Rattle.bp_tree.specs.Ast.{Block, Then, Prints, Program}
-use Rattle.bp_code.specs.Effects.{Store}
-use Rattle.bp_code.specs.Values.{Valuation, expression_values}
-use Rattle.bp_code.specs.Configurations.{Frame, Configuration}
-use Rattle.bp_code.specs.Moves.{frame_store}
+use Rattle.bp_flat.specs.Effects.{Store}
+use Rattle.bp_flat.specs.Values.{Valuation, expression_values}
+use Rattle.bp_flat.specs.Configurations.{Frame, Configuration}
+use Rattle.bp_flat.specs.Moves.{frame_store}
 use Rattle.bp_machine.specs.declared.calls.Call.{Call}
 use Rattle.bp_machine.specs.Replies.{is_granted}
 use Rattle.bp_machine.specs.Answers.{stack_of, configuration_after_call}

@@ -1,9 +1,9 @@
 -- The report of a history.
 use Rattle.std.specs.Prelude.{◌≡◌, ℕ, Bool, true, false, List, [], ◌∷◌, ◌++◌, Option, length}
 use Rattle.bp_tree.specs.Ast.{Name, Block, Then, Asserts, Decision, Program}
-use Rattle.bp_code.specs.Values.{decision_value}
-use Rattle.bp_code.specs.Configurations.{Frame, Configuration}
-use Rattle.bp_code.specs.Moves.{Moves, frame_store}
+use Rattle.bp_flat.specs.Values.{decision_value}
+use Rattle.bp_flat.specs.Configurations.{Frame, Configuration}
+use Rattle.bp_flat.specs.Moves.{Moves, frame_store}
 use Rattle.bp_machine.specs.declared.calls.Reply.{Reply}
 use Rattle.bp_machine.specs.declared.calls.Reply.TheVariants.{Failed}
 use Rattle.bp_machine.specs.declared.calls.Call.{Call}

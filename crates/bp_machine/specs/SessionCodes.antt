@@ -2,8 +2,8 @@
 -- names one.
 use Rattle.std.specs.Prelude.{◌≡◌, ℕ, zero, suc, Bool, List, Option, None, Some, refl}
 use Rattle.std.specs.Coded.{Coded, code_by, coded×, coded_ℕ, coded_bool, coded_list, coded_option}
-use Rattle.bp_code.specs.Flat.{Flat}
-use Rattle.bp_code.specs.Codes.{coded_flat}
+use Rattle.bp_flat.specs.Flat.{Flat}
+use Rattle.bp_flat.specs.Codes.{coded_flat}
 use Rattle.bp_machine.specs.declared.contexts.ContextCount.{ContextCount}
 use Rattle.bp_machine.specs.declared.calls.Call.{Call}
 use Rattle.bp_machine.specs.declared.calls.Reply.{Reply}

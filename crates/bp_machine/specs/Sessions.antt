@@ -1,9 +1,9 @@
 -- Sessions as contracts see them.
 use Rattle.std.specs.Prelude.{if◌then◌else◌, ◌≡◌, ◌<◌, ◌≤◌, ℕ, Bool, true, false, List, ◌∷◌, Option, None, Some, length, slice_get, is_some}
 use Rattle.bp_tree.specs.Ast.{Program}
-use Rattle.bp_code.specs.Configurations.{Frame, is_call}
-use Rattle.bp_code.specs.Flat.{Flat}
-use Rattle.bp_code.specs.StandsFor.{StandsFor}
+use Rattle.bp_flat.specs.Configurations.{Frame, is_call}
+use Rattle.bp_flat.specs.Flat.{Flat}
+use Rattle.bp_flat.specs.StandsFor.{StandsFor}
 use Rattle.bp_machine.specs.declared.calls.Call.{Call}
 use Rattle.bp_machine.specs.declared.calls.Reply.TheVariants.{Stepped}
 use Rattle.bp_machine.specs.declared.ask_faults.AskFault.{AskFault}

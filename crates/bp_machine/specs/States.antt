@@ -1,11 +1,11 @@
 -- What a session keeps of its threads, and when that stands for the configuration after a history.
 use Rattle.std.specs.Prelude.{◌≡◌, ℕ, List, Some, length, map, slice_get}
 use Rattle.bp_tree.specs.Ast.{Program}
-use Rattle.bp_code.specs.Configurations.{Configuration}
-use Rattle.bp_code.specs.Bits.{bits_of}
-use Rattle.bp_code.specs.Steps.{Activation}
-use Rattle.bp_code.specs.StandsFor.{valuation_of}
-use Rattle.bp_code.specs.Alike.{ShowsStack}
+use Rattle.bp_flat.specs.Configurations.{Configuration}
+use Rattle.bp_flat.specs.Bits.{bits_of}
+use Rattle.bp_flat.specs.Steps.{Activation}
+use Rattle.bp_flat.specs.StandsFor.{valuation_of}
+use Rattle.bp_flat.specs.Alike.{ShowsStack}
 use Rattle.bp_machine.specs.declared.calls.Call.{Call}
 use Rattle.bp_machine.specs.declared.contexts.ContextCount.{ContextCount}
 use Rattle.bp_machine.specs.declared.reports.Outcome.{Outcome}

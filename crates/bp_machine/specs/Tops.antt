@@ -1,9 +1,9 @@
 -- Where a thread continues: at the top of its stack, and after its calls have returned.
 use Rattle.std.specs.Prelude.{◌≡◌, ℕ, List, ◌∷◌, length}
 use Rattle.bp_tree.specs.Ast.{Program}
-use Rattle.bp_code.specs.Bits.{bits_of}
-use Rattle.bp_code.specs.Configurations.{Frame, Configuration}
-use Rattle.bp_code.specs.StandsFor.{Remains, places_of, valuation_of, variables}
+use Rattle.bp_flat.specs.Bits.{bits_of}
+use Rattle.bp_flat.specs.Configurations.{Frame, Configuration}
+use Rattle.bp_flat.specs.StandsFor.{Remains, places_of, valuation_of, variables}
 use Rattle.bp_machine.specs.declared.tops.Top.{Top}
 use Rattle.bp_machine.specs.Answers.{stack_of}
 

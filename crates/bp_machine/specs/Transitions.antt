@@ -1,14 +1,14 @@
 -- The result of a call of a thread in a session, and the state after it: how a session works,
 -- which no public clause names.
 use Rattle.std.specs.Prelude.{if◌then◌else◌, ◌≡◌, ℕ, ◌+◌, ◌<◌, ◌^◌, Bool, true, false, ◌||◌, nat_le, List, [], ◌∷◌, Option, None, Some, length, slice_get, slice_set}
-use Rattle.bp_code.specs.Flat.{Instruction}
-use Rattle.bp_code.specs.Bits.{store_of}
-use Rattle.bp_code.specs.declared.stores.Store.{Store}
-use Rattle.bp_code.specs.declared.effects.Effect.{Effect}
-use Rattle.bp_code.specs.declared.effects.Effect.TheVariants.{Continues, Enters, Returns}
-use Rattle.bp_code.specs.declared.effects.Effect.TheVariants as instr
-use Rattle.bp_code.specs.InstrEffects.{effect_of}
-use Rattle.bp_code.specs.Steps.{Activation, instruction_effect}
+use Rattle.bp_flat.specs.Flat.{Instruction}
+use Rattle.bp_flat.specs.Bits.{store_of}
+use Rattle.bp_flat.specs.declared.stores.Store.{Store}
+use Rattle.bp_flat.specs.declared.effects.Effect.{Effect}
+use Rattle.bp_flat.specs.declared.effects.Effect.TheVariants.{Continues, Enters, Returns}
+use Rattle.bp_flat.specs.declared.effects.Effect.TheVariants as instr
+use Rattle.bp_flat.specs.InstrEffects.{effect_of}
+use Rattle.bp_flat.specs.Steps.{Activation, instruction_effect}
 use Rattle.bp_machine.specs.declared.calls.Reply.{Reply}
 use Rattle.bp_machine.specs.declared.calls.Reply.TheVariants.{Stopped, Ended, NoContexts, Full, Blocked, Stepped}
 use Rattle.bp_machine.specs.declared.calls.Reply.TheVariants as reply

@@ -1,7 +1,7 @@
 -- Threads that wait.
 use Rattle.std.specs.Prelude.{Bool, true, false, ◌&&◌, ℕ, Option, Some}
 use Rattle.bp_tree.specs.Ast.{Program}
-use Rattle.bp_code.specs.Configurations.{Configuration}
+use Rattle.bp_flat.specs.Configurations.{Configuration}
 use Rattle.bp_machine.specs.declared.calls.Reply.{Reply}
 use Rattle.bp_machine.specs.declared.calls.Reply.TheVariants.{Blocked}
 use Rattle.bp_machine.specs.Answers.{stack_of, reply_on_stack}

@@ -49,7 +49,7 @@ impl Choices {
         }
     }
 
-    /// The same choices, of which as many are drawn.
+    /// A copy of these choices, from which the same number of bits were drawn.
     pub(crate) fn try_copy(&self) -> Result<Choices, AllocError>
         ensures { IfOk result (λ c. c ≡ self.now) }
     {

@@ -1,7 +1,7 @@
 //! The machine of a session: the globals, the guest threads, and the count of contexts.
 ghost use Rattle.std.specs.Prelude.{◌≡◌, ◌≤◌, ◌<◌, ◌^◌, ◌+◌, ℕ, List, Some, true, length, map, slice_get, string_bytes, option_map, IfOk, OnOk, OnErr};
 ghost use Rattle.bp_tree.specs.Ast.{Program};
-ghost use Rattle.bp_code.specs.Bits.{bits_of};
+ghost use Rattle.bp_flat.specs.Bits.{bits_of};
 ghost use Rattle.bp_machine.specs.declared.calls.Call.{Call as Answered};
 ghost use Rattle.bp_machine.specs.Setups.{SetupOf};
 ghost use Rattle.bp_machine.specs.Histories.{open_lines};
@@ -16,8 +16,8 @@ use crate::limits::{MAX_FRAMES, MAX_THREADS};
 use crate::reports::Outcome;
 use crate::stacks::Stack;
 use crate::threads::{GuestThread, Transition, copied_threads, restart_threads};
-use bp_code::stores::bit_at;
-use bp_code::{Code, Effect, Store};
+use bp_flat::stores::bit_at;
+use bp_flat::{Code, Effect, Store};
 use std::alloc::AllocError;
 use std::marker::Model;
 

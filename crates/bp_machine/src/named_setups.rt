@@ -1,15 +1,15 @@
 //! Setups as a text says them: names may be any bytes, and numbers may be too large.
 ghost use Rattle.std.specs.Prelude.{◌≡◌, ◌≤◌, ℕ, true, List, None, Some, map, length, slice_get, is_some, string_bytes, MatchResult, IfOk};
 ghost use Rattle.bp_tree.specs.Ast.{Program};
-ghost use Rattle.bp_code.specs.Compiled.{heading_named};
-ghost use Rattle.bp_code.specs.StandsFor.{StandsFor};
+ghost use Rattle.bp_flat.specs.Headings.{heading_named};
+ghost use Rattle.bp_flat.specs.StandsFor.{StandsFor};
 ghost use Rattle.bp_machine.specs.declared.limits.TheConstants.{MAX_THREADS};
 ghost use Rattle.bp_machine.specs.Setups.{setup_of, entries_fault, setup_fault, IsSetupRefusal, FitsCode, IsInRange};
 
 use crate::limits::MAX_THREADS;
 use crate::setup_faults::{SetupFault, fault_of_entry, fault_of_numbers};
 use crate::setups::Setup;
-use bp_code::Code;
+use bp_flat::Code;
 use std::alloc::{AllocError, Global};
 
 /// The first fault of the entries.

@@ -1,7 +1,7 @@
 //! Sessions: the sequential machine, one call at a time.
 ghost use Rattle.std.specs.Prelude.{◌≡◌, ◌++◌, ◌∷◌, [], List, None, Some, IfOk, IsOk, OnOk, OnErr, MatchResult};
 ghost use Rattle.bp_tree.specs.Ast.{Program};
-ghost use Rattle.bp_code.specs.StandsFor.{StandsFor};
+ghost use Rattle.bp_flat.specs.StandsFor.{StandsFor};
 ghost use Rattle.bp_machine.specs.declared.calls.Call.{Call as Answered};
 ghost use Rattle.bp_machine.specs.Setups.{FitsCode};
 ghost use Rattle.bp_machine.specs.Sessions.{Stands, IsNextCall, IsAskRefusal, given_bit};
@@ -19,8 +19,8 @@ use crate::choices::Choices;
 use crate::machine::Machine;
 use crate::setups::Setup;
 use crate::threads::{Transition, first_threads};
-use bp_code::stores::word_of;
-use bp_code::{Code, steps_alike};
+use bp_flat::stores::word_of;
+use bp_flat::{Code, steps_alike};
 use std::alloc::{AllocError, Global};
 use std::marker::Model;
 

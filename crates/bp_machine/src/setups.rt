@@ -1,13 +1,13 @@
 //! What a session starts from.
 ghost use Rattle.std.specs.Prelude.{◌≡◌, ◌↔◌, IsTrue, None, map, slice_get, string_bytes, MatchResult, IfOk, option_map};
 ghost use Rattle.bp_tree.specs.Ast.{Program};
-ghost use Rattle.bp_code.specs.StandsFor.{StandsFor};
+ghost use Rattle.bp_flat.specs.StandsFor.{StandsFor};
 ghost use Rattle.bp_machine.specs.Setups.{setup_of, threads, setup_fault, IsSetupRefusal, Fits, FitsCode, IsInRange};
 
 mod equality;
 
 use crate::setup_faults::{SetupFault, fault_of_entries, fault_of_setup};
-use bp_code::Code;
+use bp_flat::Code;
 use std::alloc::{AllocError, Global};
 use std::marker::Model;
 

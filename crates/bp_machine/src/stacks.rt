@@ -2,7 +2,7 @@
 ghost use Rattle.std.specs.Prelude.{◌≡◌, [], ◌∷◌, ◌<◌, drop, length, reverse, vec_len, vec_capacity, IfOk, OnOk, OnErr};
 ghost use Rattle.bp_machine.specs.Stacks.{top_of, with_top, entered_top};
 
-use bp_code::Effect;
+use bp_flat::Effect;
 use std::alloc::{AllocError, Global};
 use std::marker::Model;
 

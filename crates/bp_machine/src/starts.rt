@@ -1,16 +1,16 @@
 //! What a run of a program starts from.
 ghost use Rattle.std.specs.Prelude.{◌≡◌, ◌≤◌, None, MatchResult, IfOk};
 ghost use Rattle.bp_tree.specs.Ast.{Program};
-ghost use Rattle.bp_check.specs.declared.limits.TheConstants.{MAX_GLOBALS};
-ghost use Rattle.bp_code.specs.StandsFor.{StandsFor};
+ghost use Rattle.bp_language.specs.declared.limits.TheConstants.{MAX_GLOBALS};
+ghost use Rattle.bp_flat.specs.StandsFor.{StandsFor};
 ghost use Rattle.bp_machine.specs.Setups.{setup_fault, IsSetupRefusal, FitsCode, IsInRange};
 ghost use Rattle.bp_machine.specs.Starts.{default_start, setup_from};
 
 use crate::limits::{DEFAULT_CALLS, DEFAULT_CONTEXTS, DEFAULT_ENTRY};
 use crate::setup_faults::SetupFault;
 use crate::setups::Setup;
-use bp_check::limits::MAX_GLOBALS;
-use bp_code::Code;
+use bp_flat::Code;
+use bp_language::limits::MAX_GLOBALS;
 use std::alloc::{AllocError, Global};
 use std::marker::Model;
 

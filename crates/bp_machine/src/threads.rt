@@ -5,7 +5,7 @@ ghost use Rattle.bp_machine.specs.Transitions.{thread_after, reply_of_transition
 
 use crate::calls::Reply;
 use crate::stacks::Stack;
-use bp_code::{Code, Effect};
+use bp_flat::{Code, Effect};
 use std::alloc::{AllocError, Global};
 use std::marker::Model;
 

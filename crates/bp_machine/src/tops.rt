@@ -1,5 +1,5 @@
 //! Where a thread continues.
-use bp_code::Store;
+use bp_flat::Store;
 
 /// The top of a thread's stack, or of what is left of it after its topmost calls have returned.
 #[derive(Clone, Copy, Debug, PartialEq, Eq)]

@@ -4,8 +4,8 @@ use Rattle.std.specs.List.{concat}
 use Rattle.bp_text.specs.Pieces.{bit_text}
 use Rattle.bp_syntax.specs.declared.faults.ReadFault.{ReadFault}
 use Rattle.bp_syntax.specs.declared.faults.ReadFault.TheVariants as read
-use Rattle.bp_check.specs.declared.faults.CheckFault.{CheckFault}
-use Rattle.bp_check.specs.declared.faults.CheckFault.TheVariants as check
+use Rattle.bp_language.specs.declared.faults.CheckFault.{CheckFault}
+use Rattle.bp_language.specs.declared.faults.CheckFault.TheVariants as check
 use Rattle.bp_code.specs.declared.texts.ProgramFault.TheVariants.{Read, Check}
 use Rattle.bp_machine.specs.declared.calls.Reply.{Reply}
 use Rattle.bp_machine.specs.Replies.{letter_of}

@@ -1,7 +1,7 @@
 -- What the faults of the libraries are to a command. Refused memory, a failed write and an input
 -- that is too long are each one value.
 use Rattle.bp_syntax.specs.declared.faults.ReadFault.TheVariants as read
-use Rattle.bp_check.specs.declared.faults.CheckFault.TheVariants as check
+use Rattle.bp_language.specs.declared.faults.CheckFault.TheVariants as check
 use Rattle.bp_code.specs.declared.texts.ProgramFault.{ProgramFault}
 use Rattle.bp_code.specs.declared.texts.ProgramFault.TheVariants.{Read, Check}
 use Rattle.bp_code.specs.declared.texts.CodeFault.{CodeFault}

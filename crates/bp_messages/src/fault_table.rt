@@ -3,9 +3,9 @@ ghost use Rattle.std.specs.Prelude.{◌≡◌};
 ghost use Rattle.bp_messages.specs.FaultTable.{check_row, exit_status, fault_row, long_row, memory_row, place_of, read_row, row_of, schedule_row, setup_row, status_of, step_name, step_number, steps_row, trace_row, wanted_of, write_row};
 
 use crate::faults::Fault;
-use bp_check::CheckFault;
 use bp_code::ProgramFault;
 use bp_confirm::{ConfirmFault, StepReason, StepRefusal};
+use bp_language::CheckFault;
 use bp_machine::{Reply, SetupFault};
 use bp_syntax::ReadFault;
 use bp_trace::{DriveFault, ReplayFault};

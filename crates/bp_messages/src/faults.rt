@@ -1,15 +1,15 @@
 //! Why a command is refused.
 use crate::input_faults::InputFault;
-use bp_check::CheckFault;
 use bp_code::{CodeFault, ProgramFault};
 use bp_confirm::ConfirmFault;
+use bp_facts::ViewFault;
+use bp_language::CheckFault;
 use bp_machine::SetupFault;
 use bp_run::RunFault;
 use bp_syntax::ReadFault;
 use bp_test::TestFault;
 use bp_text::WriteFault;
 use bp_trace::{DriveFault, MigrateFault, ReplayFault};
-use bp_facts::ViewFault;
 use std::alloc::AllocError;
 use thiserror::Error;
 

@@ -1,13 +1,13 @@
 -- That codes may be shared among threads, in steps that `search` can take.
 use denote.Param.Send.{IsSend, sendable}
 use Rattle.std.proofs.Crossing.{crosses}
-use Rattle.bp_code.proofs.exprs.SlotSub.TheLaws.TheKnot.{send-SlotSub, send-SlotExpr}
-use Rattle.bp_code.specs.contracts.expr_lists.SlotExprs as SlotExprs
-use Rattle.bp_code.specs.contracts.expr_lists.Arguments as Arguments
-use Rattle.bp_code.specs.contracts.slots.Slots as Slots
-use Rattle.bp_code.specs.contracts.instrs.Instr as Instr
-use Rattle.bp_code.specs.contracts.headings.Heading as Heading
-use Rattle.bp_code.specs.contracts.code.Code as Code
+use Rattle.bp_flat.proofs.exprs.SlotSub.TheLaws.TheKnot.{send-SlotSub, send-SlotExpr}
+use Rattle.bp_flat.specs.contracts.expr_lists.SlotExprs as SlotExprs
+use Rattle.bp_flat.specs.contracts.expr_lists.Arguments as Arguments
+use Rattle.bp_flat.specs.contracts.slots.Slots as Slots
+use Rattle.bp_flat.specs.contracts.instrs.Instr as Instr
+use Rattle.bp_flat.specs.contracts.headings.Heading as Heading
+use Rattle.bp_flat.specs.contracts.code.Code as Code
 
 exprs_send : IsSend SlotExprs.the_row
 exprs_send = search (sendable, crosses, send-SlotSub, send-SlotExpr) depth 40

@@ -1,7 +1,7 @@
 -- The setup of a program under the options of a run, and when they are refused.
 use Rattle.std.specs.Prelude.{◌≡◌, ◌<◌, ◌≤◌, ℕ, ◌==◌, Bool, true, ◌||◌, nat_lt, [], ◌∷◌, Option, None, Some, is_some}
 use Rattle.bp_tree.specs.Ast.{Program}
-use Rattle.bp_code.specs.Flat.{Flat}
+use Rattle.bp_flat.specs.Flat.{Flat}
 use Rattle.bp_machine.specs.declared.setup_faults.SetupFault.{SetupFault}
 use Rattle.bp_machine.specs.declared.setup_faults.SetupFault.TheVariants.{OutOfRange, Memory}
 use Rattle.bp_machine.specs.Setups.{SetupOf, setup_fault, fault_if, first_of, FitsCode}

@@ -1,7 +1,7 @@
 //! Playing a board: one worker for each seat, and a scribe.
 ghost use Rattle.std.specs.Prelude.{◌≡◌, ◌≤◌, ◌<◌, [], true, false, is_some, OnOk, MatchResult};
 ghost use Rattle.bp_tree.specs.Ast.{Program};
-ghost use Rattle.bp_code.specs.StandsFor.{StandsFor};
+ghost use Rattle.bp_flat.specs.StandsFor.{StandsFor};
 ghost use Rattle.bp_machine.specs.Laws.{StepsAreARun, StepsAreWithin, FailuresAreReal};
 ghost use Rattle.bp_machine.specs.Setups.{threads};
 ghost use Rattle.bp_board.specs.declared.limits.TheConstants.{MAX_TURN};
@@ -15,7 +15,7 @@ use crate::run_faults::RunFault;
 use crate::scribes::write_rest;
 use crate::stages::{Crew, Staged, stage};
 use bp_board::{Board, Calls, Gathered, Seat, Tap, gather};
-use bp_code::Code;
+use bp_flat::Code;
 use bp_machine::{Report, Setup, failures_are_real, steps_are_a_run, steps_are_within};
 use std::alloc::Global;
 use std::io::Write;

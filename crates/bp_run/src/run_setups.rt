@@ -1,12 +1,12 @@
 //! The setup of a program under the options of a run.
 ghost use Rattle.std.specs.Prelude.{◌≡◌, ◌≤◌, ◌<◌, None, Some, IfOk, MatchResult};
 ghost use Rattle.bp_tree.specs.Ast.{Program};
-ghost use Rattle.bp_code.specs.StandsFor.{StandsFor};
+ghost use Rattle.bp_flat.specs.StandsFor.{StandsFor};
 ghost use Rattle.bp_machine.specs.Setups.{FitsCode};
 ghost use Rattle.bp_run.specs.Options.{setup_under, options_fault, IsOptionsRefusal, IsSetupUnder, FitsOptions, has_bad_turn_or_ring};
 
 use bp_board::limits::{MAX_RING, MAX_TURN};
-use bp_code::Code;
+use bp_flat::Code;
 use bp_machine::{Setup, SetupFault};
 use bp_tasks::RunOptions;
 use std::alloc::Global;

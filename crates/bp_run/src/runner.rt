@@ -1,7 +1,7 @@
 //! Running a program by real threads, one for each guest thread.
 ghost use Rattle.std.specs.Prelude.{◌≡◌, ◌≤◌, ◌<◌, map, true, is_some, IfOk, MatchResult};
 ghost use Rattle.bp_tree.specs.Ast.{Program};
-ghost use Rattle.bp_code.specs.StandsFor.{StandsFor};
+ghost use Rattle.bp_flat.specs.StandsFor.{StandsFor};
 ghost use Rattle.bp_machine.specs.Setups.{threads, FitsCode};
 ghost use Rattle.bp_board.specs.declared.limits.TheConstants.{MAX_TURN, MAX_RING};
 ghost use Rattle.bp_board.specs.Kits.{IsNamed};
@@ -15,7 +15,8 @@ use crate::playing::{OpenedBoard, play};
 use crate::run_faults::RunFault;
 use crate::run_setups::setup_under;
 use bp_board::{Board, Calls, Kit};
-use bp_code::{Code, code_of};
+use bp_code::code_of;
+use bp_flat::Code;
 use bp_machine::Setup;
 use bp_tasks::RunOptions;
 use std::alloc::{AllocError, Global};

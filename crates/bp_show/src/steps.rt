@@ -1,6 +1,6 @@
 //! The command `show --steps`.
-use bp_confirm::{own_steps, put_steps};
 use bp_commands::{TraceCommand, program_of};
+use bp_confirm::{own_steps, put_steps};
 use bp_machine::Report;
 use bp_messages::Fault;
 use std::alloc::Global;

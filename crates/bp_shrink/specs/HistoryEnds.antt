@@ -1,7 +1,7 @@
 -- How histories end.
 use Rattle.std.specs.Prelude.{◌≡◌, List}
 use Rattle.bp_tree.specs.Ast.{Program}
-use Rattle.bp_code.specs.StandsFor.{StandsFor}
+use Rattle.bp_flat.specs.StandsFor.{StandsFor}
 use Rattle.bp_machine.specs.declared.calls.Call.{Call}
 use Rattle.bp_machine.specs.declared.reports.Outcome.TheVariants.{Clean}
 use Rattle.bp_machine.specs.Deadlocks.{IsDeadlocked}

@@ -1,7 +1,7 @@
 -- Histories that end as another one does, and are no longer.
 use Rattle.std.specs.Prelude.{◌≡◌, ◌≤◌, ℕ, List, None, length}
 use Rattle.bp_tree.specs.Ast.{Program}
-use Rattle.bp_code.specs.StandsFor.{StandsFor}
+use Rattle.bp_flat.specs.StandsFor.{StandsFor}
 use Rattle.bp_machine.specs.declared.calls.Call.{Call}
 use Rattle.bp_machine.specs.declared.reports.Report.{Report}
 use Rattle.bp_machine.specs.Contexts.{IsLeastWithin}

@@ -1,6 +1,6 @@
 //! Driving calls again, in the memory of an earlier session.
 ghost use Rattle.std.specs.Prelude.{◌≡◌, IfOk, OnOk};
-ghost use Rattle.bp_code.specs.Programs.{IsOfProgram};
+ghost use Rattle.bp_flat.specs.Programs.{IsOfProgram};
 ghost use Rattle.bp_machine.specs.Sessions.{StandsForAll};
 ghost use Rattle.bp_machine.specs.Setups.{FitsCode};
 ghost use Rattle.bp_shrink.specs.Shrinks.{unseeded};

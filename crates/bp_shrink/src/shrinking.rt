@@ -1,7 +1,7 @@
 //! Shrinking a history that fails or ends in a deadlock.
 ghost use Rattle.std.specs.Prelude.{◌≡◌, ◌≤◌, None, IfOk, map};
 ghost use Rattle.bp_tree.specs.Ast.{Program};
-ghost use Rattle.bp_code.specs.StandsFor.{StandsFor};
+ghost use Rattle.bp_flat.specs.StandsFor.{StandsFor};
 ghost use Rattle.bp_machine.specs.Histories.{granted_calls, IsLegal};
 ghost use Rattle.bp_machine.specs.Reports.{IsReport};
 ghost use Rattle.bp_machine.specs.Setups.{setup_fault, FitsCode};
@@ -10,7 +10,7 @@ ghost use Rattle.bp_shrink.specs.Shrinks.{budgeted, IsDriven, IsShrunk, IsShrunk
 
 use crate::history_ends::HistoryEnd;
 use crate::searches::{Driven, Search, improve};
-use bp_code::Code;
+use bp_flat::Code;
 use bp_machine::{Call, Reply, Report, Session, Setup, open_lines, runs_are_histories};
 use std::alloc::{AllocError, Global};
 

@@ -4,9 +4,9 @@ use Rattle.std.proofs.lemmas.Bool.{false≢true}
 use Rattle.std.proofs.lemmas.List.{length-append}
 use Rattle.bp_tree.specs.Ast.{Name, Block, Done, Then, Statement, Skips, GoesTo, Returns, Assigns, Branches, Loops, Asserts, Assumes, Prints, Calls, Procedure}
 use Rattle.bp_tree.specs.Sizes.{block_size, size, procedures_size}
-use Rattle.bp_code.specs.Continuations.{chain}
-use Rattle.bp_code.specs.Flat.{Instruction}
-use Rattle.bp_code.specs.StandsFor.{Place, places, places_in, places_of}
+use Rattle.bp_flat.specs.Continuations.{chain}
+use Rattle.bp_flat.specs.Flat.{Instruction}
+use Rattle.bp_flat.specs.StandsFor.{Place, places, places_in, places_of}
 use Rattle.bp_source.specs.declared.source_statements.SourceStatement.{SourceStatement}
 use Rattle.bp_source.specs.JsonListings.{instruction_object, instruction_objects}
 use Rattle.bp_source.specs.SourceStatements.{AreSourceStatementsAt}

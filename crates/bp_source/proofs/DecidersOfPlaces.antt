@@ -7,9 +7,9 @@ use Rattle.bp_tree.specs.Depth.{depth, statement_depth}
 use Rattle.bp_tree.specs.declared.exprs.Decider.{Decider}
 use Rattle.bp_tree.specs.declared.stmts.Stmt.{Stmt}
 use Rattle.bp_tree.specs.Ast.{Name, Block, Done, Then, Statement, Skips, GoesTo, Returns, Assigns, Branches, Loops, Asserts, Assumes, Prints, Calls, Decision, Procedure}
-use Rattle.bp_code.specs.Continuations.{chain}
-use Rattle.bp_code.specs.StandsFor.{Place, places, places_in, places_of}
-use Rattle.bp_code.proofs.ListItems.{drop_item}
+use Rattle.bp_flat.specs.Continuations.{chain}
+use Rattle.bp_flat.specs.StandsFor.{Place, places, places_in, places_of}
+use Rattle.bp_flat.proofs.ListItems.{drop_item}
 use Rattle.bp_source.specs.Assertions.{decision_in, next_decision, block_decisions, inner_decisions, reading_of}
 
 abbrev pub asserted : List Place → List (Option Decision)

@@ -1,15 +1,15 @@
 -- A text begins with one lexeme, so a statement has one list of lexemes.
 use Rattle.std.proofs.Common.{◌≡◌, ◌∙◌, ◌==◌, ◌+◌, ◌⊎◌, ⊎_elim, inl, inr, ℕ, Bool, true, false, cond, List, [], ◌∷◌, Option, None, Some, length, take, drop, ap, ap₂, sym, refl, subst, arith, length-take}
 use Rattle.std.proofs.lemmas.Bool.{false≢true}
-use Rattle.bp_syntax.specs.Cut as cut
-use Rattle.bp_syntax.specs.Cut.{Fit, Brace, Bad, IsCut, fit, open_brace, bad_byte}
+use Rattle.bp_language.specs.Cut as cut
+use Rattle.bp_language.specs.Cut.{Fit, Brace, Bad, IsCut, fit, open_brace, bad_byte}
 use Rattle.bp_syntax.specs.FirstLexemes.{lexeme_of, TakesLexeme}
-use Rattle.bp_syntax.specs.declared.tokens.LexemeKind.{LexemeKind}
+use Rattle.bp_language.specs.declared.tokens.LexemeKind.{LexemeKind}
 use Rattle.bp_syntax.proofs.OneCut.{has_cut, one_cut}
 use Rattle.std.specs.List.{list_any}
 use Rattle.bp_tree.specs.Ast.{Procedure}
-use Rattle.bp_code.specs.StandsFor.{Place}
-use Rattle.bp_code.specs.Starts.{start_of_block}
+use Rattle.bp_flat.specs.StandsFor.{Place}
+use Rattle.bp_flat.specs.Starts.{start_of_block}
 use Rattle.bp_source.specs.SourceStatements.{AreStatements, IsStatementAt}
 use Rattle.bp_source.specs.Statements.{is_choice, is_ending, lexemes_text, HasLexemes, IsAtEnd, IsStatement, Lexeme, Takes, ends, ending, more, none_left}
 

@@ -1,7 +1,7 @@
 -- The positions of source statements are those of their places.
 use Rattle.std.proofs.Common.{◌≡◌, ℕ, List, [], ◌∷◌, map, refl, ap, ◌∙◌}
 use Rattle.bp_tree.specs.Ast.{Procedure}
-use Rattle.bp_code.specs.StandsFor.{Place}
+use Rattle.bp_flat.specs.StandsFor.{Place}
 use Rattle.bp_source.specs.declared.source_statements.SourceStatement.{SourceStatement}
 use Rattle.bp_source.specs.SourceStatements.{AreSourceStatementsAt}
 use Rattle.bp_source.specs.StatementLines.{position_of}

@@ -4,11 +4,11 @@ use Rattle.std.proofs.lemmas.Bool.{false≢true}
 use Rattle.std.proofs.lemmas.List.{take_more}
 use Rattle.std.proofs.lemmas.Option.{slice_get_within, get_or_from_slice_get}
 use Rattle.bp_tree.specs.Ast.{Procedure}
-use Rattle.bp_code.specs.StandsFor.{Place}
-use Rattle.bp_code.specs.Starts.{start_of_block}
+use Rattle.bp_flat.specs.StandsFor.{Place}
+use Rattle.bp_flat.specs.Starts.{start_of_block}
 use Rattle.bp_source.specs.declared.source_statements.SourceStatement.{SourceStatement}
 use Rattle.bp_source.specs.SourceStatements.{AreSourceStatementsAt, IsSourceStatement}
-use Rattle.bp_code.proofs.ProceduresOfPlaces.{starts}
+use Rattle.bp_flat.proofs.ProceduresOfPlaces.{starts}
 
 -- the place at which an instruction's statement begins
 pub record PlaceAt (xs : List Place) (i : ℕ) (start : Option ℕ) : Type 0 where

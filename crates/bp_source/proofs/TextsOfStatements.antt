@@ -1,7 +1,7 @@
 -- The texts of the source statements of a program.
 use Rattle.std.proofs.Common.{ℕ, List, [], ◌∷◌, map}
 use Rattle.bp_tree.specs.Ast.{Procedure}
-use Rattle.bp_code.specs.StandsFor.{Place}
+use Rattle.bp_flat.specs.StandsFor.{Place}
 use Rattle.bp_source.specs.declared.source_statements.SourceStatement.{SourceStatement}
 use Rattle.bp_source.specs.SourceStatements.{AreSourceStatementsAt, AreStatements}
 

@@ -3,10 +3,10 @@
 use Rattle.std.specs.Prelude.{◌≡◌, ℕ, suc, List, [], ◌∷◌, ◌++◌, codes, decimal, flat_map, length}
 use Rattle.std.specs.List.{concat}
 use Rattle.bp_tree.specs.Ast.{Procedure, Program}
-use Rattle.bp_code.specs.Flat.{Flat, Heading, Instruction}
-use Rattle.bp_code.specs.Kinds.{callee_of, instruction_kind, next_of, other_of}
-use Rattle.bp_code.specs.declared.instrs.Kind.{Kind}
-use Rattle.bp_code.specs.declared.instrs.Kind.TheVariants.{Skip, Goto, Return, Assign, If, While, Assert, Assume, Print, Call}
+use Rattle.bp_flat.specs.Flat.{Flat, Heading, Instruction}
+use Rattle.bp_flat.specs.Kinds.{callee_of, instruction_kind, next_of, other_of}
+use Rattle.bp_flat.specs.declared.instrs.Kind.{Kind}
+use Rattle.bp_flat.specs.declared.instrs.Kind.TheVariants.{Skip, Goto, Return, Assign, If, While, Assert, Assume, Print, Call}
 use Rattle.bp_source.specs.declared.source_statements.SourceStatement.{SourceStatement}
 use Rattle.bp_text.specs.JsonStrings.{string_text}
 use Rattle.bp_text.specs.Pieces.{key_text, list_text, number_or_null, string_or_null}

@@ -1,8 +1,8 @@
 -- What is shown of each instruction.
 use Rattle.std.specs.Prelude.{◌≡◌, ℕ, Bool, false, List, [], ◌∷◌, ◌++◌, Option, None, Some, codes, drop, map, option_map, slice_get}
 use Rattle.bp_tree.specs.Ast.{Procedure, Program}
-use Rattle.bp_code.specs.StandsFor.{Place, places_of}
-use Rattle.bp_code.specs.Starts.{start_of_block}
+use Rattle.bp_flat.specs.StandsFor.{Place, places_of}
+use Rattle.bp_flat.specs.Starts.{start_of_block}
 use Rattle.bp_source.specs.declared.source_statements.SourceStatement.{SourceStatement}
 use Rattle.bp_text.specs.OneLine.{IsOneLine, on_one_line}
 use Rattle.bp_text.specs.Positions.{position_at}

@@ -2,8 +2,8 @@
 use Rattle.std.specs.Prelude.{if◌then◌else◌, ◌≡◌, ◌||◌, ℕ, Bool, true, false, List, [], ◌∷◌, ◌++◌, Option, Some, codes, bytes_eq, map}
 use Rattle.std.specs.List.{list_any}
 use Rattle.bp_syntax.specs.FirstLexemes.{TakesLexeme}
-use Rattle.bp_syntax.specs.declared.tokens.LexemeKind.{LexemeKind}
-use Rattle.bp_syntax.specs.declared.tokens.LexemeKind.TheVariants.{White, Comment}
+use Rattle.bp_language.specs.declared.tokens.LexemeKind.{LexemeKind}
+use Rattle.bp_language.specs.declared.tokens.LexemeKind.TheVariants.{White, Comment}
 use Rattle.bp_text.specs.OneLine.{on_one_line}
 
 -- a lexeme: its kind, none for a byte that begins no lexeme, and its bytes

@@ -4,7 +4,7 @@ ghost use Rattle.std.specs.Prelude.{◌≡◌, ◌++◌, List, Some, ℕ, map, o
 ghost use Rattle.bp_tree.specs.Ast.{Procedure};
 ghost use Rattle.bp_tree.specs.Blocks.{block_of, statement_of};
 ghost use Rattle.bp_tree.specs.Views.{decision_of, expression_of};
-ghost use Rattle.bp_code.specs.StandsFor.{places_of, Place};
+ghost use Rattle.bp_flat.specs.StandsFor.{places_of, Place};
 ghost use Rattle.bp_source.specs.Assertions.{decision_in, next_decision, block_decisions, inner_decisions, names_after, reading_of, variables_read, with_name};
 
 use crate::names::is_named;

@@ -1,13 +1,13 @@
 //! The code of a program in JSON: its procedures, and its instructions with their source.
 ghost use Rattle.std.specs.Prelude.{◌≡◌, ◌++◌, ◌<◌, ◌^◌, flat_map, length, IfOk, OnOk};
-ghost use Rattle.bp_code.specs.StandsFor.{StandsFor};
+ghost use Rattle.bp_flat.specs.StandsFor.{StandsFor};
 ghost use Rattle.bp_source.specs.JsonListings.{code_object, heading_item, instruction_object, instruction_objects, operation_name, IsCodeInJson};
 
 use crate::json_places::{column_of, line_of, wide};
 use crate::procedures::name_at;
 use crate::source_statements::{SourceStatement, source_statements_of};
 use bp_check::Checked;
-use bp_code::{Code, Heading, Instr, Kind};
+use bp_flat::{Code, Heading, Instr, Kind};
 use bp_text::Piece::{Bytes, Key, List, Number, NumberOrNull, Text, TextOrNull};
 use bp_text::push_pieces;
 use bp_tree::Proc;

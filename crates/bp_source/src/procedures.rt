@@ -1,7 +1,7 @@
 //! The name of a procedure, and the procedure of an instruction.
 ghost use Rattle.std.specs.Prelude.{◌≡◌, List, Some, ℕ, option_map, slice_get};
 ghost use Rattle.bp_tree.specs.Ast.{Program};
-ghost use Rattle.bp_code.specs.StandsFor.{places_of, Place};
+ghost use Rattle.bp_flat.specs.StandsFor.{places_of, Place};
 ghost use Rattle.bp_source.specs.Procedures.{name_at};
 ghost use Rattle.bp_source.specs.SourceStatements.{AreSourceStatements};
 

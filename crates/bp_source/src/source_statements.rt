@@ -1,8 +1,8 @@
 //! What is shown of each instruction.
 ghost use Rattle.std.specs.Prelude.{◌≡◌, ℕ, List, None, Some, slice_get, IfOk};
 ghost use Rattle.bp_tree.specs.Ast.{Procedure};
-ghost use Rattle.bp_code.specs.StandsFor.{Place};
-ghost use Rattle.bp_code.specs.Starts.{start_of_block};
+ghost use Rattle.bp_flat.specs.StandsFor.{Place};
+ghost use Rattle.bp_flat.specs.Starts.{start_of_block};
 ghost use Rattle.bp_source.specs.Places.{place_text, position_text};
 ghost use Rattle.bp_text.specs.Positions.{position_at};
 ghost use Rattle.bp_source.specs.SourceStatements.{AreSourceStatements, IsSourceStatement};

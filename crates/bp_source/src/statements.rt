@@ -1,6 +1,6 @@
 //! The statements of a program: a line each, their texts, and where they begin.
 ghost use Rattle.std.specs.Prelude.{◌≡◌, ◌++◌, map, IfOk, OnOk};
-ghost use Rattle.bp_code.specs.StandsFor.{places_of};
+ghost use Rattle.bp_flat.specs.StandsFor.{places_of};
 ghost use Rattle.bp_source.specs.Said.{said_of, AreSaid};
 ghost use Rattle.bp_source.specs.SourceStatements.{AreStatements};
 ghost use Rattle.bp_source.specs.StatementLines.{line_of_statement, positions_of, AreStatementLines};

@@ -5,17 +5,10 @@ use Rattle.std.specs.Option.{option_copied, option_eq}
 use Rattle.std.proofs.lemmas.Option.{slice_get_past, slice_get_read}
 use Rattle.std.specs.List.{list_all}
 use Rattle.std.proofs.lemmas.Bool.{false≢true, eqb-true, eq-eqb, ltb-true, ltb-false}
-use Rattle.bp_syntax.specs.Tokens.{is_braced_byte, is_braced_rest, fits}
+use Rattle.bp_language.proofs.BothTrue.{both_left, both_right}
+use Rattle.bp_language.specs.Tokens.{is_braced_byte, is_braced_rest, fits}
 use Rattle.bp_syntax.specs.Lexer.{run, IsNameless}
-use Rattle.bp_syntax.specs.declared.tokens.LexemeKind.TheVariants as lexeme
-
-pub both_left : (a b : Bool) → a && b ≡ true → a ≡ true
-both_left true b e = refl
-both_left false b e = e
-
-pub both_right : (a b : Bool) → a && b ≡ true → b ≡ true
-both_right true b e = e
-both_right false b e = absurd (false≢true e)
+use Rattle.bp_language.specs.declared.tokens.LexemeKind.TheVariants as lexeme
 
 module _ (test : ℕ → Bool) (b : ℕ) (bs : List ℕ) where
   fits_by : (y : Bool) → test b ≡ y → list_all test (take (run test bs) bs) ≡ true → list_all test (take (cond y (suc (run test bs)) 0) (b ∷ bs)) ≡ true

@@ -2,9 +2,9 @@
 use Rattle.std.proofs.Common.{if◌then◌else◌, ◌≡◌, ◌≢◌, ◌∙◌, ◌==◌, ◌<◌, ◌≤◌, ℕ, ◌+◌, Bool, true, false, List, [], ◌∷◌, Option, None, Some, length, take, drop, refl, sym, subst, arith}
 use Rattle.std.proofs.lemmas.Bool.{false≢true, eqb-true}
 use Rattle.std.proofs.lemmas.Bool.Decides.{Decides-eqb}
-use Rattle.bp_syntax.specs.Cut.{Lexeme, Fit, Brace, Bad, IsCut, fit, open_brace, bad_byte, IsLongest, NoneFits}
+use Rattle.bp_language.specs.Cut.{Lexeme, Fit, Brace, Bad, IsCut, fit, open_brace, bad_byte, IsLongest, NoneFits}
 use Rattle.bp_syntax.specs.FirstLexemes.{lexeme_of, IsFirst, TakesLexeme}
-use Rattle.bp_syntax.specs.declared.tokens.LexemeKind.{LexemeKind}
+use Rattle.bp_language.specs.declared.tokens.LexemeKind.{LexemeKind}
 
 -- a byte with which no lexeme begins
 module _ (b : ℕ) (t : List ℕ) (none : NoneFits (b ∷ t)) (at : ℕ) (more : List Lexeme) (rest : IsCut (at + 1) t more) where

@@ -4,10 +4,10 @@ use Rattle.std.specs.Prelude.{nat_le}
 use Rattle.std.proofs.lemmas.Bool.{leb-true, leb-false}
 use Rattle.std.proofs.lemmas.List.{append-nil}
 use Rattle.bp_tree.proofs.GrownLists.{regrouped}
-use Rattle.bp_syntax.specs.declared.limits.TheConstants.{NESTING_LIMIT}
-use Rattle.bp_syntax.specs.Tokens.{Token}
+use Rattle.bp_language.specs.declared.limits.TheConstants.{NESTING_LIMIT}
+use Rattle.bp_language.specs.Tokens.{Token}
 use Rattle.bp_syntax.specs.Opens.{BreaksAt}
-use Rattle.bp_syntax.specs.Nesting.{depth_after, depth_from, IsShallow}
+use Rattle.bp_language.specs.Nesting.{depth_after, depth_from, IsShallow}
 use Rattle.bp_syntax.specs.DepthCount.{first_too_deep}
 use Rattle.bp_syntax.proofs.FirstTooMany.{cond_none, cond_some_at}
 

@@ -2,10 +2,10 @@
 use Rattle.std.proofs.Common.{◌≡◌, ℕ, ◌+◌, ◌<◌, ◌≤◌, Bool, true, false, cond, List, [], ◌∷◌, ◌++◌, length, Option, Some, None, refl, sym, ap, ◌∙◌, ◌⊎◌, inl, inr, ⊎_elim, length-append, arith, nat_lt}
 use Rattle.std.proofs.lemmas.Bool.{false≢true, ltb-true, ltb-false}
 use Rattle.bp_tree.proofs.GrownLists.{regrouped}
-use Rattle.bp_syntax.specs.declared.limits.TheConstants.{SUCCESSION_LIMIT}
-use Rattle.bp_syntax.specs.Tokens.{Token}
+use Rattle.bp_language.specs.declared.limits.TheConstants.{SUCCESSION_LIMIT}
+use Rattle.bp_language.specs.Tokens.{Token}
 use Rattle.bp_syntax.specs.Opens.{BreaksAt}
-use Rattle.bp_syntax.specs.Successions.{is_separator, NoSeparator, IsSparse}
+use Rattle.bp_language.specs.Successions.{is_separator, NoSeparator, IsSparse}
 use Rattle.bp_syntax.specs.SuccessionCount.{first_too_many}
 
 pub cond_none : (b : Bool) (o : Option ℕ) (n : ℕ) → cond b o (Some n) ≡ None → (b ≡ true) × (o ≡ None)

@@ -15,10 +15,6 @@ pub mod ExpressionsAreRead
 pub mod ProgramsAreRead
 pub mod StopIsSyntaxFault
 pub mod FewStatements
-pub mod NamesOfTokens
-pub mod OneProofOfNames
-pub mod ShortNames
-pub mod SpelledNames
 pub mod SpelledWords
 pub mod ResultByNextToken
 pub mod OneAnswer

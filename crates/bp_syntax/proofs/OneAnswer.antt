@@ -1,25 +1,26 @@
 -- A text has one answer: its tree, or its first fault.
-use Rattle.std.proofs.Common.{◌≡◌, ℕ, ◌≤◌, List, [], ◌∷◌, ◌++◌, length, take, Option, Some, None, Result, Ok, Err, refl, sym, ap, subst, ◌∙◌, ⊎_elim, arith, true}
+use Rattle.std.proofs.Common.{◌≡◌, ℕ, ◌≤◌, List, [], ◌∷◌, ◌++◌, length, Some, None, Result, Ok, Err, refl, sym, ap, subst, ◌∙◌, ⊎_elim, arith}
 use Rattle.std.specs.Prelude.{MatchResult, IsErrAnd}
 use Rattle.std.proofs.lemmas.Result.{err_from_is_err_and}
+use Rattle.bp_language.proofs.RealTokens.{all_real}
 use Rattle.bp_tree.proofs.GrownLists.{regrouped}
 use Rattle.bp_tree.specs.Ast.{Program}
-use Rattle.bp_syntax.specs.declared.limits.TheConstants.{TEXT_LIMIT}
-use Rattle.bp_syntax.specs.Tokens.{Token, fits, kind_of}
-use Rattle.bp_syntax.specs.Cut.{Lexeme, IsCut, ends, fit, open_brace, bad_byte, first_bad_byte, first_open_brace, tokens_of, with_token, HasTokens, HasBadByte, HasOpenName}
+use Rattle.bp_language.specs.declared.limits.TheConstants.{TEXT_LIMIT}
+use Rattle.bp_language.specs.Tokens.{Token}
+use Rattle.bp_language.specs.Cut.{first_bad_byte, first_open_brace, tokens_of, HasTokens, HasBadByte, HasOpenName}
 use Rattle.bp_syntax.specs.Lexer.{IsScanFault}
-use Rattle.bp_syntax.specs.Grammar.{Derives}
-use Rattle.bp_syntax.specs.Opens.{AllReal, Opens, BreaksAt, HasSyntaxFault}
-use Rattle.bp_syntax.specs.Nesting.{IsShallow}
+use Rattle.bp_language.specs.Grammar.{Derives}
+use Rattle.bp_language.specs.Tokens.{AllReal}
+use Rattle.bp_syntax.specs.Opens.{Opens, BreaksAt, HasSyntaxFault}
+use Rattle.bp_language.specs.Nesting.{IsShallow}
 use Rattle.bp_syntax.specs.DepthCount.{first_too_deep}
-use Rattle.bp_syntax.specs.Successions.{IsSparse}
+use Rattle.bp_language.specs.Successions.{IsSparse}
 use Rattle.bp_syntax.specs.SuccessionCount.{first_too_many}
 use Rattle.bp_syntax.specs.ParserState.{whole_program, parse_result, Got, place_or, IsParseFault}
-use Rattle.bp_syntax.specs.Texts.{IsTextOf, IsRefusal}
+use Rattle.bp_language.specs.Texts.{IsTextOf}
+use Rattle.bp_syntax.specs.Refusals.{IsRefusal}
 use Rattle.bp_syntax.specs.declared.faults.ReadFault.{ReadFault}
 use Rattle.bp_syntax.specs.declared.faults.ReadFault.TheVariants as fault
-use Rattle.bp_syntax.specs.declared.tokens.TokenKind.{TokenKind}
-use Rattle.bp_syntax.specs.declared.tokens.LexemeKind.{LexemeKind}
 use Rattle.bp_syntax.proofs.OneCut.{one_cut}
 use Rattle.bp_syntax.proofs.FirstTooMany.{none_is_sparse, some_is_crowded}
 use Rattle.bp_syntax.proofs.ProgramsAreRead.{one_tree}
@@ -39,19 +40,6 @@ pub closed_or_open : (text : List ℕ) (ts : List Token) (at : ℕ) → HasToken
 closed_or_open text ts at a b =
     let e : None ≡ Some at = sym a.closed ∙ ap first_open_brace (one_cut 0 text a.lexemes b.lexemes a.cut b.cut) ∙ b.unclosed in
     cc
-
-real_and : (k : LexemeKind) (o : Option TokenKind) (at : ℕ) (bytes : List ℕ) (ts : List Token) → fits k bytes ≡ true
-    → kind_of k bytes ≡ o → AllReal ts → AllReal (with_token o at bytes ts)
-real_and k None at bytes ts f e r = r
-real_and k (Some kd) at bytes ts f e r = (record { lexeme = k; fits = f; spells = e }, r)
-
--- the tokens of a text are real
-pub all_real : {at : ℕ} {s : List ℕ} {ps : List Lexeme} → IsCut at s ps → AllReal (tokens_of ps)
-all_real ends = tt
-all_real (fit {at = at} {n = n} {text = s} {kind = k} {more = ps} l c) =
-    real_and k (kind_of k (take n s)) at (take n s) (tokens_of ps) l.is_lexeme refl (all_real c)
-all_real (open_brace none is c) = all_real c
-all_real (bad_byte none never c) = all_real c
 
 pub real_rest : (front rest : List Token) → AllReal (front ++ rest) → AllReal rest
 real_rest [] rest r = r

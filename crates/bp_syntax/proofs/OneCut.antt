@@ -1,12 +1,12 @@
 -- Each text has one cut.
 use Rattle.std.proofs.Common.{◌≡◌, ℕ, zero, suc, ◌+◌, ◌<◌, ◌≤◌, ⊎_elim, true, List, [], ◌∷◌, length, take, drop, Some, refl, sym, ap, subst, arith, length-drop}
 use Rattle.std.proofs.lemmas.Bool.{cases_lt}
-use Rattle.bp_syntax.specs.Tokens.{fits}
+use Rattle.bp_language.specs.Tokens.{fits}
 use Rattle.bp_syntax.specs.Lexer.{IsFirstLexeme}
-use Rattle.bp_syntax.specs.Cut.{IsLongest, NoneFits, Lexeme, Fit, Brace, Bad, IsCut, ends, fit, open_brace, bad_byte}
+use Rattle.bp_language.specs.Cut.{IsLongest, NoneFits, Lexeme, Fit, Brace, Bad, IsCut, ends, fit, open_brace, bad_byte}
 use Rattle.bp_syntax.specs.declared.lexemes.FirstLexeme.{FirstLexeme}
 use Rattle.bp_syntax.specs.declared.lexemes.FirstLexeme.TheVariants as first
-use Rattle.bp_syntax.specs.declared.tokens.LexemeKind.{LexemeKind}
+use Rattle.bp_language.specs.declared.tokens.LexemeKind.{LexemeKind}
 use Rattle.bp_syntax.proofs.LongestLexeme.{has_front, kind_by_first}
 
 -- two longest lexemes of one text are one

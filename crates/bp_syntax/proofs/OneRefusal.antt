@@ -2,18 +2,20 @@
 use Rattle.std.proofs.Common.{◌≡◌, ◌≢◌, ◌⊎◌, ℕ, ◌<◌, List, [], ◌∷◌, ◌++◌, None, Some, refl, inl, inr, sym, ap, subst, ◌∙◌, arith}
 use Rattle.std.proofs.lemmas.Bool.{cases_lt}
 use Rattle.bp_tree.proofs.GrownLists.{regrouped}
-use Rattle.bp_syntax.specs.Tokens.{Token}
-use Rattle.bp_syntax.specs.Cut.{first_bad_byte, first_open_brace, HasTokens, HasBadByte, HasOpenName}
+use Rattle.bp_language.specs.Tokens.{Token}
+use Rattle.bp_language.specs.Cut.{first_bad_byte, first_open_brace, HasTokens, HasBadByte, HasOpenName}
 use Rattle.bp_syntax.specs.Faults.{read_fault_number}
-use Rattle.bp_syntax.specs.Nesting.{IsShallow}
-use Rattle.bp_syntax.specs.Opens.{AllReal, Opens, BreaksAt, HasSyntaxFault}
-use Rattle.bp_syntax.specs.Successions.{IsSparse}
-use Rattle.bp_syntax.specs.Texts.{IsRefusal}
+use Rattle.bp_language.specs.Nesting.{IsShallow}
+use Rattle.bp_language.specs.Tokens.{AllReal}
+use Rattle.bp_syntax.specs.Opens.{Opens, BreaksAt, HasSyntaxFault}
+use Rattle.bp_language.specs.Successions.{IsSparse}
+use Rattle.bp_syntax.specs.Refusals.{IsRefusal}
 use Rattle.bp_syntax.specs.declared.faults.ReadFault.{ReadFault}
 use Rattle.bp_syntax.specs.declared.faults.ReadFault.TheVariants as fault
 use Rattle.bp_syntax.proofs.FirstTooDeep.{shallow_front}
 use Rattle.bp_syntax.proofs.OneCut.{one_cut}
-use Rattle.bp_syntax.proofs.OneAnswer.{same_tokens, good_or_bad, closed_or_open, real_rest, all_real, sparse_front, shallow_or_nested, sparse_or_crowded}
+use Rattle.bp_syntax.proofs.OneAnswer.{same_tokens, good_or_bad, closed_or_open, real_rest, sparse_front, shallow_or_nested, sparse_or_crowded}
+use Rattle.bp_language.proofs.RealTokens.{all_real}
 
 -- two places in one list: they are one, or one comes before the other
 places : (f g : List Token) (x y : Token) (r s : List Token)

@@ -5,13 +5,13 @@ use denote.Enum.Bare.{true_same}
 use Rattle.bp_tree.specs.Ast.{Name, Expression, Operation, Decision, Choose, Decide, Block, Done, Statement, Procedure}
 use Rattle.bp_tree.specs.declared.exprs.Op.{Op}
 use Rattle.bp_tree.specs.declared.exprs.Op.TheVariants as op
-use Rattle.bp_syntax.specs.Tokens.{Token}
-use Rattle.bp_syntax.specs.Grammar.{name_of}
+use Rattle.bp_language.specs.Tokens.{Token}
+use Rattle.bp_language.specs.Grammar.{name_of}
 use Rattle.bp_syntax.specs.ParserState.{is_same_kind, Wanted, WordThen, NameThen, MoreNames, AnyNamesThen, UnThen, MoreOperands, MoreImplied, MoreExprs, AnyExprsThen, DeciderThen, FormThen, StmtThen, MoreStmts, MoreDecls, MoreProcs, NamesThen, ExprThen, ExprsThen, StmtsThen, OperandThen, BodyThen, ProcThen, wanted_in_un, wanted_in_form, wanted_in_stmt, operator, wanted_by_operator, wanted_after, Stops, result_after, parse_result, is_at, is_at_form, is_at_expr, operator_ahead, kind_ahead, CallThen, AssignThen, ArgumentsThen, TargetsThen}
 use Rattle.bp_syntax.specs.declared.parser.operators.Precedence.{Precedence}
-use Rattle.bp_syntax.specs.declared.tokens.TokenKind.{TokenKind}
-use Rattle.bp_syntax.specs.declared.tokens.TokenKind.TheVariants as kind
-use Rattle.bp_syntax.specs.contracts.tokens.TokenKind.{the_type}
+use Rattle.bp_language.specs.declared.tokens.TokenKind.{TokenKind}
+use Rattle.bp_language.specs.declared.tokens.TokenKind.TheVariants as kind
+use Rattle.bp_language.specs.contracts.tokens.TokenKind.{the_type}
 
 pub yes : (x : Token) (k : TokenKind) → x.kind ≡ k → is_same_kind x.kind k ≡ true
 yes x k h = true_same the_type x.kind k h

@@ -7,12 +7,12 @@ use Rattle.bp_tree.specs.Ast.{Name, Expression, Variable, Operation, Block, Done
 use Rattle.bp_tree.specs.declared.exprs.Op.TheVariants as op
 use Rattle.bp_tree.specs.declared.stmts.Stmt.{Stmt}
 use Rattle.bp_tree.specs.Blocks.{statement_of, block_of}
-use Rattle.bp_syntax.specs.Tokens.{Token}
-use Rattle.bp_syntax.specs.Grammar.{name_of}
+use Rattle.bp_language.specs.Tokens.{Token}
+use Rattle.bp_language.specs.Grammar.{name_of}
 use Rattle.bp_syntax.specs.ParserState.{Wanted, WordThen, NameThen, UnThen, MoreImplied, FormThen, StmtThen, MoreStmts, ExprThen, AssignThen, CallThen, is_at, kind_ahead, place_ahead, ParseResult, Stops, result_after, parse_result, wanted_in_form, IsStop, ReadsBy}
 use Rattle.bp_syntax.specs.declared.parser.Stop.{Stop}
-use Rattle.bp_syntax.specs.declared.tokens.TokenKind.{TokenKind}
-use Rattle.bp_syntax.specs.declared.tokens.TokenKind.TheVariants as kind
+use Rattle.bp_language.specs.declared.tokens.TokenKind.{TokenKind}
+use Rattle.bp_language.specs.declared.tokens.TokenKind.TheVariants as kind
 use Rattle.bp_syntax.proofs.NextTokenIsWanted.{same}
 use Rattle.bp_syntax.proofs.ResultAfterToken.{read_word, read_name, read_implies, at_kind_un, at_kind_form, read_label, call_ahead, assign_ahead}
 

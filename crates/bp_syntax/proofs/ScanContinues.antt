@@ -1,15 +1,15 @@
 -- The cut of the rest continues the scan so far, also behind one more lexeme.
 use Rattle.std.proofs.Common.{◌≡◌, ℕ, ◌+◌, List, [], ◌∷◌, ◌++◌, length, take, drop, Option, Some, None, refl, sym, ap, subst, ◌∙◌, arith, ◌<◌, ◌≢◌, ◌-◌, length-drop, slice_get}
 use Rattle.std.proofs.lemmas.List.{append-nil}
-use Rattle.bp_syntax.specs.Tokens.{kind_of, Token}
+use Rattle.bp_language.specs.Tokens.{kind_of, Token}
 use Rattle.bp_syntax.specs.Lexer.{IsNameless, IsFirstLexeme}
 use Rattle.bp_syntax.specs.declared.lexemes.FirstLexeme.TheVariants as first
 use Rattle.bp_syntax.proofs.BracedNames.{nameless_rest}
 use Rattle.std.specs.Option.{option_or}
 use Rattle.bp_tree.proofs.GrownLists.{regrouped}
-use Rattle.bp_syntax.specs.Cut.{IsLongest, Lexeme, Fit, Brace, Bad, IsCut, fit, open_brace, bad_byte, ends, first_bad_byte, first_open_brace, tokens_of, with_token, NoneFits, HasTokens, HasBadByte, HasOpenName}
-use Rattle.bp_syntax.specs.declared.tokens.TokenKind.{TokenKind}
-use Rattle.bp_syntax.specs.declared.tokens.LexemeKind.{LexemeKind}
+use Rattle.bp_language.specs.Cut.{IsLongest, Lexeme, Fit, Brace, Bad, IsCut, fit, open_brace, bad_byte, ends, first_bad_byte, first_open_brace, tokens_of, with_token, NoneFits, HasTokens, HasBadByte, HasOpenName}
+use Rattle.bp_language.specs.declared.tokens.TokenKind.{TokenKind}
+use Rattle.bp_language.specs.declared.tokens.LexemeKind.{LexemeKind}
 use Rattle.bp_syntax.proofs.OneCut.{has_cut}
 
 -- whatever the cut of the rest is, it goes on the tokens so far, and the first open brace

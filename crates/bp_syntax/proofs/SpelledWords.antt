@@ -2,7 +2,7 @@
 use Rattle.std.proofs.Common.{◌≡◌, ◌<◌, ◌+◌, ℕ, List, true, false, Option, Some, bytes_eq, drop, get_or, length, map, refl}
 use Rattle.std.proofs.lemmas.List.{drop_more}
 use Rattle.std.specs.Map.{lookup}
-use Rattle.bp_syntax.specs.declared.tokens.TokenKind.{TokenKind}
+use Rattle.bp_language.specs.declared.tokens.TokenKind.{TokenKind}
 use Rattle.bp_syntax.specs.Spellings.{spelling}
 
 abbrev pub spelled : TokenKind → List ℕ × TokenKind

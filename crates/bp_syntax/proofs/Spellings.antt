@@ -1,10 +1,10 @@
 -- Each kind of token has a spelling.
 use Rattle.std.proofs.Common.{◌≡◌, ℕ, List, refl, sym, subst}
-use Rattle.bp_syntax.specs.Tokens.{Token, IsReal}
+use Rattle.bp_language.specs.Tokens.{Token, IsReal}
 use Rattle.bp_syntax.specs.Spellings.{spelling, some_token}
-use Rattle.bp_syntax.specs.declared.tokens.TokenKind.{TokenKind}
-use Rattle.bp_syntax.specs.declared.tokens.TokenKind.TheVariants as kind
-use Rattle.bp_syntax.specs.declared.tokens.LexemeKind.TheVariants as lexeme
+use Rattle.bp_language.specs.declared.tokens.TokenKind.{TokenKind}
+use Rattle.bp_language.specs.declared.tokens.TokenKind.TheVariants as kind
+use Rattle.bp_language.specs.declared.tokens.LexemeKind.TheVariants as lexeme
 
 pub some_real : (k : TokenKind) → IsReal (some_token k)
 some_real kind.Name = record { lexeme = lexeme.Identifier; fits = refl; spells = refl }

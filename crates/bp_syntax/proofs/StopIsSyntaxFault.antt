@@ -3,8 +3,8 @@ use Rattle.std.proofs.Common.{◌≡◌, ℕ, List, [], ◌∷◌, ◌++◌, Opt
 use Rattle.std.proofs.lemmas.List.{append-nil}
 use Rattle.bp_tree.proofs.GrownLists.{regrouped}
 use Rattle.bp_tree.specs.Ast.{Program}
-use Rattle.bp_syntax.specs.Tokens.{Token}
-use Rattle.bp_syntax.specs.Grammar.{Derives, program}
+use Rattle.bp_language.specs.Tokens.{Token}
+use Rattle.bp_language.specs.Grammar.{Derives, program}
 use Rattle.bp_syntax.specs.Opens.{Opens, HasSyntaxFault}
 use Rattle.bp_syntax.specs.ParserState.{Wanted, wanted_after, program_at_end, Got, Stops, result_at_end, result_after, parse_result, whole_program}
 use Rattle.bp_syntax.proofs.WantedPhrases.{Needs, complete, decls, procs}

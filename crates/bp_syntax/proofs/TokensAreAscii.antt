@@ -5,11 +5,11 @@ use Rattle.std.proofs.lemmas.Bool.{false≢true, eqb-true}
 use Rattle.std.proofs.lemmas.Bool.Decides.{nat_tests}
 use Rattle.std.proofs.lemmas.Str.{IsUtf8-from_ascii}
 use Rattle.std.specs.Str.{IsAscii, IsUtf8}
-use Rattle.bp_syntax.specs.Tokens.{is_letter, is_word_byte, is_braced_byte, is_braced_rest, fits, constants, symbols, long_symbols, kind_of}
-use Rattle.bp_syntax.specs.declared.tokens.TokenKind.{TokenKind}
-use Rattle.bp_syntax.specs.declared.tokens.LexemeKind.{LexemeKind}
-use Rattle.bp_syntax.specs.declared.tokens.LexemeKind.TheVariants as lexeme
-use Rattle.bp_syntax.proofs.BracedNames.{both_left, both_right}
+use Rattle.bp_language.specs.Tokens.{is_letter, is_word_byte, is_braced_byte, is_braced_rest, fits, constants, symbols, long_symbols, kind_of}
+use Rattle.bp_language.specs.declared.tokens.TokenKind.{TokenKind}
+use Rattle.bp_language.specs.declared.tokens.LexemeKind.{LexemeKind}
+use Rattle.bp_language.specs.declared.tokens.LexemeKind.TheVariants as lexeme
+use Rattle.bp_language.proofs.BothTrue.{both_left, both_right}
 use Rattle.bp_syntax.proofs.LongestLexeme.{found, keyed}
 
 ascii_cons : (b : ℕ) (bs : List ℕ) → b < 128 → IsAscii bs → IsAscii (b ∷ bs)
@@ -54,7 +54,8 @@ lexeme_ascii lexeme.Constant (b ∷ []) kd h e = ascii_cons b [] (keyed (λ x. x
 lexeme_ascii lexeme.Constant (b ∷ c ∷ bs) kd h e = absurd (false≢true h)
 lexeme_ascii lexeme.Symbol [] kd h e = absurd (false≢true h)
 lexeme_ascii lexeme.Symbol (b ∷ []) kd h e =
-    ascii_cons b [] (keyed (λ x. x < 128) b symbols (omega arith, (omega arith, (omega arith, (omega arith, (omega arith, (omega arith, (omega arith, (omega arith, (omega arith, (omega arith, (omega arith, tt))))))))))) h) nil_ascii
+    ascii_cons b [] (keyed (λ x. x < 128) b symbols
+    (omega arith, (omega arith, (omega arith, (omega arith, (omega arith, (omega arith, (omega arith, (omega arith, (omega arith, (omega arith, (omega arith, tt))))))))))) h) nil_ascii
 lexeme_ascii lexeme.Symbol (b ∷ c ∷ []) kd h e =
     let f = found (λ (p : ℕ × ℕ). nat_eq b p.0 && nat_eq c p.1) (λ p. (p.0 < 128) × (p.1 < 128)) long_symbols
     ((omega arith, omega arith), ((omega arith, omega arith), ((omega arith, omega arith), tt))) h in

@@ -2,11 +2,11 @@
 use Rattle.std.proofs.Common.{List, [], ◌∷◌, None, refl, sym, subst, false}
 use Rattle.std.proofs.lemmas.List.{append-nil}
 use Rattle.bp_tree.specs.Ast.{Constant, Choose, Done, Skips, Assigns, Program}
-use Rattle.bp_syntax.specs.Tokens.{Token}
-use Rattle.bp_syntax.specs.Grammar.{name_of, one_name, no_names, of_or, of_xor, of_and, of_eq, of_un, of_atom, constant_0, one_expr, no_exprs, choice, skip, assignment, unlabelled, no_decl, no_proc, IsExprs, first_word, first_name}
-use Rattle.bp_syntax.specs.Opens.{AllReal}
+use Rattle.bp_language.specs.Tokens.{Token}
+use Rattle.bp_language.specs.Grammar.{name_of, one_name, no_names, of_or, of_xor, of_and, of_eq, of_un, of_atom, constant_0, one_expr, no_exprs, choice, skip, assignment, unlabelled, no_decl, no_proc, IsExprs, first_word, first_name}
+use Rattle.bp_language.specs.Tokens.{AllReal}
 use Rattle.bp_syntax.specs.ParserState.{Wanted, Complete, WordThen, NameThen, MoreNames, AnyNamesThen, UnThen, MoreOperands, MoreImplied, MoreExprs, AnyExprsThen, DeciderThen, FormThen, FormAfter, StmtThen, StmtAfter, MoreStmts, MoreDecls, MoreProcs}
-use Rattle.bp_syntax.specs.declared.tokens.TokenKind.TheVariants as kind
+use Rattle.bp_language.specs.declared.tokens.TokenKind.TheVariants as kind
 use Rattle.bp_syntax.specs.Spellings.{some_token}
 use Rattle.bp_syntax.proofs.Spellings.{some_real}
 use Rattle.bp_syntax.proofs.WantedPhrases.{Needs, complete, word, name, names, any_names, un, operands, implied, exprs, any_exprs, decider, form, form_after, stmt, stmt_after, stmts, decls, procs, no_more_names, no_more_exprs, no_more_stmts, no_more_operands, nothing_implied}

@@ -4,13 +4,13 @@ use Rattle.bp_tree.proofs.GrownLists.{regrouped}
 use Rattle.bp_tree.specs.Ast.{Name, Expression, Operation, Decision, Block, Done, Then, Statement, Procedure, Program}
 use Rattle.bp_tree.specs.declared.exprs.Op.{Op}
 use Rattle.bp_tree.specs.declared.exprs.Op.TheVariants as op
-use Rattle.bp_syntax.specs.Tokens.{Token}
-use Rattle.bp_syntax.specs.Grammar.{name_of, IsNames, one_name, more_names, IsAnyNames, IsExpr, of_or, implication, IsOr, of_xor, disjunction, IsXor, of_and, exclusion, IsAnd, of_eq, conjunction, IsEq, of_un, equality, difference, IsUn, IsExprs, one_expr, more_exprs, IsAnyExprs, IsDecider, IsForm, IsStmt, IsStmts, one_stmt, more_stmts, IsDecls, IsProcs, first_word, first_name}
+use Rattle.bp_language.specs.Tokens.{Token}
+use Rattle.bp_language.specs.Grammar.{name_of, IsNames, one_name, more_names, IsAnyNames, IsExpr, of_or, implication, IsOr, of_xor, disjunction, IsXor, of_and, exclusion, IsAnd, of_eq, conjunction, IsEq, of_un, equality, difference, IsUn, IsExprs, one_expr, more_exprs, IsAnyExprs, IsDecider, IsForm, IsStmt, IsStmts, one_stmt, more_stmts, IsDecls, IsProcs, first_word, first_name}
 use Rattle.bp_syntax.specs.ParserState.{Wanted, Complete, WordThen, NameThen, MoreNames, AnyNamesThen, UnThen, MoreOperands, MoreImplied, MoreExprs, AnyExprsThen, DeciderThen, FormThen, FormAfter, StmtThen, StmtAfter, MoreStmts, MoreDecls, MoreProcs, NamesThen, ExprThen, ExprsThen, OperandThen, operator}
 use Rattle.bp_syntax.specs.declared.parser.operators.Precedence.{Precedence}
 use Rattle.bp_syntax.specs.declared.parser.operators.Precedence.TheVariants.{Equality, Conjunction, Exclusion, Disjunction}
-use Rattle.bp_syntax.specs.declared.tokens.TokenKind.{TokenKind}
-use Rattle.bp_syntax.specs.declared.tokens.TokenKind.TheVariants as kind
+use Rattle.bp_language.specs.declared.tokens.TokenKind.{TokenKind}
+use Rattle.bp_language.specs.declared.tokens.TokenKind.TheVariants as kind
 
 -- an operand of the operators of a strength, and operands with such operators between them
 abbrev pub IsOperand : Precedence → List Token → Expression → List Token → Type 0

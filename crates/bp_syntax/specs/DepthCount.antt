@@ -1,8 +1,8 @@
 -- A device: the count of the depth as the code does it. No public contract names it.
 use Rattle.std.specs.Prelude.{ℕ, if◌then◌else◌, nat_le, List, [], ◌∷◌, Option, Some, None}
-use Rattle.bp_syntax.specs.declared.limits.TheConstants.{NESTING_LIMIT}
-use Rattle.bp_syntax.specs.Tokens.{Token}
-use Rattle.bp_syntax.specs.Nesting.{depth_after}
+use Rattle.bp_language.specs.declared.limits.TheConstants.{NESTING_LIMIT}
+use Rattle.bp_language.specs.Tokens.{Token}
+use Rattle.bp_language.specs.Nesting.{depth_after}
 
 -- the place of the first token that goes too deep, where the depth is n before these
 abbrev pub first_too_deep : ℕ → List Token → Option ℕ

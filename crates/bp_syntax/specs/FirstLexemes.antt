@@ -1,7 +1,7 @@
 -- The first lexeme of a text, and the cut that begins with it.
 use Rattle.std.specs.Prelude.{if◌then◌else◌, ◌≡◌, ◌<◌, ◌≤◌, ◌==◌, ℕ, ◌+◌, List, [], ◌∷◌, Option, None, Some, length, take, drop}
-use Rattle.bp_syntax.specs.Cut.{Lexeme, Fit, Brace, Bad, IsCut, IsLongest, NoneFits}
-use Rattle.bp_syntax.specs.declared.tokens.LexemeKind.{LexemeKind}
+use Rattle.bp_language.specs.Cut.{Lexeme, Fit, Brace, Bad, IsCut, IsLongest, NoneFits}
+use Rattle.bp_language.specs.declared.tokens.LexemeKind.{LexemeKind}
 
 -- the lexeme of these bytes at a place: a lexeme of this kind, or a byte where none fits
 abbrev pub lexeme_of : Option LexemeKind → ℕ → List ℕ → Lexeme

@@ -1,10 +1,11 @@
 -- Laws of texts, of the scan and of the grammar.
 use Rattle.std.specs.Prelude.{◌≡◌, ◌≢◌, ℕ, List, All}
 use Rattle.bp_tree.specs.Ast.{Program}
-use Rattle.bp_syntax.specs.Tokens.{Token, IsSpelled}
-use Rattle.bp_syntax.specs.Cut.{Lexeme, IsCut}
-use Rattle.bp_syntax.specs.Grammar.{Derives}
-use Rattle.bp_syntax.specs.Texts.{IsTextOf, IsRefusal}
+use Rattle.bp_language.specs.Tokens.{Token, IsSpelled}
+use Rattle.bp_language.specs.Cut.{Lexeme, IsCut}
+use Rattle.bp_language.specs.Grammar.{Derives}
+use Rattle.bp_language.specs.Texts.{IsTextOf}
+use Rattle.bp_syntax.specs.Refusals.{IsRefusal}
 use Rattle.bp_syntax.specs.declared.faults.ReadFault.{ReadFault}
 use Rattle.bp_syntax.specs.declared.faults.ReadFault.TheVariants.{Memory}
 

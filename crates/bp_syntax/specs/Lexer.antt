@@ -1,13 +1,13 @@
 -- A device: the lexer as the code does it. No public contract names it.
 use Rattle.std.specs.Prelude.{◌≡◌, ◌≢◌, ◌<◌, ℕ, suc, Bool, true, false, if◌then◌else◌, ◌==◌, is_some, List, [], ◌∷◌, Option, Some, None, take, drop, slice_get}
-use Rattle.bp_syntax.specs.Tokens.{is_white, is_letter, is_word_byte, is_comment_byte, is_braced_byte, constant, symbol, long_symbol, fits}
-use Rattle.bp_syntax.specs.Cut.{IsLongest, NoneFits, HasBadByte, HasOpenName}
+use Rattle.bp_language.specs.Tokens.{is_white, is_letter, is_word_byte, is_comment_byte, is_braced_byte, constant, symbol, long_symbol, fits}
+use Rattle.bp_language.specs.Cut.{IsLongest, NoneFits, HasBadByte, HasOpenName}
 use Rattle.bp_syntax.specs.declared.faults.ReadFault.{ReadFault}
 use Rattle.bp_syntax.specs.declared.faults.ReadFault.TheVariants as fault
 use Rattle.bp_syntax.specs.declared.lexemes.FirstLexeme.{FirstLexeme}
 use Rattle.bp_syntax.specs.declared.lexemes.FirstLexeme.TheVariants as first
-use Rattle.bp_syntax.specs.declared.tokens.LexemeKind.{LexemeKind}
-use Rattle.bp_syntax.specs.declared.tokens.LexemeKind.TheVariants as lexeme
+use Rattle.bp_language.specs.declared.tokens.LexemeKind.{LexemeKind}
+use Rattle.bp_language.specs.declared.tokens.LexemeKind.TheVariants as lexeme
 
 -- a lexeme of the kind, once begun, continues with such bytes
 abbrev pub is_continuation : LexemeKind → ℕ → Bool

@@ -1,12 +1,8 @@
 -- Tokens that begin a program, and where tokens stop doing so.
 use Rattle.std.specs.Prelude.{◌≡◌, ℕ, List, [], ◌∷◌, ◌++◌, ◌⊎◌, length}
 use Rattle.bp_tree.specs.Ast.{Program}
-use Rattle.bp_syntax.specs.Tokens.{Token, IsReal}
-use Rattle.bp_syntax.specs.Grammar.{Derives}
-
-abbrev pub AllReal : List Token → Type 0
-AllReal [] = Unit {0}
-AllReal (t ∷ ts) = IsReal t × AllReal ts
+use Rattle.bp_language.specs.Tokens.{Token, AllReal}
+use Rattle.bp_language.specs.Grammar.{Derives}
 
 -- a program of the grammar begins with these tokens
 pub record Opens (ts : List Token) : Type 0 where

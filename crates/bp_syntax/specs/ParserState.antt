@@ -5,11 +5,11 @@ use denote.Enum.Bare.{sameb}
 use Rattle.bp_tree.specs.Ast.{Name, Expression, Constant, Variable, Negation, Operation, Decision, Choose, Decide, Block, Done, Then, Statement, Skips, GoesTo, Returns, Assigns, Branches, Loops, Asserts, Assumes, Prints, Calls, Procedure, Program}
 use Rattle.bp_tree.specs.declared.exprs.Op.{Op}
 use Rattle.bp_tree.specs.declared.exprs.Op.TheVariants as op
-use Rattle.bp_syntax.specs.Tokens.{Token}
-use Rattle.bp_syntax.specs.Grammar.{name_of}
-use Rattle.bp_syntax.specs.declared.tokens.TokenKind.{TokenKind}
-use Rattle.bp_syntax.specs.declared.tokens.TokenKind.TheVariants as kind
-use Rattle.bp_syntax.specs.contracts.tokens.TokenKind.{the_type}
+use Rattle.bp_language.specs.Tokens.{Token}
+use Rattle.bp_language.specs.Grammar.{name_of}
+use Rattle.bp_language.specs.declared.tokens.TokenKind.{TokenKind}
+use Rattle.bp_language.specs.declared.tokens.TokenKind.TheVariants as kind
+use Rattle.bp_language.specs.contracts.tokens.TokenKind.{the_type}
 use Rattle.bp_syntax.specs.declared.faults.ReadFault.{ReadFault}
 use Rattle.bp_syntax.specs.declared.faults.ReadFault.TheVariants as fault
 use Rattle.bp_syntax.specs.declared.parser.operators.Precedence.{Precedence}

@@ -1,8 +1,8 @@
 -- A device: the count of tokens in succession as the code does it. No public contract names it.
 use Rattle.std.specs.Prelude.{ℕ, ◌+◌, if◌then◌else◌, nat_lt, List, [], ◌∷◌, Option, Some, None}
-use Rattle.bp_syntax.specs.declared.limits.TheConstants.{SUCCESSION_LIMIT}
-use Rattle.bp_syntax.specs.Tokens.{Token}
-use Rattle.bp_syntax.specs.Successions.{is_separator}
+use Rattle.bp_language.specs.declared.limits.TheConstants.{SUCCESSION_LIMIT}
+use Rattle.bp_language.specs.Tokens.{Token}
+use Rattle.bp_language.specs.Successions.{is_separator}
 
 -- the place of the first token too many, where this many come before these
 abbrev pub first_too_many : ℕ → List Token → Option ℕ

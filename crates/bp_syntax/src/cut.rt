@@ -1,10 +1,10 @@
 //! The lexemes of a text, one after the other.
 ghost use Rattle.std.specs.Prelude.{◌≡◌, ◌↔◌, ◌⊎◌, ◌<◌, [], Some, IsTrue, length, MatchOption};
 ghost use Rattle.bp_syntax.specs.FirstLexemes.{IsFirst, TakesLexeme};
-ghost use Rattle.bp_syntax.specs.declared.tokens.LexemeKind.TheVariants.{White, Comment};
+ghost use Rattle.bp_language.specs.declared.tokens.LexemeKind.TheVariants.{White, Comment};
 
 use crate::lexemes::{FirstLexeme, first_lexeme};
-use crate::tokens::LexemeKind;
+use bp_language::LexemeKind;
 
 /// A lexeme of a text: the longest that fits at its place, or one byte where none fits.
 #[derive(Clone, Copy, Debug)]

@@ -3,9 +3,10 @@ ghost use Rattle.std.specs.Prelude.{◌≡◌, ◌≤◌, ◌<◌, [], ◌∷◌
 ghost use Rattle.bp_syntax.specs.Lexer.{run, is_continuation, comment, first_symbol, unbraced_lexeme, IsNameless, IsFirstLexeme};
 
 use crate::tokens::{
-    LexemeKind, constant, is_braced_byte, is_comment_byte, is_letter, is_white, is_word_byte,
-    long_symbol, symbol,
+    constant, is_braced_byte, is_comment_byte, is_letter, is_white, is_word_byte, long_symbol,
+    symbol,
 };
+use bp_language::LexemeKind;
 
 /// What a text begins with: a lexeme of some kind, or a byte that begins none.
 #[derive(Clone, Copy, PartialEq, Eq)]

@@ -1,14 +1,15 @@
 //! The lexer: the scan of a text into tokens.
 ghost use Rattle.std.specs.Prelude.{true, ◌≡◌, ◌≤◌, ◌++◌, [], length, MatchResult, OnOk};
-ghost use Rattle.bp_syntax.specs.Tokens as spelling;
-ghost use Rattle.bp_syntax.specs.Cut.{HasTokens, with_token};
+ghost use Rattle.bp_language.specs.Tokens as spelling;
+ghost use Rattle.bp_language.specs.Cut.{HasTokens, with_token};
 ghost use Rattle.bp_syntax.specs.Lexer.{IsScanFault};
 ghost use Rattle.bp_syntax.specs.Views.{token_list};
 
 use crate::faults::ReadFault;
 use crate::lexemes::{FirstLexeme, first_lexeme};
-use crate::limits::TEXT_LIMIT;
-use crate::tokens::{LexemeKind, Token, kind_of};
+use crate::tokens::{Token, kind_of};
+use bp_language::LexemeKind;
+use bp_language::limits::TEXT_LIMIT;
 use std::alloc::{AllocError, Global};
 
 /// The tokens of a text, or its first bad byte, or its first open brace.

@@ -1,11 +1,12 @@
 //! How deep statements nest.
 ghost use Rattle.std.specs.Prelude.{◌≡◌, ◌≤◌};
-ghost use Rattle.bp_syntax.specs.Nesting as rule;
+ghost use Rattle.bp_language.specs.Nesting as rule;
 ghost use Rattle.bp_syntax.specs.DepthCount.{first_too_deep};
 ghost use Rattle.bp_syntax.specs.Views.{token_list};
 
-use crate::limits::NESTING_LIMIT;
-use crate::tokens::{Token, TokenKind};
+use crate::tokens::Token;
+use bp_language::TokenKind;
+use bp_language::limits::NESTING_LIMIT;
 
 fn depth_after(kind: TokenKind, depth: usize) -> usize
     requires { depth ≤ NESTING_LIMIT }

@@ -8,7 +8,8 @@ mod operators;
 mod programs;
 mod statements;
 
-use crate::tokens::{Token, TokenKind};
+use crate::tokens::Token;
+use bp_language::TokenKind;
 use bp_tree::{Name, Names};
 pub(crate) use programs::parse;
 use std::alloc::{AllocError, AllocFailed, Global};
@@ -51,7 +52,7 @@ pub(crate) struct Parser<'a> {
 
 impl<'a> Model for Parser<'a> {
     ghost use Rattle.std.specs.Prelude.{List};
-    ghost use Rattle.bp_syntax.specs.Tokens.{Token as SomeToken};
+    ghost use Rattle.bp_language.specs.Tokens.{Token as SomeToken};
 
     ghost Value = { List SomeToken };
 

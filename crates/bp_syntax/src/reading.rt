@@ -1,16 +1,17 @@
 //! How a text is read: the lexer, the two limits on its tokens, and the parser.
 ghost use Rattle.std.specs.Prelude.{◌≡◌, MatchResult};
 ghost use Rattle.bp_tree.specs.Ast.{Program};
-ghost use Rattle.bp_syntax.specs.Texts.{IsTextOf, IsRefusal};
+ghost use Rattle.bp_language.specs.Texts.{IsTextOf};
+ghost use Rattle.bp_syntax.specs.Refusals.{IsRefusal};
 ghost use Rattle.bp_syntax.specs.declared.faults.ReadFault.TheVariants.{Memory};
 
 use crate::faults::ReadFault;
 use crate::lexer::scan;
-use crate::limits::TEXT_LIMIT;
 use crate::nesting::first_too_deep;
 use crate::parser::parse;
 use crate::successions::first_too_many;
 use crate::trees::Tree;
+use bp_language::limits::TEXT_LIMIT;
 use std::alloc::Global;
 
 /// Reads a program text. It is refused for the first fault that applies, each looked for in the

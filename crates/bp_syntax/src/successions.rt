@@ -1,11 +1,12 @@
 //! Tokens in succession without a separator.
 ghost use Rattle.std.specs.Prelude.{◌≡◌};
-ghost use Rattle.bp_syntax.specs.Successions as rule;
+ghost use Rattle.bp_language.specs.Successions as rule;
 ghost use Rattle.bp_syntax.specs.SuccessionCount.{first_too_many};
 ghost use Rattle.bp_syntax.specs.Views.{token_list};
 
-use crate::limits::SUCCESSION_LIMIT;
-use crate::tokens::{Token, TokenKind};
+use crate::tokens::Token;
+use bp_language::TokenKind;
+use bp_language::limits::SUCCESSION_LIMIT;
 
 /// Whether a token of the kind separates successions.
 fn is_separator(kind: TokenKind) -> bool

@@ -1,9 +1,9 @@
 //! A spelling of each kind of token.
 ghost use Rattle.std.specs.Prelude.{◌≡◌};
 ghost use Rattle.bp_syntax.specs.Spellings.{spelling};
-ghost use Rattle.bp_syntax.specs.Tokens.{IsReal};
+ghost use Rattle.bp_language.specs.Tokens.{IsReal};
 
-use crate::tokens::TokenKind;
+use bp_language::TokenKind;
 
 /// How many kinds of tokens there are.
 const KINDS: usize = 33;

@@ -1,57 +1,9 @@
 //! What the bytes of a text spell: the kinds of lexemes, and the kinds of tokens.
 ghost use Rattle.std.specs.Prelude.{◌≡◌};
-ghost use Rattle.bp_syntax.specs.Tokens as spelling;
+ghost use Rattle.bp_language.specs.Tokens as spelling;
 
 use crate::token_kinds::word_of;
-
-/// What the scan tells apart. Reserved words are identifiers here.
-#[derive(Clone, Copy, Debug, PartialEq, Eq)]
-pub enum LexemeKind {
-    White,
-    Comment,
-    Identifier,
-    Braced,
-    Constant,
-    Symbol,
-}
-
-/// What a token is: a name, a constant, a symbol or a reserved word.
-#[derive(Clone, Copy, Debug, PartialEq, Eq)]
-pub enum TokenKind {
-    Name,
-    Zero,
-    One,
-    Semicolon,
-    Comma,
-    Open,
-    Close,
-    Colon,
-    Becomes,
-    Bar,
-    Ampersand,
-    Caret,
-    Equal,
-    Differ,
-    Implies,
-    Bang,
-    Question,
-    Decl,
-    Begin,
-    End,
-    Skip,
-    Goto,
-    Return,
-    If,
-    Then,
-    Else,
-    Fi,
-    While,
-    Do,
-    Od,
-    Assert,
-    Print,
-    Assume,
-}
+use bp_language::{LexemeKind, TokenKind};
 
 /// A token: its kind, the offset of its first byte, its bytes.
 #[derive(Clone, Copy)]

@@ -1,10 +1,10 @@
 //! Programs as trees.
 ghost use Rattle.std.specs.Prelude.{◌≡◌, ◌≤◌, IfOk};
 ghost use Rattle.bp_tree.specs.Sizes.{procedures_size};
-ghost use Rattle.bp_syntax.specs.Texts.{HasText};
-ghost use Rattle.bp_syntax.specs.NamesIn.{HasShortNames, HasSpelledNames};
+ghost use Rattle.bp_language.specs.Texts.{HasText};
+ghost use Rattle.bp_language.specs.NamesIn.{HasShortNames, HasSpelledNames};
 
-use crate::limits::TEXT_LIMIT;
+use bp_language::limits::TEXT_LIMIT;
 use bp_tree::{Name, Names, Proc, Procs};
 use std::alloc::AllocError;
 use std::marker::Model;
@@ -24,7 +24,7 @@ impl Model for Tree {
 
     ghost coded = { coded_program };
 
-    ghost use Rattle.bp_syntax.specs.Texts.{HasText};
+    ghost use Rattle.bp_language.specs.Texts.{HasText};
 
     ghost view = { λ t. record { globals = t.globals; procedures = t.procs } };
 

@@ -4,8 +4,8 @@ use Rattle.std.proofs.Math.Nat.{mul-le-mul_right}
 use Rattle.std.specs.Prelude.{max, slice_index_or, is_some}
 use Rattle.bp_text.proofs.GrownLists.{regrouped}
 use Rattle.bp_tree.specs.Ast.{Program}
-use Rattle.bp_code.specs.Flat.{Flat}
-use Rattle.bp_code.specs.StandsFor.{StandsFor}
+use Rattle.bp_flat.specs.Flat.{Flat}
+use Rattle.bp_flat.specs.StandsFor.{StandsFor}
 use Rattle.bp_machine.specs.Setups.{SetupOf}
 use Rattle.bp_test.specs.declared.blocks.Block.{Block}
 use Rattle.bp_test.specs.declared.blocks.FoundRun.{FoundRun}
@@ -149,7 +149,8 @@ module _ {E : Type 0} (k : Flat) (s : SetupOf) (p : Plan) (from size runs : ℕ)
             tallied = tallied_both;
           }
 
-      pub ends_found : is_some block.found ≡ true → IsEnd p.deadline (start_of_block from size 0 runs) (start_of_block from size (length all) runs) block.found block.end
+      pub ends_found : is_some block.found ≡ true
+          → IsEnd p.deadline (start_of_block from size 0 runs) (start_of_block from size (length all) runs) block.found block.end
       ends_found e = ends_here (length all) last_rise block.found (λ untimed none. absurd (some_of block.found e none))
 
       pub found_any : IsTalliedAfter earlier t s p.with_deadlock p.seed (start_of_block from size 0 runs) block.end block.found new

@@ -1,13 +1,13 @@
 -- That codes, setups and plans may be shared among threads, in steps that `search` can take.
 use denote.Param.Send.{IsSync, sendable}
 use Rattle.std.proofs.Crossing.{crosses}
-use Rattle.bp_code.proofs.exprs.SlotSub.TheLaws.TheKnot.{sync-SlotSub, sync-SlotExpr}
-use Rattle.bp_code.specs.contracts.expr_lists.SlotExprs as SlotExprs
-use Rattle.bp_code.specs.contracts.expr_lists.Arguments as Arguments
-use Rattle.bp_code.specs.contracts.slots.Slots as Slots
-use Rattle.bp_code.specs.contracts.instrs.Instr as Instr
-use Rattle.bp_code.specs.contracts.headings.Heading as Heading
-use Rattle.bp_code.specs.contracts.code.Code as Code
+use Rattle.bp_flat.proofs.exprs.SlotSub.TheLaws.TheKnot.{sync-SlotSub, sync-SlotExpr}
+use Rattle.bp_flat.specs.contracts.expr_lists.SlotExprs as SlotExprs
+use Rattle.bp_flat.specs.contracts.expr_lists.Arguments as Arguments
+use Rattle.bp_flat.specs.contracts.slots.Slots as Slots
+use Rattle.bp_flat.specs.contracts.instrs.Instr as Instr
+use Rattle.bp_flat.specs.contracts.headings.Heading as Heading
+use Rattle.bp_flat.specs.contracts.code.Code as Code
 use Rattle.bp_machine.specs.contracts.setups.Setup as Setup
 use Rattle.bp_test.specs.contracts.plans.Plan as Plan
 

@@ -2,8 +2,8 @@
 use Rattle.std.proofs.Common.{◌≡◌, ℕ, Bool, true, false, cond, List, [], ◌∷◌, ◌++◌, refl, ap, sym, ◌∙◌}
 use Rattle.std.specs.Prelude.{unwrap_or}
 use Rattle.bp_tree.specs.Ast.{Program}
-use Rattle.bp_code.specs.Configurations.{Configuration}
-use Rattle.bp_code.specs.Moves.{Leaves, Fails, effect, after_effect, with_left}
+use Rattle.bp_flat.specs.Configurations.{Configuration}
+use Rattle.bp_flat.specs.Moves.{Leaves, Fails, effect, after_effect, with_left}
 use Rattle.bp_machine.specs.declared.calls.Call.{Call}
 use Rattle.bp_machine.specs.declared.calls.Reply.TheVariants.{Failed}
 use Rattle.bp_machine.specs.declared.reports.Outcome.TheVariants as outcome

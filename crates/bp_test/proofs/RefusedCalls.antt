@@ -25,4 +25,7 @@ pub refusal_of_call : (h new : List Call) (thread : ℕ) (r : Reply) (was now : 
     → now ≡ has_refusal new
 refusal_of_call h new thread r was now grown is before =
     let x = grown.0 in
-    is ∙ ap (λ b. b || refuses_context r) before ∙ ap (λ p. has_refusal h || refuses_context p) (sym grown.3) ∙ sym (refusal_with h x) ∙ ap has_refusal (sym grown.1)
+    is
+    ∙ ap (λ b. b || refuses_context r) before
+    ∙ ap (λ p. has_refusal h || refuses_context p) (sym grown.3)
+    ∙ sym (refusal_with h x) ∙ ap has_refusal (sym grown.1)

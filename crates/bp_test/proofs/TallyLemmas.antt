@@ -5,7 +5,7 @@ use Rattle.std.proofs.lemmas.Bool.{cases_lt}
 use Rattle.std.proofs.lemmas.List.{get_or_past}
 use Rattle.std.proofs.lemmas.List.Sums.{sum_by-append, fold-append}
 use Rattle.bp_tree.specs.Ast.{Program}
-use Rattle.bp_code.specs.StandsFor.{Place, places_of}
+use Rattle.bp_flat.specs.StandsFor.{Place, places_of}
 use Rattle.bp_machine.specs.Setups.{SetupOf, threads}
 use Rattle.bp_test.specs.declared.tallies.Tally.{Tally}
 use Rattle.bp_test.specs.declared.limits.TheConstants.{MAX_KEYS}

@@ -3,7 +3,7 @@ use Rattle.std.proofs.Common.{◌≡◌, ◌+◌, ◌&&◌, ℕ, Bool, true, fal
 use Rattle.std.proofs.lemmas.List.{map-append}
 use Rattle.std.proofs.lemmas.List.Elements.{All-nil, All-push}
 use Rattle.bp_tree.specs.Ast.{Program}
-use Rattle.bp_code.specs.Configurations.{Frame, Configuration}
+use Rattle.bp_flat.specs.Configurations.{Frame, Configuration}
 use Rattle.bp_machine.specs.Answers.{stack_of, reply_on_stack}
 use Rattle.bp_machine.specs.Waiting.{is_blocked, waits}
 use Rattle.bp_test.specs.declared.waiting.Waiting.{Waiting}

@@ -1,8 +1,8 @@
 -- Blocks of runs that are made side by side.
 use Rattle.std.specs.Prelude.{◌≡◌, ◌+◌, ◌*◌, ◌++◌, ◌<◌, ◌≤◌, ℕ, max, min, Bool, ◌||◌, ◌&&◌, List, Option, None, Result, length, slice_index_or, IfOk}
 use Rattle.bp_tree.specs.Ast.{Program}
-use Rattle.bp_code.specs.Flat.{Flat}
-use Rattle.bp_code.specs.StandsFor.{StandsFor}
+use Rattle.bp_flat.specs.Flat.{Flat}
+use Rattle.bp_flat.specs.StandsFor.{StandsFor}
 use Rattle.bp_machine.specs.declared.reports.Report.{Report}
 use Rattle.bp_machine.specs.Reports.{is_failure}
 use Rattle.bp_machine.specs.Setups.{SetupOf}

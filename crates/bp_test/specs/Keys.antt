@@ -1,7 +1,7 @@
 -- Keys of runs: numbers of 64 bits, by which runs with the same steps are told.
 use Rattle.std.specs.Prelude.{if◌then◌else◌, ◌+◌, ◌*◌, ◌%◌, ◌^◌, ℕ, bit_xor, List, [], ◌∷◌, ◌++◌, Option, None, Some, unwrap_or}
 use Rattle.bp_tree.specs.Ast.{Program}
-use Rattle.bp_code.specs.Configurations.{Configuration}
+use Rattle.bp_flat.specs.Configurations.{Configuration}
 use Rattle.bp_machine.specs.declared.calls.Call.{Call}
 use Rattle.bp_machine.specs.declared.calls.Reply.{Reply}
 use Rattle.bp_machine.specs.Histories.{configuration_after}

@@ -1,8 +1,8 @@
 -- The places of a program that a history reaches, the threads that step in it, and marks of both.
 use Rattle.std.specs.Prelude.{◌≡◌, ◌⊎◌, ◌<◌, ℕ, suc, Bool, true, false, if◌then◌else◌, nat_le, count_by, List, [], ◌∷◌, Option, None, Some, length, take, slice_get, slice_index_or, slice_set, MatchOption}
 use Rattle.bp_tree.specs.Ast.{Program}
-use Rattle.bp_code.specs.Configurations.{Frame, Configuration}
-use Rattle.bp_code.specs.StandsFor.{Place, place, places_of}
+use Rattle.bp_flat.specs.Configurations.{Frame, Configuration}
+use Rattle.bp_flat.specs.StandsFor.{Place, place, places_of}
 use Rattle.bp_machine.specs.declared.calls.Call.{Call}
 use Rattle.bp_machine.specs.declared.calls.Reply.{Reply}
 use Rattle.bp_machine.specs.declared.calls.Reply.TheVariants.{NoContexts}

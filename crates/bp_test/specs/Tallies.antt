@@ -1,7 +1,7 @@
 -- What the runs of a test came to, counted.
 use Rattle.std.specs.Prelude.{◌≡◌, ◌==◌, ◌^◌, ◌+◌, ◌-◌, if◌then◌else◌, ℕ, min, max, Bool, true, false, not, ◌&&◌, nat_le, List, [], ◌∷◌, Some, length, take, fold, count_by, sum_by, slice_index_or, Any}
 use Rattle.bp_tree.specs.Ast.{Program}
-use Rattle.bp_code.specs.StandsFor.{places_of}
+use Rattle.bp_flat.specs.StandsFor.{places_of}
 use Rattle.bp_machine.specs.declared.calls.Call.{Call}
 use Rattle.bp_machine.specs.declared.calls.Reply.{Reply}
 use Rattle.bp_machine.specs.declared.calls.Reply.TheVariants.{Ended}

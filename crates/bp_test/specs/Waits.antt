@@ -1,7 +1,7 @@
 -- Threads that wait, and where.
 use Rattle.std.specs.Prelude.{if◌then◌else◌, ◌≡◌, ℕ, true, zero, suc, List, [], ◌∷◌, ◌++◌, Some, All, map}
 use Rattle.bp_tree.specs.Ast.{Program}
-use Rattle.bp_code.specs.Configurations.{Configuration}
+use Rattle.bp_flat.specs.Configurations.{Configuration}
 use Rattle.bp_machine.specs.Waiting.{waits}
 use Rattle.bp_test.specs.declared.waiting.Waiting.{Waiting}
 use Rattle.bp_test.specs.Reached.{next_place, IsNumberOf}

@@ -1,7 +1,7 @@
 //! Blocks of runs.
 ghost use Rattle.std.specs.Prelude.{◌≡◌, IfOk};
 ghost use Rattle.bp_tree.specs.Ast.{Program};
-ghost use Rattle.bp_code.specs.StandsFor.{StandsFor};
+ghost use Rattle.bp_flat.specs.StandsFor.{StandsFor};
 ghost use Rattle.bp_machine.specs.Setups.{FitsCode};
 ghost use Rattle.bp_test.specs.Blocks.{is_sought, IsEnd};
 ghost use Rattle.bp_test.specs.Tests.{IsTallied};
@@ -12,7 +12,7 @@ use crate::plans::Plan;
 use crate::runs::run_once;
 use crate::tallies::Tally;
 use crate::waiting::{Waiting, waiting_threads};
-use bp_code::Code;
+use bp_flat::Code;
 use bp_machine::{Call, Outcome, Report, Session, Setup};
 use std::alloc::{AllocError, Global};
 use std::time::Clock;

@@ -5,7 +5,7 @@ ghost use Rattle.bp_test.specs.Counts.{share_of_marks, AreCounts};
 ghost use Rattle.bp_test.specs.Tallies.{MadeRun, IsCounted};
 
 use crate::tallies::{ContextsUsed, Ends, Tally};
-use bp_code::{Code, Kind};
+use bp_flat::{Code, Kind};
 
 /// How many of some things were reached.
 #[derive(Clone, Copy, Debug, PartialEq, Eq)]

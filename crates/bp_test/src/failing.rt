@@ -1,7 +1,7 @@
 //! Where an assertion failed.
 ghost use Rattle.std.specs.Prelude.{◌≡◌, List, IfNone, IfSome};
 ghost use Rattle.bp_tree.specs.Ast.{Program};
-ghost use Rattle.bp_code.specs.StandsFor.{StandsFor};
+ghost use Rattle.bp_flat.specs.StandsFor.{StandsFor};
 ghost use Rattle.bp_machine.specs.declared.calls.Call.{Call as Answered};
 ghost use Rattle.bp_machine.specs.Reports.{outcome_of};
 ghost use Rattle.bp_machine.specs.Sessions.{Stands};

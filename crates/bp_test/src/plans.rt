@@ -5,7 +5,7 @@ ghost use Rattle.bp_machine.specs.Setups.{FitsCode};
 use crate::runs::{next_number, run_once};
 use crate::tallies::is_step;
 use crate::visible_steps::VisibleSteps;
-use bp_code::Code;
+use bp_flat::Code;
 use bp_machine::{Call, Session, Setup};
 use std::alloc::{AllocError, Global};
 

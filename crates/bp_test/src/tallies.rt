@@ -2,7 +2,7 @@
 ghost use Rattle.std.specs.Prelude.{◌≡◌, ◌<◌, ◌^◌, ◌++◌, ◌∷◌, [], ℕ, true, false, List};
 ghost use Rattle.std.specs.Prelude.{length, count_by, take, slice_set, slice_index_or, IfOk, OnOk};
 ghost use Rattle.bp_tree.specs.Ast.{Program};
-ghost use Rattle.bp_code.specs.StandsFor.{StandsFor};
+ghost use Rattle.bp_flat.specs.StandsFor.{StandsFor};
 ghost use Rattle.bp_machine.specs.Replies.{is_granted};
 ghost use Rattle.bp_machine.specs.Setups.{SetupOf};
 ghost use Rattle.bp_test.specs.Counts.{contexts_with, AreContextsUsed};
@@ -13,7 +13,7 @@ ghost use Rattle.bp_test.specs.Tallies.{IsCounted, IsTally};
 
 use crate::keys::{push_key, push_keys};
 use crate::runs::FollowedRun;
-use bp_code::Code;
+use bp_flat::Code;
 use bp_machine::{Call, Outcome, Reply, Report, Setup};
 use std::alloc::{AllocError, Global};
 

@@ -1,7 +1,7 @@
 //! Testing a program within a bound on contexts.
 ghost use Rattle.std.specs.Prelude.{◌≡◌, MatchResult};
 ghost use Rattle.bp_tree.specs.Ast.{Program};
-ghost use Rattle.bp_code.specs.StandsFor.{StandsFor};
+ghost use Rattle.bp_flat.specs.StandsFor.{StandsFor};
 ghost use Rattle.bp_machine.specs.Setups.{FitsCode};
 ghost use Rattle.bp_test.specs.Tests.{found_in, IsTest, IsTestRefusal};
 
@@ -13,7 +13,7 @@ use crate::progress::Progress;
 use crate::tallies::Tally;
 use crate::waiting::Waiting;
 use crate::waves::search;
-use bp_code::Code;
+use bp_flat::Code;
 use bp_machine::{Outcome, Report, Setup};
 use bp_tasks::TestOptions;
 use bp_tasks::limits::MAX_JOBS;

@@ -1,7 +1,7 @@
 //! Steps before which a switch may matter.
 use crate::runs::is_marked;
 use crate::tallies::{mark, none_of};
-use bp_code::{Code, Touched};
+use bp_flat::{Code, Touched};
 use bp_machine::Setup;
 use bp_machine::limits::MAX_THREADS;
 use std::alloc::{AllocError, Global};

@@ -1,7 +1,7 @@
 //! Whether a thread may step, and where threads wait.
 ghost use Rattle.std.specs.Prelude.{◌≡◌, ◌<◌, List, true, false, IfOk, MatchOption};
 ghost use Rattle.bp_tree.specs.Ast.{Program};
-ghost use Rattle.bp_code.specs.StandsFor.{StandsFor};
+ghost use Rattle.bp_flat.specs.StandsFor.{StandsFor};
 ghost use Rattle.bp_machine.specs.declared.calls.Call.{Call as Answered};
 ghost use Rattle.bp_machine.specs.Histories.{configuration_after};
 ghost use Rattle.bp_machine.specs.Sessions.{Stands};
@@ -11,7 +11,7 @@ ghost use Rattle.bp_test.specs.Resting.{RestsIn};
 ghost use Rattle.bp_test.specs.Waits.{AreWaiting, IsWait};
 
 use crate::runs::next_number;
-use bp_code::Kind;
+use bp_flat::Kind;
 use bp_machine::Session;
 use std::alloc::{AllocError, Global};
 

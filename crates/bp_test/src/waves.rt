@@ -1,8 +1,8 @@
 //! Waves: blocks of runs that are made side by side.
 ghost use Rattle.std.specs.Prelude.{◌≡◌, ◌<◌, ◌+◌, ◌^◌, ℕ, List, length, IfOk};
 ghost use Rattle.bp_tree.specs.Ast.{Program};
-ghost use Rattle.bp_code.specs.Flat.{Flat};
-ghost use Rattle.bp_code.specs.StandsFor.{StandsFor};
+ghost use Rattle.bp_flat.specs.Flat.{Flat};
+ghost use Rattle.bp_flat.specs.StandsFor.{StandsFor};
 ghost use Rattle.bp_machine.specs.Setups.{SetupOf, FitsCode};
 ghost use Rattle.bp_test.specs.declared.plans.Plan.{Plan as PlanOf};
 ghost use Rattle.bp_test.specs.Blocks.{start_of_block, AreBlocks, IsBlock, IsEnd, IsTalliedAfter};
@@ -15,7 +15,7 @@ use crate::limits::{FIRST_BLOCK, LONGEST_BLOCK};
 use crate::plans::Plan;
 use crate::progress::Progress;
 use crate::tallies::Tally;
-use bp_code::Code;
+use bp_flat::Code;
 use bp_machine::Setup;
 use std::alloc::{AllocError, Global};
 use std::thread;

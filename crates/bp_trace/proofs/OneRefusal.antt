@@ -2,10 +2,10 @@
 use Rattle.std.proofs.Common.{◌≡◌, ◌≢◌, ℕ, ◌+◌, ◌<◌, ◌≤◌, List, ◌++◌, length, None, Some, refl, ap, sym, ◌∙◌, ◌⊎◌, inl, inr, subst, arith}
 use Rattle.std.specs.List.{AllByRecursion}
 use Rattle.bp_tree.specs.Ast.{Program}
-use Rattle.bp_syntax.specs.Texts.{HasText}
-use Rattle.bp_syntax.specs.declared.limits.TheConstants.{TEXT_LIMIT}
-use Rattle.bp_syntax.proofs.ShortNames.{short_names}
-use Rattle.bp_check.specs.Faults.{IsLawful}
+use Rattle.bp_language.specs.Texts.{HasText}
+use Rattle.bp_language.specs.declared.limits.TheConstants.{TEXT_LIMIT}
+use Rattle.bp_language.proofs.ShortNames.{short_names}
+use Rattle.bp_language.specs.Faults.{IsLawful}
 use Rattle.bp_machine.specs.declared.setup_faults.SetupFault.{SetupFault}
 use Rattle.bp_machine.proofs.NamesOfEntries.{entries_are_names}
 use Rattle.bp_machine.proofs.SetupInRange.{fits, few_threads, few_calls, range_of}

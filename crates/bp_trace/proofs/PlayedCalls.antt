@@ -5,7 +5,7 @@ use Rattle.std.proofs.lemmas.List.{append-nil, take_more, take-append-drop, drop
 use Rattle.std.proofs.Math.Seq.{drop-cons}
 use Rattle.bp_text.proofs.GrownLists.{both_added, regrouped}
 use Rattle.bp_tree.specs.Ast.{Program}
-use Rattle.bp_code.specs.Configurations.{Configuration}
+use Rattle.bp_flat.specs.Configurations.{Configuration}
 use Rattle.bp_machine.specs.declared.calls.Call.{Call}
 use Rattle.bp_machine.specs.Answers.{configuration_after_call}
 use Rattle.bp_machine.specs.ContextCounts.{last_thread}

@@ -5,7 +5,7 @@ use Rattle.bp_tree.specs.Ast.{Program}
 use Rattle.bp_machine.specs.declared.calls.Call.{Call}
 use Rattle.bp_machine.specs.declared.ask_faults.AskFault.{AskFault}
 use Rattle.bp_machine.specs.declared.ask_faults.AskFault.TheVariants as refused
-use Rattle.bp_code.specs.StandsFor.{StandsFor}
+use Rattle.bp_flat.specs.StandsFor.{StandsFor}
 use Rattle.bp_machine.specs.declared.setup_faults.SetupFault.{SetupFault}
 use Rattle.bp_machine.specs.declared.setup_faults.SetupFault.TheVariants as refused_setup
 use Rattle.bp_machine.specs.ContextCounts.{last_thread}

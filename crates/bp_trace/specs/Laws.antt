@@ -1,9 +1,9 @@
 -- Laws of schedules and traces.
 use Rattle.std.specs.Prelude.{◌≡◌, ◌≢◌, ℕ, List, length, map}
 use Rattle.bp_tree.specs.Ast.{Program}
-use Rattle.bp_code.specs.Configurations.{Configuration}
-use Rattle.bp_syntax.specs.Texts.{HasText}
-use Rattle.bp_check.specs.Faults.{IsLawful}
+use Rattle.bp_flat.specs.Configurations.{Configuration}
+use Rattle.bp_language.specs.Texts.{HasText}
+use Rattle.bp_language.specs.Faults.{IsLawful}
 use Rattle.bp_machine.specs.declared.calls.Call.{Call}
 use Rattle.bp_machine.specs.BoundedRuns.{IsBoundedRun, history_of_run}
 use Rattle.bp_machine.specs.Contexts.{IsLeastWithin}

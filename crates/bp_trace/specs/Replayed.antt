@@ -1,7 +1,7 @@
 -- What a replay answers: a setup, a history, what its steps printed, and its report.
 use Rattle.std.specs.Prelude.{◌≡◌, ℕ, List, map}
 use Rattle.bp_tree.specs.Ast.{Program}
-use Rattle.bp_code.specs.StandsFor.{StandsFor}
+use Rattle.bp_flat.specs.StandsFor.{StandsFor}
 use Rattle.bp_machine.specs.declared.calls.Call.{Call}
 use Rattle.bp_machine.specs.PrintedRows.{PrintedRow, printed_rows}
 use Rattle.bp_machine.specs.Reports.{IsReport}

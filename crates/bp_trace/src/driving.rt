@@ -1,8 +1,8 @@
 //! Driving a program by a schedule.
 ghost use Rattle.std.specs.Prelude.{◌≡◌, ◌<◌, ◌≤◌, ℕ, List, Option, None, [], length, IfOk, IfErr, OnOk, MatchResult};
 ghost use Rattle.bp_tree.specs.Ast.{Program};
-ghost use Rattle.bp_code.specs.StandsFor.{StandsFor};
-ghost use Rattle.bp_code.specs.Programs.{IsOfProgram};
+ghost use Rattle.bp_flat.specs.StandsFor.{StandsFor};
+ghost use Rattle.bp_flat.specs.Programs.{IsOfProgram};
 ghost use Rattle.bp_machine.specs.declared.limits.TheConstants.{MAX_THREADS};
 ghost use Rattle.bp_machine.specs.Setups.{FitsCode};
 ghost use Rattle.bp_machine.specs.Sessions.{StandsForAll};
@@ -16,7 +16,7 @@ use crate::limits::MAX_SCHEDULE;
 use crate::schedules::{ScheduleLine, line_at, text_from};
 use crate::traces::write_with_open_lines;
 use crate::versions::Version;
-use bp_code::Code;
+use bp_flat::Code;
 use bp_machine::{AskFault, Call, Report, Session, Setup};
 use std::alloc::Global;
 use std::io::Write;

@@ -1,14 +1,14 @@
 //! Migrating a trace to version 2.
 ghost use Rattle.std.specs.Prelude.{◌≡◌, MatchResult};
 ghost use Rattle.bp_tree.specs.Ast.{Program};
-ghost use Rattle.bp_code.specs.StandsFor.{StandsFor};
+ghost use Rattle.bp_flat.specs.StandsFor.{StandsFor};
 ghost use Rattle.bp_trace.specs.Migrations.{IsMigrated, IsMigrateRefusal};
 
 use crate::migrate_faults::MigrateFault;
 use crate::replaying::replay;
 use crate::traces::write_with_open_lines;
 use crate::versions::Version;
-use bp_code::Code;
+use bp_flat::Code;
 use bp_machine::Report;
 use std::alloc::Global;
 use std::io::Write;

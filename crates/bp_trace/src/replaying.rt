@@ -2,7 +2,7 @@
 //! that is not as expected.
 ghost use Rattle.std.specs.Prelude.{◌≡◌, None, MatchResult};
 ghost use Rattle.bp_tree.specs.Ast.{Program};
-ghost use Rattle.bp_code.specs.StandsFor.{StandsFor};
+ghost use Rattle.bp_flat.specs.StandsFor.{StandsFor};
 ghost use Rattle.bp_machine.specs.Setups.{setup_fault, IsSetupRefusal};
 ghost use Rattle.bp_trace.specs.HeadReading.{setup_of_head};
 ghost use Rattle.bp_trace.specs.Judging.{replay_fault_of_setup};
@@ -17,7 +17,7 @@ use crate::playing::play;
 use crate::replay_faults::ReplayFault;
 use crate::schedules::text_from;
 use crate::watchers::{Unwatched, Watcher};
-use bp_code::Code;
+use bp_flat::Code;
 use bp_machine::{Call, Report, Session, Setup, SetupFault};
 use std::alloc::Global;
 

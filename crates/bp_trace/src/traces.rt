@@ -1,7 +1,7 @@
 //! Writing the text of a trace.
 ghost use Rattle.std.specs.Prelude.{◌≡◌, ◌≤◌, map, flat_map, length};
 ghost use Rattle.std.specs.List.{concat};
-ghost use Rattle.bp_check.specs.declared.limits.TheConstants.{MAX_GLOBALS};
+ghost use Rattle.bp_language.specs.declared.limits.TheConstants.{MAX_GLOBALS};
 ghost use Rattle.bp_text.specs.Pieces.{piece_text};
 ghost use Rattle.bp_text.specs.Writing.{Writes};
 ghost use Rattle.bp_machine.specs.Histories.{open_lines};

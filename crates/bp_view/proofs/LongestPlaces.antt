@@ -3,15 +3,15 @@ use Rattle.std.proofs.Common.{◌≡◌, ◌∙◌, ◌<◌, ◌≤◌, ◌++◌
 use Rattle.std.specs.Prelude.{nat_lt}
 use Rattle.std.proofs.lemmas.Bool.Decides.{nat_tests}
 use Rattle.bp_tree.specs.Ast.{Procedure}
-use Rattle.bp_code.specs.StandsFor.{Place}
-use Rattle.bp_code.specs.Starts.{start_of_block}
+use Rattle.bp_flat.specs.StandsFor.{Place}
+use Rattle.bp_flat.specs.Starts.{start_of_block}
 use Rattle.bp_source.specs.declared.source_statements.SourceStatement.{SourceStatement}
 use Rattle.bp_source.specs.Places.{place_text}
 use Rattle.bp_source.specs.SourceStatements.{AreSourceStatementsAt}
 use Rattle.bp_source.proofs.TextsOfStatements.{shown_texts}
 use Rattle.bp_view.specs.StatementColumns.{shortened}
 use Rattle.bp_view.specs.Widths.{longest}
-use Rattle.bp_code.proofs.ProceduresOfPlaces.{starts}
+use Rattle.bp_flat.proofs.ProceduresOfPlaces.{starts}
 
 abbrev pub place_items : List SourceStatement → List (List ℕ)
 place_items statements = map (λ s. s.place.items) statements

@@ -1,8 +1,8 @@
 -- A history has one list of its contexts, since each context has one set of facts.
 use Rattle.std.proofs.Common.{◌≡◌, ◌∙◌, ◌<◌, ◌++◌, ℕ, suc, List, None, length, map, ap, ap₂, subst, sym}
 use Rattle.bp_tree.specs.Ast.{Program}
-use Rattle.bp_code.specs.StandsFor.{places_of}
-use Rattle.bp_code.specs.Starts.{starts_of}
+use Rattle.bp_flat.specs.StandsFor.{places_of}
+use Rattle.bp_flat.specs.Starts.{starts_of}
 use Rattle.bp_machine.specs.declared.calls.Call.{Call}
 use Rattle.bp_machine.specs.Histories.{granted_threads}
 use Rattle.bp_machine.specs.Setups.{SetupOf}

@@ -1,8 +1,8 @@
 -- A history has one view.
 use Rattle.std.proofs.Common.{◌≡◌, ◌∙◌, ◌<◌, ◌++◌, ℕ, Bool, true, false, List, Some, length, map, slice_get, take, ap, ap₂, subst, sym, refl}
 use Rattle.bp_tree.specs.Ast.{Program}
-use Rattle.bp_code.specs.StandsFor.{places_of}
-use Rattle.bp_code.specs.Starts.{starts_of}
+use Rattle.bp_flat.specs.StandsFor.{places_of}
+use Rattle.bp_flat.specs.Starts.{starts_of}
 use Rattle.bp_machine.specs.declared.calls.Call.{Call}
 use Rattle.bp_machine.specs.declared.reports.Report.{Report}
 use Rattle.bp_machine.specs.Histories.{configuration_after}

@@ -2,7 +2,7 @@
 use Rattle.std.proofs.Common.{codes, decimal, ◌≡◌, ◌∙◌, ◌++◌, ◌+◌, ◌<◌, ℕ, zero, suc, Bool, None, List, [], ◌∷◌, take, length, slice_get, unwrap_or, ap, sym, refl, append-nil, add-zero, arith}
 use Rattle.std.specs.List.{concat}
 use Rattle.bp_tree.specs.Ast.{Name}
-use Rattle.bp_code.specs.Values.{binding}
+use Rattle.bp_flat.specs.Values.{binding}
 use Rattle.bp_text.proofs.GrownLists.{both_added, regrouped}
 use Rattle.bp_tasks.specs.declared.view_options.ViewFormat.TheVariants.{Columns}
 use Rattle.bp_view.specs.SetupLines.{globals_line, thread_line, thread_lines}

@@ -1,6 +1,6 @@
 -- The values that a call prints are those that were next, where it made a step.
 use Rattle.std.proofs.Common.{if◌then◌else◌, ◌≡◌, ◌∙◌, ℕ, Bool, true, false, List, Option, None, ap, refl}
-use Rattle.bp_code.specs.Configurations.{Configuration}
+use Rattle.bp_flat.specs.Configurations.{Configuration}
 use Rattle.bp_machine.specs.declared.calls.Call.{Call}
 use Rattle.bp_machine.specs.Replies.{is_granted}
 use Rattle.bp_facts.specs.CallFacts.{printed_by, ShownCall}

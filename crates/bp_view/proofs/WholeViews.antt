@@ -1,8 +1,8 @@
 -- Each history of a program has a view, and what was written of one goes on to a whole one.
 use Rattle.std.proofs.Common.{◌≡◌, ◌<◌, slice_get, take, ℕ, Bool, true, false, List, [], Some, length, refl}
 use Rattle.bp_tree.specs.Ast.{Program}
-use Rattle.bp_code.specs.Flat.{Flat}
-use Rattle.bp_code.specs.StandsFor.{StandsFor}
+use Rattle.bp_flat.specs.Flat.{Flat}
+use Rattle.bp_flat.specs.StandsFor.{StandsFor}
 use Rattle.bp_machine.specs.declared.calls.Call.{Call}
 use Rattle.bp_machine.specs.declared.reports.Report.{Report}
 use Rattle.bp_machine.specs.Histories.{configuration_after, IsLegal}

@@ -2,7 +2,7 @@
 use Rattle.std.specs.Prelude.{if◌then◌else◌, ℕ, suc, List, [], ◌∷◌, ◌++◌, Option, None, Some, codes, decimal, flat_map}
 use Rattle.std.specs.List.{concat}
 use Rattle.bp_tree.specs.Ast.{Name}
-use Rattle.bp_code.specs.Values.{Valuation, binding}
+use Rattle.bp_flat.specs.Values.{Valuation, binding}
 use Rattle.bp_machine.specs.Setups.{SetupOf}
 use Rattle.bp_text.specs.Pieces.{key_text, list_text, number_or_null}
 use Rattle.bp_source.specs.Programs.{string_item}

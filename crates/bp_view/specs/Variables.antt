@@ -2,7 +2,7 @@
 use Rattle.std.specs.Prelude.{ℕ, Bool, List, [], ◌∷◌, Option, None, Some, codes, flat_map, map, option_map}
 use Rattle.std.specs.List.{concat}
 use Rattle.bp_tree.specs.Ast.{Procedure}
-use Rattle.bp_code.specs.Values.{Valuation}
+use Rattle.bp_flat.specs.Values.{Valuation}
 use Rattle.bp_text.specs.JsonStrings.{string_text}
 use Rattle.bp_text.specs.OneLine.{on_one_line}
 use Rattle.bp_text.specs.Pieces.{bit_text, key_text, string_or_null}

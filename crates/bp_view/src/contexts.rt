@@ -1,7 +1,7 @@
 //! The contexts of a history, a line for each.
 ghost use Rattle.std.specs.Prelude.{◌≡◌, ◌++◌, ℕ, suc, List, length, map, MatchResult, IfOk, OnOk};
 ghost use Rattle.bp_tree.specs.Ast.{Program};
-ghost use Rattle.bp_code.specs.StandsFor.{StandsFor};
+ghost use Rattle.bp_flat.specs.StandsFor.{StandsFor};
 ghost use Rattle.bp_machine.specs.declared.calls.Call.{Call as Answered};
 ghost use Rattle.bp_machine.specs.Setups.{FitsCode, SetupOf};
 ghost use Rattle.bp_trace.specs.Replays.{IsPlayable, IsReplayRefusal};
@@ -20,8 +20,8 @@ use crate::lines::{push_changed, spaces_before};
 use crate::shown_traces::{ShownTrace, shown_trace_of};
 use crate::view_contexts::{ViewContext, Widths};
 use bp_check::Checked;
-use bp_code::Code;
 use bp_facts::{Change, ContextFacts, Span, facts_of_context, fill_changes_within, spans_of};
+use bp_flat::Code;
 use bp_machine::Report;
 use bp_source::{push_three, push_two};
 use bp_tasks::ViewFormat;

@@ -1,6 +1,6 @@
 //! The head of a view: the setup of the history.
 ghost use Rattle.std.specs.Prelude.{◌≡◌, ◌++◌, [], None, codes, false, flat_map, slice_get, unwrap_or, OnOk, IfOk};
-ghost use Rattle.bp_code.specs.Values.{binding};
+ghost use Rattle.bp_flat.specs.Values.{binding};
 ghost use Rattle.bp_source.specs.Programs.{string_item};
 ghost use Rattle.bp_view.specs.SetupLines.{globals_line, head_lines, head_object, number_line, seed_line, setup_head, thread_lines, view_head};
 ghost use Rattle.bp_view.specs.Variables.{variables_text};

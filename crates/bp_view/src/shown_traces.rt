@@ -1,7 +1,7 @@
 //! A trace that was replayed, with the source statements of its program.
 ghost use Rattle.std.specs.Prelude.{◌≡◌, ◌≤◌, ℕ, List, length, MatchResult};
 ghost use Rattle.bp_tree.specs.Ast.{Program};
-ghost use Rattle.bp_code.specs.StandsFor.{StandsFor};
+ghost use Rattle.bp_flat.specs.StandsFor.{StandsFor};
 ghost use Rattle.bp_trace.specs.Replays.{IsReplayRefusal};
 ghost use Rattle.bp_source.specs.SourceStatements.{AreSourceStatements};
 ghost use Rattle.bp_facts.specs.Checkpoints.{IsCheckpoint, IsCheckpointAfter};
@@ -13,8 +13,8 @@ ghost use Rattle.bp_view.specs.Widths.{extent_of, AreWidths};
 use crate::options::all_calls;
 use crate::view_contexts::{ViewContext, view_context_of};
 use bp_check::Checked;
-use bp_code::Code;
 use bp_facts::{CallFilter, Checkpoint, replay_to_checkpoint};
+use bp_flat::Code;
 use bp_source::{SourceStatement, source_statements_of};
 use bp_tasks::ViewFormat;
 use bp_text::{last_line, number_of, part_before};

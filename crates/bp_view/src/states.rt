@@ -1,8 +1,8 @@
 //! The text of a state, from its facts: the values of the globals, and how each thread stands.
 ghost use Rattle.std.specs.Prelude.{◌≡◌, ◌++◌, ℕ, List, length, map, take, IfOk, MatchResult, OnOk};
 ghost use Rattle.bp_tree.specs.Ast.{Program};
-ghost use Rattle.bp_code.specs.Bits.{bits_of};
-ghost use Rattle.bp_code.specs.StandsFor.{valuation_of, StandsFor};
+ghost use Rattle.bp_flat.specs.Bits.{bits_of};
+ghost use Rattle.bp_flat.specs.StandsFor.{valuation_of, StandsFor};
 ghost use Rattle.bp_machine.specs.Sessions.{Stands};
 ghost use Rattle.bp_trace.specs.Replays.{IsReplayRefusal};
 ghost use Rattle.bp_source.specs.SourceStatements.{AreSourceStatements};
@@ -16,8 +16,8 @@ use crate::shown_traces::{ShownTrace, shown_trace_to};
 use crate::variables::push_values;
 use crate::view_contexts::ViewContext;
 use bp_check::Checked;
-use bp_code::Code;
 use bp_facts::{Standing, StateFacts, ThreadFacts, calls_to, facts_of_state};
+use bp_flat::Code;
 use bp_machine::{Call, Outcome, Report, Session};
 use bp_source::push_four;
 use bp_tasks::ViewFormat;

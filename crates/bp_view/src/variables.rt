@@ -1,12 +1,12 @@
 //! The names of the bits of a store, and their values.
 ghost use Rattle.std.specs.Prelude.{◌≡◌, ◌<◌, ◌+◌, ◌^◌, ◌++◌, ◌∷◌, [], codes, length, option_map, OnOk};
 ghost use Rattle.std.specs.List.{concat};
-ghost use Rattle.bp_code.specs.Bits.{bits_of};
-ghost use Rattle.bp_code.specs.StandsFor.{valuation_of};
+ghost use Rattle.bp_flat.specs.Bits.{bits_of};
+ghost use Rattle.bp_flat.specs.StandsFor.{valuation_of};
 ghost use Rattle.bp_view.specs.Variables.{owner_text, variable_object, variable_text, assignment_text, variables_text};
 ghost use Rattle.bp_text.specs.Pieces.{bit_text};
 
-use bp_code::bit_of;
+use bp_flat::bit_of;
 use bp_source::{push_four, push_three, push_two};
 use bp_tasks::ViewFormat;
 use bp_text::Piece::{Bit, Bytes, Key, OneLine, Text, TextOrNull};

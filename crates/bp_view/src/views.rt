@@ -1,7 +1,7 @@
 //! The view of a trace.
 ghost use Rattle.std.specs.Prelude.{◌≡◌, ◌≤◌, ℕ, List, length, map, take, MatchResult};
 ghost use Rattle.bp_tree.specs.Ast.{Program};
-ghost use Rattle.bp_code.specs.StandsFor.{StandsFor};
+ghost use Rattle.bp_flat.specs.StandsFor.{StandsFor};
 ghost use Rattle.bp_machine.specs.Setups.{threads};
 ghost use Rattle.bp_text.specs.WrittenTexts.{IsWritten};
 ghost use Rattle.bp_facts.specs.Checkpoints.{IsCheckpoint};
@@ -13,7 +13,6 @@ ghost use Rattle.bp_view.specs.ShownTraces.{IsShownTrace};
 ghost use Rattle.bp_view.specs.Views.{HasMade, IsMissing, IsStopped, IsThere, IsView, IsViewRefusal, IsViewable, IsViewed};
 
 use crate::ends::end_of;
-use bp_facts::ViewFault;
 use crate::fronts::Front;
 use crate::options::filter_of;
 use crate::setup_lines::head_of;
@@ -21,8 +20,8 @@ use crate::shown_traces::{ShownTrace, shown_trace_before};
 use crate::view_contexts::view_context_of;
 use crate::writers::ViewWriter;
 use bp_check::Checked;
-use bp_code::Code;
-use bp_facts::{Checkpoint, undeclared, watched_names};
+use bp_facts::{Checkpoint, ViewFault, undeclared, watched_names};
+use bp_flat::Code;
 use bp_machine::{Report, Setup};
 use bp_tasks::ViewOptions;
 use bp_text::put;

@@ -6,8 +6,8 @@ ghost use Rattle.bp_commands.specs.Tests.{name_of};
 ghost use Rattle.btrun.specs.Tasks.{job_of, listed_if, on_screen, show_job};
 
 use bp_commands::{
-    Check, Confirm, Drive, Files, Io, ListCode, Migrate, Replay, Run, RunEnd, Shrink, Streams, Test,
-    run_by_workers, run_on_bundle, run_on_pair, run_on_program,
+    Check, Confirm, Drive, Files, Io, ListCode, Migrate, Replay, Run, RunEnd, Shrink, Streams,
+    Test, run_by_workers, run_on_bundle, run_on_pair, run_on_program,
 };
 use bp_init::{NamedBits, NamedStart};
 use bp_machine::Start;

@@ -1,7 +1,7 @@
 //! How a session judges a call before it makes it.
 ghost use Rattle.std.specs.Prelude.{◌≡◌, ◌++◌, ◌∷◌, [], ℕ, List, Option, None, Some, IfOk, OnOk, OnErr, MatchResult};
 ghost use Rattle.bp_tree.specs.Ast.{Program};
-ghost use Rattle.bp_code.specs.StandsFor.{StandsFor};
+ghost use Rattle.bp_flat.specs.StandsFor.{StandsFor};
 ghost use Rattle.bp_machine.specs.declared.calls.Call.{Call as Answered};
 ghost use Rattle.bp_machine.specs.Sessions.{Stands, IsNextCall, IsAskRefusal, given_bit};
 ghost use Rattle.bp_machine.specs.KeptSessions.{IsKeptBit, IsBitRefusal, IsGiven, IsJudged, IsKeptRefusal};
@@ -9,7 +9,7 @@ ghost use Rattle.bp_machine.specs.KeptSessions.{IsKeptBit, IsBitRefusal, IsGiven
 use crate::ask_faults::AskFault;
 use crate::calls::Call;
 use crate::sessions::{Prepared, Session, draw};
-use bp_code::steps_alike;
+use bp_flat::steps_alike;
 
 impl Session {
     /// The choice bit of the next call of a thread, where this bit or none is handed in.

@@ -1,8 +1,8 @@
 //! What a session tells of the machine after the calls that it answered.
 ghost use Rattle.std.specs.Prelude.{◌≡◌, ◌<◌, [], ℕ, List, drop, slice_get, option_map, is_some, length, MatchOption, MatchResult};
 ghost use Rattle.bp_tree.specs.Ast.{Program};
-ghost use Rattle.bp_code.specs.Bits.{bits_of};
-ghost use Rattle.bp_code.specs.StandsFor.{valuation_of, StandsFor};
+ghost use Rattle.bp_flat.specs.Bits.{bits_of};
+ghost use Rattle.bp_flat.specs.StandsFor.{valuation_of, StandsFor};
 ghost use Rattle.bp_machine.specs.declared.calls.Call.{Call as Answered};
 ghost use Rattle.bp_machine.specs.Contexts.{IsLeastWithin};
 ghost use Rattle.bp_machine.specs.Answers.{stack_of};
@@ -17,7 +17,7 @@ use crate::ask_faults::AskFault;
 use crate::reports::Report;
 use crate::sessions::Session;
 use crate::tops::Top;
-use bp_code::{Kind, Store};
+use bp_flat::{Kind, Store};
 
 impl Session {
     /// The law that a session stands at each moment after a legal history of some program that its

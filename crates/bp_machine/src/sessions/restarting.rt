@@ -1,12 +1,12 @@
 //! Starting a session anew.
 ghost use Rattle.std.specs.Prelude.{◌≡◌, [], None, IfOk, IsOk, OnOk, OnErr};
 ghost use Rattle.bp_tree.specs.Ast.{Program};
-ghost use Rattle.bp_code.specs.StandsFor.{StandsFor};
+ghost use Rattle.bp_flat.specs.StandsFor.{StandsFor};
 ghost use Rattle.bp_machine.specs.Setups.{FitsCode};
 ghost use Rattle.bp_machine.specs.Sessions.{Stands};
 
 use crate::sessions::{Session, restart_choices};
-use bp_code::stores::word_of;
+use bp_flat::stores::word_of;
 use std::alloc::AllocError;
 
 impl Session {

@@ -1,7 +1,7 @@
 //! Whether a thread waits in a session, and whether all that are left do.
 ghost use Rattle.std.specs.Prelude.{◌≡◌, ◌↔◌, IsTrue, ℕ, List, Some, slice_get};
 ghost use Rattle.bp_tree.specs.Ast.{Program};
-ghost use Rattle.bp_code.specs.StandsFor.{StandsFor};
+ghost use Rattle.bp_flat.specs.StandsFor.{StandsFor};
 ghost use Rattle.bp_machine.specs.declared.calls.Call.{Call as Answered};
 ghost use Rattle.bp_machine.specs.Deadlocks.{has_frames, IsDeadlocked};
 ghost use Rattle.bp_machine.specs.Histories.{configuration_after};
@@ -11,7 +11,7 @@ ghost use Rattle.bp_machine.specs.Waiting.{finds_zero, is_blocked, waits};
 use crate::calls::Reply;
 use crate::sessions::Session;
 use crate::threads::GuestThread;
-use bp_code::steps_alike;
+use bp_flat::steps_alike;
 
 /// Whether a reply is that to an assumption of 0.
 fn is_blocked(reply: Reply) -> bool

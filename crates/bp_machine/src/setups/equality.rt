@@ -47,7 +47,7 @@ impl Setup {
 impl PartialEq for Setup {
     ghost use Rattle.std.specs.Prelude.{◌≡◌, IsTrue, ◌↔◌};
     ghost use Rattle.std.specs.Cmp.{partial_equiv_from_equiv};
-    ghost use Rattle.bp_code.specs.Same.{same, same-equiv};
+    ghost use Rattle.bp_flat.specs.Same.{same, same-equiv};
     ghost use Rattle.bp_machine.specs.SessionCodes.{coded_setup};
 
     ghost eq = { same coded_setup };
@@ -63,7 +63,7 @@ impl PartialEq for Setup {
 }
 
 impl Eq for Setup {
-    ghost use Rattle.bp_code.specs.Same.{same-equiv};
+    ghost use Rattle.bp_flat.specs.Same.{same-equiv};
     ghost use Rattle.bp_machine.specs.SessionCodes.{coded_setup};
 
     ghost laws = { same-equiv coded_setup };

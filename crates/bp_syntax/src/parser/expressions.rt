@@ -6,7 +6,7 @@ ghost use Rattle.bp_syntax.specs.ParserState.{UnThen, OperandThen, MoreOperands,
 
 use crate::parser::operators::{Precedence, operator};
 use crate::parser::{Parser, Stop};
-use crate::tokens::TokenKind;
+use bp_language::TokenKind;
 use bp_tree::{Decider, Expr, Exprs, Op, Sub};
 use std::alloc::{AllocError, Global};
 

@@ -2,7 +2,7 @@
 ghost use Rattle.std.specs.Prelude.{◌≡◌};
 ghost use Rattle.bp_syntax.specs.ParserState as rule;
 
-use crate::tokens::TokenKind;
+use bp_language::TokenKind;
 use bp_tree::Op;
 
 /// How strongly an operator that associates to the left binds: the strongest first.

@@ -5,7 +5,8 @@ ghost use Rattle.bp_syntax.specs.ParserState.{MoreDecls, MoreProcs, FormalsThen,
 
 use crate::faults::ReadFault;
 use crate::parser::{Parser, Stop};
-use crate::tokens::{Token, TokenKind};
+use crate::tokens::Token;
+use bp_language::TokenKind;
 use bp_tree::{Names, Proc, Procs};
 use std::alloc::Global;
 

@@ -1,6 +1,6 @@
 use Rattle.std.proofs.Common.{◌≤◌, [], ℕ, List, IsTrue, length, take, arith, rules}
 use Rattle.std.proofs.lemmas.List.{length-take}
-use Rattle.bp_syntax.specs.Cut.{HasTokens}
+use Rattle.bp_language.specs.Cut.{HasTokens}
 use Rattle.bp_advice.proofs.syntax_sentences.semicolon_place.Goals as goal
 
 within : (size at : ℕ) (text : List ℕ) → size ≤ length (take at text) → size ≤ at

@@ -1,4 +1,4 @@
-use Rattle.bp_check.specs.Scopes.{Among, SomeUses}
+use Rattle.bp_language.specs.Scopes.{Among, SomeUses}
 use Rattle.bp_check.proofs.StrayNames.{both_stray}
 use Rattle.bp_check.proofs.forms.stray.Goals as goal
 

@@ -1,7 +1,7 @@
 use Rattle.std.proofs.Common.{◌≡◌, ◌+◌, ◌*◌, ◌++◌, take}
 use Rattle.bp_tree.specs.Blocks.{block_of, statement_of}
 use Rattle.bp_tree.specs.Depth.{depth, statement_depth}
-use Rattle.bp_check.specs.Scopes.{statements}
+use Rattle.bp_language.specs.Scopes.{statements}
 use Rattle.bp_check.specs.Sets.{all_labelled}
 use Rattle.bp_check.proofs.procedures.+collect.Given as goal
 

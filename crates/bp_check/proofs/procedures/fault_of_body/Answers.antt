@@ -1,7 +1,7 @@
 use Rattle.std.proofs.Common.{ap, ◌∙◌}
-use Rattle.bp_check.specs.declared.faults.CheckFault.TheVariants.{TwiceLabel}
-use Rattle.bp_check.specs.Scopes.{labels, labels_of, statements}
-use Rattle.bp_check.specs.Faults.{IsTwice}
+use Rattle.bp_language.specs.declared.faults.CheckFault.TheVariants.{TwiceLabel}
+use Rattle.bp_language.specs.Scopes.{labels, labels_of, statements}
+use Rattle.bp_language.specs.Faults.{IsTwice}
 use Rattle.bp_check.specs.Sets.{all_labelled, Only, IsFaultOfStatements}
 use Rattle.bp_check.proofs.LeastOfBoth.{finds_both}
 use Rattle.bp_check.proofs.procedures.fault_of_body.Goals as goal

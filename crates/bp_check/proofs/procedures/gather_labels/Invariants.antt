@@ -1,5 +1,5 @@
 use Rattle.std.proofs.Common.{◌≡◌, ◌++◌, take}
-use Rattle.bp_check.specs.Scopes.{labels_of}
+use Rattle.bp_language.specs.Scopes.{labels_of}
 use Rattle.bp_check.specs.Sets.{names_of, all_labelled}
 use Rattle.bp_check.proofs.procedures.gather_labels.Given as goal
 

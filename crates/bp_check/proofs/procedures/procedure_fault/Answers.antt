@@ -1,6 +1,6 @@
 use Rattle.std.proofs.Common.{◌++◌, ◌∙◌, ap}
-use Rattle.bp_check.specs.declared.faults.CheckFault.TheVariants.{TwiceLocal}
-use Rattle.bp_check.specs.declared.limits.TheConstants.{MAX_OWN_NAMES}
+use Rattle.bp_language.specs.declared.faults.CheckFault.TheVariants.{TwiceLocal}
+use Rattle.bp_language.specs.declared.limits.TheConstants.{MAX_OWN_NAMES}
 use Rattle.bp_tree.specs.Lookup.{variables}
 use Rattle.bp_check.specs.Sets.{IsFaultOfNames, IsFaultOfBody}
 use Rattle.bp_check.proofs.LeastOfBoth.{finds_both}

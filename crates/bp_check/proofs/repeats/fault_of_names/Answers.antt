@@ -1,5 +1,5 @@
-use Rattle.bp_check.specs.declared.faults.CheckFault.TheVariants.{Limit}
-use Rattle.bp_check.specs.Faults.{IsTwice, IsPast}
+use Rattle.bp_language.specs.declared.faults.CheckFault.TheVariants.{Limit}
+use Rattle.bp_language.specs.Faults.{IsTwice, IsPast}
 use Rattle.bp_check.specs.Sets.{Only}
 use Rattle.bp_check.proofs.LeastOfBoth.{finds_both}
 use Rattle.bp_check.proofs.repeats.fault_of_names.Goals as goal

@@ -1,7 +1,8 @@
 use Rattle.std.proofs.Common.{◌≡◌, ℕ, ◌+◌, ◌-◌, List, drop, arith, subst}
 use Rattle.std.proofs.lemmas.Map.Text.{btree_map_updates_str}
 use Rattle.bp_check.specs.Sets.{names_of}
-use Rattle.bp_check.specs.Tables.{index_in, first_index_from}
+use Rattle.bp_check.specs.Tables.{index_in}
+use Rattle.bp_language.specs.Tables.{first_index_from}
 use Rattle.bp_check.proofs.FirstIndex.{first_put}
 use Rattle.bp_check.proofs.RepeatedNames.{name_at}
 use Rattle.bp_check.proofs.tables.first_indices.Goals as goal

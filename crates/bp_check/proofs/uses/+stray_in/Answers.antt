@@ -1,4 +1,4 @@
-use Rattle.bp_check.specs.Scopes.{Uses}
+use Rattle.bp_language.specs.Scopes.{Uses}
 use Rattle.bp_check.proofs.StrayNames.{none_stray, both_stray}
 use Rattle.bp_check.proofs.uses.+stray_in.Goals as goal
 

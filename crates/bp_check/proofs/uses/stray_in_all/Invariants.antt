@@ -1,6 +1,6 @@
 use Rattle.std.proofs.Common.{map, take}
 use Rattle.bp_tree.specs.Views.{expression_of}
-use Rattle.bp_check.specs.Scopes.{SomeUses}
+use Rattle.bp_language.specs.Scopes.{SomeUses}
 use Rattle.bp_check.specs.LeastFound.{Finds}
 use Rattle.bp_check.specs.Sets.{IsStray}
 use Rattle.bp_check.proofs.uses.stray_in_all.Given as goal

@@ -1,5 +1,5 @@
 use Rattle.std.proofs.Common.{take}
-use Rattle.bp_check.specs.Scopes.{Among}
+use Rattle.bp_language.specs.Scopes.{Among}
 use Rattle.bp_check.specs.LeastFound.{Finds}
 use Rattle.bp_check.specs.Sets.{IsStray}
 use Rattle.bp_check.proofs.uses.stray_names.Given as goal

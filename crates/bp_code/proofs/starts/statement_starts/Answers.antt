@@ -1,5 +1,5 @@
 use Rattle.std.proofs.Common.{sym, ◌∙◌, append-nil}
-use Rattle.bp_code.proofs.ListItems.{dropped_all}
+use Rattle.bp_flat.proofs.ListItems.{dropped_all}
 use Rattle.bp_code.proofs.StartsOfPlaces.{procs_more}
 use Rattle.bp_code.proofs.starts.statement_starts.Goals as goal
 

@@ -1,5 +1,5 @@
 use Rattle.std.proofs.Common.{◌≡◌, ◌++◌, drop}
-use Rattle.bp_code.specs.StandsFor.{places_of}
+use Rattle.bp_flat.specs.StandsFor.{places_of}
 use Rattle.bp_code.proofs.StartsOfPlaces.{starts}
 use Rattle.bp_code.proofs.starts.statement_starts.Given as goal
 

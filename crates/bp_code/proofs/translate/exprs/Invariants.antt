@@ -1,8 +1,8 @@
 use Rattle.std.proofs.Common.{◌≡◌, map, take, drop}
 use Rattle.bp_tree.specs.Views.{expression_of}
-use Rattle.bp_code.specs.Views.{formula_of}
+use Rattle.bp_flat.specs.Views.{formula_of}
 use Rattle.bp_code.specs.Environments.{environment_of}
-use Rattle.bp_syntax.specs.NamesIn.{NamesInExpressions}
+use Rattle.bp_language.specs.NamesIn.{NamesInExpressions}
 use Rattle.bp_code.specs.Known.{HasSlot}
 use Rattle.bp_code.specs.Compiled.{formulas_in}
 use Rattle.bp_code.proofs.translate.exprs.Given as goal

@@ -1,6 +1,6 @@
 use Rattle.std.proofs.Common.{◌≡◌, take, drop}
 use Rattle.bp_code.specs.Environments.{environment_of}
-use Rattle.bp_syntax.specs.NamesIn.{EachName}
+use Rattle.bp_language.specs.NamesIn.{EachName}
 use Rattle.bp_code.specs.Known.{HasSlot}
 use Rattle.bp_code.specs.Compiled.{slots_in}
 use Rattle.bp_code.proofs.translate.slots.Given as goal

@@ -1,5 +1,5 @@
 use Rattle.std.proofs.Common.{◌≡◌, ◌∙◌, ◌+◌, [], take, refl, sym, subst, arith}
-use Rattle.bp_code.specs.StandsFor.{StandsFor}
+use Rattle.bp_flat.specs.StandsFor.{StandsFor}
 use Rattle.bp_machine.specs.Sessions.{Stands}
 use Rattle.bp_confirm.specs.Changes.{seen_by, seen_after}
 use Rattle.bp_confirm.proofs.HistoriesAgain.{front_again}

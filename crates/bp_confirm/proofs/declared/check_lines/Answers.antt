@@ -19,7 +19,8 @@ returns-then-line-threads c =
     let s = c.args.setup.now in
     let x = c.at-line.result.now in
     let thread : x.thread ≡ c.line.inside.thread = sym (ap (λ z. z.thread) c.line.view_is) in
-    first_stray t s c.args.lines.now c.loop-n.n x x (omega (arith, c.loop-n-test.true, c.len.ensures)) c.loop-n.invariant.1 c.at-line.ensures (IsOfNoThread s c.line.inside.thread)
+    first_stray t s c.args.lines.now c.loop-n.n x x (omega (arith, c.loop-n-test.true, c.len.ensures))
+    c.loop-n.invariant.1 c.at-line.ensures (IsOfNoThread s c.line.inside.thread)
     (record { is = thread; none = omega (arith, c.if-line-threads.true, c.threads.ensures, thread) })
 
 pub returns-in-Some : goal.returns-in-Some
@@ -29,7 +30,8 @@ returns-in-Some c =
     let x = c.at-line.result.now in
     let value = c.in-Some.value in
     let thread : x.thread ≡ c.line.inside.thread = sym (ap (λ z. z.thread) c.line.view_is) in
-    first_stray t s c.args.lines.now c.loop-n.n x x (omega (arith, c.loop-n-test.true, c.len.ensures)) c.loop-n.invariant.1 c.at-line.ensures (IsOfNoVariable t s value)
+    first_stray t s c.args.lines.now c.loop-n.n x x (omega (arith, c.loop-n-test.true, c.len.ensures))
+    c.loop-n.invariant.1 c.at-line.ensures (IsOfNoVariable t s value)
     (record {
       thread = omega (arith, c.if-line-threads.false, c.threads.ensures, thread);
       variable =

@@ -35,7 +35,8 @@ returns-in_default-clause-refused c = λ text later are tells.
     let now = configuration_after t s h in
     let top = c.in-Ok.ensures text t h c.requires.code are stands in
     let number : GoesOnAt t now c.line.inside.thread (Some c.in-Ok.top.number) = (c.in-Ok.top, top.1, refl) in
-    let knows : TellsNext text (step_of text x) later c.args.lines.now c.args.next = subst (λ z. TellsNext text (step_of text z) later c.args.lines.now c.args.next) (sym c.line.view_is) tells in
+    let knows : TellsNext text (step_of text x) later c.args.lines.now c.args.next =
+    subst (λ z. TellsNext text (step_of text z) later c.args.lines.now c.args.next) (sym c.line.view_is) tells in
     rw c.refusal_of-in_default.ensures
     (subst (λ z. IsNotTaken text t s h z later n (refusal_of c.args.points.now z n (Some c.in-Ok.top.number) Ambiguous)) c.line.view_is
     (ambiguous text t s h x later n (Some c.in-Ok.top.number) number c.args.points.now are top.0
@@ -52,7 +53,8 @@ returns-in-Err-Finished-clause-refused c = λ text later are tells.
     let now = configuration_after t s h in
     let top = c.in-Ok.ensures text t h c.requires.code are stands in
     let number : GoesOnAt t now c.line.inside.thread (Some c.in-Ok.top.number) = (c.in-Ok.top, top.1, refl) in
-    let knows : TellsNext text (step_of text x) later c.args.lines.now c.args.next = subst (λ z. TellsNext text (step_of text z) later c.args.lines.now c.args.next) (sym c.line.view_is) tells in
+    let knows : TellsNext text (step_of text x) later c.args.lines.now c.args.next =
+    subst (λ z. TellsNext text (step_of text z) later c.args.lines.now c.args.next) (sym c.line.view_is) tells in
     let bit = c.in-Some.ensures text t h (step_of text x) later c.requires.code are knows top.1 in
     let over = rw c.in-Err-Finished.field-0-is at (c.in-Err-Finished.ensures.refused t h c.requires.code stands) in
     rw c.refusal_of-in-Err-Finished.ensures
@@ -70,7 +72,8 @@ returns-then-not-is_granted-clause-refused c = λ text later are tells.
     let now = configuration_after t s h in
     let top = c.in-Ok.ensures text t h c.requires.code are stands in
     let number : GoesOnAt t now c.line.inside.thread (Some c.in-Ok.top.number) = (c.in-Ok.top, top.1, refl) in
-    let knows : TellsNext text (step_of text x) later c.args.lines.now c.args.next = subst (λ z. TellsNext text (step_of text z) later c.args.lines.now c.args.next) (sym c.line.view_is) tells in
+    let knows : TellsNext text (step_of text x) later c.args.lines.now c.args.next =
+    subst (λ z. TellsNext text (step_of text z) later c.args.lines.now c.args.next) (sym c.line.view_is) tells in
     let bit = c.in-Some.ensures text t h (step_of text x) later c.requires.code are knows top.1 in
     let called = c.in-Ok-call_of.ensures.called t h c.requires.code stands in
     let asked = c.in-Ok-call_of.ensures.asked in
@@ -91,7 +94,8 @@ returns-in-Ok-Some-clause-refused c = λ text later are tells.
     let now = configuration_after t s h in
     let top = c.in-Ok.ensures text t h c.requires.code are stands in
     let number : GoesOnAt t now c.line.inside.thread (Some c.in-Ok.top.number) = (c.in-Ok.top, top.1, refl) in
-    let knows : TellsNext text (step_of text x) later c.args.lines.now c.args.next = subst (λ z. TellsNext text (step_of text z) later c.args.lines.now c.args.next) (sym c.line.view_is) tells in
+    let knows : TellsNext text (step_of text x) later c.args.lines.now c.args.next =
+    subst (λ z. TellsNext text (step_of text z) later c.args.lines.now c.args.next) (sym c.line.view_is) tells in
     let bit = c.in-Some.ensures text t h (step_of text x) later c.requires.code are knows top.1 in
     let called = c.in-Ok-call_of.ensures.called t h c.requires.code stands in
     let asked = c.in-Ok-call_of.ensures.asked in
@@ -116,7 +120,8 @@ returns-in-Ok-None-clause-follows c = λ text later are tells.
     let x : StepLineOf = record { thread = c.line.inside.thread; location = c.line.inside.location; values = values_in c.line.inside.values.now } in
     let now = configuration_after t s h in
     let top = c.in-Ok.ensures text t h c.requires.code are stands in
-    let knows : TellsNext text (step_of text x) later c.args.lines.now c.args.next = subst (λ z. TellsNext text (step_of text z) later c.args.lines.now c.args.next) (sym c.line.view_is) tells in
+    let knows : TellsNext text (step_of text x) later c.args.lines.now c.args.next =
+    subst (λ z. TellsNext text (step_of text z) later c.args.lines.now c.args.next) (sym c.line.view_is) tells in
     let bit = c.in-Some.ensures text t h (step_of text x) later c.requires.code are knows top.1 in
     let called = c.in-Ok-call_of.ensures.called t h c.requires.code stands in
     let asked = c.in-Ok-call_of.ensures.asked in

@@ -15,9 +15,11 @@ loop-n-init c =
     record {
       within = omega (arith, count);
       size = refl;
-      each = λ i few. subst (λ k. slice_get (map (location_in lines) (replicate 64 k)) i ≡ Some (next_location i (drop k lines))) (sym count) (none_yet 64 i lines few);
+      each = λ i few.
+          subst (λ k. slice_get (map (location_in lines) (replicate 64 k)) i ≡ Some (next_location i (drop k lines))) (sym count) (none_yet 64 i lines few);
       many = many;
-      done = ap (map (location_in lines)) (drop_of_length-le c.in_ok-steps.steps.items (omega (arith, many, count))) ∙ sym (ap next_locations (drop_of_length-le lines (omega (arith, count))));
+      done = ap (map (location_in lines)) (drop_of_length-le c.in_ok-steps.steps.items (omega (arith, many, count)))
+          ∙ sym (ap next_locations (drop_of_length-le lines (omega (arith, count))));
     }
 
 pub loop-n-preserved : goal.loop-n-preserved

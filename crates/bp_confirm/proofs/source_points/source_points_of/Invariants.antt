@@ -1,6 +1,6 @@
 use Rattle.std.proofs.Common.{◌≡◌, take}
 use Rattle.bp_text.specs.Positions.{position_at}
-use Rattle.bp_code.proofs.ProceduresOfPlaces.{ends}
+use Rattle.bp_flat.proofs.ProceduresOfPlaces.{ends}
 use Rattle.bp_confirm.specs.SourcePoints.{points_from}
 use Rattle.bp_confirm.proofs.source_points.source_points_of.Given as goal
 

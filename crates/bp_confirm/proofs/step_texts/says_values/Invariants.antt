@@ -1,5 +1,5 @@
 use Rattle.std.proofs.Common.{◌≡◌, ◌++◌, length}
-use Rattle.bp_code.specs.Values.{Valuation}
+use Rattle.bp_flat.specs.Values.{Valuation}
 use Rattle.bp_trace.specs.Writable.{Without}
 use Rattle.bp_confirm.specs.StepTexts.{AreNamed, values_text}
 use Rattle.bp_confirm.proofs.step_texts.says_values.Given as goal

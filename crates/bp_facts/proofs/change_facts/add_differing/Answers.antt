@@ -2,10 +2,10 @@ use Rattle.std.proofs.Common.{◌≡◌, ◌∙◌, ◌++◌, ◌+◌, ◌<◌, 
 use Rattle.std.specs.Prelude.{option_map}
 use Rattle.std.proofs.lemmas.List.{take_all}
 use Rattle.bp_tree.specs.Ast.{Name}
-use Rattle.bp_code.specs.Bits.{bits_of}
-use Rattle.bp_code.specs.Steps.{Bits}
-use Rattle.bp_code.specs.StandsFor.{valuation_of}
-use Rattle.bp_code.specs.Values.{Valuation}
+use Rattle.bp_flat.specs.Bits.{bits_of}
+use Rattle.bp_flat.specs.Steps.{Bits}
+use Rattle.bp_flat.specs.StandsFor.{valuation_of}
+use Rattle.bp_flat.specs.Values.{Valuation}
 use Rattle.bp_text.proofs.GrownLists.{both_added}
 use Rattle.bp_facts.specs.ChangeFacts.{entry_of, owned, slot_entry}
 use Rattle.bp_facts.specs.Changes.{changed}

@@ -1,9 +1,9 @@
 use Rattle.std.proofs.Common.{◌≡◌, ◌∙◌, ◌++◌, ◌<◌, Some, ap, ap₂, sym, append-nil, take, length, map, arith}
 use Rattle.std.proofs.lemmas.Result.{on_ok_weaker}
 use Rattle.bp_tree.specs.Ast.{Procedure}
-use Rattle.bp_code.specs.Bits.{bits_of}
-use Rattle.bp_code.specs.StandsFor.{place, valuation_of, variables}
-use Rattle.bp_code.specs.Values.{Valuation}
+use Rattle.bp_flat.specs.Bits.{bits_of}
+use Rattle.bp_flat.specs.StandsFor.{place, valuation_of, variables}
+use Rattle.bp_flat.specs.Values.{Valuation}
 use Rattle.bp_facts.specs.ChangeFacts.{entry_of, owned}
 use Rattle.bp_facts.specs.Changes.{changed}
 use Rattle.bp_facts.proofs.ChangedVariables.{first_values}

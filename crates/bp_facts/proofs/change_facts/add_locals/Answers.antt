@@ -1,6 +1,6 @@
 use Rattle.std.proofs.Common.{◌∙◌, ◌++◌, Some, length, map, ap₂}
 use Rattle.std.proofs.lemmas.Result.{on_ok_weaker}
-use Rattle.bp_code.specs.Bits.{bits_of}
+use Rattle.bp_flat.specs.Bits.{bits_of}
 use Rattle.bp_text.proofs.GrownLists.{both_added}
 use Rattle.bp_facts.specs.ChangeFacts.{entry_of}
 use Rattle.bp_facts.proofs.ChangedEntries.{differing, differing_both}

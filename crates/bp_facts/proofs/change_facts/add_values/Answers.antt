@@ -1,8 +1,8 @@
 use Rattle.std.proofs.Common.{◌≡◌, ◌∙◌, ◌++◌, ◌<◌, ℕ, Bool, List, [], ◌∷◌, length, take, get_or, map, ap, ap₂, sym, add-one, arith, rules}
 use Rattle.std.specs.Prelude.{option_map}
 use Rattle.std.proofs.lemmas.List.{map-append}
-use Rattle.bp_code.specs.Bits.{bits_of}
-use Rattle.bp_code.specs.StandsFor.{valuation_of}
+use Rattle.bp_flat.specs.Bits.{bits_of}
+use Rattle.bp_flat.specs.StandsFor.{valuation_of}
 use Rattle.bp_text.proofs.GrownLists.{both_added}
 use Rattle.bp_facts.specs.ChangeFacts.{entry_of, owned, Entry}
 use Rattle.bp_facts.proofs.OwnedEntries.{values_more}

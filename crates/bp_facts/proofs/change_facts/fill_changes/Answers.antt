@@ -1,6 +1,6 @@
 use Rattle.std.proofs.Common.{◌∙◌, ◌++◌, List, None, map, ap, ap₂, sym}
 use Rattle.std.proofs.lemmas.Result.{on_ok_weaker}
-use Rattle.bp_code.specs.Bits.{bits_of}
+use Rattle.bp_flat.specs.Bits.{bits_of}
 use Rattle.bp_facts.specs.declared.change_facts.Change.{Change}
 use Rattle.bp_facts.specs.ChangeFacts.{entry_of, frame_entries, owned, stack_entries, Entry}
 use Rattle.bp_facts.specs.Changes.{changed}

@@ -2,11 +2,11 @@ use Rattle.std.proofs.Common.{◌≡◌, ◌∙◌, ◌++◌, ◌∷◌, [], ℕ
 use Rattle.std.specs.Prelude.{option_map}
 use Rattle.std.proofs.lemmas.List.{map-append}
 use Rattle.bp_tree.specs.Ast.{Name, Procedure}
-use Rattle.bp_code.specs.Bits.{bits_of}
-use Rattle.bp_code.specs.StandsFor.{named_store, variables}
-use Rattle.bp_code.specs.Steps.{Bits}
-use Rattle.bp_check.specs.Tables.{first_index}
-use Rattle.bp_code.proofs.SlotsOfNames.{value_of_slot}
+use Rattle.bp_flat.specs.Bits.{bits_of}
+use Rattle.bp_flat.specs.StandsFor.{named_store, variables}
+use Rattle.bp_flat.specs.Steps.{Bits}
+use Rattle.bp_language.specs.Tables.{first_index}
+use Rattle.bp_flat.proofs.SlotsOfNames.{value_of_slot}
 use Rattle.bp_facts.specs.ChangeFacts.{entry_of, Entry}
 use Rattle.bp_facts.specs.FootFacts.{named_entry, resolved}
 use Rattle.bp_facts.proofs.foot_facts.add_variable.Goals as goal

@@ -1,7 +1,7 @@
 use Rattle.std.proofs.Common.{◌≡◌, ◌∙◌, Some, ap, is_some, refl, sym}
 use Rattle.std.proofs.lemmas.Bool.{false≢true}
 use Rattle.bp_tree.specs.Views.{decision_of}
-use Rattle.bp_code.specs.StandsFor.{place}
+use Rattle.bp_flat.specs.StandsFor.{place}
 use Rattle.bp_machine.specs.Answers.{stack_of}
 use Rattle.bp_machine.specs.Histories.{configuration_after}
 use Rattle.bp_source.specs.Assertions.{next_decision}

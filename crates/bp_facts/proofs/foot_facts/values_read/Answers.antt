@@ -1,8 +1,8 @@
 use Rattle.std.proofs.Common.{◌≡◌, ◌∙◌, ap, ap₂, map, sym}
 use Rattle.std.proofs.lemmas.Result.{IfOk-weaker}
 use Rattle.bp_tree.specs.Views.{decision_of}
-use Rattle.bp_code.specs.Bits.{store_of}
-use Rattle.bp_code.specs.StandsFor.{named_store, place}
+use Rattle.bp_flat.specs.Bits.{store_of}
+use Rattle.bp_flat.specs.StandsFor.{named_store, place}
 use Rattle.bp_source.specs.Assertions.{variables_read}
 use Rattle.bp_facts.specs.FootFacts.{named_entries}
 use Rattle.bp_facts.proofs.foot_facts.values_read.Goals as goal

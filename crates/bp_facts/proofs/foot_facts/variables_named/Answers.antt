@@ -1,6 +1,6 @@
 use Rattle.std.proofs.Common.{◌∙◌, Bor, List, ℕ, arith}
-use Rattle.bp_code.specs.Bits.{store_of}
-use Rattle.bp_code.specs.StandsFor.{named_store}
+use Rattle.bp_flat.specs.Bits.{store_of}
+use Rattle.bp_flat.specs.StandsFor.{named_store}
 use Rattle.bp_facts.specs.FootFacts.{named_entry}
 use Rattle.bp_facts.proofs.MappedValues.{all_mapped}
 use Rattle.bp_facts.proofs.foot_facts.variables_named.Goals as goal

@@ -1,6 +1,6 @@
 use Rattle.std.proofs.Common.{◌≡◌, Bor, Option, None, Some, subst, ◌∙◌}
 use Rattle.std.specs.Prelude.{option_map, IsSomeAnd}
-use Rattle.bp_code.specs.StandsFor.{place, places_of}
+use Rattle.bp_flat.specs.StandsFor.{place, places_of}
 use Rattle.bp_source.specs.declared.source_statements.SourceStatement.{SourceStatement}
 use Rattle.bp_source.specs.SourceStatements.{IsSourceStatement}
 use Rattle.bp_source.proofs.GotItems.{got_item}

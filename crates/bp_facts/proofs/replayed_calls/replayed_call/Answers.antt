@@ -1,7 +1,7 @@
 use Rattle.std.proofs.Common.{◌≡◌, ◌++◌, ◌∷◌, [], ℕ, List, Option, None, Some, true, false, refl, subst, sym}
 use Rattle.std.specs.Prelude.{MatchOption}
-use Rattle.bp_code.specs.Configurations.{Configuration}
-use Rattle.bp_code.specs.StandsFor.{StandsFor}
+use Rattle.bp_flat.specs.Configurations.{Configuration}
+use Rattle.bp_flat.specs.StandsFor.{StandsFor}
 use Rattle.bp_machine.specs.declared.calls.Call.{Call as Answered}
 use Rattle.bp_machine.specs.Answers.{stack_of}
 use Rattle.bp_machine.specs.Contexts.{IsLeastWithin}

@@ -1,8 +1,8 @@
 use Rattle.std.proofs.Common.{◌≡◌, ◌∙◌, ap, ap₂, drop, subst}
 use Rattle.bp_tree.specs.Ast.{Procedure}
-use Rattle.bp_code.specs.Bits.{bits_of}
-use Rattle.bp_code.specs.StandsFor.{place, valuation_of, variables}
-use Rattle.bp_code.specs.Values.{Valuation}
+use Rattle.bp_flat.specs.Bits.{bits_of}
+use Rattle.bp_flat.specs.StandsFor.{place, valuation_of, variables}
+use Rattle.bp_flat.specs.Values.{Valuation}
 use Rattle.bp_machine.specs.Answers.{stack_of}
 use Rattle.bp_machine.specs.Histories.{configuration_after}
 use Rattle.bp_facts.specs.StateFacts.{AreFrameFacts}

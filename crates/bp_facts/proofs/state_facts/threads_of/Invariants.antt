@@ -1,6 +1,6 @@
 use Rattle.std.proofs.Common.{◌≡◌, List, ℕ, length, map}
 use Rattle.bp_tree.specs.Ast.{Program}
-use Rattle.bp_code.specs.StandsFor.{StandsFor}
+use Rattle.bp_flat.specs.StandsFor.{StandsFor}
 use Rattle.bp_machine.specs.Sessions.{Stands}
 use Rattle.bp_facts.specs.ProgramFacts.{AreProgramFacts}
 use Rattle.bp_facts.specs.StateFacts.{thread_in, AreThreadsFacts}

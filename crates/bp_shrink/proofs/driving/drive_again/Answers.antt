@@ -1,5 +1,5 @@
 use Rattle.std.proofs.Common.{sym, subst, ◌∙◌}
-use Rattle.bp_code.specs.Programs.{IsOfProgram}
+use Rattle.bp_flat.specs.Programs.{IsOfProgram}
 use Rattle.bp_shrink.proofs.driving.drive_again.Goals as goal
 
 pub make_again-requires-clause-program : goal.make_again-requires-clause-program

@@ -1,5 +1,5 @@
 use Rattle.std.proofs.Common.{◌≡◌, ◌∙◌, ◌++◌, ◌<◌, ◌^◌, length, ap, sym, arith}
-use Rattle.bp_code.specs.StandsFor.{places_of}
+use Rattle.bp_flat.specs.StandsFor.{places_of}
 use Rattle.bp_source.specs.JsonListings.{code_object, instruction_objects}
 use Rattle.bp_source.proofs.CodeObjects.{place_count, statement_count}
 use Rattle.bp_source.proofs.json_listings.code_objects.Goals as goal

@@ -1,5 +1,5 @@
 use Rattle.std.proofs.Common.{◌≡◌, ◌∙◌, ap, slice_get}
-use Rattle.bp_code.specs.StandsFor.{places_of}
+use Rattle.bp_flat.specs.StandsFor.{places_of}
 use Rattle.bp_source.proofs.GotItems.{got_item}
 use Rattle.bp_source.proofs.SourceStatementLists.{source_statement_at}
 use Rattle.bp_source.proofs.procedures.procedure_at.Goals as goal

@@ -1,8 +1,8 @@
 use Rattle.std.proofs.Common.{◌≡◌, take}
 use Rattle.bp_text.specs.Positions.{position_at}
-use Rattle.bp_code.specs.StandsFor.{places_of}
+use Rattle.bp_flat.specs.StandsFor.{places_of}
 use Rattle.bp_source.specs.SourceStatements.{AreSourceStatementsAt}
-use Rattle.bp_code.proofs.ProceduresOfPlaces.{ends}
+use Rattle.bp_flat.proofs.ProceduresOfPlaces.{ends}
 use Rattle.bp_source.proofs.source_statements.source_statements_of.Given as goal
 
 abbrev pub invariant-loop-start : goal.invariant-loop-start

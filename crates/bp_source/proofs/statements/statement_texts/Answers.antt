@@ -1,6 +1,6 @@
 use Rattle.std.proofs.Common.{subst, sym}
 use Rattle.std.proofs.lemmas.Result.{IfOk-weaker}
-use Rattle.bp_code.specs.StandsFor.{places_of}
+use Rattle.bp_flat.specs.StandsFor.{places_of}
 use Rattle.bp_source.specs.SourceStatements.{AreStatements}
 use Rattle.bp_source.proofs.TextsOfStatements.{texts_are}
 use Rattle.bp_source.proofs.statements.statement_texts.Goals as goal

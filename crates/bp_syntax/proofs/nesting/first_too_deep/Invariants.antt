@@ -1,5 +1,5 @@
 use Rattle.std.proofs.Common.{◌≡◌, ◌≤◌, drop}
-use Rattle.bp_syntax.specs.declared.limits.TheConstants.{NESTING_LIMIT}
+use Rattle.bp_language.specs.declared.limits.TheConstants.{NESTING_LIMIT}
 use Rattle.bp_syntax.specs.DepthCount.{first_too_deep}
 use Rattle.bp_syntax.specs.Views.{token_list}
 use Rattle.bp_syntax.proofs.nesting.first_too_deep.Given as goal

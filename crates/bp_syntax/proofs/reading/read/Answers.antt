@@ -3,7 +3,8 @@ use Rattle.bp_syntax.specs.Views.{token_list}
 use Rattle.bp_syntax.specs.DepthCount.{first_too_deep}
 use Rattle.bp_syntax.specs.SuccessionCount.{first_too_many}
 use Rattle.bp_syntax.specs.ParserState.{program_of, whole_program, parse_result, Got, IsParseFault}
-use Rattle.bp_syntax.specs.Texts.{IsTextOf, IsRefusal}
+use Rattle.bp_language.specs.Texts.{IsTextOf}
+use Rattle.bp_syntax.specs.Refusals.{IsRefusal}
 use Rattle.bp_syntax.specs.declared.faults.ReadFault.{ReadFault}
 use Rattle.bp_syntax.specs.declared.faults.ReadFault.TheVariants as fault
 use Rattle.bp_syntax.proofs.FirstTooDeep.{none_is_shallow}

@@ -1,7 +1,7 @@
 use Rattle.std.proofs.Common.{◌≡◌, ◌∙◌, ◌≤◌, true, false, bytes_eq, get_or, length, ap, rules, refl, sym, arith}
 use Rattle.std.proofs.lemmas.List.{drop_all}
 use Rattle.bp_syntax.specs.declared.tokens.TheConstants.{RESERVED}
-use Rattle.bp_syntax.specs.declared.tokens.TokenKind.TheVariants as kind
+use Rattle.bp_language.specs.declared.tokens.TokenKind.TheVariants as kind
 use Rattle.bp_syntax.specs.Spellings.{spelling}
 use Rattle.bp_syntax.proofs.SpelledWords.{first_spelled, go_on, is_next}
 use Rattle.bp_syntax.proofs.tokens.reserved_word.Goals as goal

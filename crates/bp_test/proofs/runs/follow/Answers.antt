@@ -1,6 +1,6 @@
 use Rattle.std.proofs.Common.{◌≡◌, [], rules, refl, ap, ◌∙◌, sym, subst, inr}
-use Rattle.bp_code.specs.Programs.{IsOfProgram}
-use Rattle.bp_code.specs.StandsFor.{StandsFor}
+use Rattle.bp_flat.specs.Programs.{IsOfProgram}
+use Rattle.bp_flat.specs.StandsFor.{StandsFor}
 use Rattle.bp_machine.specs.Sessions.{Stands}
 use Rattle.bp_test.specs.declared.keys.TheConstants.{FIRST_KEY}
 use Rattle.bp_test.specs.Keys.{no_call, IsKey}

@@ -1,6 +1,6 @@
 use Rattle.std.proofs.Common.{◌≡◌, ◌≤◌, ◌-◌, ◌+◌, ◌++◌, length, drop}
 use Rattle.bp_tree.specs.Ast.{Program}
-use Rattle.bp_code.specs.StandsFor.{StandsFor}
+use Rattle.bp_flat.specs.StandsFor.{StandsFor}
 use Rattle.bp_trace.specs.Judging.{ArePlayed, WatchesAll}
 use Rattle.bp_trace.specs.Replays.{line_count}
 use Rattle.bp_trace.specs.TraceText.{calls_text}

@@ -1,6 +1,6 @@
 use Rattle.std.proofs.Common.{◌++◌, ◌<◌, None, length, codes, refl, sym, arith}
 use Rattle.std.proofs.lemmas.Result.{on_ok_weaker}
-use Rattle.bp_code.specs.Values.{binding}
+use Rattle.bp_flat.specs.Values.{binding}
 use Rattle.bp_text.proofs.GrownLists.{both_added}
 use Rattle.bp_tasks.specs.declared.view_options.ViewFormat.TheVariants.{Columns}
 use Rattle.bp_view.specs.Variables.{variables_text}

@@ -1,5 +1,5 @@
 use Rattle.std.proofs.Common.{[], ◌∷◌, None, codes, decimal, flat_map}
-use Rattle.bp_code.specs.Values.{binding}
+use Rattle.bp_flat.specs.Values.{binding}
 use Rattle.bp_text.specs.Pieces.{key_text, list_text, number_or_null}
 use Rattle.bp_text.proofs.PiecesInTurn.{three_joined}
 use Rattle.bp_source.specs.Programs.{string_item}

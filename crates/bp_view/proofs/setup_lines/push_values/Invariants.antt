@@ -1,5 +1,5 @@
 use Rattle.std.proofs.Common.{◌≡◌, ◌++◌, None, take}
-use Rattle.bp_code.specs.Values.{binding}
+use Rattle.bp_flat.specs.Values.{binding}
 use Rattle.bp_view.specs.Variables.{variables_text}
 use Rattle.bp_view.proofs.setup_lines.push_values.Given as goal
 

@@ -1,7 +1,7 @@
 use Rattle.std.proofs.Common.{[], ◌∷◌, codes, decimal}
 use Rattle.std.specs.List.{concat}
-use Rattle.bp_code.specs.Bits.{bits_of}
-use Rattle.bp_code.specs.StandsFor.{valuation_of}
+use Rattle.bp_flat.specs.Bits.{bits_of}
+use Rattle.bp_flat.specs.StandsFor.{valuation_of}
 use Rattle.bp_text.proofs.PiecesInTurn.{all_added}
 use Rattle.bp_view.specs.SetupLines.{globals_line}
 use Rattle.bp_view.specs.States.{failed_line}

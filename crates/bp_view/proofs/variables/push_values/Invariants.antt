@@ -1,7 +1,7 @@
 use Rattle.std.proofs.Common.{◌≡◌, ◌+◌, ◌++◌, take}
 use Rattle.std.specs.Prelude.{option_map}
-use Rattle.bp_code.specs.Bits.{bits_of}
-use Rattle.bp_code.specs.StandsFor.{valuation_of}
+use Rattle.bp_flat.specs.Bits.{bits_of}
+use Rattle.bp_flat.specs.StandsFor.{valuation_of}
 use Rattle.bp_view.specs.Variables.{variables_text}
 use Rattle.bp_view.proofs.variables.push_values.Given as goal
 

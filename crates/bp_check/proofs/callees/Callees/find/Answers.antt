@@ -1,7 +1,7 @@
 use Rattle.std.proofs.Common.{ap, sym, ◌∙◌}
 use Rattle.std.specs.Option.{option_copied}
 use Rattle.bp_tree.specs.Lookup.{procedure_named}
-use Rattle.bp_check.specs.Tables.{first_index}
+use Rattle.bp_language.specs.Tables.{first_index}
 use Rattle.bp_check.proofs.FirstIndex.{named_first, named_nowhere, got_at}
 use Rattle.bp_check.proofs.callees.Callees.find.Goals as goal
 

@@ -1,4 +1,4 @@
-use Rattle.bp_check.proofs.LawsOfLawfulPrograms.{distinct_names}
+use Rattle.bp_language.proofs.LawsOfLawfulPrograms.{distinct_names}
 use Rattle.bp_check.proofs.checks.Checked.has_distinct_names.Goals as goal
 
 pub returns : goal.returns

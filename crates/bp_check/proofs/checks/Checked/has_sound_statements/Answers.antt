@@ -1,4 +1,4 @@
-use Rattle.bp_check.proofs.LawsOfLawfulPrograms.{sound_statements}
+use Rattle.bp_language.proofs.LawsOfLawfulPrograms.{sound_statements}
 use Rattle.bp_check.proofs.checks.Checked.has_sound_statements.Goals as goal
 
 pub returns : goal.returns

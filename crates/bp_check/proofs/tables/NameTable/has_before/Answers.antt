@@ -1,5 +1,5 @@
 use Rattle.std.proofs.Common.{ap, sym, ◌∙◌, zero-add}
-use Rattle.bp_check.specs.Tables.{first_index}
+use Rattle.bp_language.specs.Tables.{first_index}
 use Rattle.bp_check.proofs.FirstIndex.{below, first_below}
 use Rattle.bp_check.proofs.tables.NameTable.has_before.Goals as goal
 

@@ -1,6 +1,6 @@
 use Rattle.std.proofs.Common.{refl}
 use Rattle.std.proofs.lemmas.Result.{err_from_is_err_and}
-use Rattle.bp_check.specs.declared.faults.CheckFault.TheVariants.{Memory}
+use Rattle.bp_language.specs.declared.faults.CheckFault.TheVariants.{Memory}
 use Rattle.bp_code.specs.LawfulTexts.{IsProgramRefusal}
 use Rattle.bp_code.specs.declared.texts.ProgramFault.TheVariants.{Check}
 use Rattle.bp_commands.specs.Checks.{checks}

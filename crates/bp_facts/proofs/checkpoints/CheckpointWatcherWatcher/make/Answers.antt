@@ -1,5 +1,5 @@
 use Rattle.std.proofs.Common.{◌≡◌, ◌≢◌, ◌∙◌, ◌+◌, ◌++◌, ◌∷◌, [], sym, subst, arith, length}
-use Rattle.bp_code.specs.StandsFor.{StandsFor}
+use Rattle.bp_flat.specs.StandsFor.{StandsFor}
 use Rattle.bp_facts.proofs.CheckpointsOfFronts.{one_more, still_kept, whole}
 use Rattle.bp_facts.proofs.RecordedCalls.{next_number}
 use Rattle.bp_facts.proofs.checkpoints.CheckpointWatcherWatcher.make.Goals as goal

@@ -1,6 +1,6 @@
 use Rattle.std.proofs.Common.{◌≡◌, subst, None, Some}
-use Rattle.bp_code.specs.StandsFor.{StandsFor}
-use Rattle.bp_code.specs.Alike.{StepsAlike}
+use Rattle.bp_flat.specs.StandsFor.{StandsFor}
+use Rattle.bp_flat.specs.Alike.{StepsAlike}
 use Rattle.bp_tree.specs.Ast.{Program}
 use Rattle.std.proofs.lemmas.Option.{slice_get_within}
 use Rattle.std.proofs.lemmas.Result.{err_from_is_err_and}

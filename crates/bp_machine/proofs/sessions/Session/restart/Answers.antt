@@ -1,6 +1,6 @@
 use Rattle.std.proofs.Common.{◌∙◌, ap, map, sym, subst}
-use Rattle.bp_code.specs.Steps.{bits_from}
-use Rattle.bp_code.specs.StandsFor.{StandsFor}
+use Rattle.bp_flat.specs.Steps.{bits_from}
+use Rattle.bp_flat.specs.StandsFor.{StandsFor}
 use Rattle.bp_machine.specs.GuestThreads.{first_thread}
 use Rattle.bp_machine.specs.Setups.{FitsCode}
 use Rattle.bp_machine.specs.KeptSessions.{AreFirstChoices}

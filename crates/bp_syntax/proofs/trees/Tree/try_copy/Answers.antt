@@ -1,6 +1,6 @@
 use Rattle.std.proofs.Common.{sym, subst}
 use Rattle.bp_syntax.specs.ParserState.{program_of}
-use Rattle.bp_syntax.specs.Texts.{HasText}
+use Rattle.bp_language.specs.Texts.{HasText}
 use Rattle.bp_syntax.proofs.trees.Tree.try_copy.Goals as goal
 
 -- the copy is the tree of the same text

@@ -1,9 +1,0 @@
-use Rattle.bp_code.specs.Codes.{coded_flat}
-use Rattle.bp_code.specs.Same.{same, same-Decides}
-use Rattle.bp_code.proofs.SameAnswer.{same_answer}
-use Rattle.bp_code.proofs.code.CodePartialEq.eq.Goals as goal
-
-pub returns-clause-gives : goal.returns-clause-gives
-returns-clause-gives c =
-    let tested = same-Decides coded_flat c.args.self.now c.args.other.now in
-    same_answer c.is_same.result (same coded_flat c.args.self.now c.args.other.now) c.is_same.ensures tested

@@ -1,8 +1,0 @@
-use Rattle.std.proofs.Common.{◌≡◌, map, take}
-use Rattle.bp_code.specs.Steps.{formula_values}
-use Rattle.bp_code.specs.Bits.{store_of}
-use Rattle.bp_code.specs.Views.{formula_of}
-use Rattle.bp_code.proofs.expr_lists.SlotExprs.values.Given as goal
-
-abbrev pub invariant-loop-expr : goal.invariant-loop-expr
-invariant-loop-expr l = l.values.items ≡ formula_values (store_of l.store) (map formula_of (take l.expr-index l.expr-items))

@@ -1,5 +1,0 @@
-use Rattle.bp_code.proofs.StandsForStepsAlike.{steps_alike}
-use Rattle.bp_code.proofs.laws.steps_alike.Goals as goal
-
-pub returns : goal.returns
-returns c = steps_alike c.args._code.now

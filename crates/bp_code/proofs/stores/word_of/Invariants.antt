@@ -1,7 +1,0 @@
-use Rattle.std.proofs.Common.{◌≡◌, take}
-use Rattle.bp_code.specs.Steps.{bits_from}
-use Rattle.bp_code.specs.Bits.{bits_of}
-use Rattle.bp_code.proofs.stores.word_of.Given as goal
-
-abbrev pub invariant-loop-i : goal.invariant-loop-i
-invariant-loop-i l = bits_of l.word ≡ bits_from (take l.i l.bits)

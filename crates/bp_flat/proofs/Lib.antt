@@ -1,0 +1,11 @@
+mod BitsFrom
+mod HalvesOfWords
+pub mod HeadingsOfProcedures
+pub mod ListItems
+pub mod ProceduresOfPlaces
+pub mod SameAnswer
+pub mod SlotsOfNames
+mod SpelledHeadings
+pub mod StandsForStepsAlike
+mod WithSlots
+mod WordBits

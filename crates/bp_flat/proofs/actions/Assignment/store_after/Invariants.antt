@@ -1,0 +1,11 @@
+use Rattle.std.proofs.Common.{◌≡◌, map, drop}
+use Rattle.bp_flat.specs.Steps.{with_slots, formula_values}
+use Rattle.bp_flat.specs.Bits.{store_of}
+use Rattle.bp_flat.specs.Views.{formula_of}
+use Rattle.bp_flat.proofs.actions.Assignment.store_after.Given as goal
+
+-- what the targets that are left make of the store now is what all of them make of the first store
+abbrev pub invariant-loop-i : goal.invariant-loop-i
+invariant-loop-i l =
+    let bits = formula_values (store_of l.store) (map formula_of l.values) in
+    with_slots (store_of l.after) (drop l.i l.slot-items) (drop l.i bits) ≡ with_slots (store_of l.store) l.slot-items bits

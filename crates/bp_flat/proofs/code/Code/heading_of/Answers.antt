@@ -1,0 +1,16 @@
+use Rattle.std.proofs.Common.{rules, ◌≡◌, ◌∙◌, ap, refl, option_map, Option, Some, None, Bor}
+use Rattle.std.specs.Option.{option_copied}
+use Rattle.bp_flat.specs.Flat as flat
+use Rattle.bp_flat.specs.Headings.{heading_named}
+use Rattle.bp_flat.specs.declared.headings.Heading.{Heading}
+use Rattle.bp_flat.proofs.HeadingsOfProcedures.{formals_of_procedure}
+use Rattle.bp_flat.proofs.code.Code.heading_of.Goals as goal
+
+formals_shown : (o : Option (Bor Heading)) → option_map (λ h. h.now.formals) o ≡ option_map (λ (k : flat.Heading). k.formals) (option_copied o)
+formals_shown None = refl
+formals_shown (Some h) = refl
+
+pub returns-clause-program : goal.returns-clause-program
+returns-clause-program c = λ t is.
+    let found : option_copied c.find_heading.result ≡ heading_named c.args.self.now.headings c.args.name.now = search rules in
+    formals_shown c.find_heading.result ∙ ap (option_map (λ (k : flat.Heading). k.formals)) found ∙ formals_of_procedure c.args.self.now t c.args.name.now is

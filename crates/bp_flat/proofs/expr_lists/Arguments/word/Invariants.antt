@@ -1,0 +1,8 @@
+use Rattle.std.proofs.Common.{◌≡◌, map, take}
+use Rattle.bp_flat.specs.Steps.{formula_values, bits_from}
+use Rattle.bp_flat.specs.Bits.{bits_of, store_of}
+use Rattle.bp_flat.specs.Views.{formula_of}
+use Rattle.bp_flat.proofs.expr_lists.Arguments.word.Given as goal
+
+abbrev pub invariant-loop-i : goal.invariant-loop-i
+invariant-loop-i l = bits_of l.word ≡ bits_from (take l.i (formula_values (store_of l.store) (map formula_of l.value-items)))

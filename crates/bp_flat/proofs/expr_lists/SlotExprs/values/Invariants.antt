@@ -1,0 +1,8 @@
+use Rattle.std.proofs.Common.{◌≡◌, map, take}
+use Rattle.bp_flat.specs.Steps.{formula_values}
+use Rattle.bp_flat.specs.Bits.{store_of}
+use Rattle.bp_flat.specs.Views.{formula_of}
+use Rattle.bp_flat.proofs.expr_lists.SlotExprs.values.Given as goal
+
+abbrev pub invariant-loop-expr : goal.invariant-loop-expr
+invariant-loop-expr l = l.values.items ≡ formula_values (store_of l.store) (map formula_of (take l.expr-index l.expr-items))

@@ -1,0 +1,19 @@
+-- What the effect of an instruction in src/ results in.
+use Rattle.std.specs.Prelude.{List, ◌∷◌}
+use Rattle.bp_flat.specs.declared.stores.Store.{Store}
+use Rattle.bp_flat.specs.declared.effects.Effect.{Effect}
+use Rattle.bp_flat.specs.declared.effects.Effect.TheVariants.{Continues, Enters, Returns, Fails, Blocks}
+use Rattle.bp_flat.specs.Bits.{bits_of}
+use Rattle.bp_flat.specs.Effects as effects
+use Rattle.bp_flat.specs.Steps.{Activation, activation, InstructionEffect}
+
+-- above the activations below, where the store before it is s
+abbrev pub effect_of : Store → Effect → List Activation → InstructionEffect
+effect_of s (Continues m after) below =
+    effects.Leaves (bits_of after.globals) (activation m (bits_of after.locals) ∷ below)
+effect_of s (Enters c m l) below =
+    let caller = activation m (bits_of s.locals) in
+    effects.Leaves (bits_of s.globals) (activation c (bits_of l) ∷ caller ∷ below)
+effect_of s Returns below = effects.Leaves (bits_of s.globals) below
+effect_of s Fails below = effects.Fails
+effect_of s Blocks below = effects.Blocks

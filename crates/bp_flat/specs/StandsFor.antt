@@ -1,0 +1,190 @@
+-- A code stands for a program: each of its instructions is one statement, or one procedure's end.
+use Rattle.std.specs.Prelude.{◌≡◌, ℕ, suc, Bool, List, [], ◌∷◌, ◌++◌, Option, Some, length, slice_get}
+pub use Rattle.bp_tree.specs.Lookup.{variables}
+use Rattle.bp_tree.specs.Ast.{Name, Expression, Decision, Block, Done, Then, Statement, Skips, GoesTo, Returns, Assigns, Branches, Loops, Asserts, Assumes, Prints, Calls, Procedure, Program}
+use Rattle.bp_flat.specs.declared.slots.Slot.{Slot}
+use Rattle.bp_flat.specs.Flat.{Formula, Instruction, Skip, Goto, Return, Assign, If, While, Assert, Assume, Print, Call, Heading, Flat}
+use Rattle.bp_flat.specs.Effects.{Store}
+use Rattle.bp_flat.specs.Values.{Valuation, expression_values, decision_value, after_assignment}
+use Rattle.bp_flat.specs.Continuations.{chain, from_label}
+use Rattle.bp_flat.specs.Configurations.{procedure_named}
+use Rattle.bp_flat.specs.Steps.{Bits, with_slots, formula_values, test_value}
+
+-- names with the bits of their slots, where a variable's slot is its place among these names
+abbrev pub valuation_of : List Name → Bits → Valuation
+valuation_of [] bits = []
+valuation_of (x ∷ xs) bits = (x.text, bits 0) ∷ valuation_of xs (λ k. bits (suc k))
+
+-- the same of a store in a frame of the procedure p
+abbrev pub named_store : List Name → Procedure → Store Bits → Store Valuation
+named_store globals p store =
+    record {
+      globals = valuation_of globals store.globals;
+      locals = valuation_of (variables p) store.locals;
+    }
+
+-- a place in a program: the procedure, and what remains of its statements
+pub record Place : Type 0 where
+  pub procedure : Procedure
+  pub left : Block
+
+abbrev pub place : Procedure → Block → Place
+place p r = record { procedure = p; left = r }
+
+-- the places of a block's statements in text order, where r remains after the block
+abbrev mutual
+  pub places : Procedure → Block → Block → List Place
+  places p Done r = []
+  places p (Then label at s t) r = places_in p s label at (chain t r) ++ places p t r
+
+  pub places_in : Procedure → Statement → Option Name → ℕ → Block → List Place
+  places_in p (Branches d a b) label at r =
+      place p (Then label at (Branches d a b) r) ∷ (places p a r ++ places p b r)
+  places_in p (Loops d a) label at r =
+      let again = Then label at (Loops d a) r in
+      place p again ∷ places p a again
+  places_in p s label at r = place p (Then label at s r) ∷ []
+
+-- one place for each statement and one for each procedure's end, in text order
+abbrev pub places_of : List Procedure → List Place
+places_of [] = []
+places_of (p ∷ ps) = places p p.body Done ++ (place p Done ∷ places_of ps)
+
+-- the instruction of this number is where r remains in the procedure p
+abbrev pub Remains : List Place → ℕ → Procedure → Block → Type 0
+Remains table n p r = slice_get table n ≡ Some (place p r)
+
+module _ (t : Program) (p : Procedure) where
+  -- the formulas have the values of the expressions, whatever the store
+  pub record AreValues (fs : List Formula) (es : List Expression) : Type 0 where
+    pub equal : (store : Store Bits)
+        → formula_values store fs ≡ expression_values (named_store t.globals p store) es
+
+  -- the test has the value of the decision, whatever the store and the choice bit
+  pub record IsTestOf (test : Option Formula) (d : Decision) : Type 0 where
+    pub equal : (store : Store Bits) (bit : Bool)
+        → test_value store bit test ≡ decision_value (named_store t.globals p store) bit d
+
+  -- the slots are written as the targets are, whatever the store
+  pub record AreTargets (slots : List Slot) (xs : List Name) : Type 0 where
+    pub equal : (store : Store Bits) (bits : List Bool)
+        → named_store t.globals p (with_slots store slots bits)
+        ≡ after_assignment (named_store t.globals p store) xs bits
+
+-- What the instruction of a place is: of the statement's kind, with the same values, and with
+-- successors at which remains what the statement leaves. r is what remains after the statement.
+module _ (t : Program) (table : List Place) (p : Procedure) where
+  pub record IsSkip (r : Block) (i : Instruction) : Type 0 where
+    pub next : ℕ
+    pub is : i ≡ Skip next
+    pub next_is : Remains table next p r
+
+  pub record IsJump (label : Name) (i : Instruction) : Type 0 where
+    pub next : ℕ
+    pub left : Block
+    pub is : i ≡ Goto next
+    pub left_is : from_label p.body Done label.text ≡ Some left
+    pub next_is : Remains table next p left
+
+  pub record IsAssignment (names : List Name) (es : List Expression) (r : Block) (i : Instruction)
+      : Type 0 where
+    pub targets : List Slot
+    pub values : List Formula
+    pub next : ℕ
+    pub is : i ≡ Assign targets values next
+    pub targets_are : AreTargets t p targets names
+    pub values_are : AreValues t p values es
+    pub next_is : Remains table next p r
+
+  -- a test that continues at one place where it is 1, and at another where it is 0
+  pub record IsBranch (d : Decision) (taken other : Block) (i : Instruction) : Type 0 where
+    pub test : Option Formula
+    pub next : ℕ
+    pub else_next : ℕ
+    pub is : i ≡ If test next else_next
+    pub test_is : IsTestOf t p test d
+    pub next_is : Remains table next p taken
+    pub else_is : Remains table else_next p other
+
+  pub record IsLoop (d : Decision) (taken other : Block) (i : Instruction) : Type 0 where
+    pub test : Option Formula
+    pub next : ℕ
+    pub else_next : ℕ
+    pub is : i ≡ While test next else_next
+    pub test_is : IsTestOf t p test d
+    pub next_is : Remains table next p taken
+    pub else_is : Remains table else_next p other
+
+  pub record IsAssertion (d : Decision) (r : Block) (i : Instruction) : Type 0 where
+    pub test : Option Formula
+    pub next : ℕ
+    pub is : i ≡ Assert test next
+    pub test_is : IsTestOf t p test d
+    pub next_is : Remains table next p r
+
+  pub record IsAssumption (d : Decision) (r : Block) (i : Instruction) : Type 0 where
+    pub test : Option Formula
+    pub next : ℕ
+    pub is : i ≡ Assume test next
+    pub test_is : IsTestOf t p test d
+    pub next_is : Remains table next p r
+
+  pub record IsPrint (es : List Expression) (r : Block) (i : Instruction) : Type 0 where
+    pub values : List Formula
+    pub next : ℕ
+    pub is : i ≡ Print values next
+    pub values_are : AreValues t p values es
+    pub next_is : Remains table next p r
+
+  pub record IsCall (name : Name) (es : List Expression) (r : Block) (i : Instruction)
+      : Type 0 where
+    pub callee : ℕ
+    pub arguments : List Formula
+    pub next : ℕ
+    pub procedure : Procedure
+    pub is : i ≡ Call callee arguments next
+    pub procedure_is : procedure_named t.procedures name.text ≡ Some procedure
+    pub arity : length es ≡ length procedure.formals
+    pub arguments_are : AreValues t p arguments es
+    pub callee_is : Remains table callee procedure procedure.body
+    pub next_is : Remains table next p r
+
+  abbrev pub CarriesOut : Statement → Option Name → ℕ → Block → Instruction → Type 0
+  CarriesOut Skips label at r i = IsSkip r i
+  CarriesOut (GoesTo x) label at r i = IsJump x i
+  CarriesOut Returns label at r i = i ≡ Return
+  CarriesOut (Assigns xs es) label at r i = IsAssignment xs es r i
+  CarriesOut (Branches d a b) label at r i = IsBranch d (chain a r) (chain b r) i
+  CarriesOut (Loops d a) label at r i = IsLoop d (chain a (Then label at (Loops d a) r)) r i
+  CarriesOut (Asserts d) label at r i = IsAssertion d r i
+  CarriesOut (Assumes d) label at r i = IsAssumption d r i
+  CarriesOut (Prints es) label at r i = IsPrint es r i
+  CarriesOut (Calls x es) label at r i = IsCall x es r i
+
+  -- the same of what remains; where nothing remains, the instruction returns
+  abbrev pub Does : Block → Instruction → Type 0
+  Does Done i = i ≡ Return
+  Does (Then label at s r) i = CarriesOut s label at r i
+
+-- the heading of a procedure
+pub record Heads (table : List Place) (p : Procedure) (h : Heading) : Type 0 where
+  pub name : h.name ≡ p.name.text
+  pub formals : h.formals ≡ length p.formals
+  pub locals : h.locals ≡ length p.locals
+  pub entry : Remains table h.entry p p.body
+
+pub record StandsFor (c : Flat) (t : Program) : Type 0 where
+  pub globals : c.globals ≡ length t.globals
+  pub procedures : length c.headings ≡ length t.procedures
+  pub headed : (k : ℕ) (p : Procedure) → slice_get t.procedures k ≡ Some p
+      → (h : Heading) × (slice_get c.headings k ≡ Some h) × Heads (places_of t.procedures) p h
+  pub size : length c.instructions ≡ length (places_of t.procedures)
+  pub each : (n : ℕ) (p : Procedure) (r : Block) → Remains (places_of t.procedures) n p r
+      → (i : Instruction) × (slice_get c.instructions n ≡ Some i)
+      × Does t (places_of t.procedures) p r i
+
+-- the instruction of this number is where the found procedure begins
+pub record IsEntryOf (t : Program) (found : Option Procedure) (n : ℕ) : Type 0 where
+  pub procedure : Procedure
+  pub is : found ≡ Some procedure
+  pub begins : Remains (places_of t.procedures) n procedure procedure.body

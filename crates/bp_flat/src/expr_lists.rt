@@ -1,0 +1,151 @@
+//! Expressions in order.
+ghost use Rattle.std.specs.Prelude.{◌≡◌, ◌≤◌, ◌↔◌, IfOk, IsTrue, map, length};
+ghost use Rattle.bp_flat.specs.declared.limits.TheConstants.{SLOTS};
+ghost use Rattle.bp_flat.specs.Steps.{formula_values, bits_from};
+ghost use Rattle.bp_flat.specs.Bits.{bits_of, store_of};
+ghost use Rattle.bp_flat.specs.Views.{formula_of};
+
+use crate::exprs::SlotExpr;
+use crate::stores::{Store, with_bit};
+use std::alloc::{AllocError, Global};
+use std::marker::Model;
+
+/// Expressions in order: right sides, arguments or printed values.
+#[derive(Drop)]
+pub struct SlotExprs {
+    items: Vec<SlotExpr>,
+}
+
+impl Model for SlotExprs {
+    ghost use Rattle.std.specs.Prelude.{List, map};
+    ghost use Rattle.std.specs.Coded.{coded_list};
+    ghost use Rattle.bp_flat.specs.Flat.{Formula};
+    ghost use Rattle.bp_flat.specs.Formulas.{coded_formula};
+
+    ghost Value = { List Formula };
+
+    ghost coded = { coded_list coded_formula };
+
+    ghost use Rattle.bp_flat.specs.Views.{formula_of};
+
+    ghost view = { λ es. map formula_of es.items.items };
+}
+
+impl SlotExprs {
+    /// These expressions.
+    pub fn new(items: Vec<SlotExpr>) -> SlotExprs
+        ensures { result ≡ map formula_of items.items }
+    {
+        SlotExprs { items }
+    }
+
+    /// The expressions in order.
+    pub fn as_slice(&self) -> &[SlotExpr]
+        ensures { map formula_of result.now ≡ self.now }
+    {
+        self.items.as_slice()
+    }
+
+    /// The values in order.
+    pub fn values(&self, alloc: Global, store: Store) -> Result<Vec<bool>, AllocError>
+        ensures { IfOk result (λ v. v.items ≡ formula_values (store_of store) self.now) }
+    {
+        let mut values = Vec::new(alloc);
+        for expr in self.items.as_slice() {
+            values.push(expr.value(&store))?;
+        }
+        Ok(values)
+    }
+
+    /// A copy. Fails only if memory is refused.
+    pub fn try_copy(&self) -> Result<SlotExprs, AllocError>
+        ensures { IfOk result (λ es. es ≡ self.now) }
+    {
+        let mut items = Vec::new(*self.items.allocator());
+        for expr in self.items.as_slice() {
+            items.push(expr.try_copy()?)?;
+        }
+        Ok(SlotExprs { items })
+    }
+
+    /// Whether both are the same expressions in order.
+    pub fn is_same(&self, other: &SlotExprs) -> bool
+        ensures { IsTrue result ↔ (self.now ≡ other.now) }
+    {
+        let others = other.as_slice();
+        if self.items.len() != others.len() {
+            return false;
+        }
+        for (i, expr) in self.items.as_slice().iter().enumerate() {
+            if !expr.is_same(&others[i]) {
+                return false;
+            }
+        }
+        true
+    }
+}
+
+/// The arguments of a call, which fit into the slots of a word.
+#[derive(Drop)]
+pub struct Arguments {
+    values: SlotExprs,
+}
+
+impl Model for Arguments {
+    ghost use Rattle.std.specs.Prelude.{◌≤◌, List, length};
+    ghost use Rattle.bp_flat.specs.declared.limits.TheConstants.{SLOTS};
+    ghost use Rattle.std.specs.Coded.{coded_list};
+    ghost use Rattle.bp_flat.specs.Flat.{Formula};
+    ghost use Rattle.bp_flat.specs.Formulas.{coded_formula};
+
+    ghost Value = { List Formula };
+
+    ghost coded = { coded_list coded_formula };
+
+    ghost view = { λ a. a.values };
+
+    ghost invariant = { λ a. length a.values ≤ SLOTS };
+}
+
+impl Arguments {
+    /// These arguments.
+    pub fn new(values: SlotExprs) -> Arguments
+        requires { length values ≤ SLOTS }
+        ensures { result ≡ values }
+    {
+        Arguments { values }
+    }
+
+    /// The arguments in order.
+    pub fn values(&self) -> &SlotExprs
+        ensures { result.now ≡ self.now }
+    {
+        &self.values
+    }
+
+    /// The locals of the callee's new frame: the arguments in the slots from 0 on, and 0 past them.
+    pub fn word(&self, store: &Store) -> u128
+        ensures { bits_of result ≡ bits_from (formula_values (store_of store.now) self.now) }
+    {
+        let mut word = 0;
+        for (i, value) in self.values.as_slice().iter().enumerate() {
+            word = with_bit(word, i as u8, value.value(store));
+        }
+        word
+    }
+
+    /// A copy. Fails only if memory is refused.
+    pub fn try_copy(&self) -> Result<Arguments, AllocError>
+        ensures { IfOk result (λ a. a ≡ self.now) }
+    {
+        let values = self.values.try_copy()?;
+        Ok(Arguments { values })
+    }
+
+    /// Whether both are the same expressions in order.
+    pub fn is_same(&self, other: &Arguments) -> bool
+        ensures { IsTrue result ↔ (self.now ≡ other.now) }
+    {
+        self.values.is_same(&other.values)
+    }
+}

@@ -1,0 +1,223 @@
+//! Expressions over slots.
+ghost use Rattle.std.specs.Prelude.{◌≡◌, ◌↔◌, IfOk, IsTrue};
+ghost use Rattle.bp_flat.specs.Values.{operation_value};
+ghost use Rattle.bp_flat.specs.Steps.{formula_value, test_value};
+ghost use Rattle.bp_flat.specs.Bits.{store_of};
+ghost use Rattle.bp_flat.specs.Views.{formula_of, test_of};
+
+use crate::slots::Slot;
+use crate::stores::Store;
+use bp_tree::Op;
+use std::alloc::{AllocError, Global};
+use std::marker::Model;
+
+/// An expression that names its variables by their slots.
+#[cycle(slot_expr)]
+#[derive(Drop)]
+pub enum SlotExpr {
+    Const(bool),
+    Var(Slot),
+    Not(SlotSub),
+    Binary(Op, SlotSub, SlotSub),
+}
+
+/// An operand: an expression in a box, which a contract sees as that expression.
+#[cycle(slot_expr)]
+#[derive(Drop)]
+pub struct SlotSub {
+    inner: Box<SlotExpr>,
+}
+
+impl Model for SlotSub {
+    ghost use Rattle.std.proofs.Common.{arith};
+    ghost use Rattle.bp_flat.specs.Flat.{Formula};
+    ghost use Rattle.bp_flat.specs.Formulas.{coded_formula, height};
+
+    ghost Value = { Formula };
+
+    ghost coded = { coded_formula };
+
+    ghost use Rattle.bp_flat.specs.Views.{formula_of};
+
+    ghost view = { λ s. formula_of s.inner.value };
+
+    ghost size = { height };
+
+    ghost size_decreases = { λ a h. Prim.grind (arith) };
+}
+
+/// What an operator makes of two bits.
+pub fn apply(op: Op, left: bool, right: bool) -> bool
+    ensures { result ≡ operation_value op left right }
+{
+    match op {
+        Op::Equal => left == right,
+        Op::Differ => left != right,
+        Op::And => left && right,
+        Op::Xor => left ^ right,
+        Op::Or => left || right,
+        Op::Implies => !left || right,
+    }
+}
+
+impl SlotSub {
+    /// The expression as an operand.
+    pub fn new(alloc: Global, expr: SlotExpr) -> Result<SlotSub, AllocError>
+        ensures { IfOk result (λ s. s ≡ formula_of expr) }
+    {
+        Ok(SlotSub {
+            inner: Box::new(alloc, expr)?,
+        })
+    }
+
+    /// The operand's value. That of a variable needs no call.
+    #[cycle(slot_value)]
+    #[inline(always)]
+    pub fn value(&self, store: &Store) -> bool
+        ensures { result ≡ formula_value (store_of store.now) self.now }
+    {
+        match &*self.inner {
+            SlotExpr::Const(b) => *b,
+            SlotExpr::Var(slot) => slot.get(store),
+            operation => operation.value(store),
+        }
+    }
+
+    /// The globals in the operand.
+    #[cycle(slot_globals)]
+    pub fn globals(&self) -> u128 {
+        self.inner.globals()
+    }
+
+    /// A copy. Fails only if memory is refused.
+    #[cycle(slot_copy)]
+    pub fn try_copy(&self) -> Result<SlotSub, AllocError>
+        ensures { IfOk result (λ s. s ≡ self.now) }
+    {
+        let alloc = *Box::allocator(&self.inner);
+        let expr = self.inner.try_copy()?;
+        Ok(SlotSub {
+            inner: Box::new(alloc, expr)?,
+        })
+    }
+
+    /// Whether both are the same expression.
+    #[cycle(slot_same)]
+    pub fn is_same(&self, other: &SlotSub) -> bool
+        ensures { IsTrue result ↔ (self.now ≡ other.now) }
+    {
+        self.inner.is_same(&other.inner)
+    }
+}
+
+impl SlotExpr {
+    /// The expression's value.
+    #[cycle(slot_value)]
+    #[inline(never)]
+    pub fn value(&self, store: &Store) -> bool
+        ensures { result ≡ formula_value (store_of store.now) (formula_of self.now) }
+    {
+        match self {
+            SlotExpr::Const(b) => *b,
+            SlotExpr::Var(slot) => slot.get(store),
+            SlotExpr::Not(e) => !e.value(store),
+            SlotExpr::Binary(op, left, right) => {
+                let left = left.value(store);
+                apply(*op, left, right.value(store))
+            }
+        }
+    }
+
+    /// The globals in the expression, as a word of bits.
+    #[cycle(slot_globals)]
+    pub fn globals(&self) -> u128 {
+        match self {
+            SlotExpr::Const(_) => 0,
+            SlotExpr::Var(slot) => slot.globals(),
+            SlotExpr::Not(e) => e.globals(),
+            SlotExpr::Binary(_, left, right) => left.globals() | right.globals(),
+        }
+    }
+
+    /// A copy. Fails only if memory is refused.
+    #[cycle(slot_copy)]
+    pub fn try_copy(&self) -> Result<SlotExpr, AllocError>
+        ensures { IfOk result (λ e. formula_of e ≡ formula_of self.now) }
+    {
+        match self {
+            SlotExpr::Const(b) => Ok(SlotExpr::Const(*b)),
+            SlotExpr::Var(slot) => Ok(SlotExpr::Var(*slot)),
+            SlotExpr::Not(e) => Ok(SlotExpr::Not(e.try_copy()?)),
+            SlotExpr::Binary(op, left, right) => {
+                let left = left.try_copy()?;
+                Ok(SlotExpr::Binary(*op, left, right.try_copy()?))
+            }
+        }
+    }
+
+    /// Whether both are the same expression.
+    #[cycle(slot_same)]
+    pub fn is_same(&self, other: &SlotExpr) -> bool
+        ensures { IsTrue result ↔ (formula_of self.now ≡ formula_of other.now) }
+    {
+        match (self, other) {
+            (SlotExpr::Const(a), SlotExpr::Const(b)) => a == b,
+            (SlotExpr::Var(a), SlotExpr::Var(b)) => a == b,
+            (SlotExpr::Not(a), SlotExpr::Not(b)) => a.is_same(b),
+            (SlotExpr::Binary(op, a, b), SlotExpr::Binary(op2, a2, b2)) => {
+                op == op2 && a.is_same(a2) && b.is_same(b2)
+            }
+            _ => false,
+        }
+    }
+}
+
+/// What decides an instruction with two ways.
+#[derive(Drop)]
+pub enum Test {
+    /// The choice bit of the call.
+    Choice,
+    /// The value of an expression.
+    Value(SlotExpr),
+}
+
+impl Test {
+    /// Whether the test is 1, where the choice bit is this one.
+    pub fn holds(&self, store: &Store, bit: bool) -> bool
+        ensures { result ≡ test_value (store_of store.now) bit (test_of self.now) }
+    {
+        match self {
+            Test::Choice => bit,
+            Test::Value(e) => e.value(store),
+        }
+    }
+
+    /// The globals in the test, as a word of bits.
+    pub fn globals(&self) -> u128 {
+        match self {
+            Test::Choice => 0,
+            Test::Value(e) => e.globals(),
+        }
+    }
+
+    /// A copy. Fails only if memory is refused.
+    pub fn try_copy(&self) -> Result<Test, AllocError>
+        ensures { IfOk result (λ t. test_of t ≡ test_of self.now) }
+    {
+        match self {
+            Test::Choice => Ok(Test::Choice),
+            Test::Value(e) => Ok(Test::Value(e.try_copy()?)),
+        }
+    }
+
+    /// Whether both are the same test.
+    pub fn is_same(&self, other: &Test) -> bool
+        ensures { IsTrue result ↔ (test_of self.now ≡ test_of other.now) }
+    {
+        match (self, other) {
+            (Test::Choice, Test::Choice) => true,
+            (Test::Value(a), Test::Value(b)) => a.is_same(b),
+            _ => false,
+        }
+    }
+}

@@ -1,0 +1,101 @@
+//! Headings of procedures.
+ghost use Rattle.std.specs.Prelude.{◌≡◌, IfOk, IsTrue, ◌↔◌, string_bytes, bytes_eq};
+ghost use Rattle.std.specs.Option.{option_copied};
+ghost use Rattle.bp_flat.specs.Flat.{heading};
+ghost use Rattle.bp_flat.specs.Headings.{heading_named};
+
+use std::alloc::AllocError;
+use std::marker::Model;
+
+/// A procedure: its name, its numbers of formals and of declared locals, and the number of its
+/// first instruction.
+#[derive(Debug, Drop)]
+pub struct Heading {
+    name: String,
+    formals: u32,
+    locals: u32,
+    entry: u32,
+}
+
+impl Model for Heading {
+    ghost use Rattle.std.specs.Prelude.{string_bytes};
+    ghost use Rattle.bp_flat.specs.Flat as flat;
+    ghost use Rattle.bp_flat.specs.Codes.{coded_heading};
+
+    ghost Value = { flat.Heading };
+
+    ghost coded = { coded_heading };
+
+    ghost view = { λ h. flat.heading (string_bytes h.name) h.formals h.locals h.entry };
+}
+
+impl Heading {
+    /// The heading with this name and these numbers.
+    pub fn new(name: String, formals: u32, locals: u32, entry: u32) -> Heading
+        ensures { result ≡ heading (string_bytes name) formals locals entry }
+    {
+        Heading {
+            name,
+            formals,
+            locals,
+            entry,
+        }
+    }
+
+    /// The procedure's name.
+    pub fn name(&self) -> &str
+        ensures { result.now ≡ self.now.name }
+    {
+        self.name.as_str()
+    }
+
+    /// How many formals the procedure has.
+    pub fn formals(&self) -> u32
+        ensures { result ≡ self.now.formals }
+    {
+        self.formals
+    }
+
+    /// How many declared locals the procedure has.
+    pub fn locals(&self) -> u32
+        ensures { result ≡ self.now.locals }
+    {
+        self.locals
+    }
+
+    /// The number of the procedure's first instruction.
+    pub fn entry(&self) -> u32
+        ensures { result ≡ self.now.entry }
+    {
+        self.entry
+    }
+
+    /// Whether both are the same heading.
+    pub fn is_same(&self, other: &Heading) -> bool
+        ensures { IsTrue result ↔ (self.now ≡ other.now) }
+    {
+        self.name.as_str() == other.name.as_str()
+            && self.formals == other.formals
+            && self.locals == other.locals
+            && self.entry == other.entry
+    }
+
+    /// A copy. Fails only if memory is refused.
+    pub fn try_copy(&self) -> Result<Heading, AllocError>
+        ensures { IfOk result (λ h. h ≡ self.now) }
+    {
+        Ok(Heading {
+            name: self.name.clone()?,
+            formals: self.formals,
+            locals: self.locals,
+            entry: self.entry,
+        })
+    }
+}
+
+/// The first heading of a name.
+pub(crate) fn find_heading<'a>(headings: &'a [Heading], name: &[u8]) -> Option<&'a Heading>
+    ensures { option_copied result ≡ heading_named headings.now name.now }
+{
+    headings.iter().find(|h| h.name().as_bytes() == name)
+}

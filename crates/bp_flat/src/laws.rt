@@ -1,0 +1,12 @@
+//! Laws of the definitions. These functions do nothing: their contracts are the laws.
+ghost use Rattle.bp_tree.specs.Ast.{Program};
+ghost use Rattle.bp_flat.specs.Alike.{StepsAlike};
+ghost use Rattle.bp_flat.specs.StandsFor.{StandsFor};
+
+use crate::code::Code;
+
+/// Compiled code and source step alike: where a code stands for a program, each instruction at its
+/// number is one move, and each move one instruction. An assumption of 0 is neither.
+pub fn steps_alike(_code: &Code)
+    ensures { (t : Program) → StandsFor _code.now t → StepsAlike _code.now t }
+{}

@@ -1,0 +1,149 @@
+-- The names in a program are spelled by its tokens, and no token is longer than its text.
+use Rattle.std.proofs.Common.{◌≡◌, ℕ, ◌≤◌, List, [], ◌∷◌, ◌++◌, length, Option, None, Some, arith, take, drop}
+use Rattle.std.proofs.lemmas.List.{length-drop, length-take}
+use Rattle.bp_tree.specs.Ast.{Name, Expression, Decision, Block, Statement, Procedure, Program}
+use Rattle.bp_language.specs.Tokens.{Token, kind_of}
+use Rattle.bp_language.specs.Cut.{Lexeme, IsCut, ends, fit, open_brace, bad_byte, tokens_of, with_token}
+use Rattle.bp_language.specs.Grammar.{name_of, IsNames, one_name, more_names, IsAnyNames, no_names, some_names, IsExpr, of_or, implication, IsOr, of_xor, disjunction, IsXor, of_and, exclusion, IsAnd, of_eq, conjunction, IsEq, of_un, equality, difference, IsUn, negation, of_atom, IsAtom, constant_0, constant_1, variable, brackets, IsExprs, one_expr, more_exprs, IsAnyExprs, no_exprs, some_exprs, IsDecider, choice, by_value, IsForm, skip, jump, returning, assignment, branch, loop, assertion, assumption, printing, call, IsStmt, labelled, unlabelled, IsStmts, one_stmt, more_stmts, decl, IsDecls, no_decl, more_decls, IsProc, proc, IsProcs, no_proc, more_procs, Derives, program, first_word, first_name}
+use Rattle.bp_language.specs.NamesIn.{EachName, NamesInExpression, NamesInExpressions, NamesInDecision, NamesInLabel, NamesInBlock, NamesInStatement, NamesInProcedure, NamesInProcedures, NamesInProgram}
+use Rattle.bp_language.specs.declared.tokens.TokenKind.{TokenKind}
+use Rattle.bp_language.specs.declared.tokens.TokenKind.TheVariants as kind
+
+module _ (P : Name → Type 0) where
+  -- what holds of the name that each token is, if it is one
+  abbrev pub EachNamed : List Token → Type 0
+  EachNamed [] = Unit {0}
+  EachNamed (x ∷ ts) = (x.kind ≡ kind.Name → P (name_of x)) × EachNamed ts
+
+  both : (ns ms : List Name) → EachName P ns → EachName P ms → EachName P (ns ++ ms)
+  both [] ms a b = b
+  both (n ∷ ns) ms a b = (a.0, both ns ms a.1 b)
+
+  in_names : {ts : List Token} {ns : List Name} {r : List Token} → IsNames ts ns r → EachNamed ts → EachName P ns × EachNamed r
+  in_names (one_name (first_name h)) s = ((s.0 h, tt), s.1)
+  in_names (more_names (first_name h) (first_word c) d) s = let f = in_names d s.1.1 in ((s.0 h, f.0), f.1)
+
+  in_any_names : {ts : List Token} {ns : List Name} {r : List Token} → IsAnyNames ts ns r → EachNamed ts → EachName P ns × EachNamed r
+  in_any_names no_names s = (tt, s)
+  in_any_names (some_names d) s = in_names d s
+
+  mutual
+    in_expr : {ts : List Token} {e : Expression} {r : List Token} → IsExpr ts e r → EachNamed ts → NamesInExpression P e × EachNamed r
+    in_expr (of_or d) s = in_or d s
+    in_expr (implication d (first_word h) f) s = let l = in_or d s in let m = in_expr f l.1.1 in ((l.0, m.0), m.1)
+
+    in_or : {ts : List Token} {e : Expression} {r : List Token} → IsOr ts e r → EachNamed ts → NamesInExpression P e × EachNamed r
+    in_or (of_xor d) s = in_xor d s
+    in_or (disjunction d (first_word h) f) s = let l = in_or d s in let m = in_xor f l.1.1 in ((l.0, m.0), m.1)
+
+    in_xor : {ts : List Token} {e : Expression} {r : List Token} → IsXor ts e r → EachNamed ts → NamesInExpression P e × EachNamed r
+    in_xor (of_and d) s = in_and d s
+    in_xor (exclusion d (first_word h) f) s = let l = in_xor d s in let m = in_and f l.1.1 in ((l.0, m.0), m.1)
+
+    in_and : {ts : List Token} {e : Expression} {r : List Token} → IsAnd ts e r → EachNamed ts → NamesInExpression P e × EachNamed r
+    in_and (of_eq d) s = in_eq d s
+    in_and (conjunction d (first_word h) f) s = let l = in_and d s in let m = in_eq f l.1.1 in ((l.0, m.0), m.1)
+
+    in_eq : {ts : List Token} {e : Expression} {r : List Token} → IsEq ts e r → EachNamed ts → NamesInExpression P e × EachNamed r
+    in_eq (of_un d) s = in_un d s
+    in_eq (equality d (first_word h) f) s = let l = in_eq d s in let m = in_un f l.1.1 in ((l.0, m.0), m.1)
+    in_eq (difference d (first_word h) f) s = let l = in_eq d s in let m = in_un f l.1.1 in ((l.0, m.0), m.1)
+
+    in_un : {ts : List Token} {e : Expression} {r : List Token} → IsUn ts e r → EachNamed ts → NamesInExpression P e × EachNamed r
+    in_un (negation (first_word h) d) s = in_un d s.1
+    in_un (of_atom d) s = in_atom d s
+
+    in_atom : {ts : List Token} {e : Expression} {r : List Token} → IsAtom ts e r → EachNamed ts → NamesInExpression P e × EachNamed r
+    in_atom (constant_0 (first_word h)) s = (tt, s.1)
+    in_atom (constant_1 (first_word h)) s = (tt, s.1)
+    in_atom (variable (first_name h)) s = (s.0 h, s.1)
+    in_atom (brackets (first_word h) d (first_word c)) s = let f = in_expr d s.1 in (f.0, f.1.1)
+
+  in_exprs : {ts : List Token} {es : List Expression} {r : List Token} → IsExprs ts es r → EachNamed ts → NamesInExpressions P es × EachNamed r
+  in_exprs (one_expr d) s = let f = in_expr d s in ((f.0, tt), f.1)
+  in_exprs (more_exprs d (first_word h) more) s = let f = in_expr d s in let g = in_exprs more f.1.1 in ((f.0, g.0), g.1)
+
+  in_any_exprs : {ts : List Token} {es : List Expression} {r : List Token} → IsAnyExprs ts es r → EachNamed ts → NamesInExpressions P es × EachNamed r
+  in_any_exprs no_exprs s = (tt, s)
+  in_any_exprs (some_exprs d) s = in_exprs d s
+
+  in_decider : {ts : List Token} {d : Decision} {r : List Token} → IsDecider ts d r → EachNamed ts → NamesInDecision P d × EachNamed r
+  in_decider (choice (first_word h)) s = (tt, s.1)
+  in_decider (by_value d) s = in_expr d s
+
+  mutual
+    in_form : {ts : List Token} {s : Statement} {r : List Token} → IsForm ts s r → EachNamed ts → NamesInStatement P s × EachNamed r
+    in_form (skip (first_word h) (first_word c)) s = (tt, s.1.1)
+    in_form (jump (first_word h) (first_name i) (first_word c)) s = (s.1.0 i, s.1.1.1)
+    in_form (returning (first_word h) (first_word c)) s = (tt, s.1.1)
+    in_form (assignment d (first_word b) f (first_word c)) s =
+        let l = in_names d s in
+        let m = in_exprs f l.1.1 in
+        ((l.0, m.0), m.1.1)
+    in_form (branch (first_word h) (first_word o) is (first_word c) (first_word i) body (first_word j) other (first_word g)) s =
+        let l = in_decider is s.1.1 in
+        let m = in_stmts body l.1.1.1 in
+        let n = in_stmts other m.1.1 in
+        ((l.0, m.0, n.0), n.1.1)
+    in_form (loop (first_word h) (first_word o) is (first_word c) (first_word i) body (first_word g)) s =
+        let l = in_decider is s.1.1 in
+        let m = in_stmts body l.1.1.1 in
+        ((l.0, m.0), m.1.1)
+    in_form (assertion (first_word h) (first_word o) is (first_word c) (first_word g)) s = let l = in_decider is s.1.1 in (l.0, l.1.1.1)
+    in_form (assumption (first_word h) (first_word o) is (first_word c) (first_word g)) s = let l = in_decider is s.1.1 in (l.0, l.1.1.1)
+    in_form (printing (first_word h) (first_word o) are (first_word c) (first_word g)) s = let l = in_exprs are s.1.1 in (l.0, l.1.1.1)
+    in_form (call (first_name h) (first_word o) are (first_word c) (first_word g)) s = let l = in_any_exprs are s.1.1 in ((s.0 h, l.0), l.1.1.1)
+
+    in_stmt : {ts : List Token} {l : Option Name} {at : ℕ} {s : Statement} {r : List Token} → IsStmt ts l at s r
+        → EachNamed ts → NamesInLabel P l × NamesInStatement P s × EachNamed r
+    in_stmt (labelled (first_name h) (first_word c) d) p = let f = in_form d p.1.1 in (p.0 h, f.0, f.1)
+    in_stmt (unlabelled d) p = let f = in_form d p in (tt, f.0, f.1)
+
+    in_stmts : {ts : List Token} {b : Block} {r : List Token} → IsStmts ts b r → EachNamed ts → NamesInBlock P b × EachNamed r
+    in_stmts (one_stmt d) p = let f = in_stmt d p in ((f.0, f.1, tt), f.2)
+    in_stmts (more_stmts d more) p = let f = in_stmt d p in let g = in_stmts more f.2 in ((f.0, f.1, g.0), g.1)
+
+  in_decls : {ts : List Token} {ns : List Name} {r : List Token} → IsDecls ts ns r → EachNamed ts → EachName P ns × EachNamed r
+  in_decls no_decl s = (tt, s)
+  in_decls (more_decls {names = ns} {more = ms} (decl (first_word h) d (first_word c)) more) s =
+      let f = in_names d s.1 in
+      let g = in_decls more f.1.1 in
+      (both ns ms f.0 g.0, g.1)
+
+  in_proc : {ts : List Token} {p : Procedure} {r : List Token} → IsProc ts p r → EachNamed ts → NamesInProcedure P p × EachNamed r
+  in_proc (proc (first_name h) (first_word o) formals (first_word c) (first_word g) locals body (first_word e)) s =
+      let f = in_any_names formals s.1.1 in
+      let l = in_decls locals f.1.1.1 in
+      let m = in_stmts body l.1 in
+      ((s.0 h, f.0, l.0, m.0), m.1.1)
+
+  in_procs : {ts : List Token} {ps : List Procedure} {r : List Token} → IsProcs ts ps r → EachNamed ts → NamesInProcedures P ps × EachNamed r
+  in_procs no_proc s = (tt, s)
+  in_procs (more_procs d more) s = let f = in_proc d s in let g = in_procs more f.1 in ((f.0, g.0), g.1)
+
+  pub in_program : {ts : List Token} {p : Program} → Derives ts p → EachNamed ts → NamesInProgram P p
+  in_program (program globals procedures) s =
+      let f = in_decls globals s in
+      (f.0, (in_procs procedures f.1).0)
+
+-- a name of at most this many bytes
+abbrev pub IsShort : ℕ → Name → Type 0
+IsShort n x = length x.text ≤ n
+
+one_token : (k : Option TokenKind) (at n : ℕ) (bytes : List ℕ) (ts : List Token) → length bytes ≤ n
+    → EachNamed (IsShort n) ts → EachNamed (IsShort n) (with_token k at bytes ts)
+one_token None at n bytes ts h s = s
+one_token (Some k) at n bytes ts h s = (λ is. h, s)
+
+pub longer : (n m : ℕ) (ts : List Token) → n ≤ m → EachNamed (IsShort n) ts → EachNamed (IsShort m) ts
+longer n m [] h s = tt
+longer n m (x ∷ ts) h s = (λ is. let l = s.0 is in omega (arith, l, h), longer n m ts h s.1)
+
+-- no token is longer than its text
+pub tokens_short : {at : ℕ} {text : List ℕ} {ps : List Lexeme} → IsCut at text ps → EachNamed (IsShort (length text)) (tokens_of ps)
+tokens_short ends = tt
+tokens_short (fit {at = at} {n = n} {text = s} {kind = lexeme} {more = ps} longest rest) =
+    one_token (kind_of lexeme (take n s)) at (length s) (take n s) (tokens_of ps) (omega (arith, length-take n s))
+    (longer (length (drop n s)) (length s) (tokens_of ps) (omega (arith, length-drop n s)) (tokens_short rest))
+tokens_short (open_brace {b = b} {text = s} {more = ps} brace none rest) = longer (length s) (length (b ∷ s)) (tokens_of ps) (omega arith) (tokens_short rest)
+tokens_short (bad_byte {b = b} {text = s} {more = ps} other none rest) = longer (length s) (length (b ∷ s)) (tokens_of ps) (omega arith) (tokens_short rest)

@@ -1,0 +1,112 @@
+-- Each name in a program is spelled as a name, and what is spelled so holds no line feed.
+use Rattle.std.proofs.Common.{◌≡◌, ◌≢◌, ℕ, Bool, true, false, not, cond, ◌&&◌, nat_eq, bytes_eq, List, [], ◌∷◌, Option, None, Some, is_some, All, refl, inl, inr, sym, ap, subst, ◌∙◌}
+use Rattle.std.proofs.Math.Bool.{Bool-set}
+use Rattle.std.proofs.Math.Logic.{∥∥₁_elim}
+use Rattle.std.proofs.lemmas.Bool.{false≢true, eqb-true}
+use Rattle.std.proofs.lemmas.List.Elements.{All-nil, All-cons}
+use Rattle.std.specs.List.{list_all}
+use Rattle.std.specs.Map.{lookup}
+use Rattle.std.specs.Option.{unwrap_or}
+use Rattle.bp_tree.specs.Ast.{Name, Program}
+use Rattle.bp_language.specs.NamesIn.{NamesInProgram}
+use Rattle.bp_language.specs.Tokens.{AllReal}
+use Rattle.bp_language.specs.Texts.{IsTextOf, HasText}
+use Rattle.bp_language.specs.Tokens.{Token, is_letter, is_word_byte, is_braced_byte, is_braced_rest, constants, symbols, long_symbols, reserved_words, word_kind, fits, kind_of, IsSpelled}
+use Rattle.bp_language.specs.declared.tokens.TokenKind.{TokenKind}
+use Rattle.bp_language.specs.declared.tokens.TokenKind.TheVariants as kind
+use Rattle.bp_language.specs.declared.tokens.LexemeKind.{LexemeKind}
+use Rattle.bp_language.specs.declared.tokens.LexemeKind.TheVariants as lexeme
+use Rattle.bp_language.proofs.BothTrue.{both_left, both_right}
+use Rattle.bp_language.proofs.NamesOfTokens.{EachNamed, in_program}
+use Rattle.bp_language.proofs.RealTokens.{all_real}
+use Rattle.bp_language.proofs.OneProofOfNames.{one_program}
+
+-- a word begins with no brace
+word_or_braced : (s : List ℕ) → fits lexeme.Identifier s ≡ true → fits lexeme.Braced s ≡ true → ⊥
+word_or_braced [] a b = false≢true a
+word_or_braced (c ∷ cs) a b = false≢true (subst (λ x. is_letter x ≡ true) (eqb-true c 123 (both_left _ _ b)) (both_left _ _ a))
+
+pub one_spelling : (s : List ℕ) (x y : IsSpelled s) → x ≡ y
+one_spelling s (inl x) (inl y) = λ i. inl (Bool-set _ _ x.0 y.0 i, Bool-set _ _ x.1 y.1 i)
+one_spelling s (inl x) (inr y) = absurd (word_or_braced s x.0 y)
+one_spelling s (inr x) (inl y) = absurd (word_or_braced s y.0 x)
+one_spelling s (inr x) (inr y) = λ i. inr (Bool-set _ _ x y i)
+
+abbrev is_name : TokenKind → Bool
+is_name kind.Name = true
+is_name _ = false
+
+module _ {K : Type 0} (test : K → Bool) where
+  found_by : (y : Bool) (x : TokenKind) (o : Option TokenKind) → not (is_name x) ≡ true → (o ≡ Some kind.Name → ⊥) → cond y (Some x) o ≡ Some kind.Name → ⊥
+  found_by true x o other rest e =
+      let h : x ≡ kind.Name = cc in
+      false≢true (subst (λ z. not (is_name z) ≡ true) h other)
+  found_by false x o other rest e = rest e
+
+  -- a table of other kinds gives no name
+  no_name_in : (t : List (K × TokenKind)) → list_all (λ e. not (is_name e.1)) t ≡ true → lookup test t ≡ Some kind.Name → ⊥
+  no_name_in [] others e = let z : ⊥ = cc in z
+  no_name_in (a ∷ t) others e = found_by (test a.0) a.1 (lookup test t) (both_left _ _ others) (no_name_in t (both_right _ _ others)) e
+
+  not_in : (o : Option TokenKind) → (o ≡ Some kind.Name → ⊥) → unwrap_or o kind.Name ≡ kind.Name → is_some o ≡ false
+  not_in None other e = refl
+  not_in (Some x) other e = absurd (other (ap (λ z. Some z) e))
+
+-- a token that is a name is spelled as one
+spelled_token : (k : LexemeKind) (s : List ℕ) → fits k s ≡ true → kind_of k s ≡ Some kind.Name → IsSpelled s
+spelled_token lexeme.White s h e = let z : ⊥ = cc in absurd z
+spelled_token lexeme.Comment s h e = let z : ⊥ = cc in absurd z
+spelled_token lexeme.Identifier s h e =
+    let is : word_kind s ≡ kind.Name = cc in
+    inl (h, not_in (bytes_eq s) _ (no_name_in (bytes_eq s) reserved_words refl) is)
+spelled_token lexeme.Braced s h e = inr h
+spelled_token lexeme.Constant [] h e = absurd (false≢true h)
+spelled_token lexeme.Constant (b ∷ []) h e = absurd (no_name_in (nat_eq b) constants refl e)
+spelled_token lexeme.Constant (b ∷ c ∷ bs) h e = absurd (false≢true h)
+spelled_token lexeme.Symbol [] h e = absurd (false≢true h)
+spelled_token lexeme.Symbol (b ∷ []) h e = absurd (no_name_in (nat_eq b) symbols refl e)
+spelled_token lexeme.Symbol (b ∷ c ∷ []) h e =
+    absurd (no_name_in (λ (p : ℕ × ℕ). nat_eq b p.0 && nat_eq c p.1) long_symbols refl e)
+spelled_token lexeme.Symbol (b ∷ c ∷ d ∷ bs) h e = absurd (false≢true h)
+
+-- a name that is spelled as one
+abbrev IsSpelledName : Name → Type 0
+IsSpelledName n = IsSpelled n.text
+
+each_named : (ts : List Token) → AllReal ts → EachNamed IsSpelledName ts
+each_named [] real = tt
+each_named (x ∷ ts) real =
+    let r = real.0 in
+    (λ is. spelled_token r.lexeme x.text r.fits (r.spells ∙ ap (λ k. Some k) is), each_named ts real.1)
+
+of_text : (text : List ℕ) (p : Program) → IsTextOf text p → NamesInProgram IsSpelledName p
+of_text text p is =
+    let scanned = is.scanned in
+    in_program IsSpelledName is.derives (each_named is.tokens (subst AllReal scanned.tokens (all_real scanned.cut)))
+
+pub spelled_names : (p : Program) → HasText p → NamesInProgram (λ n. IsSpelled n.text) p
+spelled_names p of_some = ∥∥₁_elim of_some (one_program IsSpelledName (λ n. one_spelling n.text) p) spelled
+  where
+    spelled : (text : List ℕ) × IsTextOf text p → NamesInProgram IsSpelledName p
+    spelled (text, is) = of_text text p is
+
+-- a byte that passes a test which a line feed does not pass
+no_feed : (test : ℕ → Bool) (b : ℕ) → test 10 ≡ false → test b ≡ true → b ≢ 10
+no_feed test b fails h e = false≢true (sym fails ∙ ap test (sym e) ∙ h)
+
+word_on_one_line : (bs : List ℕ) → list_all is_word_byte bs ≡ true → All (λ b. b ≢ 10) bs
+word_on_one_line [] h = All-nil (λ x. x ≢ 10)
+word_on_one_line (b ∷ bs) h = All-cons (λ x. x ≢ 10) b bs (no_feed is_word_byte b refl (both_left _ _ h)) (word_on_one_line bs (both_right _ _ h))
+
+rest_on_one_line : (bs : List ℕ) → is_braced_rest bs ≡ true → All (λ b. b ≢ 10) bs
+rest_on_one_line [] h = absurd (false≢true h)
+rest_on_one_line (b ∷ []) h = All-cons (λ x. x ≢ 10) b [] (no_feed (λ x. nat_eq x 125) b refl h) (All-nil (λ x. x ≢ 10))
+rest_on_one_line (b ∷ c ∷ bs) h =
+    All-cons (λ x. x ≢ 10) b (c ∷ bs) (no_feed is_braced_byte b refl (both_left _ _ h))
+    (rest_on_one_line (c ∷ bs) (both_right _ _ h))
+
+-- what is spelled as a name holds no line feed
+pub on_one_line : (s : List ℕ) → IsSpelled s → All (λ b. b ≢ 10) s
+on_one_line [] h = All-nil (λ x. x ≢ 10)
+on_one_line (b ∷ bs) (inl h) = All-cons (λ x. x ≢ 10) b bs (no_feed is_letter b refl (both_left _ _ h.0)) (word_on_one_line bs (both_right _ _ h.0))
+on_one_line (b ∷ bs) (inr h) = All-cons (λ x. x ≢ 10) b bs (no_feed (λ x. nat_eq x 123) b refl (both_left _ _ h)) (rest_on_one_line bs (both_right _ _ h))

@@ -1,0 +1,12 @@
+pub mod Cut
+pub mod Faults
+pub mod Grammar
+pub mod LawfulPrograms
+pub mod NamesIn
+pub mod Nesting
+pub mod Scopes
+pub mod Successions
+pub mod Tables
+pub mod Texts
+pub mod Tokens
+pub mod Words

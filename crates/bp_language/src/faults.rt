@@ -1,0 +1,69 @@
+//! The faults of programs.
+ghost use Rattle.std.specs.Prelude.{◌≡◌};
+
+use thiserror::Error;
+
+/// Why a program is refused. Each says at which place of the text.
+#[derive(Clone, Copy, Debug, PartialEq, Eq, Error)]
+pub enum CheckFault {
+    /// At a global's name that an earlier global has.
+    #[error("a global is declared twice")]
+    TwiceGlobal,
+    /// At a procedure's name that an earlier one has.
+    #[error("two procedures have one name")]
+    TwiceProcedure,
+    /// At a formal or declared local whose name an earlier one of the procedure has.
+    #[error("a formal or local is declared twice")]
+    TwiceLocal,
+    /// At a label that appears earlier in the procedure.
+    #[error("a label appears twice in a procedure")]
+    TwiceLabel,
+    /// At a name, used or assigned to, of no local, formal or global.
+    #[error("a variable is not declared")]
+    UnknownVariable,
+    /// At the called name.
+    #[error("there is no procedure of this name")]
+    UnknownProcedure,
+    /// At the name after `goto`.
+    #[error("there is no such label in the procedure")]
+    UnknownLabel,
+    /// At the called name, where arguments and formals differ in number.
+    #[error("arguments and formals differ in number")]
+    Arity,
+    /// At the first target, where targets and right sides differ in number.
+    #[error("right sides and targets differ in number")]
+    Lengths,
+    /// At a target that appears earlier on the same left side.
+    #[error("a target appears twice on one left side")]
+    TwiceTarget,
+    /// At the first name past a limit of procedures, globals, or formals and locals.
+    #[error("there are more names than the limit")]
+    Limit,
+    /// An allocation failed.
+    #[error("out of memory")]
+    Memory,
+}
+
+impl CheckFault {
+    ghost use Rattle.bp_language.specs.Faults.{check_fault_number};
+
+    /// The number that users know the fault by.
+    pub fn number(&self) -> u32
+        ensures { result ≡ check_fault_number self.now }
+    {
+        match self {
+            CheckFault::TwiceGlobal => 11,
+            CheckFault::TwiceProcedure => 12,
+            CheckFault::TwiceLocal => 13,
+            CheckFault::TwiceLabel => 14,
+            CheckFault::UnknownVariable => 15,
+            CheckFault::UnknownProcedure => 16,
+            CheckFault::UnknownLabel => 17,
+            CheckFault::Arity => 18,
+            CheckFault::Lengths => 19,
+            CheckFault::TwiceTarget => 20,
+            CheckFault::Limit => 21,
+            CheckFault::Memory => 7,
+        }
+    }
+}

@@ -1,0 +1,50 @@
+//! The kinds of lexemes and of tokens.
+
+/// What the scan tells apart. Reserved words are identifiers here.
+#[derive(Clone, Copy, Debug, PartialEq, Eq)]
+pub enum LexemeKind {
+    White,
+    Comment,
+    Identifier,
+    Braced,
+    Constant,
+    Symbol,
+}
+
+/// What a token is: a name, a constant, a symbol or a reserved word.
+#[derive(Clone, Copy, Debug, PartialEq, Eq)]
+pub enum TokenKind {
+    Name,
+    Zero,
+    One,
+    Semicolon,
+    Comma,
+    Open,
+    Close,
+    Colon,
+    Becomes,
+    Bar,
+    Ampersand,
+    Caret,
+    Equal,
+    Differ,
+    Implies,
+    Bang,
+    Question,
+    Decl,
+    Begin,
+    End,
+    Skip,
+    Goto,
+    Return,
+    If,
+    Then,
+    Else,
+    Fi,
+    While,
+    Do,
+    Od,
+    Assert,
+    Print,
+    Assume,
+}
