@@ -33,10 +33,11 @@ WIDE_TRACE = "btrace 1\nentry main\ninit 00\ncontexts 2\ncalls 9\nseed none\n0 0
 
 CLEARED = r"\r\x1b\[K"
 
-# A test of 10,000 runs has blocks of 500, 1,000, 2,000 and 4,000 runs, and one of those that are left. Each of them ends
-# with a line of progress.
+# A test of 10,000 runs has a first block of 500 runs, and the next ones are as long or longer. Each of them ends with a
+# line of progress.
 PROGRESS = re.compile(
-    "".join(CLEARED + r"%d of 10000 runs, \d+ a second, \d+ s left" % made for made in (500, 1500, 3500, 7500))
+    CLEARED + r"500 of 10000 runs, \d+ a second, \d+ s left"
+    + "(?:" + CLEARED + r"[1-9]\d{3} of 10000 runs, \d+ a second, \d+ s left)+"
     + CLEARED + r"10000 of 10000 runs, \d+ a second, 0 s left" + CLEARED
 )
 

@@ -11,7 +11,7 @@ pub struct Runtimes<'a, R, C> {
 }
 
 /// What the clock shows, in milliseconds, where it can be read.
-fn millis<C: Clock>(clock: &C) -> Option<u64> {
+pub(crate) fn millis<C: Clock>(clock: &C) -> Option<u64> {
     let Ok(shown) = clock.monotonic() else {
         return None;
     };
@@ -27,6 +27,15 @@ pub(crate) fn deadline_after<C: Clock>(clock: &C, seconds: Option<u64>) -> Optio
     match millis(clock) {
         Some(now) => Some(now.saturating_add(seconds.saturating_mul(1_000))),
         None => Some(0),
+    }
+}
+
+/// Whether fewer than this many milliseconds are over since the clock showed this time. It is not
+/// so where the clock cannot be read.
+pub(crate) fn is_within<C: Clock>(clock: &C, start: Option<u64>, limit: u64) -> bool {
+    match (start, millis(clock)) {
+        (Some(start), Some(now)) => now < start.saturating_add(limit),
+        _ => false,
     }
 }
 

@@ -1,5 +1,5 @@
 //! Waves: blocks of runs that are made side by side.
-ghost use Rattle.std.specs.Prelude.{◌≡◌, ◌<◌, ◌+◌, ◌^◌, ℕ, List, length, IfOk};
+ghost use Rattle.std.specs.Prelude.{if◌then◌else◌, ◌≡◌, ◌<◌, ◌≤◌, ◌+◌, ◌*◌, ◌^◌, min, ℕ, List, length, IfOk};
 ghost use Rattle.bp_tree.specs.Ast.{Program};
 ghost use Rattle.bp_flat.specs.Flat.{Flat};
 ghost use Rattle.bp_flat.specs.StandsFor.{StandsFor};
@@ -10,8 +10,8 @@ ghost use Rattle.bp_test.specs.Tallies.{MadeRun, IsTally};
 ghost use Rattle.bp_test.specs.Tests.{IsTallied};
 
 use crate::blocks::{Block, FoundRun, first_found};
-use crate::deadlines::Runtimes;
-use crate::limits::{FIRST_BLOCK, LONGEST_BLOCK};
+use crate::deadlines::{Runtimes, is_within, millis};
+use crate::limits::{FIRST_BLOCK, LONGEST_BLOCK, QUICK_WAVE};
 use crate::plans::Plan;
 use crate::progress::Progress;
 use crate::tallies::Tally;
@@ -121,9 +121,24 @@ fn first_of(
     Ok(WaveEnd { end, found: None })
 }
 
+/// How many runs the blocks of the next wave have, after one with blocks of this size. After a
+/// quick wave the size doubles, so jobs seldom wait for each other. After a slow one it stays, so a
+/// failure is told soon.
+fn next_size(size: u64, is_quick: bool) -> u64
+    requires { size ≤ LONGEST_BLOCK }
+    ensures is { result ≡ (if is_quick then min (size * 2) LONGEST_BLOCK else size) }
+    ensures some { 0 < size → 0 < result }
+    ensures most { result ≤ LONGEST_BLOCK }
+{
+    if is_quick {
+        (size * 2).min(LONGEST_BLOCK)
+    } else {
+        size
+    }
+}
+
 /// Makes this many runs of a plan, in waves of this many blocks, until one is found or the time is
-/// over. After each wave that found none, `progress` is told, and the next wave has blocks of twice
-/// as many runs. So a failure among the first runs is told soon, and many runs wait seldom.
+/// over. After each wave that found none, `progress` is told.
 pub(crate) fn search<R: Threads + Sync, C: Clock + Sync, P: Progress>(
     rt: &Runtimes<'_, R, C>,
     alloc: Global,
@@ -152,6 +167,7 @@ pub(crate) fn search<R: Threads + Sync, C: Clock + Sync, P: Progress>(
             size,
             runs,
         };
+        let began = millis(rt.clock);
         let blocks = blocks_of(rt, alloc, code, setup, plan, wave)?;
         let WaveEnd { end, found } = first_of(from, blocks, &mut tally)?;
         let next = wave.start(jobs as u64);
@@ -164,7 +180,7 @@ pub(crate) fn search<R: Threads + Sync, C: Clock + Sync, P: Progress>(
             });
         }
         from = next;
-        size = (size * 2).min(LONGEST_BLOCK);
+        size = next_size(size, is_within(rt.clock, began, QUICK_WAVE));
         progress.tell(from, runs);
     }
     Ok(Block {

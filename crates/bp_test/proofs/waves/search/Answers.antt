@@ -33,8 +33,8 @@ returns-then-is_some g c = λ t is.
 pub loop-from-preserved : goal.loop-from-preserved
 loop-from-preserved g c = record {
   within = let next = c.start-next.ensures in omega (arith, next);
-  some = let more = c.min-size.ensures in let some = c.loop-from.invariant.some in omega (arith, more, some);
-  short = let more = c.min-size.ensures in omega (arith, more);
+  some = c.next_size-size.ensures.some c.loop-from.invariant.some;
+  short = c.next_size-size.ensures.most;
   tallied = λ t is.
       let s = c.args.setup.now in
       let p = c.args.plan.now in
