@@ -1,6 +1,7 @@
 //! Boards and desks of a small program.
 mod desks;
 mod gathering;
+mod turns;
 
 ghost use Rattle.std.specs.Prelude.{◌≡◌, true, is_some, IfOk};
 ghost use Rattle.bp_machine.specs.Setups.{threads, FitsCode};
@@ -15,6 +16,9 @@ use std::test::Fail;
 
 /// A loop with a choice: by the seed 42 it makes eight steps and ends.
 const LOOP: &[u8] = b"main() begin while (?) do skip; od end";
+
+/// An assumption that never holds.
+const WAIT: &[u8] = b"main() begin assume (0); end";
 
 /// A setup of this many threads that begin with `main`, with this many contexts and calls of a
 /// thread, and the seed 42.

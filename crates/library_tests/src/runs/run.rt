@@ -1,12 +1,14 @@
 //! Runs of small programs by real threads, with gates and writers that wait. `.ci/runs` and cases
 //! of the command `run` show traces.
+mod failing;
 mod meetings;
 mod notes;
+mod traces;
 mod waits;
 
 use crate::common::mains;
 use bp_machine::Start;
-use bp_run::{Gate, RunOptions, run};
+use bp_run::{Gate, RunFault, RunOptions, RunReport, run};
 use std::alloc::{AllocError, Global};
 use std::io::Write;
 use std::sync::Wait;
@@ -18,11 +20,12 @@ use std::time::Clock;
 /// A loop without an end.
 const ENDLESS: &[u8] = b"main() begin while (1) do skip; od end";
 
-/// What a test runs with: this many threads that begin with `main`, with 1,000 contexts, and the
-/// numbers. The seed is 42.
+/// What a test runs with: this many threads that begin with `main`, and the other numbers. The seed
+/// is 42.
 #[derive(Clone, Copy)]
 struct Numbers {
     threads: u32,
+    contexts: u32,
     calls: u32,
     turn: u32,
     ring: u32,
@@ -31,6 +34,7 @@ struct Numbers {
 /// One thread, ten calls, and turns of one call.
 const ONE: Numbers = Numbers {
     threads: 1,
+    contexts: 1000,
     calls: 10,
     turn: 1,
     ring: 1024,
@@ -42,7 +46,7 @@ fn options(alloc: Global, numbers: Numbers) -> Result<RunOptions, AllocError> {
         start: Start {
             entries: mains(alloc, numbers.threads)?,
             init: None,
-            contexts: 1000,
+            contexts: numbers.contexts,
             calls: numbers.calls,
         },
         turn: numbers.turn,
@@ -51,7 +55,20 @@ fn options(alloc: Global, numbers: Numbers) -> Result<RunOptions, AllocError> {
     })
 }
 
-/// How many calls a run with these numbers makes, or none where it is refused.
+/// Runs the program with these numbers.
+fn runs<W: Write, G: Gate, R: Threads + Wait + Clock + Sync>(
+    rt: &R,
+    alloc: Global,
+    text: &[u8],
+    numbers: Numbers,
+    gate: &G,
+    out: &mut W,
+) -> Result<RunReport, RunFault> {
+    let options = options(alloc, numbers)?;
+    run(rt, alloc, text, &options, gate, out)
+}
+
+/// How many calls a run with these numbers makes; none if it is refused or leaves a line open.
 fn calls<W: Write, G: Gate, R: Threads + Wait + Clock + Sync>(
     rt: &R,
     alloc: Global,
@@ -60,9 +77,19 @@ fn calls<W: Write, G: Gate, R: Threads + Wait + Clock + Sync>(
     gate: &G,
     out: &mut W,
 ) -> Option<u64> {
-    let options = options(alloc, numbers).ok()?;
-    let done = run(rt, alloc, text, &options, gate, out).ok()?;
-    Some(done.report.calls)
+    let done = runs(rt, alloc, text, numbers, gate, out).ok()?;
+    (done.report.left_open == 0).then_some(done.report.calls)
+}
+
+/// The threads of the calls of a trace, in order, each as its digit. There are at most ten.
+fn order_of(alloc: Global, trace: &[u8]) -> Result<Vec<u8>, AllocError> {
+    let mut order = Vec::new(alloc);
+    for line in trace.split(|byte| *byte == b'\n') {
+        if line.len() == 5 {
+            order.push(line[0])?;
+        }
+    }
+    Ok(order)
 }
 
 /// Looks at the word until it has this value, and gives way in between: whether it was seen.

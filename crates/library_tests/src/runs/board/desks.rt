@@ -4,7 +4,7 @@ ghost use Rattle.std.specs.Prelude.{◌≡◌, true, is_some};
 ghost use Rattle.bp_machine.specs.Setups.{threads, FitsCode};
 ghost use Rattle.bp_board.specs.Kits.{IsNamed};
 
-use super::{LOOP, kit_of, setup_of};
+use super::{LOOP, WAIT, kit_of, setup_of};
 use crate::common::code_of;
 use bp_board::limits::MAX_TURN;
 use bp_board::{Calls, Desk, Kit, Seat, Tap};
@@ -79,6 +79,14 @@ const FEW: [Act; 5] = [
     Act::Take(None),
 ];
 
+/// Turns at an assumption of 0, where three calls are allowed.
+const WAITS: [Act; 4] = [
+    Act::Ask(Ask::Most, Ok(Reply::Blocked), 1),
+    Act::Ask(Ask::Most, Ok(Reply::Blocked), 2),
+    Act::Ask(Ask::Most, Ok(Reply::Blocked), 3),
+    Act::Ask(Ask::Most, Err(AskFault::Finished), 3),
+];
+
 /// The answer of the desk.
 fn turn<C: Calls, O: Ledger>(
     desk: &mut Desk<C, O>,
@@ -134,9 +142,9 @@ fn is_seen_at<C: Calls, O: Ledger>(
     }
 }
 
-/// The same at a desk of one thread, which runs the loop within this many calls.
-fn plays(alloc: Global, calls: u32, ring: u32, acts: &[Act]) -> Result<bool, Fail> {
-    let code = code_of(alloc, LOOP)?;
+/// The same at a desk of one thread of a program, within this many calls.
+fn plays(alloc: Global, text: &[u8], calls: u32, ring: u32, acts: &[Act]) -> Result<bool, Fail> {
+    let code = code_of(alloc, text)?;
     let setup = setup_of(alloc, &code, 1, 1, calls)?;
     let kit = kit_of(alloc, &setup, ring)?;
     is_seen_at::<Brand, Brand>(alloc, kit, &code, &setup, acts)
@@ -144,19 +152,25 @@ fn plays(alloc: Global, calls: u32, ring: u32, acts: &[Act]) -> Result<bool, Fai
 
 #[test]
 fn answers_turns_and_calls(rt: HostRuntime) -> Result<(), Fail> {
-    assert!(rt; plays(rt.alloc(), 10, 1024, &TURNS)?);
-    assert!(rt; plays(rt.alloc(), 4, 1024, &CALLS)?);
+    assert!(rt; plays(rt.alloc(), LOOP, 10, 1024, &TURNS)?);
+    assert!(rt; plays(rt.alloc(), LOOP, 4, 1024, &CALLS)?);
+    Ok(())
+}
+
+#[test]
+fn blocked_calls_end_turns(rt: HostRuntime) -> Result<(), Fail> {
+    assert!(rt; plays(rt.alloc(), WAIT, 3, 8, &WAITS)?);
     Ok(())
 }
 
 #[test]
 fn is_busy_where_the_ring_is_full(rt: HostRuntime) -> Result<(), Fail> {
-    assert!(rt; plays(rt.alloc(), 10, 4, &BUSY)?);
+    assert!(rt; plays(rt.alloc(), LOOP, 10, 4, &BUSY)?);
     Ok(())
 }
 
 #[test]
 fn stops_where_no_call_is_left(rt: HostRuntime) -> Result<(), Fail> {
-    assert!(rt; plays(rt.alloc(), 2, 1024, &FEW)?);
+    assert!(rt; plays(rt.alloc(), LOOP, 2, 1024, &FEW)?);
     Ok(())
 }

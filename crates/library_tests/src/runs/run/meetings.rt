@@ -1,29 +1,32 @@
 //! Workers that run at the same time: gates that wait for what only another thread does.
-use super::{Numbers, ONE, calls, comes_to};
+use super::{Numbers, ONE, calls, comes_to, order_of};
 use bp_machine::Reply;
 use bp_run::Gate;
 use std::alloc::Global;
 use std::sync::Wait;
 use std::sync::atomic::{AtomicU64, Ordering};
+use std::test::Fail;
 use std::thread::Threads;
 use std::time::Clock;
 
 /// The least program: each thread makes three calls.
 const SKIP: &[u8] = b"main() begin skip; end";
 
-/// How many calls this many threads of the least program make, with a ring of one.
+/// How many calls this many threads of the least program make, with a ring of one. The trace goes
+/// to the end of `trace`.
 fn skips<G: Gate, R: Threads + Wait + Clock + Sync>(
     rt: &R,
     alloc: Global,
     threads: u32,
     gate: &G,
+    trace: &mut Vec<u8>,
 ) -> Option<u64> {
     let numbers = Numbers {
         threads,
         ring: 1,
         ..ONE
     };
-    calls(rt, alloc, SKIP, numbers, gate, &mut Vec::new(alloc))
+    calls(rt, alloc, SKIP, numbers, gate, trace)
 }
 
 /// A gate at which each thread waits, ahead of its first turn, for all: each has a bit.
@@ -54,7 +57,7 @@ fn meet<R: Threads + Wait + Clock + Sync>(rt: &R, alloc: Global, threads: u32, a
         arrived: AtomicU64::new(0),
         missed: AtomicU64::new(0),
     };
-    let calls = skips(rt, alloc, threads, &gate);
+    let calls = skips(rt, alloc, threads, &gate, &mut Vec::new(alloc));
     calls == Some(3 * u64::from(threads)) && gate.missed.load(Ordering::SeqCst) == 0
 }
 
@@ -91,19 +94,29 @@ impl Gate for Behind {
     }
 }
 
-/// Whether this one of two threads waits at its gate while the other makes all its calls.
-fn is_behind<R: Threads + Wait + Clock + Sync>(rt: &R, alloc: Global, held: u32) -> bool {
+/// Whether this one of two threads waits at its gate while the other makes all its calls. The trace
+/// goes to the end of `trace`.
+fn is_behind<R: Threads + Wait + Clock + Sync>(
+    rt: &R,
+    alloc: Global,
+    held: u32,
+    trace: &mut Vec<u8>,
+) -> bool {
     let gate = Behind {
         held,
         ended: AtomicU64::new(0),
         missed: AtomicU64::new(0),
     };
-    skips(rt, alloc, 2, &gate) == Some(6) && gate.missed.load(Ordering::SeqCst) == 0
+    skips(rt, alloc, 2, &gate, trace) == Some(6) && gate.missed.load(Ordering::SeqCst) == 0
 }
 
 #[test]
-fn a_worker_waits_for_another(rt: HostRuntime) {
-    for held in 0..2 {
-        assert!(&rt; is_behind(&rt, rt.alloc(), held));
+fn a_worker_waits_for_another(rt: HostRuntime) -> Result<(), Fail> {
+    let orders: [(u32, &[u8]); 2] = [(0, b"111000"), (1, b"000111")];
+    for (held, order) in orders {
+        let mut trace = Vec::new(rt.alloc());
+        assert!(rt; is_behind(&rt, rt.alloc(), held, &mut trace));
+        assert!(rt; order_of(rt.alloc(), &trace)?.as_slice() == order);
     }
+    Ok(())
 }

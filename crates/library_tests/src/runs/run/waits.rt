@@ -51,10 +51,12 @@ impl<'a> Gate for Reader<'a> {
     fn after(&self, _thread: u32, _reply: Reply) {}
 }
 
-/// Whether this many bytes are written and handed on before the call of this number is made.
+/// Whether, with this ring, this many bytes are written and handed on before the call of this number
+/// is made.
 fn is_written<R: Threads + Wait + Clock + Sync>(
     rt: &R,
     alloc: Global,
+    ring: u32,
     wanted: u64,
     call: u64,
 ) -> bool {
@@ -67,7 +69,8 @@ fn is_written<R: Threads + Wait + Clock + Sync>(
     };
     let taken = Vec::new(alloc);
     let mut out = Flagged { taken, word: &word };
-    let calls = calls(rt, alloc, ENDLESS, ONE, &gate, &mut out);
+    let numbers = Numbers { ring, ..ONE };
+    let calls = calls(rt, alloc, ENDLESS, numbers, &gate, &mut out);
     calls == Some(10) && gate.missed.load(Ordering::SeqCst) == 0
 }
 
@@ -76,8 +79,10 @@ const HEAD: u64 = 58;
 
 #[test]
 fn calls_are_written_while_workers_run(rt: HostRuntime) {
-    for (wanted, call) in [(HEAD, 0), (HEAD + 6, 1), (HEAD + 12, 2)] {
-        assert!(&rt; is_written(&rt, rt.alloc(), wanted, call));
+    for ring in [1, 1024] {
+        for (wanted, call) in [(HEAD, 0), (HEAD + 6, 1), (HEAD + 12, 2)] {
+            assert!(&rt; is_written(&rt, rt.alloc(), ring, wanted, call));
+        }
     }
 }
 
