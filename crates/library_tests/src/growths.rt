@@ -3,6 +3,7 @@
 //! one that says how the call ended. A call that is refused leaves what was borrowed as it was, and
 //! the same call answers again as if nothing had happened.
 mod boards;
+mod calls;
 mod held;
 mod no_memory;
 mod ready;

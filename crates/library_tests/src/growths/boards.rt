@@ -187,6 +187,27 @@ fn at_a_desk<C: Calls, O: Ledger, R: Runtime>(
     wants(gives_calls_of(&mut tap, session))
 }
 
+/// Whether a board of this kit is opened.
+fn is_opened<C: Calls, O: Ledger>(alloc: Global, kit: Kit, code: &Code, setup: &Setup) -> bool
+    requires named { IsNamed kit C.name C.parts O.name O.parts C.ring }
+    requires code { code.now ≡ C.code }
+    requires setup { setup.now ≡ C.setup }
+    requires threads { kit.threads ≡ threads setup.now }
+    requires fits { FitsCode code.now setup.now }
+    requires seeded { is_some setup.now.seed ≡ true }
+{
+    Board::<C, O>::open(alloc, kit, code, setup).is_ok()
+}
+
+/// The same under names of its own.
+fn opens(alloc: Global, kit: Kit, code: &Code, setup: &Setup) -> bool
+    requires threads { kit.threads ≡ threads setup.now }
+    requires fits { FitsCode code.now setup.now }
+    requires seeded { is_some setup.now.seed ≡ true }
+{
+    is_opened::<Brand, Brand>(alloc, kit, code, setup)
+}
+
 /// A kit for the threads of the setup.
 fn kit(alloc: Global, setup: &Setup) -> Result<Kit, AllocError>
     ensures { IfOk result (λ k. k.threads ≡ threads setup.now) }
@@ -208,6 +229,18 @@ pub(super) fn makes_calls<R: Wait + Runtime>(rt: &R, alloc: Global, way: Way) ->
         }
         _ => at_a_board::<Brand, Brand, R>(rt, alloc, kit, &code, &setup, way, &mut session),
     }
+}
+
+#[test]
+fn open_a_board(rt: HostRuntime) -> Result<(), Fail> {
+    let alloc = rt.alloc();
+    let code = code_of(alloc, calls())?;
+    let setup = setup(alloc, &code, 2, Some(42))?;
+    let (first, second) = (kit(alloc, &setup)?, kit(alloc, &setup)?);
+    begin(&rt)?;
+    let is_refused = !opens(alloc, first, &code, &setup);
+    tell(&rt, is_refused)?;
+    wants(!is_refused || opens(alloc, second, &code, &setup))
 }
 
 #[test]

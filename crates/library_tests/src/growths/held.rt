@@ -1,6 +1,6 @@
 //! A run in which one worker alone takes frames, after the others were started. Where it is refused
 //! one, the others end, and its line stays open after the calls that it made.
-use super::ready::{begin, tell, wants};
+use super::ready::{begin, say, wants};
 use crate::common::{code_of, names};
 use bp_check::CheckFault;
 use bp_code::ProgramFault;
@@ -142,7 +142,7 @@ fn is_for_want_of_memory(fault: &RunFault) -> bool {
     )
 }
 
-/// Looks at what a run came to, where the line that tells of a refused worker was written: the run
+/// Looks at the answer of a run, after the line that tells of refused memory was written: the run
 /// itself may be refused, and has then written nothing.
 fn looks(
     alloc: Global,
@@ -160,9 +160,14 @@ fn looks(
     }
 }
 
-/// Whether the worker of `b` was refused memory.
-fn is_caller_refused(done: &Result<RunReport, RunFault>) -> bool {
-    matches!(done, Ok(done) if done.report.left_open == 1)
+/// What the line says of a run: whether all calls were made, the worker of `b` was refused memory,
+/// or the run.
+fn word_of(done: &Result<RunReport, RunFault>) -> &'static str {
+    match done {
+        Ok(done) if done.report.left_open == 0 => "done",
+        Ok(_) => "refused",
+        Err(_) => "refused without calls",
+    }
 }
 
 /// Runs the program, and looks at what it came to.
@@ -172,7 +177,7 @@ fn runs<R: Threads + Wait + Runtime + Sync>(rt: &R, alloc: Global) -> Result<(),
     let gate = Held::new();
     begin(rt)?;
     let done = run(rt, alloc, PROGRAM, &options, &gate, &mut out);
-    tell(rt, is_caller_refused(&done))?;
+    say(rt, word_of(&done))?;
     looks(alloc, &gate, &out, &done)
 }
 

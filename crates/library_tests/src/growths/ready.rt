@@ -47,10 +47,14 @@ pub(super) fn begin<R: Runtime>(rt: &R) -> io::Result<()> {
     println!(rt; "ready")
 }
 
+/// Prints a word on the call. After this line every growth is granted.
+pub(super) fn say<R: Runtime>(rt: &R, word: &str) -> io::Result<()> {
+    println!(rt; "{word}")
+}
+
 /// Prints whether the call was refused. After this line every growth is granted.
 pub(super) fn tell<R: Runtime>(rt: &R, was_refused: bool) -> io::Result<()> {
-    let told = if was_refused { "refused" } else { "done" };
-    println!(rt; "{told}")
+    say(rt, if was_refused { "refused" } else { "done" })
 }
 
 /// A failure unless the answer is right.
