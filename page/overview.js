@@ -28,11 +28,11 @@ class Overview {
       const width = Math.max(1, this.left(last + 1) - this.left(first));
       pen.fillRect(this.left(first), this.laneOf.get(thread) * height, width, Math.max(1, height - devicePixelRatio));
     }
-    this.line(pen, this.trace.failure, style.getPropertyValue("--failure"), [4, 2]);
+    this.line(pen, this.trace.outcome, style.getPropertyValue("--failure"), [4, 2]);
     this.line(pen, this.chosen, style.getPropertyValue("--ink"), []);
   }
 
-  /** A line across the strip in the middle of a call: whole, or broken for the failure. */
+  /** A line across the strip in the middle of a call: whole, or broken for the failure or the deadlock. */
   line(pen, index, colour, dashes) {
     if (index < 0) return;
     const middle = (this.left(index) + this.left(index + 1)) / 2;

@@ -7,10 +7,12 @@ const MAX_CALLS_PRINTED = 2000;
 const MIN_WIDTH = 160;
 const KEY_WIDTH = 16;
 // Up to so many lanes they are so many pixels wide.
-const LANES = [[8, 12], [16, 10], [64, 8]];
+const LANES = [[8, 12], [16, 10], [64, 7]];
 const MAX_LANES_BETWEEN = 8;
 const MAX_LANES_WITH_CONTEXT = 24;
 const MAX_MARKS = 3;
+// A deadlock of more threads is folded.
+const MAX_WAITS = 2;
 const LINK_DELAY = 250;
 
 const byId = (id) => document.getElementById(id);
@@ -67,6 +69,12 @@ function chooseTheme() {
   document.documentElement.dataset.theme = byId("theme").value || (isDark ? "dark" : "light");
 }
 
+const placeOf = (call) => (call.line === null ? "-" : `${call.line}:${call.column}`);
+const statementText = (call) => call.statement ?? "the thread has ended";
+/** By how many frames a statement is indented. */
+const indentOf = (call) => Math.max(Math.min(call.depth, MAX_FRAMES) - 1, 0);
+const statementColumns = (call) => statementText(call).length + 2 * indentOf(call);
+
 /** What came of a call, in the words of `show`. */
 function resultOf(call) {
   const words = call.choice === null ? [] : [`?=${call.choice}`];
@@ -76,12 +84,29 @@ function resultOf(call) {
   return words.join(" ");
 }
 
-const placeOf = (call) => (call.line === null ? "-" : `${call.line}:${call.column}`);
-
-/** Where a thread fails or waits, in the words of `show`, with the values that its statement reads. */
-function conditionText({ line, column, statement, values }) {
+/** The statement at which a thread fails or waits, with the values that it reads. */
+function conditionText({ statement, values }) {
   const known = values.map((it) => `${variableName(it)}=${it.value}`).join(" ");
-  return ` at ${line}:${column}: ${statement}${known ? ` with ${known}` : ""}`;
+  return `${statement}${known ? ` with ${known}` : ""}`;
+}
+
+/** The threads of a deadlock for each place and values with which they wait, most threads first. */
+function waitingGroups(deadlock) {
+  const groups = new Map();
+  for (const it of deadlock) {
+    const condition = `${placeOf(it)} ${conditionText(it)}`;
+    groups.set(condition, [...(groups.get(condition) ?? []), it.thread]);
+  }
+  return [...groups].sort(([, some], [, others]) => others.length - some.length);
+}
+
+/** A deadlock in one sentence. */
+function deadlockText(groups) {
+  const texts = groups.map(([condition, threads], at) => {
+    if (threads.length === 1) return `thread ${threads[0]} waits at ${condition}`;
+    return `${threads.length}${at === 0 ? " threads wait" : ""} at ${condition}`;
+  });
+  return `Deadlock: ${texts.join("; ")}.`;
 }
 
 /** The page: which call is chosen, and which calls are shown. */
@@ -96,11 +121,13 @@ class Page {
     this.source = new Rows(byId("source-box"), byId("source"), (line) => this.sourceRow(line));
     this.calls = new Rows(byId("calls-box"), byId("calls"), (position) => this.callRow(position));
     this.source.count = program.starts.length;
+    byId("source").style.setProperty("--digits", String(program.starts.length).length);
+    this.giveRoom();
     this.overview = new Overview(byId("overview"), trace, (index) => this.choose(index));
     this.showSetup();
     this.showThreads();
     this.listen();
-    this.chosen = this.whereItOpens();
+    this.chosen = Math.max(0, trace.outcome);
     this.filter();
     this.followLink();
   }
@@ -108,30 +135,44 @@ class Page {
   // What stays.
 
   showSetup() {
-    const { setup, end, calls, failure } = this.trace;
+    const { setup, end, calls, outcome } = this.trace;
     const seed = setup.seed === null ? "no seed" : `seed ${setup.seed}`;
     const counts = [[end.calls, "call"], [end.contexts, "context"], [end.open, "open thread"]];
     const had = counts.map(([count, name]) => counted(count, name)).join(", ");
     const limits = `at most ${counted(setup.max_contexts, "context")} and ${counted(setup.max_calls, "call")} of a thread`;
     byId("counts").textContent = `${had}; ${limits}; ${seed}`;
-    byId("outcome").textContent = this.outcomeText();
+    byId("outcome").append(this.outcomeShown());
     byId("outcome").classList.toggle("failed", end.failure !== null || end.deadlock.length > 0);
-    byId("go-failure").hidden = failure < 0;
+    byId("go-outcome").hidden = outcome < 0;
+    byId("go-outcome").textContent = `Show the ${end.deadlock.length ? "deadlock" : "failure"}`;
     byId("number").max = calls.length;
     byId("of").textContent = `of ${calls.length}`;
   }
 
-  outcomeText() {
+  /** How the trace ended. A deadlock of many threads is a line that opens. */
+  outcomeShown() {
     const { failure, deadlock } = this.trace.end;
-    if (failure !== null) return `An assertion of thread ${failure.thread} failed${conditionText(failure)}.`;
+    if (failure !== null) {
+      return `An assertion of thread ${failure.thread} failed at ${placeOf(failure)}: ${conditionText(failure)}.`;
+    }
     if (!deadlock.length) return "No assertion failed.";
-    return `Deadlock: ${deadlock.map((it) => `thread ${it.thread} waits${conditionText(it)}`).join("; ")}.`;
+    const groups = waitingGroups(deadlock);
+    return deadlock.length > MAX_WAITS ? this.folded(groups) : deadlockText(groups);
   }
 
-  /** The call that is chosen first: the failure, or the end of a trace that ends in a deadlock. */
-  whereItOpens() {
-    if (this.trace.failure >= 0) return this.trace.failure;
-    return this.trace.end.deadlock.length ? Math.max(0, this.trace.calls.length - 1) : 0;
+  /** The line of a deadlock, which opens to the threads of each group. */
+  folded(groups) {
+    const details = made("details");
+    const summary = made("summary");
+    summary.append(made("span", "line", deadlockText(groups)));
+    const list = made("ul");
+    list.append(...groups.map(([condition, threads]) => {
+      const item = made("li", "", `at ${condition}: `);
+      item.append(...threads.flatMap((thread) => [badge(thread), " "]));
+      return item;
+    }));
+    details.append(summary, list);
+    return details;
   }
 
   /** A menu with a box to tick for each thread. */
@@ -218,16 +259,44 @@ class Page {
   }
 
   showHeads() {
-    const names = ["call", "context", "", "thread", "place", "statement", "result"];
-    const classes = ["number", "context", "strip", "thread", "place", "statement", "result"];
-    byId("calls-box").setAttribute("aria-colcount", names.length - 1);
-    let column = 0;
-    byId("heads").replaceChildren(...names.map((name, at) => {
-      const head = made("div", classes[at], name);
-      head.setAttribute(...(name ? ["role", "columnheader"] : ["aria-hidden", "true"]));
-      if (name) head.setAttribute("aria-colindex", column += 1);
+    const names = ["number", "context", "thread", "place", "statement", "result"];
+    byId("calls-box").setAttribute("aria-colcount", names.length);
+    const heads = names.map((name, at) => {
+      const head = made("div", name, name === "number" ? "call" : name);
+      head.setAttribute("role", "columnheader");
+      head.setAttribute("aria-colindex", at + 1);
       return head;
+    });
+    byId("heads").replaceChildren(...heads.slice(0, 2), this.laneHeads(), ...heads.slice(2, 4), this.what(heads.slice(4)));
+  }
+
+  /** The number of the thread above each lane. */
+  laneHeads() {
+    const strip = made("div", "strip");
+    strip.setAttribute("aria-hidden", "true");
+    strip.append(...[...this.laneOf.keys()].map((thread) => {
+      const number = this.block(thread, "lane-number");
+      number.textContent = String(thread);
+      number.title = `thread ${thread}: ${this.trace.setup.threads[thread]}`;
+      return number;
     }));
+    return strip;
+  }
+
+  /** The cells of the statement and of the result, which share their room. */
+  what(cells) {
+    const what = made("div", "what");
+    what.setAttribute("role", "presentation");
+    what.append(...cells);
+    return what;
+  }
+
+  /** Tells the rows how many columns of text the longest statement and the longest result of the trace have. */
+  giveRoom() {
+    const longest = (lengths) => lengths.reduce((most, length) => Math.max(most, length), 0);
+    const box = byId("calls-box");
+    box.style.setProperty("--longest-statement", longest(this.trace.calls.map(statementColumns)));
+    box.style.setProperty("--longest-result", longest(this.trace.calls.map((call) => resultOf(call).length)));
   }
 
   // A call's row.
@@ -246,14 +315,16 @@ class Page {
     const thread = this.cell("thread", 3, "");
     thread.title = this.trace.setup.threads[call.thread];
     thread.append(badge(call.thread));
+    const what = this.what([this.statementCell(call), this.cell("result", 6, resultOf(call))]);
+    what.style.setProperty("--statement", statementColumns(call));
+    what.style.setProperty("--result", resultOf(call).length);
     row.append(
       this.cell("number", 1, `${call.switch ? ">" : ""}${call.number}`),
       this.cell("context", 2, call.context === null ? "-" : String(call.context)),
       this.strip(position, index, call),
       thread,
       this.cell("place", 4, placeOf(call)),
-      this.statementCell(call),
-      this.cell("result", 6, resultOf(call)),
+      what,
     );
     return row;
   }
@@ -268,8 +339,8 @@ class Page {
 
   statementCell(call) {
     const name = call.context === null ? "statement idle" : "statement step";
-    const cell = this.cell(name, 5, call.statement ?? "the thread has ended");
-    cell.style.setProperty("--depth", Math.max(Math.min(call.depth, MAX_FRAMES) - 1, 0));
+    const cell = this.cell(name, 5, statementText(call));
+    cell.style.setProperty("--indent", indentOf(call));
     return cell;
   }
 
@@ -331,19 +402,19 @@ class Page {
   }
 
   marked(mark, start, end) {
-    const element = made("mark", mark.sign === "▶" ? "now" : "");
+    const element = made("mark", { "▶": "now", "‖": "waits" }[mark.sign] ?? "");
     element.append(...this.coloured(start, end));
     element.classList.toggle("failed", mark.isFailed);
     element.append(made("span", "heard", ` (${mark.words})`));
     return element;
   }
 
-  /** The signs before a line: a sign and the threads that stand so. */
+  /** The signs before a line: a sign and the threads that stand so, or how many there are. */
   signs(marks) {
     const of = (sign) => marks.filter((mark) => mark.sign === sign && mark.isFirst).map((mark) => mark.thread);
-    const words = ["▶", "▷", "✓"].filter((sign) => of(sign).length).map((sign) => {
+    const words = ["▶", "▷", "✓", "‖"].filter((sign) => of(sign).length).map((sign) => {
       const threads = [...new Set(of(sign))];
-      return sign + threads.slice(0, MAX_MARKS).join(",") + (threads.length > MAX_MARKS ? "+" : "");
+      return sign + (threads.length > MAX_MARKS ? `${threads.length}×` : threads.join(","));
     });
     const element = made("span", "marks", words.join(" "));
     element.setAttribute("aria-hidden", "true");
@@ -353,11 +424,12 @@ class Page {
 
   /** Finds where each thread stands at the chosen call, and draws it. */
   showMarks() {
+    const before = [...this.marks.keys()];
     this.marks = new Map();
     const own = this.trace.calls[this.chosen];
     this.threadsShown().forEach((thread) => this.markThread(thread, own));
     this.marks.forEach((marks) => marks.sort((a, b) => a.start - b.start || (a.sign === "▶" ? -1 : 1)));
-    this.source.forgetAll();
+    [...before, ...this.marks.keys()].forEach((line) => this.source.forget(line - 1));
     const isPlaced = own && own.line !== null;
     if (isPlaced) this.source.reveal(own.line - 1);
     else this.source.redraw();
@@ -367,7 +439,10 @@ class Page {
   markThread(thread, own) {
     const { next, last } = this.trace.neighbours(thread, this.chosen);
     const entry = this.program.procedures.get(this.trace.setup.threads[thread]);
+    const wait = this.trace.waitAfter(this.chosen, thread);
+    if (wait) this.mark(wait, "‖", `thread ${thread}: it waits here for ever`);
     if (own && own.thread === thread) this.mark(own, "▶", `thread ${thread}: the chosen call`);
+    else if (wait) return;
     else if (next !== undefined) this.mark(this.trace.calls[next], "▷", `thread ${thread}: its next statement`);
     else if (last !== undefined) this.mark(this.trace.calls[last], "✓", `thread ${thread}: its last statement`);
     else this.mark({ ...entry, thread }, "▷", `thread ${thread}: its next statement`);
@@ -507,8 +582,7 @@ class Page {
     const context = call.context === null ? "no step" : `context ${call.context}${call.switch ? ", a switch" : ""}`;
     const place = call.line === null ? "" : `${placeOf(call)} `;
     const result = resultOf(call);
-    const statement = call.statement ?? "the thread has ended";
-    const what = `${place}${statement}${result ? `: ${result}` : ""}`;
+    const what = `${place}${statementText(call)}${result ? `: ${result}` : ""}`;
     return `Call ${call.number}: thread ${call.thread} (${entry}), ${context}: ${what}`;
   }
 
@@ -535,7 +609,7 @@ class Page {
   listen() {
     const buttons = { first: () => this.choosePosition(0), previous: () => this.step(-1), next: () => this.step(1) };
     buttons.last = () => this.choosePosition(this.shown.length - 1);
-    buttons.failure = () => this.choose(this.trace.failure);
+    buttons.outcome = () => this.choose(this.trace.outcome);
     buttons.found = () => this.find(1);
     Object.entries(buttons).forEach(([name, does]) => byId(`go-${name}`).addEventListener("click", does));
     byId("number").addEventListener("change", () => this.choose(Math.max(1, Number(byId("number").value)) - 1));
@@ -543,6 +617,7 @@ class Page {
     byId("variable").addEventListener("input", () => this.filter());
     byId("changing").addEventListener("change", () => this.filter());
     byId("all-threads").addEventListener("change", () => this.showVariables(this.shown.length ? this.chosen : -1));
+    byId("wraps").addEventListener("change", () => this.source.flow(byId("wraps").checked));
     byId("theme").addEventListener("change", () => this.showTheme());
     matchMedia("(prefers-color-scheme: dark)").addEventListener("change", () => this.showTheme());
     window.addEventListener("beforeprint", () => this.drawWhole(true));
@@ -582,7 +657,11 @@ class Page {
 
   lettersDo() {
     return {
-      f: () => this.trace.failure >= 0 && this.choose(this.trace.failure),
+      f: () => this.trace.outcome >= 0 && this.choose(this.trace.outcome),
+      "?": () => {
+        byId("help").open = !byId("help").open;
+        byId("help").scrollIntoView({ block: "nearest" });
+      },
       "/": () => {
         byId("filters").open = true;
         byId("find").focus();

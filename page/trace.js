@@ -154,7 +154,9 @@ class Trace {
     this.calls = lines.slice(1, -1).map(callOf);
     this.callsOf = this.setup.threads.map(() => []);
     this.calls.forEach((call, index) => this.callsOf[call.thread].push(index));
-    this.failure = this.calls.findLastIndex((call) => call.reply === "failed");
+    this.waits = new Map(this.end.deadlock.map((it) => [it.thread, it]));
+    // The call in which an assertion failed, or the last one before a deadlock, as an index; else -1.
+    this.outcome = this.calls.findLastIndex((call) => this.waits.size > 0 || call.reply === "failed");
     this.findContexts();
   }
 
@@ -170,6 +172,11 @@ class Trace {
       const after = index + 1 < count ? this.stepAfter[index + 1] : -1;
       this.stepAfter[index] = this.calls[index].context === null ? after : index;
     }
+  }
+
+  /** Where a thread waits for ever, from the last call on; undefined where it does not. */
+  waitAfter(index, thread) {
+    return index >= this.calls.length - 1 ? this.waits.get(thread) : undefined;
   }
 
   /** The contexts: the thread of each, its first step and its last, as indices. */
