@@ -9,6 +9,10 @@ from pathlib import Path
 
 TOP = Path(__file__).resolve().parent.parent
 SECONDS = 60
+# A path of this repository, as pages name it, and one beside the page.
+PATH = re.compile(
+    r"`((?:docs|examples|bench|completions|editors|page|suite|\.ci)/[\w./-]*|HANDLES|CONTRIBUTING\.md)`|\]\(([\w./-]+)\)"
+)
 
 
 def program_under_test(default="crates/btrun/out/btrun", built_by="rt ci or rt run"):
@@ -25,6 +29,14 @@ def run(words, **how):
     if how.get("input") is None:
         how["stdin"] = subprocess.DEVNULL
     return subprocess.run(words, **{"stdout": subprocess.PIPE, "stderr": subprocess.PIPE, "timeout": SECONDS, **how})
+
+
+def lost_paths(page, top=TOP):
+    """The files that a page names and that are not there; the page is of a copy of the repository at the top."""
+    for own, linked in PATH.findall(page.read_text()):
+        path = top / own if own else page.parent / linked
+        if not path.exists():
+            yield own or linked
 
 
 def section(text, heading):
