@@ -12,6 +12,12 @@ _btrun_variables() {
         grep -oE '"\w+"' | tr -d '"'
 }
 
+# The locals of a program, each after its procedure and a dot.
+_btrun_locals() {
+    btrun check "$1" --json 2> /dev/null | grep -oE '"name":"\w+","formals":\[[^]]*\],"locals":\[[^]]*' |
+        awk -F '"' '{ for (i = 8; i < NF; i += 2) if ($i ~ /^[A-Za-z0-9_]+$/ && $(i + 1) !~ /^:/) print $4 "." $i }'
+}
+
 # The globals of a program whose names have no braces, each with either bit.
 _btrun_bits() {
     btrun check "$1" --json 2> /dev/null | grep -oE '"globals":\[[^]]*' | cut -d : -f 2- | grep -oE '"\w+"' |
@@ -48,28 +54,36 @@ _btrun_options() {
     esac
 }
 
+# Offers words for the part of a value after its last comma.
+_btrun_offer_part() {
+    compopt +o filenames 2> /dev/null
+    mapfile -t COMPREPLY < <(compgen -P "${1%"${1##*,}"}" -W "$2" -- "${1##*,}")
+}
+
 _btrun() {
     local word=${COMP_WORDS[COMP_CWORD]} before=${COMP_WORDS[COMP_CWORD - 1]} words files
+    local commands="check code drive confirm run test replay show migrate shrink"
     mapfile -t files < <(_btrun_files)
     case ${COMP_WORDS[1]}$before in
         show--contexts) ;;
         show--watch)
-            mapfile -t COMPREPLY < <(compgen -W "$(_btrun_variables "${files[0]}")" -- "$word")
+            words=$(_btrun_variables "${files[0]}")
+            [[ ${word##*,} == *.* ]] && words=$(_btrun_locals "${files[0]}")
+            _btrun_offer_part "$word" "$words"
             return
             ;;
         *--init | *=)
-            if _btrun_in_init; then
-                compopt +o filenames 2> /dev/null
-                mapfile -t COMPREPLY < <(compgen -P "${word%"${word##*,}"}" -W "$(_btrun_bits "${files[0]}")" -- "${word##*,}")
-            fi
+            if _btrun_in_init; then _btrun_offer_part "$word" "$(_btrun_bits "${files[0]}")"; fi
             return
             ;;
         *--contexts | *--calls | *--seed | *--turn | *--ring | *--runs | *--time | *--jobs | *--thread | *--last | *--from | *--to | *--at) return ;;
     esac
     if ((COMP_CWORD == 1)); then
-        words="check code drive confirm run test replay show migrate shrink help --help --version"
+        words="$commands help --help --version"
     elif [[ $word == -* ]]; then
         words=$(_btrun_options "${COMP_WORDS[1]}")
+    elif [[ ${COMP_WORDS[1]} == help ]]; then
+        words=$commands
     elif [[ ${COMP_WORDS[1]}${#files[@]} == @(run1|test1|drive2|confirm2) ]]; then
         words=$(_btrun_entries "${files[0]}")
     else

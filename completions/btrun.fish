@@ -19,10 +19,19 @@ function __btrun_entries
     btrun check (__btrun_files)[1] --json 2> /dev/null | string match -arg '"name":"(\w+)","formals":\[\]'
 end
 
-# The variables of a program whose names have no braces.
+# The variables of a program whose names have no braces; after a dot the locals, each after its procedure.
 function __btrun_variables
-    btrun check (__btrun_files)[1] --json 2> /dev/null | string match -arg '"(?:formals|locals|globals)":\[([^]]*)' |
-        string match -arg '"(\w+)"'
+    set -l given (commandline -ct | string match -r '^.*,'; or echo)
+    if string match -q '*.*' -- (commandline -ct | string replace -r '^.*,' '')
+        btrun check (__btrun_files)[1] --json 2> /dev/null |
+            string match -ar '"name":"\w+","formals":\[[^]]*\],"locals":\[[^]]*' | while read --local procedure
+            set -l names (string match -arg '"(\w+)"(?!:)' -- $procedure)
+            printf '%s\n' $given$names[1].$names[2..]
+        end
+    else
+        printf '%s\n' $given(btrun check (__btrun_files)[1] --json 2> /dev/null |
+            string match -arg '"(?:formals|locals|globals)":\[([^]]*)' | string match -arg '"(\w+)"')
+    end
 end
 
 # The globals of a program whose names have no braces, each with either bit, after those that are given.
@@ -49,6 +58,7 @@ complete -c btrun -n __fish_use_subcommand -f -a shrink -d 'Make the trace of a 
 complete -c btrun -n __fish_use_subcommand -f -a help -d 'Print help'
 
 set -l all check code drive confirm run test replay show migrate shrink
+complete -c btrun -n '__fish_seen_subcommand_from help' -f -a "$all"
 complete -c btrun -n "__fish_seen_subcommand_from $all" -l explain -d 'Explain a fault on further lines'
 complete -c btrun -n "__fish_seen_subcommand_from $all" -l no-explain -d 'Explain no fault'
 complete -c btrun -n "__fish_seen_subcommand_from $all" -l help -d 'Print help'
