@@ -21,6 +21,11 @@ fn advice(mistake: Mistake) -> &'static [u8] {
         Mistake::EmptyBody => b"write 'skip;' where there is nothing to do",
         Mistake::ReturnedValue => b"'return' has no value: assign it to a global, then 'return;'",
         Mistake::StraySemicolon => b"leave out this ';'",
+        Mistake::AtomicBlock => {
+            b"there are no atomic blocks: a parallel assignment is one step, a lock guards more"
+        }
+        Mistake::Dead => b"leave this out: a value that nobody reads does no harm",
+        Mistake::Constrain => b"write 'assume (..);' after the assignment",
         _ => b"",
     }
 }
@@ -72,6 +77,20 @@ fn push_call(out: &mut Vec<u8>, around: &Around<'_>) -> Result<(), AllocError> {
     )
 }
 
+/// Adds how a jump chooses its label.
+fn push_jumps(out: &mut Vec<u8>, around: &Around<'_>) -> Result<(), AllocError> {
+    push_parts(
+        out,
+        &[
+            Words(b"; 'goto' has one label: write 'if (?) then goto "),
+            Name(around.before),
+            Words(b"; else goto "),
+            Name(around.next),
+            Words(b"; fi'"),
+        ],
+    )
+}
+
 /// Adds what to write in place of a mistake at a place with these tokens around it, after a
 /// semicolon.
 pub(crate) fn push_advice(
@@ -83,6 +102,7 @@ pub(crate) fn push_advice(
     match mistake {
         Mistake::ChoiceAsValue => push_choice(out, around),
         Mistake::CallAsValue => push_call(out, around),
+        Mistake::ManyLabels => push_jumps(out, around),
         Mistake::TypedVariable => {
             push_with_name(out, b"a variable is declared by 'decl ", found, b";'")
         }

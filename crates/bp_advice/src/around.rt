@@ -11,7 +11,7 @@ use bp_text::{part_before, part_from};
 pub(crate) struct Around<'a> {
     /// The third token before the place, the second, and the one right before it.
     third: &'a [u8],
-    second: &'a [u8],
+    pub(crate) second: &'a [u8],
     pub(crate) before: &'a [u8],
     /// The last name before the place that a bracket follows, as in a call.
     pub(crate) called: &'a [u8],

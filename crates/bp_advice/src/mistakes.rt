@@ -37,6 +37,12 @@ pub(crate) enum Mistake {
     ReturnedValue,
     /// `;` after a word that takes none.
     StraySemicolon,
+    /// More than one label after `goto`.
+    ManyLabels,
+    /// A word of another dialect: one that begins or ends an atomic block, `dead`, `constrain`.
+    AtomicBlock,
+    Dead,
+    Constrain,
 }
 
 fn has_expression(offers: &[Offer]) -> bool {
@@ -109,6 +115,9 @@ const BEGINNINGS: &[&[u8]] = &[
     b"fi", b"od", b"decl",
 ];
 
+/// The words by which other dialects begin or end an atomic block.
+const ATOMIC: &[&[u8]] = &[b"atomic_begin", b"atomic_end"];
+
 /// Whether the token is one of these words.
 fn is_among(token: &[u8], words: &[&[u8]]) -> bool {
     words.iter().any(|word| *word == token)
@@ -180,9 +189,25 @@ fn value_mistake(offers: &[Offer], around: &Around<'_>) -> Option<Mistake> {
     }
 }
 
+/// The mistake in a statement of another dialect.
+fn dialect_mistake(around: &Around<'_>) -> Option<Mistake> {
+    if around.found == b",".as_slice() && around.second == b"goto".as_slice() {
+        Some(Mistake::ManyLabels)
+    } else if around.found == b";".as_slice() && is_among(around.before, ATOMIC) {
+        Some(Mistake::AtomicBlock)
+    } else if around.before == b"dead".as_slice() && is_name(around.found) {
+        Some(Mistake::Dead)
+    } else if around.found == b"constrain".as_slice() {
+        Some(Mistake::Constrain)
+    } else {
+        None
+    }
+}
+
 /// The mistake that the token at a place is, where the offers could stand there.
 pub(crate) fn mistake_at(offers: &[Offer], around: &Around<'_>) -> Option<Mistake> {
-    declaration_mistake(offers, around)
+    dialect_mistake(around)
+        .or(declaration_mistake(offers, around))
         .or(statement_mistake(offers, around))
         .or(value_mistake(offers, around))
 }
@@ -202,5 +227,7 @@ fn begins_next(around: &Around<'_>) -> bool {
 
 /// Whether a semicolon is missing before the token at a place, where the offers could stand there.
 pub(crate) fn misses_semicolon(offers: &[Offer], around: &Around<'_>) -> bool {
-    has_token(offers, TokenKind::Semicolon) && begins_next(around)
+    has_token(offers, TokenKind::Semicolon)
+        && begins_next(around)
+        && around.found != b"constrain".as_slice()
 }

@@ -51,6 +51,12 @@ fn push_hint(out: &mut Vec<u8>, byte: u8, text: &[u8], at: usize) -> Result<(), 
             &[b"; a choice is written '?', alone in a condition, as in 'if (?)'"],
         );
     }
+    if byte == b'[' && tokens_around(text, at).before == b"schoose".as_slice() {
+        return push_all(
+            out,
+            &[b"; there is no 'schoose': assign in the branches of an 'if', the last an 'if (?)'"],
+        );
+    }
     push_all(out, &[hint(byte)])
 }
 
