@@ -26,7 +26,8 @@ pub const NOTES: &str = "\
     Example:\n  btrun confirm race.bp steps.txt writer reader --init 00\n\n\
     Exit status:\n  0  the steps are a run, and no assertion failed\n  \
     1  an assertion failed at the last step\n  \
-    2  an input was refused, or the arguments were\n  3  memory, a device or the output failed";
+    2  an input was refused, or the arguments were\n  3  memory, a device or the output failed\n  \
+    4  a step is not taken";
 
 /// The arguments of the command after its file.
 pub static ROWS: [Row<'static>; 6] = [

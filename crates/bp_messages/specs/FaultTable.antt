@@ -141,10 +141,15 @@ fault_row fault.Memory = memory_row
 abbrev pub is_of_the_machine : ℕ → Bool
 is_of_the_machine n = n == 7 || nat_le 51 n && nat_le n 55
 
+-- a step that is not taken
+abbrev pub is_of_a_step : ℕ → Bool
+is_of_a_step n = nat_le 58 n && nat_le n 62
+
 -- the exit status of a run that a fault of this number ended, or in which an assertion failed, or
 -- which was clean
 abbrev pub exit_status : (has_failed : Bool) → Option ℕ → ℕ
-exit_status failed (Some n) = if is_of_the_machine n then 3 else 2
+exit_status failed (Some n) =
+    if is_of_the_machine n then 3 else if is_of_a_step n then 4 else 2
 exit_status true None = 1
 exit_status false None = 0
 

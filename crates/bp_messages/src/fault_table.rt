@@ -11,13 +11,14 @@ use bp_syntax::ReadFault;
 use bp_trace::{DriveFault, ReplayFault};
 
 /// The exit status of a run. By the number of the fault that ended it, it is 3 for memory, devices,
-/// the output and workers that do not start or stop early, and 2 for any other. Without a fault it
-/// is 1 where an assertion failed, else 0.
+/// the output and workers that do not start or stop early, 4 for a step that is not taken, and 2
+/// for any other. Without a fault it is 1 if an assertion failed, else 0.
 pub fn exit_status(has_failed: bool, fault: Option<u32>) -> u8
     ensures { result ≡ exit_status has_failed fault }
 {
     match fault {
         Some(7 | 51..=55) => 3,
+        Some(58..=62) => 4,
         Some(_) => 2,
         None => u8::from(has_failed),
     }

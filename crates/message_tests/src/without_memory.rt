@@ -49,8 +49,9 @@ fn lines_of_answers_and_faults(rt: HostRuntime) -> Result<(), Fail> {
         exit_status(true, None),
         exit_status(true, Some(32)),
         exit_status(false, Some(7)),
+        exit_status(false, Some(62)),
     ];
-    assert!(rt; done.is_ok() && statuses == [0, 1, 2, 3]);
+    assert!(rt; done.is_ok() && statuses == [0, 1, 2, 3, 4]);
     assert!(rt; out.as_slice() == LINES);
     Ok(())
 }
