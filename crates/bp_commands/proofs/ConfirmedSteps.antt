@@ -9,7 +9,7 @@ use Rattle.bp_machine.specs.Setups.{SetupOf, setup_fault, IsSetupRefusal}
 use Rattle.bp_machine.specs.Starts.{StartOf, setup_from}
 use Rattle.bp_trace.specs.TraceText.{trace_text}
 use Rattle.bp_confirm.specs.declared.confirming.ConfirmFault.{ConfirmFault}
-use Rattle.bp_confirm.specs.declared.confirming.ConfirmFault.TheVariants.{TooLong, Line, NoThread, NoVariable, Step, Memory, Write}
+use Rattle.bp_confirm.specs.declared.confirming.ConfirmFault.TheVariants.{TooLong, NoSteps, Line, NoThread, NoVariable, Step, Memory, Write}
 use Rattle.bp_tasks.specs.declared.context_bounds.ContextBound.{ContextBound}
 use Rattle.bp_confirm.specs.declared.histories.ConfirmReport.{ConfirmReport}
 use Rattle.bp_confirm.specs.ConfirmedTexts.{ConfirmsTo, IsConfirmRefusal, IsStepsRefusal}
@@ -60,6 +60,7 @@ module _ (start : StartOf) (bound : ContextBound) (given : Pair) (t : Program) (
         → IsConfirmRefusal t (setup_from start None t) given.input given.text bound old new f
         → IsRefusedWith (confirms start bound) old new given (fault_of_steps f)
     refused_so TooLong found = inl (kept found.0, unconfirmed TooLong found.1)
+    refused_so NoSteps found = inl (kept found.0, unconfirmed NoSteps found.1)
     refused_so (Line n) found = inl (kept found.0, unconfirmed (Line n) found.1)
     refused_so (NoThread n thread) found = inl (kept found.0, unconfirmed (NoThread n thread) found.1)
     refused_so (NoVariable n value) found = inl (kept found.0, unconfirmed (NoVariable n value) found.1)

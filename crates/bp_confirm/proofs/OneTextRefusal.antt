@@ -10,12 +10,12 @@ use Rattle.bp_machine.specs.Setups.{SetupOf}
 use Rattle.bp_machine.proofs.ContextCounts.{least_opened}
 use Rattle.bp_trace.specs.declared.limits.TheConstants.{MAX_SCHEDULE}
 use Rattle.bp_confirm.specs.declared.confirming.ConfirmFault.{ConfirmFault}
-use Rattle.bp_confirm.specs.declared.confirming.ConfirmFault.TheVariants.{TooLong, Line, NoThread, NoVariable, Step, Memory, Write}
+use Rattle.bp_confirm.specs.declared.confirming.ConfirmFault.TheVariants.{TooLong, NoSteps, Line, NoThread, NoVariable, Step, Memory, Write}
 use Rattle.bp_tasks.specs.declared.context_bounds.ContextBound.{ContextBound}
 use Rattle.bp_tasks.specs.declared.context_bounds.ContextBound.TheVariants.{Kept, AsUsed}
 use Rattle.bp_confirm.specs.declared.faults.StepRefusal.{StepRefusal}
 use Rattle.bp_confirm.specs.Confirms.{IsStepRefusal}
-use Rattle.bp_confirm.specs.ConfirmedTexts.{AreRead, IsConfirmedText, IsShortText, IsStepsRefusal}
+use Rattle.bp_confirm.specs.ConfirmedTexts.{AreRead, HasFitLength, IsConfirmedText, IsStepsRefusal}
 use Rattle.bp_confirm.specs.ContextBounds.{IsSetupFor, contexts_allowed}
 use Rattle.bp_confirm.specs.DeclaredLines.{AreDeclared, AreDeclaredLines, IsDeclared, IsFirstStray, IsFirstUndeclared, IsOfNoThread, IsOfNoVariable, declares}
 use Rattle.bp_confirm.specs.OneRefusal.{NoRefusalOfConfirmed, OneRefusal}
@@ -88,11 +88,13 @@ module _ (text : List ℕ) (t : Program) (is : IsLawfulText text t) (s : SetupOf
 
   data OnText : ConfirmFault → Type 0 where
     of_length : MAX_SCHEDULE < length steps → OnText TooLong
-    of_line : (n : ℕ) → IsShortText t s steps → IsBadLine steps n → OnText (Line n)
+    of_nothing : length steps ≡ 0 → OnText NoSteps
+    of_line : (n : ℕ) → HasFitLength t s steps → IsBadLine steps n → OnText (Line n)
     of_lines : (f : ConfirmFault) (lines : List StepLineOf) → AreRead t s steps lines → OnLines lines f → OnText f
 
   sorted : (f : ConfirmFault) → f ≢ Memory → IsStepsRefusal t s steps text bound f → OnText f
   sorted TooLong other p = of_length p
+  sorted NoSteps other p = of_nothing p
   sorted (Line n) other p = of_line n p.0 p.1
   sorted (NoThread n i) other p = of_lines (NoThread n i) p.lines p.read (of_no_thread n i p.stray)
   sorted (NoVariable n k) other p = of_lines (NoVariable n k) p.lines p.read (of_no_variable n k p.stray)
@@ -100,8 +102,14 @@ module _ (text : List ℕ) (t : Program) (is : IsLawfulText text t) (s : SetupOf
   sorted Memory other p = absurd (other refl)
   sorted Write other p = absurd p
 
-  too_long : {X : Type 0} → MAX_SCHEDULE < length steps → IsShortText t s steps → X
-  too_long long short = absurd (omega (arith, long, short))
+  too_long : {X : Type 0} → MAX_SCHEDULE < length steps → HasFitLength t s steps → X
+  too_long long fit = absurd (omega (arith, long, fit.1))
+
+  empty : {X : Type 0} → length steps ≡ 0 → HasFitLength t s steps → X
+  empty none fit = absurd (omega (arith, none, fit.0))
+
+  long_or_empty : {X : Type 0} → MAX_SCHEDULE < length steps → length steps ≡ 0 → X
+  long_or_empty long none = absurd (omega (arith, long, none))
 
   bad_or_read : {X : Type 0} (n : ℕ) (lines : List StepLineOf) → IsBadLine steps n → HasLines steps lines → X
   bad_or_read n lines bad has = absurd (bad_begins lines bad.before bad.rest has.each bad.each (sym has.is ∙ bad.whole) bad.some bad.bad)
@@ -144,13 +152,20 @@ module _ (text : List ℕ) (t : Program) (is : IsLawfulText text t) (s : SetupOf
 
   one_sorted : (f g : ConfirmFault) → OnText f → OnText g → f ≡ g
   one_sorted _ _ (of_length long) (of_length more) = refl
-  one_sorted _ _ (of_length long) (of_line n short bad) = too_long long short
-  one_sorted _ _ (of_length long) (of_lines g lines read on) = too_long long read.short
-  one_sorted _ _ (of_line n short bad) (of_length long) = too_long long short
-  one_sorted _ _ (of_line m short bad) (of_line n also worse) = ap Line (same_bad m n bad worse)
-  one_sorted _ _ (of_line n short bad) (of_lines g lines read on) = bad_or_read n lines bad read.has
-  one_sorted _ _ (of_lines f lines read on) (of_length long) = too_long long read.short
-  one_sorted _ _ (of_lines f lines read on) (of_line n short bad) = bad_or_read n lines bad read.has
+  one_sorted _ _ (of_length long) (of_nothing none) = long_or_empty long none
+  one_sorted _ _ (of_length long) (of_line n fit bad) = too_long long fit
+  one_sorted _ _ (of_length long) (of_lines g lines read on) = too_long long read.fit
+  one_sorted _ _ (of_nothing none) (of_length long) = long_or_empty long none
+  one_sorted _ _ (of_nothing none) (of_nothing also) = refl
+  one_sorted _ _ (of_nothing none) (of_line n fit bad) = empty none fit
+  one_sorted _ _ (of_nothing none) (of_lines g lines read on) = empty none read.fit
+  one_sorted _ _ (of_line n fit bad) (of_length long) = too_long long fit
+  one_sorted _ _ (of_line n fit bad) (of_nothing none) = empty none fit
+  one_sorted _ _ (of_line m fit bad) (of_line n also worse) = ap Line (same_bad m n bad worse)
+  one_sorted _ _ (of_line n fit bad) (of_lines g lines read on) = bad_or_read n lines bad read.has
+  one_sorted _ _ (of_lines f lines read on) (of_length long) = too_long long read.fit
+  one_sorted _ _ (of_lines f lines read on) (of_nothing none) = empty none read.fit
+  one_sorted _ _ (of_lines f lines read on) (of_line n fit bad) = bad_or_read n lines bad read.has
   one_sorted _ _ (of_lines f xs read on) (of_lines g ys also to) = one_on_lines xs f g on (subst (λ zs. OnLines zs g) (same_lines ys xs also read) to)
 
   module _ (setup : SetupOf) (h : List Call) (confirmed : IsConfirmedText t s steps text bound setup h) where
@@ -162,13 +177,15 @@ module _ (text : List ℕ) (t : Program) (is : IsLawfulText text t) (s : SetupOf
         not_confirmed_too text t is setup confirmed.lines r (subst (λ z. IsStepRefusal text t z confirmed.lines r) same p) h confirmed.confirmed
 
     none_sorted : (f : ConfirmFault) → OnText f → ⊥
-    none_sorted _ (of_length long) = too_long long confirmed.told.read.short
-    none_sorted _ (of_line n short bad) = bad_or_read n confirmed.lines bad confirmed.told.read.has
+    none_sorted _ (of_length long) = too_long long confirmed.told.read.fit
+    none_sorted _ (of_nothing none) = empty none confirmed.told.read.fit
+    none_sorted _ (of_line n fit bad) = bad_or_read n confirmed.lines bad confirmed.told.read.has
     none_sorted _ (of_lines f lines read on) = none_on_lines f (subst (λ zs. OnLines zs f) (same_lines lines confirmed.lines read confirmed.told.read) on)
 
     by_fault : (f : ConfirmFault) → IsStepsRefusal t s steps text bound f → f ≡ Memory
     by_fault Memory p = refl
     by_fault TooLong p = absurd (none_sorted TooLong (of_length p))
+    by_fault NoSteps p = absurd (none_sorted NoSteps (of_nothing p))
     by_fault (Line n) p = absurd (none_sorted (Line n) (of_line n p.0 p.1))
     by_fault (NoThread n i) p = absurd (none_sorted (NoThread n i) (of_lines (NoThread n i) p.lines p.read (of_no_thread n i p.stray)))
     by_fault (NoVariable n k) p = absurd (none_sorted (NoVariable n k) (of_lines (NoVariable n k) p.lines p.read (of_no_variable n k p.stray)))

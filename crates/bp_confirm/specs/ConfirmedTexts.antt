@@ -20,12 +20,13 @@ use Rattle.bp_confirm.specs.Confirms.{IsConfirmed, IsStepRefusal}
 
 -- a text of steps, of a program in this setup
 module _ (t : Program) (s : SetupOf) (steps : List ℕ) where
-  abbrev pub IsShortText : Type 0
-  IsShortText = length steps ≤ MAX_SCHEDULE
+  -- it is neither empty nor too long
+  abbrev pub HasFitLength : Type 0
+  HasFitLength = (0 < length steps) × (length steps ≤ MAX_SCHEDULE)
 
-  -- it is not too long, and has these lines
+  -- and it has these lines
   pub record AreRead (lines : List StepLineOf) : Type 0 where
-    pub short : IsShortText
+    pub fit : HasFitLength
     pub has : HasLines steps lines
 
   -- and each of them is of a thread of the setup and of variables of the program
@@ -42,10 +43,11 @@ module _ (t : Program) (s : SetupOf) (steps : List ℕ) where
   -- why it has no such lines; nothing is said of when memory is refused
   abbrev pub IsUntold : ConfirmFault → Type 0
   IsUntold fault.TooLong = MAX_SCHEDULE < length steps
-  IsUntold (fault.Line n) = IsShortText × IsBadLine steps n
+  IsUntold fault.NoSteps = length steps ≡ 0
+  IsUntold (fault.Line n) = HasFitLength × IsBadLine steps n
   IsUntold (fault.NoThread n thread) = HasStray n (IsOfNoThread s thread)
   IsUntold (fault.NoVariable n value) = HasStray n (IsOfNoVariable t s value)
-  IsUntold fault.Memory = IsShortText
+  IsUntold fault.Memory = HasFitLength
   IsUntold f = ⊥
 
   -- its places are those of the text of the program, and this many contexts are allowed

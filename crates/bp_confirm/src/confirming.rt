@@ -28,6 +28,9 @@ pub enum ConfirmFault {
     /// The text has more than 67,108,864 bytes.
     #[error("the steps are too long")]
     TooLong,
+    /// The text has no step.
+    #[error("there are no steps")]
+    NoSteps,
     /// This line is the first that is malformed, or the last one that does not end.
     #[error("line {0} of the steps is not a thread, a place and values")]
     Line(u32),
@@ -74,6 +77,9 @@ fn told_lines<'a>(
 {
     if steps.len() > MAX_SCHEDULE {
         return Err(ConfirmFault::TooLong);
+    }
+    if steps.is_empty() {
+        return Err(ConfirmFault::NoSteps);
     }
     let lines = match read_lines(alloc, steps) {
         Ok(lines) => lines,

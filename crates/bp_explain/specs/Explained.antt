@@ -70,6 +70,7 @@ ExplainsSchedule file schedule drive.Write e = ⊥
 -- the explanation of a fault of reported steps: none of refused memory and of an output that failed
 abbrev pub ExplainsSteps : List ℕ → List ℕ → ConfirmFault → Explanation → Type 0
 ExplainsSteps file steps confirm.TooLong e = ExplainsLength file e
+ExplainsSteps file steps confirm.NoSteps e = IsExplanation file (Line 1) [] e
 ExplainsSteps file steps (confirm.Line n) e = ExplainsLine file steps n e
 ExplainsSteps file steps (confirm.NoThread n thread) e = ExplainsLine file steps n e
 ExplainsSteps file steps (confirm.NoVariable n value) e = ExplainsLine file steps n e

@@ -7,7 +7,7 @@ use crate::schedules::push_no_entry;
 use crate::step_sentences::{Confirming, push_refusal};
 use bp_advice::Part::{Quoted, Words};
 use bp_advice::{
-    ENDS_IN_CR_LF, Explanation, about_line, ends_in_cr_lf, explain_too_long, push_all, push_parts,
+    ENDS_IN_CR_LF, Explanation, about_excerpt, about_line, ends_in_cr_lf, explain_too_long, push_all, push_parts,
 };
 use bp_confirm::{ConfirmFault, StepRefusal, value_on_line};
 use bp_machine::Start;
@@ -83,7 +83,7 @@ fn explain_refusal<'a>(
 }
 
 /// Explains this fault of the reported steps of the program of a text, which run from this start,
-/// at its line. Steps that are too long are explained as a whole. Nothing explains refused memory
+/// at its line. Steps that are too long or none are explained as a whole. Nothing explains refused memory
 /// and an output that failed. The only error is refused memory.
 pub fn explain_steps<'a>(
     alloc: Global,
@@ -98,6 +98,10 @@ pub fn explain_steps<'a>(
 {
     let explanation = match *fault {
         ConfirmFault::TooLong => explain_too_long(alloc, file, b"list of steps", MAX_SCHEDULE)?,
+        ConfirmFault::NoSteps => {
+            let sentence = b"the list has no step, so there is nothing to confirm";
+            about_excerpt(alloc, file, 1, Vec::new(alloc), sentence)?
+        }
         ConfirmFault::Line(line) => explain_line(alloc, file, steps, line)?,
         ConfirmFault::NoThread(line, thread) => {
             explain_no_thread(alloc, file, steps, line, thread)?

@@ -113,6 +113,7 @@ step_name (Differs d) = codes "Differs"
 
 abbrev pub steps_row : ConfirmFault → RowOf
 steps_row confirm.TooLong = long_row
+steps_row confirm.NoSteps = row 63 (codes "NoSteps") Nothing
 steps_row (confirm.Line n) = row 42 (codes "Line") (Line n)
 steps_row (confirm.NoThread n k) = row 36 (codes "NoThread") (ThreadOn n k)
 steps_row (confirm.NoVariable n value) = row 57 (codes "NoVariable") (Line n)

@@ -193,6 +193,7 @@ fn steps_row(fault: &ConfirmFault) -> Row
 {
     match fault {
         ConfirmFault::TooLong => long_row(),
+        ConfirmFault::NoSteps => new_row(63, b"NoSteps", Detail::Nothing),
         ConfirmFault::Line(line) => new_row(42, b"Line", Detail::Line(*line)),
         ConfirmFault::NoThread(line, thread) => new_row(
             36,
