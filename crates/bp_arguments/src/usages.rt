@@ -3,7 +3,7 @@ ghost use Rattle.std.specs.Prelude.{◌≡◌, map, string_bytes};
 ghost use Rattle.bp_arguments.specs.Usages.{asks_for_json};
 
 use crate::commands::no_command;
-use crate::meant::{of_file, of_number};
+use crate::meant::{of_file, of_number, of_value};
 use crate::names::command_named;
 use crate::table::with_help;
 use clap::Error;
@@ -62,14 +62,19 @@ fn error_with_usage(
     Ok(Some(command.error(kind, message)?))
 }
 
-/// The same error with the usage of the command that the arguments name, where they name one.
+/// The same error with the usage of the command that the arguments name, where they name one. That
+/// of a value that is no number says what the option takes.
 fn same_with_usage(
     alloc: Global,
     arguments: &[String],
     error: &Error,
 ) -> Result<Option<Error>, AllocError> {
     let text = format!(in alloc; "{error}")?;
-    error_with_usage(alloc, arguments, error.kind(), message_of(text.as_str()))
+    let message = message_of(text.as_str());
+    match of_value(alloc, message)? {
+        Some(said) => error_with_usage(alloc, arguments, error.kind(), said.as_str()),
+        None => error_with_usage(alloc, arguments, error.kind(), message),
+    }
 }
 
 /// The error of an option whose value is a number below 0, where that is why the arguments are

@@ -7,7 +7,8 @@ use crate::schedules::push_no_entry;
 use crate::step_sentences::{Confirming, push_refusal};
 use bp_advice::Part::{Quoted, Words};
 use bp_advice::{
-    ENDS_IN_CR_LF, Explanation, about_excerpt, about_line, ends_in_cr_lf, explain_too_long, push_all, push_parts,
+    ENDS_IN_CR_LF, Explanation, about_excerpt, about_line, ends_in_cr_lf, explain_too_long,
+    push_all, push_parts,
 };
 use bp_confirm::{ConfirmFault, StepRefusal, value_on_line};
 use bp_machine::Start;
