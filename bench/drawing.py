@@ -5,7 +5,7 @@ Usage: bench/drawing.py [PROGRAM [RUNS]]
 
 PROGRAM is the built program, crates/btrun/out/btrun if left out. 500,000 short runs of examples/bluetooth/mended.bp are
 made within 6 contexts, some 22 calls each. The yardstick is bench/plain/test.rs; for several seeds and numbers of
-contexts its summary has to be the same. Each time is the least of RUNS runs (5 if left out). Where valgrind is, the
+contexts the counts of its summary have to be the same. Each time is the least of RUNS runs (5 if left out). Where valgrind is, the
 instructions of a call are counted too, over 2,000 runs less those of none.
 """
 import os
@@ -31,12 +31,14 @@ def command(program, runs, contexts=BOUND, seed=42):
     return [program, *words, "--contexts", str(contexts), "--runs", str(runs), "--seed", str(seed)]
 
 
-def summary(program, runs, contexts=BOUND, seed=42):
-    return subprocess.run(command(program, runs, contexts, seed), capture_output=True, check=True).stderr.decode()
+def counts(program, runs, contexts=BOUND, seed=42):
+    """The lines of the summary that count."""
+    said = subprocess.run(command(program, runs, contexts, seed), capture_output=True, check=True).stderr.decode()
+    return [line for line in said.splitlines() if re.match("runs|ended|contexts|reached|distinct", line)]
 
 
 def calls_of(text):
-    return int(re.search(r"calls (\d+)", text)[1])
+    return int(re.search(r"^runs \d+, calls (\d+)", text, re.MULTILINE)[1])
 
 
 def instructions(program):
@@ -58,8 +60,8 @@ def main():
         plain = os.path.join(folder, "plain")
         subprocess.run(["rustc", "--edition", "2021", "-O", "-o", plain, os.path.join(TOP, "bench/plain/test.rs")], check=True)
         for contexts, seed in COMPARED:
-            assert summary(program, 10_000, contexts, seed) == summary(plain, 10_000, contexts, seed), (contexts, seed)
-        calls = calls_of(summary(plain, MADE))
+            assert counts(program, 10_000, contexts, seed) == counts(plain, 10_000, contexts, seed), (contexts, seed)
+        calls = calls_of(counts(plain, MADE)[0])
         print("%d runs, %d calls" % (MADE, calls))
         print("              seconds  nanoseconds a call  instructions a call")
         for name, each in (("btrun test", program), ("plain Rust", plain)):

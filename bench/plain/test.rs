@@ -1,5 +1,5 @@
 //! The yardstick of bench/drawing.py: a plain Rust program, without proofs, that makes the runs of `btrun test` over
-//! examples/bluetooth/mended.bp, draw for draw, and prints the same summary. The code is written down here, with the steps
+//! examples/bluetooth/mended.bp, draw for draw, and prints the same counts. The code is written down here, with the steps
 //! that are visible, so it reads no program. It draws by the same generator: PCG XSH RR 64/32 (O'Neill), written out.
 //!
 //! Usage: test RUNS CONTEXTS CALLS SEED
@@ -560,14 +560,4 @@ fn main() {
     let compared = tally.keys.len();
     let (different, once) = tally.distinct();
     eprintln!("distinct: runs {different} of {compared}, seen once {once}");
-    let notes = [
-        (test.contexts < 2, "fewer contexts than threads; raise --contexts"),
-        (tally.runs > 0 && asserted == 0, "no run reached an assertion"),
-        (tally.finished < tally.out_of_contexts, "more runs ran out of contexts than finished; raise --contexts"),
-        (tally.finished < tally.cut_off, "more runs were cut off than finished; raise --calls"),
-        (tally.finished < tally.starved, "more runs starved than finished; raise --contexts"),
-    ];
-    for (_, note) in notes.iter().filter(|(applies, _)| *applies && found.is_none()) {
-        eprintln!("note: {note}");
-    }
 }

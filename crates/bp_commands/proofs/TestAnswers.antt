@@ -27,7 +27,6 @@ use Rattle.bp_commands.specs.Commands.{IsDoneWith, IsRefusedWith}
 use Rattle.bp_messages.specs.Faults.{fault_of_setup, fault_of_test}
 use Rattle.bp_messages.specs.declared.faults.Fault.TheVariants.{Memory}
 use Rattle.bp_messages.specs.declared.test_reports.TestReport.{TestReport}
-use Rattle.bp_messages.specs.Notes.{notes_of}
 use Rattle.bp_commands.specs.Tests.{tests, AreListed, IsTestable}
 use Rattle.bp_source.specs.SourceStatements.{AreStatements}
 use Rattle.bp_source.specs.StatementLines.{positions_of}
@@ -85,10 +84,9 @@ module _ (start : StartOf) (x : TestOptions) (listed : Option (List ℕ)) (json 
         → tested.reached ≡ made.tally.reached
         → AreDistinct made.tally.keys.items tested.distinct
         → ((z : SetupOf) (runs : List MadeRun) → length runs < 2 ^ 64 → IsCounted z runs made.tally → AreCounts z runs tested.counts)
-        → tested.notes ≡ notes_of tested.found s.contexts tested.counts
-        → tested.options ≡ x → tested.json ≡ json → AreListed json listed text t (map (λ v. v.items) tested.lines.items)
+        → tested.options ≡ x → tested.setup ≡ s → tested.json ≡ json → AreListed json listed text t (map (λ v. v.items) tested.lines.items)
         → IsDoneWith (tests start x listed json) old new text tested
-    done made test tested found_is failed_is waiting_is positions statements reached_is distinct counts notes options form lines =
+    done made test tested found_is failed_is waiting_is positions statements reached_is distinct counts options setup_is form lines =
         let of_setup = subst (λ y. IsTest t y x old new made) setup test in
         let found = alone tested.found tested.failed tested.waiting.items of_setup.runs
         (subst (λ v. IsFound t taken x old new tested.found tested.failed v.items of_setup.runs) (sym waiting_is)
@@ -106,8 +104,8 @@ module _ (start : StartOf) (x : TestOptions) (listed : Option (List ℕ)) (json 
             distinct = record { keys = made.tally.keys.items; are = of_setup.tallied.keys; distinct = distinct };
             positions_are = positions;
             statements_are = statements;
-            notes_are = notes ∙ ap (λ z. notes_of tested.found z.contexts tested.counts) setup;
             options_are = options;
+            setup_is = setup_is ∙ setup;
             json_is = form;
             lines = lines;
           };

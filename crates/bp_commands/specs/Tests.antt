@@ -9,8 +9,6 @@ use Rattle.bp_machine.specs.declared.setup_faults.SetupFault.{SetupFault}
 use Rattle.bp_machine.specs.Setups.{setup_fault, IsSetupRefusal}
 use Rattle.bp_machine.specs.Starts.{StartOf, setup_from}
 use Rattle.bp_tasks.specs.declared.test_options.TestOptions.{TestOptions}
-use Rattle.bp_test.specs.declared.testing.Found.{Found}
-use Rattle.bp_test.specs.declared.testing.Found.TheVariants.{Nothing, Failed, Deadlock}
 use Rattle.bp_test.specs.Counts.{AreCounts}
 use Rattle.bp_test.specs.Distinct.{AreDistinctRuns}
 use Rattle.bp_test.specs.Tallies.{MadeRun, HasReached}
@@ -24,18 +22,12 @@ use Rattle.bp_commands.specs.RunEnds.{AnswerRule}
 use Rattle.bp_messages.specs.Faults.{fault_of_setup}
 use Rattle.bp_commands.specs.Listings.{HasNoCode}
 use Rattle.bp_commands.specs.NamedStarts.{by_names}
-use Rattle.bp_messages.specs.Notes.{notes_of}
+use Rattle.bp_messages.specs.Notes.{has_found}
 use Rattle.bp_messages.specs.Summaries.{summary_text}
 use Rattle.bp_messages.specs.SummaryObjects.{summary_objects}
 use Rattle.bp_source.specs.SourceStatements.{AreStatements}
 use Rattle.bp_source.specs.StatementLines.{positions_of, AreStatementLines}
 use Rattle.bp_source.specs.Unreached.{AreUnreachedObjects}
-
--- a test found what it looks for
-abbrev pub has_found : Found → Bool
-has_found Nothing = false
-has_found (Failed run report) = true
-has_found (Deadlock run report) = true
 
 -- what a user reads of a test, as JSON or not
 abbrev pub summary_of : TestReport → List ℕ
@@ -100,8 +92,8 @@ module _
     pub statements_are :
         let statements = map (λ v. v.items) tested.statements.items in
         AreStatements text (places_of testable.program.procedures) statements
-    pub notes_are : tested.notes ≡ notes_of tested.found start.contexts tested.counts
     pub options_are : tested.options ≡ x
+    pub setup_is : tested.setup ≡ setup_from start None testable.program
     pub json_is : tested.json ≡ json
     pub lines : AreListed json listed text testable.program (map (λ v. v.items) tested.lines.items)
 

@@ -14,7 +14,7 @@ use crate::run_ends::CommandAnswer;
 use bp_check::Checked;
 use bp_init::NamedStart;
 use bp_machine::Start;
-use bp_messages::{Fault, Notes, TestReport, notes_of, put_summary, put_summary_objects};
+use bp_messages::{Fault, TestReport, put_summary, put_summary_objects};
 use bp_source::{statement_lines, statement_positions, statement_texts, unreached_objects};
 use bp_test::{
     Counts, Distinct, Found, Progress, Runtimes, Tally, TestOptions, Waiting, distinct_of, test,
@@ -50,7 +50,7 @@ impl CommandAnswer for TestReport {
     ghost rule = { of_test };
 
     fn has_failed(&self) -> bool {
-        !matches!(self.found, Found::Nothing)
+        self.has_found()
     }
 
     fn summarize<E: Write>(&self, errors: &mut E) -> Result<(), WriteFault> {
@@ -143,7 +143,6 @@ fn test_from<R: Threads + Sync, P: Progress, W: Write>(
     let progress = asked.progress;
     let tested = test(&runtimes, alloc, &code, &setup, &options, progress, out)?;
     let counts = tested.tally.counts(&code);
-    let notes = notes_of(tested.found, setup.contexts(), &counts);
     let bp_test::Tested {
         found,
         failed,
@@ -153,6 +152,7 @@ fn test_from<R: Threads + Sync, P: Progress, W: Write>(
     let Tally { reached, keys, .. } = tally;
     Ok(TestReport {
         options,
+        setup,
         found,
         failed,
         waiting,
@@ -160,7 +160,6 @@ fn test_from<R: Threads + Sync, P: Progress, W: Write>(
         statements: described.statements,
         counts,
         distinct: distinct_of(keys),
-        notes,
         lines: described.lines,
         reached,
         json: asked.json,

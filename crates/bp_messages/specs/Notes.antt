@@ -1,43 +1,77 @@
--- Where a test that found nothing may mislead.
-use Rattle.std.specs.Prelude.{ℕ, Bool, true, false, ◌&&◌, ◌==◌, nat_lt, List, [], ◌∷◌, codes}
+-- Where a test may mislead: what it did not look at, and what it was not asked for.
+use Rattle.std.specs.Prelude.{if◌then◌else◌, ◌+◌, ◌*◌, ℕ, Bool, true, false, not, ◌&&◌, ◌==◌, nat_le, nat_lt, List, [], ◌∷◌, codes, decimal}
 use Rattle.std.specs.List.{concat}
-use Rattle.bp_test.specs.declared.counts.Counts.{Counts}
+use Rattle.bp_test.specs.declared.tallies.Ends.{Ends}
 use Rattle.bp_test.specs.declared.testing.Found.{Found}
-use Rattle.bp_test.specs.declared.testing.Found.TheVariants.{Nothing}
+use Rattle.bp_test.specs.declared.testing.Found.TheVariants.{Nothing, Failed, Deadlock}
+use Rattle.bp_test.specs.Tallies.{capped}
 use Rattle.bp_text.specs.Pieces.{key_text, truth_text}
+use Rattle.bp_messages.specs.declared.limits.TheConstants.{NOTED_SHARE}
 use Rattle.bp_messages.specs.declared.notes.Notes.{Notes}
+use Rattle.bp_messages.specs.declared.test_reports.TestReport.{TestReport}
 
--- how a test that found nothing may mislead, with k contexts allowed and these counts
-abbrev pub notes_of : Found → (k : ℕ) → Counts → Notes
-notes_of Nothing k x = record {
-  few_contexts = nat_lt k x.threads.all;
-  no_assertion = nat_lt 0 x.runs && (x.assertions.reached == 0);
-  out_of_contexts = nat_lt x.ends.finished x.ends.out_of_contexts;
-  cut_off = nat_lt x.ends.finished x.ends.cut_off;
-  starved = nat_lt x.ends.finished x.ends.starved;
-}
-notes_of found k x = record {
-  few_contexts = false;
-  no_assertion = false;
-  out_of_contexts = false;
-  cut_off = false;
-  starved = false;
-}
+-- a test found what it looks for
+abbrev pub has_found : Found → Bool
+has_found Nothing = false
+has_found (Failed run report) = true
+has_found (Deadlock run report) = true
+
+-- one run in twenty, or more
+abbrev pub are_many : (count runs : ℕ) → Bool
+are_many count runs = nat_lt 0 count && nat_le runs (capped (count * NOTED_SHARE))
+
+-- how many runs might have gone on with more contexts
+abbrev pub lacking_contexts : Ends → ℕ
+lacking_contexts x = capped (x.out_of_contexts + x.starved)
+
+-- A test which does not look for deadlocks may mislead by those it met, and one that found nothing
+-- by the rest: its bounds, that it made no run, or that there was nothing to find.
+abbrev pub notes_of : TestReport → Notes
+notes_of x =
+    let is_clean = not (has_found x.found) in
+    let is_of_assertions = not x.options.with_deadlock in
+    let runs = x.counts.runs in
+    let assertions = x.counts.assertions in
+    record {
+      deadlocked = is_of_assertions && nat_lt 0 x.counts.ends.deadlocked;
+      few_contexts = is_clean && nat_lt x.setup.contexts x.counts.threads.all;
+      no_run = is_clean && (runs == 0);
+      no_assertion = is_clean && (is_of_assertions && (assertions.all == 0));
+      no_assertion_reached =
+          is_clean && (nat_lt 0 runs && (nat_lt 0 assertions.all && (assertions.reached == 0)));
+      out_of_contexts = is_clean && are_many (lacking_contexts x.counts.ends) runs;
+      cut_off = is_clean && are_many x.counts.ends.cut_off runs;
+    }
+
+-- how many of the runs came to this
+abbrev pub count_note : (count runs : ℕ) → (said : List ℕ) → List ℕ
+count_note count runs said =
+    concat (
+    codes "note: " ∷ decimal count
+    ∷ codes " of " ∷ decimal runs
+    ∷ codes " runs " ∷ said ∷ [])
 
 abbrev pub note_if : Bool → List ℕ → List ℕ
-note_if true note = note
-note_if false note = []
+note_if applies note = if applies then note else []
 
 -- a line for each note that applies
-abbrev pub notes_text : Notes → List ℕ
-notes_text x =
+abbrev pub notes_text : TestReport → List ℕ
+notes_text tested =
+    let notes = notes_of tested in
+    let x = tested.counts in
     concat (
-    note_if x.few_contexts (codes "note: fewer contexts than threads; raise --contexts\n")
-    ∷ note_if x.no_assertion (codes "note: no run reached an assertion\n")
-    ∷ note_if x.out_of_contexts
-    (codes "note: more runs ran out of contexts than finished; raise --contexts\n")
-    ∷ note_if x.cut_off (codes "note: more runs were cut off than finished; raise --calls\n")
-    ∷ note_if x.starved (codes "note: more runs starved than finished; raise --contexts\n")
+    note_if notes.few_contexts (codes "note: fewer contexts than threads; raise --contexts\n")
+    ∷ note_if notes.no_run (codes "note: no run was made\n")
+    ∷ note_if notes.no_assertion (codes "note: the program has no assertion\n")
+    ∷ note_if notes.no_assertion_reached (codes "note: no run reached an assertion\n")
+    ∷ note_if notes.deadlocked
+    (count_note x.ends.deadlocked x.runs
+    (codes "ended in a deadlock; --deadlock stops at the first\n"))
+    ∷ note_if notes.out_of_contexts
+    (count_note (lacking_contexts x.ends) x.runs
+    (codes "ran out of contexts or starved; raise --contexts\n"))
+    ∷ note_if notes.cut_off
+    (count_note x.ends.cut_off x.runs (codes "were cut off; raise --calls\n"))
     ∷ [])
 
 -- which notes apply, as the last member of an object
@@ -45,8 +79,10 @@ abbrev pub notes_members : Notes → List ℕ
 notes_members x =
     concat (
     codes ",\"notes\":{\"few_contexts\":" ∷ truth_text x.few_contexts
+    ∷ key_text (codes "no_run") ∷ truth_text x.no_run
     ∷ key_text (codes "no_assertion") ∷ truth_text x.no_assertion
+    ∷ key_text (codes "no_assertion_reached") ∷ truth_text x.no_assertion_reached
+    ∷ key_text (codes "deadlocked") ∷ truth_text x.deadlocked
     ∷ key_text (codes "out_of_contexts") ∷ truth_text x.out_of_contexts
     ∷ key_text (codes "cut_off") ∷ truth_text x.cut_off
-    ∷ key_text (codes "starved") ∷ truth_text x.starved
     ∷ codes "}}\n" ∷ [])

@@ -21,16 +21,23 @@ deadlock_text x run =
     found_phrase (codes "deadlock") run x.options.runs
     ++ (waits_text x.positions.items x.waiting.items ++ codes "\n")
 
--- nothing was found in the runs that were made; if they are not all, the time was over
-abbrev pub nothing_text : List ℕ → (made runs : ℕ) → List ℕ
-nothing_text phrase made runs =
-    if made == runs then concat (phrase ∷ codes " in " ∷ decimal runs ∷ codes " runs\n" ∷ [])
+-- nothing was found in the runs that were made, within k contexts; if they are not all, the time
+-- was over
+abbrev pub nothing_text : List ℕ → (made runs k : ℕ) → List ℕ
+nothing_text phrase made runs k =
+    if made == runs then
+    concat (
+    phrase
+    ∷ codes " in " ∷ decimal runs
+    ∷ codes " runs within " ∷ decimal k
+    ∷ codes " contexts\n" ∷ [])
     else
     concat (
     phrase
     ∷ codes " in " ∷ decimal made
     ∷ codes " of " ∷ decimal runs
-    ∷ codes " runs: the time is over\n" ∷ [])
+    ∷ codes " runs within " ∷ decimal k
+    ∷ codes " contexts: the time is over\n" ∷ [])
 
 -- what was looked for and not found
 abbrev pub nothing_phrase : Bool → List ℕ
@@ -40,7 +47,8 @@ nothing_phrase true = codes "no assertion failed and no deadlock"
 -- the first line: what was found
 abbrev pub finding_text : TestReport → Found → List ℕ
 finding_text x Nothing =
-    nothing_text (nothing_phrase x.options.with_deadlock) x.counts.runs x.options.runs
+    let phrase = nothing_phrase x.options.with_deadlock in
+    nothing_text phrase x.counts.runs x.options.runs x.setup.contexts
 finding_text x (Failed run report) =
     let failure = failed_assertion x in
     failure_text failure (statement_of x.statements.items failure) run x.options.runs
@@ -95,4 +103,4 @@ summary_text x =
     finding_text x x.found
     ++ (counts_text x.counts
     ++ (distinct_text x.distinct
-    ++ (notes_text x.notes ++ unreached_text x.lines.items x.reached.items)))
+    ++ (notes_text x ++ unreached_text x.lines.items x.reached.items)))

@@ -10,7 +10,7 @@ use Rattle.bp_text.specs.JsonStrings.{string_text}
 use Rattle.bp_text.specs.Pieces.{key_text, number_or_null}
 use Rattle.bp_messages.specs.declared.test_reports.TestReport.{TestReport}
 use Rattle.bp_messages.specs.Failures.{failure_member, failed_assertion, statement_of}
-use Rattle.bp_messages.specs.Notes.{notes_members}
+use Rattle.bp_messages.specs.Notes.{notes_members, notes_of}
 use Rattle.bp_messages.specs.Summaries.{unreached_text}
 use Rattle.bp_messages.specs.Waits.{waits_member}
 
@@ -29,7 +29,7 @@ found_run (Deadlock run report) = Some run
 abbrev pub finding_members : Found → (runs : ℕ) → List ℕ
 finding_members found runs =
     concat (
-    codes "{\"kind\":\"test\",\"version\":2"
+    codes "{\"kind\":\"test\",\"version\":3"
     ∷ key_text (codes "found") ∷ string_text (found_name found)
     ∷ key_text (codes "run") ∷ number_or_null (found_run found)
     ∷ key_text (codes "of") ∷ decimal runs ∷ [])
@@ -73,7 +73,7 @@ summary_object x =
     ++ (failure_member failure (statement_of x.statements.items failure)
     ++ (waits_member x.positions.items x.waiting.items
     ++ (counts_members x.counts
-    ++ (distinct_member x.distinct ++ notes_members x.notes))))
+    ++ (distinct_member x.distinct ++ notes_members (notes_of x)))))
 
 -- the summary, and the objects of the statements that were not reached
 abbrev pub summary_objects : TestReport → List ℕ

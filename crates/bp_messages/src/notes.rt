@@ -1,107 +1,164 @@
-//! Where a test that found nothing may mislead.
-ghost use Rattle.std.specs.Prelude.{◌≡◌};
+//! Where a test may mislead: what it did not look at, and what it was not asked for.
+ghost use Rattle.std.specs.Prelude.{◌≡◌, flat_map};
 ghost use Rattle.bp_text.specs.Pieces.{piece_text};
 ghost use Rattle.bp_text.specs.Writing.{Writes};
-ghost use Rattle.bp_messages.specs.Notes.{note_if, notes_members, notes_of, notes_text};
+ghost use Rattle.bp_messages.specs.Notes.{are_many, count_note, lacking_contexts, note_if, notes_members, notes_of, notes_text};
 
-use bp_test::{Counts, Found};
-use bp_text::Piece::{Bytes, Key, Truth};
+use crate::limits::NOTED_SHARE;
+use crate::test_reports::TestReport;
+use bp_test::Ends;
+use bp_text::Piece::{Bytes, Key, Number, Truth};
 use bp_text::{Piece, WriteFault, put_pieces};
 use std::io::Write;
 
-/// Why a test that found nothing may say little of the program.
+/// Why what a test says of a program may be little. All but the first are of tests that found
+/// nothing.
 #[derive(Clone, Copy, Debug, PartialEq, Eq)]
-pub struct Notes {
+struct Notes {
+    /// Runs ended in a deadlock, and the test did not look for one.
+    deadlocked: bool,
     /// Fewer contexts were allowed than there are threads.
-    pub few_contexts: bool,
-    /// There were runs, and none reached an assertion.
-    pub no_assertion: bool,
-    /// More runs ran out of contexts than finished.
-    pub out_of_contexts: bool,
-    /// More runs were cut off than finished.
-    pub cut_off: bool,
-    /// More runs starved than finished.
-    pub starved: bool,
-}
-
-impl Notes {
-    /// Nothing may mislead.
-    const NONE: Notes = Notes {
-        few_contexts: false,
-        no_assertion: false,
-        out_of_contexts: false,
-        cut_off: false,
-        starved: false,
-    };
+    few_contexts: bool,
+    no_run: bool,
+    /// The program has no assertion, and the test looked for nothing else.
+    no_assertion: bool,
+    /// The program has assertions, there were runs, and none reached one.
+    no_assertion_reached: bool,
+    /// Many runs ran out of contexts or starved.
+    out_of_contexts: bool,
+    /// Many runs were cut off.
+    cut_off: bool,
 }
 
 const FEW_CONTEXTS: &[u8] = b"note: fewer contexts than threads; raise --contexts\n";
 
-const NO_ASSERTION: &[u8] = b"note: no run reached an assertion\n";
+const NO_RUN: &[u8] = b"note: no run was made\n";
 
-const OUT_OF_CONTEXTS: &[u8] =
-    b"note: more runs ran out of contexts than finished; raise --contexts\n";
+const NO_ASSERTION: &[u8] = b"note: the program has no assertion\n";
 
-const CUT_OFF: &[u8] = b"note: more runs were cut off than finished; raise --calls\n";
+const NO_ASSERTION_REACHED: &[u8] = b"note: no run reached an assertion\n";
 
-const STARVED: &[u8] = b"note: more runs starved than finished; raise --contexts\n";
+const DEADLOCKED: &[u8] = b"ended in a deadlock; --deadlock stops at the first\n";
 
-/// Where a test may mislead, by what it found, how many contexts were allowed, and its counts.
-pub fn notes_of(found: Found, contexts: u32, counts: &Counts) -> Notes
-    ensures { result ≡ notes_of found contexts counts.now }
+const OUT_OF_CONTEXTS: &[u8] = b"ran out of contexts or starved; raise --contexts\n";
+
+const CUT_OFF: &[u8] = b"were cut off; raise --calls\n";
+
+/// Whether these are so many of the runs that a note counts them.
+fn are_many(count: u64, runs: u64) -> bool
+    ensures { result ≡ are_many count runs }
 {
-    match found {
-        Found::Nothing => Notes {
-            few_contexts: (contexts as u64) < counts.threads.all,
-            no_assertion: 0 < counts.runs && counts.assertions.reached == 0,
-            out_of_contexts: counts.ends.finished < counts.ends.out_of_contexts,
-            cut_off: counts.ends.finished < counts.ends.cut_off,
-            starved: counts.ends.finished < counts.ends.starved,
-        },
-        _ => Notes::NONE,
+    0 < count && runs <= count.saturating_mul(NOTED_SHARE)
+}
+
+/// How many runs might have gone on with more contexts.
+fn lacking_contexts(ends: &Ends) -> u64
+    ensures { result ≡ lacking_contexts ends.now }
+{
+    ends.out_of_contexts.saturating_add(ends.starved)
+}
+
+/// Where a test may mislead.
+fn notes_of(tested: &TestReport) -> Notes
+    ensures { result ≡ notes_of tested.now }
+{
+    let counts = &tested.counts;
+    let (runs, assertions) = (counts.runs, counts.assertions);
+    let is_clean = !tested.has_found();
+    let is_of_assertions = !tested.options.with_deadlock;
+    Notes {
+        deadlocked: is_of_assertions && 0 < counts.ends.deadlocked,
+        few_contexts: is_clean && u64::from(tested.setup.contexts()) < counts.threads.all,
+        no_run: is_clean && runs == 0,
+        no_assertion: is_clean && is_of_assertions && assertions.all == 0,
+        no_assertion_reached: is_clean && 0 < runs && 0 < assertions.all && assertions.reached == 0,
+        out_of_contexts: is_clean && are_many(lacking_contexts(&counts.ends), runs),
+        cut_off: is_clean && are_many(counts.ends.cut_off, runs),
     }
 }
 
-/// A note, where it applies.
-fn note_if<'a>(applies: bool, note: &'a [u8]) -> Piece<'a>
-    ensures { piece_text result ≡ note_if applies note.now }
+/// A note on how many of the runs came to this.
+fn count_note<'a>(count: u64, runs: u64, said: &'a [u8]) -> [Piece<'a>; 6]
+    ensures { flat_map piece_text result ≡ count_note count runs said.now }
 {
-    if applies { Bytes(note) } else { Bytes(b"") }
+    [
+        Bytes(b"note: "),
+        Number(count),
+        Bytes(b" of "),
+        Number(runs),
+        Bytes(b" runs "),
+        Bytes(said),
+    ]
+}
+
+/// The pieces of a note, where it applies.
+fn note_if<'a>(applies: bool, note: &'a [Piece<'a>]) -> &'a [Piece<'a>]
+    ensures { flat_map piece_text result.now ≡ note_if applies (flat_map piece_text note.now) }
+{
+    if applies { note } else { &[] }
+}
+
+/// Writes notes, by their pieces, one after the other.
+fn put_each<W: Write>(notes: &[&[Piece<'_>]], out: &mut W) -> Result<(), WriteFault>
+    ensures { let text = flat_map (λ note. flat_map piece_text note.now) notes.now in
+        Writes (W.contents out.old) (W.contents out.new) text result }
+{
+    for note in notes {
+        put_pieces(out, note)?;
+    }
+    Ok(())
 }
 
 /// Writes a line for each note that applies.
-pub(crate) fn put_notes<W: Write>(notes: Notes, out: &mut W) -> Result<(), WriteFault>
-    ensures { Writes (W.contents out.old) (W.contents out.new) (notes_text notes) result }
+pub(crate) fn put_notes<W: Write>(tested: &TestReport, out: &mut W) -> Result<(), WriteFault>
+    ensures { let text = notes_text tested.now in
+        Writes (W.contents out.old) (W.contents out.new) text result }
 {
-    put_pieces(
-        out,
+    let notes = notes_of(tested);
+    let (runs, ends) = (tested.counts.runs, &tested.counts.ends);
+    let deadlocked = count_note(ends.deadlocked, runs, DEADLOCKED);
+    let out_of_contexts = count_note(lacking_contexts(ends), runs, OUT_OF_CONTEXTS);
+    let cut_off = count_note(ends.cut_off, runs, CUT_OFF);
+    put_each(
         &[
-            note_if(notes.few_contexts, FEW_CONTEXTS),
-            note_if(notes.no_assertion, NO_ASSERTION),
-            note_if(notes.out_of_contexts, OUT_OF_CONTEXTS),
-            note_if(notes.cut_off, CUT_OFF),
-            note_if(notes.starved, STARVED),
+            note_if(notes.few_contexts, &[Bytes(FEW_CONTEXTS)]),
+            note_if(notes.no_run, &[Bytes(NO_RUN)]),
+            note_if(notes.no_assertion, &[Bytes(NO_ASSERTION)]),
+            note_if(notes.no_assertion_reached, &[Bytes(NO_ASSERTION_REACHED)]),
+            note_if(notes.deadlocked, &deadlocked),
+            note_if(notes.out_of_contexts, &out_of_contexts),
+            note_if(notes.cut_off, &cut_off),
         ],
+        out,
     )
 }
 
 /// Writes the member that says which notes apply, and the end of the object.
-pub(crate) fn put_notes_members<W: Write>(notes: Notes, out: &mut W) -> Result<(), WriteFault>
-    ensures { Writes (W.contents out.old) (W.contents out.new) (notes_members notes) result }
+pub(crate) fn put_notes_members<W: Write>(
+    tested: &TestReport,
+    out: &mut W,
+) -> Result<(), WriteFault>
+    ensures { let text = notes_members (notes_of tested.now) in
+        Writes (W.contents out.old) (W.contents out.new) text result }
 {
+    let notes = notes_of(tested);
     put_pieces(
         out,
         &[
             Bytes(b",\"notes\":{\"few_contexts\":"),
             Truth(notes.few_contexts),
+            Key(b"no_run"),
+            Truth(notes.no_run),
             Key(b"no_assertion"),
             Truth(notes.no_assertion),
+            Key(b"no_assertion_reached"),
+            Truth(notes.no_assertion_reached),
+            Key(b"deadlocked"),
+            Truth(notes.deadlocked),
             Key(b"out_of_contexts"),
             Truth(notes.out_of_contexts),
             Key(b"cut_off"),
             Truth(notes.cut_off),
-            Key(b"starved"),
-            Truth(notes.starved),
             Bytes(b"}}\n"),
         ],
     )

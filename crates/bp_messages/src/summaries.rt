@@ -51,11 +51,19 @@ fn nothing_phrase(with_deadlock: bool) -> &'static [u8]
     }
 }
 
-/// Writes that nothing was found in the runs that were made, and how many were to be made.
-fn put_nothing<W: Write>(phrase: &[u8], made: u64, runs: u64, out: &mut W) -> Result<(), WriteFault>
-    ensures { let text = nothing_text phrase.now made runs in
+/// Writes that nothing was found in the runs that were made, how many were to be made, and within
+/// how many contexts.
+fn put_nothing<W: Write>(
+    phrase: &[u8],
+    made: u64,
+    runs: u64,
+    contexts: u32,
+    out: &mut W,
+) -> Result<(), WriteFault>
+    ensures { let text = nothing_text phrase.now made runs contexts in
         Writes (W.contents out.old) (W.contents out.new) text result }
 {
+    let contexts = u64::from(contexts);
     if made != runs {
         return put_pieces(
             out,
@@ -65,7 +73,9 @@ fn put_nothing<W: Write>(phrase: &[u8], made: u64, runs: u64, out: &mut W) -> Re
                 Number(made),
                 Bytes(b" of "),
                 Number(runs),
-                Bytes(b" runs: the time is over\n"),
+                Bytes(b" runs within "),
+                Number(contexts),
+                Bytes(b" contexts: the time is over\n"),
             ],
         );
     }
@@ -75,7 +85,9 @@ fn put_nothing<W: Write>(phrase: &[u8], made: u64, runs: u64, out: &mut W) -> Re
             Bytes(phrase),
             Bytes(b" in "),
             Number(runs),
-            Bytes(b" runs\n"),
+            Bytes(b" runs within "),
+            Number(contexts),
+            Bytes(b" contexts\n"),
         ],
     )
 }
@@ -89,7 +101,13 @@ fn put_finding<W: Write>(tested: &TestReport, out: &mut W) -> Result<(), WriteFa
     match tested.found {
         Found::Nothing => {
             let phrase = nothing_phrase(tested.options.with_deadlock);
-            put_nothing(phrase, tested.counts.runs, runs, out)
+            put_nothing(
+                phrase,
+                tested.counts.runs,
+                runs,
+                tested.setup.contexts(),
+                out,
+            )
         }
         Found::Failed { run, .. } => {
             let failure = failed_assertion(tested);
@@ -203,6 +221,6 @@ pub fn put_summary<W: Write>(tested: &TestReport, out: &mut W) -> Result<(), Wri
     put_finding(tested, out)?;
     put_counts(&tested.counts, out)?;
     put_distinct(tested.distinct, out)?;
-    put_notes(tested.notes, out)?;
+    put_notes(tested, out)?;
     put_unreached(tested.lines.as_slice(), tested.reached.as_slice(), out)
 }

@@ -43,7 +43,7 @@ fn put_finding_members<W: Write>(found: Found, runs: u64, out: &mut W) -> Result
     put_pieces(
         out,
         &[
-            Bytes(b"{\"kind\":\"test\",\"version\":2"),
+            Bytes(b"{\"kind\":\"test\",\"version\":3"),
             Key(b"found"),
             Text(found_name(found)),
             Key(b"run"),
@@ -132,7 +132,7 @@ fn put_summary_object<W: Write>(tested: &TestReport, out: &mut W) -> Result<(), 
     put_waits_member(tested.positions.as_slice(), tested.waiting.as_slice(), out)?;
     put_counts_members(&tested.counts, out)?;
     put_distinct_member(tested.distinct, out)?;
-    put_notes_members(tested.notes, out)
+    put_notes_members(tested, out)
 }
 
 /// Writes the summary of a test as objects, each on a line.

@@ -34,5 +34,4 @@ returns g c =
     done c.args.start.now c.args.asked.now.options _ c.args.asked.now.json c.args.text.now c.in_ok-checked.checked of.0 _ setup.0 setup.1 _ _
     c.in_ok-tested.tested (c.in_ok-tested.ensures c.in_ok-checked.checked of.1) _ refl refl refl
     c.in_ok-described.ensures.positions c.in_ok-described.ensures.statements refl c.distinct_of.ensures
-    c.counts-counts.ensures (rw c.contexts.ensures at c.notes_of-notes.ensures) refl refl
-    c.in_ok-described.ensures.lines
+    c.counts-counts.ensures refl refl refl c.in_ok-described.ensures.lines

@@ -1,7 +1,7 @@
 use Rattle.bp_messages.proofs.summaries.put_finding.Goals as goal
 
 pub returns-in-Nothing : goal.returns-in-Nothing
-returns-in-Nothing g c = rw c.in-Nothing.is (rw c.nothing_phrase-phrase.ensures at c.put_nothing.ensures)
+returns-in-Nothing g c = rw c.in-Nothing.is (rw (c.nothing_phrase-phrase.ensures, c.contexts.ensures) at c.put_nothing.ensures)
 
 pub returns-in-Failed : goal.returns-in-Failed
 returns-in-Failed g c =

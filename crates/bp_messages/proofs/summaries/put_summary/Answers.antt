@@ -9,7 +9,7 @@ pub returns-in_err-put_counts : goal.returns-in_err-put_counts
 returns-in_err-put_counts g c =
     let p = err_from_is_err_and c.from_residual-in_err-put_counts.result c.from_residual-in_err-put_counts.ensures.1 in
     let x = c.args.tested.now in
-    let rest = distinct_text x.distinct ++ (notes_text x.notes ++ unreached_text x.lines.items x.reached.items) in
+    let rest = distinct_text x.distinct ++ (notes_text x ++ unreached_text x.lines.items x.reached.items) in
     rw p.1 (part_then _ _ _ (finding_text x x.found) (counts_text x.counts ++ rest) c.in_ok-put_finding.ensures
     (part_first _ _ (counts_text x.counts) rest c.in_err-put_counts.ensures))
 
@@ -17,7 +17,7 @@ pub returns-in_err-put_distinct : goal.returns-in_err-put_distinct
 returns-in_err-put_distinct g c =
     let p = err_from_is_err_and c.from_residual-in_err-put_distinct.result c.from_residual-in_err-put_distinct.ensures.1 in
     let x = c.args.tested.now in
-    let rest = notes_text x.notes ++ unreached_text x.lines.items x.reached.items in
+    let rest = notes_text x ++ unreached_text x.lines.items x.reached.items in
     rw p.1 (part_then _ _ _ (finding_text x x.found) (counts_text x.counts ++ (distinct_text x.distinct ++ rest)) c.in_ok-put_finding.ensures
     (part_then _ _ _ (counts_text x.counts) (distinct_text x.distinct ++ rest) c.in_ok-put_counts.ensures
     (part_first _ _ (distinct_text x.distinct) rest c.in_err-put_distinct.ensures)))
@@ -27,19 +27,19 @@ returns-in_err-put_notes g c =
     let p = err_from_is_err_and c.from_residual-in_err-put_notes.result c.from_residual-in_err-put_notes.ensures.1 in
     let x = c.args.tested.now in
     let listed = unreached_text x.lines.items x.reached.items in
-    let rest = distinct_text x.distinct ++ (notes_text x.notes ++ listed) in
+    let rest = distinct_text x.distinct ++ (notes_text x ++ listed) in
     rw p.1 (part_then _ _ _ (finding_text x x.found) (counts_text x.counts ++ rest) c.in_ok-put_finding.ensures
     (part_then _ _ _ (counts_text x.counts) rest c.in_ok-put_counts.ensures
-    (part_then _ _ _ (distinct_text x.distinct) (notes_text x.notes ++ listed) c.in_ok-put_distinct.ensures
-    (part_first _ _ (notes_text x.notes) listed c.in_err-put_notes.ensures))))
+    (part_then _ _ _ (distinct_text x.distinct) (notes_text x ++ listed) c.in_ok-put_distinct.ensures
+    (part_first _ _ (notes_text x) listed c.in_err-put_notes.ensures))))
 
 pub returns : goal.returns
 returns g c =
     let x = c.args.tested.now in
     let listed = unreached_text x.lines.items x.reached.items in
-    let rest = distinct_text x.distinct ++ (notes_text x.notes ++ listed) in
+    let rest = distinct_text x.distinct ++ (notes_text x ++ listed) in
     let last = rw (c.as_slice.ensures.value, c.as_slice-2.ensures.value) at c.put_unreached.ensures in
     writes_then _ _ _ (finding_text x x.found) (counts_text x.counts ++ rest) _ c.in_ok-put_finding.ensures
     (writes_then _ _ _ (counts_text x.counts) rest _ c.in_ok-put_counts.ensures
-    (writes_then _ _ _ (distinct_text x.distinct) (notes_text x.notes ++ listed) _ c.in_ok-put_distinct.ensures
-    (writes_then _ _ _ (notes_text x.notes) listed _ c.in_ok-put_notes.ensures last)))
+    (writes_then _ _ _ (distinct_text x.distinct) (notes_text x ++ listed) _ c.in_ok-put_distinct.ensures
+    (writes_then _ _ _ (notes_text x) listed _ c.in_ok-put_notes.ensures last)))

@@ -2,7 +2,7 @@ use Rattle.std.proofs.Common.{◌++◌}
 use Rattle.std.proofs.lemmas.Result.{err_from_is_err_and}
 use Rattle.bp_text.proofs.Appends.{part_first, part_then, writes_then}
 use Rattle.bp_messages.specs.Failures.{failure_member, failed_assertion, statement_of}
-use Rattle.bp_messages.specs.Notes.{notes_members}
+use Rattle.bp_messages.specs.Notes.{notes_members, notes_of}
 use Rattle.bp_messages.specs.SummaryObjects.{counts_members, distinct_member, finding_members}
 use Rattle.bp_messages.specs.Waits.{waits_member}
 use Rattle.bp_messages.proofs.summary_objects.put_summary_object.Goals as goal
@@ -12,7 +12,7 @@ returns-in_err-put_finding_members g c =
     let p = err_from_is_err_and c.from_residual.result c.from_residual.ensures.1 in
     let x = c.args.tested.now in
     let failure = failure_member (failed_assertion x) (statement_of x.statements.items (failed_assertion x)) in
-    let rest = distinct_member x.distinct ++ notes_members x.notes in
+    let rest = distinct_member x.distinct ++ notes_members (notes_of x) in
     let counts = counts_members x.counts ++ rest in
     rw p.1 (part_first _ _ (finding_members x.found x.options.runs)
     (failure ++ (waits_member x.positions.items x.waiting.items ++ counts)) c.in_err-put_finding_members.ensures)
@@ -22,7 +22,7 @@ returns-in_err-put_failure_member g c =
     let p = err_from_is_err_and c.from_residual-in_err-put_failure_member.result c.from_residual-in_err-put_failure_member.ensures.1 in
     let x = c.args.tested.now in
     let failure = failure_member (failed_assertion x) (statement_of x.statements.items (failed_assertion x)) in
-    let rest = distinct_member x.distinct ++ notes_members x.notes in
+    let rest = distinct_member x.distinct ++ notes_members (notes_of x) in
     let counts = counts_members x.counts ++ rest in
     let member = rw (c.statement_of-statement.ensures, c.failed_assertion-failure.ensures, c.as_slice.ensures.value) at c.in_err-put_failure_member.ensures in
     rw p.1 (part_then _ _ _ (finding_members x.found x.options.runs)
@@ -34,7 +34,7 @@ returns-in_err-put_waits_member g c =
     let p = err_from_is_err_and c.from_residual-in_err-put_waits_member.result c.from_residual-in_err-put_waits_member.ensures.1 in
     let x = c.args.tested.now in
     let failure = failure_member (failed_assertion x) (statement_of x.statements.items (failed_assertion x)) in
-    let rest = distinct_member x.distinct ++ notes_members x.notes in
+    let rest = distinct_member x.distinct ++ notes_members (notes_of x) in
     let counts = counts_members x.counts ++ rest in
     let member = rw (c.statement_of-statement.ensures, c.failed_assertion-failure.ensures, c.as_slice.ensures.value) at c.in_ok-put_failure_member.ensures in
     let waits = rw (c.as_slice-2.ensures.value, c.as_slice-3.ensures.value) at c.in_err-put_waits_member.ensures in
@@ -48,7 +48,7 @@ returns-in_err-put_counts_members g c =
     let p = err_from_is_err_and c.from_residual-in_err-put_counts_members.result c.from_residual-in_err-put_counts_members.ensures.1 in
     let x = c.args.tested.now in
     let failure = failure_member (failed_assertion x) (statement_of x.statements.items (failed_assertion x)) in
-    let rest = distinct_member x.distinct ++ notes_members x.notes in
+    let rest = distinct_member x.distinct ++ notes_members (notes_of x) in
     let counts = counts_members x.counts ++ rest in
     let member = rw (c.statement_of-statement.ensures, c.failed_assertion-failure.ensures, c.as_slice.ensures.value) at c.in_ok-put_failure_member.ensures in
     let waits = rw (c.as_slice-2.ensures.value, c.as_slice-3.ensures.value) at c.in_ok-put_waits_member.ensures in
@@ -63,7 +63,7 @@ returns-in_err-put_distinct_member g c =
     let p = err_from_is_err_and c.from_residual-in_err-put_distinct_member.result c.from_residual-in_err-put_distinct_member.ensures.1 in
     let x = c.args.tested.now in
     let failure = failure_member (failed_assertion x) (statement_of x.statements.items (failed_assertion x)) in
-    let rest = distinct_member x.distinct ++ notes_members x.notes in
+    let rest = distinct_member x.distinct ++ notes_members (notes_of x) in
     let counts = counts_members x.counts ++ rest in
     let member = rw (c.statement_of-statement.ensures, c.failed_assertion-failure.ensures, c.as_slice.ensures.value) at c.in_ok-put_failure_member.ensures in
     let waits = rw (c.as_slice-2.ensures.value, c.as_slice-3.ensures.value) at c.in_ok-put_waits_member.ensures in
@@ -72,13 +72,13 @@ returns-in_err-put_distinct_member g c =
     (part_then _ _ _ failure (waits_member x.positions.items x.waiting.items ++ counts) member
     (part_then _ _ _ (waits_member x.positions.items x.waiting.items) counts waits
     (part_then _ _ _ (counts_members x.counts) rest c.in_ok-put_counts_members.ensures
-    (part_first _ _ (distinct_member x.distinct) (notes_members x.notes) c.in_err-put_distinct_member.ensures)))))
+    (part_first _ _ (distinct_member x.distinct) (notes_members (notes_of x)) c.in_err-put_distinct_member.ensures)))))
 
 pub returns : goal.returns
 returns g c =
     let x = c.args.tested.now in
     let failure = failure_member (failed_assertion x) (statement_of x.statements.items (failed_assertion x)) in
-    let rest = distinct_member x.distinct ++ notes_members x.notes in
+    let rest = distinct_member x.distinct ++ notes_members (notes_of x) in
     let counts = counts_members x.counts ++ rest in
     let member = rw (c.statement_of-statement.ensures, c.failed_assertion-failure.ensures, c.as_slice.ensures.value) at c.in_ok-put_failure_member.ensures in
     let waits = rw (c.as_slice-2.ensures.value, c.as_slice-3.ensures.value) at c.in_ok-put_waits_member.ensures in
@@ -87,4 +87,4 @@ returns g c =
     (writes_then _ _ _ failure (waits_member x.positions.items x.waiting.items ++ counts) _ member
     (writes_then _ _ _ (waits_member x.positions.items x.waiting.items) counts _ waits
     (writes_then _ _ _ (counts_members x.counts) rest _ c.in_ok-put_counts_members.ensures
-    (writes_then _ _ _ (distinct_member x.distinct) (notes_members x.notes) _ c.in_ok-put_distinct_member.ensures c.put_notes_members.ensures))))
+    (writes_then _ _ _ (distinct_member x.distinct) (notes_members (notes_of x)) _ c.in_ok-put_distinct_member.ensures c.put_notes_members.ensures))))
