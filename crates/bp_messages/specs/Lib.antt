@@ -3,6 +3,7 @@ pub mod FaultObjects
 pub mod FaultTable
 pub mod Faults
 pub mod Notes
+pub mod Novelty
 pub mod ProgressTexts
 pub mod ReplayLines
 pub mod StepObjects

@@ -6,6 +6,7 @@ use Rattle.bp_test.specs.declared.testing.Found.{Found}
 use Rattle.bp_test.specs.declared.testing.Found.TheVariants.{Nothing, Failed, Deadlock}
 use Rattle.bp_test.specs.Tallies.{capped}
 use Rattle.bp_text.specs.Pieces.{key_text, truth_text}
+use Rattle.bp_messages.specs.Novelty.{novelty_note}
 use Rattle.bp_messages.specs.declared.limits.TheConstants.{NOTED_SHARE}
 use Rattle.bp_messages.specs.declared.notes.Notes.{Notes}
 use Rattle.bp_messages.specs.declared.test_reports.TestReport.{TestReport}
@@ -54,13 +55,14 @@ count_note count runs said =
 abbrev pub note_if : Bool → List ℕ → List ℕ
 note_if applies note = if applies then note else []
 
--- a line for each note that applies
+-- a line for each note that applies; if nothing was found, also on how many new runs would be new
 abbrev pub notes_text : TestReport → List ℕ
 notes_text tested =
     let notes = notes_of tested in
     let x = tested.counts in
     concat (
-    note_if notes.few_contexts (codes "note: fewer contexts than threads; raise --contexts\n")
+    note_if (not (has_found tested.found)) (novelty_note tested.distinct)
+    ∷ note_if notes.few_contexts (codes "note: fewer contexts than threads; raise --contexts\n")
     ∷ note_if notes.no_run (codes "note: no run was made\n")
     ∷ note_if notes.no_assertion (codes "note: the program has no assertion\n")
     ∷ note_if notes.no_assertion_reached (codes "note: no run reached an assertion\n")

@@ -11,6 +11,7 @@ use Rattle.bp_text.specs.Pieces.{key_text, number_or_null}
 use Rattle.bp_messages.specs.declared.test_reports.TestReport.{TestReport}
 use Rattle.bp_messages.specs.Failures.{failure_member, failed_assertion, statement_of}
 use Rattle.bp_messages.specs.Notes.{notes_members, notes_of}
+use Rattle.bp_messages.specs.Novelty.{new_percent}
 use Rattle.bp_messages.specs.Summaries.{unreached_text}
 use Rattle.bp_messages.specs.Waits.{waits_member}
 
@@ -57,13 +58,14 @@ counts_members x =
     ∷ key_text (codes "all") ∷ decimal x.threads.all
     ∷ codes "}" ∷ [])
 
--- how many of the runs were different
+-- how many of the runs were different, and how many new ones would be new
 abbrev pub distinct_member : Distinct → List ℕ
 distinct_member x =
     concat (
     codes ",\"distinct\":{\"runs\":" ∷ decimal x.runs
     ∷ key_text (codes "of") ∷ decimal x.of
     ∷ key_text (codes "once") ∷ decimal x.once
+    ∷ key_text (codes "new_percent") ∷ number_or_null (new_percent x)
     ∷ codes "}" ∷ [])
 
 abbrev pub summary_object : TestReport → List ℕ

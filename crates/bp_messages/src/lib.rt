@@ -10,6 +10,7 @@ mod faults;
 mod input_faults;
 pub mod limits;
 mod notes;
+mod novelty;
 mod progress;
 mod replay_lines;
 mod step_objects;

@@ -5,6 +5,7 @@ ghost use Rattle.bp_text.specs.Writing.{Writes};
 ghost use Rattle.bp_messages.specs.Notes.{are_many, count_note, lacking_contexts, note_if, notes_members, notes_of, notes_text};
 
 use crate::limits::NOTED_SHARE;
+use crate::novelty::novelty_note;
 use crate::test_reports::TestReport;
 use bp_test::Ends;
 use bp_text::Piece::{Bytes, Key, Number, Truth};
@@ -109,18 +110,21 @@ fn put_each<W: Write>(notes: &[&[Piece<'_>]], out: &mut W) -> Result<(), WriteFa
     Ok(())
 }
 
-/// Writes a line for each note that applies.
+/// Writes a line for each note that applies. If nothing was found, it also says how many new runs
+/// would be new.
 pub(crate) fn put_notes<W: Write>(tested: &TestReport, out: &mut W) -> Result<(), WriteFault>
     ensures { let text = notes_text tested.now in
         Writes (W.contents out.old) (W.contents out.new) text result }
 {
     let notes = notes_of(tested);
     let (runs, ends) = (tested.counts.runs, &tested.counts.ends);
+    let novelty = novelty_note(tested.distinct);
     let deadlocked = count_note(ends.deadlocked, runs, DEADLOCKED);
     let out_of_contexts = count_note(lacking_contexts(ends), runs, OUT_OF_CONTEXTS);
     let cut_off = count_note(ends.cut_off, runs, CUT_OFF);
     put_each(
         &[
+            note_if(!tested.has_found(), &novelty),
             note_if(notes.few_contexts, &[Bytes(FEW_CONTEXTS)]),
             note_if(notes.no_run, &[Bytes(NO_RUN)]),
             note_if(notes.no_assertion, &[Bytes(NO_ASSERTION)]),

@@ -6,6 +6,7 @@ ghost use Rattle.bp_messages.specs.SummaryObjects.{counts_members, distinct_memb
 
 use crate::failures::{failed_assertion, put_failure_member, statement_of};
 use crate::notes::put_notes_members;
+use crate::novelty::new_percent;
 use crate::summaries::put_unreached;
 use crate::test_reports::TestReport;
 use crate::waits::put_waits_member;
@@ -101,7 +102,7 @@ fn put_counts_members<W: Write>(counts: &Counts, out: &mut W) -> Result<(), Writ
     )
 }
 
-/// Writes how many of the runs were different.
+/// Writes how many of the runs were different, and how many new ones would be new.
 fn put_distinct_member<W: Write>(distinct: Distinct, out: &mut W) -> Result<(), WriteFault>
     ensures { let text = distinct_member distinct in
         Writes (W.contents out.old) (W.contents out.new) text result }
@@ -115,6 +116,8 @@ fn put_distinct_member<W: Write>(distinct: Distinct, out: &mut W) -> Result<(), 
             Number(distinct.of),
             Key(b"once"),
             Number(distinct.once),
+            Key(b"new_percent"),
+            NumberOrNull(new_percent(distinct)),
             Bytes(b"}"),
         ],
     )
