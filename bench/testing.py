@@ -35,7 +35,7 @@ PROGRAMS = [
 def runs_of(told):
     """How many runs a test made, and whether one failed."""
     lines = told.decode().splitlines()
-    return int(lines[1].split()[1].rstrip(",")), lines[0].startswith("an assertion")
+    return int(lines[2].split()[1].rstrip(",")), lines[0].startswith("an assertion")
 
 
 def row(program, name, file, words, contexts, seeds):

@@ -1,5 +1,5 @@
 -- What testing a program says of the command `test`.
-use Rattle.std.proofs.Common.{◌≡◌, ◌∙◌, ap, refl, sym, subst, inl, inr, ℕ, ◌<◌, ◌^◌, length, Bool, List, [], ◌∷◌, ◌++◌, Option, None, Some, map}
+use Rattle.std.proofs.Common.{◌≡◌, ◌∙◌, refl, sym, subst, inl, inr, ℕ, ◌<◌, ◌^◌, length, Bool, List, [], ◌∷◌, ◌++◌, Option, None, Some, map}
 use Rattle.std.specs.Io.KnownBytes.{Appends, Keeps}
 use Rattle.std.proofs.KnownBytes.{Appends-nil, Keeps-refl}
 use Rattle.bp_tree.specs.Ast.{Program}
@@ -31,13 +31,13 @@ use Rattle.bp_commands.specs.Tests.{tests, AreListed, IsTestable}
 use Rattle.bp_source.specs.SourceStatements.{AreStatements}
 use Rattle.bp_source.specs.StatementLines.{positions_of}
 
-module _ (start : StartOf) (x : TestOptions) (listed : Option (List ℕ)) (json : Bool) (text : List ℕ) (t : Program) (lawful : IsLawfulText text t) where
+module _ (start : StartOf) (x : TestOptions) (file : List ℕ) (unreached json : Bool) (text : List ℕ) (t : Program) (lawful : IsLawfulText text t) where
   -- the program takes this setup
   module _ (s : SetupOf) (setup : s ≡ setup_from start None t) (fine : setup_fault t (setup_from start None t) ≡ None) (old new : Option (List ℕ)) where
     abbrev taken : SetupOf
     taken = setup_from start None t
 
-    abbrev testable : IsTestable start x listed json text
+    abbrev testable : IsTestable start x file unreached json text
     testable = record { program = t; lawful = lawful; fine = fine }
 
     written_alone : (Holds : SetupOf → List Call → Type 0) (run : ℕ) (r : Report) (runs : List MadeRun) (is : IsWrittenRun t taken x old new Holds run r runs)
@@ -84,9 +84,9 @@ module _ (start : StartOf) (x : TestOptions) (listed : Option (List ℕ)) (json 
         → tested.reached ≡ made.tally.reached
         → AreDistinct made.tally.keys.items tested.distinct
         → ((z : SetupOf) (runs : List MadeRun) → length runs < 2 ^ 64 → IsCounted z runs made.tally → AreCounts z runs tested.counts)
-        → tested.options ≡ x → tested.setup ≡ s → tested.json ≡ json → AreListed json listed text t (map (λ v. v.items) tested.lines.items)
-        → IsDoneWith (tests start x listed json) old new text tested
-    done made test tested found_is failed_is waiting_is positions statements reached_is distinct counts options setup_is form lines =
+        → tested.file.items ≡ file → tested.options ≡ x → tested.setup ≡ s → tested.json ≡ json → AreListed unreached json file text t (map (λ v. v.items) tested.lines.items)
+        → IsDoneWith (tests start x file unreached json) old new text tested
+    done made test tested found_is failed_is waiting_is positions statements reached_is distinct counts file_is options setup_is form lines =
         let of_setup = subst (λ y. IsTest t y x old new made) setup test in
         let found = alone tested.found tested.failed tested.waiting.items of_setup.runs
         (subst (λ v. IsFound t taken x old new tested.found tested.failed v.items of_setup.runs) (sym waiting_is)
@@ -104,6 +104,7 @@ module _ (start : StartOf) (x : TestOptions) (listed : Option (List ℕ)) (json 
             distinct = record { keys = made.tally.keys.items; are = of_setup.tallied.keys; distinct = distinct };
             positions_are = positions;
             statements_are = statements;
+            file_is = file_is;
             options_are = options;
             setup_is = setup_is ∙ setup;
             json_is = form;
@@ -112,7 +113,7 @@ module _ (start : StartOf) (x : TestOptions) (listed : Option (List ℕ)) (json 
           written = found.written;
         }
 
-    refused_of : (f : TestFault) → IsTestRefusal t taken x old new f → IsRefusedWith (tests start x listed json) old new text (fault_of_test f)
+    refused_of : (f : TestFault) → IsTestRefusal t taken x old new f → IsRefusedWith (tests start x file unreached json) old new text (fault_of_test f)
     refused_of fault.Memory same =
         inl (subst (Keeps old) (sym same) (Keeps-refl old), inr (inr (refl, testable)))
     refused_of fault.Write cut = inr (inl (
@@ -141,15 +142,15 @@ module _ (start : StartOf) (x : TestOptions) (listed : Option (List ℕ)) (json 
       },
     ))
 
-    pub refused : (f : TestFault) → IsTestRefusal t s x old new f → IsRefusedWith (tests start x listed json) old new text (fault_of_test f)
+    pub refused : (f : TestFault) → IsTestRefusal t s x old new f → IsRefusedWith (tests start x file unreached json) old new text (fault_of_test f)
     refused f is = refused_of f (subst (λ y. IsTestRefusal t y x old new f) setup is)
 
-    pub lacks_memory : (out : Option (List ℕ)) → IsRefusedWith (tests start x listed json) out out text Memory
+    pub lacks_memory : (out : Option (List ℕ)) → IsRefusedWith (tests start x file unreached json) out out text Memory
     lacks_memory out = inl (Keeps-refl out, inr (inr (refl, testable)))
 
   -- the program does not take the setup, and nothing is written
   pub setup_refused : (out : Option (List ℕ)) (cause : SetupFault) → IsSetupRefusal t (setup_from start None t) cause
-      → IsRefusedWith (tests start x listed json) out out text (fault_of_setup cause)
+      → IsRefusedWith (tests start x file unreached json) out out text (fault_of_setup cause)
   setup_refused out cause why = inl (
     Keeps-refl out,
     inr (inl (record {

@@ -1,6 +1,5 @@
 -- The command `test`.
-use Rattle.std.specs.Prelude.{if◌then◌else◌, ◌≡◌, ◌⊎◌, ℕ, Bool, true, false, List, [], Option, None, Some, map, option_map}
-use Rattle.std.specs.Borrow.{Bor}
+use Rattle.std.specs.Prelude.{if◌then◌else◌, ◌≡◌, ◌⊎◌, ℕ, Bool, true, false, List, [], None, Some, map}
 use Rattle.bp_tree.specs.Ast.{Program}
 use Rattle.bp_code.specs.LawfulTexts.{IsLawfulText}
 use Rattle.bp_flat.specs.StandsFor.{places_of}
@@ -37,20 +36,16 @@ summary_of x = if x.json then summary_objects x else summary_text x
 abbrev pub of_test : AnswerRule TestReport
 of_test = record { failed = λ x. has_found x.found; summary = summary_of }
 
-abbrev pub name_of : Option (Bor (List ℕ)) → Option (List ℕ)
-name_of o = option_map (λ name. name.now) o
-
--- the lines of the program's statements, as JSON or not, where its text has a name by which they
--- are listed
+-- the lines of the program's statements, as JSON or not, where they are to be listed
 abbrev pub AreListed
-    : (json : Bool) → Option (List ℕ) → List ℕ → Program → List (List ℕ) → Type 0
-AreListed json None text t lines = lines ≡ []
-AreListed false (Some name) text t lines = AreStatementLines name text t lines
-AreListed true (Some name) text t lines = AreUnreachedObjects name text t lines
+    : (unreached json : Bool) → (file text : List ℕ) → Program → List (List ℕ) → Type 0
+AreListed false json file text t lines = lines ≡ []
+AreListed true false file text t lines = AreStatementLines file text t lines
+AreListed true true file text t lines = AreUnreachedObjects file text t lines
 
 -- the program of a text is tested from this start, as these options ask
 module _
-    (start : StartOf) (x : TestOptions) (listed : Option (List ℕ)) (json : Bool)
+    (start : StartOf) (x : TestOptions) (file : List ℕ) (unreached json : Bool)
     (text : List ℕ) where
   -- the text is that of a lawful program that takes the setup
   pub record IsTestable : Type 0 where
@@ -92,10 +87,13 @@ module _
     pub statements_are :
         let statements = map (λ v. v.items) tested.statements.items in
         AreStatements text (places_of testable.program.procedures) statements
+    pub file_is : tested.file.items ≡ file
     pub options_are : tested.options ≡ x
     pub setup_is : tested.setup ≡ setup_from start None testable.program
     pub json_is : tested.json ≡ json
-    pub lines : AreListed json listed text testable.program (map (λ v. v.items) tested.lines.items)
+    pub lines :
+        let lines = map (λ v. v.items) tested.lines.items in
+        AreListed unreached json file text testable.program lines
 
   -- the text is that of a lawful program, which does not take the setup
   pub record IsStartRefused (f : Fault) : Type 0 where
@@ -113,19 +111,20 @@ module _
   IsTestRefused f = HasNoCode text f ⊎ (IsStartRefused f ⊎ LacksMemory f)
 
 -- It writes the trace of the first run that the test looks for, or nothing. The statements that no
--- run reached are listed by a name or not, and the summary is JSON or not.
+-- run reached are listed or not, and the summary is JSON or not.
 abbrev pub tests
-    : StartOf → TestOptions → Option (List ℕ) → (json : Bool) → Command (List ℕ) TestReport
-tests start x listed json = record {
-  Writes = IsOfTest start x listed json;
-  Reports = IsTestReport start x listed json;
-  Refuses = IsTestRefused start x listed json;
+    : StartOf → TestOptions → (file : List ℕ) → (unreached json : Bool)
+    → Command (List ℕ) TestReport
+tests start x file unreached json = record {
+  Writes = IsOfTest start x file unreached json;
+  Reports = IsTestReport start x file unreached json;
+  Refuses = IsTestRefused start x file unreached json;
   Spoils = λ _ _ _. ⊥;
 }
 
 -- the same from a start in which these globals have their bits by name
 abbrev pub tests_by_names
-    : StartOf → List NamedBitOf → TestOptions → Option (List ℕ) → (json : Bool)
+    : StartOf → List NamedBitOf → TestOptions → (file : List ℕ) → (unreached json : Bool)
     → Command (List ℕ) TestReport
-tests_by_names start named x listed json =
-    by_names (λ text. text) start named (λ s. tests s x listed json)
+tests_by_names start named x file unreached json =
+    by_names (λ text. text) start named (λ s. tests s x file unreached json)

@@ -5,7 +5,7 @@ ghost use Rattle.bp_source.specs.SourceStatements.{AreStatements};
 ghost use Rattle.bp_source.specs.StatementLines.{positions_of};
 ghost use Rattle.std.specs.Thread.{IsSync};
 ghost use Rattle.bp_commands.specs.Commands.{AnswersOf};
-ghost use Rattle.bp_commands.specs.Tests.{name_of, tests, AreListed};
+ghost use Rattle.bp_commands.specs.Tests.{tests, AreListed};
 
 use crate::commands::ProgramCommand;
 use crate::named_starts::start_by_names;
@@ -38,8 +38,10 @@ pub struct Test<'a, R, P> {
     pub start: NamedStart<'a>,
     /// What the test looks for, and among how many runs.
     pub options: TestOptions,
-    /// The name of the program's text, where its statements that no run reached are listed.
-    pub listed: Option<&'a str>,
+    /// The name of the program's text.
+    pub file: &'a str,
+    /// Whether the statements that no run reached are listed.
+    pub unreached: bool,
     /// Whether the summary is JSON objects.
     pub json: bool,
 }
@@ -62,28 +64,30 @@ impl CommandAnswer for TestReport {
     }
 }
 
-/// The lines of the statements of a program, where its text has a name by which they are listed.
+/// The lines of the statements of a program, where they are to be listed.
 fn lines_of(
     alloc: Global,
+    unreached: bool,
     json: bool,
-    listed: Option<&str>,
+    file: &str,
     text: &[u8],
     checked: &Checked,
 ) -> Result<Vec<Vec<u8>>, AllocError>
-    ensures { let name = name_of listed.entry in
-        IfOk result (λ v.
-        AreListed json name text.now checked.now (map (λ line. line.items) v.items)) }
+    ensures { IfOk result (λ v.
+        AreListed unreached json file.now text.now checked.now (map (λ line. line.items) v.items)) }
 {
-    match listed {
-        Some(name) if json => unreached_objects(alloc, name, text, checked),
-        Some(name) => statement_lines(alloc, name, text, checked),
-        None => Ok(Vec::new(alloc)),
+    match (unreached, json) {
+        (false, _) => Ok(Vec::new(alloc)),
+        (true, false) => statement_lines(alloc, file, text, checked),
+        (true, true) => unreached_objects(alloc, file, text, checked),
     }
 }
 
 /// What the summary of a test says of the program's text.
 #[derive(Drop)]
 struct Description {
+    /// The name of the text.
+    file: Vec<u8>,
     /// The lines of the statements, where these are to be listed.
     lines: Vec<Vec<u8>>,
     /// Where the statement of each instruction begins.
@@ -92,27 +96,31 @@ struct Description {
     statements: Vec<Vec<u8>>,
 }
 
-/// The statements of a program, and their lines where its text has a name by which they are listed.
+/// The name of a program's text, its statements, and their lines where they are to be listed.
 fn description_of(
     alloc: Global,
+    unreached: bool,
     json: bool,
-    listed: Option<&str>,
+    file: &str,
     text: &[u8],
     checked: &Checked,
 ) -> Result<Description, AllocError>
-    ensures lines { let name = name_of listed.entry in
-        IfOk result (λ d.
-        AreListed json name text.now checked.now (map (λ line. line.items) d.lines.items)) }
+    ensures file { IfOk result (λ d. d.file.items ≡ file.now) }
+    ensures lines { IfOk result (λ d.
+        let lines = map (λ line. line.items) d.lines.items in
+        AreListed unreached json file.now text.now checked.now lines) }
     ensures positions { IfOk result (λ d.
         d.positions.items ≡ positions_of text.now checked.now) }
     ensures statements { IfOk result (λ d.
         let statements = map (λ v. v.items) d.statements.items in
         AreStatements text.now (places_of checked.now.procedures) statements) }
 {
-    let lines = lines_of(alloc, json, listed, text, checked)?;
+    let name = Vec::from_slice(alloc, file.as_bytes())?;
+    let lines = lines_of(alloc, unreached, json, file, text, checked)?;
     let positions = statement_positions(alloc, text, checked)?;
     let statements = statement_texts(alloc, text, checked)?;
     Ok(Description {
+        file: name,
         lines,
         positions,
         statements,
@@ -129,12 +137,13 @@ fn test_from<R: Threads + Sync, P: Progress, W: Write>(
 ) -> Result<TestReport, Fault>
     requires { IsSync R.row }
     ensures { let asked = asked.now in
-        AnswersOf (tests start.now asked.options (name_of asked.listed) asked.json) text.now
-        (W.contents out.old) (W.contents out.new) result }
+        let command = tests start.now asked.options asked.file.now asked.unreached asked.json in
+        AnswersOf command text.now (W.contents out.old) (W.contents out.new) result }
 {
     let (checked, code) = program_of(alloc, text)?;
     let setup = start.setup(alloc, &code, None)?;
-    let described = description_of(alloc, asked.json, asked.listed, text, &checked)?;
+    let (unreached, json) = (asked.unreached, asked.json);
+    let described = description_of(alloc, unreached, json, asked.file, text, &checked)?;
     let options = asked.options;
     let runtimes = Runtimes {
         threads: asked.threads,
@@ -151,6 +160,7 @@ fn test_from<R: Threads + Sync, P: Progress, W: Write>(
     } = tested;
     let Tally { reached, keys, .. } = tally;
     Ok(TestReport {
+        file: described.file,
         options,
         setup,
         found,
@@ -162,18 +172,18 @@ fn test_from<R: Threads + Sync, P: Progress, W: Write>(
         distinct: distinct_of(keys),
         lines: described.lines,
         reached,
-        json: asked.json,
+        json,
     })
 }
 
 impl<R: Threads + Sync, P: Progress> ProgramCommand for Test<'_, R, P> {
     ghost use Rattle.std.specs.Thread.{IsSync};
-    ghost use Rattle.bp_commands.specs.Tests.{name_of, tests_by_names};
+    ghost use Rattle.bp_commands.specs.Tests.{tests_by_names};
 
     type Answer = TestReport;
 
     ghost command = { λ x. tests_by_names x.start.start.now x.start.named.now
-        x.options (name_of x.listed) x.json };
+        x.options x.file.now x.unreached x.json };
 
     ghost allowed = { λ _. IsSync R.row };
 

@@ -1,3 +1,4 @@
+pub mod AskedTests
 pub mod Failures
 pub mod FaultObjects
 pub mod FaultTable

@@ -7,6 +7,7 @@ use Rattle.bp_test.specs.declared.distinct.Distinct.{Distinct}
 use Rattle.bp_test.specs.declared.testing.Found.{Found}
 use Rattle.bp_test.specs.declared.testing.Found.TheVariants.{Nothing, Failed, Deadlock}
 use Rattle.bp_messages.specs.declared.test_reports.TestReport.{TestReport}
+use Rattle.bp_messages.specs.AskedTests.{asked_line}
 use Rattle.bp_messages.specs.Failures.{failed_assertion, failure_text, statement_of}
 use Rattle.bp_messages.specs.Notes.{notes_text}
 use Rattle.bp_messages.specs.Waits.{waits_text}
@@ -54,6 +55,10 @@ finding_text x (Failed run report) =
     failure_text failure (statement_of x.statements.items failure) run x.options.runs
 finding_text x (Deadlock run report) = deadlock_text x run
 
+-- what was found, and what was asked for
+abbrev pub head_text : TestReport → List ℕ
+head_text x = finding_text x x.found ++ asked_line x
+
 -- how many runs were made, how they ended, and what they reached
 abbrev pub counts_text : Counts → List ℕ
 counts_text x =
@@ -100,7 +105,7 @@ unreached_text (line ∷ lines) (is_reached ∷ marks) =
 
 abbrev pub summary_text : TestReport → List ℕ
 summary_text x =
-    finding_text x x.found
+    head_text x
     ++ (counts_text x.counts
     ++ (distinct_text x.distinct
     ++ (notes_text x ++ unreached_text x.lines.items x.reached.items)))

@@ -9,6 +9,7 @@ use Rattle.bp_test.specs.declared.testing.Found.TheVariants.{Nothing, Failed, De
 use Rattle.bp_text.specs.JsonStrings.{string_text}
 use Rattle.bp_text.specs.Pieces.{key_text, number_or_null}
 use Rattle.bp_messages.specs.declared.test_reports.TestReport.{TestReport}
+use Rattle.bp_messages.specs.AskedTests.{asked_member}
 use Rattle.bp_messages.specs.Failures.{failure_member, failed_assertion, statement_of}
 use Rattle.bp_messages.specs.Notes.{notes_members, notes_of}
 use Rattle.bp_messages.specs.Novelty.{new_percent}
@@ -26,14 +27,13 @@ found_run Nothing = None
 found_run (Failed run report) = Some run
 found_run (Deadlock run report) = Some run
 
--- what was found, and in which run of how many
-abbrev pub finding_members : Found → (runs : ℕ) → List ℕ
-finding_members found runs =
+-- what was found, and in which run
+abbrev pub finding_members : Found → List ℕ
+finding_members found =
     concat (
     codes "{\"kind\":\"test\",\"version\":3"
     ∷ key_text (codes "found") ∷ string_text (found_name found)
-    ∷ key_text (codes "run") ∷ number_or_null (found_run found)
-    ∷ key_text (codes "of") ∷ decimal runs ∷ [])
+    ∷ key_text (codes "run") ∷ number_or_null (found_run found) ∷ [])
 
 -- how many runs were made, how they ended, how many contexts they used, and what they reached
 abbrev pub counts_members : Counts → List ℕ
@@ -58,6 +58,10 @@ counts_members x =
     ∷ key_text (codes "all") ∷ decimal x.threads.all
     ∷ codes "}" ∷ [])
 
+-- what was asked for, and what the runs came to
+abbrev pub runs_members : TestReport → List ℕ
+runs_members x = asked_member x ++ counts_members x.counts
+
 -- how many of the runs were different, and how many new ones would be new
 abbrev pub distinct_member : Distinct → List ℕ
 distinct_member x =
@@ -71,10 +75,10 @@ distinct_member x =
 abbrev pub summary_object : TestReport → List ℕ
 summary_object x =
     let failure = failed_assertion x in
-    finding_members x.found x.options.runs
+    finding_members x.found
     ++ (failure_member failure (statement_of x.statements.items failure)
     ++ (waits_member x.positions.items x.waiting.items
-    ++ (counts_members x.counts
+    ++ (runs_members x
     ++ (distinct_member x.distinct ++ notes_members (notes_of x)))))
 
 -- the summary, and the objects of the statements that were not reached

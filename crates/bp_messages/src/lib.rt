@@ -2,6 +2,7 @@
 //! lines or as JSON objects.
 #![tactic(auto)]
 
+mod asked_tests;
 mod failures;
 mod fault_lines;
 mod fault_objects;

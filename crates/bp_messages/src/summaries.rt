@@ -1,9 +1,10 @@
 //! The summary of a test: what was found, and how well the program was tested.
 ghost use Rattle.std.specs.Prelude.{◌≡◌};
 ghost use Rattle.bp_text.specs.Writing.{Writes};
-ghost use Rattle.bp_messages.specs.Summaries.{counts_text, deadlock_text, distinct_text, finding_text, found_phrase};
+ghost use Rattle.bp_messages.specs.Summaries.{counts_text, deadlock_text, distinct_text, finding_text, found_phrase, head_text};
 ghost use Rattle.bp_messages.specs.Summaries.{line_unless, nothing_text, nothing_phrase, summary_text, unreached_text};
 
+use crate::asked_tests::put_asked_line;
 use crate::failures::{failed_assertion, put_failure, statement_of};
 use crate::notes::put_notes;
 use crate::test_reports::TestReport;
@@ -118,6 +119,15 @@ fn put_finding<W: Write>(tested: &TestReport, out: &mut W) -> Result<(), WriteFa
     }
 }
 
+/// Writes what was found, and what was asked for.
+fn put_head<W: Write>(tested: &TestReport, out: &mut W) -> Result<(), WriteFault>
+    ensures { let text = head_text tested.now in
+        Writes (W.contents out.old) (W.contents out.new) text result }
+{
+    put_finding(tested, out)?;
+    put_asked_line(tested, out)
+}
+
 /// Writes how many runs were made, how they ended, and what they reached.
 fn put_counts<W: Write>(counts: &Counts, out: &mut W) -> Result<(), WriteFault>
     ensures { let text = counts_text counts.now in
@@ -218,7 +228,7 @@ pub fn put_summary<W: Write>(tested: &TestReport, out: &mut W) -> Result<(), Wri
     ensures { let text = summary_text tested.now in
         Writes (W.contents out.old) (W.contents out.new) text result }
 {
-    put_finding(tested, out)?;
+    put_head(tested, out)?;
     put_counts(&tested.counts, out)?;
     put_distinct(tested.distinct, out)?;
     put_notes(tested, out)?;

@@ -2,8 +2,9 @@
 //! for each statement that no run reached. It is written without memory.
 ghost use Rattle.std.specs.Prelude.{◌≡◌};
 ghost use Rattle.bp_text.specs.Writing.{Writes};
-ghost use Rattle.bp_messages.specs.SummaryObjects.{counts_members, distinct_member, finding_members, found_name, found_run, summary_object, summary_objects};
+ghost use Rattle.bp_messages.specs.SummaryObjects.{counts_members, distinct_member, finding_members, found_name, found_run, runs_members, summary_object, summary_objects};
 
+use crate::asked_tests::put_asked_member;
 use crate::failures::{failed_assertion, put_failure_member, statement_of};
 use crate::notes::put_notes_members;
 use crate::novelty::new_percent;
@@ -36,9 +37,9 @@ fn found_run(found: Found) -> Option<u64>
     }
 }
 
-/// Writes what was found, and in which run of this many.
-fn put_finding_members<W: Write>(found: Found, runs: u64, out: &mut W) -> Result<(), WriteFault>
-    ensures { let text = finding_members found runs in
+/// Writes what was found, and in which run.
+fn put_finding_members<W: Write>(found: Found, out: &mut W) -> Result<(), WriteFault>
+    ensures { let text = finding_members found in
         Writes (W.contents out.old) (W.contents out.new) text result }
 {
     put_pieces(
@@ -49,8 +50,6 @@ fn put_finding_members<W: Write>(found: Found, runs: u64, out: &mut W) -> Result
             Text(found_name(found)),
             Key(b"run"),
             NumberOrNull(found_run(found)),
-            Key(b"of"),
-            Number(runs),
         ],
     )
 }
@@ -102,6 +101,15 @@ fn put_counts_members<W: Write>(counts: &Counts, out: &mut W) -> Result<(), Writ
     )
 }
 
+/// Writes what was asked for, and what the runs came to.
+fn put_runs_members<W: Write>(tested: &TestReport, out: &mut W) -> Result<(), WriteFault>
+    ensures { let text = runs_members tested.now in
+        Writes (W.contents out.old) (W.contents out.new) text result }
+{
+    put_asked_member(tested, out)?;
+    put_counts_members(&tested.counts, out)
+}
+
 /// Writes how many of the runs were different, and how many new ones would be new.
 fn put_distinct_member<W: Write>(distinct: Distinct, out: &mut W) -> Result<(), WriteFault>
     ensures { let text = distinct_member distinct in
@@ -128,12 +136,12 @@ fn put_summary_object<W: Write>(tested: &TestReport, out: &mut W) -> Result<(), 
     ensures { let text = summary_object tested.now in
         Writes (W.contents out.old) (W.contents out.new) text result }
 {
-    put_finding_members(tested.found, tested.options.runs, out)?;
+    put_finding_members(tested.found, out)?;
     let failure = failed_assertion(tested);
     let statement = statement_of(tested.statements.as_slice(), failure);
     put_failure_member(failure, statement, out)?;
     put_waits_member(tested.positions.as_slice(), tested.waiting.as_slice(), out)?;
-    put_counts_members(&tested.counts, out)?;
+    put_runs_members(tested, out)?;
     put_distinct_member(tested.distinct, out)?;
     put_notes_members(tested, out)
 }

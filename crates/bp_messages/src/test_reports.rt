@@ -10,6 +10,8 @@ use bp_text::Position;
 /// What a test found, and how well the program was tested.
 #[derive(Drop)]
 pub struct TestReport {
+    /// The name of the program's text.
+    pub file: Vec<u8>,
     /// What was asked for.
     pub options: TestOptions,
     /// What each run started from, but for its seed.

@@ -1,5 +1,5 @@
 -- What a run does, by its task.
-use Rattle.std.specs.Prelude.{ℕ, Bool, true, false, List, Option, None, Some}
+use Rattle.std.specs.Prelude.{ℕ, Bool, List, Option}
 use Rattle.bp_commands.specs.Checks.{checks}
 use Rattle.bp_commands.specs.Commands.{Command}
 use Rattle.bp_commands.specs.Confirms.{confirms_by_names, of_confirm}
@@ -34,16 +34,11 @@ on_screen options screen =
       columns = screen.columns;
     }
 
--- the name of the text whose statements are listed, where that is asked for
-abbrev pub listed_if : Bool → List ℕ → Option (List ℕ)
-listed_if true name = Some name
-listed_if false name = None
-
 -- the test that a task asks for
 abbrev pub test_asked : TestTask → Command (List ℕ) TestReport
 test_asked task =
-    let listed = listed_if task.unreached task.program.now in
-    tests_by_names task.start task.named task.options listed task.json
+    let file = task.program.now in
+    tests_by_names task.start task.named task.options file task.unreached task.json
 
 -- The files have these bytes by their paths. Lines are shown so on standard output, and faults are
 -- reported in this format.

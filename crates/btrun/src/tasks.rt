@@ -2,8 +2,7 @@
 ghost use Rattle.std.specs.Io.Buffered.{writer_contents};
 ghost use Rattle.std.specs.Prelude.{◌≡◌};
 ghost use Rattle.bp_commands.specs.Jobs.{held, IsRun};
-ghost use Rattle.bp_commands.specs.Tests.{name_of};
-ghost use Rattle.btrun.specs.Tasks.{job_of, listed_if, on_screen, show_job};
+ghost use Rattle.btrun.specs.Tasks.{job_of, on_screen, show_job};
 
 use bp_commands::{
     Check, Confirm, Drive, Files, Io, ListCode, Migrate, Replay, Run, RunEnd, Shrink, Streams,
@@ -46,17 +45,6 @@ pub struct Host<'a, F, T, P> {
     pub on_terminal: bool,
 }
 
-/// The name of the text whose statements are listed, where that is asked for.
-fn listed<'a>(task: &TestTask<'a>) -> Option<&'a str>
-    ensures { name_of result ≡ listed_if task.now.unreached task.now.program.now }
-{
-    if task.unreached {
-        Some(task.program)
-    } else {
-        None
-    }
-}
-
 /// A start with these globals named in it.
 fn start_of<'a>(start: &'a Start, named: &'a NamedBits<'a>) -> NamedStart<'a>
     ensures start { result.start.now ≡ start.now }
@@ -70,8 +58,8 @@ fn test_of<'a, F, T, P>(host: Host<'a, F, T, P>, task: &'a TestTask<'a>) -> Test
     ensures start { result.start.start.now ≡ task.now.start }
     ensures named { result.start.named.now ≡ task.now.named }
     ensures options { result.options ≡ task.now.options }
-    ensures listed { name_of result.listed
-        ≡ listed_if task.now.unreached task.now.program.now }
+    ensures file { result.file.now ≡ task.now.program.now }
+    ensures unreached { result.unreached ≡ task.now.unreached }
     ensures json { result.json ≡ task.now.json }
 {
     Test {
@@ -80,7 +68,8 @@ fn test_of<'a, F, T, P>(host: Host<'a, F, T, P>, task: &'a TestTask<'a>) -> Test
         progress: host.progress,
         start: start_of(&task.start, &task.named),
         options: task.options,
-        listed: listed(task),
+        file: task.program,
+        unreached: task.unreached,
         json: task.json,
     }
 }

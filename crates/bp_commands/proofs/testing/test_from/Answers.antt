@@ -7,7 +7,7 @@ pub returns-in_err-setup : goal.returns-in_err-setup
 returns-in_err-setup g c =
     let p = err_from_is_err_and c.from_residual-in_err-setup.result c.from_residual-in_err-setup.ensures.1 in
     let of = c.in_ok-checked.ensures in
-    rw (p.1, p.2) (setup_refused c.args.start.now c.args.asked.now.options _ c.args.asked.now.json c.args.text.now c.in_ok-checked.checked of.0 _
+    rw (p.1, p.2) (setup_refused c.args.start.now c.args.asked.now.options _ _ c.args.asked.now.json c.args.text.now c.in_ok-checked.checked of.0 _
     c.in_err-setup.field-0.0 (c.in_err-setup.ensures.answer c.in_ok-checked.checked of.1))
 
 pub returns-in_err-described : goal.returns-in_err-described
@@ -16,7 +16,7 @@ returns-in_err-described g c =
     let of = c.in_ok-checked.ensures in
     let setup = c.in_ok-setup.ensures.answer c.in_ok-checked.checked of.1 in
     let out = g.W.Write.contents c.args.out.now in
-    rw (p.1, p.2) (lacks_memory c.args.start.now c.args.asked.now.options _ c.args.asked.now.json c.args.text.now
+    rw (p.1, p.2) (lacks_memory c.args.start.now c.args.asked.now.options _ _ c.args.asked.now.json c.args.text.now
     c.in_ok-checked.checked of.0 _ setup.0 setup.1 out out out)
 
 pub returns-in_err-tested : goal.returns-in_err-tested
@@ -24,14 +24,14 @@ returns-in_err-tested g c =
     let p = err_from_is_err_and c.from_residual-in_err-tested.result c.from_residual-in_err-tested.ensures.1 in
     let of = c.in_ok-checked.ensures in
     let setup = c.in_ok-setup.ensures.answer c.in_ok-checked.checked of.1 in
-    rw (p.1, p.2) (refused c.args.start.now c.args.asked.now.options _ c.args.asked.now.json c.args.text.now c.in_ok-checked.checked of.0 _ setup.0 setup.1 _ _
+    rw (p.1, p.2) (refused c.args.start.now c.args.asked.now.options _ _ c.args.asked.now.json c.args.text.now c.in_ok-checked.checked of.0 _ setup.0 setup.1 _ _
     c.in_err-tested.field-0.0 (c.in_err-tested.ensures c.in_ok-checked.checked of.1))
 
 pub returns : goal.returns
 returns g c =
     let of = c.in_ok-checked.ensures in
     let setup = c.in_ok-setup.ensures.answer c.in_ok-checked.checked of.1 in
-    done c.args.start.now c.args.asked.now.options _ c.args.asked.now.json c.args.text.now c.in_ok-checked.checked of.0 _ setup.0 setup.1 _ _
+    done c.args.start.now c.args.asked.now.options _ _ c.args.asked.now.json c.args.text.now c.in_ok-checked.checked of.0 _ setup.0 setup.1 _ _
     c.in_ok-tested.tested (c.in_ok-tested.ensures c.in_ok-checked.checked of.1) _ refl refl refl
     c.in_ok-described.ensures.positions c.in_ok-described.ensures.statements refl c.distinct_of.ensures
-    c.counts-counts.ensures refl refl refl c.in_ok-described.ensures.lines
+    c.counts-counts.ensures c.in_ok-described.ensures.file refl refl refl c.in_ok-described.ensures.lines
