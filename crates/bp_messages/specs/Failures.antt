@@ -1,5 +1,5 @@
 -- Which assertion failed in the run that a test found, and where.
-use Rattle.std.specs.Prelude.{ℕ, List, [], ◌∷◌, Option, None, Some, Vec, codes, decimal, slice_get}
+use Rattle.std.specs.Prelude.{ℕ, List, [], ◌∷◌, Option, None, Some, Vec, codes, decimal, map, slice_get}
 use Rattle.std.specs.List.{concat}
 use Rattle.std.specs.declared.alloc.Global.{Global}
 use Rattle.bp_machine.specs.declared.reports.Outcome.{Outcome}
@@ -7,6 +7,7 @@ use Rattle.bp_machine.specs.declared.reports.Outcome.TheVariants as outcome
 use Rattle.bp_test.specs.declared.testing.Found.{Found}
 use Rattle.bp_test.specs.declared.testing.Found.TheVariants.{Nothing, Failed, Deadlock}
 use Rattle.bp_text.specs.JsonStrings.{string_text}
+use Rattle.bp_text.specs.OneLine.{on_one_line}
 use Rattle.bp_text.specs.Pieces.{key_text}
 use Rattle.bp_text.specs.declared.positions.Position.{Position}
 use Rattle.bp_messages.specs.declared.failures.FailedAssertion.{FailedAssertion}
@@ -44,19 +45,21 @@ abbrev pub statement_of : List (Vec ℕ Global) → Option FailedAssertion → L
 statement_of statements None = []
 statement_of statements (Some x) = items_of (slice_get statements x.number)
 
--- the run of how many in which it failed, and where the assertion is
-abbrev pub failure_text : Option FailedAssertion → (statement : List ℕ) → (run runs : ℕ) → List ℕ
-failure_text None statement run runs =
+-- the run of how many in which it failed, and where in a file the assertion is
+abbrev pub failure_text
+    : Option FailedAssertion → (statement file : List ℕ) → (run runs : ℕ) → List ℕ
+failure_text None statement file run runs =
     concat (
     codes "an assertion failed in run " ∷ decimal run
     ∷ codes " of " ∷ decimal runs
     ∷ codes "\n" ∷ [])
-failure_text (Some x) statement run runs =
+failure_text (Some x) statement file run runs =
     concat (
     codes "an assertion of thread " ∷ decimal x.thread
     ∷ codes " failed in run " ∷ decimal run
     ∷ codes " of " ∷ decimal runs
-    ∷ codes ", at " ∷ decimal x.position.line
+    ∷ codes ", at " ∷ map on_one_line file
+    ∷ codes ":" ∷ decimal x.position.line
     ∷ codes ":" ∷ decimal x.position.column
     ∷ codes ": " ∷ statement
     ∷ codes "\n" ∷ [])

@@ -20,7 +20,7 @@ found_phrase phrase run runs =
 abbrev pub deadlock_text : TestReport → (run : ℕ) → List ℕ
 deadlock_text x run =
     found_phrase (codes "deadlock") run x.options.runs
-    ++ (waits_text x.positions.items x.waiting.items ++ codes "\n")
+    ++ (waits_text x.file.items x.positions.items x.waiting.items ++ codes "\n")
 
 -- nothing was found in the runs that were made, within k contexts; if they are not all, the time
 -- was over
@@ -52,7 +52,8 @@ finding_text x Nothing =
     nothing_text phrase x.counts.runs x.options.runs x.setup.contexts
 finding_text x (Failed run report) =
     let failure = failed_assertion x in
-    failure_text failure (statement_of x.statements.items failure) run x.options.runs
+    let statement = statement_of x.statements.items failure in
+    failure_text failure statement x.file.items run x.options.runs
 finding_text x (Deadlock run report) = deadlock_text x run
 
 -- what was found, and what was asked for

@@ -1,7 +1,8 @@
 -- Which threads wait at the end of a run, and where.
-use Rattle.std.specs.Prelude.{ℕ, List, [], ◌∷◌, ◌++◌, Option, None, Some, codes, decimal, option_map, slice_index_or}
+use Rattle.std.specs.Prelude.{ℕ, List, [], ◌∷◌, ◌++◌, Option, None, Some, codes, decimal, map, option_map, slice_index_or}
 use Rattle.std.specs.List.{concat}
 use Rattle.bp_test.specs.declared.waiting.Waiting.{Waiting}
+use Rattle.bp_text.specs.OneLine.{on_one_line}
 use Rattle.bp_text.specs.Pieces.{key_text, number_or_null}
 use Rattle.bp_text.specs.declared.positions.Position.{Position}
 
@@ -13,28 +14,32 @@ position_of positions number = slice_index_or positions number None
 abbrev pub position_of_wait : List (Option Position) → Waiting → Option Position
 position_of_wait positions x = position_of positions x.number
 
--- a thread that waits, after these words, and where
-abbrev pub wait_text : (before verb : List ℕ) → (thread : ℕ) → Option Position → List ℕ
-wait_text before verb i None = concat (before ∷ decimal i ∷ [])
-wait_text before verb i (Some p) =
+-- a thread that waits, after these words, and where in a file
+abbrev pub wait_text : (file before verb : List ℕ) → (thread : ℕ) → Option Position → List ℕ
+wait_text file before verb i None = concat (before ∷ decimal i ∷ [])
+wait_text file before verb i (Some p) =
     concat (
     before
     ∷ decimal i
     ∷ verb
+    ∷ map on_one_line file
+    ∷ codes ":"
     ∷ decimal p.line
     ∷ codes ":"
     ∷ decimal p.column
     ∷ [])
 
 -- the threads that wait, one after the other; these words are for the first
-abbrev pub waits_after : (before verb : List ℕ) → List (Option Position) → List Waiting → List ℕ
-waits_after before verb positions [] = []
-waits_after before verb positions (x ∷ xs) =
-    wait_text before verb x.thread (position_of_wait positions x)
-    ++ waits_after (codes ", thread ") (codes " at ") positions xs
+abbrev pub waits_after
+    : (file before verb : List ℕ) → List (Option Position) → List Waiting → List ℕ
+waits_after file before verb positions [] = []
+waits_after file before verb positions (x ∷ xs) =
+    wait_text file before verb x.thread (position_of_wait positions x)
+    ++ waits_after file (codes ", thread ") (codes " at ") positions xs
 
-abbrev pub waits_text : List (Option Position) → List Waiting → List ℕ
-waits_text positions xs = waits_after (codes ": thread ") (codes " waits at ") positions xs
+abbrev pub waits_text : (file : List ℕ) → List (Option Position) → List Waiting → List ℕ
+waits_text file positions xs =
+    waits_after file (codes ": thread ") (codes " waits at ") positions xs
 
 -- the object of a thread that waits, after this
 abbrev pub wait_object : (before : List ℕ) → (thread : ℕ) → Option Position → List ℕ

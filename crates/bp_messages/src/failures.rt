@@ -7,7 +7,7 @@ use crate::test_reports::TestReport;
 use crate::waits::position_of;
 use bp_machine::Outcome;
 use bp_test::Found;
-use bp_text::Piece::{Bytes, Key, Number, Text};
+use bp_text::Piece::{Bytes, Key, Number, OneLine, Text};
 use bp_text::{Position, WriteFault, put, put_pieces};
 use std::io::Write;
 
@@ -53,15 +53,16 @@ pub(crate) fn statement_of(statements: &[Vec<u8>], failure: Option<FailedAsserti
     }
 }
 
-/// Writes in which run of how many an assertion failed, and where that is.
+/// Writes in which run of how many an assertion failed, and where in a file that is.
 pub(crate) fn put_failure<'a, W: Write>(
     failure: Option<FailedAssertion>,
     statement: &'a [u8],
+    file: &'a [u8],
     run: u64,
     runs: u64,
     out: &mut W,
 ) -> Result<(), WriteFault>
-    ensures { let text = failure_text failure statement.now run runs in
+    ensures { let text = failure_text failure statement.now file.now run runs in
         Writes (W.contents out.old) (W.contents out.new) text result }
 {
     match failure {
@@ -85,6 +86,8 @@ pub(crate) fn put_failure<'a, W: Write>(
                 Bytes(b" of "),
                 Number(runs),
                 Bytes(b", at "),
+                OneLine(file),
+                Bytes(b":"),
                 Number(failure.position.line as u64),
                 Bytes(b":"),
                 Number(failure.position.column as u64),

@@ -37,7 +37,8 @@ fn put_deadlock<W: Write>(tested: &TestReport, run: u64, out: &mut W) -> Result<
         Writes (W.contents out.old) (W.contents out.new) text result }
 {
     put_found(b"deadlock", run, tested.options.runs, out)?;
-    put_waits(tested.positions.as_slice(), tested.waiting.as_slice(), out)?;
+    let (file, positions) = (tested.file.as_slice(), tested.positions.as_slice());
+    put_waits(file, positions, tested.waiting.as_slice(), out)?;
     put(out, b"\n")
 }
 
@@ -113,7 +114,7 @@ fn put_finding<W: Write>(tested: &TestReport, out: &mut W) -> Result<(), WriteFa
         Found::Failed { run, .. } => {
             let failure = failed_assertion(tested);
             let statement = statement_of(tested.statements.as_slice(), failure);
-            put_failure(failure, statement, run, runs, out)
+            put_failure(failure, statement, tested.file.as_slice(), run, runs, out)
         }
         Found::Deadlock { run, .. } => put_deadlock(tested, run, out),
     }

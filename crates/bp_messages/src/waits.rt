@@ -5,7 +5,7 @@ ghost use Rattle.bp_messages.specs.Waits.{position_of, position_of_wait, wait_ob
 ghost use Rattle.bp_messages.specs.Waits.{waits_member, waits_text};
 
 use bp_test::Waiting;
-use bp_text::Piece::{Bytes, Key, Number, NumberOrNull};
+use bp_text::Piece::{Bytes, Key, Number, NumberOrNull, OneLine};
 use bp_text::{Position, WriteFault, put, put_pieces};
 use std::io::Write;
 
@@ -26,15 +26,16 @@ fn position_of_wait(positions: &[Option<Position>], wait: Waiting) -> Option<Pos
     position_of(positions, wait.number)
 }
 
-/// Writes a thread that waits, after these words, and where.
+/// Writes a thread that waits, after these words, and where in a file.
 fn put_wait<'a, W: Write>(
+    file: &'a [u8],
     before: &'a [u8],
     verb: &'a [u8],
     thread: u32,
     position: Option<Position>,
     out: &mut W,
 ) -> Result<(), WriteFault>
-    ensures { let text = wait_text before.now verb.now thread position in
+    ensures { let text = wait_text file.now before.now verb.now thread position in
         Writes (W.contents out.old) (W.contents out.new) text result }
 {
     match position {
@@ -45,6 +46,8 @@ fn put_wait<'a, W: Write>(
                 Bytes(before),
                 Number(thread as u64),
                 Bytes(verb),
+                OneLine(file),
+                Bytes(b":"),
                 Number(position.line as u64),
                 Bytes(b":"),
                 Number(position.column as u64),
@@ -53,13 +56,14 @@ fn put_wait<'a, W: Write>(
     }
 }
 
-/// Writes the threads that wait, and where, after a colon.
+/// Writes the threads that wait, and where in a file, after a colon.
 pub(crate) fn put_waits<W: Write>(
+    file: &[u8],
     positions: &[Option<Position>],
     waiting: &[Waiting],
     out: &mut W,
 ) -> Result<(), WriteFault>
-    ensures { let text = waits_text positions.now waiting.now in
+    ensures { let text = waits_text file.now positions.now waiting.now in
         Writes (W.contents out.old) (W.contents out.new) text result }
 {
     let mut before: &[u8] = b": thread ";
@@ -67,7 +71,7 @@ pub(crate) fn put_waits<W: Write>(
     let mut waiting = waiting;
     while let Some((wait, more)) = waiting.split_first() {
         let position = position_of_wait(positions, *wait);
-        put_wait(before, verb, wait.thread, position, out)?;
+        put_wait(file, before, verb, wait.thread, position, out)?;
         before = b", thread ";
         verb = b" at ";
         waiting = more;

@@ -9,6 +9,7 @@ returns-in-Failed g c =
       c.statement_of-statement.ensures,
       c.failed_assertion-failure.ensures,
       c.as_slice.ensures.value,
+      c.as_slice-in-Failed.ensures.value,
     ) at c.put_failure.ensures)
 
 pub returns-in-Deadlock : goal.returns-in-Deadlock

@@ -11,9 +11,9 @@ returns-in_err-put_wait g c =
     let x = c.in-Some.wait.now in
     let rest = rw c.in-Some.ensures.cases.0 at c.loop-wait.invariant in
     let piece = rw c.position_of_wait-position.ensures at c.in_err-put_wait.ensures in
-    rw p.1 (part_of_rest _ _ _ (waits_text all c.args.waiting.now)
-    (wait_text c.loop-wait.before.now c.loop-wait.verb.now x.thread (position_of_wait all x))
-    (waits_after (codes ", thread ") (codes " at ") all c.in-Some.more.now) rest piece)
+    rw p.1 (part_of_rest _ _ _ (waits_text c.args.file.now all c.args.waiting.now)
+    (wait_text c.args.file.now c.loop-wait.before.now c.loop-wait.verb.now x.thread (position_of_wait all x))
+    (waits_after c.args.file.now (codes ", thread ") (codes " at ") all c.in-Some.more.now) rest piece)
 
 pub loop-wait-preserved : goal.loop-wait-preserved
 loop-wait-preserved g c =
@@ -21,6 +21,6 @@ loop-wait-preserved g c =
     let x = c.in-Some.wait.now in
     let rest = rw c.in-Some.ensures.cases.0 at c.loop-wait.invariant in
     let piece = rw c.position_of_wait-position.ensures at c.in_ok-put_wait.ensures in
-    rest_after _ _ _ (waits_text all c.args.waiting.now)
-    (wait_text c.loop-wait.before.now c.loop-wait.verb.now x.thread (position_of_wait all x))
-    (waits_after (codes ", thread ") (codes " at ") all c.in-Some.more.now) rest piece
+    rest_after _ _ _ (waits_text c.args.file.now all c.args.waiting.now)
+    (wait_text c.args.file.now c.loop-wait.before.now c.loop-wait.verb.now x.thread (position_of_wait all x))
+    (waits_after c.args.file.now (codes ", thread ") (codes " at ") all c.in-Some.more.now) rest piece

@@ -5,8 +5,8 @@ use Rattle.bp_messages.proofs.waits.put_waits.Given as goal
 
 abbrev pub invariant-loop-wait : goal.invariant-loop-wait
 invariant-loop-wait g l =
-    HasRest (g.W.Write.contents l.fn.out) (g.W.Write.contents l.out) (waits_text l.fn.positions l.fn.waiting)
-    (waits_after l.before l.verb l.positions l.waiting)
+    HasRest (g.W.Write.contents l.fn.out) (g.W.Write.contents l.out) (waits_text l.file l.fn.positions l.fn.waiting)
+    (waits_after l.file l.before l.verb l.positions l.waiting)
 
 abbrev pub decreases-loop-wait : goal.decreases-loop-wait
 decreases-loop-wait g l = length l.waiting
