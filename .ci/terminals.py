@@ -91,9 +91,10 @@ def test_progress(report, words, bare):
         shown = PROGRESS.match(said)
         is_fine = bool(shown) == has_progress and said[shown.end() if shown else 0 :] == told
         report.tell("progress " + name, "" if is_fine else "said %r" % said)
-    said = shown_on_terminal([*words, "--runs", "1000000000000", "--time", "1"], bare)
-    left = [int(seconds) for seconds in re.findall(r"(\d+) s left", said)]
-    report.tell("progress with --time", "" if left and max(left) <= 1 else "said %r" % said[-200:])
+    for runs, of in ((["--runs", "1000000000000"], " of 1000000000000"), ([], "")):
+        said = shown_on_terminal([*words, *runs, "--time", "1"], bare)
+        left = [int(seconds) for seconds in re.findall(CLEARED + r"\d+%s runs, \d+ a second, (\d+) s left" % of, said)]
+        report.tell("progress with --time" + of, "" if left and max(left) <= 1 else "said %r" % said[-200:])
 
 
 def test_explanations(report, words):

@@ -82,7 +82,7 @@ complete -c btrun -n '__fish_seen_subcommand_from run' -x -l ring -d 'How many c
 complete -c btrun -n '__fish_seen_subcommand_from run' -l spread -d 'Take turns as they are drawn'
 
 complete -c btrun -n '__fish_seen_subcommand_from test' -x -l runs -d 'Make at most N runs'
-complete -c btrun -n '__fish_seen_subcommand_from test' -x -l time -d 'Begin no run after N seconds'
+complete -c btrun -n '__fish_seen_subcommand_from test' -x -l time -d 'Begin no run after N seconds, and limit no number of runs'
 complete -c btrun -n '__fish_seen_subcommand_from test' -x -l jobs -d 'How many blocks of runs are made side by side'
 complete -c btrun -n '__fish_seen_subcommand_from test' -l deadlock -d 'Also stop at a run that ends in a deadlock'
 complete -c btrun -n '__fish_seen_subcommand_from test' -l unreached -d 'List the statements that no run reached'

@@ -34,7 +34,7 @@ use Rattle.bp_arguments.specs.Misuses.{misuse_fault}
 use Rattle.bp_arguments.specs.Names.{command_name}
 use Rattle.bp_arguments.specs.PlainUses.{PlainUse, all_calls, arguments_of, bundle, command_on, default_test, is_plain, program_of, second_of, HasPlainFiles, IsAskedBy, IsPlainTask}
 use Rattle.bp_arguments.specs.ShowArguments.{IsViewFormatOf, IsViewOf}
-use Rattle.bp_arguments.specs.TestArguments.{contexts_for}
+use Rattle.bp_arguments.specs.TestArguments.{contexts_for, runs_within}
 use Rattle.bp_arguments.specs.declared.names.Named.{Named}
 use Rattle.bp_arguments.specs.declared.names.Named.TheVariants.{Check, Code, Drive, Confirm, Run, Test, Replay, Show, Migrate, Shrink}
 
@@ -349,7 +349,7 @@ asks Test files task (t, is, of) = (
   of.program,
   start_is t.start of.entries of.init (of.contexts ∙ ap (λ es. contexts_for (length es)) of.entries) of.calls,
   of.named,
-  test_is t.options of.seed of.runs of.time of.jobs (of.deadlock.1 refl),
+  test_is t.options of.seed (of.runs ∙ ap runs_within of.time) of.time of.jobs (of.deadlock.1 refl),
   of.unreached.1 refl,
   of.json.1 refl,
   unasked t.explain (of.explain.always.1 refl) (of.explain.never.1 refl),

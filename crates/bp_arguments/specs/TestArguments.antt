@@ -1,5 +1,5 @@
 -- What the arguments after `test` ask for.
-use Rattle.std.specs.Prelude.{◌≡◌, ◌+◌, ℕ, List, codes, length, min}
+use Rattle.std.specs.Prelude.{◌≡◌, ◌+◌, ◌-◌, ◌^◌, ℕ, List, Option, None, Some, codes, length, min}
 use Rattle.clap.specs.Walk.{Row, one_of}
 use Rattle.bp_machine.specs.declared.limits.TheConstants.{DEFAULT_CALLS, MAX_THREADS}
 use Rattle.bp_tasks.specs.declared.limits.TheConstants.{DEFAULT_SEED}
@@ -12,6 +12,11 @@ use Rattle.bp_tasks.specs.declared.tasks.TestTask.{TestTask}
 abbrev pub contexts_for : ℕ → ℕ
 contexts_for threads = min threads MAX_THREADS + 1
 
+-- how many runs a test of this many seconds makes at most by default: as many as 64 bits count
+abbrev pub runs_within : (seconds : Option ℕ) → ℕ
+runs_within None = DEFAULT_RUNS
+runs_within (Some seconds) = 2 ^ 64 - 1
+
 -- the file and the options of `test` are those of its arguments
 pub record IsTestOf (rows : List Row) (task : TestTask) : Type 0 where
   pub program : task.program.now ≡ value_of (codes "FILE") rows
@@ -23,7 +28,9 @@ pub record IsTestOf (rows : List Row) (task : TestTask) : Type 0 where
       task.start.contexts
   pub calls : IsNumberOf 32 DEFAULT_CALLS (one_of (codes "calls") rows) task.start.calls
   pub seed : IsNumberOf 64 DEFAULT_SEED (one_of (codes "seed") rows) task.options.seed
-  pub runs : IsNumberOf 64 DEFAULT_RUNS (one_of (codes "runs") rows) task.options.runs
+  pub runs :
+      IsNumberOf 64 (runs_within task.options.seconds) (one_of (codes "runs") rows)
+      task.options.runs
   pub time : IsNumberIn 64 (one_of (codes "time") rows) task.options.seconds
   pub jobs : IsNumberOf 32 DEFAULT_JOBS (one_of (codes "jobs") rows) task.options.jobs
   pub deadlock : IsFlagOf (one_of (codes "deadlock") rows) task.options.with_deadlock

@@ -1,7 +1,7 @@
 //! The arguments of `test`.
 ghost use Rattle.std.specs.Prelude.{◌≡◌, false, length, IfOk};
 ghost use Rattle.clap.specs.Words.{found_of, rows_of};
-ghost use Rattle.bp_arguments.specs.TestArguments.{contexts_for, IsTestOf};
+ghost use Rattle.bp_arguments.specs.TestArguments.{contexts_for, runs_within, IsTestOf};
 
 use crate::arguments::{Row, Takes};
 use crate::explain::explaining;
@@ -26,8 +26,8 @@ pub const NOTES: &str = "\
     which an assertion failed is printed, and 'btrun replay' takes it. A summary on standard\n\
     error says what was found, and what the runs reached. The first fault is one line there.\n\
     With --json each line on standard error is a JSON object.\n\
-    What is found and printed does not depend on the number of jobs. With --time the runs are the\n\
-    first of those that would be made without it.\n\n\
+    What is found and printed does not depend on the number of jobs. With --time as many runs are\n\
+    made as there is time for, the same ones whenever they are made.\n\n\
     Example:\n  btrun test race.bp writer reader --contexts 4 --runs 100000\n\n\
     Exit status:\n  0  nothing was found in any run\n  \
     1  an assertion failed, or a run ended in a deadlock\n  \
@@ -52,7 +52,7 @@ pub static ROWS: [Row<'static>; 11] = [
     Row {
         name: "runs",
         takes: Takes::LongNumber,
-        help: "Make at most N runs [default: 10000]",
+        help: "Make at most N runs [default: 10000; no limit with --time]",
     },
     Row {
         name: "time",
@@ -90,6 +90,17 @@ fn default_contexts(entries: &[String]) -> u32
     entries.len().min(MAX_THREADS) as u32 + 1
 }
 
+/// How many runs a test with this time makes at most, where no other number is given. Runs are
+/// counted in 64 bits, so the greatest number limits none.
+fn default_runs(seconds: Option<u64>) -> u64
+    ensures { result ≡ runs_within seconds }
+{
+    match seconds {
+        Some(_) => u64::MAX,
+        None => DEFAULT_RUNS,
+    }
+}
+
 /// What the arguments after `test` ask for.
 pub fn test_arguments<'a>(
     alloc: Global,
@@ -99,6 +110,8 @@ pub fn test_arguments<'a>(
 {
     let entries = entries(alloc, arguments)?;
     let contexts = default_contexts(entries.as_slice());
+    let seconds = given_long_number(arguments, "time");
+    let runs = default_runs(seconds);
     // FILE is required, so it is there.
     Ok(TestTask {
         program: arguments.get_str("FILE").unwrap_or(""),
@@ -112,8 +125,8 @@ pub fn test_arguments<'a>(
         named: named(alloc, arguments)?,
         options: TestOptions {
             seed: long_number(arguments, "seed", DEFAULT_SEED),
-            runs: long_number(arguments, "runs", DEFAULT_RUNS),
-            seconds: given_long_number(arguments, "time"),
+            runs: long_number(arguments, "runs", runs),
+            seconds,
             jobs: number(arguments, "jobs", DEFAULT_JOBS),
             with_deadlock: is_given(arguments, "deadlock"),
         },

@@ -4,6 +4,7 @@ use Rattle.std.specs.List.{concat}
 use Rattle.bp_text.specs.JsonStrings.{string_text}
 use Rattle.bp_text.specs.OneLine.{on_one_line}
 use Rattle.bp_text.specs.Pieces.{bit_text, key_text, number_or_null, truth_text}
+use Rattle.bp_messages.specs.RunLimits.{limit_of}
 use Rattle.bp_messages.specs.declared.test_reports.TestReport.{TestReport}
 
 -- a name as it is, or as a string of JSON
@@ -55,7 +56,7 @@ bounds_members x =
     codes "\"" ∷ key_text (codes "contexts") ∷ decimal x.setup.contexts
     ∷ key_text (codes "calls") ∷ decimal x.setup.calls
     ∷ key_text (codes "seed") ∷ decimal x.options.seed
-    ∷ key_text (codes "runs") ∷ decimal x.options.runs
+    ∷ key_text (codes "runs") ∷ number_or_null (limit_of x.options.runs)
     ∷ key_text (codes "seconds") ∷ number_or_null x.options.seconds
     ∷ key_text (codes "deadlock") ∷ truth_text x.options.with_deadlock
     ∷ codes "}" ∷ [])

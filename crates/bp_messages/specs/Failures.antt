@@ -12,6 +12,7 @@ use Rattle.bp_text.specs.Pieces.{key_text}
 use Rattle.bp_text.specs.declared.positions.Position.{Position}
 use Rattle.bp_messages.specs.declared.failures.FailedAssertion.{FailedAssertion}
 use Rattle.bp_messages.specs.declared.test_reports.TestReport.{TestReport}
+use Rattle.bp_messages.specs.RunLimits.{limit_text, of_word}
 use Rattle.bp_messages.specs.Waits.{position_of}
 
 -- the assertion of thread i at instruction n, where that begins somewhere
@@ -51,13 +52,13 @@ abbrev pub failure_text
 failure_text None statement file run runs =
     concat (
     codes "an assertion failed in run " ∷ decimal run
-    ∷ codes " of " ∷ decimal runs
+    ∷ of_word runs ∷ limit_text runs
     ∷ codes "\n" ∷ [])
 failure_text (Some x) statement file run runs =
     concat (
     codes "an assertion of thread " ∷ decimal x.thread
     ∷ codes " failed in run " ∷ decimal run
-    ∷ codes " of " ∷ decimal runs
+    ∷ of_word runs ∷ limit_text runs
     ∷ codes ", at " ∷ map on_one_line file
     ∷ codes ":" ∷ decimal x.position.line
     ∷ codes ":" ∷ decimal x.position.column

@@ -7,6 +7,7 @@ pub mod Notes
 pub mod Novelty
 pub mod ProgressTexts
 pub mod ReplayLines
+pub mod RunLimits
 pub mod StepObjects
 pub mod Summaries
 pub mod SummaryObjects

@@ -1,6 +1,7 @@
 -- What a user reads of a test while it is made, on a terminal.
 use Rattle.std.specs.Prelude.{ℕ, Option, None, Some, List, [], ◌∷◌, ◌*◌, ◌-◌, ◌/◌, ◌^◌, min, max, codes, decimal}
 use Rattle.std.specs.List.{concat}
+use Rattle.bp_messages.specs.RunLimits.{limit_text, of_word}
 
 -- what puts the cursor of a terminal at the beginning of the line and clears it
 abbrev pub cleared : List ℕ
@@ -26,7 +27,7 @@ progress_text done runs millis seconds =
     let left = within_time millis seconds (seconds_left done runs rate) in
     concat (
     cleared ∷ decimal done
-    ∷ codes " of " ∷ decimal runs
+    ∷ of_word runs ∷ limit_text runs
     ∷ codes " runs, " ∷ decimal rate
     ∷ codes " a second, " ∷ decimal left
     ∷ codes " s left" ∷ [])

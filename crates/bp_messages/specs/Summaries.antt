@@ -10,11 +10,12 @@ use Rattle.bp_messages.specs.declared.test_reports.TestReport.{TestReport}
 use Rattle.bp_messages.specs.AskedTests.{asked_line}
 use Rattle.bp_messages.specs.Failures.{failed_assertion, failure_text, statement_of}
 use Rattle.bp_messages.specs.Notes.{notes_text}
+use Rattle.bp_messages.specs.RunLimits.{limit_text, of_word}
 use Rattle.bp_messages.specs.Waits.{waits_text}
 
 abbrev pub found_phrase : List ℕ → (run runs : ℕ) → List ℕ
 found_phrase phrase run runs =
-    concat (phrase ∷ codes " in run " ∷ decimal run ∷ codes " of " ∷ decimal runs ∷ [])
+    concat (phrase ∷ codes " in run " ∷ decimal run ∷ of_word runs ∷ limit_text runs ∷ [])
 
 -- a deadlock in a run of this test, and where its threads wait
 abbrev pub deadlock_text : TestReport → (run : ℕ) → List ℕ
@@ -36,7 +37,7 @@ nothing_text phrase made runs k =
     concat (
     phrase
     ∷ codes " in " ∷ decimal made
-    ∷ codes " of " ∷ decimal runs
+    ∷ of_word runs ∷ limit_text runs
     ∷ codes " runs within " ∷ decimal k
     ∷ codes " contexts: the time is over\n" ∷ [])
 

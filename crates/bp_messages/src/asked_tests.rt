@@ -6,6 +6,7 @@ ghost use Rattle.bp_text.specs.Writing.{Writes};
 ghost use Rattle.bp_messages.specs.AskedTests.{asked_line, asked_member, bits_text, bounds_members, bounds_text, init_text, name_text, names_text};
 ghost use Rattle.bp_messages.specs.AskedTests.{settings_members, settings_text};
 
+use crate::run_limits::limit_of;
 use crate::test_reports::TestReport;
 use bp_machine::Setup;
 use bp_text::Piece::{Bit, Bytes, Key, Number, NumberOrNull, OneLine, Text, Truth};
@@ -126,7 +127,7 @@ fn put_bounds_members<W: Write>(tested: &TestReport, out: &mut W) -> Result<(), 
             Key(b"seed"),
             Number(options.seed),
             Key(b"runs"),
-            Number(options.runs),
+            NumberOrNull(limit_of(options.runs)),
             Key(b"seconds"),
             NumberOrNull(options.seconds),
             Key(b"deadlock"),

@@ -3,6 +3,7 @@ ghost use Rattle.std.specs.Prelude.{◌≡◌};
 ghost use Rattle.bp_text.specs.Writing.{Writes};
 ghost use Rattle.bp_messages.specs.Failures.{failure_member, failed_assertion, failure_text, statement_of};
 
+use crate::run_limits::{limit_piece, of_word};
 use crate::test_reports::TestReport;
 use crate::waits::position_of;
 use bp_machine::Outcome;
@@ -71,8 +72,8 @@ pub(crate) fn put_failure<'a, W: Write>(
             &[
                 Bytes(b"an assertion failed in run "),
                 Number(run),
-                Bytes(b" of "),
-                Number(runs),
+                of_word(runs),
+                limit_piece(runs),
                 Bytes(b"\n"),
             ],
         ),
@@ -83,8 +84,8 @@ pub(crate) fn put_failure<'a, W: Write>(
                 Number(failure.thread as u64),
                 Bytes(b" failed in run "),
                 Number(run),
-                Bytes(b" of "),
-                Number(runs),
+                of_word(runs),
+                limit_piece(runs),
                 Bytes(b", at "),
                 OneLine(file),
                 Bytes(b":"),

@@ -14,6 +14,7 @@ mod notes;
 mod novelty;
 mod progress;
 mod replay_lines;
+mod run_limits;
 mod step_objects;
 mod summaries;
 mod summary_objects;

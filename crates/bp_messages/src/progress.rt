@@ -3,6 +3,7 @@ ghost use Rattle.std.specs.Prelude.{◌≡◌};
 ghost use Rattle.bp_text.specs.Writing.{Writes};
 ghost use Rattle.bp_messages.specs.ProgressTexts.{cleared, progress_text, rate_of, seconds_left, within_time};
 
+use crate::run_limits::{limit_piece, of_word};
 use bp_text::Piece::{Bytes, Number};
 use bp_text::{WriteFault, put, put_pieces};
 use std::io::Write;
@@ -57,8 +58,8 @@ pub fn put_progress<W: Write>(
         &[
             Bytes(cleared()),
             Number(done),
-            Bytes(b" of "),
-            Number(runs),
+            of_word(runs),
+            limit_piece(runs),
             Bytes(b" runs, "),
             Number(rate),
             Bytes(b" a second, "),

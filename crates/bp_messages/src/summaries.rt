@@ -7,6 +7,7 @@ ghost use Rattle.bp_messages.specs.Summaries.{line_unless, nothing_text, nothing
 use crate::asked_tests::put_asked_line;
 use crate::failures::{failed_assertion, put_failure, statement_of};
 use crate::notes::put_notes;
+use crate::run_limits::{limit_piece, of_word};
 use crate::test_reports::TestReport;
 use crate::waits::put_waits;
 use bp_test::{Counts, Distinct, Found};
@@ -14,7 +15,7 @@ use bp_text::Piece::{Bytes, Number};
 use bp_text::{WriteFault, put, put_pieces};
 use std::io::Write;
 
-/// Writes what was found in one of this many runs.
+/// Writes what was found in one of the runs.
 fn put_found<W: Write>(phrase: &[u8], run: u64, runs: u64, out: &mut W) -> Result<(), WriteFault>
     ensures { let text = found_phrase phrase.now run runs in
         Writes (W.contents out.old) (W.contents out.new) text result }
@@ -25,8 +26,8 @@ fn put_found<W: Write>(phrase: &[u8], run: u64, runs: u64, out: &mut W) -> Resul
             Bytes(phrase),
             Bytes(b" in run "),
             Number(run),
-            Bytes(b" of "),
-            Number(runs),
+            of_word(runs),
+            limit_piece(runs),
         ],
     )
 }
@@ -73,8 +74,8 @@ fn put_nothing<W: Write>(
                 Bytes(phrase),
                 Bytes(b" in "),
                 Number(made),
-                Bytes(b" of "),
-                Number(runs),
+                of_word(runs),
+                limit_piece(runs),
                 Bytes(b" runs within "),
                 Number(contexts),
                 Bytes(b" contexts: the time is over\n"),
