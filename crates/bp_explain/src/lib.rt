@@ -7,6 +7,7 @@ mod call_sentences;
 mod head_sentences;
 mod last_calls;
 mod line_sentences;
+mod malformed_steps;
 mod option_sentences;
 mod recorded_calls;
 mod schedules;

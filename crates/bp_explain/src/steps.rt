@@ -3,13 +3,11 @@ ghost use Rattle.std.specs.Prelude.{IfOk};
 ghost use Rattle.bp_explain.specs.Explained.{ExplainsSteps};
 ghost use Rattle.bp_advice.specs.Explanations.{ExplainsLine, IsExplanationOf};
 
+use crate::malformed_steps::push_malformed;
 use crate::schedules::push_no_entry;
 use crate::step_sentences::{Confirming, push_refusal};
 use bp_advice::Part::{Quoted, Words};
-use bp_advice::{
-    ENDS_IN_CR_LF, Explanation, about_excerpt, about_line, ends_in_cr_lf, explain_too_long,
-    push_all, push_parts,
-};
+use bp_advice::{Explanation, about_excerpt, about_line, explain_too_long, push_all, push_parts};
 use bp_confirm::{ConfirmFault, StepRefusal, value_on_line};
 use bp_machine::Start;
 use bp_text::line_of;
@@ -25,13 +23,11 @@ fn explain_line<'a>(
 ) -> Result<Explanation<'a>, AllocError>
     ensures { IfOk result (λ e. ExplainsLine file.now steps.now number e) }
 {
-    let number = number as usize;
-    let sentence: &[u8] = match line_of(steps, number) {
-        Some(line) if !line.is_ended => b"there is no line feed after this line",
-        Some(line) if ends_in_cr_lf(line) => ENDS_IN_CR_LF,
-        _ => b"expected a line as '0 8:3 x=1', a thread, a place and any number of values",
-    };
-    about_line(alloc, file, steps, number, sentence)
+    let mut sentence = Vec::new(alloc);
+    if let Some(line) = line_of(steps, number as usize) {
+        push_malformed(&mut sentence, line)?;
+    }
+    about_line(alloc, file, steps, number as usize, sentence.as_slice())
 }
 
 /// Explains that this line is of a thread that is not there.
